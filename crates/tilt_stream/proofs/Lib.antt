@@ -1,0 +1,4 @@
+pub mod Order
+pub mod Cut
+pub mod Filled
+pub mod Streams

@@ -1,0 +1,70 @@
+-- Lists of snapshots in the order of time.
+use Rattle.std.proofs.Common.{◌≡◌, ℤ, ◌<ℤ◌, ◌≤ℤ◌, List, [], ◌∷◌, ◌++◌, Some, refl, arith, slice_get, option_map, sym, ◌∙◌, ap, length, get_or, ◌-◌, sub-one, neg_ℤ, ℕ, ◌<◌, ◌+◌, drop}
+use Rattle.std.proofs.lemmas.List.{drop_more}
+use Rattle.tilt_base.specs.declared.limits.TheConstants.{WIDE}
+use Rattle.std.specs.Option.{ForSome}
+use Rattle.std.proofs.lemmas.Int.{ints}
+use Rattle.tilt_stream.specs.Snap.{Snapshot, InOrder, Touch, last_end, AreSnapshots}
+
+-- a row behind the end of the last one doesn't start before the first one does
+starts_behind : (from limit : ℤ) (x : Snapshot) (xs : List Snapshot) (s : Snapshot) → InOrder from limit (x ∷ xs) → ForSome (last_end (x ∷ xs)) (λ end. end ≤ℤ s.start) → from ≤ℤ s.start
+starts_behind from limit x [] s h behind = let b : x.end ≤ℤ s.start = behind x.end refl in omega (arith, ints)
+starts_behind from limit x (y ∷ ys) s h behind =
+    let b : x.end ≤ℤ s.start = starts_behind x.end limit y ys s h.3 behind in
+    omega (arith, ints)
+
+-- what stands behind the end of the last one may be added
+pub InOrder-push : (from limit : ℤ) (xs : List Snapshot) (s : Snapshot) → InOrder from limit xs → from ≤ℤ s.start → ForSome (last_end xs) (λ end. end ≤ℤ s.start) → s.start <ℤ s.end → s.end ≤ℤ limit → InOrder from limit (xs ++ s ∷ [])
+InOrder-push from limit [] s h low behind width high = (low, width, high, tt)
+InOrder-push from limit (x ∷ []) s h low behind width high =
+    (h.0, h.1, h.2, (behind x.end refl, width, high, tt))
+InOrder-push from limit (x ∷ y ∷ ys) s h low behind width high =
+    (h.0, h.1, h.2, InOrder-push x.end limit (y ∷ ys) s h.3 (starts_behind x.end limit y ys s h.3 behind) behind width high)
+
+pub Touch-push : (xs : List Snapshot) (s : Snapshot) → Touch xs → ForSome (last_end xs) (λ end. end ≡ s.start) → Touch (xs ++ s ∷ [])
+Touch-push [] s h touches = tt
+Touch-push (x ∷ []) s h touches = (touches x.end refl, tt)
+Touch-push (x ∷ y ∷ ys) s h touches = (h.0, Touch-push (y ∷ ys) s h.1 touches)
+
+-- a snapshot that starts where the last one ends may be added
+pub AreSnapshots-push : (xs : List Snapshot) (s : Snapshot) → AreSnapshots xs → neg_ℤ WIDE ≤ℤ s.start → ForSome (last_end xs) (λ end. end ≡ s.start) → s.start <ℤ s.end → s.end ≤ℤ WIDE → AreSnapshots (xs ++ s ∷ [])
+AreSnapshots-push xs s h starts touches width ends = record {
+  in_order = InOrder-push (neg_ℤ WIDE) WIDE xs s h.in_order starts (λ end is. let e : end ≡ s.start = touches end is in omega (arith, ints)) width ends;
+  touch = Touch-push xs s h.touch touches;
+}
+
+-- the end of the item in the last place
+pub last_end-get : (xs : List Snapshot) → option_map (λ (s : Snapshot). s.end) (slice_get xs (length xs - 1)) ≡ last_end xs
+last_end-get [] = refl
+last_end-get (x ∷ []) = refl
+last_end-get (x ∷ y ∷ ys) = rw sub-one (rw sub-one at (last_end-get (y ∷ ys)))
+
+pub last_end-push : (xs : List Snapshot) (s : Snapshot) → last_end (xs ++ s ∷ []) ≡ Some s.end
+last_end-push [] s = refl
+last_end-push (x ∷ []) s = refl
+last_end-push (x ∷ y ∷ ys) s = last_end-push (y ∷ ys) s
+
+-- no snapshot ends before the lower bound of all
+pub last_end-low : (low high : ℤ) (xs : List Snapshot) (end : ℤ) → InOrder low high xs → last_end xs ≡ Some end → low ≤ℤ end
+last_end-low low high [] end h is = cc
+last_end-low low high (x ∷ []) end h is = let e : x.end ≡ end = cc in omega (arith, ints)
+last_end-low low high (x ∷ y ∷ ys) end h is =
+    let above : x.end ≤ℤ end = last_end-low x.end high (y ∷ ys) end h.3 is in
+    omega (arith, ints)
+
+-- the rest is in order too
+pub InOrder-rest : (from limit : ℤ) (x : Snapshot) (xs : List Snapshot) → InOrder from limit (x ∷ xs) → InOrder from limit xs
+InOrder-rest from limit x [] h = tt
+InOrder-rest from limit x (y ∷ ys) h =
+    let above : from ≤ℤ y.start = omega (arith, ints) in
+    (above, h.3.1, h.3.2, h.3.3)
+
+-- rows from a place on, split at the first
+pub drop-at : (xs : List Snapshot) (x : Snapshot) (i : ℕ) → i < length xs → x ≡ get_or xs i x → drop i xs ≡ x ∷ drop (i + 1) xs
+drop-at xs x i h is = drop_more xs i x h ∙ ap (λ (y : Snapshot). y ∷ drop (i + 1) xs) (sym is)
+
+-- the end of the last one, once it was added
+pub last_end-after_push : (xs ys : List Snapshot) (s : Snapshot) (end : ℤ) → ys ≡ xs ++ s ∷ [] → last_end ys ≡ Some end → end ≡ s.end
+last_end-after_push xs ys s end pushed is =
+    let e : Some end ≡ Some s.end = sym is ∙ ap last_end pushed ∙ last_end-push xs s in
+    cc

@@ -1,0 +1,4 @@
+pub mod Snap
+pub mod Snapshots
+pub mod Stream
+pub mod Text

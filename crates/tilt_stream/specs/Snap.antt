@@ -1,0 +1,41 @@
+-- Snapshots, and lists of them in the order of time. Times are ticks, and `(start, end]` is the ticks behind the start, up to the end.
+use Rattle.std.specs.Prelude.{◌≡◌, ℤ, ◌<ℤ◌, ◌≤ℤ◌, neg_ℤ, List, [], ◌∷◌, Option, Some, None, ⊤, if◌then◌else◌, int_lt}
+use Rattle.tilt_base.specs.declared.limits.TheConstants.{T, WIDE}
+
+-- a cell that holds on the ticks of `(start, end]`
+pub record Snapshot : Type 0 where
+  pub start : ℤ
+  pub end : ℤ
+  pub value : Option ℤ
+
+-- each starts below its end, not before the end of the one before it, and ends at the limit or before; the first doesn't start before `from`
+abbrev pub InOrder : ℤ → ℤ → List Snapshot → Type 0
+InOrder from limit [] = ⊤
+InOrder from limit (s ∷ ss) = (from ≤ℤ s.start) × (s.start <ℤ s.end) × (s.end ≤ℤ limit) × InOrder s.end limit ss
+
+-- each starts where the one before it ends
+abbrev pub Touch : List Snapshot → Type 0
+Touch [] = ⊤
+Touch (s ∷ []) = ⊤
+Touch (s ∷ next ∷ ss) = (s.end ≡ next.start) × Touch (next ∷ ss)
+
+-- rows of a series: in order, with times in `-T..T`
+abbrev pub AreRows : List Snapshot → Type 0
+AreRows rows = InOrder (neg_ℤ T) T rows
+
+-- snapshots without gaps, with times in `-WIDE..WIDE`
+pub record AreSnapshots (list : List Snapshot) : Type 0 where
+  pub in_order : InOrder (neg_ℤ WIDE) WIDE list
+  pub touch : Touch list
+
+-- where the last one ends
+abbrev pub last_end : List Snapshot → Option ℤ
+last_end [] = None
+last_end (s ∷ []) = Some s.end
+last_end (s ∷ next ∷ ss) = last_end (next ∷ ss)
+
+-- the null snapshot that fills the gap between an end and a start, where there is a gap
+abbrev pub gap_before : Option ℤ → ℤ → List Snapshot
+gap_before None start = []
+gap_before (Some end) start =
+    if int_lt end start then record { start = end; end = start; value = None } ∷ [] else []

@@ -1,0 +1,88 @@
+ghost use Rattle.std.specs.Prelude.{◌≡◌, ◌<◌, [], ◌∷◌, ◌++◌, length, neg_ℤ, ◌≤ℤ◌, slice_get, IsTrue, ◌↔◌, OnOk, OnErr};
+ghost use Rattle.std.specs.Option.{ForSome};
+ghost use Rattle.tilt_base.specs.declared.limits.TheConstants.{T};
+ghost use Rattle.tilt_stream.specs.Snap.{AreRows, last_end};
+
+use crate::snap::Row;
+use std::alloc::{AllocError as OutOfMemory, Global};
+use std::marker::Model;
+
+/// The rows of a series in order: times in `-T..=T`, and each start at or behind the end of the row before it.
+#[derive(Drop)]
+pub struct Rows {
+    rows: Vec<Row>,
+}
+
+impl Model for Rows {
+    ghost use Rattle.std.specs.Prelude.{List};
+    ghost use Rattle.tilt_stream.specs.Snap.{Snapshot, AreRows};
+
+    ghost Value = { List Snapshot };
+
+    ghost view = { λ r. r.rows.items };
+
+    ghost invariant = { λ r. AreRows r.rows.items };
+}
+
+impl Rows {
+    /// No rows.
+    pub fn new(alloc: Global) -> Rows
+        ensures { result ≡ [] }
+    {
+        Rows {
+            rows: Vec::new(alloc),
+        }
+    }
+
+    /// Adds a row behind the last one. After want of memory the rows are as before.
+    pub fn push(&mut self, row: Row) -> Result<(), OutOfMemory>
+        requires behind { ForSome (last_end self.old) (λ end. end ≤ℤ row.start) }
+        requires low { neg_ℤ T ≤ℤ row.start }
+        requires high { row.end ≤ℤ T }
+        ensures ok { OnOk result (self.new ≡ self.old ++ row ∷ []) }
+        ensures err { OnErr result (self.new ≡ self.old) }
+    {
+        prove!(row.start < row.end);
+        self.rows.push(row)?;
+        Ok(())
+    }
+
+    /// How many rows there are.
+    pub fn len(&self) -> usize
+        ensures len { result ≡ length self.now }
+        ensures in_order { AreRows self.now }
+    {
+        self.rows.len()
+    }
+
+    /// Whether there is no row.
+    pub fn is_empty(&self) -> bool
+        ensures { IsTrue result ↔ (self.now ≡ []) }
+    {
+        self.rows.is_empty()
+    }
+
+    /// The row at a place, counted from 0.
+    pub fn get(&self, i: usize) -> Row
+        requires { i < length self.now }
+        ensures { slice_get self.now i ≡ Some result }
+    {
+        self.rows[i]
+    }
+
+    /// The end of the last row, or `None` where there is no row.
+    pub fn last_end(&self) -> Option<i64>
+        ensures { result ≡ last_end self.now }
+    {
+        let last = self.rows.last()?;
+        Some(last.end)
+    }
+
+    /// All rows in order.
+    pub fn as_slice(&self) -> &[Row]
+        ensures rows { result.now ≡ self.now }
+        ensures in_order { AreRows self.now }
+    {
+        &self.rows
+    }
+}

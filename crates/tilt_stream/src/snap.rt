@@ -1,0 +1,29 @@
+use std::marker::Model;
+use tilt_base::Cell;
+
+/// A cell that holds on the ticks of `(start, end]`, which are `start + 1` to `end`.
+#[derive(Clone, Copy, Debug, PartialEq, Eq)]
+pub struct Snap {
+    /// The tick before the first one, below `end`.
+    pub start: i64,
+    /// The last tick.
+    pub end: i64,
+    /// The value on these ticks, or null.
+    pub value: Cell,
+}
+
+/// A line of a series: its value holds on the ticks of `(start, end]`.
+pub type Row = Snap;
+
+impl Model for Snap {
+    ghost use Rattle.std.specs.Prelude.{◌<ℤ◌};
+    ghost use Rattle.tilt_stream.specs.Snap.{Snapshot};
+
+    ghost Value = { Snapshot };
+
+    ghost view = { λ s. record { start = s.start; end = s.end; value = s.value } };
+
+    ghost invariant = { λ s. s.start <ℤ s.end };
+
+    ghost inverse = { λ s. record { start = s.start; end = s.end; value = s.value } };
+}
