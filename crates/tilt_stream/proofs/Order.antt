@@ -1,5 +1,5 @@
 -- Lists of snapshots in the order of time.
-use Rattle.std.proofs.Common.{◌≡◌, ℤ, ◌<ℤ◌, ◌≤ℤ◌, List, [], ◌∷◌, ◌++◌, Some, refl, arith, slice_get, option_map, sym, ◌∙◌, ap, length, get_or, ◌-◌, sub-one, neg_ℤ, ℕ, ◌<◌, ◌+◌, drop}
+use Rattle.std.proofs.Common.{unwrap_or, ◌≡◌, ℤ, ◌<ℤ◌, ◌≤ℤ◌, List, [], ◌∷◌, ◌++◌, Some, refl, arith, slice_get, option_map, sym, ◌∙◌, ap, length, get_or, ◌-◌, sub-one, neg_ℤ, ℕ, ◌<◌, ◌+◌, drop}
 use Rattle.std.proofs.lemmas.List.{drop_more}
 use Rattle.tilt_base.specs.declared.limits.TheConstants.{WIDE}
 use Rattle.std.specs.Option.{ForSome}
@@ -68,3 +68,14 @@ pub last_end-after_push : (xs ys : List Snapshot) (s : Snapshot) (end : ℤ) →
 last_end-after_push xs ys s end pushed is =
     let e : Some end ≡ Some s.end = sym is ∙ ap last_end pushed ∙ last_end-push xs s in
     cc
+
+unwrap_last_end : (y : Snapshot) (xs : List Snapshot) (a b : ℤ) → unwrap_or (last_end (y ∷ xs)) a ≡ unwrap_or (last_end (y ∷ xs)) b
+unwrap_last_end y [] a b = refl
+unwrap_last_end y (x ∷ xs) a b = unwrap_last_end x xs a b
+
+-- what follows the last one doesn't start before it ends
+pub InOrder-behind : (from limit : ℤ) (xs : List Snapshot) (s : Snapshot) (ys : List Snapshot) → InOrder from limit (xs ++ s ∷ ys) → InOrder (unwrap_or (last_end xs) from) limit (s ∷ [])
+InOrder-behind from limit [] s ys h = (h.0, h.1, h.2, tt)
+InOrder-behind from limit (x ∷ []) s ys h = (h.3.0, h.3.1, h.3.2, tt)
+InOrder-behind from limit (x ∷ y ∷ xs) s ys h =
+    rw (unwrap_last_end y xs x.end from) at (InOrder-behind x.end limit (y ∷ xs) s ys h.3)

@@ -1,4 +1,4 @@
-ghost use Rattle.std.specs.Prelude.{◌≡◌, ◌<◌, [], ◌∷◌, ◌++◌, length, neg_ℤ, ◌≤ℤ◌, slice_get, IsTrue, ◌↔◌, OnOk, OnErr};
+ghost use Rattle.std.specs.Prelude.{◌≡◌, ◌<◌, [], ◌∷◌, ◌++◌, length, neg_ℤ, ◌≤ℤ◌, slice_get, IsTrue, ◌↔◌, OnOk, OnErr, IfSome};
 ghost use Rattle.std.specs.Option.{ForSome};
 ghost use Rattle.tilt_base.specs.declared.limits.TheConstants.{T};
 ghost use Rattle.tilt_stream.specs.Snap.{AreRows, last_end};
@@ -41,6 +41,7 @@ impl Rows {
         requires high { row.end ≤ℤ T }
         ensures ok { OnOk result (self.new ≡ self.old ++ row ∷ []) }
         ensures err { OnErr result (self.new ≡ self.old) }
+        ensures in_order { AreRows self.new }
     {
         prove!(row.start < row.end);
         self.rows.push(row)?;
@@ -72,7 +73,8 @@ impl Rows {
 
     /// The end of the last row, or `None` where there is no row.
     pub fn last_end(&self) -> Option<i64>
-        ensures { result ≡ last_end self.now }
+        ensures value { result ≡ last_end self.now }
+        ensures low { IfSome result (λ end. neg_ℤ T ≤ℤ end) }
     {
         let last = self.rows.last()?;
         Some(last.end)

@@ -1,0 +1,9 @@
+pub mod Lines
+pub mod Numbers
+pub mod Once
+pub mod Outcomes
+pub mod Pieces
+pub mod Reading
+pub mod Three
+pub mod Times
+pub mod Writes

@@ -1,0 +1,48 @@
+// What a command prints.
+ghost use Rattle.std.specs.Prelude.{◌≡◌, ◌≤◌, List, ℕ, IfOk, IfErr, MatchResult};
+ghost use Rattle.tilt_stream.specs.Text.{text_of};
+ghost use Rattle.tilt_stream.specs.Stream.{stream_of};
+ghost use Rattle.tilt_stream.specs.Snapshots.{snapshots};
+ghost use Rattle.tilt_outside.specs.Faults.{Rose};
+ghost use Rattle.tilt_app.specs.Outcome.{IsOutcome, printed, refused, HasTurn, IsRefusal};
+ghost use Rattle.tilt_app.specs.Report.{report_of, usage, read_fault, write_fault};
+ghost use Rattle.tilt_app.specs.Words.{IsCommand, texts};
+
+use crate::cut::snapshots_within;
+use crate::domain::Domain;
+use crate::fault::Fault;
+use crate::load::{load_query, load_series};
+use crate::words::read_words;
+use std::alloc::{AllocError as OutOfMemory, Global};
+use tilt_outside::Shelf;
+use tilt_stream::{Rows, SnapList};
+
+/// The snapshots that the command prints. All memory is taken here.
+pub fn answer<'a, S: Shelf>(alloc: Global, words: &'a [String], shelf: &mut S) -> Result<SnapList, Fault<'a>>
+    requires { (name : List ℕ) → HasTurn S.tells (texts words.now) (S.files shelf.old) name → S.lends name }
+    ensures printed { S.tells → IfOk result (λ list. IsOutcome (texts words.now) (S.files shelf.old) (printed (text_of list))) }
+    ensures is_command { MatchResult result (λ _. IsCommand (texts words.now))
+        (λ fault. (report_of fault ≡ usage → ⊥) → IsCommand (texts words.now)) }
+    ensures usage { IfErr result (λ fault. report_of fault ≡ usage → ¬ (IsCommand (texts words.now))) }
+    ensures refused { S.tells → IfErr result (λ fault. IsRefusal (report_of fault)
+        → IsOutcome (texts words.now) (S.files shelf.old) (refused (report_of fault))) }
+    ensures read_fault { IfErr result (λ fault. (name : List ℕ) → report_of fault ≡ read_fault name
+        → Rose (S.read_faults shelf.old) (S.read_faults shelf.new) × HasTurn S.tells (texts words.now) (S.files shelf.old) name) }
+    ensures no_write_fault { IfErr result (λ fault. report_of fault ≡ write_fault → ⊥) }
+    ensures kept { S.read_faults shelf.old ≤ S.read_faults shelf.new }
+{
+    let Some(command) = read_words(words) else {
+        return Err(Fault::Usage);
+    };
+    let domain = load_query(alloc, shelf, command.query)?;
+    let rows = load_series(alloc, shelf, command.series)?;
+    Ok(snapshots_on(alloc, &rows, domain)?)
+}
+
+// The snapshots of the rows' stream on the domain.
+fn snapshots_on(alloc: Global, rows: &Rows, domain: Domain) -> Result<SnapList, OutOfMemory>
+    ensures { IfOk result (λ list. list ≡ snapshots (stream_of rows.now) domain.start domain.end) }
+{
+    let list = SnapList::from_rows(alloc, rows)?;
+    snapshots_within(alloc, &list, domain)
+}

@@ -1,0 +1,93 @@
+// The program's one call.
+ghost use Rattle.std.specs.Prelude.{◌≡◌, ◌≤◌, ◌+◌, ◌++◌, ◌↔◌, List, ℕ, length, OnOk, OnErr, IfErr};
+ghost use Rattle.tilt_stream.specs.Text.{text_of};
+ghost use Rattle.tilt_outside.specs.Faults.{HasCause};
+ghost use Rattle.tilt_outside.specs.Written.{AppendsFront};
+ghost use Rattle.tilt_app.specs.Cause.{IsCause, IsLineWritten};
+ghost use Rattle.tilt_app.specs.Outcome.{IsOutcome, printed, HasTurn};
+ghost use Rattle.tilt_app.specs.Report.{Report, report_of, status_of, line_of, usage, write_fault};
+ghost use Rattle.tilt_app.specs.Words.{IsCommand, texts};
+
+use crate::answer::answer;
+use crate::fault::Fault;
+use crate::print::{put_header, put_rows};
+use std::alloc::Global;
+use tilt_outside::{Failed, Shelf, Sink};
+use tilt_stream::SnapList;
+
+// Does what the words say: all is read and computed before the first put.
+fn run<'a, S: Shelf, O: Sink>(
+    alloc: Global,
+    words: &'a [String],
+    shelf: &mut S,
+    out: &mut O,
+) -> Result<(), Fault<'a>>
+    requires lent { (name : List ℕ) → HasTurn S.tells (texts words.now) (S.files shelf.old) name → S.lends name }
+    requires room { (text : List ℕ) → (S.tells → IsOutcome (texts words.now) (S.files shelf.old) (printed text))
+        → O.takes out.old (length text) }
+    ensures done { OnOk result ((text : List ℕ) × (S.tells → IsOutcome (texts words.now) (S.files shelf.old) (printed text))
+        × (O.tells → O.written out.new ≡ O.written out.old ++ text)) }
+    ensures is_command { OnOk result (IsCommand (texts words.now)) }
+    ensures is_command_too { IfErr result (λ fault. (report_of fault ≡ usage → ⊥) → IsCommand (texts words.now)) }
+    ensures cause { IfErr result (λ fault. IsCause S.tells O.tells (texts words.now) (S.files shelf.old)
+        (S.read_faults shelf.old) (S.read_faults shelf.new) (O.written out.old) (O.written out.new)
+        (O.faults out.old) (O.faults out.new) (report_of fault)) }
+    ensures unwritten { IfErr result (λ fault. (report_of fault ≡ write_fault → ⊥) → out.new ≡ out.old) }
+{
+    let list = answer(alloc, words, shelf)?;
+    match print(out, &list) {
+        Ok(()) => Ok(()),
+        Err(_) => Err(Fault::WriteFault),
+    }
+}
+
+// Puts the text of snapshots.
+fn print<O: Sink>(out: &mut O, list: &SnapList) -> Result<(), Failed>
+    requires { O.takes out.old (length (text_of list.now)) }
+    ensures whole { O.tells → OnOk result (O.written out.new ≡ O.written out.old ++ text_of list.now) }
+    ensures front { O.tells → OnErr result (AppendsFront (O.written out.old) (O.written out.new) (text_of list.now)) }
+    ensures cause { HasCause (O.faults out.old) (O.faults out.new) result }
+{
+    put_header(out)?;
+    put_rows(out, list)
+}
+
+/// Does what the words say: `run QUERY x=SERIES` reads the query and the series from the shelf, and puts to `out` the
+/// text of the snapshots of `x` on the query's domain. Where that isn't done, one line that tells why goes to `err`, and
+/// nothing else. A fault of `err` changes nothing.
+///
+/// The answer is the status that the program ends with: 0 done, 1 refused, 2 the words are no command, 3 a read
+/// failed, 4 a put failed, 5 there was no memory.
+pub fn tilt<S: Shelf, O: Sink, E: Sink>(
+    alloc: Global,
+    words: &[String],
+    shelf: &mut S,
+    out: &mut O,
+    err: &mut E,
+) -> u8
+    requires lent { (name : List ℕ) → HasTurn S.tells (texts words.now) (S.files shelf.old) name → S.lends name }
+    requires room { (text : List ℕ) → (S.tells → IsOutcome (texts words.now) (S.files shelf.old) (printed text))
+        → O.takes out.old (length text) }
+    requires lines { (n : ℕ) → E.takes err.old n }
+
+    ensures done { result ≡ 0 → (text : List ℕ) × (S.tells → IsOutcome (texts words.now) (S.files shelf.old) (printed text))
+        × (O.tells → O.written out.new ≡ O.written out.old ++ text) }
+    ensures quiet { result ≡ 0 → err.new ≡ err.old }
+
+    ensures reported { (result ≡ 0 → ⊥) → (report : Report) × (result ≡ status_of report)
+        × IsCause S.tells O.tells (texts words.now) (S.files shelf.old)
+            (S.read_faults shelf.old) (S.read_faults shelf.new) (O.written out.old) (O.written out.new)
+            (O.faults out.old) (O.faults out.new) report
+        × (E.tells → IsLineWritten (E.written err.old) (E.written err.new) (line_of report) (E.faults err.old) (E.faults err.new)) }
+    ensures unwritten { (result ≡ 0 → ⊥) → (result ≡ 4 → ⊥) → out.new ≡ out.old }
+
+    ensures usage { (result ≡ 2) ↔ (¬ (IsCommand (texts words.now))) }
+{
+    match run(alloc, words, shelf, out) {
+        Ok(()) => 0,
+        Err(fault) => {
+            let _ = fault.put(err);
+            fault.status()
+        }
+    }
+}

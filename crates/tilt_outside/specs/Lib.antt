@@ -1,0 +1,6 @@
+pub mod Counts
+pub mod Faults
+pub mod Files
+pub mod MemShelf
+pub mod MemSink
+pub mod Written

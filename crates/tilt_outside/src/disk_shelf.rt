@@ -1,0 +1,156 @@
+// A shelf over the files of the standard library.
+ghost use Rattle.std.specs.Prelude.{⊤, [], ◌≡◌, ◌≤◌, length, IfOk};
+
+use crate::failed::Failed;
+use crate::shelf::Shelf;
+use std::alloc::Global;
+use std::fs;
+use std::io::{self, ErrorKind, Read, Seek, SeekFrom};
+use std::rt::Files;
+
+/// A shelf whose names are the paths of files. Nothing is proved of the bytes that they hold. A read from the front
+/// opens the file anew. It then stays open, so that reading on from the place reached opens and seeks nothing, and a
+/// pipe can be read too.
+#[derive(Drop)]
+pub struct DiskShelf<'a, R: Files> {
+    alloc: Global,
+    files: &'a R,
+    last: Option<OpenedFile<R::File>>,
+    read_faults: u64,
+    save_faults: u64,
+}
+
+// A file that was opened for reading, and the place that was reached in it.
+#[derive(Drop)]
+struct OpenedFile<F> {
+    name: String,
+    file: F,
+    place: u64,
+}
+
+impl<'a, R: Files> DiskShelf<'a, R> {
+    /// A shelf with no fault yet. It takes memory for the name of the file that it keeps open.
+    pub fn new(alloc: Global, files: &'a R) -> DiskShelf<'a, R>
+        ensures read_faults { ⟦<DiskShelf<'a, R> as Shelf>⟧.read_faults result ≡ 0 }
+        ensures save_faults { ⟦<DiskShelf<'a, R> as Shelf>⟧.save_faults result ≡ 0 }
+    {
+        DiskShelf {
+            alloc,
+            files,
+            last: None,
+            read_faults: 0,
+            save_faults: 0,
+        }
+    }
+
+    fn read_from(&mut self, name: &str, at: u64, room: &mut [u8]) -> io::Result<usize>
+        ensures count { IfOk result (λ count. count ≤ length room.old) }
+        ensures read_faults { self.new.read_faults ≡ self.old.read_faults }
+        ensures save_faults { self.new.save_faults ≡ self.old.save_faults }
+    {
+        let mut opened = match self.last.take() {
+            Some(last) if at > 0 && last.place == at && last.name.as_str() == name => last,
+            _ => open_at(self.alloc, self.files, name, at)?,
+        };
+        let count = read_some(&mut opened.file, room)?;
+        opened.place = opened.place.saturating_add(count as u64);
+        self.last = Some(opened);
+        Ok(count)
+    }
+}
+
+fn open_at<R: Files>(
+    alloc: Global,
+    files: &R,
+    name: &str,
+    at: u64,
+) -> io::Result<OpenedFile<R::File>> {
+    let name = String::from_str(alloc, name)?;
+    let mut file = fs::open(files, name.as_str())?;
+    if at > 0 {
+        file.seek(SeekFrom::Start(at))?;
+    }
+    Ok(OpenedFile {
+        name,
+        file,
+        place: at,
+    })
+}
+
+// Reads once, and begins again where it was interrupted.
+fn read_some<F: Read>(file: &mut F, room: &mut [u8]) -> io::Result<usize>
+    ensures { IfOk result (λ count. count ≤ length room.old) }
+{
+    for _ in 0..u64::MAX {
+        match file.read(room) {
+            Err(error) if error.kind() == ErrorKind::Interrupted => {}
+            answer => return answer,
+        }
+    }
+    Err(io::Error::from(ErrorKind::Interrupted))
+}
+
+impl<'a, R: Files> Shelf for DiskShelf<'a, R> {
+    ghost tells = { ⊥ };
+
+    ghost files = { λ _ _. [] };
+
+    ghost read_faults = { λ shelf. shelf.read_faults };
+
+    ghost save_faults = { λ shelf. shelf.save_faults };
+
+    ghost takes = { λ _ _ _. ⊤ };
+
+    ghost lends = { λ _. ⊤ };
+
+    fn read_at(&mut self, name: &str, at: u64, room: &mut [u8]) -> Result<usize, Failed> {
+        match self.read_from(name, at, room) {
+            Ok(count) => Ok(count),
+            Err(_) => {
+                self.read_faults = self.read_faults.saturating_add(1);
+                Err(Failed)
+            }
+        }
+    }
+
+    fn save(&mut self, name: &str, bytes: &[u8]) -> Result<(), Failed> {
+        self.last = None;
+        match fs::write(self.files, name, bytes) {
+            Ok(()) => Ok(()),
+            Err(_) => {
+                self.save_faults = self.save_faults.saturating_add(1);
+                Err(Failed)
+            }
+        }
+    }
+
+    ghost takes_fewer = { λ _ _ _ _ _ takes. takes };
+}
+
+#[cfg(test)]
+mod tests {
+    use super::*;
+    use crate::whole_file::{ReadAllFault, read_all};
+    use std::test::Fail;
+
+    const NAME: &str = "tilt_outside_saved";
+
+    #[test]
+    fn what_is_saved_is_read_again(rt: HostRuntime) -> Result<(), Fail> {
+        let mut shelf = DiskShelf::new(rt.alloc(), &rt);
+        for bytes in [b"first bytes".as_slice(), b"", b"second"] {
+            assert_eq!(rt; shelf.save(NAME, bytes), Ok(()));
+            let read = read_all(rt.alloc(), &mut shelf, NAME, 20)?;
+            assert_eq!(rt; read.as_slice(), bytes);
+        }
+        let mut room = [0u8; 3];
+        assert_eq!(rt; shelf.read_at(NAME, 2, &mut room), Ok(3));
+        assert_eq!(rt; room, *b"con");
+        fs::remove_file(&rt, NAME)?;
+        let missing = read_all(rt.alloc(), &mut shelf, NAME, 20);
+        assert_eq!(rt; missing.err(), Some(ReadAllFault::ReadFault));
+        assert_eq!(rt; shelf.save("", b""), Err(Failed));
+        assert_eq!(rt; (shelf.read_faults, shelf.save_faults), (1, 1));
+        Ok(())
+    }
+}

@@ -1,0 +1,22 @@
+//! The outside of the program: a shelf of named files that is read and saved to, and a sink of bytes that is written
+//! to. What comes in and goes out is bytes; a fault is told only where the count of faults rose.
+#![tactic(auto)]
+
+mod disk_shelf;
+mod failed;
+mod held_file;
+mod mem_shelf;
+mod mem_sink;
+mod shelf;
+mod sink;
+mod std_sink;
+mod whole_file;
+
+pub use disk_shelf::DiskShelf;
+pub use failed::Failed;
+pub use mem_shelf::MemShelf;
+pub use mem_sink::MemSink;
+pub use shelf::Shelf;
+pub use sink::Sink;
+pub use std_sink::StdSink;
+pub use whole_file::{ReadAllFault, read_all};

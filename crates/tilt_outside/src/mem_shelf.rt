@@ -1,0 +1,268 @@
+// A shelf in memory.
+ghost use Rattle.std.specs.Prelude.{◌≡◌, ◌≢◌, ◌⊎◌, ◌<◌, ◌≤◌, ◌-◌, ◌++◌, ◌↔◌, ◌∷◌, [], ⊤, List, ℕ, length, take, drop, min, max, position, option_copied, IfOk, IsErr, OnOk, OnErr};
+ghost use Rattle.std.specs.Bool.{IsFalse, OnTrue, OnFalse};
+ghost use Rattle.std.specs.Str.{bytes_eq};
+ghost use Rattle.tilt_outside.specs.Faults.{HasCause};
+ghost use Rattle.tilt_outside.specs.Files.{IsNextPiece};
+ghost use Rattle.tilt_outside.specs.MemShelf.{bytes_held, content_of, HasNoRoom, room_of, HoldsInstead, ReadFails, SaveFails, after_call, after_read_fault, after_save_fault};
+
+use crate::failed::Failed;
+use crate::held_file::HeldFile;
+use crate::shelf::Shelf;
+use std::alloc::{AllocError as OutOfMemory, Global};
+use std::marker::Model;
+
+/// A shelf that keeps its files in memory, and fails where it is told to. Each file has room for so many bytes, which
+/// is set aside when it is held, so that a read or a save takes no memory.
+#[derive(Drop)]
+pub struct MemShelf {
+    alloc: Global,
+    files: Vec<HeldFile>,
+    read_faults: u64,
+    save_faults: u64,
+    calls: u64,
+    failing: Vec<u64>,
+}
+
+impl Model for MemShelf {
+    ghost use Rattle.tilt_outside.specs.MemShelf.{ShelfState};
+
+    ghost Value = { ShelfState };
+
+    ghost view = { λ s. record {
+      files = s.files.items;
+      read_faults = s.read_faults;
+      save_faults = s.save_faults;
+      calls = s.calls;
+      failing = s.failing.items;
+    } };
+}
+
+impl MemShelf {
+    /// A shelf that holds no name.
+    pub fn new(alloc: Global) -> MemShelf
+        ensures { result ≡ record { files = []; read_faults = 0; save_faults = 0; calls = 0; failing = [] } }
+    {
+        MemShelf {
+            alloc,
+            files: Vec::new(alloc),
+            read_faults: 0,
+            save_faults: 0,
+            calls: 0,
+            failing: Vec::new(alloc),
+        }
+    }
+
+    /// Makes the name hold these bytes, with room for the greater of `room` and their number. After want of memory
+    /// all is as before.
+    pub fn hold(&mut self, name: &str, bytes: &[u8], room: usize) -> Result<(), OutOfMemory>
+        ensures held { OnOk result
+            (HoldsInstead self.old.files self.new.files name.now bytes.now (max room (length bytes.now))) }
+        ensures rest { OnOk result (self.new ≡ record self.old { files = self.new.files }) }
+        ensures err { OnErr result (self.new ≡ self.old) }
+    {
+        let file = HeldFile::new(self.alloc, name, bytes, room)?;
+        put_file(&mut self.files, name, file)
+    }
+
+    /// What the name holds, and `None` exactly where it isn't held.
+    pub fn bytes(&self, name: &str) -> Option<&[u8]>
+        ensures { option_copied result ≡ bytes_held self.now.files name.now }
+    {
+        find_bytes(&self.files, name)
+    }
+
+    /// Makes the call of that number fail. Reads and saves are counted together from 1, those that fail too.
+    pub fn fail_at(&mut self, call: u64) -> Result<(), OutOfMemory>
+        ensures ok { OnOk result (self.new ≡ record self.old { failing = self.old.failing ++ call ∷ [] }) }
+        ensures err { OnErr result (self.new ≡ self.old) }
+    {
+        self.failing.push(call)?;
+        Ok(())
+    }
+}
+
+// Where the file of that name stands.
+fn place_of(files: &[HeldFile], name: &str) -> Option<usize>
+    ensures { result ≡ position (λ file. bytes_eq file.name name.now) files.now }
+{
+    files.iter().position(|file| file.is_named(name))
+}
+
+// What the file of that name holds.
+fn find_bytes<'a>(files: &'a [HeldFile], name: &str) -> Option<&'a [u8]>
+    ensures { option_copied result ≡ bytes_held files.now name.now }
+{
+    let place = place_of(files, name)?;
+    let file = &files[place];
+    Some(file.bytes())
+}
+
+// Puts the file in the place of the one of its name, or behind all.
+fn put_file(files: &mut Vec<HeldFile>, name: &str, file: HeldFile) -> Result<(), OutOfMemory>
+    requires { file.name ≡ name.now }
+    ensures held { OnOk result (HoldsInstead files.old.items files.new.items name.now file.bytes file.room) }
+    ensures err { OnErr result (files.new.items ≡ files.old.items) }
+{
+    match place_of(files, name) {
+        Some(place) => files[place] = file,
+        None => files.push(file)?,
+    }
+    Ok(())
+}
+
+// Puts the bytes from a place on into the front of the room, as many as there are or fit.
+fn copy_from(bytes: &[u8], at: u64, room: &mut [u8]) -> usize
+    ensures count { result ≡ min (length room.old) (length bytes.now - at) }
+    ensures piece { room.new ≡ take result (drop at bytes.now) ++ drop result room.old }
+{
+    let start = bytes.len().min(at as usize);
+    let rest = &bytes[start..];
+    let count = rest.len().min(room.len());
+    room[..count].copy_from_slice(&rest[..count]);
+    count
+}
+
+impl Shelf for MemShelf {
+    ghost tells = { ⊤ };
+
+    ghost files = { λ shelf name. content_of shelf.files name };
+
+    ghost read_faults = { λ shelf. shelf.read_faults };
+
+    ghost save_faults = { λ shelf. shelf.save_faults };
+
+    ghost takes = { λ _ _ _. ⊤ };
+
+    ghost lends = { λ _. ⊤ };
+
+    /// Fails exactly where the name isn't held or the number of the call is listed. It gives as many bytes as there
+    /// are from `at` on and fit the room.
+    fn read_at(&mut self, name: &str, at: u64, room: &mut [u8]) -> Result<usize, Failed>
+        requires space { 0 < length room.old }
+        ensures count { IfOk result (λ n. n ≤ length room.old) }
+        ensures piece { ⊤ → IfOk result (λ n. IsNextPiece (content_of self.old.files name.now) at room.new n) }
+        ensures files { content_of self.new.files ≡ content_of self.old.files }
+        ensures cause { HasCause self.old.read_faults self.new.read_faults result }
+        ensures save_faults { self.new.save_faults ≡ self.old.save_faults }
+        ensures takes { (other : List ℕ) (n : ℕ) → ⊤ ↔ ⊤ }
+
+        ensures fails { IsErr result ↔ ReadFails self.old name.now }
+        ensures ok { OnOk result (self.new ≡ after_call self.old) }
+        ensures exact { IfOk result (λ n. n ≡ min (length room.old) (length (content_of self.old.files name.now) - at)) }
+        ensures room { IfOk result (λ n. room.new
+            ≡ take n (drop at (content_of self.old.files name.now)) ++ drop n room.old) }
+        ensures err { OnErr result (self.new ≡ after_read_fault self.old) }
+        ensures no_bytes { OnErr result (room.new ≡ room.old) }
+    {
+        self.calls = self.calls.saturating_add(1);
+        let is_listed = self.failing.contains(&self.calls);
+        match find_bytes(&self.files, name) {
+            Some(bytes) if !is_listed => Ok(copy_from(bytes, at, room)),
+            _ => {
+                self.read_faults = self.read_faults.saturating_add(1);
+                Err(Failed)
+            }
+        }
+    }
+
+    /// Fails exactly where the name isn't held, the bytes are more than its room, or the number of the call is
+    /// listed. A save that fails changes no file.
+    fn save(&mut self, name: &str, bytes: &[u8]) -> Result<(), Failed>
+        ensures saved { ⊤ → OnOk result (content_of self.new.files name.now ≡ bytes.now) }
+        ensures old_or_new { ⊤ → OnErr result
+            ((content_of self.new.files name.now ≡ content_of self.old.files name.now)
+            ⊎ (content_of self.new.files name.now ≡ bytes.now)) }
+        ensures others { ⊤ → (other : List ℕ) → other ≢ name.now
+            → content_of self.new.files other ≡ content_of self.old.files other }
+        ensures cause { HasCause self.old.save_faults self.new.save_faults result }
+        ensures read_faults { self.new.read_faults ≡ self.old.read_faults }
+
+        ensures fails { IsErr result ↔ SaveFails self.old name.now bytes.now }
+        ensures held { OnOk result (HoldsInstead self.old.files self.new.files name.now bytes.now
+            (room_of self.old.files name.now)) }
+        ensures rest { OnOk result (self.new ≡ record (after_call self.old) { files = self.new.files }) }
+        ensures err { OnErr result (self.new ≡ after_save_fault self.old) }
+    {
+        self.calls = self.calls.saturating_add(1);
+        let is_listed = self.failing.contains(&self.calls);
+        if !is_listed && replace_bytes(&mut self.files, name, bytes) {
+            return Ok(());
+        }
+        self.save_faults = self.save_faults.saturating_add(1);
+        Err(Failed)
+    }
+
+    ghost takes_fewer = { λ _ _ _ _ _ takes. takes };
+}
+
+// Puts the bytes in the place of those that the name holds, where it is held and they fit its room.
+fn replace_bytes(files: &mut Vec<HeldFile>, name: &str, bytes: &[u8]) -> bool
+    ensures refused { IsFalse result ↔ HasNoRoom files.old.items name.now (length bytes.now) }
+    ensures held { OnTrue result (HoldsInstead files.old.items files.new.items name.now bytes.now
+        (room_of files.old.items name.now)) }
+    ensures unchanged { OnFalse result (files.new.items ≡ files.old.items) }
+{
+    match place_of(files, name) {
+        Some(place) => {
+            let file = &mut files[place];
+            if bytes.len() > file.room() {
+                return false;
+            }
+            file.replace(bytes);
+            true
+        }
+        None => false,
+    }
+}
+
+#[cfg(test)]
+mod tests {
+    use super::*;
+    use crate::whole_file::{ReadAllFault, read_all};
+    use std::test::Fail;
+
+    #[test]
+    fn each_failing_read_is_told_and_counted(rt: HostRuntime) -> Result<(), Fail> {
+        for (name, call) in [("a", 1), ("a", 2), ("b", 9)] {
+            let mut shelf = MemShelf::new(rt.alloc());
+            shelf.hold("a", b"four", 0)?;
+            shelf.fail_at(call)?;
+            let read = read_all(rt.alloc(), &mut shelf, name, 4);
+            assert_eq!(rt;
+                read.err(),
+                Some(ReadAllFault::ReadFault),
+                "{name}, call {call}"
+            );
+            assert_eq!(rt; shelf.read_faults, 1, "{name}, call {call}");
+            assert_eq!(rt; shelf.save_faults, 0, "{name}, call {call}");
+        }
+        Ok(())
+    }
+
+    #[test]
+    fn saves_within_and_past_the_room(rt: HostRuntime) -> Result<(), Fail> {
+        let cases: [(&str, &[u8], u64, Option<&[u8]>, u64); 7] = [
+            ("a", b"", 9, Some(b""), 0),
+            ("a", b"eight...", 9, Some(b"eight..."), 0),
+            ("a", b"nine.....", 9, Some(b"four"), 1),
+            ("a", b"five.", 1, Some(b"four"), 1),
+            ("b", b"fives", 9, Some(b"fives"), 0),
+            ("b", b"longer", 9, Some(b"other"), 1),
+            ("c", b"", 9, None, 1),
+        ];
+        for (name, bytes, call, held, faults) in cases {
+            let mut shelf = MemShelf::new(rt.alloc());
+            shelf.hold("b", b"x", 0)?;
+            shelf.hold("a", b"four", 8)?;
+            shelf.hold("b", b"other", 2)?;
+            shelf.fail_at(call)?;
+            let is_failed = shelf.save(name, bytes).is_err();
+            assert_eq!(rt; is_failed, faults > 0, "{name} {bytes:?}");
+            assert_eq!(rt; shelf.bytes(name), held, "{name} {bytes:?}");
+            assert_eq!(rt; shelf.save_faults, faults, "{name} {bytes:?}");
+            assert_eq!(rt; shelf.read_faults, 0, "{name} {bytes:?}");
+        }
+        Ok(())
+    }
+}

@@ -1,0 +1,52 @@
+// Named files, which are read from a place on and saved whole.
+ghost use Rattle.std.specs.Prelude.{◌≡◌, ◌≢◌, ◌⊎◌, ◌<◌, ◌≤◌, ◌↔◌, List, ℕ, length, IfOk, OnOk, OnErr};
+ghost use Rattle.tilt_outside.specs.Faults.{HasCause};
+ghost use Rattle.tilt_outside.specs.Files.{IsNextPiece};
+
+use crate::failed::Failed;
+
+/// Named files. Code that is generic over a shelf knows of it only what stands here.
+pub trait Shelf {
+    /// Whether this kind of shelf tells what it holds. A disk doesn't.
+    ghost tells: { Type 0 };
+
+    /// The bytes that each name holds, where the shelf tells them. A name that isn't held has none.
+    ghost files: { Self → List ℕ → List ℕ };
+
+    /// How often a read has failed. The count never falls.
+    ghost read_faults: { Self → ℕ };
+
+    /// How often a save has failed. The count never falls.
+    ghost save_faults: { Self → ℕ };
+
+    /// Whether a name takes that many bytes in one save.
+    ghost takes: { Self → List ℕ → ℕ → Type 0 };
+
+    /// Which names may be read. No call changes it.
+    ghost lends: { List ℕ → Type 0 };
+
+    /// Puts the bytes of the name from place `at` on into the front of the room, and answers how many: 0 only at
+    /// the end. It changes no name.
+    fn read_at(&mut self, name: &str, at: u64, room: &mut [u8]) -> Result<usize, Failed>
+        requires space { 0 < length room.old }
+        requires lent { lends name.now }
+        ensures count { IfOk result (λ n. n ≤ length room.old) }
+        ensures piece { tells → IfOk result (λ n. IsNextPiece (files self.old name.now) at room.new n) }
+        ensures files { files self.new ≡ files self.old }
+        ensures cause { HasCause (read_faults self.old) (read_faults self.new) result }
+        ensures save_faults { save_faults self.new ≡ save_faults self.old }
+        ensures takes { (other : List ℕ) (n : ℕ) → takes self.old other n ↔ takes self.new other n };
+
+    /// Makes the name hold exactly these bytes. After `Failed` it holds the old or the new ones.
+    fn save(&mut self, name: &str, bytes: &[u8]) -> Result<(), Failed>
+        requires { takes self.old name.now (length bytes.now) }
+        ensures saved { tells → OnOk result (files self.new name.now ≡ bytes.now) }
+        ensures old_or_new { tells → OnErr result ((files self.new name.now ≡ files self.old name.now)
+            ⊎ (files self.new name.now ≡ bytes.now)) }
+        ensures others { tells → (other : List ℕ) → other ≢ name.now → files self.new other ≡ files self.old other }
+        ensures cause { HasCause (save_faults self.old) (save_faults self.new) result }
+        ensures read_faults { read_faults self.new ≡ read_faults self.old };
+
+    /// What takes that many bytes takes fewer too.
+    ghost takes_fewer: { (shelf : Self) (name : List ℕ) (m n : ℕ) → m ≤ n → takes shelf name n → takes shelf name m };
+}

@@ -1,0 +1,168 @@
+// A whole file, read piece by piece.
+ghost use Rattle.std.specs.Prelude.{◌≡◌, ◌<◌, ◌≤◌, ◌+◌, ◌^◌, ◌++◌, ◌↔◌, List, ℕ, length, take, drop, vec_len, IfOk, IsErrOf};
+ghost use Rattle.tilt_outside.specs.Faults.{Rose};
+ghost use Rattle.tilt_outside.specs.declared.whole_file.ReadAllFault.TheVariants.{ReadFault, OutOfMemory};
+
+use crate::failed::Failed;
+use crate::shelf::Shelf;
+use std::alloc::{AllocError, Global};
+use thiserror::Error;
+
+/// How many bytes one read asks for at most.
+const PIECE: usize = 65536;
+
+/// Why a file wasn't read whole.
+#[derive(Debug, Drop, PartialEq, Eq, Error)]
+pub enum ReadAllFault {
+    /// The file has more bytes than the limit.
+    #[error("the file is too long")]
+    TooLong,
+    /// A read failed. The shelf's count of read faults rose.
+    #[error("the file could not be read")]
+    ReadFault,
+    /// There was no memory for the bytes.
+    #[error("out of memory")]
+    OutOfMemory,
+}
+
+impl From<Failed> for ReadAllFault {
+    ghost from_gives = { λ _ fault. fault ≡ ReadFault };
+
+    fn from(_: Failed) -> Self {
+        ReadAllFault::ReadFault
+    }
+}
+
+impl From<AllocError> for ReadAllFault {
+    ghost from_gives = { λ _ fault. fault ≡ OutOfMemory };
+
+    fn from(_: AllocError) -> Self {
+        ReadAllFault::OutOfMemory
+    }
+}
+
+/// Reads the whole file of that name, which may have up to `limit` bytes. `TooLong` comes where more were read,
+/// `ReadFault` where a read failed, and `OutOfMemory` where there was no memory for the bytes. It changes no name.
+pub fn read_all<S: Shelf>(
+    alloc: Global,
+    shelf: &mut S,
+    name: &str,
+    limit: u64,
+) -> Result<Vec<u8>, ReadAllFault>
+    requires lent { S.lends name.now }
+    requires limit { limit < 2 ^ 63 }
+    ensures whole { S.tells → IfOk result (λ bytes. bytes.items ≡ S.files shelf.old name.now) }
+    ensures short { IfOk result (λ bytes. length bytes.items ≤ limit) }
+    ensures too_long { S.tells → IsErrOf result ReadAllFault.TooLong → limit < length (S.files shelf.old name.now) }
+    ensures read_fault { IsErrOf result ReadAllFault.ReadFault → Rose (S.read_faults shelf.old) (S.read_faults shelf.new) }
+
+    // What stands after it, whatever the answer.
+    ensures files { S.files shelf.new ≡ S.files shelf.old }
+    ensures kept { S.read_faults shelf.old ≤ S.read_faults shelf.new }
+    ensures save_faults { S.save_faults shelf.new ≡ S.save_faults shelf.old }
+    ensures takes { (other : List ℕ) (n : ℕ) → S.takes shelf.old other n ↔ S.takes shelf.new other n }
+{
+    let mut room = make_room(alloc, PIECE)?;
+    let bytes = take_up_to(alloc, shelf, name, limit + 1, &mut room)?;
+    if bytes.len() as u64 > limit {
+        return Err(ReadAllFault::TooLong);
+    }
+    Ok(bytes)
+}
+
+// Memory that reads can fill.
+fn make_room(alloc: Global, size: usize) -> Result<Vec<u8>, AllocError>
+    ensures { IfOk result (λ room. length room.items ≡ size) }
+{
+    vec![in alloc; 0u8; size]
+}
+
+// The first bytes of the file, up to `most`.
+fn take_up_to<S: Shelf>(
+    alloc: Global,
+    shelf: &mut S,
+    name: &str,
+    most: u64,
+    room: &mut [u8],
+) -> Result<Vec<u8>, ReadAllFault>
+    requires lent { S.lends name.now }
+    requires space { 0 < length room.old }
+    ensures front { S.tells → IfOk result (λ bytes. bytes.items ≡ take most (S.files shelf.old name.now)) }
+    ensures bound { IfOk result (λ bytes. length bytes.items ≤ most) }
+    ensures too_long { IsErrOf result ReadAllFault.TooLong → ⊥ }
+    ensures read_fault { IsErrOf result ReadAllFault.ReadFault → Rose (S.read_faults shelf.old) (S.read_faults shelf.new) }
+    ensures files { S.files shelf.new ≡ S.files shelf.old }
+    ensures kept { S.read_faults shelf.old ≤ S.read_faults shelf.new }
+    ensures save_faults { S.save_faults shelf.new ≡ S.save_faults shelf.old }
+    ensures takes { (other : List ℕ) (n : ℕ) → S.takes shelf.old other n ↔ S.takes shelf.new other n }
+{
+    let mut bytes = Vec::new(alloc);
+    while (bytes.len() as u64) < most {
+        let wanted = (most - bytes.len() as u64).min(room.len() as u64) as usize;
+        let taken = take_piece(shelf, name, &mut bytes, &mut room[..wanted])?;
+        if taken == 0 {
+            return Ok(bytes);
+        }
+    }
+    Ok(bytes)
+}
+
+// Appends what one read from behind the bytes gives, and answers how many: 0 only at the end.
+fn take_piece<S: Shelf>(
+    shelf: &mut S,
+    name: &str,
+    bytes: &mut Vec<u8>,
+    room: &mut [u8],
+) -> Result<usize, ReadAllFault>
+    requires lent { S.lends name.now }
+    requires space { 0 < length room.old }
+    ensures count { IfOk result (λ n. length bytes.new.items ≡ length bytes.old.items + n) }
+    ensures bound { IfOk result (λ n. n ≤ length room.old) }
+    ensures piece { S.tells → IfOk result (λ n. bytes.new.items
+        ≡ bytes.old.items ++ take n (drop (length bytes.old.items) (S.files shelf.old name.now))) }
+    ensures end { S.tells → IfOk result (λ n. n ≡ 0
+        → length (S.files shelf.old name.now) ≤ length bytes.old.items) }
+    ensures too_long { IsErrOf result ReadAllFault.TooLong → ⊥ }
+    ensures read_fault { IsErrOf result ReadAllFault.ReadFault → Rose (S.read_faults shelf.old) (S.read_faults shelf.new) }
+    ensures files { S.files shelf.new ≡ S.files shelf.old }
+    ensures kept { S.read_faults shelf.old ≤ S.read_faults shelf.new }
+    ensures save_faults { S.save_faults shelf.new ≡ S.save_faults shelf.old }
+    ensures takes { (other : List ℕ) (n : ℕ) → S.takes shelf.old other n ↔ S.takes shelf.new other n }
+{
+    let taken = shelf.read_at(name, bytes.len() as u64, room)?;
+    bytes.extend_from_slice(&room[..taken])?;
+    Ok(taken)
+}
+
+#[cfg(test)]
+mod tests {
+    use super::*;
+    use crate::mem_shelf::MemShelf;
+    use std::test::Fail;
+
+    #[test]
+    fn files_up_to_the_limit_are_read_whole(rt: HostRuntime) -> Result<(), Fail> {
+        let cases: [(usize, u32, bool); 7] = [
+            (4, 4, true),
+            (5, 4, false),
+            (0, 4, true),
+            (0, 0, true),
+            (1, 0, false),
+            (65546, 65546, true),
+            (65546, 65545, false),
+        ];
+        for (length, limit, is_read) in cases {
+            let bytes: Vec<u8> = (0..length).map(|i| (i % 251) as u8).collect(rt.alloc())?;
+            let mut shelf = MemShelf::new(rt.alloc());
+            shelf.hold("a", bytes.as_slice(), 0)?;
+            let read = read_all(rt.alloc(), &mut shelf, "a", u64::from(limit));
+            let want = if is_read {
+                Ok(bytes)
+            } else {
+                Err(ReadAllFault::TooLong)
+            };
+            assert_eq!(rt; read, want, "{length} bytes, limit {limit}");
+        }
+        Ok(())
+    }
+}
