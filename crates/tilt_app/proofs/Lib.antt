@@ -1,3 +1,4 @@
+pub mod Complete
 pub mod Lines
 pub mod Numbers
 pub mod Once

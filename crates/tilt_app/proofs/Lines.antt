@@ -1,5 +1,5 @@
 -- The line of a row is read in one way.
-use Rattle.std.proofs.Common.{◌≡◌, ℕ, ◌⊎◌, ◌<◌, inl, inr, List, [], ◌∷◌, ◌++◌, ℤ, FitsSigned, refl, ap, sym, ◌∙◌, arith, append_assoc, codes, Option, Some, None, neg_ℤ, ◌≤ℤ◌}
+use Rattle.std.proofs.Common.{◌≡◌, ℕ, inl, List, [], ◌∷◌, ◌++◌, ℤ, FitsSigned, refl, sym, ◌∙◌, arith, append_assoc, Option, Some, None, neg_ℤ, ◌≤ℤ◌}
 use Rattle.std.proofs.lemmas.Int.{ints}
 use Rattle.tilt_base.specs.declared.limits.TheConstants.{T}
 use Rattle.std.specs.Fmt.{signed_decimal}
@@ -22,7 +22,7 @@ second_number a s e v after rest bytes fits_a fits_s first whole =
 pub line_once : (a b c s e v : ℤ) (after rest : List ℕ) → FitsSigned w64 a → FitsSigned w64 b → FitsSigned w64 c → FitsSigned w64 s → FitsSigned w64 e → FitsSigned w64 v → line_with a b c after ≡ line_with s e v rest → (a ≡ s) × (b ≡ e) × (c ≡ v) × (after ≡ rest)
 line_once a b c s e v after rest fits_a fits_b fits_c fits_s fits_e fits_v same =
     let spelled : line_with a b c after ≡ (signed_decimal a ++ 44 ∷ (signed_decimal b ++ 44 ∷ (signed_decimal c ++ 10 ∷ after))) =
-      simp append_assoc in
+    simp append_assoc in
     let first = second_number a s e v (signed_decimal b ++ 44 ∷ (signed_decimal c ++ 10 ∷ after)) rest (line_with a b c after) fits_a fits_s spelled same in
     let second = number_once b e 44 (signed_decimal c ++ 10 ∷ after) (signed_decimal v ++ 10 ∷ rest) fits_b fits_e (inl (omega arith)) first.1 in
     let third = number_once c v 10 after rest fits_c fits_v (inl (omega arith)) second.1 in

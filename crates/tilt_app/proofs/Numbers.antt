@@ -1,7 +1,7 @@
 -- A number in shortest decimal ends before the first byte that no decimal has.
-use Rattle.std.proofs.Common.{◌≡◌, ◌≢◌, ℕ, ◌<◌, ◌≤◌, ◌⊎◌, inl, inr, List, [], ◌∷◌, ◌++◌, length, get_or, take, drop, ℤ, FitsSigned, refl, ap, sym, ◌∙◌, arith, length-append}
+use Rattle.std.proofs.Common.{◌≡◌, ◌≢◌, ℕ, ◌<◌, ◌⊎◌, inl, inr, List, ◌∷◌, ◌++◌, length, get_or, take, drop, ℤ, FitsSigned, ap, sym, ◌∙◌, arith, length-append}
 use Rattle.std.specs.Fmt.{signed_decimal}
-use Rattle.std.specs.Int.{w64, IsInRange}
+use Rattle.std.specs.Int.{w64}
 use Rattle.std.proofs.Math.Seq.{get_or-append_seam, take-append_seam, drop-append_seam}
 use Rattle.std.proofs.lemmas.List.{get_or_append_left}
 use Rattle.tilt_base.proofs.Decimals.{IsDecimalByte, signed_decimal_without_at, signed_decimal_same}
@@ -25,7 +25,7 @@ first_stop z stop i rest bytes fits other is at before =
     let xs = signed_decimal z in
     let behind = stop_behind z stop rest bytes is in
     let not_below : i < length xs → ⊥ = λ below.
-      signed_decimal_without_at stop (no_decimal_byte stop other) z fits i below (sym (ap (λ (bs : List ℕ). get_or bs i 0) is ∙ get_or_append_left xs (stop ∷ rest) 0 i below) ∙ at) in
+    signed_decimal_without_at stop (no_decimal_byte stop other) z fits i below (sym (ap (λ (bs : List ℕ). get_or bs i 0) is ∙ get_or_append_left xs (stop ∷ rest) 0 i below) ∙ at) in
     let not_above : length xs < i → ⊥ = λ above. before (length xs) above behind.1 in
     omega (arith, not_below, not_above)
 
@@ -41,11 +41,11 @@ number_once y z stop r s fits_y fits_z other same =
     let xs = signed_decimal y in
     let ys = signed_decimal z in
     let free : (k : ℕ) → k < length xs → get_or (xs ++ stop ∷ r) k 0 ≢ stop =
-      λ k below at. signed_decimal_without_at stop (no_decimal_byte stop other) y fits_y k below (sym (get_or_append_left xs (stop ∷ r) 0 k below) ∙ at) in
+    λ k below at. signed_decimal_without_at stop (no_decimal_byte stop other) y fits_y k below (sym (get_or_append_left xs (stop ∷ r) 0 k below) ∙ at) in
     let long : length xs ≡ length ys =
-      first_stop z stop (length xs) s (xs ++ stop ∷ r) fits_z other same (get_or-append_seam xs stop r 0) free in
+    first_stop z stop (length xs) s (xs ++ stop ∷ r) fits_z other same (get_or-append_seam xs stop r 0) free in
     let front : xs ≡ ys =
-      sym (take-append_seam xs (stop ∷ r)) ∙ ap (λ (bs : List ℕ). take (length xs) bs) same ∙ ap (λ (n : ℕ). take n (ys ++ stop ∷ s)) long ∙ take-append_seam ys (stop ∷ s) in
+    sym (take-append_seam xs (stop ∷ r)) ∙ ap (λ (bs : List ℕ). take (length xs) bs) same ∙ ap (λ (n : ℕ). take n (ys ++ stop ∷ s)) long ∙ take-append_seam ys (stop ∷ s) in
     let back : (stop ∷ r) ≡ (stop ∷ s) =
-      sym (drop-append_seam xs (stop ∷ r)) ∙ ap (λ (bs : List ℕ). drop (length xs) bs) same ∙ ap (λ (n : ℕ). drop n (ys ++ stop ∷ s)) long ∙ drop-append_seam ys (stop ∷ s) in
+    sym (drop-append_seam xs (stop ∷ r)) ∙ ap (λ (bs : List ℕ). drop (length xs) bs) same ∙ ap (λ (n : ℕ). drop n (ys ++ stop ∷ s)) long ∙ drop-append_seam ys (stop ∷ s) in
     (signed_decimal_same y z fits_y fits_z front, cc)

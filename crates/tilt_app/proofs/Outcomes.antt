@@ -1,5 +1,5 @@
 -- From the faults of files to what a command does.
-use Rattle.std.proofs.Common.{◌≡◌, ◌<◌, ◌≤◌, ◌⊎◌, inl, inr, List, ℕ, ℤ, length, refl, sym, ap, ◌∙◌, arith}
+use Rattle.std.proofs.Common.{◌≡◌, ◌≤◌, inl, inr, List, ℕ, ℤ, arith}
 use Rattle.tilt_stream.specs.Snap.{Snapshot}
 use Rattle.tilt_outside.specs.Faults.{Rose}
 use Rattle.tilt_app.specs.Query.{IsQuery}
@@ -7,7 +7,7 @@ use Rattle.tilt_app.specs.Series.{IsSeries}
 use Rattle.tilt_app.specs.Words.{IsRun}
 use Rattle.tilt_app.specs.Report.{Report, usage, file_too_long, read_fault, write_fault, out_of_memory, not_built}
 use Rattle.tilt_app.specs.Load.{IsFormFault}
-use Rattle.tilt_app.specs.Outcome.{IsOutcome, no_command, long_query, no_query, long_series, no_series, done, refused, TakesQuery, TakesSeries, HasTurn, query_turn, series_turn, IsRefusal}
+use Rattle.tilt_app.specs.Outcome.{IsOutcome, long_query, no_query, long_series, no_series, refused, TakesQuery, HasTurn, query_turn, series_turn, IsRefusal}
 
 -- a count that rose later rose
 pub rose_later : (before mid after : ℕ) → before ≤ mid → Rose mid after → Rose before after

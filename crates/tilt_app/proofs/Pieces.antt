@@ -1,5 +1,5 @@
 -- The pieces that the cut of a list adds are the snapshots of its stream.
-use Rattle.std.proofs.Common.{◌≡◌, ℤ, pos, ◌+ℤ◌, ◌<ℤ◌, ◌≤ℤ◌, Bool, true, false, List, [], ◌∷◌, ◌++◌, Option, Some, None, refl, ap, sym, ◌∙◌, arith, append_assoc, int_lt, if◌then◌else◌, ℕ, length, drop, ◌≤◌, neg_ℤ}
+use Rattle.std.proofs.Common.{◌≡◌, ℤ, pos, ◌+ℤ◌, ◌<ℤ◌, ◌≤ℤ◌, Bool, true, false, List, [], ◌∷◌, ◌++◌, Option, None, refl, ap, sym, ◌∙◌, arith, append_assoc, int_lt, if◌then◌else◌, ℕ, length, drop, ◌≤◌, neg_ℤ}
 use Rattle.tilt_base.specs.declared.limits.TheConstants.{WIDE}
 use Rattle.std.specs.Option.{ForSome}
 use Rattle.std.specs.Int.{int_min, int_max}
@@ -7,7 +7,7 @@ use Rattle.std.proofs.lemmas.Int.{ints, clamps}
 use Rattle.std.proofs.lemmas.List.{append-nil, drop_all}
 use Rattle.tilt_stream.specs.Snap.{Snapshot, InOrder, Touch, AreSnapshots, last_end}
 use Rattle.tilt_stream.specs.Stream.{Stream, stream_of}
-use Rattle.tilt_stream.specs.Snapshots.{snapshots, snapshot_on}
+use Rattle.tilt_stream.specs.Snapshots.{snapshots}
 use Rattle.tilt_stream.proofs.Cut.{IsUnmarked, snapshots-first, snapshots-none}
 use Rattle.tilt_stream.proofs.Order.{last_end-after_push}
 use Rattle.tilt_stream.proofs.Streams.{cell_at-before, mark_at-before, mark_at-start, cell_at-within, mark_at-within, mark_at-end, cell_at-behind, mark_at-behind}
@@ -39,14 +39,14 @@ pub record IsStretch (x : Stream) (at stop end : ℤ) (value : Option ℤ) : Typ
 module _ (x : Stream) (at stop end : ℤ) (value : Option ℤ) (within : stop ≤ℤ end) (h : at <ℤ stop → IsStretch x at stop end value) where
   by_test : (more : Bool) → int_lt at stop ≡ more → (if more then record { start = at; end = stop; value = value } ∷ [] else []) ++ snapshots x (int_max at stop) end ≡ snapshots x at end
   by_test true is =
-    let low : at <ℤ stop = grind (arith, ints) in
-    let on : int_max at stop ≡ stop = omega (arith, ints, clamps) in
-    let stretch = h low in
-    rw on (ap (λ (v : Option ℤ). record { start = at; end = stop; value = v } ∷ snapshots x stop end) (sym stretch.cell) ∙ sym (snapshots-first x at stop end low within stretch.clear stretch.marked))
+      let low : at <ℤ stop = grind (arith, ints) in
+      let on : int_max at stop ≡ stop = omega (arith, ints, clamps) in
+      let stretch = h low in
+      rw on (ap (λ (v : Option ℤ). record { start = at; end = stop; value = v } ∷ snapshots x stop end) (sym stretch.cell) ∙ sym (snapshots-first x at stop end low within stretch.clear stretch.marked))
   by_test false is =
-    let high : stop ≤ℤ at = grind (arith, ints) in
-    let on : int_max at stop ≡ at = omega (arith, ints, clamps) in
-    rw on refl
+      let high : stop ≤ℤ at = grind (arith, ints) in
+      let on : int_max at stop ≡ at = omega (arith, ints, clamps) in
+      rw on refl
 
   -- one piece, and the snapshots behind it
   piece-first : piece_between at stop value ++ snapshots x (int_max at stop) end ≡ snapshots x at end
@@ -73,8 +73,8 @@ touch_at (f ∷ g ∷ front) s next ss h = touch_at (g ∷ front) s next ss h.1
 pass_on : (front : List Snapshot) (s : Snapshot) (ss : List Snapshot) (at : ℤ) → Touch (front ++ s ∷ ss) → s.end ≤ℤ at → Passed (front ++ s ∷ []) ss at
 pass_on front s [] at touch low =
     λ last is.
-      let e : last ≡ s.end = last_end-after_push front (front ++ s ∷ []) s last refl is in
-      omega (arith, ints)
+    let e : last ≡ s.end = last_end-after_push front (front ++ s ∷ []) s last refl is in
+    omega (arith, ints)
 pass_on front s (next ∷ ss) at touch low =
     let e : s.end ≡ next.start = touch_at front s next ss touch in
     omega (arith, ints)

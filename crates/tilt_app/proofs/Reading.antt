@@ -1,5 +1,5 @@
 -- What a reader of rows knows between two lines.
-use Rattle.std.proofs.Common.{◌≡◌, ◌≢◌, ℕ, ◌<◌, List, [], ◌∷◌, ◌++◌, length, Bool, true, false, Option, Some, None, is_some, if◌then◌else◌, unwrap_or, ℤ, neg_ℤ, ◌≤ℤ◌, refl, ap, sym, ◌∙◌, arith, append_assoc, length-append, codes}
+use Rattle.std.proofs.Common.{◌≡◌, ◌≢◌, ℕ, List, [], ◌∷◌, ◌++◌, length, Bool, true, false, Option, Some, None, is_some, if◌then◌else◌, unwrap_or, ℤ, neg_ℤ, ◌≤ℤ◌, refl, ap, sym, ◌∙◌, arith, append_assoc, length-append, codes}
 use Rattle.std.specs.Fmt.{signed_decimal}
 use Rattle.std.specs.List.{AllByRecursion}
 use Rattle.std.proofs.lemmas.List.{append-nil}

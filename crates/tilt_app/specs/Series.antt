@@ -1,5 +1,5 @@
 -- The one form of series that is read so far.
-use Rattle.std.specs.Prelude.{◌≡◌, List, ℕ, ℤ, FitsSigned, MatchOption}
+use Rattle.std.specs.Prelude.{◌≡◌, List, ℕ, FitsSigned, MatchOption}
 use Rattle.std.specs.Int.{w64}
 use Rattle.std.specs.List.{AllByRecursion}
 use Rattle.tilt_stream.specs.Snap.{Snapshot, AreRows}

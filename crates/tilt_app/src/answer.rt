@@ -18,7 +18,11 @@ use tilt_outside::Shelf;
 use tilt_stream::{Rows, SnapList};
 
 /// The snapshots that the command prints. All memory is taken here.
-pub fn answer<'a, S: Shelf>(alloc: Global, words: &'a [String], shelf: &mut S) -> Result<SnapList, Fault<'a>>
+pub fn answer<'a, S: Shelf>(
+    alloc: Global,
+    words: &'a [String],
+    shelf: &mut S,
+) -> Result<SnapList, Fault<'a>>
     requires { (name : List ℕ) → HasTurn S.tells (texts words.now) (S.files shelf.old) name → S.lends name }
     ensures printed { S.tells → IfOk result (λ list. IsOutcome (texts words.now) (S.files shelf.old) (printed (text_of list))) }
     ensures is_command { MatchResult result (λ _. IsCommand (texts words.now))
@@ -29,6 +33,8 @@ pub fn answer<'a, S: Shelf>(alloc: Global, words: &'a [String], shelf: &mut S) -
     ensures read_fault { IfErr result (λ fault. (name : List ℕ) → report_of fault ≡ read_fault name
         → Rose (S.read_faults shelf.old) (S.read_faults shelf.new) × HasTurn S.tells (texts words.now) (S.files shelf.old) name) }
     ensures no_write_fault { IfErr result (λ fault. report_of fault ≡ write_fault → ⊥) }
+    ensures files { S.files shelf.new ≡ S.files shelf.old }
+    ensures save_faults { S.save_faults shelf.new ≡ S.save_faults shelf.old }
     ensures kept { S.read_faults shelf.old ≤ S.read_faults shelf.new }
 {
     let Some(command) = read_words(words) else {

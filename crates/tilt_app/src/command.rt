@@ -1,10 +1,10 @@
 // The program's one call.
-ghost use Rattle.std.specs.Prelude.{◌≡◌, ◌≤◌, ◌+◌, ◌++◌, ◌↔◌, List, ℕ, length, OnOk, OnErr, IfErr};
+ghost use Rattle.std.specs.Prelude.{◌≡◌, ◌⊎◌, ◌++◌, ◌↔◌, List, ℕ, length, OnOk, OnErr, IfErr};
 ghost use Rattle.tilt_stream.specs.Text.{text_of};
-ghost use Rattle.tilt_outside.specs.Faults.{HasCause};
+ghost use Rattle.tilt_outside.specs.Faults.{HasCause, Rose};
 ghost use Rattle.tilt_outside.specs.Written.{AppendsFront};
 ghost use Rattle.tilt_app.specs.Cause.{IsCause, IsLineWritten};
-ghost use Rattle.tilt_app.specs.Outcome.{IsOutcome, printed, HasTurn};
+ghost use Rattle.tilt_app.specs.Outcome.{IsOutcome, printed, refused, HasTurn};
 ghost use Rattle.tilt_app.specs.Report.{Report, report_of, status_of, line_of, usage, write_fault};
 ghost use Rattle.tilt_app.specs.Words.{IsCommand, texts};
 
@@ -32,6 +32,8 @@ fn run<'a, S: Shelf, O: Sink>(
     ensures cause { IfErr result (λ fault. IsCause S.tells O.tells (texts words.now) (S.files shelf.old)
         (S.read_faults shelf.old) (S.read_faults shelf.new) (O.written out.old) (O.written out.new)
         (O.faults out.old) (O.faults out.new) (report_of fault)) }
+    ensures files { S.files shelf.new ≡ S.files shelf.old }
+    ensures save_faults { S.save_faults shelf.new ≡ S.save_faults shelf.old }
     ensures unwritten { IfErr result (λ fault. (report_of fault ≡ write_fault → ⊥) → out.new ≡ out.old) }
 {
     let list = answer(alloc, words, shelf)?;
@@ -70,18 +72,30 @@ pub fn tilt<S: Shelf, O: Sink, E: Sink>(
         → O.takes out.old (length text) }
     requires lines { (n : ℕ) → E.takes err.old n }
 
+    // Status 0: the text was written whole, and nothing else.
     ensures done { result ≡ 0 → (text : List ℕ) × (S.tells → IsOutcome (texts words.now) (S.files shelf.old) (printed text))
         × (O.tells → O.written out.new ≡ O.written out.old ++ text) }
     ensures quiet { result ≡ 0 → err.new ≡ err.old }
 
+    // Every other status has its cause and its line.
     ensures reported { (result ≡ 0 → ⊥) → (report : Report) × (result ≡ status_of report)
         × IsCause S.tells O.tells (texts words.now) (S.files shelf.old)
-            (S.read_faults shelf.old) (S.read_faults shelf.new) (O.written out.old) (O.written out.new)
-            (O.faults out.old) (O.faults out.new) report
+        (S.read_faults shelf.old) (S.read_faults shelf.new) (O.written out.old) (O.written out.new)
+        (O.faults out.old) (O.faults out.new) report
         × (E.tells → IsLineWritten (E.written err.old) (E.written err.new) (line_of report) (E.faults err.old) (E.faults err.new)) }
     ensures unwritten { (result ≡ 0 → ⊥) → (result ≡ 4 → ⊥) → out.new ≡ out.old }
-
     ensures usage { (result ≡ 2) ↔ (¬ (IsCommand (texts words.now))) }
+
+    // Where no count rose, the outcome is the answer, but for want of memory.
+    ensures complete { S.tells → (text : List ℕ) → IsOutcome (texts words.now) (S.files shelf.old) (printed text)
+        → (Rose (S.read_faults shelf.old) (S.read_faults shelf.new) → ⊥)
+        → (Rose (O.faults out.old) (O.faults out.new) → ⊥) → (result ≡ 0) ⊎ (result ≡ 5) }
+    ensures complete_refusal { S.tells → (report : Report) → IsOutcome (texts words.now) (S.files shelf.old) (refused report)
+        → (Rose (S.read_faults shelf.old) (S.read_faults shelf.new) → ⊥) → (result ≡ status_of report) ⊎ (result ≡ 5) }
+
+    // Nothing is saved.
+    ensures files { S.files shelf.new ≡ S.files shelf.old }
+    ensures save_faults { S.save_faults shelf.new ≡ S.save_faults shelf.old }
 {
     match run(alloc, words, shelf, out) {
         Ok(()) => 0,

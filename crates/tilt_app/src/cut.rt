@@ -14,7 +14,11 @@ use tilt_stream::{Snap, SnapList};
 
 /// The snapshots of the list's stream on the domain. A snapshot that reaches past an end of the domain is cut there,
 /// and where the list has none the stream is null.
-pub fn snapshots_within(alloc: Global, list: &SnapList, domain: Domain) -> Result<SnapList, OutOfMemory>
+pub fn snapshots_within(
+    alloc: Global,
+    list: &SnapList,
+    domain: Domain,
+) -> Result<SnapList, OutOfMemory>
     ensures { IfOk result (λ cut. cut ≡ snapshots (stream_of list.now) domain.start domain.end) }
 {
     let mut cut = Cut::new(alloc, domain);

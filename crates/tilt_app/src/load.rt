@@ -18,12 +18,17 @@ use tilt_outside::{ReadAllFault, Shelf, read_all};
 use tilt_stream::Rows;
 
 /// The output domain of the query in the file of that name.
-pub fn load_query<'a, S: Shelf>(alloc: Global, shelf: &mut S, name: &'a str) -> Result<Domain, Fault<'a>>
+pub fn load_query<'a, S: Shelf>(
+    alloc: Global,
+    shelf: &mut S,
+    name: &'a str,
+) -> Result<Domain, Fault<'a>>
     requires { S.lends name.now }
     ensures taken { S.tells → IfOk result (λ domain. TakesQuery (S.files shelf.old name.now) domain.start domain.end) }
     ensures fault { IfErr result (λ fault. IsFormFault ((start : ℤ) × (end : ℤ) × IsQuery (S.files shelf.old name.now) start end)
         S.tells name.now (S.files shelf.old name.now) (S.read_faults shelf.old) (S.read_faults shelf.new) (report_of fault)) }
     ensures files { S.files shelf.new ≡ S.files shelf.old }
+    ensures save_faults { S.save_faults shelf.new ≡ S.save_faults shelf.old }
     ensures kept { S.read_faults shelf.old ≤ S.read_faults shelf.new }
 {
     let bytes = load(alloc, shelf, name)?;
@@ -31,12 +36,17 @@ pub fn load_query<'a, S: Shelf>(alloc: Global, shelf: &mut S, name: &'a str) -> 
 }
 
 /// The rows of the series in the file of that name.
-pub fn load_series<'a, S: Shelf>(alloc: Global, shelf: &mut S, name: &'a str) -> Result<Rows, Fault<'a>>
+pub fn load_series<'a, S: Shelf>(
+    alloc: Global,
+    shelf: &mut S,
+    name: &'a str,
+) -> Result<Rows, Fault<'a>>
     requires { S.lends name.now }
     ensures taken { S.tells → IfOk result (λ rows. TakesSeries (S.files shelf.old name.now) rows) }
     ensures fault { IfErr result (λ fault. IsFormFault ((rows : List Snapshot) × IsSeries (S.files shelf.old name.now) rows)
         S.tells name.now (S.files shelf.old name.now) (S.read_faults shelf.old) (S.read_faults shelf.new) (report_of fault)) }
     ensures files { S.files shelf.new ≡ S.files shelf.old }
+    ensures save_faults { S.save_faults shelf.new ≡ S.save_faults shelf.old }
     ensures kept { S.read_faults shelf.old ≤ S.read_faults shelf.new }
 {
     let bytes = load(alloc, shelf, name)?;
@@ -51,6 +61,7 @@ fn load<'a, S: Shelf>(alloc: Global, shelf: &mut S, name: &'a str) -> Result<Vec
     ensures fault { IfErr result (λ fault. IsLoadFault
         S.tells name.now (S.files shelf.old name.now) (S.read_faults shelf.old) (S.read_faults shelf.new) (report_of fault)) }
     ensures files { S.files shelf.new ≡ S.files shelf.old }
+    ensures save_faults { S.save_faults shelf.new ≡ S.save_faults shelf.old }
     ensures kept { S.read_faults shelf.old ≤ S.read_faults shelf.new }
 {
     match read_all(alloc, shelf, name, FILE) {

@@ -54,7 +54,7 @@ fn take_row(bytes: &[u8], from: i64) -> Option<(Row, &[u8])>
 fn take_line(bytes: &[u8]) -> Option<(i64, i64, i64, &[u8])>
     ensures { MatchOption result
         ((start end value : ℤ) (rest : List ℕ) → FitsSigned w64 start → FitsSigned w64 end → FitsSigned w64 value
-            → bytes.now ≢ row_text (record { start = start; end = end; value = Some value }) ++ rest)
+        → bytes.now ≢ row_text (record { start = start; end = end; value = Some value }) ++ rest)
         (λ taken. bytes.now ≡ row_text (record { start = taken.0; end = taken.1; value = Some taken.2 }) ++ taken.3.now) }
 {
     let (start, rest) = take_number(bytes, b',')?;

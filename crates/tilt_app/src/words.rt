@@ -22,7 +22,11 @@ pub fn read_words(words: &[String]) -> Option<Run<'_>>
     };
     let query = query.as_str();
     let series = bind.as_str().strip_prefix("x=")?;
-    if command.as_str() != "run" || query.is_empty() || query.starts_with("--") || series.is_empty() {
+    if command.as_str() != "run"
+        || query.is_empty()
+        || query.starts_with("--")
+        || series.is_empty()
+    {
         return None;
     }
     Some(Run { query, series })

@@ -6,6 +6,7 @@ use crate::shelf::Shelf;
 use std::alloc::Global;
 use std::fs;
 use std::io::{self, ErrorKind, Read, Seek, SeekFrom};
+use std::marker::Model;
 use std::rt::Files;
 
 /// A shelf whose names are the paths of files. Nothing is proved of the bytes that they hold. A read from the front
@@ -28,11 +29,18 @@ struct OpenedFile<F> {
     place: u64,
 }
 
+impl<'a, R: Files> Model for DiskShelf<'a, R> {
+    ghost use Rattle.tilt_outside.specs.DiskShelf.{DiskFaults};
+
+    ghost Value = { DiskFaults };
+
+    ghost view = { λ s. record { reads = s.read_faults; saves = s.save_faults } };
+}
+
 impl<'a, R: Files> DiskShelf<'a, R> {
     /// A shelf with no fault yet. It takes memory for the name of the file that it keeps open.
     pub fn new(alloc: Global, files: &'a R) -> DiskShelf<'a, R>
-        ensures read_faults { ⟦<DiskShelf<'a, R> as Shelf>⟧.read_faults result ≡ 0 }
-        ensures save_faults { ⟦<DiskShelf<'a, R> as Shelf>⟧.save_faults result ≡ 0 }
+        ensures { result ≡ record { reads = 0; saves = 0 } }
     {
         DiskShelf {
             alloc,
@@ -45,8 +53,7 @@ impl<'a, R: Files> DiskShelf<'a, R> {
 
     fn read_from(&mut self, name: &str, at: u64, room: &mut [u8]) -> io::Result<usize>
         ensures count { IfOk result (λ count. count ≤ length room.old) }
-        ensures read_faults { self.new.read_faults ≡ self.old.read_faults }
-        ensures save_faults { self.new.save_faults ≡ self.old.save_faults }
+        ensures faults { self.new ≡ self.old }
     {
         let mut opened = match self.last.take() {
             Some(last) if at > 0 && last.place == at && last.name.as_str() == name => last,
@@ -95,9 +102,9 @@ impl<'a, R: Files> Shelf for DiskShelf<'a, R> {
 
     ghost files = { λ _ _. [] };
 
-    ghost read_faults = { λ shelf. shelf.read_faults };
+    ghost read_faults = { λ shelf. shelf.reads };
 
-    ghost save_faults = { λ shelf. shelf.save_faults };
+    ghost save_faults = { λ shelf. shelf.saves };
 
     ghost takes = { λ _ _ _. ⊤ };
 

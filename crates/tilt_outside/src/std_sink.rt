@@ -6,6 +6,7 @@ ghost use Rattle.tilt_outside.specs.Faults.{HasCause};
 use crate::failed::Failed;
 use crate::sink::Sink;
 use std::io::{ErrorKind, Write};
+use std::marker::Model;
 
 /// A sink that writes to a writer of the standard library. A writer of the system says nothing of what reaches it.
 #[derive(Drop)]
@@ -14,10 +15,18 @@ pub struct StdSink<W: Write> {
     faults: u64,
 }
 
+impl<W: Write> Model for StdSink<W> {
+    ghost use Rattle.tilt_outside.specs.StdSink.{WriterState};
+
+    ghost Value = { WriterState };
+
+    ghost view = { λ s. record { contents = W.contents s.writer; faults = s.faults } };
+}
+
 impl<W: Write> StdSink<W> {
     /// A sink over the writer, with no fault yet.
     pub fn new(writer: W) -> StdSink<W>
-        ensures { ⟦<StdSink<W> as Sink>⟧.faults result ≡ 0 }
+        ensures { result ≡ record { contents = W.contents writer; faults = 0 } }
     {
         StdSink { writer, faults: 0 }
     }
@@ -37,7 +46,7 @@ impl<W: Write> Sink for StdSink<W> {
         ensures cause { HasCause self.old.faults self.new.faults result }
 
         ensures bytes { OnOk result
-            (Appends (W.contents self.old.writer) (W.contents self.new.writer) piece.now) }
+            (Appends self.old.contents self.new.contents piece.now) }
     {
         let outcome = write_whole(&mut self.writer, piece);
         if outcome.is_err() {

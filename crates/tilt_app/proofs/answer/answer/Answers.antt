@@ -1,4 +1,3 @@
-use Rattle.std.proofs.Common.{◌≡◌, ◌∙◌, sym}
 use Rattle.std.proofs.lemmas.Result.{err_from_is_err_and}
 use Rattle.tilt_app.specs.Words.{texts}
 use Rattle.tilt_app.specs.Report.{report_of}
@@ -16,10 +15,10 @@ load_query-requires g c =
 pub returns-in_err-domain-clause-refused : goal.returns-in_err-domain-clause-refused
 returns-in_err-domain-clause-refused g c =
     λ told.
-      let query = c.in-Some.command.query.now in
-      let series = c.in-Some.command.series.now in
-      let p = err_from_is_err_and c.from_residual.result c.from_residual.ensures.1 in
-      rw (p.1, p.2) (λ is. query_refused g.S.Shelf.tells (texts c.args.words.now) (g.S.Shelf.files c.args.shelf.now) query series _ _ c.in-Some.ensures (report_of c.in_err-domain.field-0.0) c.in_err-domain.ensures.fault told is)
+    let query = c.in-Some.command.query.now in
+    let series = c.in-Some.command.series.now in
+    let p = err_from_is_err_and c.from_residual.result c.from_residual.ensures.1 in
+    rw (p.1, p.2) (λ is. query_refused g.S.Shelf.tells (texts c.args.words.now) (g.S.Shelf.files c.args.shelf.now) query series _ _ c.in-Some.ensures (report_of c.in_err-domain.field-0.0) c.in_err-domain.ensures.fault told is)
 
 pub returns-in_err-domain-clause-read_fault : goal.returns-in_err-domain-clause-read_fault
 returns-in_err-domain-clause-read_fault g c =
@@ -35,10 +34,10 @@ load_series-requires g c =
 pub returns-in_err-rows-clause-refused : goal.returns-in_err-rows-clause-refused
 returns-in_err-rows-clause-refused g c =
     λ told.
-      let query = c.in-Some.command.query.now in
-      let series = c.in-Some.command.series.now in
-      let p = err_from_is_err_and c.from_residual-in_err-rows.result c.from_residual-in_err-rows.ensures.1 in
-      rw (p.1, p.2) (λ is. series_refused g.S.Shelf.tells (texts c.args.words.now) (g.S.Shelf.files c.args.shelf.now) (g.S.Shelf.files c.load_query.new.shelf) query series (g.S.Shelf.read_faults c.args.shelf.now) _ _ _ _ c.in-Some.ensures c.load_query.ensures.files c.in_ok-domain.ensures.taken (report_of c.in_err-rows.field-0.0) c.in_err-rows.ensures.fault told is)
+    let query = c.in-Some.command.query.now in
+    let series = c.in-Some.command.series.now in
+    let p = err_from_is_err_and c.from_residual-in_err-rows.result c.from_residual-in_err-rows.ensures.1 in
+    rw (p.1, p.2) (λ is. series_refused g.S.Shelf.tells (texts c.args.words.now) (g.S.Shelf.files c.args.shelf.now) (g.S.Shelf.files c.load_query.new.shelf) query series (g.S.Shelf.read_faults c.args.shelf.now) _ _ _ _ c.in-Some.ensures c.load_query.ensures.files c.in_ok-domain.ensures.taken (report_of c.in_err-rows.field-0.0) c.in_err-rows.ensures.fault told is)
 
 pub returns-in_err-rows-clause-read_fault : goal.returns-in_err-rows-clause-read_fault
 returns-in_err-rows-clause-read_fault g c =
@@ -50,6 +49,6 @@ returns-in_err-rows-clause-read_fault g c =
 pub returns-clause-printed : goal.returns-clause-printed
 returns-clause-printed g c =
     λ told.
-      let query = c.in-Some.command.query.now in
-      let series = c.in-Some.command.series.now in
-      rw c.in_ok-snapshots_on.ensures (done query series c.in_ok-domain.domain.start c.in_ok-domain.domain.end c.in_ok-rows.rows c.in-Some.ensures (c.in_ok-domain.ensures.taken told) (rw c.load_query.ensures.files at (c.in_ok-rows.ensures.taken told)))
+    let query = c.in-Some.command.query.now in
+    let series = c.in-Some.command.series.now in
+    rw c.in_ok-snapshots_on.ensures (done query series c.in_ok-domain.domain.start c.in_ok-domain.domain.end c.in_ok-rows.rows c.in-Some.ensures (c.in_ok-domain.ensures.taken told) (rw c.load_query.ensures.files at (c.in_ok-rows.ensures.taken told)))

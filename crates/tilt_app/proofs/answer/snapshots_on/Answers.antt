@@ -1,4 +1,4 @@
-use Rattle.std.proofs.Common.{◌≡◌, ◌∙◌}
+use Rattle.std.proofs.Common.{◌∙◌}
 use Rattle.std.proofs.lemmas.Result.{IfOk-weaker}
 use Rattle.tilt_stream.specs.Stream.{stream_of}
 use Rattle.tilt_stream.proofs.Cut.{snapshots-same}

@@ -1,4 +1,4 @@
-use Rattle.std.proofs.Common.{◌≡◌, rules, ap, ◌∙◌, drop, ◌+◌, refl, SFits, w64}
+use Rattle.std.proofs.Common.{rules, ap, ◌∙◌, drop, ◌+◌, SFits, w64}
 use Rattle.std.proofs.lemmas.Int.{to_z-of_z}
 use Rattle.std.proofs.lemmas.Result.{IfOk-weaker}
 use Rattle.tilt_stream.specs.Snap.{Snapshot}

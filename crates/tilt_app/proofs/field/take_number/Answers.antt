@@ -1,4 +1,3 @@
-use Rattle.std.proofs.Common.{◌≡◌}
 use Rattle.tilt_app.proofs.Numbers.{stop_behind, number_before}
 use Rattle.tilt_app.proofs.field.take_number.Goals as goal
 

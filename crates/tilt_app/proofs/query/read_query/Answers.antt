@@ -1,4 +1,4 @@
-use Rattle.std.proofs.Common.{◌≡◌, rules, sym, ◌∙◌, FitsSigned, w64}
+use Rattle.std.proofs.Common.{rules, sym, ◌∙◌, FitsSigned, w64}
 use Rattle.std.proofs.lemmas.Bool.{false≢true}
 use Rattle.std.proofs.lemmas.Int.{to_z-of_z}
 use Rattle.tilt_app.proofs.Times.{query_front, query_once, query_answer}
@@ -17,7 +17,7 @@ returns-then-ends_query c =
 pub returns-else-ends_query : goal.returns-else-ends_query
 returns-else-ends_query c =
     λ start end query.
-      let fits_start : FitsSigned w64 c.in_ok-start.start = search rules in
-      let fits_end : FitsSigned w64 c.in_ok-start.end = search rules in
-      let once = query_once c.args.bytes.now c.in_ok-times.times.now c.in_ok-start.rest.now c.in_ok-start.start c.in_ok-start.end start end fits_start fits_end c.in_ok-times.ensures c.in_ok-start.ensures query in
-      false≢true (sym c.if-ends_query.false ∙ c.ends_query.ensures.1 once.2)
+    let fits_start : FitsSigned w64 c.in_ok-start.start = search rules in
+    let fits_end : FitsSigned w64 c.in_ok-start.end = search rules in
+    let once = query_once c.args.bytes.now c.in_ok-times.times.now c.in_ok-start.rest.now c.in_ok-start.start c.in_ok-start.end start end fits_start fits_end c.in_ok-times.ensures c.in_ok-start.ensures query in
+    false≢true (sym c.if-ends_query.false ∙ c.ends_query.ensures.1 once.2)

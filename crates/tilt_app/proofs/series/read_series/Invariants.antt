@@ -1,7 +1,7 @@
 use Rattle.std.proofs.Common.{◌≡◌, ◌++◌, List, length}
 use Rattle.std.specs.List.{AllByRecursion}
 use Rattle.tilt_stream.specs.Snap.{Snapshot, AreRows}
-use Rattle.tilt_stream.specs.Text.{text_of, lines_of}
+use Rattle.tilt_stream.specs.Text.{text_of}
 use Rattle.tilt_app.specs.Series.{HasNumber, IsSeries}
 use Rattle.tilt_app.proofs.Reading.{IsLeft}
 use Rattle.tilt_app.proofs.series.read_series.Given as goal
