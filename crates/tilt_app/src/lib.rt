@@ -1,4 +1,8 @@
-//! The program's one call.
+//! The program's one call. In come the words, a shelf of files and two sinks; out goes the text of the query's
+//! snapshots, or one line that says why not, and a status.
+//!
+//! The clauses that matter stand on `tilt`: `done`, that the bytes printed are what the query means, `reported`, that
+//! every other answer has its cause, and `complete` and `complete_refusal`, that the outcome is answered.
 #![tactic(auto)]
 
 mod answer;
@@ -11,6 +15,8 @@ mod load;
 mod print;
 mod query;
 mod series;
+#[cfg(test)]
+mod tests;
 mod words;
 
 pub use command::tilt;

@@ -1,5 +1,5 @@
 -- Lists of snapshots in the order of time.
-use Rattle.std.proofs.Common.{unwrap_or, ◌≡◌, ℤ, ◌<ℤ◌, ◌≤ℤ◌, List, [], ◌∷◌, ◌++◌, Some, refl, arith, slice_get, option_map, sym, ◌∙◌, ap, length, get_or, ◌-◌, sub-one, neg_ℤ, ℕ, ◌<◌, ◌+◌, drop}
+use Rattle.std.proofs.Common.{IfSome, Option, None, unwrap_or, ◌≡◌, ℤ, ◌<ℤ◌, ◌≤ℤ◌, List, [], ◌∷◌, ◌++◌, Some, refl, arith, slice_get, option_map, sym, ◌∙◌, ap, length, get_or, ◌-◌, sub-one, neg_ℤ, ℕ, ◌<◌, ◌+◌, drop}
 use Rattle.std.proofs.lemmas.List.{drop_more}
 use Rattle.tilt_base.specs.declared.limits.TheConstants.{WIDE}
 use Rattle.std.specs.Option.{ForSome}
@@ -79,3 +79,8 @@ InOrder-behind from limit [] s ys h = (h.0, h.1, h.2, tt)
 InOrder-behind from limit (x ∷ []) s ys h = (h.3.0, h.3.1, h.3.2, tt)
 InOrder-behind from limit (x ∷ y ∷ xs) s ys h =
     rw (unwrap_last_end y xs x.end from) at (InOrder-behind x.end limit (y ∷ xs) s ys h.3)
+
+-- the same, of an answer that is that end
+pub last_end-low_if : (low high : ℤ) (xs : List Snapshot) (found : Option ℤ) → InOrder low high xs → found ≡ last_end xs → IfSome found (λ end. low ≤ℤ end)
+last_end-low_if low high xs None h is = tt
+last_end-low_if low high xs (Some end) h is = last_end-low low high xs end h (sym is)

@@ -3,7 +3,7 @@ ghost use Rattle.std.specs.Option.{ForSome};
 ghost use Rattle.tilt_base.specs.declared.limits.TheConstants.{T};
 ghost use Rattle.tilt_stream.specs.Snap.{AreRows, last_end};
 
-use crate::snap::Row;
+use crate::snap::{Row, last_end};
 use std::alloc::{AllocError as OutOfMemory, Global};
 use std::marker::Model;
 
@@ -76,8 +76,7 @@ impl Rows {
         ensures value { result ≡ last_end self.now }
         ensures low { IfSome result (λ end. neg_ℤ T ≤ℤ end) }
     {
-        let last = self.rows.last()?;
-        Some(last.end)
+        last_end(&self.rows)
     }
 
     /// All rows in order.

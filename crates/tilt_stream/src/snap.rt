@@ -1,3 +1,6 @@
+ghost use Rattle.std.specs.Prelude.{◌≡◌};
+ghost use Rattle.tilt_stream.specs.Snap.{last_end};
+
 use std::marker::Model;
 use tilt_base::Cell;
 
@@ -26,4 +29,12 @@ impl Model for Snap {
     ghost invariant = { λ s. s.start <ℤ s.end };
 
     ghost inverse = { λ s. record { start = s.start; end = s.end; value = s.value } };
+}
+
+/// Where the last one ends, or `None` where there is none.
+pub(crate) fn last_end(snaps: &[Snap]) -> Option<i64>
+    ensures { result ≡ last_end snaps.now }
+{
+    let last = snaps.last()?;
+    Some(last.end)
 }

@@ -5,7 +5,7 @@ ghost use Rattle.tilt_stream.specs.Snap.{AreSnapshots, gap_before, last_end};
 ghost use Rattle.tilt_stream.specs.Stream.{stream_of, SameStream};
 
 use crate::rows::Rows;
-use crate::snap::{Row, Snap};
+use crate::snap::{Row, Snap, last_end};
 use std::alloc::{AllocError as OutOfMemory, Global};
 use std::marker::Model;
 
@@ -96,8 +96,7 @@ impl SnapList {
         ensures value { result ≡ last_end self.now }
         ensures low { IfSome result (λ end. neg_ℤ WIDE ≤ℤ end) }
     {
-        let last = self.snaps.last()?;
-        Some(last.end)
+        last_end(&self.snaps)
     }
 
     /// How many snapshots there are.
