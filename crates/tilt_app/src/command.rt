@@ -1,5 +1,5 @@
 // The program's one call.
-ghost use Rattle.std.specs.Prelude.{◌≡◌, ◌⊎◌, ◌++◌, ◌↔◌, List, ℕ, length, OnOk, OnErr, IfErr};
+ghost use Rattle.std.specs.Prelude.{◌≡◌, ◌⊎◌, ◌++◌, ◌↔◌, List, ℕ, length, OnOk, OnErr, IfErr, MatchResult};
 ghost use Rattle.tilt_stream.specs.Text.{text_of};
 ghost use Rattle.tilt_outside.specs.Faults.{HasCause, Rose};
 ghost use Rattle.tilt_outside.specs.Written.{AppendsFront};
@@ -27,8 +27,8 @@ fn run<'a, S: Shelf, O: Sink>(
         → O.takes out.old (length text) }
     ensures done { OnOk result ((text : List ℕ) × (S.tells → IsOutcome (texts words.now) (S.files shelf.old) (printed text))
         × (O.tells → O.written out.new ≡ O.written out.old ++ text)) }
-    ensures is_command { OnOk result (IsCommand (texts words.now)) }
-    ensures is_command_too { IfErr result (λ fault. (report_of fault ≡ usage → ⊥) → IsCommand (texts words.now)) }
+    ensures is_command { MatchResult result (λ _. IsCommand (texts words.now))
+        (λ fault. (report_of fault ≡ usage → ⊥) → IsCommand (texts words.now)) }
     ensures cause { IfErr result (λ fault. IsCause S.tells O.tells (texts words.now) (S.files shelf.old)
         (S.read_faults shelf.old) (S.read_faults shelf.new) (O.written out.old) (O.written out.new)
         (O.faults out.old) (O.faults out.new) (report_of fault)) }
