@@ -93,7 +93,7 @@ pub fn tilt<S: Shelf, O: Sink, E: Sink>(
     ensures complete_refusal { S.tells → (report : Report) → IsOutcome (texts words.now) (S.files shelf.old) (refused report)
         → (Rose (S.read_faults shelf.old) (S.read_faults shelf.new) → ⊥) → (result ≡ status_of report) ⊎ (result ≡ 5) }
 
-    // Nothing is saved.
+    // The files and the count of failed saves are as before.
     ensures files { S.files shelf.new ≡ S.files shelf.old }
     ensures save_faults { S.save_faults shelf.new ≡ S.save_faults shelf.old }
 {

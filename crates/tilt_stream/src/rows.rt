@@ -50,8 +50,7 @@ impl Rows {
 
     /// How many rows there are.
     pub fn len(&self) -> usize
-        ensures len { result ≡ length self.now }
-        ensures in_order { AreRows self.now }
+        ensures { result ≡ length self.now }
     {
         self.rows.len()
     }

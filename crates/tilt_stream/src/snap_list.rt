@@ -101,8 +101,7 @@ impl SnapList {
 
     /// How many snapshots there are.
     pub fn len(&self) -> usize
-        ensures len { result ≡ length self.now }
-        ensures no_gaps { AreSnapshots self.now }
+        ensures { result ≡ length self.now }
     {
         self.snaps.len()
     }
