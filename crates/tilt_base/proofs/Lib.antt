@@ -1,2 +1,6 @@
+pub mod Average
 pub mod Decimals
+pub mod GridPoints
+pub mod Last
+pub mod Multiples
 pub mod Spelling

@@ -1,1 +1,4 @@
+pub mod Grid
 pub mod Number
+pub mod Reduce
+pub mod Scalar

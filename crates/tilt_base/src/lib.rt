@@ -1,10 +1,23 @@
-//! The numbers that every other crate speaks of: the limits of times, cells, and numbers spelled in decimal digits.
+//! What every other crate speaks of: the limits of times, cells, numbers spelled in decimal digits, the scalar
+//! operators on cells, the reducers on lists of numbers, and grids of ticks.
+//!
+//! What comes in is bytes, cells, lists of numbers and ticks; what goes out is numbers, cells and ticks. Nothing here
+//! takes memory. `read_number` answers the number spelled; `apply1`, `apply2`, `choose` and `reduce` answer the tables
+//! of `specs/Scalar` and `specs/Reduce`; `Grid::ceil` and `Grid::floor` answer the nearest points of `specs/Grid`.
 #![tactic(auto)]
 
 mod cell;
+mod grid;
 mod limits;
 mod number;
+mod operator;
+mod reducer;
+mod scalar;
 
 pub use cell::Cell;
+pub use grid::Grid;
 pub use limits::{FILE, OFFSET, PERIOD, REACH, T, WIDE};
 pub use number::{read_number, read_shortest};
+pub use operator::{Op1, Op2};
+pub use reducer::{Reducer, reduce};
+pub use scalar::{apply1, apply2, choose};

@@ -6,13 +6,13 @@ use Rattle.tilt_stream.specs.Stream.{Stream, SameStream}
 use Rattle.tilt_stream.specs.Snapshots.{snapshot_on, cut_behind, snapshots_from, snapshots}
 
 -- a number is as far above another as that many steps
-int_gap_is : (lo hi : ℤ) → lo ≤ℤ hi → lo +ℤ pos (int_gap lo hi) ≡ hi
+pub int_gap_is : (lo hi : ℤ) → lo ≤ℤ hi → lo +ℤ pos (int_gap lo hi) ≡ hi
 int_gap_is (pos a) (pos b) h = omega (arith, ints)
 int_gap_is (pos a) (negsuc b) h = omega (arith, ints)
 int_gap_is (negsuc a) (pos b) h = omega (arith, ints)
 int_gap_is (negsuc a) (negsuc b) h = omega (arith, ints)
 
-int_gap_none : (lo hi : ℤ) → hi ≤ℤ lo → int_gap lo hi ≡ 0
+pub int_gap_none : (lo hi : ℤ) → hi ≤ℤ lo → int_gap lo hi ≡ 0
 int_gap_none (pos a) (pos b) h = omega (arith, ints)
 int_gap_none (pos a) (negsuc b) h = omega (arith, ints)
 int_gap_none (negsuc a) (pos b) h = omega (arith, ints)

@@ -1,0 +1,13 @@
+use Rattle.std.proofs.Common.{arith, sym, subst}
+use Rattle.std.proofs.lemmas.Int.{ints, to_z-of_z}
+use Rattle.tilt_base.specs.Grid.{IsCeil}
+use Rattle.tilt_base.proofs.GridPoints.{ceil-IsCeil}
+use Rattle.tilt_base.proofs.grid.Grid.ceil.Goals as goal
+
+pub returns-clause-value : goal.returns-clause-value
+returns-clause-value c = rw (← c.self.view_is) (grind (arith, ints, to_z-of_z))
+
+pub returns-clause-least : goal.returns-clause-least
+returns-clause-least c =
+    let grid = c.args.self.now in
+    subst (IsCeil grid c.args.tick) (sym (returns-clause-value c)) (ceil-IsCeil grid c.args.tick (rw (← c.self.view_is) c.self.invariant.period_low))

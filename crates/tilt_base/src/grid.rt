@@ -1,0 +1,118 @@
+// Grids, and their points below and above a tick.
+ghost use Rattle.std.specs.Prelude.{◌≡◌, ◌≤ℤ◌, ◌+ℤ◌, ◌*ℤ◌, pos, neg_ℤ, MatchOption};
+ghost use Rattle.tilt_base.specs.declared.limits.TheConstants.{WIDE, OFFSET};
+ghost use Rattle.tilt_base.specs.Grid.{IsGrid, IsCeil, IsFloor, ceil, floor};
+
+use crate::limits::PERIOD;
+use std::marker::Model;
+
+/// The ticks at which an expression is taken: those that lie a multiple of the period from the offset.
+#[derive(Clone, Copy, Debug, PartialEq, Eq)]
+pub struct Grid {
+    /// In ticks, from 1 to `PERIOD`.
+    pub period: i64,
+    /// In ticks, from 0 on and below the period.
+    pub offset: i64,
+}
+
+impl Model for Grid {
+    ghost use Rattle.tilt_base.specs.Grid.{GridPoints, IsGrid};
+
+    ghost Value = { GridPoints };
+
+    ghost view = { λ g. record { period = g.period; offset = g.offset } };
+
+    ghost invariant = { λ g. IsGrid (record { period = g.period; offset = g.offset }) };
+
+    ghost inverse = { λ g. record { period = g.period; offset = g.offset } };
+}
+
+impl Grid {
+    /// The grid with this period and this offset, or `None` where they bound none.
+    pub fn new(period: i64, offset: i64) -> Option<Grid>
+        ensures { MatchOption result
+            (¬ (IsGrid (record { period = period; offset = offset })))
+            (λ grid. (grid ≡ record { period = period; offset = offset }) × IsGrid grid) }
+    {
+        if 1 <= period && period <= PERIOD && 0 <= offset && offset < period {
+            Some(Grid { period, offset })
+        } else {
+            None
+        }
+    }
+
+    /// The least grid point that isn't below the tick.
+    pub fn ceil(&self, tick: i64) -> i64
+        requires low { neg_ℤ (WIDE +ℤ pos 4 *ℤ OFFSET) ≤ℤ tick }
+        requires high { tick ≤ℤ (WIDE +ℤ pos 4 *ℤ OFFSET) }
+        ensures least { IsCeil self.now tick result }
+        ensures value { result ≡ ceil self.now tick }
+    {
+        tick + (self.offset - tick).rem_euclid(self.period)
+    }
+
+    /// The greatest grid point that isn't above the tick.
+    pub fn floor(&self, tick: i64) -> i64
+        requires low { neg_ℤ (WIDE +ℤ pos 4 *ℤ OFFSET) ≤ℤ tick }
+        requires high { tick ≤ℤ (WIDE +ℤ pos 4 *ℤ OFFSET) }
+        ensures greatest { IsFloor self.now tick result }
+        ensures value { result ≡ floor self.now tick }
+    {
+        tick - (tick - self.offset).rem_euclid(self.period)
+    }
+}
+
+#[cfg(test)]
+mod tests {
+    use super::*;
+
+    #[test]
+    fn a_grid_has_its_bounds(rt: HostRuntime) {
+        for (period, offset, is_grid) in [
+            (1, 0, true),
+            (5, 4, true),
+            (PERIOD, PERIOD - 1, true),
+            (0, 0, false),
+            (-1, 0, false),
+            (PERIOD + 1, 0, false),
+            (5, 5, false),
+            (5, -1, false),
+        ] {
+            let want = is_grid.then_some((period, offset));
+            let grid = Grid::new(period, offset).map(|g| (g.period, g.offset));
+            assert_eq!(rt; grid, want, "at {period} {offset}");
+        }
+    }
+
+    #[test]
+    fn the_nearest_points_lie_around_a_tick(rt: HostRuntime) {
+        let fives = Grid {
+            period: 5,
+            offset: 0,
+        };
+        for (tick, above, below) in [
+            (-7_i32, -5, -10),
+            (-5, -5, -5),
+            (0, 0, 0),
+            (1, 5, 0),
+            (5, 5, 5),
+        ] {
+            assert_eq!(rt; fives.ceil(i64::from(tick)), above, "at {tick}");
+            assert_eq!(rt; fives.floor(i64::from(tick)), below, "at {tick}");
+        }
+        let odds = Grid {
+            period: 2,
+            offset: 1,
+        };
+        for (tick, above, below) in [
+            (-2_i32, -1, -3),
+            (-1, -1, -1),
+            (0, 1, -1),
+            (1, 1, 1),
+            (2, 3, 1),
+        ] {
+            assert_eq!(rt; odds.ceil(i64::from(tick)), above, "at {tick}");
+            assert_eq!(rt; odds.floor(i64::from(tick)), below, "at {tick}");
+        }
+    }
+}

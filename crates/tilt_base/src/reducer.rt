@@ -1,0 +1,151 @@
+// The reducers on a list of numbers.
+ghost use Rattle.std.specs.Prelude.{◌≡◌, ◌*◌, ◌<◌, ◌≤ℤ◌, fold, int_div, length, neg_ℤ, pos};
+ghost use Rattle.std.specs.Int.{int_max, int_min};
+ghost use Rattle.std.specs.List.{list_all, list_any};
+ghost use Rattle.tilt_base.specs.Reduce.{reduce, total};
+ghost use Rattle.tilt_base.specs.Scalar.{is_true};
+
+use crate::cell::Cell;
+use crate::scalar::truth;
+
+/// What a window's list of numbers comes to. Each reducer is null on the empty list.
+#[derive(Clone, Copy, Debug, PartialEq, Eq)]
+pub enum Reducer {
+    /// The exact sum: null where 64 bits don't hold it.
+    Sum,
+    /// The exact sum divided by the length, truncated toward zero.
+    Avg,
+    Min,
+    Max,
+    /// The length.
+    Count,
+    First,
+    Last,
+    /// 1 where a member is true, else 0.
+    Any,
+    /// 1 where every member is true, else 0.
+    All,
+}
+
+/// What the reducer gives on the numbers, in one pass over them.
+pub fn reduce(reducer: Reducer, numbers: &[i64]) -> Cell
+    ensures { result ≡ reduce reducer numbers.now }
+{
+    let (first, rest) = numbers.split_first()?;
+    match reducer {
+        Reducer::Sum => i64::try_from(total(numbers)).ok(),
+        Reducer::Avg => Some(average(numbers)),
+        Reducer::Min => Some(least(*first, rest)),
+        Reducer::Max => Some(greatest(*first, rest)),
+        Reducer::Count => Some(numbers.len() as i64),
+        Reducer::First => Some(*first),
+        Reducer::Last => numbers.last().copied(),
+        Reducer::Any => truth(any_true(numbers)),
+        Reducer::All => truth(all_true(numbers)),
+    }
+}
+
+// The exact sum. It has fewer than 2^60 terms, so that 128 bits hold it.
+fn total(numbers: &[i64]) -> i128
+    ensures value { result ≡ total numbers.now }
+    ensures low { neg_ℤ (pos (9223372036854775808 * length numbers.now)) ≤ℤ result }
+    ensures high { result ≤ℤ pos (9223372036854775807 * length numbers.now) }
+{
+    let mut sum = 0;
+    for n in numbers {
+        sum += i128::from(*n);
+    }
+    sum
+}
+
+// The exact sum divided by the length, truncated toward zero. It lies between the least and the greatest number, so
+// that 64 bits hold it.
+fn average(numbers: &[i64]) -> i64
+    requires { 0 < length numbers.now }
+    ensures { result ≡ int_div (total numbers.now) (pos (length numbers.now)) }
+{
+    (total(numbers) / numbers.len() as i128) as i64
+}
+
+// The least of the first number and the others.
+fn least(first: i64, rest: &[i64]) -> i64
+    ensures { result ≡ fold int_min first rest.now }
+{
+    let mut best = first;
+    for n in rest {
+        best = best.min(*n);
+    }
+    best
+}
+
+// The greatest of the first number and the others.
+fn greatest(first: i64, rest: &[i64]) -> i64
+    ensures { result ≡ fold int_max first rest.now }
+{
+    let mut best = first;
+    for n in rest {
+        best = best.max(*n);
+    }
+    best
+}
+
+// Whether one of the numbers is true.
+fn any_true(numbers: &[i64]) -> bool
+    ensures { result ≡ list_any is_true numbers.now }
+{
+    numbers.iter().any(|n| *n != 0)
+}
+
+// Whether all of the numbers are true.
+fn all_true(numbers: &[i64]) -> bool
+    ensures { result ≡ list_all is_true numbers.now }
+{
+    numbers.iter().all(|n| *n != 0)
+}
+
+#[cfg(test)]
+mod tests {
+    use super::*;
+
+    #[test]
+    fn each_reducer_has_its_own_answer(rt: HostRuntime) {
+        for (reducer, several, zeros) in [
+            (Reducer::Sum, -11, 0),
+            (Reducer::Avg, -2, 0),
+            (Reducer::Min, -9, 0),
+            (Reducer::Max, 3, 0),
+            (Reducer::Count, 4, 2),
+            (Reducer::First, -9, 0),
+            (Reducer::Last, -5, 0),
+            (Reducer::Any, 1, 0),
+            (Reducer::All, 0, 0),
+        ] {
+            assert_eq!(rt;
+                reduce(reducer, &[-9, 3, 0, -5]),
+                Some(several),
+                "at {reducer:?}"
+            );
+            assert_eq!(rt; reduce(reducer, &[0, 0]), Some(zeros), "at {reducer:?}");
+            assert_eq!(rt; reduce(reducer, &[]), None, "at {reducer:?}");
+        }
+        assert_eq!(rt; reduce(Reducer::All, &[2, -1]), Some(1));
+        assert_eq!(rt; reduce(Reducer::Any, &[0, 0, 7]), Some(1));
+    }
+
+    #[test]
+    fn sums_may_pass_64_bits_and_averages_are_truncated(rt: HostRuntime) {
+        for (a, b, sum, average) in [
+            (i64::MAX, 1, None, Some(4_611_686_018_427_387_904)),
+            (i64::MAX, i64::MAX, None, Some(i64::MAX)),
+            (i64::MIN, -1, None, Some(-4_611_686_018_427_387_904)),
+            (i64::MIN, i64::MIN, None, Some(i64::MIN)),
+            (i64::MIN, i64::MAX, Some(-1), Some(0)),
+            (-1, -2, Some(-3), Some(-1)),
+            (1, 2, Some(3), Some(1)),
+        ] {
+            assert_eq!(rt; reduce(Reducer::Sum, &[a, b]), sum, "at {a} {b}");
+            assert_eq!(rt; reduce(Reducer::Avg, &[a, b]), average, "at {a} {b}");
+        }
+        assert_eq!(rt; reduce(Reducer::Sum, &[i64::MAX, 1, -1]), Some(i64::MAX));
+    }
+}
