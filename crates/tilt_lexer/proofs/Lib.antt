@@ -1,0 +1,10 @@
+pub mod Differ
+pub mod Faults
+pub mod Fronts
+pub mod Marks
+pub mod Numbers
+pub mod Reading
+pub mod Sound
+pub mod Texts
+pub mod Unique
+pub mod Words
