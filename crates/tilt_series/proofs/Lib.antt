@@ -1,0 +1,5 @@
+pub mod Examples
+pub mod Left
+pub mod Loop
+pub mod Three
+pub mod Writes

@@ -1,0 +1,59 @@
+// Where a row of a series may start.
+ghost use Rattle.std.specs.Prelude.{◌≡◌, ◌≤ℤ◌, neg_ℤ};
+ghost use Rattle.std.specs.Bool.{OnFalse, OnTrue};
+ghost use Rattle.std.specs.Option.{ForSome};
+ghost use Rattle.tilt_base.specs.declared.limits.TheConstants.{T};
+ghost use Rattle.tilt_series.specs.Series.{is_below, is_past, is_time};
+
+use std::marker::Model;
+use tilt_base::T;
+
+/// Where a row may start, each bound where it is given.
+#[derive(Clone, Copy)]
+pub struct Bounds {
+    /// Not below the end of the row before.
+    pub last_end: Option<i64>,
+    /// Not below this tick.
+    pub from: Option<i64>,
+    /// Below this tick.
+    pub upto: Option<i64>,
+}
+
+impl Model for Bounds {
+    ghost use Rattle.tilt_series.specs.Series.{Bounds as BoundsValue};
+
+    ghost Value = { BoundsValue };
+
+    ghost view = { λ b. record { last_end = b.last_end; from = b.from; upto = b.upto } };
+
+    ghost inverse = { λ b. record { last_end = b.last_end; from = b.from; upto = b.upto } };
+}
+
+/// Whether the tick lies below the bound, which it doesn't where there is none.
+pub fn is_below(tick: i64, bound: Option<i64>) -> bool
+    ensures value { result ≡ is_below tick bound }
+    ensures not_below { OnFalse result (ForSome bound (λ b. b ≤ℤ tick)) }
+{
+    match bound {
+        Some(bound) => tick < bound,
+        None => false,
+    }
+}
+
+/// Whether the tick lies at the bound or above it, which it doesn't where there is none.
+pub fn is_past(tick: i64, bound: Option<i64>) -> bool
+    ensures { result ≡ is_past tick bound }
+{
+    match bound {
+        Some(bound) => bound <= tick,
+        None => false,
+    }
+}
+
+/// Whether the tick lies in `-T..=T`.
+pub fn is_time(tick: i64) -> bool
+    ensures value { result ≡ is_time tick }
+    ensures within { OnTrue result ((neg_ℤ T ≤ℤ tick) × (tick ≤ℤ T)) }
+{
+    -T <= tick && tick <= T
+}

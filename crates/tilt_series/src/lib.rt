@@ -1,0 +1,19 @@
+//! Series files, and the text of snapshots.
+//!
+//! What comes in is the bytes of a file; what goes out is its rows, or the first fault: the clause of `read_rows`, over
+//! the definition `series_of`. The other way, `put_header` and `put_rows` put the text of snapshots, line by line: their
+//! clause `whole`.
+#![tactic(auto)]
+
+mod bounds;
+mod fault;
+mod print;
+mod records;
+mod row;
+mod series;
+#[cfg(test)]
+mod tests;
+
+pub use fault::SeriesFault;
+pub use print::{put_header, put_rows, row_text};
+pub use series::read_rows;

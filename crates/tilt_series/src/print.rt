@@ -1,0 +1,103 @@
+// The text of snapshots, put line by line.
+ghost use Rattle.std.specs.Prelude.{◌≡◌, ◌≤◌, ◌+◌, [], ◌∷◌, ◌++◌, ℕ, ℤ, length, take, codes, OnOk, OnErr};
+ghost use Rattle.std.specs.Fmt.{signed_decimal};
+ghost use Rattle.tilt_stream.specs.Text.{row_text, lines_of};
+ghost use Rattle.tilt_outside.specs.Faults.{HasCause};
+ghost use Rattle.tilt_outside.specs.Written.{AppendsFront};
+
+use itoa::Buffer;
+use tilt_outside::{Failed, Sink};
+use tilt_stream::{Row, Snap, SnapList};
+
+/// Puts the header line by one put.
+pub fn put_header<O: Sink>(sink: &mut O) -> Result<(), Failed>
+    requires { O.takes sink.old (length (codes "start,end,value\n")) }
+    ensures whole { O.tells → OnOk result (O.written sink.new ≡ O.written sink.old ++ codes "start,end,value\n") }
+    ensures front { O.tells → OnErr result (AppendsFront (O.written sink.old) (O.written sink.new) (codes "start,end,value\n")) }
+    ensures cause { HasCause (O.faults sink.old) (O.faults sink.new) result }
+    ensures room { (n : ℕ) → O.takes sink.old (length (codes "start,end,value\n") + n) → O.takes sink.new n }
+{
+    sink.put(b"start,end,value\n")
+}
+
+/// Puts the line of each snapshot that isn't null, in order, by one put a line.
+pub fn put_rows<O: Sink>(sink: &mut O, list: &SnapList) -> Result<(), Failed>
+    requires { O.takes sink.old (length (lines_of list.now)) }
+    ensures whole { O.tells → OnOk result (O.written sink.new ≡ O.written sink.old ++ lines_of list.now) }
+    ensures front { O.tells → OnErr result (AppendsFront (O.written sink.old) (O.written sink.new) (lines_of list.now)) }
+    ensures cause { HasCause (O.faults sink.old) (O.faults sink.new) result }
+    ensures room { (n : ℕ) → O.takes sink.old (length (lines_of list.now) + n) → O.takes sink.new n }
+{
+    for snap in list.as_slice() {
+        put_snap(sink, snap)?;
+    }
+    Ok(())
+}
+
+// Puts the line of a snapshot, and nothing for a null one.
+fn put_snap<O: Sink>(sink: &mut O, snap: &Snap) -> Result<(), Failed>
+    requires { O.takes sink.old (length (lines_of (snap.now ∷ []))) }
+    ensures whole { O.tells → OnOk result (O.written sink.new ≡ O.written sink.old ++ lines_of (snap.now ∷ [])) }
+    ensures front { O.tells → OnErr result (AppendsFront (O.written sink.old) (O.written sink.new) (lines_of (snap.now ∷ []))) }
+    ensures cause { HasCause (O.faults sink.old) (O.faults sink.new) result }
+    ensures room { (n : ℕ) → O.takes sink.old (length (lines_of (snap.now ∷ [])) + n) → O.takes sink.new n }
+{
+    if snap.value.is_some() {
+        put_row(sink, snap)
+    } else {
+        Ok(())
+    }
+}
+
+// Puts the line of a row by one put.
+fn put_row<O: Sink>(sink: &mut O, row: &Row) -> Result<(), Failed>
+    requires { O.takes sink.old (length (row_text row.now)) }
+    ensures whole { O.tells → OnOk result (O.written sink.new ≡ O.written sink.old ++ row_text row.now) }
+    ensures front { O.tells → OnErr result (AppendsFront (O.written sink.old) (O.written sink.new) (row_text row.now)) }
+    ensures cause { HasCause (O.faults sink.old) (O.faults sink.new) result }
+    ensures room { (n : ℕ) → O.takes sink.old (length (row_text row.now) + n) → O.takes sink.new n }
+{
+    let mut room = [0; 64];
+    let length = row_text(row, &mut room);
+    sink.put(&room[..length])
+}
+
+/// Writes `s,e,v` and LF into the front of the room, with nothing for a null value, and answers how long that is. Takes no
+/// memory.
+pub fn row_text(row: &Row, room: &mut [u8; 64]) -> usize
+    ensures text { take result room.new ≡ row_text row.now }
+    ensures len { result ≡ length (row_text row.now) }
+    ensures short { result ≤ 63 }
+{
+    let at = append_number(room, 0, row.start);
+    let at = append(room, at, b",");
+    let at = append_number(room, at, row.end);
+    let at = append(room, at, b",");
+    let at = match row.value {
+        Some(value) => append_number(room, at, value),
+        None => at,
+    };
+    append(room, at, b"\n")
+}
+
+// Writes a number in shortest decimal behind what stands in front of `at`, and answers where it ends.
+fn append_number(room: &mut [u8; 64], at: usize, number: i64) -> usize
+    requires { at + 20 ≤ 64 }
+    ensures end { result ≡ at + length (signed_decimal number) }
+    ensures text { take result room.new ≡ take at room.old ++ signed_decimal number }
+    ensures short { result ≤ at + 20 }
+{
+    let mut buffer = Buffer::new();
+    append(room, at, buffer.format(number).as_bytes())
+}
+
+// Writes a piece behind what stands in front of `at`, and answers where it ends.
+fn append(room: &mut [u8; 64], at: usize, piece: &[u8]) -> usize
+    requires { at + length piece.now ≤ 64 }
+    ensures end { result ≡ at + length piece.now }
+    ensures text { take result room.new ≡ take at room.old ++ piece.now }
+{
+    let end = at + piece.len();
+    room[at..end].copy_from_slice(piece);
+    end
+}

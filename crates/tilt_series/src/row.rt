@@ -1,0 +1,93 @@
+// One record as a row.
+ghost use Rattle.std.specs.Prelude.{◌≡◌, ◌<ℤ◌, ◌≤ℤ◌, neg_ℤ, option_map, IfNone, IfOk};
+ghost use Rattle.std.specs.Option.{ForSome};
+ghost use Rattle.csv.specs.Records.{fields_of};
+ghost use Rattle.tilt_base.specs.declared.limits.TheConstants.{T};
+ghost use Rattle.tilt_series.specs.Series.{is_header, row_of, fields_spelled, three_of, time_fault, value_spelled};
+
+use crate::bounds::{Bounds, is_below, is_past, is_time};
+use crate::fault::SeriesFault;
+use csv::ByteRecord;
+use tilt_base::{Cell, read_number};
+use tilt_stream::Row;
+
+/// Whether the fields are `start`, `end` and `value`.
+pub fn is_header(fields: &ByteRecord) -> bool
+    ensures { result ≡ is_header (three_of (fields_of fields.now)) }
+{
+    match three_fields(fields) {
+        Some((start, end, value)) => start == b"start".as_slice()
+            && end == b"end".as_slice()
+            && value == b"value".as_slice(),
+        None => false,
+    }
+}
+
+/// The row of a record, or its first fault.
+pub fn read_row(fields: &ByteRecord, row: u64, bounds: Bounds) -> Result<Row, SeriesFault>
+    ensures read { result ≡ row_of bounds row (fields_of fields.now) }
+    ensures low { IfOk result (λ s. neg_ℤ T ≤ℤ s.start) }
+    ensures high { IfOk result (λ s. s.end ≤ℤ T) }
+    ensures behind { IfOk result (λ s. ForSome bounds.last_end (λ end. end ≤ℤ s.start)) }
+{
+    let (start, end, value) = read_fields(fields, row)?;
+    match time_fault(start, end, row, bounds) {
+        Some(fault) => Err(fault),
+        None => Ok(Row { start, end, value }),
+    }
+}
+
+// The first fault of the times of a row, if there is one.
+fn time_fault(start: i64, end: i64, row: u64, bounds: Bounds) -> Option<SeriesFault>
+    ensures fault { result ≡ time_fault bounds row start end }
+    ensures low { IfNone result (neg_ℤ T ≤ℤ start) }
+    ensures high { IfNone result (end ≤ℤ T) }
+    ensures some_ticks { IfNone result (start <ℤ end) }
+    ensures behind { IfNone result (ForSome bounds.last_end (λ last. last ≤ℤ start)) }
+{
+    if !is_time(start) || !is_time(end) {
+        Some(SeriesFault::TimeRange { row })
+    } else if end <= start {
+        Some(SeriesFault::EmptyInterval { row })
+    } else if is_below(start, bounds.last_end) {
+        Some(SeriesFault::OutOfOrder { row })
+    } else if is_below(start, bounds.from) {
+        Some(SeriesFault::RowBeforeCut { row })
+    } else if is_past(start, bounds.upto) {
+        Some(SeriesFault::RowPastCut { row })
+    } else {
+        None
+    }
+}
+
+// The start, the end and the value that the fields spell, or the first fault of them.
+fn read_fields(fields: &ByteRecord, row: u64) -> Result<(i64, i64, Cell), SeriesFault>
+    ensures { result ≡ fields_spelled row (fields_of fields.now) }
+{
+    let (start, end, value) = three_fields(fields).ok_or(SeriesFault::BadFields { row })?;
+    let start = read_number(start).ok_or(SeriesFault::BadField { row, field: 1 })?;
+    let end = read_number(end).ok_or(SeriesFault::BadField { row, field: 2 })?;
+    let value = read_value(value).ok_or(SeriesFault::BadField { row, field: 3 })?;
+    Ok((start, end, value))
+}
+
+// The fields of a record that has three.
+fn three_fields(fields: &ByteRecord) -> Option<(&[u8], &[u8], &[u8])>
+    ensures { option_map (λ f. (f.0.now, f.1.now, f.2.now)) result ≡ three_of (fields_of fields.now) }
+{
+    if fields.len() != 3 {
+        return None;
+    }
+    Some((fields.get(0)?, fields.get(1)?, fields.get(2)?))
+}
+
+// The value that a field spells, which is null where it is empty.
+fn read_value(field: &[u8]) -> Option<Cell>
+    ensures { result ≡ value_spelled field.now }
+{
+    if field.is_empty() {
+        Some(None)
+    } else {
+        read_number(field).map(Some)
+    }
+}

@@ -1,0 +1,69 @@
+// The rows of a series file.
+ghost use Rattle.std.specs.Prelude.{◌≡◌};
+ghost use Rattle.tilt_series.specs.Records.{IsBetween, records_left};
+ghost use Rattle.tilt_series.specs.Series.{Gives, rows_of, series_of};
+
+use crate::bounds::Bounds;
+use crate::fault::SeriesFault;
+use crate::records::{next_record, open};
+use crate::row::{is_header, read_row};
+use csv::{ByteRecord, Reader};
+use std::alloc::Global;
+use tilt_stream::Rows;
+
+/// Two byte order marks, U+FEFF in UTF-8.
+const TWO_MARKS: &[u8] = b"\xEF\xBB\xBF\xEF\xBB\xBF";
+
+/// The rows of a series file, or its first fault. The first record is the header `start,end,value`, and each other is a
+/// row. Records are those of the crate `csv`, which takes more than RFC 4180: fields parted by commas, fields in quotes,
+/// records ended by LF, CR or CRLF, empty lines skipped. One byte order mark in front is passed over.
+///
+/// Where `last_end` is given, the first row doesn't start below it; where `from` is given, no row starts below it; and
+/// where `upto` is given, each row starts below it. `OutOfMemory` comes for want of memory alone.
+pub fn read_rows(
+    alloc: Global,
+    bytes: &[u8],
+    last_end: Option<i64>,
+    from: Option<i64>,
+    upto: Option<i64>,
+) -> Result<Rows, SeriesFault>
+    ensures { Gives result (series_of (record { last_end = last_end; from = from; upto = upto }) bytes.now) }
+{
+    if bytes.starts_with(TWO_MARKS) {
+        return Err(SeriesFault::BadHeader);
+    }
+    let mut reader = open(alloc, bytes);
+    let mut fields = ByteRecord::new(alloc);
+    if !next_record(&mut reader, &mut fields)? || !is_header(&fields) {
+        return Err(SeriesFault::BadHeader);
+    }
+    let bounds = Bounds {
+        last_end,
+        from,
+        upto,
+    };
+    read_behind_header(alloc, &mut reader, &mut fields, bounds)
+}
+
+// The rows of the records that are left.
+fn read_behind_header(
+    alloc: Global,
+    reader: &mut Reader<&[u8]>,
+    fields: &mut ByteRecord,
+    bounds: Bounds,
+) -> Result<Rows, SeriesFault>
+    requires { IsBetween reader.old }
+    ensures { Gives result (rows_of bounds 1 (records_left reader.old)) }
+{
+    let mut rows = Rows::new(alloc);
+    for row in 1..u64::MAX {
+        if !next_record(reader, fields)? {
+            return Ok(rows);
+        }
+        let last_end = rows.last_end().or(bounds.last_end);
+        let here = Bounds { last_end, ..bounds };
+        rows.push(read_row(fields, row, here)?)?;
+    }
+    // No memory holds so many rows.
+    Err(SeriesFault::OutOfMemory)
+}
