@@ -1,0 +1,9 @@
+/// The ticks of `(start, end]` that a query writes behind `over`. Any two numbers may stand here: whether they bound a
+/// domain is tested later.
+#[derive(Clone, Copy, Debug, PartialEq, Eq)]
+pub struct Span {
+    /// The tick before the first one.
+    pub start: i64,
+    /// The last tick.
+    pub end: i64,
+}

@@ -1,0 +1,6 @@
+pub mod Constancy
+pub mod Worked
+pub mod Bits
+pub mod Weight
+pub mod Sources
+pub mod Walk

@@ -1,0 +1,25 @@
+//! The core of a query, and its meaning.
+//!
+//! What comes in is the definitions of a query and the rows of its inputs. What they mean stands in `specs/`: `Pointwise`,
+//! `Window` and `Domain` define the streams of operators, windows, grids and spans, `Meaning` those of a whole query, and
+//! `Needs` how far a query looks back and ahead. What goes out is the snapshots of that meaning, which `evaluate` gives by
+//! its one clause, tick by tick; and the law that all of it changes only at marks, the clauses of `changes_only_at_marks`.
+#![tactic(auto)]
+
+mod cells;
+mod definition;
+mod evaluator;
+mod law;
+mod marks;
+mod query_core;
+mod rows;
+#[cfg(test)]
+mod tests;
+mod tick;
+mod tree;
+
+pub use definition::Def;
+pub use evaluator::evaluate;
+pub use law::changes_only_at_marks;
+pub use query_core::Core;
+pub use tree::Tree;

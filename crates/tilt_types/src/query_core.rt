@@ -1,0 +1,67 @@
+ghost use Rattle.std.specs.Prelude.{◌≡◌};
+ghost use Rattle.tilt_types.specs.Core.{IsCore};
+
+use crate::definition::Def;
+use std::marker::Model;
+use tilt_lexer::Name;
+
+/// The core of a query that was accepted. Its sources are numbered: the inputs in order from 0 on, then the definitions
+/// in order. Each definition names only sources before it, and the last one is emitted.
+#[derive(Debug, Drop)]
+pub struct Core {
+    inputs: Vec<Name>,
+    names: Vec<Name>,
+    defs: Vec<Def>,
+}
+
+impl Model for Core {
+    ghost use Rattle.tilt_types.specs.Core.{CoreParts, IsCore};
+    ghost use Rattle.std.specs.Coded.{codes};
+    ghost use Rattle.tilt_types.specs.contracts.tree.Tree as tree;
+
+    ghost Value = { CoreParts };
+
+    ghost coded = { Prim.hlevel (codes, tree.the_row.coded) };
+
+    ghost view = { λ c. record { inputs = c.inputs.items; names = c.names.items; defs = c.defs.items } };
+
+    ghost invariant = { λ c. IsCore (record { inputs = c.inputs.items; names = c.names.items; defs = c.defs.items }) };
+}
+
+impl Core {
+    /// The core of these parts.
+    pub fn new(inputs: Vec<Name>, names: Vec<Name>, defs: Vec<Def>) -> Core
+        requires { IsCore (record { inputs = inputs.items; names = names.items; defs = defs.items }) }
+        ensures { result ≡ record { inputs = inputs.items; names = names.items; defs = defs.items } }
+    {
+        Core {
+            inputs,
+            names,
+            defs,
+        }
+    }
+
+    /// The names of the inputs, in order.
+    pub fn inputs(&self) -> &[Name]
+        ensures names { result.now ≡ self.now.inputs }
+        ensures accepted { IsCore self.now }
+    {
+        &self.inputs
+    }
+
+    /// The names of the definitions in order, but for the last one, which has none.
+    pub fn names(&self) -> &[Name]
+        ensures names { result.now ≡ self.now.names }
+        ensures accepted { IsCore self.now }
+    {
+        &self.names
+    }
+
+    /// The definitions in order. The last one is emitted, and its span is the output domain.
+    pub fn defs(&self) -> &[Def]
+        ensures defs { result.now ≡ self.now.defs }
+        ensures accepted { IsCore self.now }
+    {
+        &self.defs
+    }
+}
