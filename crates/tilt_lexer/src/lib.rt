@@ -16,5 +16,5 @@ pub use fault::LexFault;
 pub use key::{Key, reserved};
 pub use lexer::lex;
 pub use mark::Mark;
-pub use name::Name;
+pub use name::{Name, is_word};
 pub use token::{Tok, Token};

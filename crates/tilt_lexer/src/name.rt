@@ -91,9 +91,9 @@ fn all_go_on_word(bytes: &[u8]) -> bool
     bytes.iter().all(|byte| goes_on_word(*byte))
 }
 
-// Whether the bytes are a word.
+/// Whether the bytes are a word: a letter or `_`, and then letters, digits and `_`, in ASCII.
 #[tactic(auto, using(crate::proofs::Words::is_word_split))]
-fn is_word(bytes: &[u8]) -> bool
+pub fn is_word(bytes: &[u8]) -> bool
     ensures { result ≡ is_word bytes.now }
 {
     match bytes {
