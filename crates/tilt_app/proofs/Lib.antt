@@ -1,10 +1,10 @@
 pub mod Complete
-pub mod Lines
-pub mod Numbers
+pub mod InputNames
+pub mod InputRows
+pub mod Loads
 pub mod Once
-pub mod Outcomes
+pub mod OneCut
+pub mod OneForm
 pub mod Pieces
-pub mod Reading
-pub mod Three
-pub mod Times
-pub mod Writes
+pub mod Puts
+pub mod Turns

@@ -2,8 +2,9 @@
 use Rattle.std.specs.Prelude.{◌≡◌, ◌⊎◌, ◌++◌, ⊤, List, ℕ}
 use Rattle.tilt_outside.specs.Faults.{Rose}
 use Rattle.tilt_outside.specs.Written.{AppendsFront}
+use Rattle.tilt_app.specs.Load.{IsLoadFault}
 use Rattle.tilt_app.specs.Words.{IsCommand}
-use Rattle.tilt_app.specs.Report.{Report, usage, file_too_long, read_fault, write_fault, out_of_memory, not_built}
+use Rattle.tilt_app.specs.Report.{Report, usage, read_fault, write_fault, out_of_memory}
 use Rattle.tilt_app.specs.Outcome.{IsOutcome, printed, refused, HasTurn}
 
 -- Of the shelf: whether it tells what it holds, what each name holds, and its count of read faults before and after.
@@ -14,14 +15,18 @@ module _ (shelf_tells out_tells : Type 0) (words : List (List ℕ)) (files : Lis
     pub outcome : shelf_tells → IsOutcome words files (printed text)
     pub front : out_tells → AppendsFront old new text
 
-  -- why this is reported: a refusal only where it is the outcome, a fault only where its count rose
+  -- why this is reported: a fault only where its count rose, and each refusal only where it is the outcome
   abbrev pub IsCause : Report → Type 0
   IsCause usage = ¬ (IsCommand words)
-  IsCause (file_too_long name) = shelf_tells → IsOutcome words files (refused (file_too_long name))
-  IsCause not_built = shelf_tells → IsOutcome words files (refused not_built)
   IsCause (read_fault name) = Rose reads_before reads_after × HasTurn shelf_tells words files name
   IsCause write_fault = Rose puts_before puts_after × ((text : List ℕ) × IsCutShort text)
   IsCause out_of_memory = ⊤
+  IsCause refusal = shelf_tells → IsOutcome words files (refused refusal)
+
+-- why nothing is printed: the words are no command, or they are one, and the query, the names or an input were not taken
+abbrev pub IsUnanswered : Type 0 → List (List ℕ) → (List ℕ → List ℕ) → ℕ → ℕ → Report → Type 0
+IsUnanswered tells words files before after report =
+    ((report ≡ usage) × ¬ (IsCommand words)) ⊎ (IsCommand words × IsLoadFault tells (λ refusal. IsOutcome words files (refused refusal)) (HasTurn tells words files) before after report)
 
 -- the line was written, or a front of it where the count of faults rose
 abbrev pub IsLineWritten : List ℕ → List ℕ → List ℕ → ℕ → ℕ → Type 0

@@ -1,8 +1,10 @@
 pub mod Cause
+pub mod Front
+pub mod Inputs
 pub mod Load
 pub mod Outcome
+pub mod Parts
 pub mod Piece
 pub mod Query
 pub mod Report
-pub mod Series
 pub mod Words

@@ -1,17 +1,34 @@
--- Why a file isn't taken.
-use Rattle.std.specs.Prelude.{◌≡◌, ◌<◌, ◌≤◌, ⊤, List, ℕ, length}
+-- Why a file isn't taken, and whose turn it is.
+use Rattle.std.specs.Prelude.{◌≡◌, ◌<◌, ⊤, List, ℕ, length, Contains, Some}
 use Rattle.tilt_base.specs.declared.limits.TheConstants.{FILE}
 use Rattle.tilt_outside.specs.Faults.{Rose}
-use Rattle.tilt_app.specs.Report.{Report, file_too_long, read_fault, out_of_memory, not_built}
+use Rattle.tilt_app.specs.Inputs.{faulty_name}
+use Rattle.tilt_app.specs.Words.{Bind}
+use Rattle.tilt_app.specs.Report.{Report, usage, input_names, file_too_long, read_fault, write_fault, out_of_memory}
+use Rattle.tilt_app.specs.Outcome.{IsNextInput}
 
--- it has more bytes than a file may have, a read failed, or there is no memory
-abbrev pub IsLoadFault : Type 0 → List ℕ → List ℕ → ℕ → ℕ → Report → Type 0
-IsLoadFault tells name file before after (file_too_long which) = (which ≡ name) × (tells → FILE < length file)
-IsLoadFault tells name file before after (read_fault which) = (which ≡ name) × Rose before after
-IsLoadFault tells name file before after out_of_memory = ⊤
-IsLoadFault tells name file before after other = ⊥
+-- why files aren't taken: a read of a file whose turn it is failed and the count rose, there is no memory, or it is one of the refusals
+module _ (tells : Type 0) (is_refusal : Report → Type 0) (has_turn : List ℕ → Type 0) (before after : ℕ) where
+  abbrev pub IsLoadFault : Report → Type 0
+  IsLoadFault usage = ⊥
+  IsLoadFault (read_fault name) = Rose before after × has_turn name
+  IsLoadFault write_fault = ⊥
+  IsLoadFault out_of_memory = ⊤
+  IsLoadFault refusal = tells → is_refusal refusal
 
--- the same, or it is short enough and not of the form
-abbrev pub IsFormFault : Type 0 → Type 0 → List ℕ → List ℕ → ℕ → ℕ → Report → Type 0
-IsFormFault form tells name file before after not_built = tells → (length file ≤ FILE) × (¬ form)
-IsFormFault form tells name file before after report = IsLoadFault tells name file before after report
+-- the file of that name has more bytes than a file may have
+abbrev pub IsTooLong : List ℕ → List ℕ → Report → Type 0
+IsTooLong name file report = (report ≡ file_too_long name) × (FILE < length file)
+
+-- it is a file's turn: that of an input among these
+pub record HasInputTurn (tells : Type 0) (files : List ℕ → List ℕ) (binds : List Bind) (inputs : List (List ℕ)) (file : List ℕ) : Type 0 where
+  pub bind : Bind
+  pub among : Contains binds bind
+  pub is : bind.file ≡ file
+  pub next : tells → IsNextInput files binds inputs bind
+
+-- a name is faulty, and it is told, or there is no memory
+abbrev pub IsNameFault : List (List ℕ) → List Bind → Report → Type 0
+IsNameFault inputs binds (input_names name) = faulty_name inputs binds ≡ Some name
+IsNameFault inputs binds out_of_memory = ⊤
+IsNameFault inputs binds report = ⊥

@@ -1,54 +1,98 @@
 -- What a command does, given its words and what each name holds: the text that it prints, or why it is refused.
--- The first refusal counts: that of the words, then of the query, then of the series.
-use Rattle.std.specs.Prelude.{◌<◌, ◌≤◌, ⊤, List, ℕ, ℤ, length}
+-- The first refusal counts: that of the words, then of the query, then of the input names, then of the series in the order of the inputs.
+use Rattle.std.specs.Prelude.{◌≡◌, ◌<◌, ◌≤◌, ◌++◌, List, [], ◌∷◌, ℕ, length, nat_lt, if◌then◌else◌, Some, None, Result, Ok, Err, Contains}
+use Rattle.std.specs.Str.{bytes_eq}
 use Rattle.tilt_base.specs.declared.limits.TheConstants.{FILE}
+use Rattle.tilt_lexer.specs.Tokens.{AreTokens, IsFaultyAt}
+use Rattle.tilt_lexer.specs.declared.fault.LexFault.TheVariants as lexical
+use Rattle.tilt_lexer.specs.declared.token.Token.{Token}
+use Rattle.tilt_series.specs.Series.{Bounds, series_of}
+use Rattle.tilt_series.specs.declared.fault.SeriesFault.{SeriesFault}
 use Rattle.tilt_stream.specs.Snap.{Snapshot}
 use Rattle.tilt_stream.specs.Stream.{stream_of}
 use Rattle.tilt_stream.specs.Snapshots.{snapshots}
 use Rattle.tilt_stream.specs.Text.{text_of}
-use Rattle.tilt_app.specs.Query.{IsQuery}
-use Rattle.tilt_app.specs.Series.{IsSeries}
-use Rattle.tilt_app.specs.Words.{IsRun, IsCommand}
-use Rattle.tilt_app.specs.Report.{Report, usage, file_too_long, read_fault, write_fault, out_of_memory, not_built}
+use Rattle.tilt_app.specs.Inputs.{faulty_name, file_of}
+use Rattle.tilt_app.specs.Query.{QueryParts, IsForm, IsQuery, kinds_of}
+use Rattle.tilt_app.specs.Words.{Bind, IsRun, IsCommand}
+use Rattle.tilt_app.specs.Report.{Report, usage, input_names, file_too_long, not_built, bad_series, bad_byte, big_number}
 
 -- a text, or a refusal
 pub data Outcome : Type 0 where
   printed : List ℕ → Outcome
   refused : Report → Outcome
 
--- the query file is no longer than a file may be, and is a query with this output domain
-pub record TakesQuery (bytes : List ℕ) (start end : ℤ) : Type 0 where
+-- the query file is no longer than a file may be, and is this query
+pub record TakesQuery (bytes : List ℕ) (parts : QueryParts) : Type 0 where
   pub short : length bytes ≤ FILE
-  pub query : IsQuery bytes start end
+  pub query : IsQuery bytes parts
 
--- the series file is no longer than a file may be, and is the series of these rows
-pub record TakesSeries (bytes : List ℕ) (rows : List Snapshot) : Type 0 where
-  pub short : length bytes ≤ FILE
-  pub series : IsSeries bytes rows
+-- why the query file of a name is refused: it is too long, has a faulty place, or its tokens are not of the form
+pub data RefusesQuery (name bytes : List ℕ) : Report → Type 0 where
+  long : FILE < length bytes → RefusesQuery name bytes (file_too_long name)
+  faulty_byte : (at : ℕ) → length bytes ≤ FILE → IsFaultyAt 0 bytes (lexical.BadByte at) → RefusesQuery name bytes (bad_byte at)
+  faulty_number : (at : ℕ) → length bytes ≤ FILE → IsFaultyAt 0 bytes (lexical.BigNumber at) → RefusesQuery name bytes (big_number at)
+  no_form : (tokens : List Token) → length bytes ≤ FILE → AreTokens 0 bytes tokens → ((query : QueryParts) → ¬ (IsForm (kinds_of tokens) query)) → RefusesQuery name bytes not_built
 
--- the text of the rows' stream on an output domain
-abbrev pub text_on : List Snapshot → ℤ → ℤ → List ℕ
-text_on rows start end = text_of (snapshots (stream_of rows) start end)
+-- no bound but the order of the rows
+abbrev pub no_bounds : Bounds
+no_bounds = record { last_end = None; from = None; upto = None }
+
+-- the rows of an input, or why it is refused
+abbrev pub named : List ℕ → Result (List Snapshot) SeriesFault → Result (List Snapshot) Report
+named name (Ok rows) = Ok rows
+named name (Err fault) = Err (bad_series name fault)
+
+-- the rows of the input of a name in a file, or why it is refused
+abbrev pub input_read : (List ℕ → List ℕ) → List ℕ → List ℕ → Result (List Snapshot) Report
+input_read files file name =
+    if nat_lt FILE (length (files file)) then Err (file_too_long file) else named name (series_of no_bounds (files file))
+
+-- the rows in front of others, unless there was a refusal
+abbrev pub with_rows : Result (List Snapshot) Report → Result (List (List Snapshot)) Report → Result (List (List Snapshot)) Report
+with_rows (Err report) others = Err report
+with_rows (Ok rows) (Err report) = Err report
+with_rows (Ok rows) (Ok others) = Ok (rows ∷ others)
+
+-- the rows of all inputs in order, or the first refusal
+abbrev pub inputs_read : (List ℕ → List ℕ) → List Bind → List (List ℕ) → Result (List (List Snapshot)) Report
+inputs_read files binds [] = Ok []
+inputs_read files binds (name ∷ names) = with_rows (input_read files (file_of binds name) name) (inputs_read files binds names)
+
+-- the rows of the input of a name, where the names and the rows stand in one order
+abbrev pub rows_named : List (List ℕ) → List (List Snapshot) → List ℕ → List Snapshot
+rows_named (name ∷ names) (rows ∷ others) wanted = if bytes_eq name wanted then rows else rows_named names others wanted
+rows_named [] others wanted = []
+rows_named (name ∷ names) [] wanted = []
+
+-- the text of the emitted input's stream on the output domain
+abbrev pub text_on : QueryParts → List (List Snapshot) → List ℕ
+text_on query rows = text_of (snapshots (stream_of (rows_named query.inputs rows query.emitted)) query.start query.end)
 
 -- what the words do, a case for each end
 pub data IsOutcome (words : List (List ℕ)) (files : List ℕ → List ℕ) : Outcome → Type 0 where
   no_command : ¬ (IsCommand words) → IsOutcome words files (refused usage)
-  long_query : (query series : List ℕ) → IsRun words query series → FILE < length (files query) → IsOutcome words files (refused (file_too_long query))
-  no_query : (query series : List ℕ) → IsRun words query series → length (files query) ≤ FILE → ((start end : ℤ) → ¬ (IsQuery (files query) start end)) → IsOutcome words files (refused not_built)
-  long_series : (query series : List ℕ) (start end : ℤ) → IsRun words query series → TakesQuery (files query) start end → FILE < length (files series) → IsOutcome words files (refused (file_too_long series))
-  no_series : (query series : List ℕ) (start end : ℤ) → IsRun words query series → TakesQuery (files query) start end → length (files series) ≤ FILE → ((rows : List Snapshot) → ¬ (IsSeries (files series) rows)) → IsOutcome words files (refused not_built)
-  done : (query series : List ℕ) (start end : ℤ) (rows : List Snapshot) → IsRun words query series → TakesQuery (files query) start end → TakesSeries (files series) rows → IsOutcome words files (printed (text_on rows start end))
+  no_query : (query : List ℕ) (binds : List Bind) (report : Report) → IsRun words query binds → RefusesQuery query (files query) report → IsOutcome words files (refused report)
+  no_names : (query : List ℕ) (binds : List Bind) (parts : QueryParts) (name : List ℕ) → IsRun words query binds → TakesQuery (files query) parts → faulty_name parts.inputs binds ≡ Some name → IsOutcome words files (refused (input_names name))
+  no_series : (query : List ℕ) (binds : List Bind) (parts : QueryParts) (report : Report) → IsRun words query binds → TakesQuery (files query) parts → faulty_name parts.inputs binds ≡ None → inputs_read files binds parts.inputs ≡ Err report → IsOutcome words files (refused report)
+  done : (query : List ℕ) (binds : List Bind) (parts : QueryParts) (rows : List (List Snapshot)) → IsRun words query binds → TakesQuery (files query) parts → faulty_name parts.inputs binds ≡ None → inputs_read files binds parts.inputs ≡ Ok rows → IsOutcome words files (printed (text_on parts rows))
 
--- it is a file's turn to be read: the query's, or the series' once the query was taken
+-- the next of these inputs is that of a bind: the inputs before it were taken
+pub record IsNextInput (files : List ℕ → List ℕ) (binds : List Bind) (inputs : List (List ℕ)) (bind : Bind) : Type 0 where
+  pub before : List (List ℕ)
+  pub after : List (List ℕ)
+  pub place : inputs ≡ before ++ bind.name ∷ after
+  pub rows : List (List Snapshot)
+  pub read : inputs_read files binds before ≡ Ok rows
+
+-- it is the turn of the input of a bind: the query was taken, its names are bound, and the inputs before this one were taken
+pub record IsNext (files : List ℕ → List ℕ) (query : List ℕ) (binds : List Bind) (bind : Bind) : Type 0 where
+  pub parts : QueryParts
+  pub taken : TakesQuery (files query) parts
+  pub names : faulty_name parts.inputs binds ≡ None
+  pub input : IsNextInput files binds parts.inputs bind
+
+-- it is a file's turn to be read: the query's, or that of an input
 pub data HasTurn (tells : Type 0) (words : List (List ℕ)) (files : List ℕ → List ℕ) : List ℕ → Type 0 where
-  query_turn : (query series : List ℕ) → IsRun words query series → HasTurn tells words files query
-  series_turn : (query series : List ℕ) → IsRun words query series → (tells → (start : ℤ) × (end : ℤ) × TakesQuery (files query) start end) → HasTurn tells words files series
-
--- whether a report is a refusal, which the words and the files alone decide
-abbrev pub IsRefusal : Report → Type 0
-IsRefusal usage = ⊤
-IsRefusal (file_too_long name) = ⊤
-IsRefusal not_built = ⊤
-IsRefusal (read_fault name) = ⊥
-IsRefusal write_fault = ⊥
-IsRefusal out_of_memory = ⊥
+  query_turn : (query : List ℕ) (binds : List Bind) → IsRun words query binds → HasTurn tells words files query
+  input_turn : (query : List ℕ) (binds : List Bind) (bind : Bind) → IsRun words query binds → Contains binds bind → (tells → IsNext files query binds bind) → HasTurn tells words files bind.file

@@ -1,17 +1,18 @@
 // What a command prints.
-ghost use Rattle.std.specs.Prelude.{◌≡◌, ◌≤◌, List, ℕ, IfOk, IfErr, MatchResult};
+ghost use Rattle.std.specs.Prelude.{◌≡◌, ◌≤◌, List, ℕ, IfOk, IfErr};
 ghost use Rattle.tilt_stream.specs.Text.{text_of};
 ghost use Rattle.tilt_stream.specs.Stream.{stream_of};
 ghost use Rattle.tilt_stream.specs.Snapshots.{snapshots};
-ghost use Rattle.tilt_outside.specs.Faults.{Rose};
-ghost use Rattle.tilt_app.specs.Outcome.{IsOutcome, printed, refused, HasTurn, IsRefusal};
-ghost use Rattle.tilt_app.specs.Report.{report_of, usage, read_fault, write_fault};
+ghost use Rattle.tilt_app.specs.Cause.{IsUnanswered};
+ghost use Rattle.tilt_app.specs.Outcome.{IsOutcome, printed, HasTurn};
+ghost use Rattle.tilt_app.specs.Report.{report_of};
 ghost use Rattle.tilt_app.specs.Words.{IsCommand, texts};
 
 use crate::cut::snapshots_within;
 use crate::domain::Domain;
 use crate::fault::Fault;
-use crate::load::{load_query, load_series};
+use crate::inputs::{check_names, load_inputs};
+use crate::load::load_query;
 use crate::words::read_words;
 use std::alloc::{AllocError as OutOfMemory, Global};
 use tilt_outside::Shelf;
@@ -25,14 +26,9 @@ pub fn answer<'a, S: Shelf>(
 ) -> Result<SnapList, Fault<'a>>
     requires { (name : List ℕ) → HasTurn S.tells (texts words.now) (S.files shelf.old) name → S.lends name }
     ensures printed { S.tells → IfOk result (λ list. IsOutcome (texts words.now) (S.files shelf.old) (printed (text_of list))) }
-    ensures is_command { MatchResult result (λ _. IsCommand (texts words.now))
-        (λ fault. (report_of fault ≡ usage → ⊥) → IsCommand (texts words.now)) }
-    ensures usage { IfErr result (λ fault. report_of fault ≡ usage → ¬ (IsCommand (texts words.now))) }
-    ensures refused { S.tells → IfErr result (λ fault. IsRefusal (report_of fault)
-        → IsOutcome (texts words.now) (S.files shelf.old) (refused (report_of fault))) }
-    ensures read_fault { IfErr result (λ fault. (name : List ℕ) → report_of fault ≡ read_fault name
-        → Rose (S.read_faults shelf.old) (S.read_faults shelf.new) × HasTurn S.tells (texts words.now) (S.files shelf.old) name) }
-    ensures no_write_fault { IfErr result (λ fault. report_of fault ≡ write_fault → ⊥) }
+    ensures is_command { IfOk result (λ _. IsCommand (texts words.now)) }
+    ensures fault { IfErr result (λ fault. IsUnanswered S.tells (texts words.now) (S.files shelf.old)
+        (S.read_faults shelf.old) (S.read_faults shelf.new) (report_of fault)) }
     ensures files { S.files shelf.new ≡ S.files shelf.old }
     ensures save_faults { S.save_faults shelf.new ≡ S.save_faults shelf.old }
     ensures kept { S.read_faults shelf.old ≤ S.read_faults shelf.new }
@@ -40,9 +36,10 @@ pub fn answer<'a, S: Shelf>(
     let Some(command) = read_words(words) else {
         return Err(Fault::Usage);
     };
-    let domain = load_query(alloc, shelf, command.query)?;
-    let rows = load_series(alloc, shelf, command.series)?;
-    Ok(snapshots_on(alloc, &rows, domain)?)
+    let query = load_query(alloc, shelf, command.query)?;
+    check_names(&query.inputs, command.binds)?;
+    let rows = load_inputs(alloc, shelf, &query, command.binds)?;
+    Ok(snapshots_on(alloc, &rows, query.domain)?)
 }
 
 // The snapshots of the rows' stream on the domain.

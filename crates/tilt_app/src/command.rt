@@ -10,9 +10,9 @@ ghost use Rattle.tilt_app.specs.Words.{IsCommand, texts};
 
 use crate::answer::answer;
 use crate::fault::Fault;
-use crate::print::{put_header, put_rows};
 use std::alloc::Global;
 use tilt_outside::{Failed, Shelf, Sink};
+use tilt_series::{put_header, put_rows};
 use tilt_stream::SnapList;
 
 // Does what the words say: all is read and computed before the first put.
@@ -54,9 +54,12 @@ fn print<O: Sink>(out: &mut O, list: &SnapList) -> Result<(), Failed>
     put_rows(out, list)
 }
 
-/// Does what the words say: `run QUERY x=SERIES` reads the query and the series from the shelf, and puts to `out` the
-/// text of the snapshots of `x` on the query's domain. Where that isn't done, one line that tells why goes to `err`, and
-/// nothing else. A fault of `err` changes nothing.
+/// Does what the words say: `run QUERY NAME=FILE ..` reads the query and then the series of each of its inputs from the
+/// shelf, and puts to `out` the text of the snapshots of the emitted input on the query's domain. Where that isn't done,
+/// one line that tells why goes to `err`, and nothing else. A fault of `err` changes nothing.
+///
+/// The first refusal is told: that of the words, then of the query, then of the names that are bound, then of the series
+/// in the order in which the query declares the inputs.
 ///
 /// The answer is the status that the program ends with: 0 done, 1 refused, 2 the words are no command, 3 a read
 /// failed, 4 a put failed, 5 there was no memory.

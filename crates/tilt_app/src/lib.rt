@@ -6,15 +6,15 @@
 #![tactic(auto)]
 
 mod answer;
+mod binds;
 mod command;
 mod cut;
 mod domain;
 mod fault;
-mod field;
+mod form;
+mod inputs;
 mod load;
-mod print;
 mod query;
-mod series;
 #[cfg(test)]
 mod tests;
 mod words;

@@ -84,6 +84,23 @@ fn assert_end(rt: &impl Abort, end: &End, status: u8, out: &[u8], err: &[u8], ca
     assert_eq!(rt; end.err.written(), err, "line of case {case}");
 }
 
+// Ends the test unless the query and the series of x end so.
+fn assert_on(
+    rt: &impl Abort,
+    alloc: Global,
+    query: &[u8],
+    series: &[u8],
+    status: u8,
+    out: &[u8],
+    err: &[u8],
+    case: usize,
+) -> Result<(), Fail> {
+    let files = [("q", query), ("s", series)];
+    let end = end_of(alloc, Case::sound(WORDS, &files))?;
+    assert_end(rt, &end, status, out, err, case);
+    Ok(())
+}
+
 #[test]
 fn rows_within_the_domain_are_printed(rt: HostRuntime) -> Result<(), Fail> {
     let cases: [(&[u8], &[u8], &[u8]); 9] = [
@@ -126,70 +143,199 @@ fn rows_within_the_domain_are_printed(rt: HostRuntime) -> Result<(), Fail> {
         ),
     ];
     for (i, (query, series, out)) in cases.into_iter().enumerate() {
-        let files = [("q", query), ("s", series)];
-        let end = end_of(rt.alloc(), Case::sound(WORDS, &files))?;
+        assert_on(&rt, rt.alloc(), query, series, 0, out, b"", i)?;
+    }
+    Ok(())
+}
+
+#[test]
+fn queries_may_have_any_blanks(rt: HostRuntime) -> Result<(), Fail> {
+    let queries: [&[u8]; 4] = [
+        b"input x;emit x over(0,10];",
+        b"\n input\tx\r\n;\n\nemit x\n  over ( 0\n, 10 ]\n;\n\n",
+        b"input x; emit x over (-0, 0010];",
+        b"input x; emit x over (- 3, 10];",
+    ];
+    for (i, query) in queries.into_iter().enumerate() {
+        assert_on(&rt, rt.alloc(), query, SERIES, 0, SERIES, b"", i)?;
+    }
+    Ok(())
+}
+
+#[test]
+fn the_emitted_input_is_printed(rt: HostRuntime) -> Result<(), Fail> {
+    const OTHER: &[u8] = b"start,end,value\n1,2,-3\n4,9,\n";
+    let cases: [(&[u8], &str, &[u8]); 6] = [
+        (
+            b"input x; input y; emit y over (0, 10];",
+            "run\nq\nx=s\ny=o",
+            b"start,end,value\n1,2,-3\n",
+        ),
+        (
+            b"input x; input y; emit y over (0, 10];",
+            "run\nq\ny=s\nx=o",
+            SERIES,
+        ),
+        (
+            b"input x; input y; emit x over (0, 10];",
+            "run\nq\ny=o\nx=s",
+            SERIES,
+        ),
+        (
+            b"input x; input y; emit x over (0, 10];",
+            "run\nq\nx=s\ny=s",
+            SERIES,
+        ),
+        (
+            b"input y; input z; input x; emit z over (0, 10];",
+            "run\nq\nx=o\nz=s\ny=o",
+            SERIES,
+        ),
+        (
+            b"input _x; input input1; emit input1 over (0, 10];",
+            "run\nq\n_x=o\ninput1=s",
+            SERIES,
+        ),
+    ];
+    for (i, (query, words, out)) in cases.into_iter().enumerate() {
+        let files = [("q", query), ("s", SERIES), ("o", OTHER)];
+        let end = end_of(rt.alloc(), Case::sound(words, &files))?;
         assert_end(&rt, &end, 0, out, b"", i);
     }
     Ok(())
 }
 
 #[test]
-fn bytes_of_no_query_are_refused(rt: HostRuntime) -> Result<(), Fail> {
-    let queries: [&[u8]; 20] = [
+fn queries_of_another_form_are_refused(rt: HostRuntime) -> Result<(), Fail> {
+    let queries: [&[u8]; 21] = [
         b"",
         b"\n",
-        b" input x; emit x over (0, 10];\n",
-        b"input  x; emit x over (0, 10];\n",
-        b"input x; emit x over (0,  10];\n",
-        b"input x; emit x over (0,10];\n",
-        b"input x; emit x over (0, 10]; \n",
-        b"input x; emit x over (0, 10]\n",
-        b"input x; emit x over (0, 10];\n\n",
-        b"input x; emit x over (0, 10];\r\n",
-        b"input x; emit x over (10, 0];\n",
-        b"input x; emit x over (5, 5];\n",
-        b"input x; emit x over (+0, 10];\n",
-        b"input x; emit x over (-0, 10];\n",
-        b"input x; emit x over (0, 007];\n",
-        b"input x; emit x over (0, 4000000000000000001];\n",
-        b"input x; emit x over (-4000000000000000001, 10];\n",
-        b"input x; emit x over (0, 18446744073709551626];\n",
-        b"input y; emit y over (0, 10];\n",
-        b"input x; emit y over (0, 10];\n",
+        b"input x;",
+        b"emit x over (0, 10];",
+        b"input x; emit x over (0, 10]",
+        b"input x; emit x over (0, 10];;",
+        b"input x; emit x over (0, 10); ",
+        b"input x; emit x over [0, 10];",
+        b"input x; emit x over (10, 0];",
+        b"input x; emit x over (5, 5];",
+        b"input x; emit x over (+0, 10];",
+        b"input x; emit x over (--0, 10];",
+        b"input x; emit x over (0, 4000000000000000001];",
+        b"input x; emit x over (-4000000000000000001, 10];",
+        b"input x; emit y over (0, 10];",
+        b"input x; input x; emit x over (0, 10];",
+        b"input x; input y; input x; emit y over (0, 10];",
+        b"input t; emit t over (0, 10];",
+        b"input x; emit x + 1 over (0, 10];",
+        b"emit x over (0, 10]; input x;",
+        b"input x; emit x over (0, 10] every 5;",
     ];
     for (i, query) in queries.into_iter().enumerate() {
-        let files = [("q", query), ("s", SERIES)];
-        let end = end_of(rt.alloc(), Case::sound(WORDS, &files))?;
-        assert_end(&rt, &end, 1, b"", b"tilt: 9 not built\n", i);
+        assert_on(
+            &rt,
+            rt.alloc(),
+            query,
+            SERIES,
+            1,
+            b"",
+            b"tilt: 9 not built\n",
+            i,
+        )?;
     }
     Ok(())
 }
 
 #[test]
-fn bytes_of_no_series_are_refused(rt: HostRuntime) -> Result<(), Fail> {
-    let series: [&[u8]; 17] = [
-        b"",
-        b"start,end,value",
-        b"start, end,value\n0,5,7\n",
-        b"start,end,value\r\n0,5,7\r\n",
-        b"start,end,value\n0,5,7\r\n",
-        b"start,end,value\n0,5,7",
-        b"start,end,value\n0,5,7\n\n",
-        b"start,end,value\n5,5,1\n",
-        b"start,end,value\n6,5,1\n",
-        b"start,end,value\n0,2,1\n2,4,1\n3,5,1\n",
-        b"start,end,value\n0,5,\n",
-        b"start,end,value\n0,05,7\n",
-        b"start,end,value\n0,5,7,\n",
-        b"start,end,value\n0,5,9223372036854775808\n",
-        b"start,end,value\n0,5,-9223372036854775809\n",
-        b"start,end,value\n0,4000000000000000001,7\n",
-        b"start,end,value\n-4000000000000000001,5,7\n",
+fn faulty_places_are_told(rt: HostRuntime) -> Result<(), Fail> {
+    let cases: [(&[u8], &[u8]); 4] = [
+        (b"input x;emit@", b"tilt: 20 bad byte at 12\n"),
+        (
+            b"input x; emit 9223372036854775808 over (0, 5];",
+            b"tilt: 21 big number at 14\n",
+        ),
+        (b"?", b"tilt: 20 bad byte at 0\n"),
+        (
+            b"input x; emit x over (0, 18446744073709551626] @;",
+            b"tilt: 21 big number at 25\n",
+        ),
     ];
-    for (i, series) in series.into_iter().enumerate() {
-        let files = [("q", QUERY), ("s", series)];
-        let end = end_of(rt.alloc(), Case::sound(WORDS, &files))?;
-        assert_end(&rt, &end, 1, b"", b"tilt: 9 not built\n", i);
+    for (i, (query, line)) in cases.into_iter().enumerate() {
+        assert_on(&rt, rt.alloc(), query, SERIES, 1, b"", line, i)?;
+    }
+    Ok(())
+}
+
+#[test]
+fn faulty_series_are_told(rt: HostRuntime) -> Result<(), Fail> {
+    let cases: [(&[u8], &[u8]); 13] = [
+        (b"", b"tilt: 10 series x: bad header\n"),
+        (b"start,end\n0,5\n", b"tilt: 10 series x: bad header\n"),
+        (
+            b"\xEF\xBB\xBF\xEF\xBB\xBFstart,end,value\n0,5,7\n",
+            b"tilt: 10 series x: bad header\n",
+        ),
+        (
+            b"start,end,value\n0,5\n",
+            b"tilt: 11 series x: bad fields in row 1\n",
+        ),
+        (
+            b"start,end,value\n0,5,7,\n",
+            b"tilt: 11 series x: bad fields in row 1\n",
+        ),
+        (
+            b"start,end,value\n0,1x,3\n",
+            b"tilt: 12 series x: bad field 2 in row 1\n",
+        ),
+        (
+            b"start,end,value\n,5,7\n",
+            b"tilt: 12 series x: bad field 1 in row 1\n",
+        ),
+        (
+            b"start,end,value\n0,5,9223372036854775808\n",
+            b"tilt: 12 series x: bad field 3 in row 1\n",
+        ),
+        (
+            b"start,end,value\n0,4000000000000000001,1\n",
+            b"tilt: 13 series x: time out of range in row 1\n",
+        ),
+        (
+            b"start,end,value\n5,5,1\n",
+            b"tilt: 14 series x: empty interval in row 1\n",
+        ),
+        (
+            b"start,end,value\n0,2,1\n2,4,1\n3,5,1\n",
+            b"tilt: 15 series x: out of order in row 3\n",
+        ),
+        (
+            b"start,end,value\n0,1,1\n1,2,1\n2,3,1\n3,4,1\n4,5,1\n5,6,1\n6,7,1\n7,8,1\n8,9,1\n9,10,1\n10,11,1\n12,11,1\n",
+            b"tilt: 14 series x: empty interval in row 12\n",
+        ),
+        (
+            b"start,end,value\n0,5,7\n5,6\n8,7,1\n",
+            b"tilt: 11 series x: bad fields in row 2\n",
+        ),
+    ];
+    for (i, (series, line)) in cases.into_iter().enumerate() {
+        assert_on(&rt, rt.alloc(), QUERY, series, 1, b"", line, i)?;
+    }
+    Ok(())
+}
+
+#[test]
+fn series_may_be_spelled_in_other_ways(rt: HostRuntime) -> Result<(), Fail> {
+    let cases: [(&[u8], &[u8]); 6] = [
+        (b"start,end,value\r\n0,5,7\r\n6,8,9\r\n", SERIES),
+        (
+            b"start,end,value\n\"0\",\"5\",\"7\"\n",
+            b"start,end,value\n0,5,7\n",
+        ),
+        (b"start,end,value\n+0,005,+7\n", b"start,end,value\n0,5,7\n"),
+        (b"start,end,value\n0,5,\n", b"start,end,value\n"),
+        (b"\xEF\xBB\xBFstart,end,value\n0,5,7\n6,8,9\n", SERIES),
+        (b"start,end,value\n0,5,7\n\n6,8,9", SERIES),
+    ];
+    for (i, (series, out)) in cases.into_iter().enumerate() {
+        assert_on(&rt, rt.alloc(), QUERY, series, 0, out, b"", i)?;
     }
     Ok(())
 }
@@ -199,15 +345,22 @@ fn words_of_no_command_are_refused(rt: HostRuntime) -> Result<(), Fail> {
     let cases = [
         "",
         "run",
-        "run\nq",
-        "run\nq\nx=s\nx=s",
         "run\n\nx=s",
         "run\n--x\nx=s",
-        "run\nq\ny=s",
+        "run\n--plain",
+        "run\nq\n=s",
         "run\nq\nx=",
+        "run\nq\n1=s",
+        "run\nq\n=",
         "run\nq\nxs",
-        "run\nq\n\n",
+        "run\nq\nx s=s",
+        "run\nq\nx=s\n\n",
+        "run\nq\n--plain",
+        "run\nq\nx=s\n--plain",
+        "run\nq\nx=s\n--cut\n5",
+        "run\nq\nx=s\n--cut=5",
         "Run\nq\nx=s",
+        "compile\nq",
         "\nq\nx=s",
     ];
     for (i, words) in cases.into_iter().enumerate() {
@@ -230,6 +383,58 @@ fn names_are_taken_as_they_stand(rt: HostRuntime) -> Result<(), Fail> {
         let files = [("s", b"".as_slice()), (query, QUERY), (series, SERIES)];
         let end = end_of(rt.alloc(), Case::sound(words, &files))?;
         assert_end(&rt, &end, 0, SERIES, b"", i);
+    }
+    Ok(())
+}
+
+#[test]
+fn the_first_refusal_is_told(rt: HostRuntime) -> Result<(), Fail> {
+    const TWO: &[u8] = b"input x; input y; emit y over (0, 10];";
+    const FIELD: &[u8] = b"start,end,value\n0,1x,3\n";
+    let cases: [(&str, &[u8], u8, &[u8]); 13] = [
+        ("run\nq", b"emit@", 1, b"tilt: 20 bad byte at 4\n"),
+        ("run\nq\nx=none", b"", 1, b"tilt: 9 not built\n"),
+        ("run\nq", QUERY, 1, b"tilt: 2 input names: x\n"),
+        ("run\nq\nx=s\nx=f", QUERY, 1, b"tilt: 2 input names: x\n"),
+        (
+            "run\nq\nx=none\nz=none",
+            QUERY,
+            1,
+            b"tilt: 2 input names: z\n",
+        ),
+        (
+            "run\nq\nz=f\nx=s\nx=s",
+            QUERY,
+            1,
+            b"tilt: 2 input names: z\n",
+        ),
+        ("run\nq\nx=f", TWO, 1, b"tilt: 2 input names: y\n"),
+        ("run\nq\ny=f", TWO, 1, b"tilt: 2 input names: x\n"),
+        ("run\nq\ninput=f", QUERY, 1, b"tilt: 2 input names: input\n"),
+        (
+            "run\nq\ny=f\nx=q",
+            TWO,
+            1,
+            b"tilt: 10 series x: bad header\n",
+        ),
+        (
+            "run\nq\nx=f\ny=none",
+            TWO,
+            1,
+            b"tilt: 12 series x: bad field 2 in row 1\n",
+        ),
+        ("run\nq\ny=f\nx=none", TWO, 3, b"tilt: 4 read fault: none\n"),
+        (
+            "run\nq\nx=s\ny=f",
+            TWO,
+            1,
+            b"tilt: 12 series y: bad field 2 in row 1\n",
+        ),
+    ];
+    for (i, (words, query, status, line)) in cases.into_iter().enumerate() {
+        let files = [("q", query), ("s", SERIES), ("f", FIELD)];
+        let end = end_of(rt.alloc(), Case::sound(words, &files))?;
+        assert_end(&rt, &end, status, b"", line, i);
     }
     Ok(())
 }
@@ -260,14 +465,23 @@ fn a_failing_read_names_its_file(rt: HostRuntime) -> Result<(), Fail> {
 }
 
 #[test]
-fn no_read_follows_the_fourth(rt: HostRuntime) -> Result<(), Fail> {
-    let files = [("q", QUERY), ("s", SERIES)];
-    let case = Case {
-        failing_read: 5,
-        ..Case::sound(WORDS, &files)
-    };
-    let end = end_of(rt.alloc(), case)?;
-    assert_end(&rt, &end, 0, SERIES, b"", 0);
+fn each_input_is_read(rt: HostRuntime) -> Result<(), Fail> {
+    const TWO: &[u8] = b"input x; input y; emit x over (0, 10];";
+    let cases: [(u64, u8, &[u8], &[u8]); 4] = [
+        (4, 3, b"", b"tilt: 4 read fault: s\n"),
+        (5, 3, b"", b"tilt: 4 read fault: o\n"),
+        (6, 3, b"", b"tilt: 4 read fault: o\n"),
+        (7, 0, SERIES, b""),
+    ];
+    for (i, (failing_read, status, out, line)) in cases.into_iter().enumerate() {
+        let files = [("q", TWO), ("o", SERIES), ("s", SERIES)];
+        let case = Case {
+            failing_read,
+            ..Case::sound("run\nq\ny=o\nx=s", &files)
+        };
+        let end = end_of(rt.alloc(), case)?;
+        assert_end(&rt, &end, status, out, line, i);
+    }
     Ok(())
 }
 
@@ -297,25 +511,42 @@ fn a_failing_put_leaves_a_front(rt: HostRuntime) -> Result<(), Fail> {
     Ok(())
 }
 
-#[test]
-fn a_failing_line_changes_no_status(rt: HostRuntime) -> Result<(), Fail> {
-    let cases: [(&str, u8, &[u8]); 3] = [
-        ("run", 2, b"tilt: 1 usage\n"),
-        ("run\ns\nx=s", 1, b"tilt: 9 not built\n"),
-        ("run\nq\nx=a", 3, b"tilt: 4 read fault: a\n"),
-    ];
-    for (words, status, line) in cases {
+// Ends the test unless the status is the same where any one of the puts of the line fails, and a front of it is told.
+fn assert_line_cut(
+    rt: &impl Abort,
+    alloc: Global,
+    words: &str,
+    puts: u64,
+    status: u8,
+    line: &[u8],
+) -> Result<(), Fail> {
+    for failing_line in 1..=puts {
         let files = [("q", QUERY), ("s", SERIES)];
         let case = Case {
-            failing_line: 1,
+            failing_line,
             ..Case::sound(words, &files)
         };
-        let end = end_of(rt.alloc(), case)?;
+        let end = end_of(alloc, case)?;
         assert_eq!(rt; end.status, status, "{line:?}");
         assert!(rt; end.out.written().is_empty(), "{line:?}");
         let told = end.err.written();
         assert!(rt; line.starts_with(told), "{told:?}");
         assert!(rt; told.len() < line.len(), "{told:?}");
+    }
+    Ok(())
+}
+
+#[test]
+fn a_failing_line_changes_no_status(rt: HostRuntime) -> Result<(), Fail> {
+    let cases: [(&str, u64, u8, &[u8]); 5] = [
+        ("run", 3, 2, b"tilt: 1 usage\n"),
+        ("run\nq", 4, 1, b"tilt: 2 input names: x\n"),
+        ("run\ns\nx=s", 3, 1, b"tilt: 9 not built\n"),
+        ("run\nq\nx=a", 4, 3, b"tilt: 4 read fault: a\n"),
+        ("run\nq\nx=q", 6, 1, b"tilt: 10 series x: bad header\n"),
+    ];
+    for (words, puts, status, line) in cases {
+        assert_line_cut(&rt, rt.alloc(), words, puts, status, line)?;
     }
     Ok(())
 }

@@ -1,6 +1,7 @@
 use Rattle.std.proofs.Common.{◌∙◌, ap, inl, inr}
 use Rattle.tilt_app.specs.Report.{report_of, status_of}
-use Rattle.tilt_app.proofs.Complete.{only_memory, the_refusal}
+use Rattle.tilt_app.specs.Words.{texts}
+use Rattle.tilt_app.proofs.Complete.{only_memory, the_refusal, printed_or_refused}
 use Rattle.tilt_app.proofs.command.tilt.Goals as goal
 
 pub returns-in-Err-clause-complete : goal.returns-in-Err-clause-complete
@@ -16,3 +17,9 @@ returns-in-Err-clause-complete_refusal g c =
       | inl same ↦ inl (c.status.ensures ∙ ap status_of same)
       | inr memory ↦ inr (c.status.ensures ∙ ap status_of memory)
     ]
+
+pub returns-in-Ok-clause-complete_refusal : goal.returns-in-Ok-clause-complete_refusal
+returns-in-Ok-clause-complete_refusal g c =
+    λ told report outcome no_read.
+    let done = c.in-Ok.ensures.done in
+    absurd (printed_or_refused (texts c.args.words.now) (g.S.Shelf.files c.args.shelf.now) done.0 report (done.1 told) outcome)
