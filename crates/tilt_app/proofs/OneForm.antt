@@ -1,6 +1,5 @@
 -- The tokens of a query are read in one way.
-use Rattle.std.proofs.Common.{◌≡◌, ◌≢◌, ◌⊎◌, inl, inr, ℕ, ◌<◌, List, [], ◌∷◌, ◌++◌, length, refl, sym, ap, subst, ◌∙◌, arith, ℤ, pos, negsuc, neg_ℤ, ◌≤ℤ◌, FitsSigned, Option, Some, None, MatchOption, Bor}
-use Rattle.std.proofs.lemmas.List.{length-map}
+use Rattle.std.proofs.Common.{◌≡◌, ◌≢◌, ◌⊎◌, inl, inr, ℕ, List, [], ◌∷◌, ◌++◌, refl, sym, ap, subst, ◌∙◌, arith, ℤ, pos, negsuc, neg_ℤ, ◌≤ℤ◌, FitsSigned, Option, Some, None, MatchOption, Bor}
 use Rattle.std.specs.Int.{w64}
 use Rattle.std.proofs.lemmas.Int.{ints}
 use Rattle.tilt_base.specs.declared.limits.TheConstants.{T}
@@ -174,11 +173,12 @@ query_once {bytes} {p} {q} query again =
     form_once (subst (λ (ts : List Token). IsForm (kinds_of ts) p) tokens query.form) again.form
 
 -- one more input in front of the rest
-pub input_tokens-push : (names : List (List ℕ)) (name : List ℕ) (more : List Tok) → input_tokens (names ++ name ∷ []) ++ more ≡ input_tokens names ++ (tok.Key key.Input ∷ tok.Word name ∷ tok.Mark mark.Semicolon ∷ more)
+input_tokens-push : (names : List (List ℕ)) (name : List ℕ) (more : List Tok) → input_tokens (names ++ name ∷ []) ++ more ≡ input_tokens names ++ (tok.Key key.Input ∷ tok.Word name ∷ tok.Mark mark.Semicolon ∷ more)
 input_tokens-push [] name more = refl
 input_tokens-push (first ∷ names) name more =
     ap (λ (k : List Tok). tok.Key key.Input ∷ tok.Word first ∷ tok.Mark mark.Semicolon ∷ k) (input_tokens-push names name more)
 
--- and fewer tokens are left
-pub fewer_left : (tokens left : List Token) (name : List ℕ) → kinds_of tokens ≡ tok.Key key.Input ∷ tok.Word name ∷ tok.Mark mark.Semicolon ∷ kinds_of left → length left < length tokens
-fewer_left tokens left name read = omega (arith, ap length read, length-map tokens (λ (t : Token). t.kind), length-map left (λ (t : Token). t.kind))
+pub input_pushed : (kinds rest more : List Tok) (names pushed : List (List ℕ)) (name copied : List ℕ) → kinds ≡ input_tokens names ++ rest → rest ≡ tok.Key key.Input ∷ tok.Word name ∷ tok.Mark mark.Semicolon ∷ more → pushed ≡ names ++ copied ∷ [] → copied ≡ name → kinds ≡ input_tokens pushed ++ more
+input_pushed kinds rest more names pushed name copied before read push copy =
+    let whole = before ∙ ap (λ (k : List Tok). input_tokens names ++ k) read ∙ sym (input_tokens-push names name more) in
+    rw (push, copy) whole

@@ -4,3 +4,4 @@ pub mod Bits
 pub mod Weight
 pub mod Sources
 pub mod Walk
+pub mod Accepted
