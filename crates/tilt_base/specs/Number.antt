@@ -14,6 +14,10 @@ integer_spelled [] = None
 integer_spelled (c ∷ cs) =
     if c == 45 then option_map (λ n. neg_ℤ (pos n)) (natural_spelled cs) else option_map pos (natural_spelled (if c == 43 then cs else c ∷ cs))
 
+-- the number, where 64 bits without a sign hold it
+abbrev pub within_u64 : ℕ → Option ℕ
+within_u64 n = if nat_lt n (2 ^ 64) then Some n else None
+
 -- the number, where 64 bits hold it
 abbrev pub within_64_bits : ℤ → Option ℤ
 within_64_bits (pos n) = if nat_lt n (2 ^ 63) then Some (pos n) else None

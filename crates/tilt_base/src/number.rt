@@ -1,8 +1,8 @@
 // Numbers spelled in decimal digits.
-ghost use Rattle.std.specs.Prelude.{◌≡◌, ◌≢◌, ℤ, FitsSigned, MatchOption};
+ghost use Rattle.std.specs.Prelude.{◌≡◌, ◌≢◌, ℤ, FitsSigned, MatchOption, option_and_then};
 ghost use Rattle.std.specs.Int.{w64};
 ghost use Rattle.std.specs.Fmt.{signed_decimal};
-ghost use Rattle.tilt_base.specs.Number.{number_spelled};
+ghost use Rattle.tilt_base.specs.Number.{natural_spelled, number_spelled, within_u64};
 
 use itoa::Buffer;
 
@@ -11,7 +11,30 @@ use itoa::Buffer;
 pub fn read_number(bytes: &[u8]) -> Option<i64>
     ensures { result ≡ number_spelled bytes.now }
 {
-    std::str::from_utf8(bytes).ok()?.parse().ok()
+    match bytes {
+        [b'-', digits @ ..] => i64::try_from(-i128::from(read_natural(digits)?)).ok(),
+        [b'+', digits @ ..] => i64::try_from(read_natural(digits)?).ok(),
+        digits => i64::try_from(read_natural(digits)?).ok(),
+    }
+}
+
+// The number that one or more digits spell, or `None` where 64 bits without a sign don't hold it.
+fn read_natural(digits: &[u8]) -> Option<u64>
+    ensures { result ≡ option_and_then within_u64 (natural_spelled digits.now) }
+{
+    if digits.is_empty() {
+        return None;
+    }
+    let mut number = 0u64;
+    for digit in digits {
+        if !digit.is_ascii_digit() {
+            return None;
+        }
+        number = number
+            .checked_mul(10)?
+            .checked_add(u64::from(*digit - b'0'))?;
+    }
+    Some(number)
 }
 
 /// The number whose shortest decimal the bytes are: an optional `-` and digits without a leading zero, and `0` for
@@ -47,6 +70,8 @@ mod tests {
             ("1x", None),
             (" 1", None),
             ("--1", None),
+            ("18446744073709551616", None),
+            ("-0000000000000000000001", Some(-1)),
         ] {
             assert_eq!(rt; read_number(text.as_bytes()), want, "at {text}");
         }
