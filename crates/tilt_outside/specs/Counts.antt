@@ -1,6 +1,10 @@
 -- Counts of 64 bits.
-use Rattle.std.specs.Prelude.{ℕ, ◌+◌, ◌-◌, ◌^◌, min}
+use Rattle.std.specs.Prelude.{ℕ, ◌+◌, min}
 
--- the count one higher, which stays at the end of 64 bits
+-- the end of 64 bits
+abbrev pub last_count : ℕ
+last_count = 18446744073709551615
+
+-- the count one higher, which stays at the end
 abbrev pub next_count : ℕ → ℕ
-next_count n = min (n + 1) (2 ^ 64 - 1)
+next_count n = min (n + 1) last_count

@@ -1,5 +1,5 @@
 -- A shelf in memory.
-use Rattle.std.specs.Prelude.{◌≡◌, ◌≢◌, ◌<◌, ◌⊎◌, ℕ, List, [], Option, None, Some, length, find, unwrap_or, Contains}
+use Rattle.std.specs.Prelude.{◌≡◌, ◌≢◌, ◌+◌, ◌-◌, ◌^◌, ◌<◌, ◌≤◌, ◌⊎◌, ℕ, min, List, [], Option, None, Some, length, find, unwrap_or, Contains}
 use Rattle.std.specs.Option.{option_map, option_map_or}
 use Rattle.std.specs.Str.{bytes_eq}
 use Rattle.tilt_outside.specs.Counts.{next_count}
@@ -10,11 +10,12 @@ pub record HeldFile : Type 0 where
   pub bytes : List ℕ
   pub room : ℕ
 
--- what is held, the faults and calls so far, and the numbers of the calls that are to fail
+-- what is held, the faults, the bytes given and the calls so far, and the numbers of the calls that are to fail
 pub record ShelfState : Type 0 where
   pub files : List HeldFile
   pub read_faults : ℕ
   pub save_faults : ℕ
+  pub given : ℕ
   pub calls : ℕ
   pub failing : List ℕ
 
@@ -41,9 +42,13 @@ pub record HoldsInstead (old new : List HeldFile) (name bytes : List ℕ) (room 
   pub others : (other : List ℕ) → other ≢ name → bytes_held new other ≡ bytes_held old other
   pub other_rooms : (other : List ℕ) → other ≢ name → room_of new other ≡ room_of old other
 
--- the next call fails if it reads that name: it isn't held, or the number of the call is listed
-abbrev pub ReadFails : ShelfState → List ℕ → Type 0
-ReadFails shelf name = (bytes_held shelf.files name ≡ None) ⊎ Contains shelf.failing (next_count shelf.calls)
+-- how many bytes a read of the name from a place on gives into a room of that size
+abbrev pub count_from : ShelfState → List ℕ → ℕ → ℕ → ℕ
+count_from shelf name at room = min room (length (content_of shelf.files name) - at)
+
+-- the next call fails if it reads so many bytes of that name: it isn't held, the number of the call is listed, or 64 bits don't hold the count of bytes given
+abbrev pub ReadFails : ShelfState → List ℕ → ℕ → Type 0
+ReadFails shelf name count = (bytes_held shelf.files name ≡ None) ⊎ Contains shelf.failing (next_count shelf.calls) ⊎ (2 ^ 64 ≤ shelf.given + count)
 
 -- the name isn't held, or may hold fewer bytes than that
 abbrev pub HasNoRoom : List HeldFile → List ℕ → ℕ → Type 0
@@ -56,6 +61,10 @@ SaveFails shelf name bytes = HasNoRoom shelf.files name (length bytes) ⊎ Conta
 -- the shelf after a call that changed no file and had no fault
 abbrev pub after_call : ShelfState → ShelfState
 after_call shelf = record shelf { calls = next_count shelf.calls }
+
+-- the shelf after a read that gave so many bytes
+abbrev pub after_read : ShelfState → ℕ → ShelfState
+after_read shelf count = record shelf { calls = next_count shelf.calls; given = shelf.given + count }
 
 -- the shelf after a read that failed
 abbrev pub after_read_fault : ShelfState → ShelfState

@@ -2,7 +2,7 @@
 use Rattle.std.specs.Prelude.{◌<◌, ◌-◌, ◌/◌, ◌⊎◌, ℕ, List, ◌++◌, length, take, min, Contains}
 use Rattle.tilt_outside.specs.Counts.{next_count}
 
--- what was written, how many bytes it still takes, its faults and calls so far, and the numbers of the puts that are to fail
+-- what was written, how many bytes it still takes, its faults and calls so far, and the numbers of the calls that are to fail
 pub record SinkState : Type 0 where
   pub written : List ℕ
   pub room : ℕ
@@ -34,3 +34,15 @@ after_fault sink piece = record sink {
   faults = next_count sink.faults;
   calls = next_count sink.calls;
 }
+
+-- the next flush fails: its number is listed
+abbrev pub FlushFails : SinkState → Type 0
+FlushFails sink = Contains sink.failing (next_count sink.calls)
+
+-- the sink after a flush
+abbrev pub after_flush : SinkState → SinkState
+after_flush sink = record sink { calls = next_count sink.calls }
+
+-- the sink after a flush that failed
+abbrev pub after_flush_fault : SinkState → SinkState
+after_flush_fault sink = record sink { faults = next_count sink.faults; calls = next_count sink.calls }

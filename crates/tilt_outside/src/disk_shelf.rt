@@ -11,7 +11,7 @@ use std::rt::Files;
 
 /// A shelf whose names are the paths of files. Nothing is proved of the bytes that they hold. A read from the front
 /// opens the file anew. It then stays open, so that reading on from the place reached opens and seeks nothing, and a
-/// pipe can be read too.
+/// pipe can be read too. No file is opened before the last one was let go of, so one descriptor serves.
 #[derive(Drop)]
 pub struct DiskShelf<'a, R: Files> {
     alloc: Global,
@@ -19,6 +19,7 @@ pub struct DiskShelf<'a, R: Files> {
     last: Option<OpenedFile<R::File>>,
     read_faults: u64,
     save_faults: u64,
+    given: u64,
 }
 
 // A file that was opened for reading, and the place that was reached in it.
@@ -30,17 +31,17 @@ struct OpenedFile<F> {
 }
 
 impl<'a, R: Files> Model for DiskShelf<'a, R> {
-    ghost use Rattle.tilt_outside.specs.DiskShelf.{DiskFaults};
+    ghost use Rattle.tilt_outside.specs.DiskShelf.{DiskCounts};
 
-    ghost Value = { DiskFaults };
+    ghost Value = { DiskCounts };
 
-    ghost view = { λ s. record { reads = s.read_faults; saves = s.save_faults } };
+    ghost view = { λ s. record { read_faults = s.read_faults; save_faults = s.save_faults; given = s.given } };
 }
 
 impl<'a, R: Files> DiskShelf<'a, R> {
-    /// A shelf with no fault yet. It takes memory for the name of the file that it keeps open.
+    /// A shelf with no fault yet, that has given nothing. It takes memory for the name of the file that it keeps open.
     pub fn new(alloc: Global, files: &'a R) -> DiskShelf<'a, R>
-        ensures { result ≡ record { reads = 0; saves = 0 } }
+        ensures { result ≡ record { read_faults = 0; save_faults = 0; given = 0 } }
     {
         DiskShelf {
             alloc,
@@ -48,6 +49,7 @@ impl<'a, R: Files> DiskShelf<'a, R> {
             last: None,
             read_faults: 0,
             save_faults: 0,
+            given: 0,
         }
     }
 
@@ -55,15 +57,21 @@ impl<'a, R: Files> DiskShelf<'a, R> {
         ensures count { IfOk result (λ count. count ≤ length room.old) }
         ensures faults { self.new ≡ self.old }
     {
-        let mut opened = match self.last.take() {
-            Some(last) if at > 0 && last.place == at && last.name.as_str() == name => last,
-            _ => open_at(self.alloc, self.files, name, at)?,
+        let last = self.last.take();
+        let mut opened = match last.filter(|last| goes_on(last, name, at)) {
+            Some(last) => last,
+            None => open_at(self.alloc, self.files, name, at)?,
         };
         let count = read_some(&mut opened.file, room)?;
         opened.place = opened.place.saturating_add(count as u64);
         self.last = Some(opened);
         Ok(count)
     }
+}
+
+// Whether a read of the name from a place on goes on where the file was read to.
+fn goes_on<F>(last: &OpenedFile<F>, name: &str, at: u64) -> bool {
+    at > 0 && last.place == at && last.name.as_str() == name
 }
 
 fn open_at<R: Files>(
@@ -102,22 +110,25 @@ impl<'a, R: Files> Shelf for DiskShelf<'a, R> {
 
     ghost files = { λ _ _. [] };
 
-    ghost read_faults = { λ shelf. shelf.reads };
+    ghost read_faults = { λ shelf. shelf.read_faults };
 
-    ghost save_faults = { λ shelf. shelf.saves };
+    ghost save_faults = { λ shelf. shelf.save_faults };
+
+    ghost given = { λ shelf. shelf.given };
 
     ghost takes = { λ _ _ _. ⊤ };
 
     ghost lends = { λ _. ⊤ };
 
     fn read_at(&mut self, name: &str, at: u64, room: &mut [u8]) -> Result<usize, Failed> {
-        match self.read_from(name, at, room) {
-            Ok(count) => Ok(count),
-            Err(_) => {
-                self.read_faults = self.read_faults.saturating_add(1);
-                Err(Failed)
-            }
+        if let Ok(count) = self.read_from(name, at, room)
+            && let Some(given) = self.given.checked_add(count as u64)
+        {
+            self.given = given;
+            return Ok(count);
         }
+        self.read_faults = self.read_faults.saturating_add(1);
+        Err(Failed)
     }
 
     fn save(&mut self, name: &str, bytes: &[u8]) -> Result<(), Failed> {
@@ -142,6 +153,8 @@ mod tests {
 
     const NAME: &str = "tilt_outside_saved";
 
+    const OTHER: &str = "tilt_outside_other";
+
     #[test]
     fn what_is_saved_is_read_again(rt: HostRuntime) -> Result<(), Fail> {
         let mut shelf = DiskShelf::new(rt.alloc(), &rt);
@@ -158,6 +171,59 @@ mod tests {
         assert_eq!(rt; missing.err(), Some(ReadAllFault::ReadFault));
         assert_eq!(rt; shelf.save("", b""), Err(Failed));
         assert_eq!(rt; (shelf.read_faults, shelf.save_faults), (1, 1));
+        assert_eq!(rt; shelf.given, 20);
+        Ok(())
+    }
+
+    #[test]
+    fn reading_on_in_another_file_gives_its_bytes(rt: HostRuntime) -> Result<(), Fail> {
+        let mut shelf = DiskShelf::new(rt.alloc(), &rt);
+        assert_eq!(rt; shelf.save(NAME, b"first"), Ok(()));
+        assert_eq!(rt; shelf.save(OTHER, b"other"), Ok(()));
+        let mut room = [0u8; 2];
+        for (name, at, want) in [
+            (NAME, 0, b"fi"),
+            (OTHER, 2, b"he"),
+            (OTHER, 0, b"ot"),
+            (OTHER, 2, b"he"),
+        ] {
+            assert_eq!(rt; shelf.read_at(name, at, &mut room), Ok(2));
+            assert_eq!(rt; room, *want);
+        }
+        fs::remove_file(&rt, NAME)?;
+        fs::remove_file(&rt, OTHER)?;
+        Ok(())
+    }
+
+    // Is interrupted so often, and then gives one byte a read.
+    #[derive(Drop)]
+    struct InterruptedReader {
+        interruptions: usize,
+    }
+
+    impl Read for InterruptedReader {
+        fn read(&mut self, room: &mut [u8]) -> io::Result<usize> {
+            if self.interruptions > 0 {
+                self.interruptions -= 1;
+                return Err(io::Error::from(ErrorKind::Interrupted));
+            }
+            match room {
+                [] => Ok(0),
+                [first, ..] => {
+                    *first = b'x';
+                    Ok(1)
+                }
+            }
+        }
+    }
+
+    #[test]
+    fn an_interrupted_read_is_begun_again(rt: HostRuntime) -> Result<(), Fail> {
+        for interruptions in 0..3 {
+            let mut room = [0u8; 2];
+            let count = read_some(&mut InterruptedReader { interruptions }, &mut room)?;
+            assert_eq!(rt; (count, room), (1, *b"x\0"));
+        }
         Ok(())
     }
 }

@@ -2,6 +2,7 @@
 //! to. What comes in and goes out is bytes; a fault is told only where the count of faults rose.
 #![tactic(auto)]
 
+mod buffered_sink;
 mod disk_shelf;
 mod failed;
 mod held_file;
@@ -12,6 +13,7 @@ mod sink;
 mod std_sink;
 mod whole_file;
 
+pub use buffered_sink::BufferedSink;
 pub use disk_shelf::DiskShelf;
 pub use failed::Failed;
 pub use mem_shelf::MemShelf;

@@ -1,10 +1,11 @@
 // A shelf in memory.
-ghost use Rattle.std.specs.Prelude.{◌≡◌, ◌≢◌, ◌⊎◌, ◌<◌, ◌≤◌, ◌-◌, ◌++◌, ◌↔◌, ◌∷◌, [], ⊤, List, ℕ, length, take, drop, min, max, position, option_copied, IfOk, IsErr, OnOk, OnErr};
+ghost use Rattle.std.specs.Prelude.{◌≡◌, ◌≢◌, ◌⊎◌, ◌<◌, ◌≤◌, ◌+◌, ◌-◌, ◌^◌, ◌++◌, ◌↔◌, ◌∷◌, [], ⊤, List, ℕ, length, take, drop, min, max, position, option_copied, nat_lt, IfOk, IsErr, OnOk, OnErr, MatchResult};
 ghost use Rattle.std.specs.Bool.{IsFalse, OnTrue, OnFalse};
 ghost use Rattle.std.specs.Str.{bytes_eq};
 ghost use Rattle.tilt_outside.specs.Faults.{HasCause};
 ghost use Rattle.tilt_outside.specs.Files.{IsNextPiece};
-ghost use Rattle.tilt_outside.specs.MemShelf.{bytes_held, content_of, HasNoRoom, room_of, HoldsInstead, ReadFails, SaveFails, after_call, after_read_fault, after_save_fault};
+ghost use Rattle.tilt_outside.specs.Reads.{OnlyReads};
+ghost use Rattle.tilt_outside.specs.MemShelf.{bytes_held, content_of, count_from, HasNoRoom, room_of, HoldsInstead, ReadFails, SaveFails, after_call, after_read, after_read_fault, after_save_fault};
 
 use crate::failed::Failed;
 use crate::held_file::HeldFile;
@@ -20,6 +21,7 @@ pub struct MemShelf {
     files: Vec<HeldFile>,
     read_faults: u64,
     save_faults: u64,
+    given: u64,
     calls: u64,
     failing: Vec<u64>,
 }
@@ -33,6 +35,7 @@ impl Model for MemShelf {
       files = s.files.items;
       read_faults = s.read_faults;
       save_faults = s.save_faults;
+      given = s.given;
       calls = s.calls;
       failing = s.failing.items;
     } };
@@ -41,13 +44,14 @@ impl Model for MemShelf {
 impl MemShelf {
     /// A shelf that holds no name.
     pub fn new(alloc: Global) -> MemShelf
-        ensures { result ≡ record { files = []; read_faults = 0; save_faults = 0; calls = 0; failing = [] } }
+        ensures { result ≡ record { files = []; read_faults = 0; save_faults = 0; given = 0; calls = 0; failing = [] } }
     {
         MemShelf {
             alloc,
             files: Vec::new(alloc),
             read_faults: 0,
             save_faults: 0,
+            given: 0,
             calls: 0,
             failing: Vec::new(alloc),
         }
@@ -70,6 +74,13 @@ impl MemShelf {
         ensures { option_copied result ≡ bytes_held self.now.files name.now }
     {
         find_bytes(&self.files, name)
+    }
+
+    /// How many bytes the reads have given so far.
+    pub fn given(&self) -> u64
+        ensures { result ≡ self.now.given }
+    {
+        self.given
     }
 
     /// Makes the call of that number fail. Reads and saves are counted together from 1, those that fail too.
@@ -111,16 +122,29 @@ fn put_file(files: &mut Vec<HeldFile>, name: &str, file: HeldFile) -> Result<(),
     Ok(())
 }
 
-// Puts the bytes from a place on into the front of the room, as many as there are or fit.
-fn copy_from(bytes: &[u8], at: u64, room: &mut [u8]) -> usize
-    ensures count { result ≡ min (length room.old) (length bytes.now - at) }
-    ensures piece { room.new ≡ take result (drop at bytes.now) ++ drop result room.old }
+// How many bytes there are from a place on, and fit a room of that size.
+fn count_from(bytes: &[u8], at: u64, room: usize) -> usize
+    ensures { result ≡ min room (length bytes.now - at) }
 {
     let start = bytes.len().min(at as usize);
-    let rest = &bytes[start..];
-    let count = rest.len().min(room.len());
-    room[..count].copy_from_slice(&rest[..count]);
-    count
+    room.min(bytes.len() - start)
+}
+
+// Whether 64 bits hold the count of bytes given, where so many more are given.
+fn can_count(given: u64, count: usize) -> bool
+    ensures { result ≡ nat_lt (given + count) (2 ^ 64) }
+{
+    given.checked_add(count as u64).is_some()
+}
+
+// Puts so many bytes from a place on into the front of the room.
+fn copy_from(bytes: &[u8], at: u64, count: usize, room: &mut [u8])
+    requires in_room { count ≤ length room.old }
+    requires there { count ≤ length bytes.now - at }
+    ensures { room.new ≡ take count (drop at bytes.now) ++ drop count room.old }
+{
+    let start = bytes.len().min(at as usize);
+    room[..count].copy_from_slice(&bytes[start..start + count]);
 }
 
 impl Shelf for MemShelf {
@@ -132,24 +156,25 @@ impl Shelf for MemShelf {
 
     ghost save_faults = { λ shelf. shelf.save_faults };
 
+    ghost given = { λ shelf. shelf.given };
+
     ghost takes = { λ _ _ _. ⊤ };
 
     ghost lends = { λ _. ⊤ };
 
-    /// Fails exactly where the name isn't held or the number of the call is listed. It gives as many bytes as there
-    /// are from `at` on and fit the room.
+    /// Fails exactly where the name isn't held, the number of the call is listed, or 64 bits don't hold the count of bytes
+    /// given. It gives as many bytes as there are from `at` on and fit the room.
     fn read_at(&mut self, name: &str, at: u64, room: &mut [u8]) -> Result<usize, Failed>
         requires space { 0 < length room.old }
         ensures count { IfOk result (λ n. n ≤ length room.old) }
         ensures piece { ⊤ → IfOk result (λ n. IsNextPiece (content_of self.old.files name.now) at room.new n) }
-        ensures files { content_of self.new.files ≡ content_of self.old.files }
+        ensures given { MatchResult result (λ n. self.new.given ≡ self.old.given + n) (λ _. self.new.given ≡ self.old.given) }
         ensures cause { HasCause self.old.read_faults self.new.read_faults result }
-        ensures save_faults { self.new.save_faults ≡ self.old.save_faults }
-        ensures takes { (other : List ℕ) (n : ℕ) → ⊤ ↔ ⊤ }
+        ensures rest { OnlyReads (λ shelf. content_of shelf.files) (λ shelf. shelf.save_faults) (λ _ _ _. ⊤) self.old self.new }
 
-        ensures fails { IsErr result ↔ ReadFails self.old name.now }
-        ensures ok { OnOk result (self.new ≡ after_call self.old) }
-        ensures exact { IfOk result (λ n. n ≡ min (length room.old) (length (content_of self.old.files name.now) - at)) }
+        ensures fails { IsErr result ↔ ReadFails self.old name.now (count_from self.old name.now at (length room.old)) }
+        ensures exact { IfOk result (λ n. n ≡ count_from self.old name.now at (length room.old)) }
+        ensures ok { IfOk result (λ n. self.new ≡ after_read self.old n) }
         ensures room { IfOk result (λ n. room.new
             ≡ take n (drop at (content_of self.old.files name.now)) ++ drop n room.old) }
         ensures err { OnErr result (self.new ≡ after_read_fault self.old) }
@@ -158,7 +183,13 @@ impl Shelf for MemShelf {
         self.calls = self.calls.saturating_add(1);
         let is_listed = self.failing.contains(&self.calls);
         match find_bytes(&self.files, name) {
-            Some(bytes) if !is_listed => Ok(copy_from(bytes, at, room)),
+            Some(bytes) if !is_listed && can_count(self.given, count_from(bytes, at, room.len())) =>
+                {
+                    let count = count_from(bytes, at, room.len());
+                    copy_from(bytes, at, count, room);
+                    self.given += count as u64;
+                    Ok(count)
+                }
             _ => {
                 self.read_faults = self.read_faults.saturating_add(1);
                 Err(Failed)
@@ -176,7 +207,9 @@ impl Shelf for MemShelf {
         ensures others { ⊤ → (other : List ℕ) → other ≢ name.now
             → content_of self.new.files other ≡ content_of self.old.files other }
         ensures cause { HasCause self.old.save_faults self.new.save_faults result }
+        ensures given { self.new.given ≡ self.old.given }
         ensures read_faults { self.new.read_faults ≡ self.old.read_faults }
+        ensures takes { (other : List ℕ) (n : ℕ) → ⊤ ↔ ⊤ }
 
         ensures fails { IsErr result ↔ SaveFails self.old name.now bytes.now }
         ensures held { OnOk result (HoldsInstead self.old.files self.new.files name.now bytes.now

@@ -1,8 +1,8 @@
 // A sink in memory.
-ghost use Rattle.std.specs.Prelude.{◌≡◌, ◌≤◌, ◌+◌, ◌-◌, ◌++◌, ◌↔◌, ◌∷◌, [], ⊤, length, vec_len, vec_capacity, IfOk, IsErr, OnOk, OnErr};
+ghost use Rattle.std.specs.Prelude.{◌≡◌, ◌≤◌, ◌+◌, ◌-◌, ◌++◌, ◌↔◌, ◌∷◌, [], ⊤, ℕ, length, vec_len, vec_capacity, IfOk, IsErr, OnOk, OnErr};
 ghost use Rattle.tilt_outside.specs.Faults.{HasCause};
-ghost use Rattle.tilt_outside.specs.MemSink.{PutFails, after_put, after_fault};
-ghost use Rattle.tilt_outside.specs.Written.{AppendsFront};
+ghost use Rattle.tilt_outside.specs.MemSink.{PutFails, FlushFails, after_put, after_fault, after_flush, after_flush_fault};
+ghost use Rattle.tilt_outside.specs.Written.{Puts};
 
 use crate::failed::Failed;
 use crate::sink::Sink;
@@ -64,7 +64,7 @@ impl MemSink {
         self.bytes.as_slice()
     }
 
-    /// Makes the put of that number fail. Puts are counted from 1, those that fail too.
+    /// Makes the call of that number fail. Puts and flushes are counted together from 1, those that fail too.
     pub fn fail_at(&mut self, call: u64) -> Result<(), OutOfMemory>
         ensures ok { OnOk result (self.new ≡ record self.old { failing = self.old.failing ++ call ∷ [] }) }
         ensures err { OnErr result (self.new ≡ self.old) }
@@ -91,6 +91,8 @@ impl Sink for MemSink {
 
     ghost written = { λ sink. sink.written };
 
+    ghost held_back = { λ _. 0 };
+
     ghost faults = { λ sink. sink.faults };
 
     ghost takes = { λ _ _. ⊤ };
@@ -98,9 +100,7 @@ impl Sink for MemSink {
     /// Fails exactly where the piece is longer than the room or the number of the call is listed. It then appends
     /// the first half of the piece, rounded down, as far as there is room.
     fn put(&mut self, piece: &[u8]) -> Result<(), Failed>
-        ensures whole { ⊤ → OnOk result (self.new.written ≡ self.old.written ++ piece.now) }
-        ensures front { ⊤ → OnErr result (AppendsFront self.old.written self.new.written piece.now) }
-        ensures cause { HasCause self.old.faults self.new.faults result }
+        ensures puts { Puts ⊤ (λ sink. sink.written) (λ sink. sink.faults) (λ _ _. ⊤) self.old self.new piece.now result }
 
         ensures fails { IsErr result ↔ PutFails self.old piece.now }
         ensures ok { OnOk result (self.new ≡ after_put self.old piece.now) }
@@ -114,6 +114,25 @@ impl Sink for MemSink {
             return Err(Failed);
         }
         append(&mut self.bytes, &mut self.room, piece);
+        Ok(())
+    }
+
+    /// Fails exactly where the number of the call is listed. Nothing is ever held back.
+    fn flush(&mut self) -> Result<(), Failed>
+        ensures handed_on { let none : ℕ = 0 in OnOk result (none ≡ 0) }
+        ensures written { self.new.written ≡ self.old.written }
+        ensures cause { HasCause self.old.faults self.new.faults result }
+        ensures takes { (n : ℕ) → ⊤ ↔ ⊤ }
+
+        ensures fails { IsErr result ↔ FlushFails self.old }
+        ensures ok { OnOk result (self.new ≡ after_flush self.old) }
+        ensures err { OnErr result (self.new ≡ after_flush_fault self.old) }
+    {
+        self.calls = self.calls.saturating_add(1);
+        if self.failing.contains(&self.calls) {
+            self.faults = self.faults.saturating_add(1);
+            return Err(Failed);
+        }
         Ok(())
     }
 
@@ -160,6 +179,19 @@ mod tests {
             assert_eq!(rt; sink.written(), written, "room {room}, call {call}");
             assert_eq!(rt; sink.faults, faults, "room {room}, call {call}");
         }
+        Ok(())
+    }
+
+    #[test]
+    fn a_flush_is_a_call_that_keeps_what_was_put(rt: HostRuntime) -> Result<(), Fail> {
+        let mut sink = MemSink::new(rt.alloc(), 9)?;
+        sink.fail_at(3)?;
+        assert_eq!(rt; sink.put(b"abc"), Ok(()));
+        assert_eq!(rt; sink.flush(), Ok(()));
+        assert_eq!(rt; sink.flush(), Err(Failed));
+        assert_eq!(rt; sink.flush(), Ok(()));
+        assert_eq!(rt; sink.written(), b"abc".as_slice());
+        assert_eq!(rt; sink.faults, 1);
         Ok(())
     }
 }

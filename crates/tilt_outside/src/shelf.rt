@@ -1,7 +1,8 @@
 // Named files, which are read from a place on and saved whole.
-ghost use Rattle.std.specs.Prelude.{◌≡◌, ◌≢◌, ◌⊎◌, ◌<◌, ◌≤◌, ◌↔◌, List, ℕ, length, IfOk, OnOk, OnErr};
+ghost use Rattle.std.specs.Prelude.{◌≡◌, ◌≢◌, ◌⊎◌, ◌+◌, ◌<◌, ◌≤◌, ◌↔◌, List, ℕ, length, IfOk, OnOk, OnErr, MatchResult};
 ghost use Rattle.tilt_outside.specs.Faults.{HasCause};
 ghost use Rattle.tilt_outside.specs.Files.{IsNextPiece};
+ghost use Rattle.tilt_outside.specs.Reads.{OnlyReads};
 
 use crate::failed::Failed;
 
@@ -19,6 +20,9 @@ pub trait Shelf {
     /// How often a save has failed. The count never falls.
     ghost save_faults: { Self → ℕ };
 
+    /// How many bytes the reads have given so far.
+    ghost given: { Self → ℕ };
+
     /// Whether a name takes that many bytes in one save.
     ghost takes: { Self → List ℕ → ℕ → Type 0 };
 
@@ -32,10 +36,9 @@ pub trait Shelf {
         requires lent { lends name.now }
         ensures count { IfOk result (λ n. n ≤ length room.old) }
         ensures piece { tells → IfOk result (λ n. IsNextPiece (files self.old name.now) at room.new n) }
-        ensures files { files self.new ≡ files self.old }
+        ensures given { MatchResult result (λ n. given self.new ≡ given self.old + n) (λ _. given self.new ≡ given self.old) }
         ensures cause { HasCause (read_faults self.old) (read_faults self.new) result }
-        ensures save_faults { save_faults self.new ≡ save_faults self.old }
-        ensures takes { (other : List ℕ) (n : ℕ) → takes self.old other n ↔ takes self.new other n };
+        ensures rest { OnlyReads files save_faults takes self.old self.new };
 
     /// Makes the name hold exactly these bytes. After `Failed` it holds the old or the new ones.
     fn save(&mut self, name: &str, bytes: &[u8]) -> Result<(), Failed>
@@ -45,7 +48,9 @@ pub trait Shelf {
             ⊎ (files self.new name.now ≡ bytes.now)) }
         ensures others { tells → (other : List ℕ) → other ≢ name.now → files self.new other ≡ files self.old other }
         ensures cause { HasCause (save_faults self.old) (save_faults self.new) result }
-        ensures read_faults { read_faults self.new ≡ read_faults self.old };
+        ensures given { given self.new ≡ given self.old }
+        ensures read_faults { read_faults self.new ≡ read_faults self.old }
+        ensures takes { (other : List ℕ) (n : ℕ) → takes self.old other n ↔ takes self.new other n };
 
     /// What takes that many bytes takes fewer too.
     ghost takes_fewer: { (shelf : Self) (name : List ℕ) (m n : ℕ) → m ≤ n → takes shelf name n → takes shelf name m };

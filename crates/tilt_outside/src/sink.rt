@@ -1,7 +1,7 @@
 // What bytes are written to, in order.
-ghost use Rattle.std.specs.Prelude.{◌≡◌, ◌≤◌, ◌+◌, ◌++◌, List, ℕ, length, OnOk, OnErr};
+ghost use Rattle.std.specs.Prelude.{◌≡◌, ◌≤◌, ◌↔◌, List, ℕ, length, OnOk};
 ghost use Rattle.tilt_outside.specs.Faults.{HasCause};
-ghost use Rattle.tilt_outside.specs.Written.{AppendsFront};
+ghost use Rattle.tilt_outside.specs.Written.{Puts};
 
 use crate::failed::Failed;
 
@@ -10,22 +10,30 @@ pub trait Sink {
     /// Whether this kind of sink tells what was written to it. A terminal or a file on a disk doesn't.
     ghost tells: { Type 0 };
 
-    /// The bytes that were written so far, in order, where the sink tells them.
+    /// The bytes that were written so far, in order, where the sink tells them: all that was put, held back or not.
     ghost written: { Self → List ℕ };
 
-    /// How often a put has failed. The count never falls.
+    /// How many bytes were put and not yet handed on.
+    ghost held_back: { Self → ℕ };
+
+    /// How often a put or a flush has failed. The count never falls.
     ghost faults: { Self → ℕ };
 
     /// Whether the sink takes that many bytes more.
     ghost takes: { Self → ℕ → Type 0 };
 
-    /// Appends the piece. After `Failed` a front of the piece was appended, which may be all of it or nothing.
+    /// Appends the piece. After `Failed` a front of the piece was appended, which may be all of it or nothing. A fault of
+    /// the device may show only at a later put, or at the flush.
     fn put(&mut self, piece: &[u8]) -> Result<(), Failed>
         requires { takes self.old (length piece.now) }
-        ensures whole { tells → OnOk result (written self.new ≡ written self.old ++ piece.now) }
-        ensures front { tells → OnErr result (AppendsFront (written self.old) (written self.new) piece.now) }
+        ensures { Puts tells written faults takes self.old self.new piece.now result };
+
+    /// Hands on all that is held back. After `Failed` some of it may still be held back.
+    fn flush(&mut self) -> Result<(), Failed>
+        ensures handed_on { OnOk result (held_back self.new ≡ 0) }
+        ensures written { written self.new ≡ written self.old }
         ensures cause { HasCause (faults self.old) (faults self.new) result }
-        ensures room { (n : ℕ) → takes self.old (length piece.now + n) → takes self.new n };
+        ensures takes { (n : ℕ) → takes self.old n ↔ takes self.new n };
 
     /// What takes that many bytes takes fewer too.
     ghost takes_fewer: { (sink : Self) (m n : ℕ) → m ≤ n → takes sink n → takes sink m };

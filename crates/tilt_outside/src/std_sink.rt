@@ -1,14 +1,15 @@
 // A sink over a writer of the standard library.
 ghost use Rattle.std.specs.Io.KnownBytes.{Appends};
 ghost use Rattle.std.specs.Prelude.{◌≡◌, ◌<◌, ◌≤◌, ⊤, [], length, take, IfOk, OnOk};
-ghost use Rattle.tilt_outside.specs.Faults.{HasCause};
+ghost use Rattle.tilt_outside.specs.Written.{Puts};
 
 use crate::failed::Failed;
 use crate::sink::Sink;
 use std::io::{ErrorKind, Write};
 use std::marker::Model;
 
-/// A sink that writes to a writer of the standard library. A writer of the system says nothing of what reaches it.
+/// A sink that hands each piece at once to a writer of the standard library, which is to hold nothing back, as that of
+/// standard error. A writer of the system says nothing of what reaches it.
 #[derive(Drop)]
 pub struct StdSink<W: Write> {
     writer: W,
@@ -20,13 +21,13 @@ impl<W: Write> Model for StdSink<W> {
 
     ghost Value = { WriterState };
 
-    ghost view = { λ s. record { contents = W.contents s.writer; faults = s.faults } };
+    ghost view = { λ s. record { contents = W.contents s.writer; held_back = 0; faults = s.faults } };
 }
 
 impl<W: Write> StdSink<W> {
     /// A sink over the writer, with no fault yet.
     pub fn new(writer: W) -> StdSink<W>
-        ensures { result ≡ record { contents = W.contents writer; faults = 0 } }
+        ensures { result ≡ record { contents = W.contents writer; held_back = 0; faults = 0 } }
     {
         StdSink { writer, faults: 0 }
     }
@@ -37,13 +38,15 @@ impl<W: Write> Sink for StdSink<W> {
 
     ghost written = { λ _. [] };
 
+    ghost held_back = { λ sink. sink.held_back };
+
     ghost faults = { λ sink. sink.faults };
 
     ghost takes = { λ _ _. ⊤ };
 
     /// Where the writer is known to hold its bytes, the piece is appended to them.
     fn put(&mut self, piece: &[u8]) -> Result<(), Failed>
-        ensures cause { HasCause self.old.faults self.new.faults result }
+        ensures puts { Puts ⊥ (λ _. []) (λ sink. sink.faults) (λ _ _. ⊤) self.old self.new piece.now result }
 
         ensures bytes { OnOk result
             (Appends self.old.contents self.new.contents piece.now) }
@@ -53,6 +56,14 @@ impl<W: Write> Sink for StdSink<W> {
             self.faults = self.faults.saturating_add(1);
         }
         outcome
+    }
+
+    fn flush(&mut self) -> Result<(), Failed> {
+        if self.writer.flush().is_ok() {
+            return Ok(());
+        }
+        self.faults = self.faults.saturating_add(1);
+        Err(Failed)
     }
 
     ghost takes_fewer = { λ _ _ _ _ takes. takes };

@@ -1,6 +1,7 @@
 // A whole file, read piece by piece.
-ghost use Rattle.std.specs.Prelude.{◌≡◌, ◌<◌, ◌≤◌, ◌+◌, ◌^◌, ◌++◌, ◌↔◌, List, ℕ, length, take, drop, vec_len, IfOk, IsErrOf};
+ghost use Rattle.std.specs.Prelude.{◌≡◌, ◌<◌, ◌≤◌, ◌+◌, ◌^◌, ◌++◌, ◌⊎◌, length, take, drop, IfOk, IsErrOf};
 ghost use Rattle.tilt_outside.specs.Faults.{Rose};
+ghost use Rattle.tilt_outside.specs.Reads.{OnlyReads};
 ghost use Rattle.tilt_outside.specs.declared.whole_file.ReadAllFault.TheVariants.{ReadFault, OutOfMemory};
 
 use crate::failed::Failed;
@@ -41,8 +42,9 @@ impl From<AllocError> for ReadAllFault {
     }
 }
 
-/// Reads the whole file of that name, which may have up to `limit` bytes. `TooLong` comes where more were read,
-/// `ReadFault` where a read failed, and `OutOfMemory` where there was no memory for the bytes. It changes no name.
+/// Reads the whole file of that name, which may have up to `limit` bytes. It takes at most one byte more. `TooLong` comes
+/// where that many were taken, `ReadFault` where a read failed, and `OutOfMemory` where there was no memory for the bytes.
+/// It changes no name.
 pub fn read_all<S: Shelf>(
     alloc: Global,
     shelf: &mut S,
@@ -56,11 +58,16 @@ pub fn read_all<S: Shelf>(
     ensures too_long { S.tells → IsErrOf result ReadAllFault.TooLong → limit < length (S.files shelf.old name.now) }
     ensures read_fault { IsErrOf result ReadAllFault.ReadFault → Rose (S.read_faults shelf.old) (S.read_faults shelf.new) }
 
+    // How many bytes were taken, whether the shelf tells them or not.
+    ensures taken { IfOk result (λ bytes. S.given shelf.new ≡ S.given shelf.old + length bytes.items) }
+    ensures passed { IsErrOf result ReadAllFault.TooLong → S.given shelf.new ≡ S.given shelf.old + (limit + 1) }
+    ensures only_passed { S.given shelf.new ≡ S.given shelf.old + (limit + 1)
+        → IsErrOf result ReadAllFault.TooLong ⊎ IsErrOf result ReadAllFault.OutOfMemory }
+    ensures most { S.given shelf.new ≤ S.given shelf.old + (limit + 1) }
+
     // What stands after it, whatever the answer.
-    ensures files { S.files shelf.new ≡ S.files shelf.old }
     ensures kept { S.read_faults shelf.old ≤ S.read_faults shelf.new }
-    ensures save_faults { S.save_faults shelf.new ≡ S.save_faults shelf.old }
-    ensures takes { (other : List ℕ) (n : ℕ) → S.takes shelf.old other n ↔ S.takes shelf.new other n }
+    ensures rest { OnlyReads S.files S.save_faults S.takes shelf.old shelf.new }
 {
     let mut room = make_room(alloc, PIECE)?;
     let bytes = take_up_to(alloc, shelf, name, limit + 1, &mut room)?;
@@ -77,7 +84,7 @@ fn make_room(alloc: Global, size: usize) -> Result<Vec<u8>, AllocError>
     vec![in alloc; 0u8; size]
 }
 
-// The first bytes of the file, up to `most`.
+// The first bytes of the file, up to `most`, which isn't 0.
 fn take_up_to<S: Shelf>(
     alloc: Global,
     shelf: &mut S,
@@ -87,14 +94,16 @@ fn take_up_to<S: Shelf>(
 ) -> Result<Vec<u8>, ReadAllFault>
     requires lent { S.lends name.now }
     requires space { 0 < length room.old }
+    requires some { 0 < most }
     ensures front { S.tells → IfOk result (λ bytes. bytes.items ≡ take most (S.files shelf.old name.now)) }
     ensures bound { IfOk result (λ bytes. length bytes.items ≤ most) }
     ensures too_long { IsErrOf result ReadAllFault.TooLong → ⊥ }
     ensures read_fault { IsErrOf result ReadAllFault.ReadFault → Rose (S.read_faults shelf.old) (S.read_faults shelf.new) }
-    ensures files { S.files shelf.new ≡ S.files shelf.old }
+    ensures taken { IfOk result (λ bytes. S.given shelf.new ≡ S.given shelf.old + length bytes.items) }
+    ensures unfinished { IsErrOf result ReadAllFault.ReadFault → S.given shelf.new < S.given shelf.old + most }
+    ensures most { S.given shelf.new ≤ S.given shelf.old + most }
     ensures kept { S.read_faults shelf.old ≤ S.read_faults shelf.new }
-    ensures save_faults { S.save_faults shelf.new ≡ S.save_faults shelf.old }
-    ensures takes { (other : List ℕ) (n : ℕ) → S.takes shelf.old other n ↔ S.takes shelf.new other n }
+    ensures rest { OnlyReads S.files S.save_faults S.takes shelf.old shelf.new }
 {
     let mut bytes = Vec::new(alloc);
     while (bytes.len() as u64) < most {
@@ -124,10 +133,11 @@ fn take_piece<S: Shelf>(
         → length (S.files shelf.old name.now) ≤ length bytes.old.items) }
     ensures too_long { IsErrOf result ReadAllFault.TooLong → ⊥ }
     ensures read_fault { IsErrOf result ReadAllFault.ReadFault → Rose (S.read_faults shelf.old) (S.read_faults shelf.new) }
-    ensures files { S.files shelf.new ≡ S.files shelf.old }
+    ensures taken { IfOk result (λ n. S.given shelf.new ≡ S.given shelf.old + n) }
+    ensures nothing { IsErrOf result ReadAllFault.ReadFault → S.given shelf.new ≡ S.given shelf.old }
+    ensures most { S.given shelf.new ≤ S.given shelf.old + length room.old }
     ensures kept { S.read_faults shelf.old ≤ S.read_faults shelf.new }
-    ensures save_faults { S.save_faults shelf.new ≡ S.save_faults shelf.old }
-    ensures takes { (other : List ℕ) (n : ℕ) → S.takes shelf.old other n ↔ S.takes shelf.new other n }
+    ensures rest { OnlyReads S.files S.save_faults S.takes shelf.old shelf.new }
 {
     let taken = shelf.read_at(name, bytes.len() as u64, room)?;
     bytes.extend_from_slice(&room[..taken])?;
@@ -162,6 +172,8 @@ mod tests {
                 Err(ReadAllFault::TooLong)
             };
             assert_eq!(rt; read, want, "{length} bytes, limit {limit}");
+            let most = u64::from(limit).saturating_add(1);
+            assert_eq!(rt; shelf.given(), (length as u64).min(most));
         }
         Ok(())
     }

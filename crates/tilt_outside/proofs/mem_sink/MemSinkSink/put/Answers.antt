@@ -4,8 +4,13 @@ use Rattle.tilt_outside.proofs.Fronts.{AppendsFront-take}
 use Rattle.tilt_outside.proofs.mem_sink.MemSinkSink.put.Goals as goal
 use Rattle.tilt_outside.proofs.mem_sink.MemSinkSink.put.Goals.{then-piece-self-via-then-piece-self, then-piece-self-via-else-piece-self+then-contains}
 
-pub returns-then-piece-self-clause-front : goal.returns-then-piece-self-clause-front
-returns-then-piece-self-clause-front c = λ _. rw (c.append.ensures.appended, ← c.self.view_is) (AppendsFront-take _ _ _)
+pub returns-then-piece-self-clause-puts : goal.returns-then-piece-self-clause-puts
+returns-then-piece-self-clause-puts c = record {
+  whole = λ _. tt;
+  front = λ _. rw (c.append.ensures.appended, ← c.self.view_is) (AppendsFront-take _ _ _);
+  cause = search rules;
+  room = λ _ _. tt;
+}
 
 pub returns-then-piece-self-clause-fails : goal.returns-then-piece-self-clause-fails
 returns-then-piece-self-clause-fails c =

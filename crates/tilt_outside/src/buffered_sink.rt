@@ -1,0 +1,133 @@
+// A sink over a writer of the standard library, with a buffer before it.
+ghost use Rattle.std.specs.Io.KnownBytes.{Appends};
+ghost use Rattle.std.specs.Prelude.{◌≡◌, ⊤, [], IfOk, OnOk};
+ghost use Rattle.tilt_outside.specs.Written.{Puts};
+
+use crate::failed::Failed;
+use crate::sink::Sink;
+use std::alloc::{AllocError as OutOfMemory, Global};
+use std::io::{BufWriter, Write};
+use std::marker::Model;
+
+/// How many bytes the buffer holds.
+const ROOM: usize = 65536;
+
+/// A sink that writes to a writer of the standard library through a buffer of 64 KiB. A fault of the writer shows at the put
+/// that finds the buffer full, or at the flush. A writer of the system says nothing of what reaches it.
+#[derive(Drop)]
+pub struct BufferedSink<W: Write + Drop> {
+    writer: BufWriter<W>,
+    faults: u64,
+}
+
+impl<W: Write + Drop> Model for BufferedSink<W> {
+    ghost use Rattle.std.specs.Prelude.{length};
+    ghost use Rattle.std.specs.Io.Buffered.{writer_buffer, writer_contents};
+    ghost use Rattle.tilt_outside.specs.StdSink.{WriterState};
+
+    ghost Value = { WriterState };
+
+    ghost view = { λ s. record {
+      contents = writer_contents W.contents s.writer;
+      held_back = length (writer_buffer s.writer);
+      faults = s.faults;
+    } };
+}
+
+impl<W: Write + Drop> BufferedSink<W> {
+    /// A sink over the writer, with no fault yet. It takes the memory of the buffer.
+    pub fn new(alloc: Global, writer: W) -> Result<BufferedSink<W>, OutOfMemory>
+        ensures { IfOk result (λ sink. (sink.held_back ≡ 0) × (sink.faults ≡ 0)) }
+    {
+        match BufWriter::with_capacity(alloc, ROOM, writer) {
+            Ok(writer) => Ok(BufferedSink { writer, faults: 0 }),
+            Err(_) => Err(OutOfMemory),
+        }
+    }
+}
+
+impl<W: Write + Drop> Sink for BufferedSink<W> {
+    ghost tells = { ⊥ };
+
+    ghost written = { λ _. [] };
+
+    ghost held_back = { λ sink. sink.held_back };
+
+    ghost faults = { λ sink. sink.faults };
+
+    ghost takes = { λ _ _. ⊤ };
+
+    /// Where the writer is known to hold its bytes, the piece is appended to them and to those that are held back.
+    fn put(&mut self, piece: &[u8]) -> Result<(), Failed>
+        ensures puts { Puts ⊥ (λ _. []) (λ sink. sink.faults) (λ _ _. ⊤) self.old self.new piece.now result }
+
+        ensures bytes { OnOk result
+            (Appends self.old.contents self.new.contents piece.now) }
+    {
+        if self.writer.write_all(piece).is_ok() {
+            return Ok(());
+        }
+        self.faults = self.faults.saturating_add(1);
+        Err(Failed)
+    }
+
+    fn flush(&mut self) -> Result<(), Failed> {
+        if self.writer.flush().is_ok() {
+            return Ok(());
+        }
+        self.faults = self.faults.saturating_add(1);
+        Err(Failed)
+    }
+
+    ghost takes_fewer = { λ _ _ _ _ takes. takes };
+}
+
+#[cfg(test)]
+mod tests {
+    use super::*;
+    use crate::failed::Failed;
+    use std::cell::Cell;
+    use std::io;
+    use std::io::ErrorKind;
+    use std::test::Fail;
+
+    // Counts what it is given, and fails from a byte on.
+    #[derive(Drop)]
+    struct CountingWriter<'a> {
+        taken: &'a Cell<usize>,
+        most: usize,
+    }
+
+    impl Write for CountingWriter<'_> {
+        fn write(&mut self, bytes: &[u8]) -> io::Result<usize> {
+            let count = bytes.len().min(self.most.saturating_sub(self.taken.get()));
+            if count == 0 {
+                return Err(io::Error::from(ErrorKind::StorageFull));
+            }
+            self.taken.set(self.taken.get().saturating_add(count));
+            Ok(count)
+        }
+
+        fn flush(&mut self) -> io::Result<()> {
+            Ok(())
+        }
+    }
+
+    #[test]
+    fn pieces_are_held_back_until_the_flush(rt: HostRuntime) -> Result<(), Fail> {
+        let taken = Cell::new(0usize);
+        let writer = CountingWriter {
+            taken: &taken,
+            most: 8,
+        };
+        let mut sink = BufferedSink::new(rt.alloc(), writer)?;
+        assert_eq!(rt; sink.put(b"piece"), Ok(()));
+        assert_eq!(rt; taken.get(), 0);
+        assert_eq!(rt; sink.flush(), Ok(()));
+        assert_eq!(rt; taken.get(), 5);
+        assert_eq!(rt; sink.put(b"piece"), Ok(()));
+        assert_eq!(rt; sink.flush(), Err(Failed));
+        assert_eq!(rt; (taken.get(), sink.faults), (8, 1));
+        Ok(())
+    }
+}
