@@ -1,5 +1,5 @@
 -- The fields of a record that has three.
-use Rattle.std.proofs.Common.{◌≡◌, ℕ, zero, suc, ◌<◌, List, [], ◌∷◌, length, Some, None, refl, arith}
+use Rattle.std.proofs.Common.{◌≡◌, ℕ, zero, suc, ◌<◌, List, [], ◌∷◌, length, Some, None, arith}
 use Rattle.csv.specs.Records.{field_at}
 use Rattle.tilt_series.specs.Series.{three_of}
 
@@ -18,11 +18,3 @@ three_fields_of (x ∷ []) a b c h e0 e1 e2 = cc e1
 three_fields_of (x ∷ y ∷ []) a b c h e0 e1 e2 = cc e2
 three_fields_of (x ∷ y ∷ z ∷ []) a b c h e0 e1 e2 = cc
 three_fields_of (x ∷ y ∷ z ∷ w ∷ more) a b c h e0 e1 e2 = absurd (omega arith)
-
--- no other number of fields is three
-pub not_three_fields : (fields : List (List ℕ)) → (length fields ≡ 3 → ⊥) → None ≡ three_of fields
-not_three_fields [] h = refl
-not_three_fields (x ∷ []) h = refl
-not_three_fields (x ∷ y ∷ []) h = refl
-not_three_fields (x ∷ y ∷ z ∷ []) h = absurd (h refl)
-not_three_fields (x ∷ y ∷ z ∷ w ∷ more) h = refl

@@ -1,10 +1,9 @@
 -- Puts, one behind another.
-use Rattle.std.proofs.Common.{◌≡◌, ℕ, ◌<◌, ◌+◌, Bool, true, false, if◌then◌else◌, List, [], ◌∷◌, ◌++◌, length, get_or, take, drop, is_some, Result, Ok, Err, OnErr, refl, ap, sym, ◌∙◌, append_assoc, length-append}
+use Rattle.std.proofs.Common.{arith, ◌≡◌, ℕ, ◌≤◌, ◌<◌, ◌+◌, Bool, true, false, if◌then◌else◌, List, [], ◌∷◌, ◌++◌, length, get_or, take, drop, is_some, Result, Ok, Err, OnErr, refl, ap, sym, ◌∙◌, append_assoc, length-append}
 use Rattle.std.proofs.lemmas.List.{take-append-drop, take_more}
 use Rattle.tilt_stream.specs.Snap.{Snapshot}
 use Rattle.tilt_stream.specs.Text.{row_text, lines_of}
 use Rattle.tilt_stream.proofs.Order.{drop-at}
-use Rattle.tilt_outside.specs.Written.{AppendsFront}
 
 pub on_err : {T E P : Type 0} (r : Result T E) → P → OnErr r P
 on_err (Ok x) p = tt
@@ -19,20 +18,6 @@ pub lines_of-append : (xs ys : List Snapshot) → lines_of (xs ++ ys) ≡ lines_
 lines_of-append [] ys = refl
 lines_of-append (x ∷ xs) ys =
     rw (lines_of-append xs ys) (by_value (is_some x.value) (row_text x) (lines_of xs) (lines_of ys))
-
--- a piece that was cut short behind what was put whole
-pub front_behind : (old mid new done piece more all : List ℕ) → mid ≡ old ++ done → AppendsFront mid new piece → all ≡ done ++ (piece ++ more) → AppendsFront old new all
-front_behind old mid new done piece more all whole cut is = record {
-  front = done ++ cut.front;
-  rest = cut.rest ++ more;
-  parts = is ∙ rw cut.parts (simp append_assoc);
-  appended = cut.appended ∙ rw whole (append_assoc old done cut.front);
-}
-
--- a whole piece behind what was put whole
-pub whole_behind : (old mid new done piece all : List ℕ) → mid ≡ old ++ done → new ≡ mid ++ piece → all ≡ done ++ piece → new ≡ old ++ all
-whole_behind old mid new done piece all whole more is =
-    more ∙ rw (whole, is) (append_assoc old done piece)
 
 -- the lines from a place on are that of the snapshot there, and the others
 pub lines_of-drop : (list : List Snapshot) (s : Snapshot) (i : ℕ) → i < length list → s ≡ get_or list i s → lines_of (drop i list) ≡ lines_of (s ∷ []) ++ lines_of (drop (i + 1) list)
@@ -49,7 +34,10 @@ pub lines_of-parts : (list : List Snapshot) (s : Snapshot) (i : ℕ) → i < len
 lines_of-parts list s i h is =
     ap lines_of (sym (take-append-drop i list)) ∙ lines_of-append (take i list) (drop i list) ∙ ap (λ (l : List ℕ). lines_of (take i list) ++ l) (lines_of-drop list s i h is)
 
--- how long the lines from a place on are
-pub length_lines : (list : List Snapshot) (s : Snapshot) (i : ℕ) → i < length list → s ≡ get_or list i s → length (lines_of (drop i list)) ≡ length (lines_of (s ∷ [])) + length (lines_of (drop (i + 1) list))
-length_lines list s i h is =
-    ap length (lines_of-drop list s i h is) ∙ length-append (lines_of (s ∷ [])) (lines_of (drop (i + 1) list))
+-- the lines up to a place and the one there are no longer than all
+pub length_front : (list : List Snapshot) (s : Snapshot) (i : ℕ) → i < length list → s ≡ get_or list i s → length (lines_of (take i list)) + length (lines_of (s ∷ [])) ≤ length (lines_of list)
+length_front list s i h is =
+    let front = lines_of (take i list) in
+    let behind = lines_of (drop (i + 1) list) in
+    let all = ap length (lines_of-parts list s i h is) ∙ length-append front (lines_of (s ∷ []) ++ behind) in
+    omega (arith, all, length-append (lines_of (s ∷ [])) behind)

@@ -8,7 +8,9 @@ use Rattle.tilt_base.specs.Number.{number_spelled}
 use Rattle.tilt_base.specs.declared.limits.TheConstants.{T}
 use Rattle.tilt_stream.specs.Snap.{Snapshot}
 use Rattle.tilt_series.specs.declared.fault.SeriesFault.{SeriesFault}
-use Rattle.tilt_series.specs.declared.fault.SeriesFault.TheVariants.{BadHeader, BadFields, BadField, TimeRange, EmptyInterval, OutOfOrder, RowBeforeCut, RowPastCut, OutOfMemory}
+use Rattle.tilt_series.specs.declared.fault.SeriesFault.TheVariants.{BadHeader, BadFields, BadField, TimeRange, EmptyInterval, OutOfOrder, RowBeforeCut, RowPastCut}
+use Rattle.tilt_series.specs.declared.fault.ReadRowsFault.{ReadRowsFault}
+use Rattle.tilt_series.specs.declared.fault.ReadRowsFault.TheVariants.{Refused, OutOfMemory}
 
 infixl 10 ◌>>=◌
 -- the next step, unless there was a fault
@@ -104,12 +106,8 @@ series_of bounds bytes =
     if starts_with nat_eq bytes (byte_order_mark ++ byte_order_mark) then Err BadHeader
     else rows_behind_header bounds (records default_config (strip_bom bytes))
 
--- that refusal is what was read, unless memory ran out
-abbrev pub Refuses : SeriesFault → Result (List Snapshot) SeriesFault → Type 0
-Refuses OutOfMemory read = Unit {0}
-Refuses fault read = read ≡ Err fault
-
 -- that answer is what was read, unless memory ran out
-abbrev pub Gives : Result (List Snapshot) SeriesFault → Result (List Snapshot) SeriesFault → Type 0
+abbrev pub Gives : Result (List Snapshot) ReadRowsFault → Result (List Snapshot) SeriesFault → Type 0
 Gives (Ok rows) read = read ≡ Ok rows
-Gives (Err fault) read = Refuses fault read
+Gives (Err (Refused fault)) read = read ≡ Err fault
+Gives (Err OutOfMemory) read = Unit {0}

@@ -1,6 +1,6 @@
 // Why a series is refused.
 ghost use Rattle.std.specs.Prelude.{◌≡◌};
-ghost use Rattle.tilt_series.specs.declared.fault.SeriesFault.TheVariants.{OutOfMemory};
+ghost use Rattle.tilt_series.specs.declared.fault.ReadRowsFault.TheVariants.{Refused, OutOfMemory};
 
 use std::alloc::AllocError;
 use thiserror::Error;
@@ -56,15 +56,31 @@ pub enum SeriesFault {
         /// The row.
         row: u64,
     },
+}
+
+/// Why a series file gives no rows.
+#[derive(Clone, Copy, Debug, PartialEq, Eq, Error)]
+pub enum ReadRowsFault {
+    /// The file is refused.
+    #[error("{0}")]
+    Refused(SeriesFault),
     /// There was no memory for the rows.
     #[error("out of memory")]
     OutOfMemory,
 }
 
-impl From<AllocError> for SeriesFault {
+impl From<SeriesFault> for ReadRowsFault {
+    ghost from_gives = { λ fault told. told ≡ Refused fault };
+
+    fn from(fault: SeriesFault) -> Self {
+        ReadRowsFault::Refused(fault)
+    }
+}
+
+impl From<AllocError> for ReadRowsFault {
     ghost from_gives = { λ _ fault. fault ≡ OutOfMemory };
 
     fn from(_: AllocError) -> Self {
-        SeriesFault::OutOfMemory
+        ReadRowsFault::OutOfMemory
     }
 }

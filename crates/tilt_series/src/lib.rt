@@ -2,7 +2,7 @@
 //!
 //! What comes in is the bytes of a file; what goes out is its rows, or the first fault: the clause of `read_rows`, over
 //! the definition `series_of`. The other way, `put_header` and `put_rows` put the text of snapshots, line by line: their
-//! clause `whole`.
+//! clauses.
 #![tactic(auto)]
 
 mod bounds;
@@ -14,6 +14,6 @@ mod series;
 #[cfg(test)]
 mod tests;
 
-pub use fault::SeriesFault;
+pub use fault::{ReadRowsFault, SeriesFault};
 pub use print::{put_header, put_rows, row_text};
 pub use series::read_rows;

@@ -2,8 +2,7 @@
 ghost use Rattle.std.specs.Prelude.{◌≡◌, ◌≤◌, ◌+◌, [], ◌∷◌, ◌++◌, ℕ, ℤ, length, take, codes, OnOk, OnErr};
 ghost use Rattle.std.specs.Fmt.{signed_decimal};
 ghost use Rattle.tilt_stream.specs.Text.{row_text, lines_of};
-ghost use Rattle.tilt_outside.specs.Faults.{HasCause};
-ghost use Rattle.tilt_outside.specs.Written.{AppendsFront};
+ghost use Rattle.tilt_outside.specs.Written.{Puts};
 
 use itoa::Buffer;
 use tilt_outside::{Failed, Sink};
@@ -12,10 +11,7 @@ use tilt_stream::{Row, Snap, SnapList};
 /// Puts the header line by one put.
 pub fn put_header<O: Sink>(sink: &mut O) -> Result<(), Failed>
     requires { O.takes sink.old (length (codes "start,end,value\n")) }
-    ensures whole { O.tells → OnOk result (O.written sink.new ≡ O.written sink.old ++ codes "start,end,value\n") }
-    ensures front { O.tells → OnErr result (AppendsFront (O.written sink.old) (O.written sink.new) (codes "start,end,value\n")) }
-    ensures cause { HasCause (O.faults sink.old) (O.faults sink.new) result }
-    ensures room { (n : ℕ) → O.takes sink.old (length (codes "start,end,value\n") + n) → O.takes sink.new n }
+    ensures { Puts O.tells O.written O.faults O.takes sink.old sink.new (codes "start,end,value\n") result }
 {
     sink.put(b"start,end,value\n")
 }
@@ -23,10 +19,7 @@ pub fn put_header<O: Sink>(sink: &mut O) -> Result<(), Failed>
 /// Puts the line of each snapshot that isn't null, in order, by one put a line.
 pub fn put_rows<O: Sink>(sink: &mut O, list: &SnapList) -> Result<(), Failed>
     requires { O.takes sink.old (length (lines_of list.now)) }
-    ensures whole { O.tells → OnOk result (O.written sink.new ≡ O.written sink.old ++ lines_of list.now) }
-    ensures front { O.tells → OnErr result (AppendsFront (O.written sink.old) (O.written sink.new) (lines_of list.now)) }
-    ensures cause { HasCause (O.faults sink.old) (O.faults sink.new) result }
-    ensures room { (n : ℕ) → O.takes sink.old (length (lines_of list.now) + n) → O.takes sink.new n }
+    ensures { Puts O.tells O.written O.faults O.takes sink.old sink.new (lines_of list.now) result }
 {
     for snap in list.as_slice() {
         put_snap(sink, snap)?;
@@ -37,10 +30,7 @@ pub fn put_rows<O: Sink>(sink: &mut O, list: &SnapList) -> Result<(), Failed>
 // Puts the line of a snapshot, and nothing for a null one.
 fn put_snap<O: Sink>(sink: &mut O, snap: &Snap) -> Result<(), Failed>
     requires { O.takes sink.old (length (lines_of (snap.now ∷ []))) }
-    ensures whole { O.tells → OnOk result (O.written sink.new ≡ O.written sink.old ++ lines_of (snap.now ∷ [])) }
-    ensures front { O.tells → OnErr result (AppendsFront (O.written sink.old) (O.written sink.new) (lines_of (snap.now ∷ []))) }
-    ensures cause { HasCause (O.faults sink.old) (O.faults sink.new) result }
-    ensures room { (n : ℕ) → O.takes sink.old (length (lines_of (snap.now ∷ [])) + n) → O.takes sink.new n }
+    ensures { Puts O.tells O.written O.faults O.takes sink.old sink.new (lines_of (snap.now ∷ [])) result }
 {
     if snap.value.is_some() {
         put_row(sink, snap)
@@ -52,10 +42,7 @@ fn put_snap<O: Sink>(sink: &mut O, snap: &Snap) -> Result<(), Failed>
 // Puts the line of a row by one put.
 fn put_row<O: Sink>(sink: &mut O, row: &Row) -> Result<(), Failed>
     requires { O.takes sink.old (length (row_text row.now)) }
-    ensures whole { O.tells → OnOk result (O.written sink.new ≡ O.written sink.old ++ row_text row.now) }
-    ensures front { O.tells → OnErr result (AppendsFront (O.written sink.old) (O.written sink.new) (row_text row.now)) }
-    ensures cause { HasCause (O.faults sink.old) (O.faults sink.new) result }
-    ensures room { (n : ℕ) → O.takes sink.old (length (row_text row.now) + n) → O.takes sink.new n }
+    ensures { Puts O.tells O.written O.faults O.takes sink.old sink.new (row_text row.now) result }
 {
     let mut room = [0; 64];
     let length = row_text(row, &mut room);

@@ -4,7 +4,7 @@ ghost use Rattle.tilt_series.specs.Records.{IsBetween, records_left};
 ghost use Rattle.tilt_series.specs.Series.{Gives, rows_of, series_of};
 
 use crate::bounds::Bounds;
-use crate::fault::SeriesFault;
+use crate::fault::{ReadRowsFault, SeriesFault};
 use crate::records::{next_record, open};
 use crate::row::{is_header, read_row};
 use csv::{ByteRecord, Reader};
@@ -14,7 +14,7 @@ use tilt_stream::Rows;
 /// Two byte order marks, U+FEFF in UTF-8.
 const TWO_MARKS: &[u8] = b"\xEF\xBB\xBF\xEF\xBB\xBF";
 
-/// The rows of a series file, or its first fault. The first record is the header `start,end,value`, and each other is a
+/// The rows of a series file, or its first fault (`Refused`). The first record is the header `start,end,value`, and each other is a
 /// row. Records are those of the crate `csv`, which takes more than RFC 4180: fields parted by commas, fields in quotes,
 /// records ended by LF, CR or CRLF, empty lines skipped. One byte order mark in front is passed over.
 ///
@@ -26,16 +26,16 @@ pub fn read_rows(
     last_end: Option<i64>,
     from: Option<i64>,
     upto: Option<i64>,
-) -> Result<Rows, SeriesFault>
+) -> Result<Rows, ReadRowsFault>
     ensures { Gives result (series_of (record { last_end = last_end; from = from; upto = upto }) bytes.now) }
 {
     if bytes.starts_with(TWO_MARKS) {
-        return Err(SeriesFault::BadHeader);
+        return Err(ReadRowsFault::Refused(SeriesFault::BadHeader));
     }
     let mut reader = open(alloc, bytes);
     let mut fields = ByteRecord::new(alloc);
     if !next_record(&mut reader, &mut fields)? || !is_header(&fields) {
-        return Err(SeriesFault::BadHeader);
+        return Err(ReadRowsFault::Refused(SeriesFault::BadHeader));
     }
     let bounds = Bounds {
         last_end,
@@ -51,7 +51,7 @@ fn read_behind_header(
     reader: &mut Reader<&[u8]>,
     fields: &mut ByteRecord,
     bounds: Bounds,
-) -> Result<Rows, SeriesFault>
+) -> Result<Rows, ReadRowsFault>
     requires { IsBetween reader.old }
     ensures { Gives result (rows_of bounds 1 (records_left reader.old)) }
 {
@@ -65,5 +65,5 @@ fn read_behind_header(
         rows.push(read_row(fields, row, here)?)?;
     }
     // No memory holds so many rows.
-    Err(SeriesFault::OutOfMemory)
+    Err(ReadRowsFault::OutOfMemory)
 }

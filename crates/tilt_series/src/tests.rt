@@ -1,5 +1,5 @@
 // Series and texts that no clause fixes: what the crate `csv` takes for a record, and what memory is found for.
-use crate::{SeriesFault, put_header, put_rows, read_rows, row_text};
+use crate::{ReadRowsFault, SeriesFault, put_header, put_rows, read_rows, row_text};
 use std::test::Fail;
 use tilt_outside::MemSink;
 use tilt_stream::{Row, Rows, SnapList};
@@ -52,7 +52,7 @@ fn a_series_is_refused_at_its_first_fault(rt: HostRuntime) {
         ),
     ] {
         let fault = read_rows(rt.alloc(), text.as_bytes(), None, None, None).err();
-        assert_eq!(rt; fault, Some(want), "at {text}");
+        assert_eq!(rt; fault, Some(ReadRowsFault::Refused(want)), "at {text}");
     }
 }
 
@@ -84,7 +84,7 @@ fn a_row_outside_of_the_cut_is_refused(rt: HostRuntime) {
         ("start,end,value\n5,6,1\n", Some(5), Some(5), None, None),
     ] {
         let fault = read_rows(rt.alloc(), text.as_bytes(), last_end, from, upto).err();
-        assert_eq!(rt; fault, want, "at {text}");
+        assert_eq!(rt; fault, want.map(ReadRowsFault::Refused), "at {text}");
     }
 }
 
