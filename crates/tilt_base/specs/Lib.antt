@@ -1,3 +1,4 @@
+pub mod Expression
 pub mod Grid
 pub mod Number
 pub mod Reduce

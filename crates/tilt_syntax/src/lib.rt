@@ -1,6 +1,14 @@
-//! The tree of a query's text. So far it has the span of ticks that a query writes behind `over`.
+//! The tree of a query's text.
 #![tactic(auto)]
 
+mod expr;
+mod fault;
+mod query;
 mod span;
+mod statement;
 
+pub use expr::Expr;
+pub use fault::SyntaxFault;
+pub use query::Query;
 pub use span::Span;
+pub use statement::Statement;

@@ -1,0 +1,5 @@
+pub mod Grammar
+pub mod Printing
+pub mod Query
+pub mod Stored
+pub mod Tree

@@ -1,0 +1,25 @@
+use crate::expr::Expr;
+use crate::span::Span;
+use tilt_lexer::Name;
+
+/// A statement of a query.
+#[derive(Debug, Drop)]
+pub enum Statement {
+    /// `input name;` declares a stream that is read from a file.
+    Input {
+        name: Name,
+    },
+    /// `let name = expr;` defines a stream, with the ticks behind `over` and the period behind `every`, where they stand.
+    Let {
+        name: Name,
+        expr: Expr,
+        over: Option<Span>,
+        every: Option<i64>,
+    },
+    /// `emit expr over (start, end];` is what the query gives on these ticks.
+    Emit {
+        expr: Expr,
+        over: Span,
+        every: Option<i64>,
+    },
+}
