@@ -83,10 +83,10 @@ pub record BeginsBig (bytes : List ℕ) : Type 0 where
   pub begins : Begins (tok.Number number) bytes text rest
   pub above : greatest_number <ℤ number
 
--- a name is no reserved word, and a number isn't negative
+-- a name is a word and no reserved one, and a number isn't negative and not above the greatest
 abbrev pub IsSound : Tok → Type 0
-IsSound (tok.Word name) = ¬ (IsReserved name)
-IsSound (tok.Number n) = pos 0 ≤ℤ n
+IsSound (tok.Word name) = IsWord name × ¬ (IsReserved name)
+IsSound (tok.Number n) = pos 0 ≤ℤ n × n ≤ℤ greatest_number
 IsSound (tok.Key k) = ⊤
 IsSound (tok.Mark m) = ⊤
 
