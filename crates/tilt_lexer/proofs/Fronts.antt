@@ -36,7 +36,7 @@ module _ (p : ℕ → Bool) where
       elim (cases_Bool (p x)) [ inl passes ↦ rw passes (omega (arith, prefix_fits xs)) | inr stops ↦ rw stops (omega arith) ]
 
 -- a word goes on as far as letters, digits and `_` go
-word_goes_on : (text : List ℕ) → IsWord text → list_all goes_on_word text ≡ true
+pub word_goes_on : (text : List ℕ) → IsWord text → list_all goes_on_word text ≡ true
 word_goes_on [] h = refl
 word_goes_on (b ∷ bs) h =
     let parts = and_parts (begins_word b) (list_all goes_on_word bs) h in

@@ -1,1 +1,4 @@
+pub mod Spelling
+pub mod Spelt
 pub mod Unique
+pub mod Written
