@@ -1,3 +1,4 @@
+pub mod Cuts
 pub mod Spelling
 pub mod Spelt
 pub mod Unique
