@@ -1,0 +1,107 @@
+-- The printed tokens of a statement are sound where some tokens of it are.
+use Rattle.std.proofs.Common.{◌≡◌, inl, inr, ℕ, zero, suc, ℤ, pos, negsuc, true, false, List, [], ◌∷◌, ◌++◌, Option, Some, None, nat_lt, arith, subst, sym}
+use Rattle.std.proofs.lemmas.Bool.{cases_Bool}
+use Rattle.std.proofs.lemmas.Int.{ints}
+use Rattle.tilt_base.specs.Expression.{Leaf, One, Two, If}
+use Rattle.tilt_lexer.specs.declared.mark.Mark.TheVariants as mark
+use Rattle.tilt_lexer.specs.declared.token.Tok.{Tok}
+use Rattle.tilt_lexer.specs.declared.token.Tok.TheVariants.{Word, Number, Key as Reserved, Mark as Sign}
+use Rattle.tilt_lexer.specs.Tokens.{IsSound}
+use Rattle.tilt_syntax.specs.Grammar.{Infix, infix_of, IsOffset, now, later, earlier, IsExpr, tighter, choice, between, negation, minus, number, true_word, false_word, name, reading, window, is_null, if_null, enclosed, IsBound, from_zero, below_zero, IsSpan, over, MayBeSpan, no_span, some_span, MayBePeriod, no_period, some_period, IsStatement, input, definition, emission}
+use Rattle.tilt_syntax.specs.Printing.{level_of, level2}
+use Rattle.tilt_syntax.specs.Tree.{ExprTree, StatementTree}
+use Rattle.tilt_syntax.specs.declared.span.Span.{Span}
+use Rattle.tilt_syntax.proofs.Spelling.{AreSound}
+use Rattle.tilt_syntax.proofs.Written.{place_tokens, offset_tokens, reading_tokens, operands_tokens, expr_tokens, bound_tokens, span_tokens, domain_tokens, period_tokens, statement_tokens}
+
+-- tokens one after another are sound where both are
+pub sound_parts : (ts us : List Tok) → AreSound (ts ++ us) → AreSound ts × AreSound us
+sound_parts [] us s = (tt, s)
+sound_parts (t ∷ ts) us s = let parts = sound_parts ts us s.1 in ((s.0, parts.0), parts.1)
+
+both : (ts us : List Tok) → AreSound ts → AreSound us → AreSound (ts ++ us)
+both [] us h g = g
+both (t ∷ ts) us h g = (h.0, both ts us h.1 g)
+
+place_sound : (place level : ℕ) (ts : List Tok) → AreSound ts → AreSound (place_tokens place level ts)
+place_sound place level ts h =
+    elim (cases_Bool (nat_lt level place)) [ inl lower ↦ rw lower (tt, both ts (Sign mark.CloseParen ∷ []) h (tt, tt)) | inr not_lower ↦ rw not_lower h ]
+
+offset_sound : {ts : List Tok} {d : ℤ} → IsOffset ts d → AreSound ts → AreSound (offset_tokens d)
+offset_sound now s = s
+offset_sound (later {n = pos zero}) s = (tt, tt)
+offset_sound (later {n = pos (suc n)}) s = s
+offset_sound (later {n = negsuc n}) s = absurd (omega (arith, ints, s.1.1.0.0))
+offset_sound (earlier {n = pos zero}) s = (tt, tt)
+offset_sound (earlier {n = pos (suc n)}) s = s
+offset_sound (earlier {n = negsuc n}) s = absurd (omega (arith, ints, s.1.1.0.0))
+
+reading_sound : (x : List ℕ) (d : ℤ) → IsSound (Word x) → AreSound (offset_tokens d) → AreSound (reading_tokens x d)
+reading_sound x (pos zero) w s = (w, tt)
+reading_sound x (pos (suc n)) w s = (w, (tt, both (offset_tokens (pos (suc n))) (Sign mark.CloseBracket ∷ []) s (tt, tt)))
+reading_sound x (negsuc n) w s = (w, (tt, both (offset_tokens (negsuc n)) (Sign mark.CloseBracket ∷ []) s (tt, tt)))
+
+operands_sound : (o : Option Infix) (i : Infix) (l m : ℕ) (ts us : List Tok) → o ≡ Some i → IsSound i.sign → AreSound ts → AreSound us → AreSound (operands_tokens o l ts m us)
+operands_sound o i l m ts us e s h g =
+    rw e (both (place_tokens i.left l ts) (i.sign ∷ place_tokens i.right m us) (place_sound i.left l ts h) (s, place_sound i.right m us g))
+
+pub expr_sound : {level : ℕ} {ts : List Tok} {e : ExprTree} → IsExpr level ts e → AreSound ts → AreSound (expr_tokens e)
+expr_sound (tighter h) s = expr_sound h s
+expr_sound (choice {ts = ts} {us = us} {vs = vs} {c = c} {a = a} {b = b} hc ha hb) s =
+    let first = sound_parts ts _ s.1 in
+    let second = sound_parts us _ first.1.1 in
+    (tt, both (expr_tokens c) _ (expr_sound hc first.0) (tt, both (expr_tokens a) _ (expr_sound ha second.0) (tt, expr_sound hb second.1.1)))
+expr_sound (between {op = op} {i = i} {ts = ts} {us = us} {a = a} {b = b} e ha hb) s =
+    let parts = sound_parts ts (i.sign ∷ us) s in
+    operands_sound (infix_of op) i (level_of a) (level_of b) (expr_tokens a) (expr_tokens b) e parts.1.0 (expr_sound ha parts.0) (expr_sound hb parts.1.1)
+expr_sound (negation {a = a} h) s = (tt, place_sound 4 (level_of a) (expr_tokens a) (expr_sound h s.1))
+expr_sound (minus {a = a} h) s = (tt, place_sound 8 (level_of a) (expr_tokens a) (expr_sound h s.1))
+expr_sound number s = s
+expr_sound true_word s = s
+expr_sound false_word s = s
+expr_sound name s = s
+expr_sound (reading {x = x} {ts = ts} {d = d} h) s = reading_sound x d s.0 (offset_sound h (sound_parts ts _ s.1.1).0)
+expr_sound (window {r = r} {x = x} {ts = ts} {us = us} {l = l} {h = h} from to) s =
+    let first = sound_parts ts _ s.1.1.1.1 in
+    let second = sound_parts us _ first.1.1 in
+    (tt, (tt, (s.1.1.0, (tt, both (offset_tokens l) _ (offset_sound from first.0) (tt, both (offset_tokens h) _ (offset_sound to second.0) (tt, (tt, tt)))))))
+expr_sound (is_null {ts = ts} {a = a} h) s = (tt, (tt, both (expr_tokens a) _ (expr_sound h (sound_parts ts _ s.1.1).0) (tt, tt)))
+expr_sound (if_null {ts = ts} {us = us} {a = a} {b = b} ha hb) s =
+    let first = sound_parts ts _ s.1.1 in
+    let second = sound_parts us _ first.1.1 in
+    (tt, (tt, both (expr_tokens a) _ (expr_sound ha first.0) (tt, both (expr_tokens b) _ (expr_sound hb second.0) (tt, tt))))
+expr_sound (enclosed {ts = ts} h) s = expr_sound h (sound_parts ts _ s.1).0
+
+bound_sound : {ts : List Tok} {n : ℤ} → IsBound ts n → AreSound ts → AreSound (bound_tokens n)
+bound_sound (from_zero {n = pos n}) s = s
+bound_sound (from_zero {n = negsuc n}) s = absurd (omega (arith, ints, s.0.0))
+bound_sound (below_zero {n = pos zero}) s = s.1
+bound_sound (below_zero {n = pos (suc n)}) s = s
+bound_sound (below_zero {n = negsuc n}) s = absurd (omega (arith, ints, s.1.0.0))
+
+span_sound : {ts : List Tok} {span : Span} → IsSpan ts span → AreSound ts → AreSound (span_tokens span)
+span_sound (over {ts = ts} {us = us} {s = start} {e = end} hs he) s =
+    let first = sound_parts ts _ s.1.1 in
+    let second = sound_parts us _ first.1.1 in
+    (tt, (tt, both (bound_tokens start) _ (bound_sound hs first.0) (tt, both (bound_tokens end) _ (bound_sound he second.0) (tt, tt))))
+
+domain_sound : {ts : List Tok} {domain : Option Span} → MayBeSpan ts domain → AreSound ts → AreSound (domain_tokens domain)
+domain_sound no_span s = s
+domain_sound (some_span h) s = span_sound h s
+
+period_sound : {ts : List Tok} {period : Option ℤ} → MayBePeriod ts period → AreSound ts → AreSound (period_tokens period)
+period_sound no_period s = s
+period_sound some_period s = s
+
+pub statement_sound : {ts : List Tok} {s : StatementTree} → IsStatement ts s → AreSound ts → AreSound (statement_tokens s)
+statement_sound input s = s
+statement_sound (definition {ts = ts} {us = us} {vs = vs} {e = e} {over = domain} {every = period} he hd hp) s =
+    let first = sound_parts ts _ s.1.1.1 in
+    let second = sound_parts us _ first.1 in
+    let third = sound_parts vs _ second.1 in
+    (tt, (s.1.0, (tt, both (expr_tokens e) _ (expr_sound he first.0) (both (domain_tokens domain) _ (domain_sound hd second.0) (both (period_tokens period) _ (period_sound hp third.0) (tt, tt))))))
+statement_sound (emission {ts = ts} {us = us} {vs = vs} {e = e} {over = span} {every = period} he hs hp) s =
+    let first = sound_parts ts _ s.1 in
+    let second = sound_parts us _ first.1 in
+    let third = sound_parts vs _ second.1 in
+    (tt, both (expr_tokens e) _ (expr_sound he first.0) (both (span_tokens span) _ (span_sound hs second.0) (both (period_tokens period) _ (period_sound hp third.0) (tt, tt))))
