@@ -1,3 +1,4 @@
+pub mod Law
 pub mod Shortest
 pub mod Sounds
 pub mod Cuts

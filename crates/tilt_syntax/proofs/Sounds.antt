@@ -19,7 +19,7 @@ pub sound_parts : (ts us : List Tok) → AreSound (ts ++ us) → AreSound ts × 
 sound_parts [] us s = (tt, s)
 sound_parts (t ∷ ts) us s = let parts = sound_parts ts us s.1 in ((s.0, parts.0), parts.1)
 
-both : (ts us : List Tok) → AreSound ts → AreSound us → AreSound (ts ++ us)
+pub both : (ts us : List Tok) → AreSound ts → AreSound us → AreSound (ts ++ us)
 both [] us h g = g
 both (t ∷ ts) us h g = (h.0, both ts us h.1 g)
 

@@ -21,6 +21,9 @@ use tilt_lexer::Name;
 /// and as no other.
 pub fn print(alloc: Global, query: &Query) -> Result<Vec<u8>, OutOfMemory>
     ensures text { IfOk result (λ text. text.items ≡ query_text query.now) }
+
+    // The text reads as this query and as no other, and no statement can be written with fewer tokens.
+    ensures reads_back { ReadsBack (query_text query.now) query.now }
 {
     let mut text = Vec::new(alloc);
     for statement in query.statements() {

@@ -1,0 +1,88 @@
+-- The text of a query reads as the query and as no other, and is the shortest in tokens.
+use Rattle.std.proofs.Common.{◌≡◌, ℕ, ◌≤◌, List, [], ◌∷◌, ◌++◌, length, map, refl, sym, ap, ◌∙◌, subst, arith}
+use Rattle.std.specs.List.{AllByRecursion, flat_map}
+use Rattle.std.proofs.lemmas.List.Elements.{recursion_from_All}
+use Rattle.tilt_lexer.specs.declared.mark.Mark.TheVariants as mark
+use Rattle.tilt_lexer.specs.declared.token.Tok.{Tok}
+use Rattle.tilt_lexer.specs.declared.token.Tok.TheVariants as tok
+use Rattle.tilt_lexer.specs.Tokens.{IsSound, AreTokens}
+use Rattle.tilt_lexer.proofs.Unique.{same_tokens}
+use Rattle.tilt_syntax.specs.Printing.{query_text, AreShortest, ReadsBack}
+use Rattle.tilt_syntax.specs.Query.{kinds, with_first, statements, IsInPlace, AreGood, IsQueryOf, IsQuery}
+use Rattle.tilt_syntax.specs.Tree.{StatementTree, Input, Let, Emit}
+use Rattle.tilt_syntax.proofs.Cuts.{query_cut}
+use Rattle.tilt_syntax.proofs.Shortest.{statement_shortest}
+use Rattle.tilt_syntax.proofs.Sounds.{both, statement_sound}
+use Rattle.tilt_syntax.proofs.Spelling.{AreSound, lexed}
+use Rattle.tilt_syntax.proofs.Spelt.{query_spells}
+use Rattle.tilt_syntax.proofs.Unique.{one_query}
+use Rattle.tilt_syntax.proofs.Written.{statement_tokens, statement_is}
+
+-- the tokens of each statement are sound
+abbrev EachSound : List (List Tok) → Type 0
+EachSound ss = AllByRecursion AreSound ss
+
+first_sound : (t : Tok) (ss : List (List Tok)) → IsSound t → EachSound ss → EachSound (with_first t ss)
+first_sound t [] h each = ((h, tt), tt)
+first_sound t (s ∷ ss) h each = ((h, each.0), each.1)
+
+statements_sound : (ts : List Tok) → AreSound ts → EachSound (statements ts)
+statements_sound [] s = tt
+statements_sound (tok.Mark mark.Semicolon ∷ ts) s = ((tt, tt), statements_sound ts s.1)
+statements_sound (t ∷ ts) s = first_sound t (statements ts) s.0 (statements_sound ts s.1)
+
+-- the printed statements may stand where the others do
+in_place_again : (rest : List (List Tok)) (query : List StatementTree) (s : StatementTree) → AreGood rest query → IsInPlace rest s → IsInPlace (map statement_tokens query) s
+in_place_again [] [] s good h = h
+in_place_again [] (p ∷ query) s good h = absurd good
+in_place_again (ts ∷ rest) [] s good h = absurd good
+in_place_again (ts ∷ rest) (p ∷ query) (Input x) good h = h
+in_place_again (ts ∷ rest) (p ∷ query) (Let x e over every) good h = h
+in_place_again (ts ∷ rest) (p ∷ query) (Emit e over every) good h = h
+
+good_again : (ss : List (List Tok)) (query : List StatementTree) → EachSound ss → AreGood ss query → AreGood (map statement_tokens query) query
+good_again [] [] each good = tt
+good_again [] (s ∷ query) each good = absurd good
+good_again (ts ∷ rest) [] each good = absurd good
+good_again (ts ∷ rest) (s ∷ query) each good =
+    let short : length (statement_tokens s) ≤ 256 = omega (arith, statement_shortest good.0.parsed each.0, good.0.short) in
+    (record { short = short; parsed = statement_is s; in_place = in_place_again rest query s good.1 good.0.in_place }, good_again rest query each.1 good.1)
+
+-- there are as many
+same_count : (ss : List (List Tok)) (query : List StatementTree) → AreGood ss query → length (map statement_tokens query) ≡ length ss
+same_count [] [] good = refl
+same_count [] (s ∷ query) good = absurd good
+same_count (ts ∷ rest) [] good = absurd good
+same_count (ts ∷ rest) (s ∷ query) good = omega (arith, same_count rest query good.1)
+
+query_sound : (ss : List (List Tok)) (query : List StatementTree) → EachSound ss → AreGood ss query → AreSound (flat_map statement_tokens query)
+query_sound [] [] each good = tt
+query_sound [] (s ∷ query) each good = absurd good
+query_sound (ts ∷ rest) [] each good = absurd good
+query_sound (ts ∷ rest) (s ∷ query) each good =
+    both (statement_tokens s) (flat_map statement_tokens query) (statement_sound good.0.parsed each.0) (query_sound rest query each.1 good.1)
+
+query_shortest : (query : List StatementTree) → AreShortest (map statement_tokens query) query
+query_shortest [] = tt
+query_shortest (s ∷ query) = (λ us sound is. statement_shortest is (recursion_from_All IsSound us sound), query_shortest query)
+
+pub reads_back : (query : List StatementTree) → IsQuery query → ReadsBack (query_text query) query
+reads_back query is =
+    let each = statements_sound is.tokens (recursion_from_All IsSound is.tokens is.sound) in
+    let read = lexed (query_spells query) (query_sound (statements is.tokens) query each is.parsed.good) 0 in
+    let same : statements (kinds read.tokens) ≡ map statement_tokens query = ap statements read.kinds_are ∙ query_cut query in
+    let count = same_count (statements is.tokens) query is.parsed.good in
+    let parsed : IsQueryOf (kinds read.tokens) query = record {
+      some = rw same (omega (arith, count, is.parsed.some));
+      few = rw same (omega (arith, count, is.parsed.few));
+      good = rw same (good_again (statements is.tokens) query each is.parsed.good);
+    } in
+    record {
+      tokens = read.tokens;
+      are = read.are;
+      parsed = parsed;
+      only = λ others other are of.
+          let same_read : others ≡ read.tokens = same_tokens are read.are refl refl in
+          one_query (kinds read.tokens) other query (subst (λ ts. IsQueryOf (kinds ts) other) same_read of) parsed;
+      shortest = subst (λ ss. AreShortest ss query) (sym same) (query_shortest query);
+    }
