@@ -1,5 +1,5 @@
 -- The tokens of a query are cut into those of its statements: only the last token of a statement is a `;`.
-use Rattle.std.proofs.Common.{◌≡◌, inl, inr, ℕ, zero, suc, ℤ, pos, negsuc, Bool, true, false, List, [], ◌∷◌, ◌++◌, map, Option, Some, None, nat_lt, refl, sym, ap, ◌∙◌, subst, append_assoc, IsTrue}
+use Rattle.std.proofs.Common.{◌≡◌, inl, inr, ℕ, zero, suc, ℤ, pos, negsuc, Bool, true, false, List, [], ◌∷◌, ◌++◌, map, Option, Some, None, nat_lt, refl, sym, ap, ◌∙◌, append_assoc, IsTrue}
 use Rattle.std.specs.List.{flat_map, list_all}
 use Rattle.std.specs.Prelude.{⊤}
 use Rattle.std.proofs.lemmas.Bool.{and_parts, false≢true, cases_Bool}
@@ -62,7 +62,7 @@ atom_goes_on (Truth false) = refl
 atom_goes_on (Read x d) = reading_goes_on x d
 atom_goes_on (Reduce r x from to) =
     joined (offset_tokens from) (tok.Mark mark.Colon ∷ (offset_tokens to ++ (tok.Mark mark.CloseBracket ∷ tok.Mark mark.CloseParen ∷ []))) (offset_goes_on from)
-        (joined (offset_tokens to) (tok.Mark mark.CloseBracket ∷ tok.Mark mark.CloseParen ∷ []) (offset_goes_on to) refl)
+    (joined (offset_tokens to) (tok.Mark mark.CloseBracket ∷ tok.Mark mark.CloseParen ∷ []) (offset_goes_on to) refl)
 
 -- no operator is a `;`
 abbrev SignGoesOn : Option Infix → Type 0
@@ -96,7 +96,7 @@ bound_goes_on (negsuc n) = refl
 span_goes_on : (span : Span) → NoneEnds (span_tokens span)
 span_goes_on span =
     joined (bound_tokens span.start) (tok.Mark mark.Comma ∷ (bound_tokens span.end ++ (tok.Mark mark.CloseBracket ∷ []))) (bound_goes_on span.start)
-        (joined (bound_tokens span.end) (tok.Mark mark.CloseBracket ∷ []) (bound_goes_on span.end) refl)
+    (joined (bound_tokens span.end) (tok.Mark mark.CloseBracket ∷ []) (bound_goes_on span.end) refl)
 
 domain_goes_on : (domain : Option Span) → NoneEnds (domain_tokens domain)
 domain_goes_on None = refl
@@ -110,10 +110,10 @@ body_goes_on : (s : StatementTree) → NoneEnds (body_tokens s)
 body_goes_on (Input x) = refl
 body_goes_on (Let x e domain period) =
     joined (expr_tokens e) (domain_tokens domain ++ period_tokens period) (expr_goes_on e)
-        (joined (domain_tokens domain) (period_tokens period) (domain_goes_on domain) (period_goes_on period))
+    (joined (domain_tokens domain) (period_tokens period) (domain_goes_on domain) (period_goes_on period))
 body_goes_on (Emit e span period) =
     joined (expr_tokens e) (span_tokens span ++ period_tokens period) (expr_goes_on e)
-        (joined (span_tokens span) (period_tokens period) (span_goes_on span) (period_goes_on period))
+    (joined (span_tokens span) (period_tokens period) (span_goes_on span) (period_goes_on period))
 
 body_and_end : (s : StatementTree) → statement_tokens s ≡ body_tokens s ++ (tok.Mark mark.Semicolon ∷ [])
 body_and_end (Input x) = refl

@@ -1,11 +1,11 @@
 -- The text of a query reads as the query and as no other, and is the shortest in tokens.
-use Rattle.std.proofs.Common.{◌≡◌, ℕ, ◌≤◌, List, [], ◌∷◌, ◌++◌, length, map, refl, sym, ap, ◌∙◌, subst, arith}
+use Rattle.std.proofs.Common.{◌≡◌, ◌≤◌, List, [], ◌∷◌, length, map, refl, sym, ap, ◌∙◌, subst, arith}
 use Rattle.std.specs.List.{AllByRecursion, flat_map}
 use Rattle.std.proofs.lemmas.List.Elements.{recursion_from_All}
 use Rattle.tilt_lexer.specs.declared.mark.Mark.TheVariants as mark
 use Rattle.tilt_lexer.specs.declared.token.Tok.{Tok}
 use Rattle.tilt_lexer.specs.declared.token.Tok.TheVariants as tok
-use Rattle.tilt_lexer.specs.Tokens.{IsSound, AreTokens}
+use Rattle.tilt_lexer.specs.Tokens.{IsSound}
 use Rattle.tilt_lexer.proofs.Unique.{same_tokens}
 use Rattle.tilt_syntax.specs.Printing.{query_text, AreShortest, ReadsBack}
 use Rattle.tilt_syntax.specs.Query.{kinds, with_first, statements, IsInPlace, AreGood, IsQueryOf, IsQuery}

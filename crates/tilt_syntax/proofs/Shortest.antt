@@ -1,13 +1,12 @@
 -- A statement has no fewer tokens than its printed ones.
-use Rattle.std.proofs.Common.{◌≡◌, inl, inr, ℕ, zero, suc, ◌+◌, ◌≤◌, ℤ, pos, negsuc, neg_ℤ, true, false, List, [], ◌∷◌, ◌++◌, length, Option, Some, None, nat_lt, arith, refl, subst, length-append}
+use Rattle.std.proofs.Common.{◌≡◌, inl, inr, ℕ, zero, suc, ◌+◌, ◌≤◌, ℤ, pos, negsuc, neg_ℤ, true, false, List, [], ◌∷◌, ◌++◌, length, Option, Some, nat_lt, arith, refl, length-append}
 use Rattle.std.proofs.lemmas.Bool.{cases_Bool}
 use Rattle.std.proofs.lemmas.Bool.Decides.{nat_tests}
 use Rattle.std.proofs.lemmas.Int.{ints}
-use Rattle.tilt_base.specs.Expression.{Leaf, One, Two, If}
 use Rattle.tilt_lexer.specs.declared.key.Key.TheVariants as key
 use Rattle.tilt_lexer.specs.declared.mark.Mark.TheVariants as mark
 use Rattle.tilt_lexer.specs.declared.token.Tok.{Tok}
-use Rattle.tilt_lexer.specs.declared.token.Tok.TheVariants.{Word, Number, Key as Reserved, Mark as Sign}
+use Rattle.tilt_lexer.specs.declared.token.Tok.TheVariants.{Key as Reserved, Mark as Sign}
 use Rattle.tilt_syntax.specs.Grammar.{Infix, infix_of, IsOffset, now, later, earlier, IsExpr, tighter, choice, between, negation, minus, number, true_word, false_word, name, reading, window, is_null, if_null, enclosed, IsBound, from_zero, below_zero, IsSpan, over, MayBeSpan, no_span, some_span, MayBePeriod, no_period, some_period, IsStatement, input, definition, emission}
 use Rattle.tilt_syntax.specs.Printing.{level_of, level2}
 use Rattle.tilt_syntax.specs.Tree.{ExprTree, StatementTree}

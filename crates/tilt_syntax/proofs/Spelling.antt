@@ -1,12 +1,12 @@
 -- Texts that spell tokens, with blanks between them or none, and that they are read as these tokens.
-use Rattle.std.proofs.Common.{◌≡◌, ◌⊎◌, inl, inr, ℕ, ◌+◌, ◌^◌, ◌<◌, ◌≤◌, ℤ, pos, negsuc, Bool, true, false, ◌&&◌, ◌||◌, ◌==◌, not, IsTrue, List, [], ◌∷◌, ◌++◌, length, get_or, take, drop, refl, sym, ap, ◌∙◌, subst, arith, length-append}
+use Rattle.std.proofs.Common.{◌≡◌, ◌⊎◌, inl, inr, ℕ, ◌+◌, ◌^◌, ◌<◌, ◌≤◌, pos, negsuc, Bool, true, false, ◌&&◌, ◌||◌, ◌==◌, not, IsTrue, List, [], ◌∷◌, ◌++◌, length, get_or, take, drop, refl, sym, ap, ◌∙◌, subst, arith}
 use Rattle.std.specs.Prelude.{⊤}
 use Rattle.std.specs.Bool.{IsFalse}
 use Rattle.std.specs.Char.{is_ascii_digit}
-use Rattle.std.specs.Fmt.{signed_decimal, decimal}
+use Rattle.std.specs.Fmt.{decimal}
 use Rattle.std.specs.List.{AllByRecursion, list_all, prefix_len}
 use Rattle.std.specs.Str.Parse.{digits_value}
-use Rattle.std.proofs.lemmas.Bool.{and_parts, false≢true, cases_Bool}
+use Rattle.std.proofs.lemmas.Bool.{and_parts, false≢true}
 use Rattle.std.proofs.lemmas.Fmt.{decimal_nonempty, digits_decimal, digits_value-decimal}
 use Rattle.std.proofs.lemmas.Int.{ints}
 use Rattle.std.proofs.lemmas.List.{get_or_append_left, take_at, drop_at}
@@ -142,9 +142,9 @@ longest_sign m other rest more ends e =
     elim (one_or_two other) [
       | inl short ↦ omega arith
       | inr (a, (pair, is)) ↦ elim (one_or_two m) [
-          | inl one ↦ absurd (no_longer_pair m rest more a ends pair one (e ∙ ap (λ l. l ++ more) is))
-          | inr (b, (other_pair, long)) ↦ let two : length (mark_text m) ≡ 2 = ap length long in let two_too : length (mark_text other) ≡ 2 = ap length is in omega arith
-        ]
+        | inl one ↦ absurd (no_longer_pair m rest more a ends pair one (e ∙ ap (λ l. l ++ more) is))
+        | inr (b, (other_pair, long)) ↦ let two : length (mark_text m) ≡ 2 = ap length long in let two_too : length (mark_text other) ≡ 2 = ap length is in omega arith
+      ]
     ]
 
 mark_begins : (m : Mark) (rest : List ℕ) → IsTrue (ends_before (tok.Mark m) rest) → Begins (tok.Mark m) (mark_text m ++ rest) (mark_text m) rest
@@ -154,7 +154,7 @@ mark_begins m rest ends =
     let same : get_or bytes 0 0 ≡ get_or (mark_text m) 0 0 = get_or_append_left (mark_text m) rest 0 0 first.some in
     let sign : BeginsWithSign m bytes = record { begins = (rest, refl); longest = λ other more e. longest_sign m other rest more ends e } in
     front_begins (tok.Mark m) (mark_text m) rest (length (mark_text m)) refl
-        (sign_is_front bytes (ap begins_word same ∙ first.no_word) (ap is_ascii_digit same ∙ first.no_digit) m sign)
+    (sign_is_front bytes (ap begins_word same ∙ first.no_word) (ap is_ascii_digit same ∙ first.no_digit) m sign)
 
 -- a token's text is read as the token where it ends before the rest
 token_begins : (k : Tok) (rest : List ℕ) → IsSound k → IsTrue (ends_before k rest) → Begins k (sign_text k ++ rest) (sign_text k) rest

@@ -1,6 +1,6 @@
 -- The text of a query spells its tokens.
-use Rattle.std.proofs.Common.{◌≡◌, inl, inr, ℕ, zero, suc, ℤ, pos, negsuc, Bool, true, false, ◌||◌, IsTrue, List, [], ◌∷◌, ◌++◌, Option, Some, None, codes, nat_lt, refl, append_assoc}
-use Rattle.std.specs.Fmt.{signed_decimal, decimal}
+use Rattle.std.proofs.Common.{inl, inr, ℕ, zero, suc, ℤ, pos, negsuc, true, false, IsTrue, List, [], ◌∷◌, ◌++◌, Option, Some, None, codes, nat_lt, refl, append_assoc}
+use Rattle.std.specs.Fmt.{signed_decimal}
 use Rattle.std.specs.List.{flat_map}
 use Rattle.std.proofs.lemmas.Bool.{cases_Bool}
 use Rattle.tilt_base.specs.Expression.{Leaf, One, Two, If}
@@ -69,22 +69,31 @@ atom_spelt (Truth false) = token_spelt (Reserved key.FalseWord)
 atom_spelt (Read x d) = reading_spelt x d
 atom_spelt (Reduce r x from to) = record {
   go_on = λ {rest} {ks} tail. simp append_assoc (token (Reserved (reducer_key r)) refl (token (Sign mark.OpenParen) refl (token (Word x) refl (token (Sign mark.OpenBracket) refl
-      ((offset_spelt from).go_on (record { closed = refl; spelt = token (Sign mark.Colon) refl
-          ((offset_spelt to).go_on (record { closed = refl; spelt = token (Sign mark.CloseBracket) refl (token (Sign mark.CloseParen) refl tail.spelt) })) }))))));
+      ((offset_spelt from).go_on (record {
+        closed = refl;
+        spelt = token (Sign mark.Colon) refl
+            ((offset_spelt to).go_on (record { closed = refl; spelt = token (Sign mark.CloseBracket) refl (token (Sign mark.CloseParen) refl tail.spelt) }));
+      }))))));
 }
 
 operands_spelt : (i : Option Infix) (l m : ℕ) (a b : List ℕ) (ts us : List Tok) → Spelt a ts → Spelt b us → Spelt (operands_text i l a m b) (operands_tokens i l ts m us)
 operands_spelt None l m a b ts us ha hb = record {
   go_on = λ {rest} {ks} tail. simp append_assoc (token (Reserved key.IfNull) refl (token (Sign mark.OpenParen) refl
-      (ha.go_on (record { closed = refl; spelt = token (Sign mark.Comma) refl (blank refl
-          (hb.go_on (record { closed = refl; spelt = token (Sign mark.CloseParen) refl tail.spelt }))) }))));
+      (ha.go_on (record {
+        closed = refl;
+        spelt = token (Sign mark.Comma) refl (blank refl
+            (hb.go_on (record { closed = refl; spelt = token (Sign mark.CloseParen) refl tail.spelt })));
+      }))));
 }
 operands_spelt (Some i) l m a b ts us ha hb =
     let left = place_spelt i.left l a ts ha in
     let right = place_spelt i.right m b us hb in
     record {
-      go_on = λ {rest} {ks} tail. simp append_assoc (left.go_on (record { closed = refl; spelt = blank refl
-          (token i.sign (ends i.sign (codes " " ++ (in_place i.right m b ++ rest)) refl) (blank refl (right.go_on tail))) }));
+      go_on = λ {rest} {ks} tail. simp append_assoc (left.go_on (record {
+        closed = refl;
+        spelt = blank refl
+            (token i.sign (ends i.sign (codes " " ++ (in_place i.right m b ++ rest)) refl) (blank refl (right.go_on tail)));
+      }));
     }
 
 expr_spelt : (e : ExprTree) → Spelt (expr_text e) (expr_tokens e)
@@ -102,9 +111,15 @@ expr_spelt (Two op a b) =
     operands_spelt (infix_of op) (level_of a) (level_of b) (expr_text a) (expr_text b) (expr_tokens a) (expr_tokens b) (expr_spelt a) (expr_spelt b)
 expr_spelt (If c a b) = record {
   go_on = λ {rest} {ks} tail. simp append_assoc (token (Reserved key.If) refl (blank refl
-      ((expr_spelt c).go_on (record { closed = refl; spelt = blank refl (token (Reserved key.Then) refl (blank refl
-          ((expr_spelt a).go_on (record { closed = refl; spelt = blank refl (token (Reserved key.Else) refl (blank refl
-              ((expr_spelt b).go_on tail))) })))) }))));
+      ((expr_spelt c).go_on (record {
+        closed = refl;
+        spelt = blank refl (token (Reserved key.Then) refl (blank refl
+            ((expr_spelt a).go_on (record {
+              closed = refl;
+              spelt = blank refl (token (Reserved key.Else) refl (blank refl
+                  ((expr_spelt b).go_on tail)));
+            }))));
+      }))));
 }
 
 bound_spelt : (n : ℤ) → Spelt (signed_decimal n) (bound_tokens n)
@@ -116,8 +131,11 @@ module _ {rest : List ℕ} {ks : List Tok} (tail : Tail rest ks) where
   span_tail span = record {
     closed = refl;
     spelt = simp append_assoc (blank refl (token (Reserved key.Over) refl (blank refl (token (Sign mark.OpenParen) refl
-        ((bound_spelt span.start).go_on (record { closed = refl; spelt = token (Sign mark.Comma) refl (blank refl
-            ((bound_spelt span.end).go_on (record { closed = refl; spelt = token (Sign mark.CloseBracket) refl tail.spelt }))) }))))));
+        ((bound_spelt span.start).go_on (record {
+          closed = refl;
+          spelt = token (Sign mark.Comma) refl (blank refl
+              ((bound_spelt span.end).go_on (record { closed = refl; spelt = token (Sign mark.CloseBracket) refl tail.spelt })));
+        }))))));
   }
 
   domain_tail : (domain : Option Span) → Tail (domain_text domain ++ rest) (domain_tokens domain ++ ks)
@@ -146,10 +164,10 @@ statement_spells (Input x) rest ks more =
     simp append_assoc (token (Reserved key.Input) refl (blank refl (token (Word x) refl (line_end rest ks more).spelt)))
 statement_spells (Let x e domain period) rest ks more =
     simp append_assoc (token (Reserved key.Let) refl (blank refl (token (Word x) refl (blank refl (token (Sign mark.Assign) refl (blank refl
-        ((expr_spelt e).go_on (domain_tail (period_tail (line_end rest ks more) period) domain))))))))
+    ((expr_spelt e).go_on (domain_tail (period_tail (line_end rest ks more) period) domain))))))))
 statement_spells (Emit e span period) rest ks more =
     emission_spells (expr_text e) (span_text span) (period_text period) rest (expr_tokens e) (span_tokens span) (period_tokens period) ks
-        (expr_spelt e) (span_tail (period_tail (line_end rest ks more) period) span)
+    (expr_spelt e) (span_tail (period_tail (line_end rest ks more) period) span)
 
 pub query_spells : (query : List StatementTree) → Spells (query_text query) (flat_map statement_tokens query)
 query_spells [] = end

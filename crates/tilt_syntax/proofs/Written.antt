@@ -1,5 +1,5 @@
 -- The tokens of a query's text, and that they are the query.
-use Rattle.std.proofs.Common.{◌≡◌, ◌⊎◌, inl, inr, ℕ, zero, suc, ◌+◌, ◌-◌, ◌≤◌, ℤ, pos, negsuc, true, false, List, [], ◌∷◌, ◌++◌, Option, Some, None, MatchOption, nat_lt, if◌then◌else◌, refl, sym, subst, arith}
+use Rattle.std.proofs.Common.{◌≡◌, inl, inr, ℕ, zero, suc, ◌+◌, ◌-◌, ◌≤◌, ℤ, pos, negsuc, true, false, List, [], ◌∷◌, ◌++◌, Option, Some, None, nat_lt, if◌then◌else◌, refl, sym, subst, arith}
 use Rattle.std.proofs.lemmas.Bool.{cases_Bool}
 use Rattle.std.proofs.lemmas.Bool.Decides.{nat_tests}
 use Rattle.tilt_base.specs.Expression.{Leaf, One, Two, If}
@@ -35,7 +35,7 @@ atom_tokens (Truth false) = Reserved key.FalseWord ∷ []
 atom_tokens (Read x offset) = reading_tokens x offset
 atom_tokens (Reduce r x from to) =
     Reserved (reducer_key r) ∷ Sign mark.OpenParen ∷ Word x ∷ Sign mark.OpenBracket
-        ∷ (offset_tokens from ++ (Sign mark.Colon ∷ (offset_tokens to ++ (Sign mark.CloseBracket ∷ Sign mark.CloseParen ∷ []))))
+    ∷ (offset_tokens from ++ (Sign mark.Colon ∷ (offset_tokens to ++ (Sign mark.CloseBracket ∷ Sign mark.CloseParen ∷ []))))
 
 abbrev pub operands_tokens : Option Infix → ℕ → List Tok → ℕ → List Tok → List Tok
 operands_tokens None l a m b = Reserved key.IfNull ∷ Sign mark.OpenParen ∷ (a ++ (Sign mark.Comma ∷ (b ++ (Sign mark.CloseParen ∷ []))))

@@ -42,7 +42,12 @@ fn put_statement(text: &mut Vec<u8>, statement: &Statement) -> Result<(), OutOfM
             put(text, b"input ")?;
             put(text, name.bytes())?;
         }
-        Statement::Let { name, expr, over, every } => {
+        Statement::Let {
+            name,
+            expr,
+            over,
+            every,
+        } => {
             put(text, b"let ")?;
             put(text, name.bytes())?;
             put(text, b" = ")?;
@@ -104,7 +109,12 @@ fn put_expr(text: &mut Vec<u8>, expr: &Expr) -> Result<(), OutOfMemory>
         Expr::Truth(true) => put(text, b"true"),
         Expr::Truth(false) => put(text, b"false"),
         Expr::Read { name, offset } => put_reading(text, name, *offset),
-        Expr::Reduce { reducer, name, from, to } => put_window(text, *reducer, name, *from, *to),
+        Expr::Reduce {
+            reducer,
+            name,
+            from,
+            to,
+        } => put_window(text, *reducer, name, *from, *to),
         Expr::One(Op1::Neg, a) => {
             put(text, b"-")?;
             put_operand(text, 8, a)
