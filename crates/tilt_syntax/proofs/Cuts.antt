@@ -32,7 +32,8 @@ cut_first (tok.Mark mark.Semicolon) ts h = absurd (false≢true h)
 cut_first t ts h = refl
 
 -- tokens are cut behind their first `;`
-cut : (ts rest : List Tok) → NoneEnds ts → statements (ts ++ (tok.Mark mark.Semicolon ∷ rest)) ≡ (ts ++ (tok.Mark mark.Semicolon ∷ [])) ∷ statements rest
+cut : (ts rest : List Tok) → NoneEnds ts
+    → statements (ts ++ (tok.Mark mark.Semicolon ∷ rest)) ≡ (ts ++ (tok.Mark mark.Semicolon ∷ [])) ∷ statements rest
 cut [] rest h = refl
 cut (t ∷ ts) rest h =
     let parts = and_parts (goes_on t) (list_all goes_on ts) h in
@@ -43,7 +44,10 @@ joined ts us h g = rw (list_all-append goes_on ts us, h, g) refl
 
 place_goes_on : (place level : ℕ) (ts : List Tok) → NoneEnds ts → NoneEnds (place_tokens place level ts)
 place_goes_on place level ts h =
-    elim (cases_Bool (nat_lt level place)) [ inl lower ↦ rw lower (joined ts (tok.Mark mark.CloseParen ∷ []) h refl) | inr not_lower ↦ rw not_lower h ]
+    elim (cases_Bool (nat_lt level place)) [
+      | inl lower ↦ rw lower (joined ts (tok.Mark mark.CloseParen ∷ []) h refl)
+      | inr not_lower ↦ rw not_lower h
+    ]
 
 offset_goes_on : (d : ℤ) → NoneEnds (offset_tokens d)
 offset_goes_on (pos zero) = refl
@@ -61,8 +65,9 @@ atom_goes_on (Truth true) = refl
 atom_goes_on (Truth false) = refl
 atom_goes_on (Read x d) = reading_goes_on x d
 atom_goes_on (Reduce r x from to) =
-    joined (offset_tokens from) (tok.Mark mark.Colon ∷ (offset_tokens to ++ (tok.Mark mark.CloseBracket ∷ tok.Mark mark.CloseParen ∷ []))) (offset_goes_on from)
-    (joined (offset_tokens to) (tok.Mark mark.CloseBracket ∷ tok.Mark mark.CloseParen ∷ []) (offset_goes_on to) refl)
+    let end = tok.Mark mark.CloseBracket ∷ tok.Mark mark.CloseParen ∷ [] in
+    joined (offset_tokens from) (tok.Mark mark.Colon ∷ (offset_tokens to ++ end)) (offset_goes_on from)
+    (joined (offset_tokens to) end (offset_goes_on to) refl)
 
 -- no operator is a `;`
 abbrev SignGoesOn : Option Infix → Type 0
@@ -73,7 +78,8 @@ sign_goes_on : (op : Op2) → SignGoesOn (infix_of op)
 sign_goes_on op2.IfNull = tt
 sign_goes_on op = refl
 
-operands_go_on : (i : Option Infix) (l m : ℕ) (ts us : List Tok) → SignGoesOn i → NoneEnds ts → NoneEnds us → NoneEnds (operands_tokens i l ts m us)
+operands_go_on : (i : Option Infix) (l m : ℕ) (ts us : List Tok) → SignGoesOn i → NoneEnds ts → NoneEnds us
+    → NoneEnds (operands_tokens i l ts m us)
 operands_go_on None l m ts us s h g =
     joined ts (tok.Mark mark.Comma ∷ (us ++ (tok.Mark mark.CloseParen ∷ []))) h (joined us (tok.Mark mark.CloseParen ∷ []) g refl)
 operands_go_on (Some i) l m ts us s h g =
@@ -95,8 +101,9 @@ bound_goes_on (negsuc n) = refl
 
 span_goes_on : (span : Span) → NoneEnds (span_tokens span)
 span_goes_on span =
-    joined (bound_tokens span.start) (tok.Mark mark.Comma ∷ (bound_tokens span.end ++ (tok.Mark mark.CloseBracket ∷ []))) (bound_goes_on span.start)
-    (joined (bound_tokens span.end) (tok.Mark mark.CloseBracket ∷ []) (bound_goes_on span.end) refl)
+    let last = tok.Mark mark.CloseBracket ∷ [] in
+    joined (bound_tokens span.start) (tok.Mark mark.Comma ∷ (bound_tokens span.end ++ last)) (bound_goes_on span.start)
+    (joined (bound_tokens span.end) last (bound_goes_on span.end) refl)
 
 domain_goes_on : (domain : Option Span) → NoneEnds (domain_tokens domain)
 domain_goes_on None = refl
@@ -127,6 +134,7 @@ query_cut (s ∷ query) =
     let rest = flat_map statement_tokens query in
     let body = body_tokens s in
     let end = tok.Mark mark.Semicolon ∷ [] in
-    let front : statement_tokens s ++ rest ≡ body ++ (tok.Mark mark.Semicolon ∷ rest) = ap (λ l. l ++ rest) (body_and_end s) ∙ append_assoc body end rest in
+    let front : statement_tokens s ++ rest ≡ body ++ (tok.Mark mark.Semicolon ∷ rest) =
+    ap (λ l. l ++ rest) (body_and_end s) ∙ append_assoc body end rest in
     let first : statements (body ++ (tok.Mark mark.Semicolon ∷ rest)) ≡ (body ++ end) ∷ statements rest = cut body rest (body_goes_on s) in
     ap statements front ∙ first ∙ ap (λ l. l ∷ statements rest) (sym (body_and_end s)) ∙ ap (λ l. statement_tokens s ∷ l) (query_cut query)

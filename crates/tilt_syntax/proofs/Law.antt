@@ -32,7 +32,8 @@ statements_sound (tok.Mark mark.Semicolon ∷ ts) s = ((tt, tt), statements_soun
 statements_sound (t ∷ ts) s = first_sound t (statements ts) s.0 (statements_sound ts s.1)
 
 -- the printed statements may stand where the others do
-in_place_again : (rest : List (List Tok)) (query : List StatementTree) (s : StatementTree) → AreGood rest query → IsInPlace rest s → IsInPlace (map statement_tokens query) s
+in_place_again : (rest : List (List Tok)) (query : List StatementTree) (s : StatementTree) → AreGood rest query → IsInPlace rest s
+    → IsInPlace (map statement_tokens query) s
 in_place_again [] [] s good h = h
 in_place_again [] (p ∷ query) s good h = absurd good
 in_place_again (ts ∷ rest) [] s good h = absurd good
@@ -40,13 +41,15 @@ in_place_again (ts ∷ rest) (p ∷ query) (Input x) good h = h
 in_place_again (ts ∷ rest) (p ∷ query) (Let x e over every) good h = h
 in_place_again (ts ∷ rest) (p ∷ query) (Emit e over every) good h = h
 
-good_again : (ss : List (List Tok)) (query : List StatementTree) → EachSound ss → AreGood ss query → AreGood (map statement_tokens query) query
+good_again : (ss : List (List Tok)) (query : List StatementTree) → EachSound ss → AreGood ss query
+    → AreGood (map statement_tokens query) query
 good_again [] [] each good = tt
 good_again [] (s ∷ query) each good = absurd good
 good_again (ts ∷ rest) [] each good = absurd good
 good_again (ts ∷ rest) (s ∷ query) each good =
     let short : length (statement_tokens s) ≤ 256 = omega (arith, statement_shortest good.0.parsed each.0, good.0.short) in
-    (record { short = short; parsed = statement_is s; in_place = in_place_again rest query s good.1 good.0.in_place }, good_again rest query each.1 good.1)
+    let in_place = in_place_again rest query s good.1 good.0.in_place in
+    (record { short = short; parsed = statement_is s; in_place = in_place }, good_again rest query each.1 good.1)
 
 -- there are as many
 same_count : (ss : List (List Tok)) (query : List StatementTree) → AreGood ss query → length (map statement_tokens query) ≡ length ss
@@ -55,7 +58,8 @@ same_count [] (s ∷ query) good = absurd good
 same_count (ts ∷ rest) [] good = absurd good
 same_count (ts ∷ rest) (s ∷ query) good = omega (arith, same_count rest query good.1)
 
-query_sound : (ss : List (List Tok)) (query : List StatementTree) → EachSound ss → AreGood ss query → AreSound (flat_map statement_tokens query)
+query_sound : (ss : List (List Tok)) (query : List StatementTree) → EachSound ss → AreGood ss query
+    → AreSound (flat_map statement_tokens query)
 query_sound [] [] each good = tt
 query_sound [] (s ∷ query) each good = absurd good
 query_sound (ts ∷ rest) [] each good = absurd good

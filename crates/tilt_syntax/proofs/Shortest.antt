@@ -53,7 +53,8 @@ whole level n ts h = omega (arith, h, place_least 0 level ts)
 joined : (vs ws ts us : List Tok) → length vs ≤ length ts → length ws ≤ length us → length (vs ++ ws) ≤ length (ts ++ us)
 joined vs ws ts us h g = omega (arith, h, g, length-append vs ws, length-append ts us)
 
-around : (t : Tok) (vs ws ts us : List Tok) → length vs ≤ length ts → length ws ≤ length us → length (vs ++ (t ∷ ws)) ≤ length (ts ++ (t ∷ us))
+around : (t : Tok) (vs ws ts us : List Tok) → length vs ≤ length ts → length ws ≤ length us
+    → length (vs ++ (t ∷ ws)) ≤ length (ts ++ (t ∷ us))
 around t vs ws ts us h g = joined vs (t ∷ ws) ts (t ∷ us) h (omega (arith, g))
 
 offset_most : (d : ℤ) → length (offset_tokens d) ≤ 3
@@ -71,22 +72,25 @@ reading_most x (pos zero) = omega arith
 reading_most x (pos (suc n)) = omega arith
 reading_most x (negsuc n) = omega arith
 
-operands_shortest : (o : Option Infix) (i : Infix) (l m : ℕ) (vs ws ts us : List Tok) → o ≡ Some i → length (place_tokens i.left l vs) ≤ length ts → length (place_tokens i.right m ws) ≤ length us
+operands_shortest : (o : Option Infix) (i : Infix) (l m : ℕ) (vs ws ts us : List Tok) → o ≡ Some i
+    → length (place_tokens i.left l vs) ≤ length ts → length (place_tokens i.right m ws) ≤ length us
     → length (place_tokens i.level (level2 o) (operands_tokens o l vs m ws)) ≤ length (ts ++ (i.sign ∷ us))
 operands_shortest o i l m vs ws ts us e h g =
     let left = place_tokens i.left l vs in
     let right = place_tokens i.right m ws in
-    let sum : length (left ++ (i.sign ∷ right)) ≤ length (ts ++ (i.sign ∷ us)) = omega (arith, h, g, length-append left (i.sign ∷ right), length-append ts (i.sign ∷ us)) in
+    let sum = around i.sign left right ts us h g in
     rw e (bare i.level i.level (length (ts ++ (i.sign ∷ us))) (left ++ (i.sign ∷ right)) (omega arith) sum)
 
-pub expr_shortest : {place : ℕ} {us : List Tok} {e : ExprTree} → IsExpr place us e → length (place_tokens place (level_of e) (expr_tokens e)) ≤ length us
+pub expr_shortest : {place : ℕ} {us : List Tok} {e : ExprTree} → IsExpr place us e
+    → length (place_tokens place (level_of e) (expr_tokens e)) ≤ length us
 expr_shortest (tighter {level = place} {ts = us} {e = e} h) = omega (arith, place_tighter place (level_of e) (expr_tokens e), expr_shortest h)
 expr_shortest (choice {ts = ts} {us = us} {vs = vs} {c = c} {a = a} {b = b} hc ha hb) =
     let first = whole (level_of c) (length ts) (expr_tokens c) (expr_shortest hc) in
     let second = whole (level_of a) (length us) (expr_tokens a) (expr_shortest ha) in
     let third = whole (level_of b) (length vs) (expr_tokens b) (expr_shortest hb) in
     let behind = around (Reserved key.Else) (expr_tokens a) (expr_tokens b) us vs second third in
-    let all = around (Reserved key.Then) (expr_tokens c) (expr_tokens a ++ (Reserved key.Else ∷ expr_tokens b)) ts (us ++ (Reserved key.Else ∷ vs)) first behind in
+    let all = around (Reserved key.Then) (expr_tokens c) (expr_tokens a ++ (Reserved key.Else ∷ expr_tokens b)) ts
+    (us ++ (Reserved key.Else ∷ vs)) first behind in
     omega (arith, all)
 expr_shortest (between {op = op} {i = i} {ts = ts} {us = us} {a = a} {b = b} e ha hb) =
     operands_shortest (infix_of op) i (level_of a) (level_of b) (expr_tokens a) (expr_tokens b) ts us e (expr_shortest ha) (expr_shortest hb)
@@ -162,10 +166,12 @@ statement_shortest input s = omega arith
 statement_shortest (definition {ts = ts} {us = us} {vs = vs} {e = e} {over = domain} {every = period} he hd hp) s =
     let first = sound_parts ts (us ++ (vs ++ (Sign mark.Semicolon ∷ []))) s.1.1.1 in
     let second = sound_parts us (vs ++ (Sign mark.Semicolon ∷ [])) first.1 in
-    let all = parts_shortest (expr_tokens e) (domain_tokens domain) (period_tokens period) ts us vs (whole_shortest he) (domain_shortest hd second.0) (period_shortest hp) in
+    let all = parts_shortest (expr_tokens e) (domain_tokens domain) (period_tokens period) ts us vs
+    (whole_shortest he) (domain_shortest hd second.0) (period_shortest hp) in
     omega (arith, all)
 statement_shortest (emission {ts = ts} {us = us} {vs = vs} {e = e} {over = span} {every = period} he hs hp) s =
     let first = sound_parts ts (us ++ (vs ++ (Sign mark.Semicolon ∷ []))) s.1 in
     let second = sound_parts us (vs ++ (Sign mark.Semicolon ∷ [])) first.1 in
-    let all = parts_shortest (expr_tokens e) (span_tokens span) (period_tokens period) ts us vs (whole_shortest he) (span_shortest hs second.0) (period_shortest hp) in
+    let all = parts_shortest (expr_tokens e) (span_tokens span) (period_tokens period) ts us vs
+    (whole_shortest he) (span_shortest hs second.0) (period_shortest hp) in
     omega (arith, all)

@@ -24,7 +24,10 @@ both (t ∷ ts) us h g = (h.0, both ts us h.1 g)
 
 place_sound : (place level : ℕ) (ts : List Tok) → AreSound ts → AreSound (place_tokens place level ts)
 place_sound place level ts h =
-    elim (cases_Bool (nat_lt level place)) [ inl lower ↦ rw lower (tt, both ts (Sign mark.CloseParen ∷ []) h (tt, tt)) | inr not_lower ↦ rw not_lower h ]
+    elim (cases_Bool (nat_lt level place)) [
+      | inl lower ↦ rw lower (tt, both ts (Sign mark.CloseParen ∷ []) h (tt, tt))
+      | inr not_lower ↦ rw not_lower h
+    ]
 
 offset_sound : {ts : List Tok} {d : ℤ} → IsOffset ts d → AreSound ts → AreSound (offset_tokens d)
 offset_sound now s = s
@@ -40,7 +43,8 @@ reading_sound x (pos zero) w s = (w, tt)
 reading_sound x (pos (suc n)) w s = (w, (tt, both (offset_tokens (pos (suc n))) (Sign mark.CloseBracket ∷ []) s (tt, tt)))
 reading_sound x (negsuc n) w s = (w, (tt, both (offset_tokens (negsuc n)) (Sign mark.CloseBracket ∷ []) s (tt, tt)))
 
-operands_sound : (o : Option Infix) (i : Infix) (l m : ℕ) (ts us : List Tok) → o ≡ Some i → IsSound i.sign → AreSound ts → AreSound us → AreSound (operands_tokens o l ts m us)
+operands_sound : (o : Option Infix) (i : Infix) (l m : ℕ) (ts us : List Tok) → o ≡ Some i → IsSound i.sign → AreSound ts → AreSound us
+    → AreSound (operands_tokens o l ts m us)
 operands_sound o i l m ts us e s h g =
     rw e (both (place_tokens i.left l ts) (i.sign ∷ place_tokens i.right m us) (place_sound i.left l ts h) (s, place_sound i.right m us g))
 
@@ -52,7 +56,8 @@ expr_sound (choice {ts = ts} {us = us} {vs = vs} {c = c} {a = a} {b = b} hc ha h
     (tt, both (expr_tokens c) _ (expr_sound hc first.0) (tt, both (expr_tokens a) _ (expr_sound ha second.0) (tt, expr_sound hb second.1.1)))
 expr_sound (between {op = op} {i = i} {ts = ts} {us = us} {a = a} {b = b} e ha hb) s =
     let parts = sound_parts ts (i.sign ∷ us) s in
-    operands_sound (infix_of op) i (level_of a) (level_of b) (expr_tokens a) (expr_tokens b) e parts.1.0 (expr_sound ha parts.0) (expr_sound hb parts.1.1)
+    operands_sound (infix_of op) i (level_of a) (level_of b) (expr_tokens a) (expr_tokens b) e parts.1.0
+    (expr_sound ha parts.0) (expr_sound hb parts.1.1)
 expr_sound (negation {a = a} h) s = (tt, place_sound 4 (level_of a) (expr_tokens a) (expr_sound h s.1))
 expr_sound (minus {a = a} h) s = (tt, place_sound 8 (level_of a) (expr_tokens a) (expr_sound h s.1))
 expr_sound number s = s
@@ -63,7 +68,9 @@ expr_sound (reading {x = x} {ts = ts} {d = d} h) s = reading_sound x d s.0 (offs
 expr_sound (window {r = r} {x = x} {ts = ts} {us = us} {l = l} {h = h} from to) s =
     let first = sound_parts ts _ s.1.1.1.1 in
     let second = sound_parts us _ first.1.1 in
-    (tt, (tt, (s.1.1.0, (tt, both (offset_tokens l) _ (offset_sound from first.0) (tt, both (offset_tokens h) _ (offset_sound to second.0) (tt, (tt, tt)))))))
+    let end = Sign mark.CloseBracket ∷ Sign mark.CloseParen ∷ [] in
+    let behind : AreSound (Sign mark.Colon ∷ (offset_tokens h ++ end)) = (tt, both (offset_tokens h) _ (offset_sound to second.0) (tt, (tt, tt))) in
+    (tt, (tt, (s.1.1.0, (tt, both (offset_tokens l) _ (offset_sound from first.0) behind))))
 expr_sound (is_null {ts = ts} {a = a} h) s = (tt, (tt, both (expr_tokens a) _ (expr_sound h (sound_parts ts _ s.1.1).0) (tt, tt)))
 expr_sound (if_null {ts = ts} {us = us} {a = a} {b = b} ha hb) s =
     let first = sound_parts ts _ s.1.1 in
@@ -98,9 +105,11 @@ statement_sound (definition {ts = ts} {us = us} {vs = vs} {e = e} {over = domain
     let first = sound_parts ts _ s.1.1.1 in
     let second = sound_parts us _ first.1 in
     let third = sound_parts vs _ second.1 in
-    (tt, (s.1.0, (tt, both (expr_tokens e) _ (expr_sound he first.0) (both (domain_tokens domain) _ (domain_sound hd second.0) (both (period_tokens period) _ (period_sound hp third.0) (tt, tt))))))
+    let end = both (period_tokens period) (Sign mark.Semicolon ∷ []) (period_sound hp third.0) (tt, tt) in
+    (tt, (s.1.0, (tt, both (expr_tokens e) _ (expr_sound he first.0) (both (domain_tokens domain) _ (domain_sound hd second.0) end))))
 statement_sound (emission {ts = ts} {us = us} {vs = vs} {e = e} {over = span} {every = period} he hs hp) s =
     let first = sound_parts ts _ s.1 in
     let second = sound_parts us _ first.1 in
     let third = sound_parts vs _ second.1 in
-    (tt, both (expr_tokens e) _ (expr_sound he first.0) (both (span_tokens span) _ (span_sound hs second.0) (both (period_tokens period) _ (period_sound hp third.0) (tt, tt))))
+    let end = both (period_tokens period) (Sign mark.Semicolon ∷ []) (period_sound hp third.0) (tt, tt) in
+    (tt, both (expr_tokens e) _ (expr_sound he first.0) (both (span_tokens span) _ (span_sound hs second.0) end))

@@ -91,7 +91,8 @@ front_begins k text rest n e front =
     let rest_is : drop n (text ++ rest) ≡ rest = drop_at text rest n e in
     subst (λ l. Begins k (text ++ rest) l rest) text_is (subst (λ l. Begins k (text ++ rest) (take n (text ++ rest)) l) rest_is front.begins)
 
-word_begins : (k : Tok) (text rest : List ℕ) → IsWord text → IsTextOf k text → IsWithin k → Stops goes_on_word rest → Begins k (text ++ rest) text rest
+word_begins : (k : Tok) (text rest : List ℕ) → IsWord text → IsTextOf k text → IsWithin k → Stops goes_on_word rest
+    → Begins k (text ++ rest) text rest
 word_begins k text rest w is within stops =
     let first = word_first text w in
     let n = prefix_len goes_on_word (text ++ rest) in
@@ -100,7 +101,8 @@ word_begins k text rest w is within stops =
     let front_is : take n (text ++ rest) ≡ text = take_at text rest n (sym same) in
     front_begins k text rest n (sym same) (word_is_front (text ++ rest) k begins (subst (IsTextOf k) (sym front_is) is) within)
 
-number_begins : (m : ℕ) (rest : List ℕ) → m < 2 ^ 63 → Stops is_ascii_digit rest → Begins (tok.Number (pos m)) (decimal m ++ rest) (decimal m) rest
+number_begins : (m : ℕ) (rest : List ℕ) → m < 2 ^ 63 → Stops is_ascii_digit rest
+    → Begins (tok.Number (pos m)) (decimal m ++ rest) (decimal m) rest
 number_begins m rest below stops =
     let text = decimal m in
     let some : 0 < length text = decimal_nonempty m (omega arith) in
@@ -110,7 +112,8 @@ number_begins m rest below stops =
     let same : n ≡ length text = front_length is_ascii_digit text rest digits stops in
     let front_is : take n (text ++ rest) ≡ text = take_at text rest n (sym same) in
     let value_is : digits_value 10 (take n (text ++ rest)) ≡ m = ap (digits_value 10) front_is ∙ value in
-    let first : IsTrue (is_ascii_digit (get_or (text ++ rest) 0 0)) = ap is_ascii_digit (get_or_append_left text rest 0 0 some) ∙ digits_first text (some, digits) in
+    let first_is : get_or (text ++ rest) 0 0 ≡ get_or text 0 0 = get_or_append_left text rest 0 0 some in
+    let first : IsTrue (is_ascii_digit (get_or (text ++ rest) 0 0)) = ap is_ascii_digit first_is ∙ digits_first text (some, digits) in
     front_begins (tok.Number (pos m)) text rest n (sym same) (number_is_front (text ++ rest) (pos m) first (omega arith) (ap pos (sym value_is)))
 
 -- a sign is one byte, or a byte of a few and then `=`
@@ -128,7 +131,8 @@ no_equals : (rest more : List ℕ) → IsTrue (closes rest) → rest ≡ 61 ∷ 
 no_equals rest more h e = false≢true (ap closes (sym e) ∙ h)
 
 -- no longer sign stands there than one that ends before the rest
-no_longer_pair : (m : Mark) (rest more : List ℕ) (a : ℕ) → IsTrue (ends_before (tok.Mark m) rest) → IsTrue (begins_pair a) → length (mark_text m) ≡ 1 → mark_text m ++ rest ≡ a ∷ 61 ∷ more → ⊥
+no_longer_pair : (m : Mark) (rest more : List ℕ) (a : ℕ) → IsTrue (ends_before (tok.Mark m) rest) → IsTrue (begins_pair a)
+    → length (mark_text m) ≡ 1 → mark_text m ++ rest ≡ a ∷ 61 ∷ more → ⊥
 no_longer_pair m rest more a ends pair one e =
     let first : get_or (mark_text m) 0 0 ≡ a = sym (get_or_append_left (mark_text m) rest 0 0 (mark_first m).some) ∙ ap (λ l. get_or l 0 0) e in
     let behind : rest ≡ 61 ∷ more = sym (drop_at (mark_text m) rest 1 one) ∙ ap (drop 1) e in
@@ -136,18 +140,26 @@ no_longer_pair m rest more a ends pair one e =
     let closed : IsTrue (closes rest) = ap (λ b. b || closes rest) (sym not_alone) ∙ ends in
     no_equals rest more closed behind
 
-longest_sign : (m other : Mark) (rest more : List ℕ) → IsTrue (ends_before (tok.Mark m) rest) → mark_text m ++ rest ≡ mark_text other ++ more → length (mark_text other) ≤ length (mark_text m)
+same_length : (m other : Mark) (b a : ℕ) → mark_text m ≡ b ∷ 61 ∷ [] → mark_text other ≡ a ∷ 61 ∷ [] → length (mark_text other) ≤ length (mark_text m)
+same_length m other b a e f =
+    let two : length (mark_text m) ≡ 2 = ap length e in
+    let two_too : length (mark_text other) ≡ 2 = ap length f in
+    omega arith
+
+longest_sign : (m other : Mark) (rest more : List ℕ) → IsTrue (ends_before (tok.Mark m) rest)
+    → mark_text m ++ rest ≡ mark_text other ++ more → length (mark_text other) ≤ length (mark_text m)
 longest_sign m other rest more ends e =
     let some = (mark_first m).some in
     elim (one_or_two other) [
       | inl short ↦ omega arith
       | inr (a, (pair, is)) ↦ elim (one_or_two m) [
         | inl one ↦ absurd (no_longer_pair m rest more a ends pair one (e ∙ ap (λ l. l ++ more) is))
-        | inr (b, (other_pair, long)) ↦ let two : length (mark_text m) ≡ 2 = ap length long in let two_too : length (mark_text other) ≡ 2 = ap length is in omega arith
+        | inr (b, (other_pair, long)) ↦ same_length m other b a long is
       ]
     ]
 
-mark_begins : (m : Mark) (rest : List ℕ) → IsTrue (ends_before (tok.Mark m) rest) → Begins (tok.Mark m) (mark_text m ++ rest) (mark_text m) rest
+mark_begins : (m : Mark) (rest : List ℕ) → IsTrue (ends_before (tok.Mark m) rest)
+    → Begins (tok.Mark m) (mark_text m ++ rest) (mark_text m) rest
 mark_begins m rest ends =
     let first = mark_first m in
     let bytes = mark_text m ++ rest in

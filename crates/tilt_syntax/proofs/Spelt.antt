@@ -31,27 +31,32 @@ ends k rest closed = elim (cases_Bool (is_alone k)) [ inl alone ↦ rw alone ref
 token_spelt : (k : Tok) → Spelt (sign_text k) (k ∷ [])
 token_spelt k = record { go_on = λ {rest} {ks} tail. token k (ends k rest tail.closed) tail.spelt }
 
-enclosed_spelt : (text : List ℕ) (ts : List Tok) → Spelt text ts → Spelt (codes "(" ++ text ++ codes ")") (Sign mark.OpenParen ∷ (ts ++ (Sign mark.CloseParen ∷ [])))
+enclosed_spelt : (text : List ℕ) (ts : List Tok) → Spelt text ts
+    → Spelt (codes "(" ++ text ++ codes ")") (Sign mark.OpenParen ∷ (ts ++ (Sign mark.CloseParen ∷ [])))
 enclosed_spelt text ts inner = record {
   go_on = λ {rest} {ks} tail. simp append_assoc (token (Sign mark.OpenParen) refl
       (inner.go_on (record { closed = refl; spelt = token (Sign mark.CloseParen) refl tail.spelt })));
 }
 
-place_spelt : (place level : ℕ) (text : List ℕ) (ts : List Tok) → Spelt text ts → Spelt (in_place place level text) (place_tokens place level ts)
+place_spelt : (place level : ℕ) (text : List ℕ) (ts : List Tok) → Spelt text ts
+    → Spelt (in_place place level text) (place_tokens place level ts)
 place_spelt place level text ts inner =
     elim (cases_Bool (nat_lt level place)) [ inl lower ↦ rw lower (enclosed_spelt text ts inner) | inr not_lower ↦ rw not_lower inner ]
 
 offset_spelt : (d : ℤ) → Spelt (offset_text d) (offset_tokens d)
 offset_spelt (pos zero) = token_spelt (Reserved key.Time)
 offset_spelt (pos (suc n)) = record {
-  go_on = λ {rest} {ks} tail. token (Reserved key.Time) refl (token (Sign mark.Plus) refl (token (Number (pos (suc n))) tail.closed tail.spelt));
+  go_on = λ {rest} {ks} tail.
+      token (Reserved key.Time) refl (token (Sign mark.Plus) refl (token (Number (pos (suc n))) tail.closed tail.spelt));
 }
 offset_spelt (negsuc n) = record {
-  go_on = λ {rest} {ks} tail. token (Reserved key.Time) refl (token (Sign mark.Minus) refl (token (Number (pos (suc n))) tail.closed tail.spelt));
+  go_on = λ {rest} {ks} tail.
+      token (Reserved key.Time) refl (token (Sign mark.Minus) refl (token (Number (pos (suc n))) tail.closed tail.spelt));
 }
 
 -- a name with an offset in brackets
-bracket_spelt : (x : List ℕ) (d : ℤ) → Spelt (x ++ codes "[" ++ offset_text d ++ codes "]") (Word x ∷ Sign mark.OpenBracket ∷ (offset_tokens d ++ (Sign mark.CloseBracket ∷ [])))
+bracket_spelt : (x : List ℕ) (d : ℤ)
+    → Spelt (x ++ codes "[" ++ offset_text d ++ codes "]") (Word x ∷ Sign mark.OpenBracket ∷ (offset_tokens d ++ (Sign mark.CloseBracket ∷ [])))
 bracket_spelt x d = record {
   go_on = λ {rest} {ks} tail. simp append_assoc (token (Word x) refl (token (Sign mark.OpenBracket) refl
       ((offset_spelt d).go_on (record { closed = refl; spelt = token (Sign mark.CloseBracket) refl tail.spelt }))));
@@ -68,15 +73,16 @@ atom_spelt (Truth true) = token_spelt (Reserved key.TrueWord)
 atom_spelt (Truth false) = token_spelt (Reserved key.FalseWord)
 atom_spelt (Read x d) = reading_spelt x d
 atom_spelt (Reduce r x from to) = record {
-  go_on = λ {rest} {ks} tail. simp append_assoc (token (Reserved (reducer_key r)) refl (token (Sign mark.OpenParen) refl (token (Word x) refl (token (Sign mark.OpenBracket) refl
-      ((offset_spelt from).go_on (record {
-        closed = refl;
-        spelt = token (Sign mark.Colon) refl
-            ((offset_spelt to).go_on (record { closed = refl; spelt = token (Sign mark.CloseBracket) refl (token (Sign mark.CloseParen) refl tail.spelt) }));
-      }))))));
+  go_on = λ {rest} {ks} tail.
+      let end = token (Sign mark.CloseBracket) refl (token (Sign mark.CloseParen) refl tail.spelt) in
+      let behind = token (Sign mark.Colon) refl ((offset_spelt to).go_on (record { closed = refl; spelt = end })) in
+      let window = (offset_spelt from).go_on (record { closed = refl; spelt = behind }) in
+      simp append_assoc
+      (token (Reserved (reducer_key r)) refl (token (Sign mark.OpenParen) refl (token (Word x) refl (token (Sign mark.OpenBracket) refl window))));
 }
 
-operands_spelt : (i : Option Infix) (l m : ℕ) (a b : List ℕ) (ts us : List Tok) → Spelt a ts → Spelt b us → Spelt (operands_text i l a m b) (operands_tokens i l ts m us)
+operands_spelt : (i : Option Infix) (l m : ℕ) (a b : List ℕ) (ts us : List Tok) → Spelt a ts → Spelt b us
+    → Spelt (operands_text i l a m b) (operands_tokens i l ts m us)
 operands_spelt None l m a b ts us ha hb = record {
   go_on = λ {rest} {ks} tail. simp append_assoc (token (Reserved key.IfNull) refl (token (Sign mark.OpenParen) refl
       (ha.go_on (record {
@@ -108,7 +114,8 @@ expr_spelt (One op1.IsNull a) =
     let inner = enclosed_spelt (expr_text a) (expr_tokens a) (expr_spelt a) in
     record { go_on = λ {rest} {ks} tail. token (Reserved key.IsNull) refl (inner.go_on tail) }
 expr_spelt (Two op a b) =
-    operands_spelt (infix_of op) (level_of a) (level_of b) (expr_text a) (expr_text b) (expr_tokens a) (expr_tokens b) (expr_spelt a) (expr_spelt b)
+    operands_spelt (infix_of op) (level_of a) (level_of b) (expr_text a) (expr_text b) (expr_tokens a) (expr_tokens b)
+    (expr_spelt a) (expr_spelt b)
 expr_spelt (If c a b) = record {
   go_on = λ {rest} {ks} tail. simp append_assoc (token (Reserved key.If) refl (blank refl
       ((expr_spelt c).go_on (record {
@@ -124,7 +131,9 @@ expr_spelt (If c a b) = record {
 
 bound_spelt : (n : ℤ) → Spelt (signed_decimal n) (bound_tokens n)
 bound_spelt (pos n) = token_spelt (Number (pos n))
-bound_spelt (negsuc n) = record { go_on = λ {rest} {ks} tail. token (Sign mark.Minus) refl (token (Number (pos (suc n))) tail.closed tail.spelt) }
+bound_spelt (negsuc n) = record {
+  go_on = λ {rest} {ks} tail. token (Sign mark.Minus) refl (token (Number (pos (suc n))) tail.closed tail.spelt);
+}
 
 module _ {rest : List ℕ} {ks : List Tok} (tail : Tail rest ks) where
   span_tail : (span : Span) → Tail (span_text span ++ rest) (span_tokens span ++ ks)
@@ -155,11 +164,13 @@ line_end rest ks more = record { closed = refl; spelt = token (Sign mark.Semicol
 
 emission_spells : (e over every rest : List ℕ) (ts us vs ks : List Tok) → Spelt e ts
     → Tail (over ++ (every ++ (codes ";\n" ++ rest))) (us ++ (vs ++ (Sign mark.Semicolon ∷ ks)))
-    → Spells ((codes "emit " ++ e ++ over ++ every ++ codes ";\n") ++ rest) ((Reserved key.Emit ∷ (ts ++ (us ++ (vs ++ (Sign mark.Semicolon ∷ []))))) ++ ks)
+    → Spells ((codes "emit " ++ e ++ over ++ every ++ codes ";\n") ++ rest)
+    ((Reserved key.Emit ∷ (ts ++ (us ++ (vs ++ (Sign mark.Semicolon ∷ []))))) ++ ks)
 emission_spells e over every rest ts us vs ks spelt tail =
     simp append_assoc (token (Reserved key.Emit) refl (blank refl (spelt.go_on tail)))
 
-statement_spells : (s : StatementTree) (rest : List ℕ) (ks : List Tok) → Spells rest ks → Spells (statement_text s ++ rest) (statement_tokens s ++ ks)
+statement_spells : (s : StatementTree) (rest : List ℕ) (ks : List Tok) → Spells rest ks
+    → Spells (statement_text s ++ rest) (statement_tokens s ++ ks)
 statement_spells (Input x) rest ks more =
     simp append_assoc (token (Reserved key.Input) refl (blank refl (token (Word x) refl (line_end rest ks more).spelt)))
 statement_spells (Let x e domain period) rest ks more =

@@ -55,7 +55,8 @@ bound_tokens (negsuc n) = Sign mark.Minus ∷ Number (pos (suc n)) ∷ []
 
 abbrev pub span_tokens : Span → List Tok
 span_tokens span =
-    Reserved key.Over ∷ Sign mark.OpenParen ∷ (bound_tokens span.start ++ (Sign mark.Comma ∷ (bound_tokens span.end ++ (Sign mark.CloseBracket ∷ []))))
+    Reserved key.Over ∷ Sign mark.OpenParen
+    ∷ (bound_tokens span.start ++ (Sign mark.Comma ∷ (bound_tokens span.end ++ (Sign mark.CloseBracket ∷ []))))
 
 abbrev pub domain_tokens : Option Span → List Tok
 domain_tokens None = []
@@ -68,14 +69,17 @@ period_tokens (Some p) = Reserved key.Every ∷ Number p ∷ []
 -- the tokens of a statement before its `;`
 abbrev pub body_tokens : StatementTree → List Tok
 body_tokens (Input x) = Reserved key.Input ∷ Word x ∷ []
-body_tokens (Let x e domain period) = Reserved key.Let ∷ Word x ∷ Sign mark.Assign ∷ (expr_tokens e ++ (domain_tokens domain ++ period_tokens period))
+body_tokens (Let x e domain period) =
+    Reserved key.Let ∷ Word x ∷ Sign mark.Assign ∷ (expr_tokens e ++ (domain_tokens domain ++ period_tokens period))
 body_tokens (Emit e span period) = Reserved key.Emit ∷ (expr_tokens e ++ (span_tokens span ++ period_tokens period))
 
 abbrev pub statement_tokens : StatementTree → List Tok
 statement_tokens (Input x) = Reserved key.Input ∷ Word x ∷ Sign mark.Semicolon ∷ []
 statement_tokens (Let x e domain period) =
-    Reserved key.Let ∷ Word x ∷ Sign mark.Assign ∷ (expr_tokens e ++ (domain_tokens domain ++ (period_tokens period ++ (Sign mark.Semicolon ∷ []))))
-statement_tokens (Emit e span period) = Reserved key.Emit ∷ (expr_tokens e ++ (span_tokens span ++ (period_tokens period ++ (Sign mark.Semicolon ∷ []))))
+    Reserved key.Let ∷ Word x ∷ Sign mark.Assign
+    ∷ (expr_tokens e ++ (domain_tokens domain ++ (period_tokens period ++ (Sign mark.Semicolon ∷ []))))
+statement_tokens (Emit e span period) =
+    Reserved key.Emit ∷ (expr_tokens e ++ (span_tokens span ++ (period_tokens period ++ (Sign mark.Semicolon ∷ []))))
 
 loosen : {ts : List Tok} {e : ExprTree} (gap level : ℕ) → IsExpr (level + gap) ts e → IsExpr level ts e
 loosen {ts = ts} {e = e} zero level h = let same : level + 0 ≡ level = omega arith in subst (λ n. IsExpr n ts e) same h
@@ -90,7 +94,8 @@ looser {ts = ts} {e = e} tight loose le h =
     loosen (tight - loose) loose (subst (λ n. IsExpr n ts e) same h)
 
 -- and in parentheses in any place
-in_place_is : {ts : List Tok} {e : ExprTree} (place level : ℕ) → place ≤ 9 → IsExpr level ts e → IsExpr place (place_tokens place level ts) e
+in_place_is : {ts : List Tok} {e : ExprTree} (place level : ℕ) → place ≤ 9 → IsExpr level ts e
+    → IsExpr place (place_tokens place level ts) e
 in_place_is place level fits h =
     elim (cases_Bool (nat_lt level place)) [
       | inl lower ↦ rw lower (looser 9 place fits (enclosed (looser level 0 (omega arith) h)))
@@ -110,7 +115,8 @@ two_is : {ts us : List Tok} {a b : ExprTree} (op : Op2) (i : Option Infix) (l m 
     → IsExpr (level2 i) (operands_tokens i l ts m us) (Two op a b)
 two_is {ts = ts} {us = us} {a = a} {b = b} op None l m e ha hb =
     let call : op ≡ op2.IfNull = subst (PlacesFit op) e (places_fit op) in
-    subst (λ o. IsExpr 9 (operands_tokens None l ts m us) (Two o a b)) (sym call) (if_null (looser l 0 (omega arith) ha) (looser m 0 (omega arith) hb))
+    subst (λ o. IsExpr 9 (operands_tokens None l ts m us) (Two o a b)) (sym call)
+    (if_null (looser l 0 (omega arith) ha) (looser m 0 (omega arith) hb))
 two_is op (Some i) l m e ha hb =
     let fit = subst (PlacesFit op) e (places_fit op) in
     between e (in_place_is i.left l fit.0 ha) (in_place_is i.right m fit.1 hb)
@@ -140,7 +146,8 @@ expr_is (One op1.Not a) = negation (in_place_is 4 (level_of a) (omega arith) (ex
 expr_is (One op1.IsNull a) = is_null (looser (level_of a) 0 (omega arith) (expr_is a))
 expr_is (Two op a b) = two_is op (infix_of op) (level_of a) (level_of b) refl (expr_is a) (expr_is b)
 expr_is (If c a b) =
-    choice (looser (level_of c) 0 (omega arith) (expr_is c)) (looser (level_of a) 0 (omega arith) (expr_is a)) (looser (level_of b) 0 (omega arith) (expr_is b))
+    let whole : (d : ExprTree) → IsExpr (level_of d) (expr_tokens d) d → IsExpr 0 (expr_tokens d) d = λ d h. looser (level_of d) 0 (omega arith) h in
+    choice (whole c (expr_is c)) (whole a (expr_is a)) (whole b (expr_is b))
 
 whole_is : (e : ExprTree) → IsExpr 0 (expr_tokens e) e
 whole_is e = looser (level_of e) 0 (omega arith) (expr_is e)

@@ -48,7 +48,8 @@ atom_text (Num n) = signed_decimal n
 atom_text (Truth true) = codes "true"
 atom_text (Truth false) = codes "false"
 atom_text (Read x offset) = reading_text x offset
-atom_text (Reduce r x from to) = key_text (reducer_key r) ++ codes "(" ++ x ++ codes "[" ++ offset_text from ++ codes ":" ++ offset_text to ++ codes "])"
+atom_text (Reduce r x from to) =
+    key_text (reducer_key r) ++ codes "(" ++ x ++ codes "[" ++ offset_text from ++ codes ":" ++ offset_text to ++ codes "])"
 
 -- the text of a sign or a reserved word between operands
 abbrev pub sign_text : Tok → List ℕ
