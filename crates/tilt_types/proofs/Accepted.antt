@@ -5,7 +5,8 @@ use Rattle.tilt_lexer.specs.Word.{key_text}
 use Rattle.tilt_lexer.specs.declared.key.Key.{Key}
 use Rattle.tilt_lexer.specs.declared.key.Key.TheVariants as key
 use Rattle.tilt_types.specs.Core.{CoreParts, IsCore}
-use Rattle.tilt_types.specs.declared.tree.Tree.TheVariants.{Read}
+use Rattle.tilt_base.specs.Expression.{Leaf}
+use Rattle.tilt_types.specs.CoreTree.{Read}
 
 -- no reserved word is `x`
 no_key_x : (k : Key) → key_text k ≡ codes "x" → ⊥
@@ -15,7 +16,7 @@ emits_input : CoreParts
 emits_input = record {
   inputs = codes "x" ∷ [];
   names = [];
-  defs = record { body = Read 0 (pos 0); over = Some (record { start = pos 0; end = pos 5 }); grid = record { period = pos 1; offset = pos 0 } } ∷ [];
+  defs = record { body = Leaf (Read 0 (pos 0)); over = Some (record { start = pos 0; end = pos 5 }); grid = record { period = pos 1; offset = pos 0 } } ∷ [];
 }
 
 emits_input_is_accepted : IsCore emits_input

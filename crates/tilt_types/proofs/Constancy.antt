@@ -20,9 +20,8 @@ use Rattle.tilt_types.specs.Core.{AreDefinitions}
 use Rattle.tilt_types.specs.Domain.{some_mark, on_grid, lies_in, restricted, within}
 use Rattle.tilt_types.specs.Pointwise.{constant, shifted, lifted1, lifted2, branched}
 use Rattle.tilt_types.specs.Meaning.{AreGrids, source_of, body_of, definition_of, with_definitions, meaning}
-use Rattle.tilt_types.specs.declared.definition.Def.{Def}
-use Rattle.tilt_types.specs.declared.tree.Tree.{Tree}
-use Rattle.tilt_types.specs.declared.tree.Tree.TheVariants.{Const, Read, Reduce, One', Two', If'}
+use Rattle.tilt_base.specs.Expression.{Leaf, One, Two, If}
+use Rattle.tilt_types.specs.CoreTree.{Const, Read, Reduce, CoreTree, Definition}
 use Rattle.tilt_types.specs.Window.{met_behind, met, windowed}
 
 -- none of two, or of three, is true
@@ -179,15 +178,15 @@ within-changes (Some span) x h = restricted-changes span x h
 pub record AllChangeOnlyAtMarks (xs : List Stream) : Type 0 where
   pub each : (source : ℕ) → ChangesOnlyAtMarks (source_of xs source)
 
-body_of-changes : (xs : List Stream) → AllChangeOnlyAtMarks xs → (body : Tree) → ChangesOnlyAtMarks (body_of xs body)
-body_of-changes xs h (Const number) = constant-changes (Some number)
-body_of-changes xs h (Read source offset) = shifted-changes (source_of xs source) offset (h.each source)
-body_of-changes xs h (Reduce reducer source from to) = windowed-changes reducer from to (source_of xs source) (h.each source)
-body_of-changes xs h (One' op p a) = lifted1-changes op (body_of xs a) (body_of-changes xs h a)
-body_of-changes xs h (Two' op p a q b) = lifted2-changes op (body_of xs a) (body_of xs b) (body_of-changes xs h a) (body_of-changes xs h b)
-body_of-changes xs h (If' p c q a r b) = branched-changes (body_of xs c) (body_of xs a) (body_of xs b) (body_of-changes xs h c) (body_of-changes xs h a) (body_of-changes xs h b)
+body_of-changes : (xs : List Stream) → AllChangeOnlyAtMarks xs → (body : CoreTree) → ChangesOnlyAtMarks (body_of xs body)
+body_of-changes xs h (Leaf (Const number)) = constant-changes (Some number)
+body_of-changes xs h (Leaf (Read source offset)) = shifted-changes (source_of xs source) offset (h.each source)
+body_of-changes xs h (Leaf (Reduce reducer source from to)) = windowed-changes reducer from to (source_of xs source) (h.each source)
+body_of-changes xs h (One op a) = lifted1-changes op (body_of xs a) (body_of-changes xs h a)
+body_of-changes xs h (Two op a b) = lifted2-changes op (body_of xs a) (body_of xs b) (body_of-changes xs h a) (body_of-changes xs h b)
+body_of-changes xs h (If c a b) = branched-changes (body_of xs c) (body_of xs a) (body_of xs b) (body_of-changes xs h c) (body_of-changes xs h a) (body_of-changes xs h b)
 
-definition_of-changes : (xs : List Stream) → AllChangeOnlyAtMarks xs → (def : Def) → IsGrid def.grid → ChangesOnlyAtMarks (definition_of xs def)
+definition_of-changes : (xs : List Stream) → AllChangeOnlyAtMarks xs → (def : Definition) → IsGrid def.grid → ChangesOnlyAtMarks (definition_of xs def)
 definition_of-changes xs h def valid = within-changes def.over (on_grid def.grid (body_of xs def.body)) (on_grid-changes def.grid (body_of xs def.body) valid (body_of-changes xs h def.body))
 
 source_of_rows : (inputs : List (List Snapshot)) (source : ℕ) → ChangesOnlyAtMarks (source_of (map stream_of inputs) source)
@@ -201,16 +200,16 @@ source_of_more [] x h g (suc source) = constant-changes None
 source_of_more (y ∷ ys) x h g zero = h 0
 source_of_more (y ∷ ys) x h g (suc source) = source_of_more ys x (λ n. h (suc n)) g source
 
-with_definitions-changes : (xs : List Stream) → AllChangeOnlyAtMarks xs → (defs : List Def) → AreGrids defs → AllChangeOnlyAtMarks (with_definitions xs defs)
+with_definitions-changes : (xs : List Stream) → AllChangeOnlyAtMarks xs → (defs : List Definition) → AreGrids defs → AllChangeOnlyAtMarks (with_definitions xs defs)
 with_definitions-changes xs h [] valid = h
 with_definitions-changes xs h (def ∷ defs) valid =
     with_definitions-changes (xs ++ definition_of xs def ∷ []) (record { each = source_of_more xs (definition_of xs def) h.each (definition_of-changes xs h def valid.0) }) defs valid.1
 
 -- each source of a query whose grids are grids changes only at marks
-pub meaning-changes : (inputs : List (List Snapshot)) (defs : List Def) → AreGrids defs → (source : ℕ) → ChangesOnlyAtMarks (meaning inputs defs source)
+pub meaning-changes : (inputs : List (List Snapshot)) (defs : List Definition) → AreGrids defs → (source : ℕ) → ChangesOnlyAtMarks (meaning inputs defs source)
 meaning-changes inputs defs valid source = (with_definitions-changes (map stream_of inputs) (record { each = source_of_rows inputs }) defs valid).each source
 
 -- the grids of the definitions of an accepted query are grids
-pub definitions-AreGrids : (before : ℕ) (defs : List Def) → AreDefinitions before defs → AreGrids defs
+pub definitions-AreGrids : (before : ℕ) (defs : List Definition) → AreDefinitions before defs → AreGrids defs
 definitions-AreGrids before [] h = tt
 definitions-AreGrids before (def ∷ defs) h = (h.0.grid, definitions-AreGrids (suc before) defs h.1)

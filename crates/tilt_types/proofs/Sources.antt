@@ -5,7 +5,7 @@ use Rattle.tilt_stream.specs.Snap.{Snapshot}
 use Rattle.tilt_stream.specs.Stream.{Stream, stream_of}
 use Rattle.tilt_types.specs.Meaning.{source_of, definition_of, with_definitions, sources}
 use Rattle.tilt_types.specs.Pointwise.{nothing}
-use Rattle.tilt_types.specs.declared.definition.Def.{Def}
+use Rattle.tilt_types.specs.CoreTree.{Definition}
 
 source_of-front : (xs : List Stream) (x : Stream) (i : ℕ) → i < length xs → source_of (xs ++ x ∷ []) i ≡ source_of xs i
 source_of-front [] x i h = absurd (omega arith)
@@ -22,14 +22,14 @@ source_of-past (y ∷ ys) zero h = absurd (omega arith)
 source_of-past (y ∷ ys) (suc i) h = source_of-past ys i (omega arith)
 
 -- definitions leave the sources before them as they are
-with_definitions-front : (xs : List Stream) (defs : List Def) (i : ℕ) → i < length xs → source_of (with_definitions xs defs) i ≡ source_of xs i
+with_definitions-front : (xs : List Stream) (defs : List Definition) (i : ℕ) → i < length xs → source_of (with_definitions xs defs) i ≡ source_of xs i
 with_definitions-front xs [] i h = refl
 with_definitions-front xs (def ∷ defs) i h =
     let x = definition_of xs def in
     with_definitions-front (xs ++ x ∷ []) defs i (omega (arith, length-append xs (x ∷ []))) ∙ source_of-front xs x i h
 
 -- a definition is over the sources before it
-with_definitions-at : (xs : List Stream) (defs : List Def) (k i : ℕ) (other : Def) → k < length defs → i ≡ length xs + k → source_of (with_definitions xs defs) i ≡ definition_of (with_definitions xs (take k defs)) (get_or defs k other)
+with_definitions-at : (xs : List Stream) (defs : List Definition) (k i : ℕ) (other : Definition) → k < length defs → i ≡ length xs + k → source_of (with_definitions xs defs) i ≡ definition_of (with_definitions xs (take k defs)) (get_or defs k other)
 with_definitions-at xs [] k i other h is = absurd (omega arith)
 with_definitions-at xs (def ∷ defs) zero i other h is =
     let x = definition_of xs def in
@@ -39,7 +39,7 @@ with_definitions-at xs (def ∷ defs) (suc k) i other h is =
     let x = definition_of xs def in
     with_definitions-at (xs ++ x ∷ []) defs k i other (omega arith) (omega (arith, length-append xs (x ∷ [])))
 
-with_definitions-past : (xs : List Stream) (defs : List Def) (i : ℕ) → length xs + length defs ≤ i → source_of (with_definitions xs defs) i ≡ nothing
+with_definitions-past : (xs : List Stream) (defs : List Definition) (i : ℕ) → length xs + length defs ≤ i → source_of (with_definitions xs defs) i ≡ nothing
 with_definitions-past xs [] i h = source_of-past xs i (omega arith)
 with_definitions-past xs (def ∷ defs) i h =
     let x = definition_of xs def in
@@ -50,7 +50,7 @@ source_of-map [] i other h = absurd (omega arith)
 source_of-map (rows ∷ inputs) zero other h = refl
 source_of-map (rows ∷ inputs) (suc i) other h = source_of-map inputs i other (omega arith)
 
-module _ (inputs : List (List Snapshot)) (defs : List Def) (i : ℕ) where
+module _ (inputs : List (List Snapshot)) (defs : List Definition) (i : ℕ) where
   count : length (map stream_of inputs) ≡ length inputs
   count = length-map inputs stream_of
 
@@ -60,7 +60,7 @@ module _ (inputs : List (List Snapshot)) (defs : List Def) (i : ℕ) where
       with_definitions-front (map stream_of inputs) defs i (omega (arith, count)) ∙ source_of-map inputs i rows h ∙ ap stream_of (sym is)
 
   -- a definition is over the inputs and the definitions before it
-  pub source_of-definition : (def : Def) → length inputs ≤ i → i - length inputs < length defs → def ≡ get_or defs (i - length inputs) def → source_of (sources inputs defs) i ≡ definition_of (sources inputs (take (i - length inputs) defs)) def
+  pub source_of-definition : (def : Definition) → length inputs ≤ i → i - length inputs < length defs → def ≡ get_or defs (i - length inputs) def → source_of (sources inputs defs) i ≡ definition_of (sources inputs (take (i - length inputs) defs)) def
   source_of-definition def h l is =
       with_definitions-at (map stream_of inputs) defs (i - length inputs) i def l (omega (arith, count)) ∙ ap (definition_of (sources inputs (take (i - length inputs) defs))) (sym is)
 

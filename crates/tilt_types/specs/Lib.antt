@@ -1,5 +1,6 @@
 pub mod Agreement
 pub mod Core
+pub mod CoreTree
 pub mod Domain
 pub mod Evaluate
 pub mod Meaning

@@ -1,12 +1,11 @@
 -- The meaning of a query: the stream of each source, from the rows of the inputs and the definitions. Sources are numbered, the inputs in order from 0 on, then the
 -- definitions in order. The meaning looks at one tick and at whole series: it has no buffer, no margin and no loop.
 use Rattle.std.specs.Prelude.{ℕ, zero, suc, List, [], ◌∷◌, ◌++◌, map, Some, ⊤}
+use Rattle.tilt_base.specs.Expression.{Leaf, One, Two, If}
 use Rattle.tilt_base.specs.Grid.{IsGrid}
 use Rattle.tilt_stream.specs.Snap.{Snapshot}
 use Rattle.tilt_stream.specs.Stream.{Stream, stream_of}
-use Rattle.tilt_types.specs.declared.tree.Tree.{Tree}
-use Rattle.tilt_types.specs.declared.tree.Tree.TheVariants.{Const, Read, Reduce, One', Two', If'}
-use Rattle.tilt_types.specs.declared.definition.Def.{Def}
+use Rattle.tilt_types.specs.CoreTree.{Const, Read, Reduce, CoreTree, Definition}
 use Rattle.tilt_types.specs.Domain.{on_grid, within}
 use Rattle.tilt_types.specs.Pointwise.{constant, nothing, shifted, lifted1, lifted2, branched}
 use Rattle.tilt_types.specs.Window.{windowed}
@@ -18,32 +17,32 @@ source_of (x ∷ xs) zero = x
 source_of (x ∷ xs) (suc number) = source_of xs number
 
 -- an expression over sources
-abbrev pub body_of : List Stream → Tree → Stream
-body_of xs (Const number) = constant (Some number)
-body_of xs (Read source offset) = shifted (source_of xs source) offset
-body_of xs (Reduce reducer source from to) = windowed reducer from to (source_of xs source)
-body_of xs (One' op p a) = lifted1 op (body_of xs a)
-body_of xs (Two' op p a q b) = lifted2 op (body_of xs a) (body_of xs b)
-body_of xs (If' p c q a r b) = branched (body_of xs c) (body_of xs a) (body_of xs b)
+abbrev pub body_of : List Stream → CoreTree → Stream
+body_of xs (Leaf (Const number)) = constant (Some number)
+body_of xs (Leaf (Read source offset)) = shifted (source_of xs source) offset
+body_of xs (Leaf (Reduce reducer source from to)) = windowed reducer from to (source_of xs source)
+body_of xs (One op a) = lifted1 op (body_of xs a)
+body_of xs (Two op a b) = lifted2 op (body_of xs a) (body_of xs b)
+body_of xs (If c a b) = branched (body_of xs c) (body_of xs a) (body_of xs b)
 
 -- a definition over sources: its body, taken on the grid first and then restricted
-abbrev pub definition_of : List Stream → Def → Stream
+abbrev pub definition_of : List Stream → Definition → Stream
 definition_of xs def = within def.over (on_grid def.grid (body_of xs def.body))
 
 -- the sources, and behind them the definitions, each over all sources before it
-abbrev pub with_definitions : List Stream → List Def → List Stream
+abbrev pub with_definitions : List Stream → List Definition → List Stream
 with_definitions xs [] = xs
 with_definitions xs (def ∷ defs) = with_definitions (xs ++ definition_of xs def ∷ []) defs
 
 -- all sources of a query: the rows of each input, and the definitions
-abbrev pub sources : List (List Snapshot) → List Def → List Stream
+abbrev pub sources : List (List Snapshot) → List Definition → List Stream
 sources inputs defs = with_definitions (map stream_of inputs) defs
 
 -- the meaning of one source
-abbrev pub meaning : List (List Snapshot) → List Def → ℕ → Stream
+abbrev pub meaning : List (List Snapshot) → List Definition → ℕ → Stream
 meaning inputs defs number = source_of (sources inputs defs) number
 
 -- the grid of each definition is one
-abbrev pub AreGrids : List Def → Type 0
+abbrev pub AreGrids : List Definition → Type 0
 AreGrids [] = ⊤
 AreGrids (def ∷ defs) = IsGrid def.grid × AreGrids defs

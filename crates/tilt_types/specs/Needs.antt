@@ -3,9 +3,8 @@
 use Rattle.std.specs.Prelude.{ℕ, suc, ℤ, pos, neg_ℤ, ◌+ℤ◌, ◌-ℤ◌, ◌==◌, if◌then◌else◌, List, [], ◌∷◌, ◌++◌, map, Option, Some, None, option_map}
 use Rattle.std.specs.Int.{int_max}
 use Rattle.std.specs.List.{range_with_len}
-use Rattle.tilt_types.specs.declared.tree.Tree.{Tree}
-use Rattle.tilt_types.specs.declared.tree.Tree.TheVariants.{Const, Read, Reduce, One', Two', If'}
-use Rattle.tilt_types.specs.declared.definition.Def.{Def}
+use Rattle.tilt_base.specs.Expression.{Leaf, One, Two, If}
+use Rattle.tilt_types.specs.CoreTree.{Const, Read, Reduce, CoreTree, Definition}
 
 -- how far back and how far ahead, in ticks
 pub record Need : Type 0 where
@@ -31,45 +30,45 @@ abbrev pub reaching : Need → ℤ → ℤ → Need
 reaching n first last = record { back = n.back +ℤ int_max (pos 0) (neg_ℤ first); ahead = n.ahead +ℤ int_max (pos 0) last }
 
 -- what an expression with a need asks of the source with a number
-abbrev pub asked_by : Need → Tree → ℕ → Option Need
-asked_by n (Const number) source = None
-asked_by n (Read read offset) source = if read == source then Some (reaching n offset offset) else None
-asked_by n (Reduce reducer read from to) source = if read == source then Some (reaching n (from +ℤ pos 1) to) else None
-asked_by n (One' op p a) source = asked_by n a source
-asked_by n (Two' op p a q b) source = either (asked_by n a source) (asked_by n b source)
-asked_by n (If' p c q a r b) source = either (asked_by n c source) (either (asked_by n a source) (asked_by n b source))
+abbrev pub asked_by : Need → CoreTree → ℕ → Option Need
+asked_by n (Leaf (Const number)) source = None
+asked_by n (Leaf (Read read offset)) source = if read == source then Some (reaching n offset offset) else None
+asked_by n (Leaf (Reduce reducer read from to)) source = if read == source then Some (reaching n (from +ℤ pos 1) to) else None
+asked_by n (One op a) source = asked_by n a source
+asked_by n (Two op a b) source = either (asked_by n a source) (asked_by n b source)
+asked_by n (If c a b) source = either (asked_by n c source) (either (asked_by n a source) (asked_by n b source))
 
 -- the need of a definition's body: its grid looks ahead up to the next point
-abbrev pub body_need : Def → Need → Need
+abbrev pub body_need : Definition → Need → Need
 body_need def n = record { back = n.back; ahead = n.ahead +ℤ def.grid.period -ℤ pos 1 }
 
 -- what a definition with this need asks of a source; nothing where the definition isn't used
-abbrev pub asked_of : Def → Option Need → ℕ → Option Need
+abbrev pub asked_of : Definition → Option Need → ℕ → Option Need
 asked_of def None source = None
 asked_of def (Some n) source = asked_by (body_need def n) def.body source
 
 -- the need of a definition: that of the last one, which is emitted, is the tick itself; that of another is what the definitions behind it ask
-abbrev pub need_before : List Def → Option Need → Option Need
+abbrev pub need_before : List Definition → Option Need → Option Need
 need_before [] asked = Some no_margin
 need_before (def ∷ defs) asked = asked
 
 -- what definitions ask of a source, of which the first definition has the number `first`
-abbrev pub asked_from : ℕ → List Def → ℕ → Option Need
+abbrev pub asked_from : ℕ → List Definition → ℕ → Option Need
 asked_from first [] source = None
 asked_from first (def ∷ defs) source =
     either (asked_from (suc first) defs source) (asked_of def (need_before defs (asked_from (suc first) defs first)) source)
 
 -- the needs of definitions in order, of which the first has the number `first`; missing where a definition isn't used
-abbrev pub needs_from : ℕ → List Def → List (Option Need)
+abbrev pub needs_from : ℕ → List Definition → List (Option Need)
 needs_from first [] = []
 needs_from first (def ∷ defs) = need_before defs (asked_from (suc first) defs first) ∷ needs_from (suc first) defs
 
 -- the needs of the sources of a query with so many inputs, in order
-abbrev pub needs : ℕ → List Def → List (Option Need)
+abbrev pub needs : ℕ → List Definition → List (Option Need)
 needs inputs defs = map (asked_from inputs defs) (range_with_len 0 inputs) ++ needs_from inputs defs
 
 -- the needs of the bodies of definitions with these needs
-abbrev pub body_needs : List Def → List (Option Need) → List (Option Need)
+abbrev pub body_needs : List Definition → List (Option Need) → List (Option Need)
 body_needs (def ∷ defs) (n ∷ ns) = option_map (body_need def) n ∷ body_needs defs ns
 body_needs [] ns = []
 body_needs (def ∷ defs) [] = []
@@ -81,5 +80,5 @@ widest (None ∷ ns) = widest ns
 widest (Some n ∷ ns) = wider n (widest ns)
 
 -- the look-back and the look-ahead of a query with so many inputs: the widest of the needs of its inputs and of the bodies of its definitions
-abbrev pub reach : ℕ → List Def → Need
+abbrev pub reach : ℕ → List Definition → Need
 reach inputs defs = widest (map (asked_from inputs defs) (range_with_len 0 inputs) ++ body_needs defs (needs_from inputs defs))

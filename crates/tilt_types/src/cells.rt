@@ -2,6 +2,7 @@
 ghost use Rattle.std.specs.Prelude.{◌≡◌, ◌++◌, [], ◌∷◌, ◌+◌, ◌*◌, ◌^◌, ◌<◌, ◌≤◌, ◌||◌, pos, ◌+ℤ◌, length, IfOk, OnOk};
 ghost use Rattle.std.specs.Ordering.{int_eq};
 ghost use Rattle.tilt_base.specs.Reduce.{numbers};
+ghost use Rattle.tilt_types.specs.CoreTree.{tree_of};
 ghost use Rattle.tilt_types.specs.Evaluate.{IsNear};
 ghost use Rattle.tilt_types.specs.Meaning.{body_of, definition_of, meaning, sources};
 ghost use Rattle.tilt_types.specs.Window.{met};
@@ -69,7 +70,7 @@ fn body_cell(
 ) -> Result<Cell, OutOfMemory>
     requires few { length defs.now < 2 ^ 32 }
     requires near { IsNear (2 ^ 65 * length defs.now + 2 ^ 64) tick }
-    ensures { IfOk result (λ cell. cell ≡ (body_of (sources inputs.now defs.now) body.now).cell tick) }
+    ensures { IfOk result (λ cell. cell ≡ (body_of (sources inputs.now defs.now) (tree_of body.now)).cell tick) }
 {
     match body {
         Tree::Const(number) => Ok(Some(*number)),

@@ -1,5 +1,6 @@
 // The marks of a query's sources, at one tick.
 ghost use Rattle.std.specs.Prelude.{◌≡◌, ◌+◌, ◌*◌, ◌^◌, ◌<◌, ◌≤◌, length};
+ghost use Rattle.tilt_types.specs.CoreTree.{tree_of};
 ghost use Rattle.tilt_types.specs.Domain.{on_grid, some_mark};
 ghost use Rattle.tilt_types.specs.Evaluate.{IsNear};
 ghost use Rattle.tilt_types.specs.Meaning.{body_of, definition_of, meaning, sources};
@@ -68,7 +69,7 @@ fn grid_mark(inputs: &[Rows], defs: &[Def], def: &Def, tick: i128) -> bool
 fn some_mark(inputs: &[Rows], defs: &[Def], body: &Tree, tick: i128, count: u64) -> bool
     requires few { length defs.now < 2 ^ 32 }
     requires near { IsNear (2 ^ 65 * length defs.now + 2 ^ 64 + count) tick }
-    ensures { result ≡ some_mark (body_of (sources inputs.now defs.now) body.now) tick count }
+    ensures { result ≡ some_mark (body_of (sources inputs.now defs.now) (tree_of body.now)) tick count }
 {
     for behind in 0..count {
         if body_mark(inputs, defs, body, tick + 1 + i128::from(behind)) {
@@ -83,7 +84,7 @@ fn some_mark(inputs: &[Rows], defs: &[Def], body: &Tree, tick: i128, count: u64)
 fn body_mark(inputs: &[Rows], defs: &[Def], body: &Tree, tick: i128) -> bool
     requires few { length defs.now < 2 ^ 32 }
     requires near { IsNear (2 ^ 65 * length defs.now + 2 ^ 64) tick }
-    ensures { result ≡ (body_of (sources inputs.now defs.now) body.now).mark tick }
+    ensures { result ≡ (body_of (sources inputs.now defs.now) (tree_of body.now)).mark tick }
 {
     match body {
         Tree::Const(_) => false,

@@ -15,13 +15,11 @@ pub struct Core {
 }
 
 impl Model for Core {
-    ghost use Rattle.tilt_types.specs.Core.{CoreParts, IsCore};
-    ghost use Rattle.std.specs.Coded.{codes};
-    ghost use Rattle.tilt_types.specs.contracts.tree.Tree as tree;
+    ghost use Rattle.tilt_types.specs.Core.{CoreParts, IsCore, coded_core};
 
     ghost Value = { CoreParts };
 
-    ghost coded = { Prim.hlevel (codes, tree.the_row.coded) };
+    ghost coded = { coded_core };
 
     ghost view = { λ c. record { inputs = c.inputs.items; names = c.names.items; defs = c.defs.items } };
 

@@ -4,7 +4,7 @@ use Rattle.std.specs.Ordering.{int_eq}
 use Rattle.tilt_base.specs.Reduce.{numbers}
 use Rattle.tilt_types.specs.Meaning.{meaning}
 use Rattle.tilt_types.specs.Window.{met, met_behind}
-use Rattle.tilt_types.specs.declared.tree.Tree.{size-Tree}
+use Rattle.tilt_types.specs.CoreTree.{nodes, tree_of}
 use Rattle.tilt_types.proofs.Weight.{weight}
 use Rattle.tilt_types.proofs.cells.+cells.Given as goal
 
@@ -12,10 +12,10 @@ abbrev pub decreases-source_cell : goal.decreases-source_cell
 decreases-source_cell l = weight l.defs.now
 
 abbrev pub decreases-definition_cell : goal.decreases-definition_cell
-decreases-definition_cell l = weight l.defs.now + (size-Tree l.def.now.body + 4)
+decreases-definition_cell l = weight l.defs.now + (nodes l.def.now.body + 4)
 
 abbrev pub decreases-body_cell : goal.decreases-body_cell
-decreases-body_cell l = weight l.defs.now + (size-Tree l.body.now + 2)
+decreases-body_cell l = weight l.defs.now + (nodes (tree_of l.body.now) + 2)
 
 abbrev pub decreases-numbers_met : goal.decreases-numbers_met
 decreases-numbers_met l = weight l.defs.now + 1

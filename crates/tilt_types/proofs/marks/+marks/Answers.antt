@@ -4,6 +4,7 @@ use Rattle.std.specs.Int.{w128}
 use Rattle.tilt_stream.specs.Snap.{Snapshot}
 use Rattle.tilt_stream.specs.Stream.{Stream, mark_at}
 use Rattle.tilt_types.proofs.Sources.{source_of-input, source_of-definition, source_of-none}
+use Rattle.tilt_types.specs.CoreTree.{tree_of}
 use Rattle.tilt_types.specs.Meaning.{body_of, definition_of, sources, meaning}
 use Rattle.tilt_types.proofs.Walk.{some_mark-found, some_mark-passed}
 use Rattle.tilt_types.proofs.Weight.{weight-take}
@@ -53,7 +54,7 @@ body_mark-returns-else-source_mark t c =
 
 pub some_mark-returns-then-body_mark : goal.some_mark-returns-then-body_mark
 some_mark-returns-then-body_mark t c =
-    let x = body_of (sources c.args.inputs.now c.args.defs.now) c.args.body.now in
+    let x = body_of (sources c.args.inputs.now c.args.defs.now) (tree_of c.args.body.now) in
     let tick = to_z-of_z w128 c.args.tick c.ranges.tick in
     let behind = c.loop-behind.behind in
     let at = tick_bits (c.args.tick) c.from.result in
@@ -63,7 +64,7 @@ some_mark-returns-then-body_mark t c =
 
 pub some_mark-loop-behind-preserved : goal.some_mark-loop-behind-preserved
 some_mark-loop-behind-preserved t c =
-    let x = body_of (sources c.args.inputs.now c.args.defs.now) c.args.body.now in
+    let x = body_of (sources c.args.inputs.now c.args.defs.now) (tree_of c.args.body.now) in
     let from = to_z w128 (of_z w128 c.args.tick) in
     let behind = c.loop-behind.behind in
     let at = tick_bits (c.args.tick) c.from.result in
