@@ -51,11 +51,15 @@ abbrev pub AreDefinitions : ℕ → List Definition → Type 0
 AreDefinitions before [] = ⊤
 AreDefinitions before (def ∷ defs) = IsDefinition before def × AreDefinitions (suc before) defs
 
--- the last definition has a span: the output domain
-abbrev pub EndsWithDomain : List Definition → Type 0
-EndsWithDomain [] = ⊥
-EndsWithDomain (def ∷ []) = IsSome def.over
-EndsWithDomain (def ∷ next ∷ defs) = EndsWithDomain (next ∷ defs)
+-- the span of the last definition, which is the output domain
+abbrev pub domain_of : List Definition → Option Span
+domain_of [] = None
+domain_of (def ∷ []) = def.over
+domain_of (def ∷ next ∷ defs) = domain_of (next ∷ defs)
+
+-- the number of the source that is emitted: the definition behind those that have names
+abbrev pub emitted_number : CoreParts → ℕ
+emitted_number core = length core.inputs + length core.names
 
 -- a name that a source may have
 abbrev pub IsSourceName : List ℕ → Type 0
@@ -68,4 +72,4 @@ pub record IsCore (core : CoreParts) : Type 0 where
   pub distinct : AreDistinct (core.inputs ++ core.names)
   pub named : AllByRecursion IsSourceName (core.inputs ++ core.names)
   pub definitions : AreDefinitions (length core.inputs) core.defs
-  pub domain : EndsWithDomain core.defs
+  pub domain : IsSome (domain_of core.defs)

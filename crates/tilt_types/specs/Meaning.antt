@@ -1,10 +1,12 @@
 -- The meaning of a query: the stream of each source, from the rows of the inputs and the definitions. Sources are numbered, the inputs in order from 0 on, then the
 -- definitions in order. The meaning looks at one tick and at whole series: it has no buffer, no margin and no loop.
-use Rattle.std.specs.Prelude.{ℕ, zero, suc, List, [], ◌∷◌, ◌++◌, map, Some, ⊤}
+use Rattle.std.specs.Prelude.{ℕ, zero, suc, ◌+◌, ◌==◌, if◌then◌else◌, List, [], ◌∷◌, ◌++◌, length, map, Option, Some, None, option_map, option_and_then, ⊤}
 use Rattle.tilt_base.specs.Expression.{Leaf, One, Two, If}
 use Rattle.tilt_base.specs.Grid.{IsGrid}
 use Rattle.tilt_stream.specs.Snap.{Snapshot}
+use Rattle.tilt_stream.specs.Snapshots.{snapshots}
 use Rattle.tilt_stream.specs.Stream.{Stream, stream_of}
+use Rattle.tilt_types.specs.Core.{CoreParts, domain_of, emitted_number}
 use Rattle.tilt_types.specs.CoreTree.{Const, Read, Reduce, CoreTree, Definition}
 use Rattle.tilt_types.specs.Domain.{on_grid, within}
 use Rattle.tilt_types.specs.Pointwise.{constant, nothing, shifted, lifted1, lifted2, branched}
@@ -41,6 +43,15 @@ sources inputs defs = with_definitions (map stream_of inputs) defs
 -- the meaning of one source
 abbrev pub meaning : List (List Snapshot) → List Definition → ℕ → Stream
 meaning inputs defs number = source_of (sources inputs defs) number
+
+-- the stream that a query emits, where there is one list of rows for each input; with more lists or fewer it has no meaning
+abbrev pub emitted : CoreParts → List (List Snapshot) → Option Stream
+emitted core inputs = if length inputs == length core.inputs then Some (meaning inputs core.defs (emitted_number core)) else None
+
+-- what a query gives: the snapshots of that stream on the output domain
+abbrev pub output_of : CoreParts → List (List Snapshot) → Option (List Snapshot)
+output_of core inputs =
+    option_and_then (λ x. option_map (λ domain. snapshots x domain.start domain.end) (domain_of core.defs)) (emitted core inputs)
 
 -- the grid of each definition is one
 abbrev pub AreGrids : List Definition → Type 0

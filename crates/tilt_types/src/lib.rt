@@ -13,13 +13,15 @@ mod law;
 mod marks;
 mod query_core;
 mod rows;
+mod source;
 #[cfg(test)]
 mod tests;
 mod tick;
 mod tree;
 
 pub use definition::Def;
-pub use evaluator::evaluate;
+pub use evaluator::{evaluate, evaluate_query};
 pub use law::changes_only_at_marks;
 pub use query_core::Core;
+pub use source::Source;
 pub use tree::Tree;

@@ -1,9 +1,10 @@
-ghost use Rattle.std.specs.Prelude.{◌≡◌};
-ghost use Rattle.tilt_types.specs.Core.{IsCore};
+ghost use Rattle.std.specs.Prelude.{◌≡◌, Some};
+ghost use Rattle.tilt_types.specs.Core.{IsCore, IsStretch, domain_of, emitted_number};
 
 use crate::definition::Def;
 use std::marker::Model;
 use tilt_lexer::Name;
+use tilt_syntax::Span;
 
 /// The core of a query that was accepted. Its sources are numbered: the inputs in order from 0 on, then the definitions
 /// in order. Each definition names only sources before it, and the last one is emitted.
@@ -53,6 +54,28 @@ impl Core {
         ensures accepted { IsCore self.now }
     {
         &self.names
+    }
+
+    /// The number of the source that is emitted: the last definition.
+    pub fn emitted(&self) -> u32
+        ensures number { result ≡ emitted_number self.now }
+        ensures accepted { IsCore self.now }
+    {
+        (self.inputs.len() + self.names.len()) as u32
+    }
+
+    /// The output domain: the span of the last definition.
+    pub fn domain(&self) -> Span
+        ensures span { domain_of self.now.defs ≡ Some result }
+        ensures stretch { IsStretch (Some result) }
+    {
+        let Some(last) = self.defs.last() else {
+            unreachable!()
+        };
+        let Some(domain) = last.over else {
+            unreachable!()
+        };
+        domain
     }
 
     /// The definitions in order. The last one is emitted, and its span is the output domain.

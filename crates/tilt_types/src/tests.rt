@@ -1,4 +1,4 @@
-use crate::{Def, Tree, evaluate};
+use crate::{Def, Source, Tree, evaluate};
 use std::alloc::{AllocError, Global};
 use std::test::Fail;
 use tilt_base::{Cell, Grid, Op1, Op2, Reducer, T};
@@ -127,7 +127,12 @@ fn output_of(alloc: Global, case: &Case) -> Result<Vec<Piece>, Fail> {
         return Err("no case".into());
     }
     let last = (inputs.len() + defs.len() - 1) as u32;
-    let list = evaluate(alloc, &inputs, &defs, last, lo, hi)?;
+    let source = Source {
+        inputs: &inputs,
+        defs: &defs,
+        number: last,
+    };
+    let list = evaluate(alloc, &source, lo, hi)?;
     numbered(alloc, &list)
 }
 

@@ -10,7 +10,7 @@ use Rattle.tilt_types.proofs.evaluator.evaluate.Goals.{then-source_mark+in_ok-pu
 
 pub loop-end-preserved : goal.loop-end-preserved
 loop-end-preserved c =
-    let x = meaning c.args.inputs.now c.args.defs.now c.args.source in
+    let x = meaning c.args.source.now.inputs.now c.args.source.now.defs.now c.args.source.now.number in
     let lo = to_z w64 (of_z w64 c.args.lo) in
     let hi = to_z w64 (of_z w64 c.args.hi) in
     let start = to_z w64 c.loop-end.start-bits in
@@ -48,7 +48,7 @@ loop-end-preserved c =
 
 pub returns : goal.returns
 returns c =
-    let x = meaning c.args.inputs.now c.args.defs.now c.args.source in
+    let x = meaning c.args.source.now.inputs.now c.args.source.now.defs.now c.args.source.now.number in
     let lo = to_z w64 (of_z w64 c.args.lo) in
     let hi = to_z w64 (of_z w64 c.args.hi) in
     let end = to_z w64 c.loop-end.end-bits in

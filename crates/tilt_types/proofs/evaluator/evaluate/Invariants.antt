@@ -12,5 +12,5 @@ invariant-loop-end l = record {
   ahead : l.start <ℤ l.end;
   within : l.end ≤ℤ l.hi;
   touches : ForSome (last_end l.list) (λ last. last ≡ l.start);
-  so_far : (let x = meaning l.inputs l.defs l.source in l.list ++ cut_behind x l.start l.end (int_gap l.end l.hi) ≡ snapshots x l.lo l.hi);
+  so_far : (let x = meaning l.source.inputs.now l.source.defs.now l.source.number in l.list ++ cut_behind x l.start l.end (int_gap l.end l.hi) ≡ snapshots x l.lo l.hi);
 }
