@@ -2,6 +2,7 @@ pub mod Constancy
 pub mod Worked
 pub mod Bits
 pub mod Last
+pub mod Steps
 pub mod Weight
 pub mod Sources
 pub mod Walk

@@ -1,4 +1,5 @@
 pub mod Agreement
+pub mod Checked
 pub mod Core
 pub mod CoreTree
 pub mod Domain
@@ -6,4 +7,6 @@ pub mod Evaluate
 pub mod Meaning
 pub mod Needs
 pub mod Pointwise
+pub mod Types
+pub mod WellFormed
 pub mod Window

@@ -6,9 +6,13 @@
 //! its one clause, tick by tick; and the law that all of it changes only at marks, the clauses of `changes_only_at_marks`.
 #![tactic(auto)]
 
+mod builder;
 mod cells;
+mod checker;
+mod declared;
 mod definition;
 mod evaluator;
+mod fault;
 mod law;
 mod marks;
 mod query_core;
@@ -18,9 +22,13 @@ mod source;
 mod tests;
 mod tick;
 mod tree;
+mod types;
+mod value_type;
 
+pub use checker::check;
 pub use definition::Def;
 pub use evaluator::{evaluate, evaluate_query};
+pub use fault::CheckFault;
 pub use law::changes_only_at_marks;
 pub use query_core::Core;
 pub use source::Source;
