@@ -2,7 +2,11 @@ pub mod Constancy
 pub mod Worked
 pub mod Bits
 pub mod Last
-pub mod Steps
+pub mod Texts
+pub mod Clear
+pub mod Distinct
+pub mod Places
+pub mod Built
 pub mod Weight
 pub mod Sources
 pub mod Walk

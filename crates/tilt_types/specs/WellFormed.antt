@@ -1,5 +1,6 @@
 -- Which queries are well formed, and the first fault of the others (our own rule): a statement is looked at behind those before it.
 use Rattle.std.specs.Prelude.{◌≡◌, ℕ, ◌+◌, ℤ, pos, neg_ℤ, Bool, true, false, not, ◌&&◌, int_lt, int_le, if◌then◌else◌, List, [], ◌∷◌, ◌++◌, Option, Some, None, is_some}
+use Rattle.std.specs.Option.{option_or}
 use Rattle.tilt_base.specs.Expression.{Leaf, One, Two, If}
 use Rattle.tilt_base.specs.Grid.{GridPoints, is_point}
 use Rattle.tilt_base.specs.declared.limits.TheConstants.{T, PERIOD}
@@ -74,11 +75,6 @@ abbrev pub is_fitting : Bool → Option ValueType → Bool
 is_fitting emitted None = false
 is_fitting emitted (Some a) = if emitted then same_type a value.Int else true
 
--- the first of two faults
-abbrev pub first_of : Option CheckFault → Option CheckFault → Option CheckFault
-first_of None other = other
-first_of (Some f) other = Some f
-
 -- the first fault of the expression of the statement with that number, behind these declarations
 abbrev pub expr_fault : ℕ → List Declared → Bool → ExprTree → Option CheckFault
 expr_fault n declared emitted e =
@@ -98,8 +94,8 @@ name_fault n declared name = if is_declared declared name then Some (fault.NameT
 -- the first fault of the statement
 abbrev pub fault_of : ℕ → List Declared → StatementTree → Option CheckFault
 fault_of n declared (Input name) = name_fault n declared name
-fault_of n declared (Let name e over every) = first_of (name_fault n declared name) (first_of (expr_fault n declared false e) (domain_fault n over every))
-fault_of n declared (Emit e over every) = first_of (expr_fault n declared true e) (domain_fault n (Some over) every)
+fault_of n declared (Let name e over every) = option_or (option_or (name_fault n declared name) (expr_fault n declared false e)) (domain_fault n over every)
+fault_of n declared (Emit e over every) = option_or (expr_fault n declared true e) (domain_fault n (Some over) every)
 
 -- a name with its type, where it has one
 abbrev pub declared_as : List ℕ → Option ValueType → List Declared
@@ -115,7 +111,7 @@ declared_by declared (Emit e over every) = []
 -- the fault of the first faulty one of statements, of which the first has the number `n`; of several in one the first counts
 abbrev pub first_fault : ℕ → List Declared → List StatementTree → Option CheckFault
 first_fault n declared [] = None
-first_fault n declared (s ∷ query) = first_of (fault_of n declared s) (first_fault (n + 1) (declared ++ declared_by declared s) query)
+first_fault n declared (s ∷ query) = option_or (fault_of n declared s) (first_fault (n + 1) (declared ++ declared_by declared s) query)
 
 -- no statement has a fault
 abbrev pub IsWellFormed : List StatementTree → Type 0
