@@ -1,5 +1,5 @@
 -- The core of a well-formed query keeps what cores keep.
-use Rattle.std.proofs.Common.{◌≡◌, ℕ, List, [], ◌∷◌, ◌++◌, length, take, drop, Option, None, ap, sym, ◌∙◌, arith, subst}
+use Rattle.std.proofs.Common.{◌≡◌, ℕ, List, [], ◌∷◌, ◌++◌, length, take, drop, None, ap, ◌∙◌, subst}
 use Rattle.std.proofs.Math.Seq.{drop-append_seam, take-append_seam}
 use Rattle.std.specs.List.{AllByRecursion}
 use Rattle.tilt_lexer.specs.Word.{IsReserved, IsWord}
@@ -37,10 +37,10 @@ pub cut-IsCore : (query : List StatementTree) (all inputs names : List (List ℕ
     → IsCore (record { inputs = inputs; names = names; defs = defs })
 cut-IsCore query all inputs names defs count is h words all_are count_is inputs_are names_are defs_are =
     let front : inputs ≡ input_names query =
-        inputs_are ∙ ap (λ (n : ℕ). take n all) count_is ∙ ap (λ (xs : List (List ℕ)). take (length (input_names query)) xs) all_are
-        ∙ take-append_seam (input_names query) (let_names query) in
+    inputs_are ∙ ap (λ (n : ℕ). take n all) count_is ∙ ap (λ (xs : List (List ℕ)). take (length (input_names query)) xs) all_are
+    ∙ take-append_seam (input_names query) (let_names query) in
     let back : names ≡ let_names query =
-        names_are ∙ ap (λ (n : ℕ). drop n all) count_is ∙ ap (λ (xs : List (List ℕ)). drop (length (input_names query)) xs) all_are
-        ∙ drop-append_seam (input_names query) (let_names query) in
+    names_are ∙ ap (λ (n : ℕ). drop n all) count_is ∙ ap (λ (xs : List (List ℕ)). drop (length (input_names query)) xs) all_are
+    ∙ drop-append_seam (input_names query) (let_names query) in
     let are : defs ≡ definitions (source_names query) query = defs_are ∙ ap (λ (xs : List (List ℕ)). definitions xs query) all_are in
     rw (front, back, are) (core_of-IsCore query is h (subst (λ (xs : List (List ℕ)). AllByRecursion IsWord xs) all_are words))

@@ -1,5 +1,5 @@
 -- No name of a well-formed query stands twice.
-use Rattle.std.proofs.Common.{◌≡◌, ℕ, zero, suc, ◌+◌, ◌<◌, Bool, true, false, ◌&&◌, ◌||◌, if◌then◌else◌, ◌⊎◌, inl, inr, ⊎_elim, List, [], ◌∷◌, ◌++◌, length, Option, Some, None, is_some, Contains, refl, sym, ap, ◌∙◌, arith, subst, append-nil}
+use Rattle.std.proofs.Common.{◌≡◌, ℕ, zero, suc, ◌+◌, Bool, true, false, ◌||◌, if◌then◌else◌, ◌⊎◌, inl, inr, ⊎_elim, List, [], ◌∷◌, ◌++◌, Option, Some, None, is_some, Contains, refl, sym, ◌∙◌, arith, subst, append-nil}
 use Rattle.std.specs.Option.{option_or}
 use Rattle.std.specs.Str.{bytes_eq}
 use Rattle.std.proofs.lemmas.List.Elements.{Contains-append_cases, Contains-append_left, Contains-append_right}
@@ -64,9 +64,10 @@ Contains-insert_cases xs ys x y among =
 
 AreDistinct-insert : (xs ys : List (List ℕ)) (x : List ℕ) → AreDistinct (xs ++ ys) → ¬ (Contains (xs ++ ys) x) → AreDistinct (xs ++ x ∷ ys)
 AreDistinct-insert [] ys x h absent = (absent, h)
-AreDistinct-insert (y ∷ xs) ys x h absent =
-    (λ among. ⊎_elim (λ same. absent (zero, omega arith, sym same)) (λ later. h.0 later) (Contains-insert_cases xs ys x y among),
-    AreDistinct-insert xs ys x h.1 (λ among. absent (suc among.0, omega (arith, among.1), among.2)))
+AreDistinct-insert (y ∷ xs) ys x h absent = (
+  λ among. ⊎_elim (λ same. absent (zero, omega arith, sym same)) (λ later. h.0 later) (Contains-insert_cases xs ys x y among),
+  AreDistinct-insert xs ys x h.1 (λ among. absent (suc among.0, omega (arith, among.1), among.2)),
+)
 
 -- the names of these statements are fresh and distinct
 pub record AreNew (declared : List Declared) (names : List (List ℕ)) : Type 0 where

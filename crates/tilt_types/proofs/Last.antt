@@ -1,5 +1,5 @@
 -- The last definition, and its span.
-use Rattle.std.proofs.Common.{◌≡◌, ℕ, zero, suc, ◌-◌, ◌+◌, ◌<◌, List, [], ◌∷◌, length, Some, refl, ap, sym, arith}
+use Rattle.std.proofs.Common.{◌≡◌, ℕ, zero, suc, List, [], ◌∷◌, length, Some, ap, sym, arith}
 use Rattle.std.specs.List.{slice_get}
 use Rattle.tilt_types.specs.Core.{AreDefinitions, IsStretch, domain_of}
 use Rattle.tilt_types.specs.CoreTree.{Definition}

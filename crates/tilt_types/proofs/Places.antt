@@ -1,5 +1,5 @@
 -- Which numbers the names of a query become.
-use Rattle.std.proofs.Common.{◌≡◌, ℕ, zero, suc, ◌+◌, ◌<◌, ◌≤◌, ◌<ℤ◌, int_lt, Bool, true, false, ◌&&◌, ◌||◌, if◌then◌else◌, List, [], ◌∷◌, ◌++◌, length, get_or, Option, Some, None, refl, sym, ap, ◌∙◌, arith, subst, append_assoc, append-nil, length-append}
+use Rattle.std.proofs.Common.{◌≡◌, ℕ, zero, suc, ◌+◌, ◌<◌, ◌≤◌, ◌<ℤ◌, int_lt, Bool, true, false, ◌&&◌, ◌||◌, if◌then◌else◌, List, [], ◌∷◌, ◌++◌, length, get_or, Option, Some, None, refl, sym, ◌∙◌, arith, subst, append_assoc, append-nil, length-append}
 use Rattle.std.specs.List.{AllByRecursion}
 use Rattle.std.specs.Option.{option_or}
 use Rattle.std.specs.Str.{bytes_eq}
@@ -130,20 +130,18 @@ module _ (names : List (List ℕ)) (low : ℕ) where
       let parts = neither (option_or (name_fault n declared x) (expr_fault n declared false e)) (domain_fault n over every) here.0 in
       let first = neither (name_fault n declared x) (expr_fault n declared false e) parts.0 in
       let place : place_of names x ≤ length front = subst (λ (ns : List (List ℕ)). place_of ns x ≤ length front) (sym is) (place_of-behind front (let_names query) x) in
-      let next : names ≡ (front ++ x ∷ []) ++ let_names query = is ∙ sym (append_assoc front (x ∷ []) (let_names query)) in
-      (
+      let next : names ≡ (front ++ x ∷ []) ++ let_names query = is ∙ sym (append_assoc front (x ∷ []) (let_names query)) in (
         definition-IsDefinition names declared bound below false e over every (expr-clear n declared false e first.1) (domain-clear n over every parts.1) text.0.0,
         definitions-are query (n + 1) more (suc bound) (front ++ x ∷ []) here.1 text.1 next (omega (arith, length-append front (x ∷ []), behind)) (omega (arith, from)) inputs
-          (below-typed names declared (suc bound) x (type_of declared e) (omega (arith, place, behind)) (below-more names declared bound below)),
+            (below-typed names declared (suc bound) x (type_of declared e) (omega (arith, place, behind)) (below-more names declared bound below)),
       )
   definitions-are (Emit e over every ∷ query) n declared bound front h text is behind from inputs below =
       let more : List Declared = declared ++ declared_by declared (Emit e over every) in
       let here = neither (fault_of n declared (Emit e over every)) (first_fault (n + 1) more query) h in
-      let parts = neither (expr_fault n declared true e) (domain_fault n (Some over) every) here.0 in
-      (
+      let parts = neither (expr_fault n declared true e) (domain_fault n (Some over) every) here.0 in (
         definition-IsDefinition names declared bound below true e (Some over) every (expr-clear n declared true e parts.0) (domain-clear n (Some over) every parts.1) text.0,
         definitions-are query (n + 1) more (suc bound) front here.1 text.1 is (omega (arith, behind)) (omega (arith, from)) inputs
-          (subst (λ (ds : List Declared). AreBelow names ds (suc bound)) (sym (append-nil declared)) (below-more names declared bound below)),
+            (subst (λ (ds : List Declared). AreBelow names ds (suc bound)) (sym (append-nil declared)) (below-more names declared bound below)),
       )
 
 -- the definitions of a well-formed query, each over what stands before it
@@ -151,4 +149,4 @@ pub query-definitions : (query : List StatementTree) → first_fault 1 [] query 
 query-definitions query h text =
     let inputs = input_names query in
     definitions-are (source_names query) (length inputs) query 1 [] (length inputs) inputs h text refl (omega arith) (omega arith)
-      (place_of-front inputs (let_names query)) (below-nil (source_names query) (length inputs))
+    (place_of-front inputs (let_names query)) (below-nil (source_names query) (length inputs))

@@ -20,9 +20,9 @@ pub record CoreParts : Type 0 where
 abbrev pub coded_core : Coded CoreParts
 coded_core =
     code_by (List (List ℕ) × (List (List ℕ) × List Definition)) (coded× (coded_list coded_name) (coded× (coded_list coded_name) (coded_list coded_definition)))
-        (λ c. (c.inputs, (c.names, c.defs)))
-        (λ p. record { inputs = p.0; names = p.1.0; defs = p.1.1 })
-        (λ _. refl)
+    (λ c. (c.inputs, (c.names, c.defs)))
+    (λ p. record { inputs = p.0; names = p.1.0; defs = p.1.1 })
+    (λ _. refl)
 
 -- an expression reads only sources below a number, and each window ends behind its start
 abbrev pub ReadsBelow : ℕ → CoreTree → Type 0

@@ -74,6 +74,6 @@ coded_grid = code_by (ℤ × ℤ) (coded× coded_ℤ coded_ℤ) (λ g. (g.period
 abbrev pub coded_definition : Coded Definition
 coded_definition =
     code_by (CoreTree × (Option Span × GridPoints)) (coded× coded_tree (coded× (coded_option coded_span) coded_grid))
-        (λ d. (d.body, (d.over, d.grid)))
-        (λ p. record { body = p.0; over = p.1.0; grid = p.1.1 })
-        (λ _. refl)
+    (λ d. (d.body, (d.over, d.grid)))
+    (λ p. record { body = p.0; over = p.1.0; grid = p.1.1 })
+    (λ _. refl)

@@ -115,7 +115,10 @@ fn push_definition(
     match statement {
         Statement::Input { .. } => {}
         Statement::Let {
-            expr, over, every, ..
+            expr,
+            over,
+            every,
+            ..
         } => defs.push(definition(alloc, sources, expr, *over, *every)?)?,
         Statement::Emit { expr, over, every } => {
             defs.push(definition(alloc, sources, expr, Some(*over), *every)?)?;

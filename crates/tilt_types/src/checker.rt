@@ -33,10 +33,7 @@ pub fn check(alloc: Global, query: &Query) -> Result<Core, CheckFault>
 }
 
 // The fault of the first faulty statement.
-fn first_fault(
-    alloc: Global,
-    statements: &[Statement],
-) -> Result<Option<CheckFault>, OutOfMemory>
+fn first_fault(alloc: Global, statements: &[Statement]) -> Result<Option<CheckFault>, OutOfMemory>
     requires { length statements.now ≤ 256 }
     ensures { IfOk result (λ fault. fault ≡ first_fault 1 [] (map statement_tree statements.now)) }
 {
@@ -97,8 +94,9 @@ fn fault_of(number: u32, declared: &[Declared], statement: &Statement) -> Option
         } => name_fault(number, declared, name)
             .or(expr_fault(number, declared, false, expr))
             .or(domain_fault(number, *over, *every)),
-        Statement::Emit { expr, over, every } => expr_fault(number, declared, true, expr)
-            .or(domain_fault(number, Some(*over), *every)),
+        Statement::Emit { expr, over, every } => expr_fault(number, declared, true, expr).or(
+            domain_fault(number, Some(*over), *every),
+        ),
     }
 }
 

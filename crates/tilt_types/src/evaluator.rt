@@ -15,11 +15,7 @@ use tilt_stream::{Rows, Snap, SnapList};
 
 /// What a query gives for the rows of its inputs, of which there is one list for each: the snapshots of what it emits, on
 /// its output domain. This is as slow as `evaluate`.
-pub fn evaluate_query(
-    alloc: Global,
-    core: &Core,
-    inputs: &[Rows],
-) -> Result<SnapList, OutOfMemory>
+pub fn evaluate_query(alloc: Global, core: &Core, inputs: &[Rows]) -> Result<SnapList, OutOfMemory>
     requires { length inputs.now ≡ length core.now.inputs }
     ensures { IfOk result (λ list. output_of core.now inputs.now ≡ Some list) }
 {
@@ -37,12 +33,7 @@ pub fn evaluate_query(
 /// has: a source that isn't there is null, and a definition reads only the sources before it.
 ///
 /// This is slow, on purpose: the time grows with the number of ticks, and with that of the ticks in each window.
-pub fn evaluate(
-    alloc: Global,
-    source: &Source,
-    lo: i64,
-    hi: i64,
-) -> Result<SnapList, OutOfMemory>
+pub fn evaluate(alloc: Global, source: &Source, lo: i64, hi: i64) -> Result<SnapList, OutOfMemory>
     requires few { length source.now.defs.now ≤ 2 ^ 32 }
     requires low { neg_ℤ WIDE ≤ℤ lo }
     requires high { hi ≤ℤ WIDE }
@@ -55,7 +46,12 @@ pub fn evaluate(
     }
     let mut start = lo;
     for end in lo + 1..hi {
-        if source_mark(source.inputs, source.defs, source.number, i128::from(end) + 1) {
+        if source_mark(
+            source.inputs,
+            source.defs,
+            source.number,
+            i128::from(end) + 1,
+        ) {
             push_piece(alloc, &mut list, source, start, end)?;
             start = end;
         }

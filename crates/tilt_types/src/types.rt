@@ -5,11 +5,10 @@ ghost use Rattle.tilt_types.specs.Types.{same_type, of_asked, type_of_one, type_
 
 use crate::declared::Declared;
 use crate::value_type::ValueType;
+use ValueType::{Bool, Int};
 use tilt_base::{Op1, Op2, Reducer};
 use tilt_lexer::Name;
 use tilt_syntax::Expr;
-
-use ValueType::{Bool, Int};
 
 /// The type of the expression over the names that were declared, where it has one.
 pub fn type_of(declared: &[Declared], expr: &Expr) -> Option<ValueType>

@@ -1,5 +1,4 @@
 use Rattle.std.proofs.Common.{arith, ◌≡◌, Some, None, ◌-◌, suc, length, ap, sym, ◌∙◌, subst, Option, IsSome, true, false}
-use Rattle.std.specs.List.{slice_get}
 use Rattle.tilt_syntax.specs.declared.span.Span.{Span}
 use Rattle.tilt_types.proofs.Last.{domain_of-last, domain_of-stretch}
 use Rattle.tilt_types.specs.Core.{IsStretch, domain_of}
