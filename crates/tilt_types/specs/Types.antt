@@ -76,6 +76,7 @@ type_of declared (Leaf (Truth b)) = Some value.Bool
 type_of declared (Leaf (Read name offset)) = type_declared declared name
 type_of declared (Leaf (Reduce r name from to)) = option_and_then (λ a. type_of_reducer r a) (type_declared declared name)
 type_of declared (One op a) = option_and_then (λ x. type_of_one op x) (type_of declared a)
-type_of declared (Two op a b) = option_and_then (λ x. option_and_then (λ y. type_of_two op x y) (type_of declared b)) (type_of declared a)
+type_of declared (Two op a b) =
+    option_and_then (λ x. option_and_then (λ y. type_of_two op x y) (type_of declared b)) (type_of declared a)
 type_of declared (If c a b) =
     option_and_then (λ x. option_and_then (λ y. option_and_then (λ z. type_of_if x y z) (type_of declared b)) (type_of declared a)) (type_of declared c)

@@ -94,7 +94,8 @@ name_fault n declared name = if is_declared declared name then Some (fault.NameT
 -- the first fault of the statement
 abbrev pub fault_of : ℕ → List Declared → StatementTree → Option CheckFault
 fault_of n declared (Input name) = name_fault n declared name
-fault_of n declared (Let name e over every) = option_or (option_or (name_fault n declared name) (expr_fault n declared false e)) (domain_fault n over every)
+fault_of n declared (Let name e over every) =
+    option_or (option_or (name_fault n declared name) (expr_fault n declared false e)) (domain_fault n over every)
 fault_of n declared (Emit e over every) = option_or (expr_fault n declared true e) (domain_fault n (Some over) every)
 
 -- a name with its type, where it has one
