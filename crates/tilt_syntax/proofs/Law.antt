@@ -1,35 +1,20 @@
 -- The text of a query reads as the query and as no other, and is the shortest in tokens.
 use Rattle.std.proofs.Common.{◌≡◌, ◌≤◌, List, [], ◌∷◌, length, map, refl, sym, ap, ◌∙◌, subst, arith}
-use Rattle.std.specs.List.{AllByRecursion, flat_map}
+use Rattle.std.specs.List.{flat_map}
 use Rattle.std.proofs.lemmas.List.Elements.{recursion_from_All}
-use Rattle.tilt_lexer.specs.declared.mark.Mark.TheVariants as mark
 use Rattle.tilt_lexer.specs.declared.token.Tok.{Tok}
-use Rattle.tilt_lexer.specs.declared.token.Tok.TheVariants as tok
 use Rattle.tilt_lexer.specs.Tokens.{IsSound}
 use Rattle.tilt_lexer.proofs.Unique.{same_tokens}
 use Rattle.tilt_syntax.specs.Printing.{query_text, AreShortest, ReadsBack}
-use Rattle.tilt_syntax.specs.Query.{kinds, with_first, statements, IsInPlace, AreGood, IsQueryOf, IsQuery}
+use Rattle.tilt_syntax.specs.Query.{kinds, statements, IsInPlace, AreGood, IsQueryOf, IsQuery}
 use Rattle.tilt_syntax.specs.Tree.{StatementTree, Input, Let, Emit}
 use Rattle.tilt_syntax.proofs.Cuts.{query_cut}
 use Rattle.tilt_syntax.proofs.Shortest.{statement_shortest}
-use Rattle.tilt_syntax.proofs.Sounds.{both, statement_sound}
+use Rattle.tilt_syntax.proofs.Sounds.{EachSound, statements_sound, both, statement_sound}
 use Rattle.tilt_syntax.proofs.Spelling.{AreSound, lexed}
 use Rattle.tilt_syntax.proofs.Spelt.{query_spells}
 use Rattle.tilt_syntax.proofs.Unique.{one_query}
 use Rattle.tilt_syntax.proofs.Written.{statement_tokens, statement_is}
-
--- the tokens of each statement are sound
-abbrev EachSound : List (List Tok) → Type 0
-EachSound ss = AllByRecursion AreSound ss
-
-first_sound : (t : Tok) (ss : List (List Tok)) → IsSound t → EachSound ss → EachSound (with_first t ss)
-first_sound t [] h each = ((h, tt), tt)
-first_sound t (s ∷ ss) h each = ((h, each.0), each.1)
-
-statements_sound : (ts : List Tok) → AreSound ts → EachSound (statements ts)
-statements_sound [] s = tt
-statements_sound (tok.Mark mark.Semicolon ∷ ts) s = ((tt, tt), statements_sound ts s.1)
-statements_sound (t ∷ ts) s = first_sound t (statements ts) s.0 (statements_sound ts s.1)
 
 -- the printed statements may stand where the others do
 in_place_again : (rest : List (List Tok)) (query : List StatementTree) (s : StatementTree) → AreGood rest query → IsInPlace rest s

@@ -1,5 +1,6 @@
 -- The printed tokens of a statement are sound where some tokens of it are.
 use Rattle.std.proofs.Common.{◌≡◌, inl, inr, ℕ, zero, suc, ℤ, pos, negsuc, List, [], ◌∷◌, ◌++◌, Option, Some, nat_lt, arith}
+use Rattle.std.specs.List.{AllByRecursion}
 use Rattle.std.proofs.lemmas.Bool.{cases_Bool}
 use Rattle.std.proofs.lemmas.Int.{ints}
 use Rattle.tilt_lexer.specs.declared.mark.Mark.TheVariants as mark
@@ -8,6 +9,7 @@ use Rattle.tilt_lexer.specs.declared.token.Tok.TheVariants.{Word, Mark as Sign}
 use Rattle.tilt_lexer.specs.Tokens.{IsSound}
 use Rattle.tilt_syntax.specs.Grammar.{Infix, infix_of, IsOffset, now, later, earlier, IsExpr, tighter, choice, between, negation, minus, number, true_word, false_word, name, reading, window, is_null, if_null, enclosed, IsBound, from_zero, below_zero, IsSpan, over, MayBeSpan, no_span, some_span, MayBePeriod, no_period, some_period, IsStatement, input, definition, emission}
 use Rattle.tilt_syntax.specs.Printing.{level_of}
+use Rattle.tilt_syntax.specs.Query.{with_first, statements}
 use Rattle.tilt_syntax.specs.Tree.{ExprTree, StatementTree}
 use Rattle.tilt_syntax.specs.declared.span.Span.{Span}
 use Rattle.tilt_syntax.proofs.Spelling.{AreSound}
@@ -21,6 +23,19 @@ sound_parts (t ∷ ts) us s = let parts = sound_parts ts us s.1 in ((s.0, parts.
 pub both : (ts us : List Tok) → AreSound ts → AreSound us → AreSound (ts ++ us)
 both [] us h g = g
 both (t ∷ ts) us h g = (h.0, both ts us h.1 g)
+
+-- the tokens of each statement are sound
+abbrev pub EachSound : List (List Tok) → Type 0
+EachSound ss = AllByRecursion AreSound ss
+
+first_sound : (t : Tok) (ss : List (List Tok)) → IsSound t → EachSound ss → EachSound (with_first t ss)
+first_sound t [] h each = ((h, tt), tt)
+first_sound t (s ∷ ss) h each = ((h, each.0), each.1)
+
+pub statements_sound : (ts : List Tok) → AreSound ts → EachSound (statements ts)
+statements_sound [] s = tt
+statements_sound (Sign mark.Semicolon ∷ ts) s = ((tt, tt), statements_sound ts s.1)
+statements_sound (t ∷ ts) s = first_sound t (statements ts) s.0 (statements_sound ts s.1)
 
 place_sound : (place level : ℕ) (ts : List Tok) → AreSound ts → AreSound (place_tokens place level ts)
 place_sound place level ts h =

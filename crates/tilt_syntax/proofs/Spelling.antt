@@ -10,7 +10,6 @@ use Rattle.std.proofs.lemmas.Bool.{and_parts, false≢true}
 use Rattle.std.proofs.lemmas.Fmt.{decimal_nonempty, digits_decimal, digits_value-decimal}
 use Rattle.std.proofs.lemmas.Int.{ints}
 use Rattle.std.proofs.lemmas.List.{get_or_append_left, take_at, drop_at}
-use Rattle.tilt_lexer.specs.declared.key.Key.{Key}
 use Rattle.tilt_lexer.specs.declared.mark.Mark.{Mark}
 use Rattle.tilt_lexer.specs.declared.mark.Mark.TheVariants as mark
 use Rattle.tilt_lexer.specs.declared.token.Tok.{Tok}

@@ -228,6 +228,7 @@ fn infix_of(op: Op2) -> Option<Infix>
     }
 }
 
+// An operator that stands between its operands.
 fn between(sign: &'static [u8], level: u8, left: u8, right: u8) -> Option<Infix>
     ensures { MatchOption result ⊥ (λ w. w.sign.now ≡ sign.now × w.level ≡ level × w.left ≡ left × w.right ≡ right) }
 {
