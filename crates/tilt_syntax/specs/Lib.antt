@@ -1,6 +1,11 @@
+pub mod Cut
+pub mod Descent
 pub mod Grammar
+pub mod Levels
 pub mod Printing
 pub mod Query
+pub mod Rest
 pub mod Sign
+pub mod Statements
 pub mod Stored
 pub mod Tree

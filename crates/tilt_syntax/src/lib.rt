@@ -1,15 +1,30 @@
-//! The tree of a query's text.
+//! The tree of a query's text. Tokens come in, and the query that they are goes out. The clauses of `parse` say which: what
+//! goes out is the grammar's one reading of the tokens (`query`, `only`), and a refusal tells the first fault, exactly where
+//! there is one (`faulty`, `first`). A `Query` keeps that some tokens read as it. The other way, `print` gives its text, which
+//! reads as this query and no other (`text`, `reads_back`).
 #![tactic(auto)]
 
+mod atom;
+mod clauses;
+mod cut;
 mod expr;
+mod expression;
 mod fault;
+mod front;
+mod level;
+mod parser;
 mod printer;
 mod query;
+mod reader;
 mod span;
 mod statement;
+#[cfg(test)]
+mod tests;
+mod tree;
 
 pub use expr::Expr;
 pub use fault::SyntaxFault;
+pub use parser::{parse, parse_expression};
 pub use printer::print;
 pub use query::Query;
 pub use span::Span;

@@ -1,0 +1,127 @@
+// What needs no parentheses and has no expression in it: readings and windows.
+ghost use Rattle.std.specs.Prelude.{◌≡◌, ◌≢◌, ℤ, List, Option, IfOk, IfSome, MatchOption};
+ghost use Rattle.tilt_base.specs.Expression.{Leaf};
+ghost use Rattle.tilt_base.specs.declared.reducer.Reducer.{Reducer};
+ghost use Rattle.tilt_lexer.specs.declared.token.Tok.{Tok};
+ghost use Rattle.tilt_syntax.specs.Descent.{Comes, Found, Plan, offset_plan, reading_plan, window_plan};
+ghost use Rattle.tilt_syntax.specs.Grammar.{reducer_key};
+ghost use Rattle.tilt_syntax.specs.Query.{kinds};
+ghost use Rattle.tilt_syntax.specs.Rest.{AreSound, IsRest};
+ghost use Rattle.tilt_syntax.specs.Tree.{Reduce, expr_tree};
+
+use crate::expr::Expr;
+use crate::front::{behind_key, behind_mark, front_name, front_number};
+use std::alloc::AllocError as OutOfMemory;
+use tilt_base::Reducer;
+use tilt_lexer::{Key, Mark, Name, Token};
+
+// The offset at the front, and what stands behind it.
+fn offset(tokens: &[Token]) -> Option<(i64, &[Token])>
+    requires { AreSound (kinds tokens.now) }
+    ensures comes { MatchOption result
+        ((behind : ℤ → List Tok → Plan) → Comes (offset_plan (kinds tokens.now) behind) None)
+        (λ found. (behind : ℤ → List Tok → Plan) (r : Option Found) → Comes (behind found.0 (kinds found.1.now)) r
+            → Comes (offset_plan (kinds tokens.now) behind) r) }
+    ensures rest { IfSome result (λ found. IsRest (kinds tokens.now) (kinds found.1.now)) }
+{
+    let rest = behind_key(tokens, Key::Time)?;
+    if let Some(rest) = behind_mark(rest, Mark::Plus) {
+        return front_number(rest);
+    }
+    if let Some(rest) = behind_mark(rest, Mark::Minus) {
+        let (number, rest) = front_number(rest)?;
+        return Some((-number, rest));
+    }
+    Some((0, rest))
+}
+
+// What is read by a name, with its offset where one stands behind it.
+pub(crate) fn reading<'a>(
+    name: &Name,
+    tokens: &'a [Token],
+) -> Result<Option<(Expr, &'a [Token])>, OutOfMemory>
+    requires { AreSound (kinds tokens.now) }
+    ensures comes { IfOk result (λ found. MatchOption found
+        (Comes (reading_plan name.now (kinds tokens.now)) None)
+        (λ found. Comes (reading_plan name.now (kinds tokens.now)) (Some (record { tree = expr_tree found.0; rest = kinds found.1.now })))) }
+    ensures rest { IfOk result (λ found. IfSome found (λ found. IsRest (kinds tokens.now) (kinds found.1.now))) }
+{
+    let Some(inside) = behind_mark(tokens, Mark::OpenBracket) else {
+        let name = name.copy()?;
+        return Ok(Some((Expr::Read { name, offset: 0 }, tokens)));
+    };
+    let Some((offset, behind)) = offset(inside) else {
+        return Ok(None);
+    };
+    let Some(rest) = behind_mark(behind, Mark::CloseBracket) else {
+        return Ok(None);
+    };
+    let name = name.copy()?;
+    Ok(Some((Expr::Read { name, offset }, rest)))
+}
+
+// The reducer that the reserved word is.
+pub(crate) fn reducer_of(key: Key) -> Option<Reducer>
+    ensures { MatchOption result
+        ((r : Reducer) → reducer_key r ≢ key)
+        (λ r. reducer_key r ≡ key) }
+{
+    match key {
+        Key::Sum => Some(Reducer::Sum),
+        Key::Avg => Some(Reducer::Avg),
+        Key::Min => Some(Reducer::Min),
+        Key::Max => Some(Reducer::Max),
+        Key::Count => Some(Reducer::Count),
+        Key::First => Some(Reducer::First),
+        Key::Last => Some(Reducer::Last),
+        Key::Any => Some(Reducer::Any),
+        Key::All => Some(Reducer::All),
+        _ => None,
+    }
+}
+
+// The window in parentheses behind a reducer: its name and its two offsets, and what stands behind it.
+fn window(tokens: &[Token]) -> Option<(&Name, i64, i64, &[Token])>
+    requires { AreSound (kinds tokens.now) }
+    ensures comes { MatchOption result
+        ((r : Reducer) → Comes (window_plan r (kinds tokens.now)) None)
+        (λ found. (r : Reducer) → Comes (window_plan r (kinds tokens.now))
+            (Some (record { tree = Leaf (Reduce r found.0.now found.1 found.2); rest = kinds found.3.now }))) }
+    ensures rest { IfSome result (λ found. IsRest (kinds tokens.now) (kinds found.3.now)) }
+{
+    let opened = behind_mark(tokens, Mark::OpenParen)?;
+    let (name, named) = front_name(opened)?;
+    let inside = behind_mark(named, Mark::OpenBracket)?;
+    let (from, left) = offset(inside)?;
+    let between = behind_mark(left, Mark::Colon)?;
+    let (to, right) = offset(between)?;
+    let closed = behind_mark(right, Mark::CloseBracket)?;
+    let rest = behind_mark(closed, Mark::CloseParen)?;
+    Some((name, from, to, rest))
+}
+
+// What the reducer is taken of, behind it.
+pub(crate) fn reduction(
+    reducer: Reducer,
+    tokens: &[Token],
+) -> Result<Option<(Expr, &[Token])>, OutOfMemory>
+    requires { AreSound (kinds tokens.now) }
+    ensures comes { IfOk result (λ found. MatchOption found
+        (Comes (window_plan reducer (kinds tokens.now)) None)
+        (λ found. Comes (window_plan reducer (kinds tokens.now)) (Some (record { tree = expr_tree found.0; rest = kinds found.1.now })))) }
+    ensures rest { IfOk result (λ found. IfSome found (λ found. IsRest (kinds tokens.now) (kinds found.1.now))) }
+{
+    let Some((name, from, to, rest)) = window(tokens) else {
+        return Ok(None);
+    };
+    let name = name.copy()?;
+    Ok(Some((
+        Expr::Reduce {
+            reducer,
+            name,
+            from,
+            to,
+        },
+        rest,
+    )))
+}

@@ -1,0 +1,87 @@
+// What stands in a statement behind its expression.
+ghost use Rattle.std.specs.Prelude.{◌≡◌, ◌↔◌, ℤ, List, [], ◌∷◌, Option, IsTrue, IfSome, MatchOption};
+ghost use Rattle.tilt_lexer.specs.declared.token.Tok.{Tok};
+ghost use Rattle.tilt_syntax.specs.Descent.{Comes, Found, Plan};
+ghost use Rattle.tilt_syntax.specs.Query.{kinds};
+ghost use Rattle.tilt_syntax.specs.Rest.{AreSound, IsRest};
+ghost use Rattle.tilt_syntax.specs.Statements.{bound_plan, domain_plan, period_plan, span_plan};
+ghost use Rattle.tilt_syntax.specs.declared.span.Span.{Span};
+
+use crate::front::{behind_key, behind_mark, front_number};
+use crate::span::Span;
+use tilt_lexer::{Key, Mark, Token};
+
+// The bound at the front, and what stands behind it.
+fn bound(tokens: &[Token]) -> Option<(i64, &[Token])>
+    requires { AreSound (kinds tokens.now) }
+    ensures comes { MatchOption result
+        ((behind : ℤ → List Tok → Plan) → Comes (bound_plan (kinds tokens.now) behind) None)
+        (λ found. (behind : ℤ → List Tok → Plan) (r : Option Found) → Comes (behind found.0 (kinds found.1.now)) r
+            → Comes (bound_plan (kinds tokens.now) behind) r) }
+    ensures rest { IfSome result (λ found. IsRest (kinds tokens.now) (kinds found.1.now)) }
+{
+    let Some(behind) = behind_mark(tokens, Mark::Minus) else {
+        return front_number(tokens);
+    };
+    let (number, rest) = front_number(behind)?;
+    Some((-number, rest))
+}
+
+// The span behind `over`, and what stands behind it.
+pub(crate) fn span(tokens: &[Token]) -> Option<(Span, &[Token])>
+    requires { AreSound (kinds tokens.now) }
+    ensures comes { MatchOption result
+        ((behind : Span → List Tok → Plan) → Comes (span_plan (kinds tokens.now) behind) None)
+        (λ found. (behind : Span → List Tok → Plan) (r : Option Found) → Comes (behind found.0 (kinds found.1.now)) r
+            → Comes (span_plan (kinds tokens.now) behind) r) }
+    ensures rest { IfSome result (λ found. IsRest (kinds tokens.now) (kinds found.1.now)) }
+{
+    let opened = behind_mark(tokens, Mark::OpenParen)?;
+    let (start, left) = bound(opened)?;
+    let between = behind_mark(left, Mark::Comma)?;
+    let (end, right) = bound(between)?;
+    let rest = behind_mark(right, Mark::CloseBracket)?;
+    Some((Span { start, end }, rest))
+}
+
+// The span at the front, where `over` stands there, and what stands behind it.
+pub(crate) fn domain(tokens: &[Token]) -> Option<(Option<Span>, &[Token])>
+    requires { AreSound (kinds tokens.now) }
+    ensures comes { MatchOption result
+        ((behind : Option Span → List Tok → Plan) → Comes (domain_plan (kinds tokens.now) behind) None)
+        (λ found. (behind : Option Span → List Tok → Plan) (r : Option Found) → Comes (behind found.0 (kinds found.1.now)) r
+            → Comes (domain_plan (kinds tokens.now) behind) r) }
+    ensures rest { IfSome result (λ found. IsRest (kinds tokens.now) (kinds found.1.now)) }
+{
+    let Some(behind) = behind_key(tokens, Key::Over) else {
+        return Some((None, tokens));
+    };
+    let (over, rest) = span(behind)?;
+    Some((Some(over), rest))
+}
+
+// The period at the front, where `every` stands there, and what stands behind it.
+pub(crate) fn period(tokens: &[Token]) -> Option<(Option<i64>, &[Token])>
+    requires { AreSound (kinds tokens.now) }
+    ensures comes { MatchOption result
+        ((behind : Option ℤ → List Tok → Plan) → Comes (period_plan (kinds tokens.now) behind) None)
+        (λ found. (behind : Option ℤ → List Tok → Plan) (r : Option Found) → Comes (behind found.0 (kinds found.1.now)) r
+            → Comes (period_plan (kinds tokens.now) behind) r) }
+    ensures rest { IfSome result (λ found. IsRest (kinds tokens.now) (kinds found.1.now)) }
+{
+    let Some(behind) = behind_key(tokens, Key::Every) else {
+        return Some((None, tokens));
+    };
+    let (every, rest) = front_number(behind)?;
+    Some((Some(every), rest))
+}
+
+// Whether the tokens are the `;` alone.
+pub(crate) fn is_end(tokens: &[Token]) -> bool
+    ensures { IsTrue result ↔ (kinds tokens.now ≡ Tok.Mark Mark.Semicolon ∷ []) }
+{
+    match behind_mark(tokens, Mark::Semicolon) {
+        Some(rest) => rest.is_empty(),
+        None => false,
+    }
+}

@@ -1,0 +1,3 @@
+// What no clause fixes: queries as text, read and printed.
+mod parsing;
+mod printing;
