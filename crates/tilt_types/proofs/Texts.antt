@@ -4,11 +4,10 @@ use Rattle.std.specs.List.{AllByRecursion}
 use Rattle.std.proofs.lemmas.List.Elements.{recursion_from_All}
 use Rattle.tilt_lexer.specs.Tokens.{IsSound}
 use Rattle.tilt_lexer.specs.Word.{IsReserved}
-use Rattle.tilt_lexer.specs.declared.mark.Mark.TheVariants.{Semicolon}
 use Rattle.tilt_lexer.specs.declared.token.Tok.{Tok}
-use Rattle.tilt_lexer.specs.declared.token.Tok.TheVariants as tok
 use Rattle.tilt_syntax.specs.Grammar.{IsExpr, tighter, choice, between, negation, minus, number, true_word, false_word, name, reading, window, is_null, if_null, enclosed, IsStatement, input, definition, emission}
-use Rattle.tilt_syntax.specs.Query.{AreGood, IsQuery, statements, with_first}
+use Rattle.tilt_syntax.specs.Query.{AreGood, IsQuery, statements}
+use Rattle.tilt_syntax.proofs.Sounds.{statements_sound}
 use Rattle.tilt_syntax.specs.Tree.{ExprTree, StatementTree, Input, Let, Emit}
 use Rattle.tilt_types.specs.Checked.{definition as core_definition, definitions, input_names, let_names, source_names}
 use Rattle.tilt_types.specs.Core.{domain_of}
@@ -38,19 +37,9 @@ IsOfText (Let x e over every) = (nodes e ≤ 256) × ¬ (IsReserved x)
 IsOfText (Emit e over every) = nodes e ≤ 256
 
 statement-of_text : {ts : List Tok} {s : StatementTree} → IsStatement ts s → length ts ≤ 256 → AllByRecursion IsSound ts → IsOfText s
-statement-of_text input short sound = sound.1.0
-statement-of_text (definition e span every) short sound = (omega (arith, length-append {A = Tok}, nodes-tokens e, short), sound.1.0)
+statement-of_text input short sound = sound.1.0.1
+statement-of_text (definition e span every) short sound = (omega (arith, length-append {A = Tok}, nodes-tokens e, short), sound.1.0.1)
 statement-of_text (emission e span every) short sound = omega (arith, length-append {A = Tok}, nodes-tokens e, short)
-
--- what holds of each token holds of each token of each statement
-with_first-sound : (t : Tok) (ss : List (List Tok)) → IsSound t → AllByRecursion (AllByRecursion IsSound) ss → AllByRecursion (AllByRecursion IsSound) (with_first t ss)
-with_first-sound t [] h g = ((h, tt), tt)
-with_first-sound t (s ∷ ss) h g = ((h, g.0), g.1)
-
-statements-sound : (ts : List Tok) → AllByRecursion IsSound ts → AllByRecursion (AllByRecursion IsSound) (statements ts)
-statements-sound [] h = tt
-statements-sound (tok.Mark Semicolon ∷ ts) h = ((h.0, tt), statements-sound ts h.1)
-statements-sound (t ∷ ts) h = with_first-sound t (statements ts) h.0 (statements-sound ts h.1)
 
 good-of_text : (ss : List (List Tok)) (query : List StatementTree) → AreGood ss query → AllByRecursion (AllByRecursion IsSound) ss → AllByRecursion IsOfText query
 good-of_text [] [] good sound = tt
@@ -60,7 +49,7 @@ good-of_text (ts ∷ ss) (s ∷ query) good sound = (statement-of_text good.0.pa
 
 -- each statement of a query is of a text
 pub query-of_text : (query : List StatementTree) → IsQuery query → AllByRecursion IsOfText query
-query-of_text query is = good-of_text (statements is.tokens) query is.parsed.good (statements-sound is.tokens (recursion_from_All IsSound is.tokens is.sound))
+query-of_text query is = good-of_text (statements is.tokens) query is.parsed.good (statements_sound is.tokens (recursion_from_All IsSound is.tokens is.sound))
 
 good-length : (ss : List (List Tok)) (query : List StatementTree) → AreGood ss query → length query ≡ length ss
 good-length [] [] good = refl

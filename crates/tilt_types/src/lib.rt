@@ -11,6 +11,8 @@
 
 mod builder;
 mod cells;
+#[cfg(test)]
+mod check_tests;
 mod checker;
 mod declared;
 mod definition;
