@@ -2,7 +2,7 @@
 use Rattle.std.proofs.Common.{◌≡◌, ◌⊎◌, inl, inr, List, ℕ, refl}
 use Rattle.tilt_outside.specs.Faults.{Rose}
 use Rattle.tilt_app.specs.Cause.{IsCause}
-use Rattle.tilt_app.specs.Report.{Report, usage, input_names, file_too_long, read_fault, write_fault, out_of_memory, not_built, bad_series, bad_byte, big_number}
+use Rattle.tilt_app.specs.Report.{Report, usage, refusal, read_fault, write_fault, out_of_memory}
 use Rattle.tilt_app.specs.Outcome.{IsOutcome, no_command, printed, refused}
 use Rattle.tilt_app.proofs.Once.{outcome_once}
 
@@ -14,8 +14,8 @@ same_report report other same = cc
 
 -- what is printed isn't refused
 pub printed_or_refused : (words : List (List ℕ)) (files : List ℕ → List ℕ) (text : List ℕ) (report : Report) → IsOutcome words files (printed text) → IsOutcome words files (refused report) → ⊥
-printed_or_refused words files text report outcome refusal =
-    text_is_no_refusal text report (outcome_once words files (printed text) (refused report) outcome refusal)
+printed_or_refused words files text report outcome other =
+    text_is_no_refusal text report (outcome_once words files (printed text) (refused report) outcome other)
 
 module _ (shelf_tells out_tells : Type 0) (words : List (List ℕ)) (files : List ℕ → List ℕ) (reads_before reads_after : ℕ) (old new : List ℕ) (puts_before puts_after : ℕ) (told : shelf_tells) (no_read_fault : Rose reads_before reads_after → ⊥) where
   -- a text that isn't printed wants memory
@@ -24,33 +24,18 @@ module _ (shelf_tells out_tells : Type 0) (words : List (List ℕ)) (files : Lis
   only_memory (read_fault name) text cause outcome no_put_fault = absurd (no_read_fault cause.0)
   only_memory write_fault text cause outcome no_put_fault = absurd (no_put_fault cause.0)
   only_memory out_of_memory text cause outcome no_put_fault = refl
-  only_memory (input_names name) text cause outcome no_put_fault =
-      absurd (printed_or_refused words files text (input_names name) outcome (cause told))
-  only_memory (file_too_long name) text cause outcome no_put_fault =
-      absurd (printed_or_refused words files text (file_too_long name) outcome (cause told))
-  only_memory not_built text cause outcome no_put_fault =
-      absurd (printed_or_refused words files text not_built outcome (cause told))
-  only_memory (bad_series name why) text cause outcome no_put_fault =
-      absurd (printed_or_refused words files text (bad_series name why) outcome (cause told))
-  only_memory (bad_byte at) text cause outcome no_put_fault =
-      absurd (printed_or_refused words files text (bad_byte at) outcome (cause told))
-  only_memory (big_number at) text cause outcome no_put_fault =
-      absurd (printed_or_refused words files text (big_number at) outcome (cause told))
+  only_memory (refusal why) text cause outcome no_put_fault =
+      absurd (printed_or_refused words files text (refusal why) outcome (cause told))
 
-  same_refusal : (report refusal : Report) → IsOutcome words files (refused report) → IsOutcome words files (refused refusal) → (report ≡ refusal) ⊎ (report ≡ out_of_memory)
-  same_refusal report refusal is outcome =
-      inl (same_report report refusal (outcome_once words files (refused report) (refused refusal) is outcome))
+  same_refusal : (report other : Report) → IsOutcome words files (refused report) → IsOutcome words files (refused other) → (report ≡ other) ⊎ (report ≡ out_of_memory)
+  same_refusal report other is outcome =
+      inl (same_report report other (outcome_once words files (refused report) (refused other) is outcome))
 
   -- a refusal is reported, or it wants memory
-  pub the_refusal : (report refusal : Report) → IsCause shelf_tells out_tells words files reads_before reads_after old new puts_before puts_after report → IsOutcome words files (refused refusal) → (report ≡ refusal) ⊎ (report ≡ out_of_memory)
-  the_refusal usage refusal cause outcome = same_refusal usage refusal (no_command cause) outcome
-  the_refusal (read_fault name) refusal cause outcome = absurd (no_read_fault cause.0)
-  the_refusal write_fault refusal cause outcome =
-      absurd (printed_or_refused words files cause.1.0 refusal (cause.1.1.outcome told) outcome)
-  the_refusal out_of_memory refusal cause outcome = inr refl
-  the_refusal (input_names name) refusal cause outcome = same_refusal (input_names name) refusal (cause told) outcome
-  the_refusal (file_too_long name) refusal cause outcome = same_refusal (file_too_long name) refusal (cause told) outcome
-  the_refusal not_built refusal cause outcome = same_refusal not_built refusal (cause told) outcome
-  the_refusal (bad_series name why) refusal cause outcome = same_refusal (bad_series name why) refusal (cause told) outcome
-  the_refusal (bad_byte at) refusal cause outcome = same_refusal (bad_byte at) refusal (cause told) outcome
-  the_refusal (big_number at) refusal cause outcome = same_refusal (big_number at) refusal (cause told) outcome
+  pub the_refusal : (report other : Report) → IsCause shelf_tells out_tells words files reads_before reads_after old new puts_before puts_after report → IsOutcome words files (refused other) → (report ≡ other) ⊎ (report ≡ out_of_memory)
+  the_refusal usage other cause outcome = same_refusal usage other (no_command cause) outcome
+  the_refusal (refusal why) other cause outcome = same_refusal (refusal why) other (cause told) outcome
+  the_refusal (read_fault name) other cause outcome = absurd (no_read_fault cause.0)
+  the_refusal write_fault other cause outcome =
+      absurd (printed_or_refused words files cause.1.0 other (cause.1.1.outcome told) outcome)
+  the_refusal out_of_memory other cause outcome = inr refl

@@ -6,10 +6,6 @@ use Rattle.std.proofs.lemmas.Bool.{cases_Bool, and_parts, false≢true, eqb-true
 use Rattle.tilt_app.specs.Words.{Bind, bind_of, binds_of}
 use Rattle.tilt_app.specs.Inputs.{is_among, bound_names, first_unexpected, first_unbound, first_of_two, file_of, faulty_name}
 
--- the name that a word binds
-abbrev pub name_in : String Global → List ℕ
-name_in word = (bind_of (string_bytes word)).name
-
 -- the first unexpected name is looked for behind this place, and those before it are the names before this place
 pub record IsBehind (declared : List (List ℕ)) (words : List (String Global)) (before : List (List ℕ)) (place : ℕ) : Type 0 where
   pub same : first_unexpected declared before (bound_names (binds_of (drop place words))) ≡ first_unexpected declared [] (bound_names (binds_of words))

@@ -4,7 +4,4 @@ pub mod InputRows
 pub mod Loads
 pub mod Once
 pub mod OneCut
-pub mod OneForm
-pub mod Pieces
-pub mod Puts
 pub mod Turns

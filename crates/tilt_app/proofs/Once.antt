@@ -1,78 +1,109 @@
 -- Words and files have one outcome.
-use Rattle.std.proofs.Common.{◌≡◌, List, ℕ, Ok, Err, None, Some, refl, ap, arith}
+use Rattle.std.proofs.Common.{◌≡◌, ◌∙◌, List, ℕ, Result, Ok, Err, None, Some, refl, sym, ap, arith}
 use Rattle.tilt_lexer.proofs.Unique.{same_fault, tokens_or_fault, same_tokens}
 use Rattle.tilt_stream.specs.Snap.{Snapshot}
+use Rattle.tilt_stream.specs.Text.{text_of}
+use Rattle.tilt_syntax.specs.Query.{kinds}
+use Rattle.tilt_syntax.proofs.Refused.{one_query, one_refusal, query-or-refused}
+use Rattle.tilt_types.specs.Checked.{checked}
+use Rattle.tilt_types.specs.Core.{CoreParts}
+use Rattle.tilt_types.specs.Meaning.{output_of}
+use Rattle.tilt_types.specs.declared.fault.CheckFault.{CheckFault}
 use Rattle.tilt_app.specs.Inputs.{faulty_name}
-use Rattle.tilt_app.specs.Query.{QueryParts}
 use Rattle.tilt_app.specs.Words.{Bind, IsRun, IsCommand}
-use Rattle.tilt_app.specs.Report.{Report, usage, input_names, bad_byte, big_number}
-use Rattle.tilt_app.specs.Outcome.{Outcome, printed, refused, IsOutcome, no_command, no_query, no_names, no_series, done, TakesQuery, RefusesQuery, long, faulty_byte, faulty_number, no_form, inputs_read, text_on}
+use Rattle.tilt_app.specs.Report.{Reason, Report, usage, refusal, input_names, report_of_place, report_of_syntax, report_of_check}
+use Rattle.tilt_app.specs.Outcome.{Outcome, printed, refused, IsOutcome, no_command, no_query, no_names, no_series, done, TakesQuery, RefusesQuery, long, no_tokens, no_statements, ill_formed, inputs_read}
 use Rattle.tilt_app.proofs.OneCut.{run_once}
-use Rattle.tilt_app.proofs.OneForm.{query_once}
+
+same_err : {f g : CheckFault} → (let x : Result CoreParts CheckFault = Err f in x ≡ Err g) → f ≡ g
+same_err e = cc
+
+same_ok : {c d : CoreParts} → (let x : Result CoreParts CheckFault = Ok c in x ≡ Ok d) → c ≡ d
+same_ok e = cc
+
+-- a report is of one refusal
+same_reason : (report : Report) (r s : Reason) → report ≡ refusal r → report ≡ refusal s → r ≡ s
+same_reason report r s is other = cc
 
 -- a query is refused for one reason
-refused_once : (name bytes : List ℕ) (r s : Report) → RefusesQuery name bytes r → RefusesQuery name bytes s → r ≡ s
+refused_once : (name bytes : List ℕ) (r s : Reason) → RefusesQuery name bytes r → RefusesQuery name bytes s → r ≡ s
 refused_once name bytes r s (long over) (long over') = refl
-refused_once name bytes r s (long over) (faulty_byte at short faulty) = absurd (omega arith)
-refused_once name bytes r s (long over) (faulty_number at short faulty) = absurd (omega arith)
-refused_once name bytes r s (long over) (no_form tokens short lexed none) = absurd (omega arith)
-refused_once name bytes r s (faulty_byte at short faulty) (long over) = absurd (omega arith)
-refused_once name bytes r s (faulty_byte at short faulty) (faulty_byte at' short' faulty') =
-    let same = same_fault faulty faulty' refl refl in
-    let place : at ≡ at' = cc in
-    ap bad_byte place
-refused_once name bytes r s (faulty_byte at short faulty) (faulty_number at' short' faulty') =
-    let same = same_fault faulty faulty' refl refl in
-    cc
-refused_once name bytes r s (faulty_byte at short faulty) (no_form tokens short' lexed none) =
+refused_once name bytes r s (long over) (no_tokens f short faulty is) = absurd (omega arith)
+refused_once name bytes r s (long over) (no_statements ts f short lexed refuses is) = absurd (omega arith)
+refused_once name bytes r s (long over) (ill_formed ts q f short lexed parsed bad is) = absurd (omega arith)
+refused_once name bytes r s (no_tokens f short faulty is) (long over) = absurd (omega arith)
+refused_once name bytes r s (no_tokens f short faulty is) (no_tokens g short' faulty' is') =
+    same_reason (report_of_place f) r s is (rw (sym (same_fault faulty faulty' refl refl)) at is')
+refused_once name bytes r s (no_tokens f short faulty is) (no_statements ts g short' lexed refuses is') =
     absurd (tokens_or_fault lexed faulty refl)
-refused_once name bytes r s (faulty_number at short faulty) (long over) = absurd (omega arith)
-refused_once name bytes r s (faulty_number at short faulty) (faulty_byte at' short' faulty') =
-    let same = same_fault faulty faulty' refl refl in
-    cc
-refused_once name bytes r s (faulty_number at short faulty) (faulty_number at' short' faulty') =
-    let same = same_fault faulty faulty' refl refl in
-    let place : at ≡ at' = cc in
-    ap big_number place
-refused_once name bytes r s (faulty_number at short faulty) (no_form tokens short' lexed none) =
+refused_once name bytes r s (no_tokens f short faulty is) (ill_formed ts q g short' lexed parsed bad is') =
     absurd (tokens_or_fault lexed faulty refl)
-refused_once name bytes r s (no_form tokens short lexed none) (long over) = absurd (omega arith)
-refused_once name bytes r s (no_form tokens short lexed none) (faulty_byte at short' faulty) =
+refused_once name bytes r s (no_statements ts f short lexed refuses is) (long over) = absurd (omega arith)
+refused_once name bytes r s (no_statements ts f short lexed refuses is) (no_tokens g short' faulty is') =
     absurd (tokens_or_fault lexed faulty refl)
-refused_once name bytes r s (no_form tokens short lexed none) (faulty_number at short' faulty) =
+refused_once name bytes r s (no_statements ts f short lexed refuses is) (no_statements us g short' lexed' refuses' is') =
+    let same = same_tokens lexed lexed' refl refl in
+    same_reason (report_of_syntax f) r s is (rw (sym (one_refusal (kinds ts) f g refuses (rw (sym same) at refuses'))) at is')
+refused_once name bytes r s (no_statements ts f short lexed refuses is) (ill_formed us q g short' lexed' parsed bad is') =
+    let same = same_tokens lexed lexed' refl refl in
+    absurd (query-or-refused (kinds ts) q f (rw (sym same) at parsed) refuses)
+refused_once name bytes r s (ill_formed ts q f short lexed parsed bad is) (long over) = absurd (omega arith)
+refused_once name bytes r s (ill_formed ts q f short lexed parsed bad is) (no_tokens g short' faulty is') =
     absurd (tokens_or_fault lexed faulty refl)
-refused_once name bytes r s (no_form tokens short lexed none) (no_form tokens' short' lexed' none') = refl
+refused_once name bytes r s (ill_formed ts q f short lexed parsed bad is) (no_statements us g short' lexed' refuses is') =
+    let same = same_tokens lexed lexed' refl refl in
+    absurd (query-or-refused (kinds ts) q g parsed (rw (sym same) at refuses))
+refused_once name bytes r s (ill_formed ts q f short lexed parsed bad is) (ill_formed us p g short' lexed' parsed' bad' is') =
+    let same = same_tokens lexed lexed' refl refl in
+    let query = one_query (kinds ts) q p parsed (rw (sym same) at parsed') in
+    let fault : f ≡ g = same_err (sym bad ∙ ap checked query ∙ bad') in
+    same_reason (report_of_check f) r s is (rw (sym fault) at is')
+
+-- a query that is taken has one core
+taken_once : (bytes : List ℕ) (c d : CoreParts) → TakesQuery bytes c → TakesQuery bytes d → c ≡ d
+taken_once bytes c d taken taken' =
+    let same = same_tokens taken.lexed taken'.lexed refl refl in
+    let query = one_query (kinds taken.tokens) taken.query taken'.query taken.parsed (rw (sym same) at taken'.parsed) in
+    same_ok (sym taken.accepted ∙ ap checked query ∙ taken'.accepted)
 
 -- a query that is refused isn't taken
-refused_or_taken : (name bytes : List ℕ) (r : Report) (parts : QueryParts) → RefusesQuery name bytes r → TakesQuery bytes parts → ⊥
-refused_or_taken name bytes r parts (long over) taken = let short = taken.short in absurd (omega arith)
-refused_or_taken name bytes r parts (faulty_byte at short faulty) taken =
-    tokens_or_fault taken.query.lexed faulty refl
-refused_or_taken name bytes r parts (faulty_number at short faulty) taken =
-    tokens_or_fault taken.query.lexed faulty refl
-refused_or_taken name bytes r parts (no_form tokens short lexed none) taken =
-    let same = same_tokens taken.query.lexed lexed refl refl in
-    none parts (rw same at taken.query.form)
+refused_or_taken : (name bytes : List ℕ) (r : Reason) (core : CoreParts) → RefusesQuery name bytes r → TakesQuery bytes core → ⊥
+refused_or_taken name bytes r core (long over) taken = let short = taken.short in absurd (omega arith)
+refused_or_taken name bytes r core (no_tokens f short faulty is) taken = tokens_or_fault taken.lexed faulty refl
+refused_or_taken name bytes r core (no_statements ts f short lexed refuses is) taken =
+    let same = same_tokens taken.lexed lexed refl refl in
+    query-or-refused (kinds ts) taken.query f (rw same at taken.parsed) refuses
+refused_or_taken name bytes r core (ill_formed ts q f short lexed parsed bad is) taken =
+    let same = same_tokens taken.lexed lexed refl refl in
+    let query = one_query (kinds ts) q taken.query parsed (rw same at taken.parsed) in
+    let both : Ok core ≡ Err f = sym taken.accepted ∙ ap checked (sym query) ∙ bad in
+    cc
 
 -- the words name one query file, and bind one list of files
 module _ (words : List (List ℕ)) (files : List ℕ → List ℕ) (q q' : List ℕ) (b b' : List Bind) (run : IsRun words q b) (run' : IsRun words q' b') where
-  same_refusal : (r s : Report) → RefusesQuery q (files q) r → RefusesQuery q' (files q') s → r ≡ s
+  same_refusal : (r s : Reason) → RefusesQuery q (files q) r → RefusesQuery q' (files q') s → r ≡ s
   same_refusal r s refuses refuses' =
       refused_once q (files q) r s refuses (rw (← (run_once run run').0) at refuses')
 
-  not_both : (r : Report) (parts : QueryParts) → RefusesQuery q (files q) r → TakesQuery (files q') parts → ⊥
-  not_both r parts refuses taken =
-      refused_or_taken q (files q) r parts refuses (rw (← (run_once run run').0) at taken)
+  not_both : (r : Reason) (core : CoreParts) → RefusesQuery q (files q) r → TakesQuery (files q') core → ⊥
+  not_both r core refuses taken =
+      refused_or_taken q (files q) r core refuses (rw (← (run_once run run').0) at taken)
 
-  same_parts : (p p' : QueryParts) → TakesQuery (files q) p → TakesQuery (files q') p' → p ≡ p'
-  same_parts p p' taken taken' =
-      query_once taken.query (rw (← (run_once run run').0) at taken').query
+  same_core : (c c' : CoreParts) → TakesQuery (files q) c → TakesQuery (files q') c' → c ≡ c'
+  same_core c c' taken taken' = taken_once (files q) c c' taken (rw (← (run_once run run').0) at taken')
 
-  same_names : (p p' : QueryParts) → TakesQuery (files q) p → TakesQuery (files q') p' → faulty_name p.inputs b ≡ faulty_name p'.inputs b'
-  same_names p p' taken taken' = rw (same_parts p p' taken taken', (run_once run run').1) refl
+  same_names : (c c' : CoreParts) → TakesQuery (files q) c → TakesQuery (files q') c' → faulty_name c.inputs b ≡ faulty_name c'.inputs b'
+  same_names c c' taken taken' = rw (same_core c c' taken taken', (run_once run run').1) refl
 
-  same_read : (p p' : QueryParts) → TakesQuery (files q) p → TakesQuery (files q') p' → inputs_read files b p.inputs ≡ inputs_read files b' p'.inputs
-  same_read p p' taken taken' = rw (same_parts p p' taken taken', (run_once run run').1) refl
+  same_read : (c c' : CoreParts) → TakesQuery (files q) c → TakesQuery (files q') c' → inputs_read files b c.inputs ≡ inputs_read files b' c'.inputs
+  same_read c c' taken taken' = rw (same_core c c' taken taken', (run_once run run').1) refl
+
+same_text : (c d : CoreParts) (rows others : List (List Snapshot)) (list list' : List Snapshot) → c ≡ d → (let x : Result (List (List Snapshot)) Reason = Ok rows in x ≡ Ok others) → output_of c rows ≡ Some list → output_of d others ≡ Some list' → printed (text_of list) ≡ printed (text_of list')
+same_text c d rows others list list' same read is is' =
+    let rows_same : rows ≡ others = cc in
+    let both : output_of c rows ≡ output_of d others = rw (same, rows_same) refl in
+    let lists : list ≡ list' = cc in
+    rw lists refl
 
 module _ (words : List (List ℕ)) (files : List ℕ → List ℕ) where
   no_command_once : (o : Outcome) → ¬ (IsCommand words) → IsOutcome words files o → refused usage ≡ o
@@ -80,20 +111,20 @@ module _ (words : List (List ℕ)) (files : List ℕ → List ℕ) where
   no_command_once o none (no_query q b r run refuses) = absurd (none (q, b, run))
   no_command_once o none (no_names q b p n run taken is) = absurd (none (q, b, run))
   no_command_once o none (no_series q b p r run taken names is) = absurd (none (q, b, run))
-  no_command_once o none (done q b p rows run taken names is) = absurd (none (q, b, run))
+  no_command_once o none (done q b p rows list run taken names read out) = absurd (none (q, b, run))
 
-  no_query_once : (q : List ℕ) (b : List Bind) (r : Report) (o : Outcome) → IsRun words q b → RefusesQuery q (files q) r → IsOutcome words files o → refused r ≡ o
+  no_query_once : (q : List ℕ) (b : List Bind) (r : Reason) (o : Outcome) → IsRun words q b → RefusesQuery q (files q) r → IsOutcome words files o → refused (refusal r) ≡ o
   no_query_once q b r o run refuses (no_command none) = absurd (none (q, b, run))
   no_query_once q b r o run refuses (no_query q' b' r' run' refuses') =
-      ap refused (same_refusal words files q q' b b' run run' r r' refuses refuses')
+      ap (λ (why : Reason). refused (refusal why)) (same_refusal words files q q' b b' run run' r r' refuses refuses')
   no_query_once q b r o run refuses (no_names q' b' p n run' taken is) =
       absurd (not_both words files q q' b b' run run' r p refuses taken)
   no_query_once q b r o run refuses (no_series q' b' p r' run' taken names is) =
       absurd (not_both words files q q' b b' run run' r p refuses taken)
-  no_query_once q b r o run refuses (done q' b' p rows run' taken names is) =
+  no_query_once q b r o run refuses (done q' b' p rows list run' taken names read out) =
       absurd (not_both words files q q' b b' run run' r p refuses taken)
 
-  no_names_once : (q : List ℕ) (b : List Bind) (p : QueryParts) (n : List ℕ) (o : Outcome) → IsRun words q b → TakesQuery (files q) p → faulty_name p.inputs b ≡ Some n → IsOutcome words files o → refused (input_names n) ≡ o
+  no_names_once : (q : List ℕ) (b : List Bind) (p : CoreParts) (n : List ℕ) (o : Outcome) → IsRun words q b → TakesQuery (files q) p → faulty_name p.inputs b ≡ Some n → IsOutcome words files o → refused (refusal (input_names n)) ≡ o
   no_names_once q b p n o run taken is (no_command none) = absurd (none (q, b, run))
   no_names_once q b p n o run taken is (no_query q' b' r run' refuses) =
       absurd (not_both words files q' q b' b run' run r p refuses taken)
@@ -104,11 +135,11 @@ module _ (words : List (List ℕ)) (files : List ℕ → List ℕ) where
   no_names_once q b p n o run taken is (no_series q' b' p' r run' taken' names is') =
       let same = same_names words files q q' b b' run run' p p' taken taken' in
       cc
-  no_names_once q b p n o run taken is (done q' b' p' rows run' taken' names is') =
+  no_names_once q b p n o run taken is (done q' b' p' rows list run' taken' names read out) =
       let same = same_names words files q q' b b' run run' p p' taken taken' in
       cc
 
-  no_series_once : (q : List ℕ) (b : List Bind) (p : QueryParts) (r : Report) (o : Outcome) → IsRun words q b → TakesQuery (files q) p → faulty_name p.inputs b ≡ None → inputs_read files b p.inputs ≡ Err r → IsOutcome words files o → refused r ≡ o
+  no_series_once : (q : List ℕ) (b : List Bind) (p : CoreParts) (r : Reason) (o : Outcome) → IsRun words q b → TakesQuery (files q) p → faulty_name p.inputs b ≡ None → inputs_read files b p.inputs ≡ Err r → IsOutcome words files o → refused (refusal r) ≡ o
   no_series_once q b p r o run taken names is (no_command none) = absurd (none (q, b, run))
   no_series_once q b p r o run taken names is (no_query q' b' r' run' refuses) =
       absurd (not_both words files q' q b' b run' run r' p refuses taken)
@@ -119,31 +150,29 @@ module _ (words : List (List ℕ)) (files : List ℕ → List ℕ) where
       let same = same_read words files q q' b b' run run' p p' taken taken' in
       let report : r ≡ r' = cc in
       rw report refl
-  no_series_once q b p r o run taken names is (done q' b' p' rows run' taken' names' is') =
+  no_series_once q b p r o run taken names is (done q' b' p' rows list run' taken' names' read out) =
       let same = same_read words files q q' b b' run run' p p' taken taken' in
       cc
 
-  done_once : (q : List ℕ) (b : List Bind) (p : QueryParts) (rows : List (List Snapshot)) (o : Outcome) → IsRun words q b → TakesQuery (files q) p → faulty_name p.inputs b ≡ None → inputs_read files b p.inputs ≡ Ok rows → IsOutcome words files o → printed (text_on p rows) ≡ o
-  done_once q b p rows o run taken names is (no_command none) = absurd (none (q, b, run))
-  done_once q b p rows o run taken names is (no_query q' b' r run' refuses) =
+  done_once : (q : List ℕ) (b : List Bind) (p : CoreParts) (rows : List (List Snapshot)) (list : List Snapshot) (o : Outcome) → IsRun words q b → TakesQuery (files q) p → faulty_name p.inputs b ≡ None → inputs_read files b p.inputs ≡ Ok rows → output_of p rows ≡ Some list → IsOutcome words files o → printed (text_of list) ≡ o
+  done_once q b p rows list o run taken names read out (no_command none) = absurd (none (q, b, run))
+  done_once q b p rows list o run taken names read out (no_query q' b' r run' refuses) =
       absurd (not_both words files q' q b' b run' run r p refuses taken)
-  done_once q b p rows o run taken names is (no_names q' b' p' n run' taken' is') =
+  done_once q b p rows list o run taken names read out (no_names q' b' p' n run' taken' is') =
       let same = same_names words files q q' b b' run run' p p' taken taken' in
       cc
-  done_once q b p rows o run taken names is (no_series q' b' p' r run' taken' names' is') =
+  done_once q b p rows list o run taken names read out (no_series q' b' p' r run' taken' names' is') =
       let same = same_read words files q q' b b' run run' p p' taken taken' in
       cc
-  done_once q b p rows o run taken names is (done q' b' p' rows' run' taken' names' is') =
-      let same = same_read words files q q' b b' run run' p p' taken taken' in
-      let all : rows ≡ rows' = cc in
-      rw (same_parts words files q q' b b' run run' p p' taken taken', all) refl
+  done_once q b p rows list o run taken names read out (done q' b' p' rows' list' run' taken' names' read' out') =
+      same_text p p' rows rows' list list' (same_core words files q q' b b' run run' p p' taken taken') (sym read ∙ same_read words files q q' b b' run run' p p' taken taken' ∙ read') out out'
 
   -- words and files have one outcome
   pub outcome_once : (o p : Outcome) → IsOutcome words files o → IsOutcome words files p → o ≡ p
   outcome_once o p (no_command none) other = no_command_once p none other
   outcome_once o p (no_query q b r run refuses) other = no_query_once q b r p run refuses other
-  outcome_once o p (no_names q b parts n run taken is) other = no_names_once q b parts n p run taken is other
-  outcome_once o p (no_series q b parts r run taken names is) other =
-      no_series_once q b parts r p run taken names is other
-  outcome_once o p (done q b parts rows run taken names is) other =
-      done_once q b parts rows p run taken names is other
+  outcome_once o p (no_names q b core n run taken is) other = no_names_once q b core n p run taken is other
+  outcome_once o p (no_series q b core r run taken names is) other =
+      no_series_once q b core r p run taken names is other
+  outcome_once o p (done q b core rows list run taken names read out) other =
+      done_once q b core rows list p run taken names read out other

@@ -8,6 +8,7 @@ use Rattle.std.proofs.lemmas.List.Elements.{All-cons, All-head, All-tail, All-ni
 use Rattle.std.proofs.lemmas.List.Sums.{split_at_first, passes_at_first}
 use Rattle.std.specs.Char.{is_ascii_digit}
 use Rattle.tilt_lexer.specs.Word.{IsWord, begins_word, goes_on_word}
+use Rattle.tilt_lexer.proofs.Fronts.{word_goes_on}
 use Rattle.tilt_app.specs.Words.{Bind, IsBind, AreBinds, IsRun, IsCommand, bind_of, binds_of, bind_text, texts}
 
 abbrev is_equals : ℕ → Bool
@@ -31,12 +32,6 @@ bind_parts word bind =
     let at = get_or word (position_or_len is_equals word) 0 in
     let equals : at ≡ 61 = eqb-true at 61 (passes_at_first is_equals word 0 below) in
     split_at_first is_equals word 0 below ∙ ap (λ (b : ℕ). before_first is_equals word ++ b ∷ after_first is_equals word) equals ∙ sym (append_assoc (before_first is_equals word) (61 ∷ []) (after_first is_equals word))
-
-word_goes_on : (name : List ℕ) → IsWord name → list_all goes_on_word name ≡ true
-word_goes_on [] h = refl
-word_goes_on (b ∷ bs) h =
-    let parts = and_parts (begins_word b) (list_all goes_on_word bs) h in
-    rw (or_left (begins_word b) (is_ascii_digit b) parts.0, parts.1)
 
 no_equals : (b : ℕ) → goes_on_word b ≡ true → is_equals b ≡ false
 no_equals b goes_on =

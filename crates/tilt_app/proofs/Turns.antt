@@ -4,12 +4,11 @@ use Rattle.std.proofs.lemmas.List.{drop_more, length-take-le, take-append-drop, 
 use Rattle.tilt_stream.specs.Snap.{Snapshot}
 use Rattle.tilt_app.specs.Inputs.{faulty_name, file_of}
 use Rattle.tilt_app.specs.Load.{IsLoadFault, HasInputTurn}
-use Rattle.tilt_app.specs.Outcome.{input_read, inputs_read, rows_named}
-use Rattle.tilt_lexer.specs.Word.{AreDistinct}
-use Rattle.tilt_app.specs.Report.{Report}
+use Rattle.tilt_app.specs.Outcome.{input_read, inputs_read}
+use Rattle.tilt_app.specs.Report.{Reason, Report}
 use Rattle.tilt_app.specs.Words.{Bind}
 use Rattle.tilt_app.proofs.InputNames.{bound_file}
-use Rattle.tilt_app.proofs.InputRows.{read_more, read_stops, as_many, rows_at}
+use Rattle.tilt_app.proofs.InputRows.{read_more, read_stops, as_many}
 use Rattle.tilt_app.proofs.Loads.{load_fault_weaker, rose_later}
 
 -- a list, parted at an item
@@ -44,9 +43,9 @@ module _ (files : List ℕ → List ℕ) (binds : List Bind) (inputs : List (Lis
       ap (inputs_read files binds) more ∙ read_more files binds (take i inputs) rows name new read taken
 
   -- it is refused, and so are all
-  pub refused_at : (rows : List (List Snapshot)) (report : Report) → inputs_read files binds (take i inputs) ≡ Ok rows → input_read files (file_of binds name) name ≡ Err report → inputs_read files binds inputs ≡ Err report
-  refused_at rows report read refused =
-      ap (inputs_read files binds) (parted inputs name i low is) ∙ read_stops files binds (take i inputs) (drop (i + 1) inputs) rows name report read refused
+  pub refused_at : (rows : List (List Snapshot)) (why : Reason) → inputs_read files binds (take i inputs) ≡ Ok rows → input_read files (file_of binds name) name ≡ Err why → inputs_read files binds inputs ≡ Err why
+  refused_at rows why read refused =
+      ap (inputs_read files binds) (parted inputs name i low is) ∙ read_stops files binds (take i inputs) (drop (i + 1) inputs) rows name why read refused
 
   pub rows_before : (rows : List (List Snapshot)) → inputs_read files binds (take i inputs) ≡ Ok rows → length rows ≡ i
   rows_before rows read =
@@ -57,9 +56,6 @@ module _ (files : List ℕ → List ℕ) (binds : List Bind) (inputs : List (Lis
   fault_at tells now file before mid after names bound read same kept report fault =
       load_fault_weaker tells tells (λ r. input_read now file name ≡ Err r) (λ r. inputs_read files binds inputs ≡ Err r) (λ which. which ≡ file) (HasInputTurn tells files binds inputs) mid after before after (λ t. t) (λ r t refused. refused_at (read t).0 r (read t).1 (rw (same, bound) at refused)) (λ which rose at. (rose_later before mid after kept rose, rw at (turn_at tells file names bound read))) report fault
 
--- all were taken, and the rows of the emitted one were kept
-pub all_taken : (files : List ℕ → List ℕ) (binds : List Bind) (inputs : List (List ℕ)) (rows : List (List Snapshot)) (kept : List Snapshot) (emitted i : ℕ) → AreDistinct inputs → emitted < length inputs → length inputs ≤ i → inputs_read files binds (take i inputs) ≡ Ok rows → (emitted < i → kept ≡ get_or rows emitted []) → (all : List (List Snapshot)) × (inputs_read files binds inputs ≡ Ok all) × (kept ≡ rows_named inputs all (get_or inputs emitted []))
-all_taken files binds inputs rows kept emitted i distinct low high read is =
-    let whole = take_all i inputs high in
-    let all = rw whole at read in
-    (rows, all, is (omega arith) ∙ sym (rows_at inputs rows emitted distinct low (as_many files binds inputs rows all)))
+-- all were taken
+pub all_taken : (files : List ℕ → List ℕ) (binds : List Bind) (inputs : List (List ℕ)) (rows : List (List Snapshot)) (i : ℕ) → length inputs ≤ i → inputs_read files binds (take i inputs) ≡ Ok rows → inputs_read files binds inputs ≡ Ok rows
+all_taken files binds inputs rows i high read = rw (take_all i inputs high) at read

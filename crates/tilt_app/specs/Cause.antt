@@ -4,7 +4,7 @@ use Rattle.tilt_outside.specs.Faults.{Rose}
 use Rattle.tilt_outside.specs.Written.{AppendsFront}
 use Rattle.tilt_app.specs.Load.{IsLoadFault}
 use Rattle.tilt_app.specs.Words.{IsCommand}
-use Rattle.tilt_app.specs.Report.{Report, usage, read_fault, write_fault, out_of_memory}
+use Rattle.tilt_app.specs.Report.{Reason, Report, usage, refusal, read_fault, write_fault, out_of_memory}
 use Rattle.tilt_app.specs.Outcome.{IsOutcome, printed, refused, HasTurn}
 
 -- Of the shelf: whether it tells what it holds, what each name holds, and its count of read faults before and after.
@@ -21,12 +21,12 @@ module _ (shelf_tells out_tells : Type 0) (words : List (List ℕ)) (files : Lis
   IsCause (read_fault name) = Rose reads_before reads_after × HasTurn shelf_tells words files name
   IsCause write_fault = Rose puts_before puts_after × ((text : List ℕ) × IsCutShort text)
   IsCause out_of_memory = ⊤
-  IsCause refusal = shelf_tells → IsOutcome words files (refused refusal)
+  IsCause (refusal why) = shelf_tells → IsOutcome words files (refused (refusal why))
 
 -- why nothing is printed: the words are no command, or they are one, and the query, the names or an input were not taken
 abbrev pub IsUnanswered : Type 0 → List (List ℕ) → (List ℕ → List ℕ) → ℕ → ℕ → Report → Type 0
 IsUnanswered tells words files before after report =
-    ((report ≡ usage) × ¬ (IsCommand words)) ⊎ (IsCommand words × IsLoadFault tells (λ refusal. IsOutcome words files (refused refusal)) (HasTurn tells words files) before after report)
+    ((report ≡ usage) × ¬ (IsCommand words)) ⊎ (IsCommand words × IsLoadFault tells (λ why. IsOutcome words files (refused (refusal why))) (HasTurn tells words files) before after report)
 
 -- the line was written, or a front of it where the count of faults rose
 abbrev pub IsLineWritten : List ℕ → List ℕ → List ℕ → ℕ → ℕ → Type 0

@@ -1,10 +1,6 @@
 pub mod Cause
-pub mod Front
 pub mod Inputs
 pub mod Load
 pub mod Outcome
-pub mod Parts
-pub mod Piece
-pub mod Query
 pub mod Report
 pub mod Words

@@ -4,21 +4,21 @@ use Rattle.tilt_base.specs.declared.limits.TheConstants.{FILE}
 use Rattle.tilt_outside.specs.Faults.{Rose}
 use Rattle.tilt_app.specs.Inputs.{faulty_name}
 use Rattle.tilt_app.specs.Words.{Bind}
-use Rattle.tilt_app.specs.Report.{Report, usage, input_names, file_too_long, read_fault, write_fault, out_of_memory}
+use Rattle.tilt_app.specs.Report.{Reason, Report, usage, refusal, input_names, file_too_long, read_fault, write_fault, out_of_memory}
 use Rattle.tilt_app.specs.Outcome.{IsNextInput}
 
 -- why files aren't taken: a read of a file whose turn it is failed and the count rose, there is no memory, or it is one of the refusals
-module _ (tells : Type 0) (is_refusal : Report → Type 0) (has_turn : List ℕ → Type 0) (before after : ℕ) where
+module _ (tells : Type 0) (is_refusal : Reason → Type 0) (has_turn : List ℕ → Type 0) (before after : ℕ) where
   abbrev pub IsLoadFault : Report → Type 0
   IsLoadFault usage = ⊥
+  IsLoadFault (refusal why) = tells → is_refusal why
   IsLoadFault (read_fault name) = Rose before after × has_turn name
   IsLoadFault write_fault = ⊥
   IsLoadFault out_of_memory = ⊤
-  IsLoadFault refusal = tells → is_refusal refusal
 
 -- the file of that name has more bytes than a file may have
-abbrev pub IsTooLong : List ℕ → List ℕ → Report → Type 0
-IsTooLong name file report = (report ≡ file_too_long name) × (FILE < length file)
+abbrev pub IsTooLong : List ℕ → List ℕ → Reason → Type 0
+IsTooLong name file why = (why ≡ file_too_long name) × (FILE < length file)
 
 -- it is a file's turn: that of an input among these
 pub record HasInputTurn (tells : Type 0) (files : List ℕ → List ℕ) (binds : List Bind) (inputs : List (List ℕ)) (file : List ℕ) : Type 0 where
@@ -29,6 +29,8 @@ pub record HasInputTurn (tells : Type 0) (files : List ℕ → List ℕ) (binds 
 
 -- a name is faulty, and it is told, or there is no memory
 abbrev pub IsNameFault : List (List ℕ) → List Bind → Report → Type 0
-IsNameFault inputs binds (input_names name) = faulty_name inputs binds ≡ Some name
+IsNameFault inputs binds usage = ⊥
+IsNameFault inputs binds (refusal why) = (name : List ℕ) × (why ≡ input_names name) × (faulty_name inputs binds ≡ Some name)
+IsNameFault inputs binds (read_fault name) = ⊥
+IsNameFault inputs binds write_fault = ⊥
 IsNameFault inputs binds out_of_memory = ⊤
-IsNameFault inputs binds report = ⊥

@@ -5,54 +5,84 @@ use Rattle.tilt_lexer.specs.declared.fault.LexFault.{LexFault}
 use Rattle.tilt_lexer.specs.declared.fault.LexFault.TheVariants as lexical
 use Rattle.tilt_series.specs.declared.fault.SeriesFault.{SeriesFault}
 use Rattle.tilt_series.specs.declared.fault.SeriesFault.TheVariants as series
+use Rattle.tilt_syntax.specs.declared.fault.SyntaxFault.{SyntaxFault}
+use Rattle.tilt_syntax.specs.declared.fault.SyntaxFault.TheVariants as syntax
+use Rattle.tilt_types.specs.declared.fault.CheckFault.{CheckFault}
+use Rattle.tilt_types.specs.declared.fault.CheckFault.TheVariants as check
+use Rattle.tilt_app.specs.declared.refusal.Refusal.{Refusal}
+use Rattle.tilt_app.specs.declared.refusal.Refusal.TheVariants as code
+use Rattle.tilt_app.specs.declared.refusal.StatementFault.{StatementFault}
+use Rattle.tilt_app.specs.declared.refusal.StatementFault.TheVariants as statement
 use Rattle.tilt_app.specs.declared.fault.Fault.{Fault}
-use Rattle.tilt_app.specs.declared.fault.Fault.TheVariants.{Usage, UnexpectedName, UnboundInput, FileTooLong, ReadFault, WriteFault, OutOfMemory, NotBuilt, BadSeries, BadByte, BigNumber}
+use Rattle.tilt_app.specs.declared.fault.Fault.TheVariants.{Usage, Refused, ReadFault, WriteFault, OutOfMemory}
 
--- why a command isn't done, with the name of the file or of the input that it is about, and the place, the row or the field
+-- why words that are a command are refused, with the name of the file or of the input that it is about, the place or the statement
+pub data Reason : Type 0 where
+  input_names : List ℕ → Reason
+  file_too_long : List ℕ → Reason
+  bad_series : List ℕ → SeriesFault → Reason
+  bad_byte : ℕ → Reason
+  big_number : ℕ → Reason
+  too_many_statements : Reason
+  bad_statement : StatementFault → ℕ → Reason
+
+-- why a command isn't done
 pub data Report : Type 0 where
   usage : Report
-  input_names : List ℕ → Report
-  file_too_long : List ℕ → Report
+  refusal : Reason → Report
   read_fault : List ℕ → Report
   write_fault : Report
   out_of_memory : Report
-  not_built : Report
-  bad_series : List ℕ → SeriesFault → Report
-  bad_byte : ℕ → Report
-  big_number : ℕ → Report
+
+-- the reason of a refusal
+abbrev pub reason_of : Refusal → Reason
+reason_of (code.UnexpectedName name) = input_names name.now
+reason_of (code.UnboundInput name) = input_names name
+reason_of (code.FileTooLong name) = file_too_long name.now
+reason_of (code.BadSeries name fault) = bad_series name fault
+reason_of (code.BadByte at) = bad_byte at
+reason_of (code.BigNumber at) = big_number at
+reason_of code.TooManyStatements = too_many_statements
+reason_of (code.BadStatement fault n) = bad_statement fault n
 
 -- the report of a fault
 abbrev pub report_of : Fault → Report
 report_of Usage = usage
-report_of (UnexpectedName name) = input_names name.now
-report_of (UnboundInput name) = input_names name
-report_of (FileTooLong name) = file_too_long name.now
+report_of (Refused why) = refusal (reason_of why)
 report_of (ReadFault name) = read_fault name.now
 report_of WriteFault = write_fault
 report_of OutOfMemory = out_of_memory
-report_of NotBuilt = not_built
-report_of (BadSeries name fault) = bad_series name fault
-report_of (BadByte at) = bad_byte at
-report_of (BigNumber at) = big_number at
 
--- the report of a faulty place in the query
+-- the report of a query whose text has a faulty place
 abbrev pub report_of_place : LexFault → Report
-report_of_place (lexical.BadByte at) = bad_byte at
-report_of_place (lexical.BigNumber at) = big_number at
+report_of_place (lexical.BadByte at) = refusal (bad_byte at)
+report_of_place (lexical.BigNumber at) = refusal (big_number at)
 report_of_place lexical.OutOfMemory = out_of_memory
+
+-- the report of a query whose tokens are refused
+abbrev pub report_of_syntax : SyntaxFault → Report
+report_of_syntax syntax.TooManyStatements = refusal too_many_statements
+report_of_syntax (syntax.StatementTooLong n) = refusal (bad_statement statement.TooLong n)
+report_of_syntax (syntax.Syntax n) = refusal (bad_statement statement.NoReading n)
+report_of_syntax (syntax.EmitPlace n) = refusal (bad_statement statement.EmitPlace n)
+report_of_syntax syntax.OutOfMemory = out_of_memory
+
+-- the report of a query that isn't well formed
+abbrev pub report_of_check : CheckFault → Report
+report_of_check (check.NameTaken n) = refusal (bad_statement statement.NameTaken n)
+report_of_check (check.UnknownName n) = refusal (bad_statement statement.UnknownName n)
+report_of_check (check.TypeMismatch n) = refusal (bad_statement statement.TypeMismatch n)
+report_of_check (check.BadWindow n) = refusal (bad_statement statement.BadWindow n)
+report_of_check (check.BadDomain n) = refusal (bad_statement statement.BadDomain n)
+report_of_check check.OutOfMemory = out_of_memory
 
 -- the status that the program ends with
 abbrev pub status_of : Report → ℕ
 status_of usage = 2
-status_of (input_names name) = 1
-status_of (file_too_long name) = 1
+status_of (refusal why) = 1
 status_of (read_fault name) = 3
 status_of write_fault = 4
 status_of out_of_memory = 5
-status_of not_built = 1
-status_of (bad_series name fault) = 1
-status_of (bad_byte at) = 1
-status_of (big_number at) = 1
 
 -- the number of a series fault, as it stands in front of the input's name
 abbrev pub series_number : SeriesFault → List ℕ
@@ -64,7 +94,6 @@ series_number (series.EmptyInterval row) = codes "14"
 series_number (series.OutOfOrder row) = codes "15"
 series_number (series.RowBeforeCut row) = codes "16"
 series_number (series.RowPastCut row) = codes "17"
-series_number series.OutOfMemory = codes "7"
 
 -- what a series fault tells behind the input's name
 abbrev pub series_words : SeriesFault → List ℕ
@@ -76,20 +105,46 @@ series_words (series.EmptyInterval row) = codes ": empty interval in row " ++ de
 series_words (series.OutOfOrder row) = codes ": out of order in row " ++ decimal row
 series_words (series.RowBeforeCut row) = codes ": before the cut in row " ++ decimal row
 series_words (series.RowPastCut row) = codes ": past the cut in row " ++ decimal row
-series_words series.OutOfMemory = codes ": out of memory"
 
--- the fault's number and its words
+-- the number of a statement's fault and the word that follows it
+abbrev pub statement_front : StatementFault → List ℕ
+statement_front statement.TooLong = codes "23 statement "
+statement_front statement.NoReading = codes "24 statement "
+statement_front statement.EmitPlace = codes "25 statement "
+statement_front statement.NameTaken = codes "26 statement "
+statement_front statement.UnknownName = codes "27 statement "
+statement_front statement.TypeMismatch = codes "28 statement "
+statement_front statement.BadWindow = codes "29 statement "
+statement_front statement.BadDomain = codes "30 statement "
+
+-- what stands behind the number of the statement
+abbrev pub statement_words : StatementFault → List ℕ
+statement_words statement.TooLong = codes ": too long"
+statement_words statement.NoReading = codes ": syntax"
+statement_words statement.EmitPlace = codes ": place of emit"
+statement_words statement.NameTaken = codes ": name taken"
+statement_words statement.UnknownName = codes ": unknown name"
+statement_words statement.TypeMismatch = codes ": type mismatch"
+statement_words statement.BadWindow = codes ": bad window"
+statement_words statement.BadDomain = codes ": bad domain"
+
+-- the number and the words of a refusal
+abbrev pub reason_words : Reason → List ℕ
+reason_words (input_names name) = codes "2 input names: " ++ name
+reason_words (file_too_long name) = codes "3 file too long: " ++ name
+reason_words (bad_series name fault) = series_number fault ++ codes " series " ++ name ++ series_words fault
+reason_words (bad_byte at) = codes "20 bad byte at " ++ decimal at
+reason_words (big_number at) = codes "21 big number at " ++ decimal at
+reason_words too_many_statements = codes "22 too many statements"
+reason_words (bad_statement fault n) = statement_front fault ++ decimal n ++ statement_words fault
+
+-- the number and the words of a fault
 abbrev pub words_of : Report → List ℕ
 words_of usage = codes "1 usage"
-words_of (input_names name) = codes "2 input names: " ++ name
-words_of (file_too_long name) = codes "3 file too long: " ++ name
+words_of (refusal why) = reason_words why
 words_of (read_fault name) = codes "4 read fault: " ++ name
 words_of write_fault = codes "5 write fault"
 words_of out_of_memory = codes "7 out of memory"
-words_of not_built = codes "9 not built"
-words_of (bad_series name fault) = series_number fault ++ codes " series " ++ name ++ series_words fault
-words_of (bad_byte at) = codes "20 bad byte at " ++ decimal at
-words_of (big_number at) = codes "21 big number at " ++ decimal at
 
 -- the line that is told
 abbrev pub line_of : Report → List ℕ

@@ -1,8 +1,9 @@
 // The program's one call.
 ghost use Rattle.std.specs.Prelude.{◌≡◌, ◌⊎◌, ◌++◌, ◌↔◌, List, ℕ, length, OnOk, OnErr, IfErr, MatchResult};
 ghost use Rattle.tilt_stream.specs.Text.{text_of};
-ghost use Rattle.tilt_outside.specs.Faults.{HasCause, Rose};
-ghost use Rattle.tilt_outside.specs.Written.{AppendsFront};
+ghost use Rattle.tilt_outside.specs.Faults.{Rose};
+ghost use Rattle.tilt_outside.specs.Reads.{OnlyReads};
+ghost use Rattle.tilt_outside.specs.Written.{Puts};
 ghost use Rattle.tilt_app.specs.Cause.{IsCause, IsLineWritten};
 ghost use Rattle.tilt_app.specs.Outcome.{IsOutcome, printed, refused, HasTurn};
 ghost use Rattle.tilt_app.specs.Report.{Report, report_of, status_of, line_of, usage, write_fault};
@@ -32,8 +33,8 @@ fn run<'a, S: Shelf, O: Sink>(
     ensures cause { IfErr result (λ fault. IsCause S.tells O.tells (texts words.now) (S.files shelf.old)
         (S.read_faults shelf.old) (S.read_faults shelf.new) (O.written out.old) (O.written out.new)
         (O.faults out.old) (O.faults out.new) (report_of fault)) }
-    ensures files { S.files shelf.new ≡ S.files shelf.old }
-    ensures save_faults { S.save_faults shelf.new ≡ S.save_faults shelf.old }
+    ensures handed_on { OnOk result (O.held_back out.new ≡ 0) }
+    ensures rest { OnlyReads S.files S.save_faults S.takes shelf.old shelf.new }
     ensures unwritten { IfErr result (λ fault. (report_of fault ≡ write_fault → ⊥) → out.new ≡ out.old) }
 {
     let list = answer(alloc, words, shelf)?;
@@ -43,26 +44,34 @@ fn run<'a, S: Shelf, O: Sink>(
     }
 }
 
-// Puts the text of snapshots.
+// Puts the text of snapshots, and hands all of it on.
 fn print<O: Sink>(out: &mut O, list: &SnapList) -> Result<(), Failed>
     requires { O.takes out.old (length (text_of list.now)) }
-    ensures whole { O.tells → OnOk result (O.written out.new ≡ O.written out.old ++ text_of list.now) }
-    ensures front { O.tells → OnErr result (AppendsFront (O.written out.old) (O.written out.new) (text_of list.now)) }
-    ensures cause { HasCause (O.faults out.old) (O.faults out.new) result }
+    ensures puts { Puts O.tells O.written O.faults O.takes out.old out.new (text_of list.now) result }
+    ensures handed_on { OnOk result (O.held_back out.new ≡ 0) }
+{
+    put_text(out, list)?;
+    out.flush()
+}
+
+// Puts the text of snapshots.
+fn put_text<O: Sink>(out: &mut O, list: &SnapList) -> Result<(), Failed>
+    requires { O.takes out.old (length (text_of list.now)) }
+    ensures { Puts O.tells O.written O.faults O.takes out.old out.new (text_of list.now) result }
 {
     put_header(out)?;
     put_rows(out, list)
 }
 
 /// Does what the words say: `run QUERY NAME=FILE ..` reads the query and then the series of each of its inputs from the
-/// shelf, and puts to `out` the text of the snapshots of the emitted input on the query's domain. Where that isn't done,
-/// one line that tells why goes to `err`, and nothing else. A fault of `err` changes nothing.
+/// shelf, puts to `out` the text of the snapshots of what the query emits on its output domain, and hands all of it on.
+/// Where that isn't done, one line that tells why goes to `err`, and nothing else. A fault of `err` changes nothing.
 ///
 /// The first refusal is told: that of the words, then of the query, then of the names that are bound, then of the series
 /// in the order in which the query declares the inputs.
 ///
 /// The answer is the status that the program ends with: 0 done, 1 refused, 2 the words are no command, 3 a read
-/// failed, 4 a put failed, 5 there was no memory.
+/// failed, 4 a put or the flush failed, 5 there was no memory.
 pub fn tilt<S: Shelf, O: Sink, E: Sink>(
     alloc: Global,
     words: &[String],
@@ -75,9 +84,10 @@ pub fn tilt<S: Shelf, O: Sink, E: Sink>(
         → O.takes out.old (length text) }
     requires lines { (n : ℕ) → E.takes err.old n }
 
-    // Status 0: the text was written whole, and nothing else.
+    // Status 0: the text was written whole and handed on, and nothing else was.
     ensures done { result ≡ 0 → (text : List ℕ) × (S.tells → IsOutcome (texts words.now) (S.files shelf.old) (printed text))
         × (O.tells → O.written out.new ≡ O.written out.old ++ text) }
+    ensures handed_on { result ≡ 0 → O.held_back out.new ≡ 0 }
     ensures quiet { result ≡ 0 → err.new ≡ err.old }
 
     // Every other status has its cause and its line.
@@ -97,8 +107,7 @@ pub fn tilt<S: Shelf, O: Sink, E: Sink>(
         → (Rose (S.read_faults shelf.old) (S.read_faults shelf.new) → ⊥) → (result ≡ status_of report) ⊎ (result ≡ 5) }
 
     // The files and the count of failed saves are as before.
-    ensures files { S.files shelf.new ≡ S.files shelf.old }
-    ensures save_faults { S.save_faults shelf.new ≡ S.save_faults shelf.old }
+    ensures rest { OnlyReads S.files S.save_faults S.takes shelf.old shelf.new }
 {
     match run(alloc, words, shelf, out) {
         Ok(()) => 0,

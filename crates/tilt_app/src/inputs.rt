@@ -1,19 +1,17 @@
 // The inputs of a query, each from the file that is bound to it.
-ghost use Rattle.std.specs.Prelude.{◌≡◌, ◌≤◌, List, ℕ, Ok, Err, None, Some, IfOk, IfErr, MatchResult};
-ghost use Rattle.tilt_stream.specs.Snap.{Snapshot};
+ghost use Rattle.std.specs.Prelude.{◌≡◌, ◌≤◌, List, [], ◌∷◌, ◌++◌, ℕ, Ok, Err, None, length, IfOk, IfErr, OnOk, MatchResult};
+ghost use Rattle.tilt_outside.specs.Reads.{OnlyReads};
 ghost use Rattle.tilt_app.specs.Inputs.{faulty_name};
 ghost use Rattle.tilt_app.specs.Load.{HasInputTurn, IsLoadFault, IsNameFault};
-ghost use Rattle.tilt_app.specs.Outcome.{inputs_read, rows_named};
-ghost use Rattle.tilt_app.specs.Parts.{parts_of};
-ghost use Rattle.tilt_lexer.specs.Word.{AreDistinct};
+ghost use Rattle.tilt_app.specs.Outcome.{inputs_read};
 ghost use Rattle.tilt_app.specs.Report.{report_of};
 ghost use Rattle.tilt_app.specs.Words.{binds_of};
 
 use crate::binds::{FaultyName, faulty_name, file_bound};
 use crate::fault::Fault;
 use crate::load::load_input;
-use crate::query::Query;
-use std::alloc::Global;
+use crate::refusal::Refusal;
+use std::alloc::{AllocError as OutOfMemory, Global};
 use tilt_lexer::Name;
 use tilt_outside::Shelf;
 use tilt_stream::Rows;
@@ -26,41 +24,45 @@ pub fn check_names<'a>(inputs: &[Name], binds: &'a [String]) -> Result<(), Fault
 {
     match faulty_name(inputs, binds) {
         None => Ok(()),
-        Some(FaultyName::Bound(name)) => Err(Fault::UnexpectedName(name)),
+        Some(FaultyName::Bound(name)) => Err(Fault::Refused(Refusal::UnexpectedName(name))),
         Some(FaultyName::Input(place)) => {
             let name = inputs[place].copy()?;
-            Err(Fault::UnboundInput(name))
+            Err(Fault::Refused(Refusal::UnboundInput(name)))
         }
     }
 }
 
-/// The rows of the input that the query emits. Each input is read in order, and is done before the next one is read.
+/// The rows of each input, in order. Each is done before the next one is read.
 pub fn load_inputs<'a, S: Shelf>(
     alloc: Global,
     shelf: &mut S,
-    query: &Query,
+    inputs: &[Name],
     binds: &'a [String],
-) -> Result<Rows, Fault<'a>>
-    requires named { faulty_name (parts_of query.now).inputs (binds_of binds.now) ≡ None }
+) -> Result<Vec<Rows>, Fault<'a>>
+    requires named { faulty_name inputs.now (binds_of binds.now) ≡ None }
     requires lent { (file : List ℕ)
-        → HasInputTurn S.tells (S.files shelf.old) (binds_of binds.now) (parts_of query.now).inputs file → S.lends file }
-    ensures taken { S.tells → AreDistinct (parts_of query.now).inputs → IfOk result (λ emitted. (rows : List (List Snapshot))
-        × (inputs_read (S.files shelf.old) (binds_of binds.now) (parts_of query.now).inputs ≡ Ok rows)
-        × (emitted ≡ rows_named (parts_of query.now).inputs rows (parts_of query.now).emitted)) }
+        → HasInputTurn S.tells (S.files shelf.old) (binds_of binds.now) inputs.now file → S.lends file }
+    ensures taken { S.tells → IfOk result (λ rows. inputs_read (S.files shelf.old) (binds_of binds.now) inputs.now ≡ Ok rows.items) }
+    ensures many { IfOk result (λ rows. length rows.items ≡ length inputs.now) }
     ensures fault { IfErr result (λ fault. IsLoadFault S.tells
-        (λ report. inputs_read (S.files shelf.old) (binds_of binds.now) (parts_of query.now).inputs ≡ Err report)
-        (HasInputTurn S.tells (S.files shelf.old) (binds_of binds.now) (parts_of query.now).inputs)
+        (λ why. inputs_read (S.files shelf.old) (binds_of binds.now) inputs.now ≡ Err why)
+        (HasInputTurn S.tells (S.files shelf.old) (binds_of binds.now) inputs.now)
         (S.read_faults shelf.old) (S.read_faults shelf.new) (report_of fault)) }
-    ensures files { S.files shelf.new ≡ S.files shelf.old }
-    ensures save_faults { S.save_faults shelf.new ≡ S.save_faults shelf.old }
     ensures kept { S.read_faults shelf.old ≤ S.read_faults shelf.new }
+    ensures rest { OnlyReads S.files S.save_faults S.takes shelf.old shelf.new }
 {
-    let mut emitted = Rows::new(alloc);
-    for (place, input) in query.inputs.iter().enumerate() {
+    let mut all = Vec::new(alloc);
+    for input in inputs {
         let rows = load_input(alloc, shelf, input, file_bound(binds, input))?;
-        if place == query.emitted {
-            emitted = rows;
-        }
+        add(&mut all, rows)?;
     }
-    Ok(emitted)
+    Ok(all)
+}
+
+// Adds the rows of one more input.
+fn add(all: &mut Vec<Rows>, rows: Rows) -> Result<(), OutOfMemory>
+    ensures { OnOk result (all.new.items ≡ all.old.items ++ rows ∷ []) }
+{
+    all.push(rows)?;
+    Ok(())
 }

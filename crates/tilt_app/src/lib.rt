@@ -8,13 +8,11 @@
 mod answer;
 mod binds;
 mod command;
-mod cut;
-mod domain;
 mod fault;
-mod form;
 mod inputs;
+mod line;
 mod load;
-mod query;
+mod refusal;
 #[cfg(test)]
 mod tests;
 mod words;

@@ -1,9 +1,11 @@
 // The one call over files and sinks in memory. Each file that fits one read takes two: the second finds its end.
+ghost use Rattle.std.specs.Prelude.{[], ⊤};
+
 use crate::command::tilt;
 use std::alloc::Global;
 use std::process::Abort;
 use std::test::Fail;
-use tilt_outside::{MemShelf, MemSink};
+use tilt_outside::{Failed, MemShelf, MemSink, Shelf};
 
 const WORDS: &str = "run\nq\nx=s";
 
@@ -103,7 +105,7 @@ fn assert_on(
 
 #[test]
 fn rows_within_the_domain_are_printed(rt: HostRuntime) -> Result<(), Fail> {
-    let cases: [(&[u8], &[u8], &[u8]); 9] = [
+    let cases: [(&[u8], &[u8], &[u8]); 7] = [
         (QUERY, SERIES, SERIES),
         (
             QUERY,
@@ -130,16 +132,6 @@ fn rows_within_the_domain_are_printed(rt: HostRuntime) -> Result<(), Fail> {
             b"input x; emit x over (8, 20];",
             SERIES,
             b"start,end,value\n",
-        ),
-        (
-            b"input x; emit x over (0, 4000000000000000000];",
-            b"start,end,value\n10,20,5\n",
-            b"start,end,value\n10,20,5\n",
-        ),
-        (
-            b"input x; emit x over (-4000000000000000000, 4000000000000000000];",
-            b"start,end,value\n-4000000000000000000,1,-9223372036854775808\n1,4000000000000000000,9223372036854775807\n",
-            b"start,end,value\n-4000000000000000000,1,-9223372036854775808\n1,4000000000000000000,9223372036854775807\n",
         ),
     ];
     for (i, (query, series, out)) in cases.into_iter().enumerate() {
@@ -205,44 +197,295 @@ fn the_emitted_input_is_printed(rt: HostRuntime) -> Result<(), Fail> {
     Ok(())
 }
 
+// Each with the rows of x, those of y where there is one, and the lines behind the header of the output.
+const MEANINGS: &[(&str, &str, &str, &str)] = &[
+    // Where a series is null, and branches that aren't chosen.
+    (
+        "input x; emit if isnull(x) then 0 else x over (0, 6];",
+        "2,4,5",
+        "",
+        "0,2,0 2,4,5 4,6,0",
+    ),
+    (
+        "input x; input y; emit if true then x else y over (0, 6];",
+        "0,6,1",
+        "2,3,9",
+        "0,2,1 2,3,1 3,6,1",
+    ),
+    (
+        "input x; input y; emit ifnull(if x > 0 and y > 0 then 1 else 2, 3) over (0, 3];",
+        "0,1,1 1,2,-1",
+        "0,1,1",
+        "0,1,1 1,2,3 2,3,3",
+    ),
+    // Operators at the ends of 64 bits and at zero.
+    (
+        "input x; input y; emit x / y over (0, 5];",
+        "0,1,7 1,2,-7 2,3,-9223372036854775808 3,4,5 4,5,-7",
+        "0,1,2 1,2,2 2,3,-1 3,4,0 4,5,-2",
+        "0,1,3 1,2,-3 4,5,3",
+    ),
+    // Windows behind, ahead, wholly behind and wholly ahead.
+    (
+        "input x; emit count(x[t-3:t]) over (0, 10];",
+        "0,5,7 5,8,7",
+        "",
+        "0,2,1 2,5,1 5,7,2 7,8,1 8,10,1",
+    ),
+    (
+        "input x; emit count(x[t-2:t]) over (0, 4];",
+        "-2,-1,8 -1,0,5 3,4,6",
+        "",
+        "0,1,1 3,4,1",
+    ),
+    (
+        "input x; emit sum(x[t+1:t+4]) over (-3, 3];",
+        "0,1,5 2,3,7",
+        "",
+        "-3,-2,5 -2,-1,12 -1,0,7 0,1,7",
+    ),
+    (
+        "input x; emit sum(x[t-5:t-2]) over (0, 8];",
+        "0,1,5 2,3,7",
+        "",
+        "2,3,5 3,4,5 4,5,12 5,6,7 6,7,7",
+    ),
+    (
+        "input x; emit sum(x[t-3:t]) over (0, 8];",
+        "0,1,9223372036854775807 1,2,9223372036854775807",
+        "",
+        "0,1,9223372036854775807 3,4,9223372036854775807",
+    ),
+    // Shifts of definitions.
+    (
+        "input x; let y = x[t-2]; emit sum(y[t-3:t]) over (0, 5];",
+        "-4,-3,100 0,1,10 1,2,20 2,3,30",
+        "",
+        "0,1,100 2,3,10 3,4,30 4,5,60",
+    ),
+    (
+        "input x; emit x[t+3] over (0, 5];",
+        "0,4,1 4,8,2",
+        "",
+        "0,1,1 1,5,2",
+    ),
+    // Grids, and domains below 0.
+    (
+        "input x; emit sum(x[t-5:t]) over (0, 10] every 5;",
+        "0,5,1 5,8,2",
+        "",
+        "0,5,1 5,10,2",
+    ),
+    (
+        "input x; emit x over (-10, 0] every 5;",
+        "-9,-4,1 -3,2,9",
+        "",
+        "-10,-5,1 -5,0,9",
+    ),
+    (
+        "input x; input y; let m = avg(x[t-10:t]) every 10; emit m - y when m > y over (0, 30];",
+        "0,5,20 5,10,23 10,15,30 15,20,31 20,25,28 25,30,26",
+        "0,18,25 18,40,26",
+        "10,18,5 18,20,4 20,30,1",
+    ),
+    // Spans of definitions, and an input behind a definition.
+    (
+        "input x; let y = x over (2, 4]; emit ifnull(y, 0) over (0, 6];",
+        "0,6,9",
+        "",
+        "0,2,0 2,4,9 4,6,0",
+    ),
+    (
+        "let c = 2; input x; emit x * c over (0, 5];",
+        "0,4,3",
+        "",
+        "0,4,6",
+    ),
+    // A condition over a window of truth values.
+    (
+        "input x; let p = x > 3; emit if any(p[t-2:t]) then 1 else 0 over (0, 5];",
+        "0,1,5 1,2,1 2,3,4",
+        "",
+        "0,1,1 1,2,1 2,3,1 3,4,1",
+    ),
+];
+
+// The bytes of a series file with these rows, which stand with a blank between them.
+fn series_of(alloc: Global, rows: &str) -> Result<Vec<u8>, Fail> {
+    let mut bytes = b"start,end,value\n".to_vec(alloc)?;
+    for row in rows.split(' ') {
+        bytes.extend_from_slice(row.as_bytes())?;
+        if !row.is_empty() {
+            bytes.push(b'\n')?;
+        }
+    }
+    Ok(bytes)
+}
+
 #[test]
-fn queries_of_another_form_are_refused(rt: HostRuntime) -> Result<(), Fail> {
-    let queries: [&[u8]; 21] = [
-        b"",
-        b"\n",
-        b"input x;",
-        b"emit x over (0, 10];",
-        b"input x; emit x over (0, 10]",
-        b"input x; emit x over (0, 10];;",
-        b"input x; emit x over (0, 10); ",
-        b"input x; emit x over [0, 10];",
-        b"input x; emit x over (10, 0];",
-        b"input x; emit x over (5, 5];",
-        b"input x; emit x over (+0, 10];",
-        b"input x; emit x over (--0, 10];",
-        b"input x; emit x over (0, 4000000000000000001];",
-        b"input x; emit x over (-4000000000000000001, 10];",
-        b"input x; emit y over (0, 10];",
-        b"input x; input x; emit x over (0, 10];",
-        b"input x; input y; input x; emit y over (0, 10];",
-        b"input t; emit t over (0, 10];",
-        b"input x; emit x + 1 over (0, 10];",
-        b"emit x over (0, 10]; input x;",
-        b"input x; emit x over (0, 10] every 5;",
-    ];
-    for (i, query) in queries.into_iter().enumerate() {
+fn the_meaning_of_a_query_is_printed(rt: HostRuntime) -> Result<(), Fail> {
+    for (i, (query, x, y, out)) in MEANINGS.iter().enumerate() {
+        let x = series_of(rt.alloc(), x)?;
+        let words = if y.is_empty() {
+            "run\nq\nx=x"
+        } else {
+            "run\nq\nx=x\ny=y"
+        };
+        let y = series_of(rt.alloc(), y)?;
+        let out = series_of(rt.alloc(), out)?;
+        let files = [
+            ("q", query.as_bytes()),
+            ("x", x.as_slice()),
+            ("y", y.as_slice()),
+        ];
+        let end = end_of(rt.alloc(), Case::sound(words, &files))?;
+        assert_end(&rt, &end, 0, out.as_slice(), b"", i);
+    }
+    Ok(())
+}
+
+// Each with the line behind its number.
+const REFUSED: &[(&str, &str)] = &[
+    ("", "25 statement 1: place of emit"),
+    ("input x; emit x over (0, 5]", "24 statement 2: syntax"),
+    (
+        "emit 1 over (0, 5]; input x;",
+        "25 statement 1: place of emit",
+    ),
+    ("input x;", "25 statement 1: place of emit"),
+    ("input x; emit x over (0, 10);", "24 statement 2: syntax"),
+    ("input t; emit t over (0, 10];", "24 statement 1: syntax"),
+    (
+        "input x; emit x < 1 < 2 over (0, 5];",
+        "24 statement 2: syntax",
+    ),
+    (
+        "input x; let x = 1; emit x over (0, 5];",
+        "26 statement 2: name taken",
+    ),
+    (
+        "input x; input x; emit x over (0, 5];",
+        "26 statement 2: name taken",
+    ),
+    (
+        "input x; emit y over (0, 5];",
+        "27 statement 2: unknown name",
+    ),
+    (
+        "let y = y; emit y over (0, 5];",
+        "27 statement 1: unknown name",
+    ),
+    (
+        "input x; emit x > 0 over (0, 5];",
+        "28 statement 2: type mismatch",
+    ),
+    (
+        "input x; let p = x > 0; emit sum(p[t-1:t]) over (0, 5];",
+        "28 statement 3: type mismatch",
+    ),
+    (
+        "input x; emit sum(x[t:t]) over (0, 5];",
+        "29 statement 2: bad window",
+    ),
+    (
+        "input x; emit x over (0, 7] every 5;",
+        "30 statement 2: bad domain",
+    ),
+    ("input x; emit x over (5, 5];", "30 statement 2: bad domain"),
+    (
+        "input x; emit x over (0, 4000000000000000001];",
+        "30 statement 2: bad domain",
+    ),
+    (
+        "input x; emit x over (0, 5] every 0;",
+        "30 statement 2: bad domain",
+    ),
+    // The first fault of several: of the grammar before all others, then that of the first statement.
+    (
+        "input x; input x; emit over (0, 5];",
+        "24 statement 3: syntax",
+    ),
+    (
+        "input x; let p = x + (x > 0); emit y over (5, 0];",
+        "28 statement 2: type mismatch",
+    ),
+    (
+        "input x; let x = y; emit x over (0, 5];",
+        "26 statement 2: name taken",
+    ),
+    (
+        "input x; emit y > 0 over (5, 0];",
+        "27 statement 2: unknown name",
+    ),
+];
+
+#[test]
+fn refused_queries_are_told(rt: HostRuntime) -> Result<(), Fail> {
+    for (i, (query, told)) in REFUSED.iter().enumerate() {
+        let line = format!(in rt.alloc(); "tilt: {told}\n")?;
         assert_on(
             &rt,
             rt.alloc(),
-            query,
+            query.as_bytes(),
             SERIES,
             1,
             b"",
-            b"tilt: 9 not built\n",
+            line.as_str().as_bytes(),
             i,
         )?;
     }
     Ok(())
+}
+
+// A text of so many copies of a piece, and an `emit` behind them.
+fn repeated(alloc: Global, piece: &str, count: usize, end: &str) -> Result<String, Fail> {
+    let mut text = String::new(alloc);
+    for _ in 0..count {
+        text.push_str(piece)?;
+    }
+    text.push_str(end)?;
+    Ok(text)
+}
+
+#[test]
+fn queries_past_the_limits_are_refused(rt: HostRuntime) -> Result<(), Fail> {
+    let cases = [
+        (
+            "let a=1;",
+            256,
+            "emit 1 over (0, 5];",
+            "22 too many statements",
+        ),
+        ("- ", 248, "1 over (0, 5];", "24 statement 1: syntax"),
+        ("emit ", 1, "1 over (0, 5];", "2 input names: x"),
+    ];
+    for (i, (piece, count, end, told)) in cases.into_iter().enumerate() {
+        let query = repeated(rt.alloc(), piece, count, end)?;
+        let line = format!(in rt.alloc(); "tilt: {told}\n")?;
+        assert_on(
+            &rt,
+            rt.alloc(),
+            query.as_str().as_bytes(),
+            SERIES,
+            1,
+            b"",
+            line.as_str().as_bytes(),
+            i,
+        )?;
+    }
+    let long = repeated(rt.alloc(), "- ", 248, "1 over (0, 5];")?;
+    let query = format!(in rt.alloc(); "emit {long}")?;
+    let line = b"tilt: 23 statement 1: too long\n";
+    assert_on(
+        &rt,
+        rt.alloc(),
+        query.as_str().as_bytes(),
+        SERIES,
+        1,
+        b"",
+        line,
+        9,
+    )
 }
 
 #[test]
@@ -393,7 +636,12 @@ fn the_first_refusal_is_told(rt: HostRuntime) -> Result<(), Fail> {
     const FIELD: &[u8] = b"start,end,value\n0,1x,3\n";
     let cases: [(&str, &[u8], u8, &[u8]); 13] = [
         ("run\nq", b"emit@", 1, b"tilt: 20 bad byte at 4\n"),
-        ("run\nq\nx=none", b"", 1, b"tilt: 9 not built\n"),
+        (
+            "run\nq\nx=none",
+            b"",
+            1,
+            b"tilt: 25 statement 1: place of emit\n",
+        ),
         ("run\nq", QUERY, 1, b"tilt: 2 input names: x\n"),
         ("run\nq\nx=s\nx=f", QUERY, 1, b"tilt: 2 input names: x\n"),
         (
@@ -487,8 +735,8 @@ fn each_input_is_read(rt: HostRuntime) -> Result<(), Fail> {
 
 #[test]
 fn a_failing_put_leaves_a_front(rt: HostRuntime) -> Result<(), Fail> {
-    // The sink takes half of the piece at which it fails.
-    let cases: [(u64, u8, &[u8], &[u8]); 4] = [
+    // The sink takes half of the piece at which it fails. Behind the three puts comes the flush.
+    let cases: [(u64, u8, &[u8], &[u8]); 5] = [
         (1, 4, b"start,en", b"tilt: 5 write fault\n"),
         (2, 4, b"start,end,value\n0,5", b"tilt: 5 write fault\n"),
         (
@@ -497,7 +745,8 @@ fn a_failing_put_leaves_a_front(rt: HostRuntime) -> Result<(), Fail> {
             b"start,end,value\n0,5,7\n6,8",
             b"tilt: 5 write fault\n",
         ),
-        (4, 0, SERIES, b""),
+        (4, 4, SERIES, b"tilt: 5 write fault\n"),
+        (5, 0, SERIES, b""),
     ];
     for (i, (failing_put, status, out, line)) in cases.into_iter().enumerate() {
         let files = [("q", QUERY), ("s", SERIES)];
@@ -541,12 +790,57 @@ fn a_failing_line_changes_no_status(rt: HostRuntime) -> Result<(), Fail> {
     let cases: [(&str, u64, u8, &[u8]); 5] = [
         ("run", 3, 2, b"tilt: 1 usage\n"),
         ("run\nq", 4, 1, b"tilt: 2 input names: x\n"),
-        ("run\ns\nx=s", 3, 1, b"tilt: 9 not built\n"),
+        ("run\ns\nx=s", 5, 1, b"tilt: 24 statement 1: syntax\n"),
         ("run\nq\nx=a", 4, 3, b"tilt: 4 read fault: a\n"),
         ("run\nq\nx=q", 6, 1, b"tilt: 10 series x: bad header\n"),
     ];
     for (words, puts, status, line) in cases {
         assert_line_cut(&rt, rt.alloc(), words, puts, status, line)?;
     }
+    Ok(())
+}
+
+// Gives one byte a read.
+#[derive(Drop)]
+struct SlowShelf {
+    shelf: MemShelf,
+}
+
+impl Shelf for SlowShelf {
+    ghost tells = { ⊥ };
+
+    ghost files = { λ _ _. [] };
+
+    ghost read_faults = { λ s. s.shelf.read_faults };
+
+    ghost save_faults = { λ s. s.shelf.save_faults };
+
+    ghost given = { λ s. s.shelf.given };
+
+    ghost takes = { λ _ _ _. ⊤ };
+
+    ghost lends = { λ _. ⊤ };
+
+    fn read_at(&mut self, name: &str, at: u64, room: &mut [u8]) -> Result<usize, Failed> {
+        self.shelf.read_at(name, at, &mut room[..1])
+    }
+
+    fn save(&mut self, name: &str, bytes: &[u8]) -> Result<(), Failed> {
+        self.shelf.save(name, bytes)
+    }
+
+    ghost takes_fewer = { λ _ _ _ _ _ takes. takes };
+}
+
+#[test]
+fn a_shelf_that_gives_one_byte_a_read_serves(rt: HostRuntime) -> Result<(), Fail> {
+    let words = words_of(rt.alloc(), WORDS)?;
+    let shelf = shelf_of(rt.alloc(), &[("q", QUERY), ("s", SERIES)], 0)?;
+    let mut shelf = SlowShelf { shelf };
+    let mut out = sink_of(rt.alloc(), 0)?;
+    let mut err = sink_of(rt.alloc(), 0)?;
+    let status = tilt(rt.alloc(), &words, &mut shelf, &mut out, &mut err);
+    assert_eq!(rt; status, 0);
+    assert_eq!(rt; out.written(), SERIES);
     Ok(())
 }

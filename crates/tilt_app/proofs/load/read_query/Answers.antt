@@ -1,5 +1,5 @@
 use Rattle.std.proofs.lemmas.Result.{err_from_is_err_and}
-use Rattle.tilt_app.proofs.Loads.{form_refuses, place_refuses}
+use Rattle.tilt_app.proofs.Loads.{place_refuses, syntax_refuses, check_refuses}
 use Rattle.tilt_app.proofs.load.read_query.Goals as goal
 
 pub returns-in_err-tokens-clause-fault : goal.returns-in_err-tokens-clause-fault
@@ -8,7 +8,14 @@ returns-in_err-tokens-clause-fault c =
     let p = err_from_is_err_and c.from_residual.result c.from_residual.ensures.1 in
     rw (p.1, p.2) (place_refuses name c.args.bytes.now c.in_err-tokens.field-0.0 c.requires c.in_err-tokens.ensures.faulty)
 
-pub returns-clause-fault : goal.returns-clause-fault
-returns-clause-fault c =
+pub returns-in_err-query-clause-fault : goal.returns-in_err-query-clause-fault
+returns-in_err-query-clause-fault c =
     λ name.
-    rw c.ok_or.ensures.value (form_refuses name c.args.bytes.now c.in_ok-tokens.tokens.items c.in_ok-read_form.field-0 c.requires c.in_ok-tokens.ensures.tokens (rw c.deref.ensures.value at c.in_ok-read_form.ensures))
+    let p = err_from_is_err_and c.from_residual-in_err-query.result c.from_residual-in_err-query.ensures.1 in
+    rw (p.1, p.2) (syntax_refuses name c.args.bytes.now c.in_ok-tokens.tokens.items c.in_err-query.field-0.0 c.requires c.in_ok-tokens.ensures.tokens (rw c.deref.ensures.value at c.in_err-query.ensures.faulty))
+
+pub returns-in_err-core-clause-fault : goal.returns-in_err-core-clause-fault
+returns-in_err-core-clause-fault c =
+    λ name.
+    let p = err_from_is_err_and c.from_residual-in_err-core.result c.from_residual-in_err-core.ensures.1 in
+    rw (p.1, p.2) (check_refuses name c.args.bytes.now c.in_ok-tokens.tokens.items c.in_ok-query.query c.in_err-core.field-0.0 c.requires c.in_ok-tokens.ensures.tokens (rw c.deref.ensures.value at c.in_ok-query.ensures.query) c.in_err-core.ensures)

@@ -1,0 +1,36 @@
+// Pieces of the line that tells of a fault. None takes memory.
+ghost use Rattle.std.specs.Prelude.{◌++◌, ℕ};
+ghost use Rattle.std.specs.Fmt.{decimal};
+ghost use Rattle.tilt_outside.specs.Written.{Puts};
+
+use itoa::Buffer;
+use tilt_outside::{Failed, Sink};
+
+/// Puts a text.
+pub fn put_text<E: Sink>(err: &mut E, text: &[u8]) -> Result<(), Failed>
+    requires { (n : ℕ) → E.takes err.old n }
+    ensures { Puts E.tells E.written E.faults E.takes err.old err.new
+        text.now result }
+{
+    err.put(text)
+}
+
+/// Puts a text, and another behind it.
+pub fn put_named<E: Sink>(err: &mut E, text: &[u8], name: &[u8]) -> Result<(), Failed>
+    requires { (n : ℕ) → E.takes err.old n }
+    ensures { Puts E.tells E.written E.faults E.takes err.old err.new
+        (text.now ++ name.now) result }
+{
+    put_text(err, text)?;
+    put_text(err, name)
+}
+
+/// Puts a text, and a number behind it.
+pub fn put_counted<E: Sink>(err: &mut E, text: &[u8], number: u64) -> Result<(), Failed>
+    requires { (n : ℕ) → E.takes err.old n }
+    ensures { Puts E.tells E.written E.faults E.takes err.old err.new
+        (text.now ++ decimal number) result }
+{
+    let mut buffer = Buffer::new();
+    put_named(err, text, buffer.format(number).as_bytes())
+}
