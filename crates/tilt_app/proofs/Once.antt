@@ -4,7 +4,8 @@ use Rattle.tilt_lexer.proofs.Unique.{same_fault, tokens_or_fault, same_tokens}
 use Rattle.tilt_stream.specs.Snap.{Snapshot}
 use Rattle.tilt_stream.specs.Text.{text_of}
 use Rattle.tilt_syntax.specs.Query.{kinds}
-use Rattle.tilt_syntax.proofs.Refused.{one_query, one_refusal, query-or-refused}
+use Rattle.tilt_syntax.proofs.Refused.{one_refusal, query-or-refused}
+use Rattle.tilt_syntax.proofs.Unique.{one_query}
 use Rattle.tilt_types.specs.Checked.{checked}
 use Rattle.tilt_types.specs.Core.{CoreParts}
 use Rattle.tilt_types.specs.Meaning.{output_of}

@@ -1,9 +1,9 @@
 -- The first statement and those behind it are all.
-use Rattle.std.proofs.Common.{◌≡◌, ◌≢◌, ◌<◌, ◌≤◌, ◌+◌, ℕ, zero, suc, List, [], ◌∷◌, ◌++◌, length, take, drop, map, get_or, refl, sym, ap, ◌∙◌, arith}
+use Rattle.std.proofs.Common.{◌≡◌, ◌<◌, ◌≤◌, ℕ, zero, suc, List, [], ◌∷◌, length, take, drop, refl, ap, arith}
 use Rattle.std.proofs.lemmas.List.{length-map, take-map, drop-map}
 use Rattle.tilt_lexer.specs.declared.mark.Mark.TheVariants as mark
 use Rattle.tilt_lexer.specs.declared.token.Tok.{Tok}
-use Rattle.tilt_lexer.specs.declared.token.Tok.TheVariants.{Word, Number, Key as Reserved, Mark as Sign}
+use Rattle.tilt_lexer.specs.declared.token.Tok.TheVariants.{Mark as Sign}
 use Rattle.tilt_lexer.specs.declared.token.Token.{Token}
 use Rattle.tilt_syntax.specs.Cut.{first_length}
 use Rattle.tilt_syntax.specs.Query.{kinds, statements, with_first}
@@ -20,8 +20,9 @@ length-within (Sign mark.Semicolon ∷ ts) = omega arith
 length-within (t ∷ ts) = let h = length-within ts in omega arith
 
 -- one token, and those behind it
-longer : (t : Tok) (ts : List Tok) → (0 < length ts → statements ts ≡ take (first_length ts) ts ∷ statements (drop (first_length ts) ts))
-  → with_first t (statements ts) ≡ (t ∷ take (first_length ts) ts) ∷ statements (drop (first_length ts) ts)
+longer : (t : Tok) (ts : List Tok)
+    → (0 < length ts → statements ts ≡ take (first_length ts) ts ∷ statements (drop (first_length ts) ts))
+    → with_first t (statements ts) ≡ (t ∷ take (first_length ts) ts) ∷ statements (drop (first_length ts) ts)
 longer t [] h = refl
 longer t (u ∷ us) h = ap (with_first t) (h (omega arith))
 
@@ -53,8 +54,9 @@ statements-few (Sign mark.Semicolon ∷ ts) = let h = statements-few ts in omega
 statements-few (t ∷ ts) = let h = statements-few ts in let k = with_first-length t (statements ts) in omega arith
 
 -- what is cut off the tokens of a text
-pub cut-tokens : (ts front back : List Token) → 0 < length ts → front ≡ take (first_length (kinds ts)) ts → back ≡ drop (first_length (kinds ts)) ts
-  → statements (kinds ts) ≡ kinds front ∷ statements (kinds back)
+pub cut-tokens : (ts front back : List Token) → 0 < length ts → front ≡ take (first_length (kinds ts)) ts
+    → back ≡ drop (first_length (kinds ts)) ts
+    → statements (kinds ts) ≡ kinds front ∷ statements (kinds back)
 cut-tokens ts front back some f b =
     let more : 0 < length (kinds ts) = rw length-map some in
     rw (f, b, ← take-map, ← drop-map) (cut (kinds ts) more)

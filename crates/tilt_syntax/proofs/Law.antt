@@ -13,7 +13,7 @@ use Rattle.tilt_syntax.proofs.Shortest.{statement_shortest}
 use Rattle.tilt_syntax.proofs.Sounds.{EachSound, statements_sound, both, statement_sound}
 use Rattle.tilt_syntax.proofs.Spelling.{AreSound, lexed}
 use Rattle.tilt_syntax.proofs.Spelt.{query_spells}
-use Rattle.tilt_syntax.proofs.Refused.{one_query}
+use Rattle.tilt_syntax.proofs.Unique.{one_query}
 use Rattle.tilt_syntax.proofs.Written.{statement_tokens, statement_is}
 
 -- the printed statements may stand where the others do

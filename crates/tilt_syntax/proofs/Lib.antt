@@ -4,6 +4,7 @@ pub mod Cutting
 pub mod Descending
 pub mod Law
 pub mod Operators
+pub mod Parsing
 pub mod Refused
 pub mod Shortest
 pub mod Sound
@@ -13,4 +14,5 @@ pub mod Spelt
 pub mod Statements
 pub mod Steady
 pub mod Unique
+pub mod Whole
 pub mod Written

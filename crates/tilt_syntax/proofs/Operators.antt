@@ -1,5 +1,5 @@
 -- The operators of the grammar's table are those of the descent.
-use Rattle.std.proofs.Common.{◌≡◌, ◌≤◌, ℕ, Option, Some, None, ◌⊎◌, inl, inr, nat_eq, if◌then◌else◌, refl, sym, ap, ◌∙◌, lit≤}
+use Rattle.std.proofs.Common.{◌≡◌, ℕ, Option, Some, None, ◌⊎◌, inl, inr, nat_eq, if◌then◌else◌, refl, sym, ap, ◌∙◌}
 use Rattle.tilt_base.specs.declared.operator.Op2.{Op2}
 use Rattle.tilt_base.specs.declared.operator.Op2.TheVariants as op2
 use Rattle.tilt_syntax.specs.Grammar.{Infix, infix_of}

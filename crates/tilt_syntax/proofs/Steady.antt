@@ -1,10 +1,8 @@
 -- A plan comes to one thing.
-use Rattle.std.proofs.Common.{◌≡◌, Option, Some, None, refl, ap}
+use Rattle.std.proofs.Common.{◌≡◌, Option, refl, ap}
 use Rattle.tilt_base.specs.declared.operator.Op2.{Op2}
 use Rattle.tilt_syntax.specs.Descent.{Plan, Found, Comes, done, met, missed, between, behind_all, found, none}
-use Rattle.std.specs.Prelude.{List}
 use Rattle.tilt_syntax.specs.declared.level.Level.{Level}
-use Rattle.tilt_lexer.specs.declared.token.Tok.{Tok}
 
 pub one_answer : {p : Plan} {r s : Option Found} → Comes p r → Comes p s → r ≡ s
 one_answer done done = refl

@@ -1,34 +1,32 @@
--- Tokens are one expression at most.
-use Rattle.std.proofs.Common.{◌≡◌, List, [], ◌∷◌, ◌++◌, Option, Some, None, refl, ap, append-nil}
+-- Tokens are one expression at most, one statement, one query.
+use Rattle.std.proofs.Common.{◌≡◌, List, [], ◌∷◌, Option, Some, refl}
 use Rattle.tilt_lexer.specs.declared.token.Tok.{Tok}
-use Rattle.tilt_syntax.specs.Descent.{Found, Comes, Reading, plan_of, done}
-use Rattle.tilt_syntax.specs.Grammar.{IsExpr}
-use Rattle.tilt_syntax.specs.Tree.{ExprTree}
-use Rattle.tilt_syntax.specs.declared.level.Level.TheVariants.{Choice}
-use Rattle.tilt_syntax.proofs.Complete.{complete, Stops, stops-end}
+use Rattle.tilt_syntax.specs.Descent.{done}
+use Rattle.tilt_syntax.specs.Grammar.{IsExpr, IsStatement}
+use Rattle.tilt_syntax.specs.Query.{statements, AreGood, IsQueryOf}
+use Rattle.tilt_syntax.specs.Tree.{ExprTree, StatementTree}
+use Rattle.tilt_syntax.proofs.Statements.{statement-comes, told, told-inj, tells}
 use Rattle.tilt_syntax.proofs.Steady.{one_answer}
-
--- reading the whole tokens finds the expression that they are, and leaves nothing
-pub whole : (ts : List Tok) (e : ExprTree) → IsExpr 0 ts e → Comes (plan_of (Reading Choice ts)) (Some (record { tree = e; rest = [] }))
-whole ts e h = rw append-nil at (complete Choice 0 ts e h refl [] (Some (record { tree = e; rest = [] })) (stops-end 1) done)
-
--- the tree of what was found, or another
-abbrev tree_of : ExprTree → Option Found → ExprTree
-tree_of e None = e
-tree_of e (Some f) = f.tree
-
--- the tokens behind it
-abbrev rest_of : List Tok → Option Found → List Tok
-rest_of ts None = ts
-rest_of ts (Some f) = f.rest
-
-pub same_tree : (a b : ExprTree) (ts us : List Tok)
-  → (let x : Option Found = Some (record { tree = a; rest = ts }) in x ≡ Some (record { tree = b; rest = us })) → a ≡ b
-same_tree a b ts us e = ap (tree_of a) e
-
-pub same_rest : (a b : ExprTree) (ts us : List Tok)
-  → (let x : Option Found = Some (record { tree = a; rest = ts }) in x ≡ Some (record { tree = b; rest = us })) → ts ≡ us
-same_rest a b ts us e = ap (rest_of ts) e
+use Rattle.tilt_syntax.proofs.Whole.{same_tree, whole}
 
 pub one_expr : (ts : List Tok) (a b : ExprTree) → IsExpr 0 ts a → IsExpr 0 ts b → a ≡ b
 one_expr ts a b ha hb = same_tree a b [] [] (one_answer (whole ts a ha) (whole ts b hb))
+
+pub one_statement : (ts : List Tok) (a b : StatementTree) → IsStatement ts a → IsStatement ts b → a ≡ b
+one_statement ts a b ha hb =
+    told-inj a b (one_answer (statement-comes ts a ha tells (Some (told a)) done) (statement-comes ts b hb tells (Some (told b)) done))
+
+-- statements are read one by one
+one_list : (ss : List (List Tok)) (p q : List StatementTree) → AreGood ss p → AreGood ss q → p ≡ q
+one_list [] [] [] g h = refl
+one_list [] [] (b ∷ q) g h = absurd h
+one_list [] (a ∷ p) q g h = absurd g
+one_list (ts ∷ ss) [] q g h = absurd g
+one_list (ts ∷ ss) (a ∷ p) [] g h = absurd h
+one_list (ts ∷ ss) (a ∷ p) (b ∷ q) g h =
+    let first = one_statement ts a b g.0.parsed h.0.parsed in
+    let others = one_list ss p q g.1 h.1 in
+    cc
+
+pub one_query : (ts : List Tok) (p q : List StatementTree) → IsQueryOf ts p → IsQueryOf ts q → p ≡ q
+one_query ts p q g h = one_list (statements ts) p q g.good h.good

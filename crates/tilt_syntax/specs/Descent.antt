@@ -1,4 +1,4 @@
--- How an expression is read from left to right without going back: the one descent that the code follows. The grammar is laid down apart from it.
+-- How an expression is read from left to right without going back. The grammar is laid down apart from it.
 use Rattle.std.specs.Prelude.{◌≡◌, ◌≢◌, ℕ, ℤ, pos, neg_ℤ, true, false, List, [], ◌∷◌, Option, Some, None}
 use Rattle.tilt_base.specs.Expression.{Leaf, One, Two, If}
 use Rattle.tilt_base.specs.declared.operator.Op1.TheVariants as op1
@@ -14,7 +14,7 @@ use Rattle.tilt_lexer.specs.declared.token.Tok.TheVariants.{Word, Number, Key as
 use Rattle.tilt_syntax.specs.Levels.{operator_of, tighter}
 use Rattle.tilt_syntax.specs.Tree.{Num, Truth, Read, Reduce, ExprTree}
 use Rattle.tilt_syntax.specs.declared.level.Level.{Level}
-use Rattle.tilt_syntax.specs.declared.level.Level.TheVariants.{Choice, When, Or, And, Negation, Comparison, Sum, Product, Minus, Atom}
+use Rattle.tilt_syntax.specs.declared.level.Level.TheVariants.{Choice, When, Negation, Comparison, Minus, Atom}
 
 -- an expression that was read, and the tokens behind it
 pub record Found : Type 0 where
@@ -164,14 +164,14 @@ plan_of (GoingOn level left ts) = going_plan level left ts
 pub data Comes : Plan → Option Found → Type 0 where
   done : {r : Option Found} → Comes (Done r) r
   met : {t : Tok} {ts us : List Tok} {behind : List Tok → Plan} {other : Plan} {r : Option Found}
-    → ts ≡ t ∷ us → Comes (behind us) r → Comes (Test t ts behind other) r
+      → ts ≡ t ∷ us → Comes (behind us) r → Comes (Test t ts behind other) r
   missed : {t : Tok} {ts : List Tok} {behind : List Tok → Plan} {other : Plan} {r : Option Found}
-    → ((us : List Tok) → ts ≢ t ∷ us) → Comes other r → Comes (Test t ts behind other) r
+      → ((us : List Tok) → ts ≢ t ∷ us) → Comes other r → Comes (Test t ts behind other) r
   between : {level : Level} {t : Tok} {ts us : List Tok} {op : Op2} {behind : Op2 → List Tok → Plan} {other : Plan} {r : Option Found}
-    → ts ≡ t ∷ us → operator_of t ≡ Some (level, op) → Comes (behind op us) r → Comes (Between level ts behind other) r
+      → ts ≡ t ∷ us → operator_of t ≡ Some (level, op) → Comes (behind op us) r → Comes (Between level ts behind other) r
   behind_all : {level : Level} {ts : List Tok} {behind : Op2 → List Tok → Plan} {other : Plan} {r : Option Found}
-    → ((t : Tok) (us : List Tok) (op : Op2) → ts ≡ t ∷ us → operator_of t ≢ Some (level, op)) → Comes other r
-    → Comes (Between level ts behind other) r
+      → ((t : Tok) (us : List Tok) (op : Op2) → ts ≡ t ∷ us → operator_of t ≢ Some (level, op)) → Comes other r
+      → Comes (Between level ts behind other) r
   found : {task : Task} {behind : Found → Plan} {f : Found} {r : Option Found}
-    → Comes (plan_of task) (Some f) → Comes (behind f) r → Comes (Ask task behind) r
+      → Comes (plan_of task) (Some f) → Comes (behind f) r → Comes (Ask task behind) r
   none : {task : Task} {behind : Found → Plan} → Comes (plan_of task) None → Comes (Ask task behind) None

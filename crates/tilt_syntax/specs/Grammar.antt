@@ -64,10 +64,10 @@ pub data IsExpr : ℕ → List Tok → ExprTree → Type 0 where
   tighter : {level : ℕ} {ts : List Tok} {e : ExprTree} → IsExpr (suc level) ts e → IsExpr level ts e
   -- `if c then a else b`
   choice : {ts us vs : List Tok} {c a b : ExprTree} → IsExpr 0 ts c → IsExpr 0 us a → IsExpr 0 vs b
-    → IsExpr 0 (Reserved key.If ∷ (ts ++ (Reserved key.Then ∷ (us ++ (Reserved key.Else ∷ vs))))) (If c a b)
+      → IsExpr 0 (Reserved key.If ∷ (ts ++ (Reserved key.Then ∷ (us ++ (Reserved key.Else ∷ vs))))) (If c a b)
   -- an operator between its operands
   between : {op : Op2} {i : Infix} {ts us : List Tok} {a b : ExprTree} → infix_of op ≡ Some i → IsExpr i.left ts a → IsExpr i.right us b
-    → IsExpr i.level (ts ++ (i.sign ∷ us)) (Two op a b)
+      → IsExpr i.level (ts ++ (i.sign ∷ us)) (Two op a b)
   -- `not a`
   negation : {ts : List Tok} {a : ExprTree} → IsExpr 4 ts a → IsExpr 4 (Reserved key.Not ∷ ts) (One op1.Not a)
   -- `-a`
@@ -81,17 +81,17 @@ pub data IsExpr : ℕ → List Tok → ExprTree → Type 0 where
   name : {x : List ℕ} → IsExpr 9 (Word x ∷ []) (Leaf (Read x (pos 0)))
   -- `x[t+n]`
   reading : {x : List ℕ} {ts : List Tok} {d : ℤ} → IsOffset ts d
-    → IsExpr 9 (Word x ∷ Sign mark.OpenBracket ∷ (ts ++ (Sign mark.CloseBracket ∷ []))) (Leaf (Read x d))
+      → IsExpr 9 (Word x ∷ Sign mark.OpenBracket ∷ (ts ++ (Sign mark.CloseBracket ∷ []))) (Leaf (Read x d))
   -- `sum(x[t-m : t+n])`
   window : {r : Reducer} {x : List ℕ} {ts us : List Tok} {l h : ℤ} → IsOffset ts l → IsOffset us h
-    → IsExpr 9 (Reserved (reducer_key r) ∷ Sign mark.OpenParen ∷ Word x ∷ Sign mark.OpenBracket
-        ∷ (ts ++ (Sign mark.Colon ∷ (us ++ (Sign mark.CloseBracket ∷ Sign mark.CloseParen ∷ []))))) (Leaf (Reduce r x l h))
+      → IsExpr 9 (Reserved (reducer_key r) ∷ Sign mark.OpenParen ∷ Word x ∷ Sign mark.OpenBracket
+      ∷ (ts ++ (Sign mark.Colon ∷ (us ++ (Sign mark.CloseBracket ∷ Sign mark.CloseParen ∷ []))))) (Leaf (Reduce r x l h))
   -- `isnull(a)`
   is_null : {ts : List Tok} {a : ExprTree} → IsExpr 0 ts a
-    → IsExpr 9 (Reserved key.IsNull ∷ Sign mark.OpenParen ∷ (ts ++ (Sign mark.CloseParen ∷ []))) (One op1.IsNull a)
+      → IsExpr 9 (Reserved key.IsNull ∷ Sign mark.OpenParen ∷ (ts ++ (Sign mark.CloseParen ∷ []))) (One op1.IsNull a)
   -- `ifnull(a, b)`
   if_null : {ts us : List Tok} {a b : ExprTree} → IsExpr 0 ts a → IsExpr 0 us b
-    → IsExpr 9 (Reserved key.IfNull ∷ Sign mark.OpenParen ∷ (ts ++ (Sign mark.Comma ∷ (us ++ (Sign mark.CloseParen ∷ []))))) (Two op2.IfNull a b)
+      → IsExpr 9 (Reserved key.IfNull ∷ Sign mark.OpenParen ∷ (ts ++ (Sign mark.Comma ∷ (us ++ (Sign mark.CloseParen ∷ []))))) (Two op2.IfNull a b)
   -- `(e)`
   enclosed : {ts : List Tok} {e : ExprTree} → IsExpr 0 ts e → IsExpr 9 (Sign mark.OpenParen ∷ (ts ++ (Sign mark.CloseParen ∷ []))) e
 
@@ -103,7 +103,7 @@ pub data IsBound : List Tok → ℤ → Type 0 where
 -- `over (s, e]`
 pub data IsSpan : List Tok → Span → Type 0 where
   over : {ts us : List Tok} {s e : ℤ} → IsBound ts s → IsBound us e
-    → IsSpan (Reserved key.Over ∷ Sign mark.OpenParen ∷ (ts ++ (Sign mark.Comma ∷ (us ++ (Sign mark.CloseBracket ∷ []))))) (record { start = s; end = e })
+      → IsSpan (Reserved key.Over ∷ Sign mark.OpenParen ∷ (ts ++ (Sign mark.Comma ∷ (us ++ (Sign mark.CloseBracket ∷ []))))) (record { start = s; end = e })
 
 -- the same, or nothing
 pub data MayBeSpan : List Tok → Option Span → Type 0 where
@@ -119,8 +119,8 @@ pub data MayBePeriod : List Tok → Option ℤ → Type 0 where
 pub data IsStatement : List Tok → StatementTree → Type 0 where
   input : {x : List ℕ} → IsStatement (Reserved key.Input ∷ Word x ∷ Sign mark.Semicolon ∷ []) (Input x)
   definition : {x : List ℕ} {ts us vs : List Tok} {e : ExprTree} {over : Option Span} {every : Option ℤ}
-    → IsExpr 0 ts e → MayBeSpan us over → MayBePeriod vs every
-    → IsStatement (Reserved key.Let ∷ Word x ∷ Sign mark.Assign ∷ (ts ++ (us ++ (vs ++ (Sign mark.Semicolon ∷ []))))) (Let x e over every)
+      → IsExpr 0 ts e → MayBeSpan us over → MayBePeriod vs every
+      → IsStatement (Reserved key.Let ∷ Word x ∷ Sign mark.Assign ∷ (ts ++ (us ++ (vs ++ (Sign mark.Semicolon ∷ []))))) (Let x e over every)
   emission : {ts us vs : List Tok} {e : ExprTree} {over : Span} {every : Option ℤ}
-    → IsExpr 0 ts e → IsSpan us over → MayBePeriod vs every
-    → IsStatement (Reserved key.Emit ∷ (ts ++ (us ++ (vs ++ (Sign mark.Semicolon ∷ []))))) (Emit e over every)
+      → IsExpr 0 ts e → IsSpan us over → MayBePeriod vs every
+      → IsStatement (Reserved key.Emit ∷ (ts ++ (us ++ (vs ++ (Sign mark.Semicolon ∷ []))))) (Emit e over every)

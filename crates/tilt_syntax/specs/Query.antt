@@ -62,7 +62,7 @@ pub data HasFault : ℕ → List Tok → List (List Tok) → SyntaxFault → Typ
   too_long : {n : ℕ} {ts : List Tok} {behind : List (List Tok)} → 256 < length ts → HasFault n ts behind (fault.StatementTooLong n)
   no_statement : {n : ℕ} {ts : List Tok} {behind : List (List Tok)} → IsShort ts → ((s : StatementTree) → ¬ (IsStatement ts s)) → HasFault n ts behind (fault.Syntax n)
   misplaced : {n : ℕ} {ts : List Tok} {behind : List (List Tok)} (s : StatementTree) → IsShort ts → IsStatement ts s → ¬ (IsInPlace behind s)
-    → HasFault n ts behind (fault.EmitPlace n)
+      → HasFault n ts behind (fault.EmitPlace n)
 
 -- the first faulty one of statements, of which the first has the number `n`, has the fault
 pub data FirstFault : ℕ → List (List Tok) → SyntaxFault → Type 0 where

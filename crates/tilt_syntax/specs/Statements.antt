@@ -5,7 +5,7 @@ use Rattle.tilt_lexer.specs.declared.mark.Mark.TheVariants as mark
 use Rattle.tilt_lexer.specs.declared.token.Tok.{Tok}
 use Rattle.tilt_lexer.specs.declared.token.Tok.TheVariants.{Key as Reserved, Mark as Sign}
 use Rattle.tilt_syntax.specs.Descent.{Plan, Test, Ask, Reading, nothing, expect, number_plan, name_plan}
-use Rattle.tilt_syntax.specs.Tree.{ExprTree, StatementTree, Input, Let, Emit}
+use Rattle.tilt_syntax.specs.Tree.{StatementTree, Input, Let, Emit}
 use Rattle.tilt_syntax.specs.declared.level.Level.TheVariants.{Choice}
 use Rattle.tilt_syntax.specs.declared.span.Span.{Span}
 

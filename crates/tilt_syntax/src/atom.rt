@@ -21,7 +21,7 @@ fn offset(tokens: &[Token]) -> Option<(i64, &[Token])>
     ensures comes { MatchOption result
         ((behind : ℤ → List Tok → Plan) → Comes (offset_plan (kinds tokens.now) behind) None)
         (λ found. (behind : ℤ → List Tok → Plan) (r : Option Found) → Comes (behind found.0 (kinds found.1.now)) r
-            → Comes (offset_plan (kinds tokens.now) behind) r) }
+        → Comes (offset_plan (kinds tokens.now) behind) r) }
     ensures rest { IfSome result (λ found. IsRest (kinds tokens.now) (kinds found.1.now)) }
 {
     let rest = behind_key(tokens, Key::Time)?;
@@ -86,7 +86,7 @@ fn window(tokens: &[Token]) -> Option<(&Name, i64, i64, &[Token])>
     ensures comes { MatchOption result
         ((r : Reducer) → Comes (window_plan r (kinds tokens.now)) None)
         (λ found. (r : Reducer) → Comes (window_plan r (kinds tokens.now))
-            (Some (record { tree = Leaf (Reduce r found.0.now found.1 found.2); rest = kinds found.3.now }))) }
+        (Some (record { tree = Leaf (Reduce r found.0.now found.1 found.2); rest = kinds found.3.now }))) }
     ensures rest { IfSome result (λ found. IsRest (kinds tokens.now) (kinds found.3.now)) }
 {
     let opened = behind_mark(tokens, Mark::OpenParen)?;

@@ -17,7 +17,7 @@ fn bound(tokens: &[Token]) -> Option<(i64, &[Token])>
     ensures comes { MatchOption result
         ((behind : ℤ → List Tok → Plan) → Comes (bound_plan (kinds tokens.now) behind) None)
         (λ found. (behind : ℤ → List Tok → Plan) (r : Option Found) → Comes (behind found.0 (kinds found.1.now)) r
-            → Comes (bound_plan (kinds tokens.now) behind) r) }
+        → Comes (bound_plan (kinds tokens.now) behind) r) }
     ensures rest { IfSome result (λ found. IsRest (kinds tokens.now) (kinds found.1.now)) }
 {
     let Some(behind) = behind_mark(tokens, Mark::Minus) else {
@@ -33,7 +33,7 @@ pub(crate) fn span(tokens: &[Token]) -> Option<(Span, &[Token])>
     ensures comes { MatchOption result
         ((behind : Span → List Tok → Plan) → Comes (span_plan (kinds tokens.now) behind) None)
         (λ found. (behind : Span → List Tok → Plan) (r : Option Found) → Comes (behind found.0 (kinds found.1.now)) r
-            → Comes (span_plan (kinds tokens.now) behind) r) }
+        → Comes (span_plan (kinds tokens.now) behind) r) }
     ensures rest { IfSome result (λ found. IsRest (kinds tokens.now) (kinds found.1.now)) }
 {
     let opened = behind_mark(tokens, Mark::OpenParen)?;
@@ -50,7 +50,7 @@ pub(crate) fn domain(tokens: &[Token]) -> Option<(Option<Span>, &[Token])>
     ensures comes { MatchOption result
         ((behind : Option Span → List Tok → Plan) → Comes (domain_plan (kinds tokens.now) behind) None)
         (λ found. (behind : Option Span → List Tok → Plan) (r : Option Found) → Comes (behind found.0 (kinds found.1.now)) r
-            → Comes (domain_plan (kinds tokens.now) behind) r) }
+        → Comes (domain_plan (kinds tokens.now) behind) r) }
     ensures rest { IfSome result (λ found. IsRest (kinds tokens.now) (kinds found.1.now)) }
 {
     let Some(behind) = behind_key(tokens, Key::Over) else {
@@ -66,7 +66,7 @@ pub(crate) fn period(tokens: &[Token]) -> Option<(Option<i64>, &[Token])>
     ensures comes { MatchOption result
         ((behind : Option ℤ → List Tok → Plan) → Comes (period_plan (kinds tokens.now) behind) None)
         (λ found. (behind : Option ℤ → List Tok → Plan) (r : Option Found) → Comes (behind found.0 (kinds found.1.now)) r
-            → Comes (period_plan (kinds tokens.now) behind) r) }
+        → Comes (period_plan (kinds tokens.now) behind) r) }
     ensures rest { IfSome result (λ found. IsRest (kinds tokens.now) (kinds found.1.now)) }
 {
     let Some(behind) = behind_key(tokens, Key::Every) else {

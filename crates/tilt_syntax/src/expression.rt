@@ -34,12 +34,8 @@ pub(crate) fn expression(alloc: Global, level: Level, tokens: &[Token]) -> Found
         Level::Negation => negation(alloc, tokens),
         Level::Minus => minus(alloc, tokens),
         Level::Atom => atom(alloc, tokens),
-        Level::When
-        | Level::Or
-        | Level::And
-        | Level::Comparison
-        | Level::Sum
-        | Level::Product => chain(alloc, level, tokens),
+        Level::When | Level::Or | Level::And | Level::Comparison | Level::Sum | Level::Product =>
+            chain(alloc, level, tokens),
     }
 }
 

@@ -98,5 +98,9 @@ pub(crate) fn front_operator(level: Level, tokens: &[Token]) -> Option<(Op2, &[T
         return None;
     };
     let (found, op) = operator_of(&first.kind)?;
-    if found == level { Some((op, rest)) } else { None }
+    if found == level {
+        Some((op, rest))
+    } else {
+        None
+    }
 }

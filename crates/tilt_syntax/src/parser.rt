@@ -18,7 +18,7 @@ use crate::statement::Statement;
 use std::alloc::{AllocError as OutOfMemory, Global};
 use tilt_lexer::Token;
 
-/// The most statements that a query may have, and the most tokens that a statement may have, its `;` counted.
+// The most statements that a query may have, and the most tokens that a statement may have, its `;` counted.
 const MOST: usize = 256;
 
 /// The query that the tokens are. They are cut into statements behind each `;`; what stands behind the last `;` is a

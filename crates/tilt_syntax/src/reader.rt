@@ -22,7 +22,8 @@ pub(crate) fn read_statement(
     requires { AreSound (kinds tokens.now) }
     ensures { IfOk result (λ found. MatchOption found
         ((behind : StatementTree → Plan) → Comes (statement_plan (kinds tokens.now) behind) None)
-        (λ s. (behind : StatementTree → Plan) (r : Option Found) → Comes (behind (statement_tree s)) r → Comes (statement_plan (kinds tokens.now) behind) r)) }
+        (λ s. (behind : StatementTree → Plan) (r : Option Found) → Comes (behind (statement_tree s)) r
+        → Comes (statement_plan (kinds tokens.now) behind) r)) }
 {
     if let Some(behind) = behind_key(tokens, Key::Input) {
         return read_input(behind);
@@ -41,7 +42,8 @@ fn read_input(tokens: &[Token]) -> Result<Option<Statement>, OutOfMemory>
     requires { AreSound (kinds tokens.now) }
     ensures { IfOk result (λ found. MatchOption found
         ((behind : StatementTree → Plan) → Comes (input_plan (kinds tokens.now) behind) None)
-        (λ s. (behind : StatementTree → Plan) (r : Option Found) → Comes (behind (statement_tree s)) r → Comes (input_plan (kinds tokens.now) behind) r)) }
+        (λ s. (behind : StatementTree → Plan) (r : Option Found) → Comes (behind (statement_tree s)) r
+        → Comes (input_plan (kinds tokens.now) behind) r)) }
 {
     let Some((name, rest)) = front_name(tokens) else {
         return Ok(None);
@@ -58,7 +60,8 @@ fn read_let(alloc: Global, tokens: &[Token]) -> Result<Option<Statement>, OutOfM
     requires { AreSound (kinds tokens.now) }
     ensures { IfOk result (λ found. MatchOption found
         ((behind : StatementTree → Plan) → Comes (let_plan (kinds tokens.now) behind) None)
-        (λ s. (behind : StatementTree → Plan) (r : Option Found) → Comes (behind (statement_tree s)) r → Comes (let_plan (kinds tokens.now) behind) r)) }
+        (λ s. (behind : StatementTree → Plan) (r : Option Found) → Comes (behind (statement_tree s)) r
+        → Comes (let_plan (kinds tokens.now) behind) r)) }
 {
     let Some((name, named)) = front_name(tokens) else {
         return Ok(None);
@@ -92,7 +95,8 @@ fn read_emit(alloc: Global, tokens: &[Token]) -> Result<Option<Statement>, OutOf
     requires { AreSound (kinds tokens.now) }
     ensures { IfOk result (λ found. MatchOption found
         ((behind : StatementTree → Plan) → Comes (emit_plan (kinds tokens.now) behind) None)
-        (λ s. (behind : StatementTree → Plan) (r : Option Found) → Comes (behind (statement_tree s)) r → Comes (emit_plan (kinds tokens.now) behind) r)) }
+        (λ s. (behind : StatementTree → Plan) (r : Option Found) → Comes (behind (statement_tree s)) r
+        → Comes (emit_plan (kinds tokens.now) behind) r)) }
 {
     let Some((expr, behind)) = expression(alloc, Level::Choice, tokens)? else {
         return Ok(None);

@@ -248,13 +248,7 @@ fn the_first_faulty_statement_is_refused(rt: HostRuntime) -> Result<(), Fail> {
 }
 
 // The text with a front, a part that is repeated, and an end.
-fn repeated(
-    alloc: Global,
-    front: &str,
-    part: &str,
-    times: u32,
-    end: &str,
-) -> Result<String, Fail> {
+fn repeated(alloc: Global, front: &str, part: &str, times: u32, end: &str) -> Result<String, Fail> {
     let mut text = String::new(alloc);
     text.push_str(front)?;
     for _ in 0..times {

@@ -19,14 +19,26 @@ const QUERIES: &[(&str, &str)] = &[
     ("emit -(-(x)) over(0,5];", "emit --x over (0, 5];\n"),
     ("emit -(a*b) over(0,5];", "emit -(a * b) over (0, 5];\n"),
     ("emit (-a)*b over(0,5];", "emit -a * b over (0, 5];\n"),
-    ("emit not(not(a)) over(0,5];", "emit not not a over (0, 5];\n"),
-    ("emit not(a and b) over(0,5];", "emit not (a and b) over (0, 5];\n"),
-    ("emit (not a)and b over(0,5];", "emit not a and b over (0, 5];\n"),
+    (
+        "emit not(not(a)) over(0,5];",
+        "emit not not a over (0, 5];\n",
+    ),
+    (
+        "emit not(a and b) over(0,5];",
+        "emit not (a and b) over (0, 5];\n",
+    ),
+    (
+        "emit (not a)and b over(0,5];",
+        "emit not a and b over (0, 5];\n",
+    ),
     (
         "emit (a<b)or((c>=d)and(e!=f)) over(0,5];",
         "emit a < b or c >= d and e != f over (0, 5];\n",
     ),
-    ("emit (a or b)and c over(0,5];", "emit (a or b) and c over (0, 5];\n"),
+    (
+        "emit (a or b)and c over(0,5];",
+        "emit (a or b) and c over (0, 5];\n",
+    ),
     (
         "emit (a==b)==(c<=d) over(0,5];",
         "emit (a == b) == (c <= d) over (0, 5];\n",

@@ -11,9 +11,9 @@ use Rattle.tilt_syntax.proofs.Descending.{number-comes, number-none}
 use Rattle.tilt_syntax.proofs.atom.offset.Goals as goal
 
 behind_plus : (found : Option (ℤ × Bor (List Token))) (ts us vs : List Tok)
-  → ts ≡ Reserved key.Time ∷ us → us ≡ Sign mark.Plus ∷ vs
-  → MatchOption found ((n : ℤ) (ws : List Tok) → vs ≢ Number n ∷ ws) (λ x. vs ≡ Number x.0 ∷ kinds x.1.now)
-  → MatchOption found
+    → ts ≡ Reserved key.Time ∷ us → us ≡ Sign mark.Plus ∷ vs
+    → MatchOption found ((n : ℤ) (ws : List Tok) → vs ≢ Number n ∷ ws) (λ x. vs ≡ Number x.0 ∷ kinds x.1.now)
+    → MatchOption found
     ((behind : ℤ → List Tok → Plan) → Comes (offset_plan ts behind) None)
     (λ x. (behind : ℤ → List Tok → Plan) (r : Option Found) → Comes (behind x.0 (kinds x.1.now)) r → Comes (offset_plan ts behind) r)
 behind_plus None ts us vs e f h = λ behind. met e (met f (number-none vs behind h))

@@ -1,4 +1,4 @@
-use Rattle.std.proofs.Common.{◌≡◌, ℤ, to_z, of_z, w64, arith}
+use Rattle.std.proofs.Common.{◌≡◌, to_z, of_z, w64, arith}
 use Rattle.std.proofs.lemmas.Int.{ints}
 use Rattle.tilt_syntax.specs.Descent.{done, met, missed}
 use Rattle.tilt_syntax.proofs.atom.reading.Goals as goal

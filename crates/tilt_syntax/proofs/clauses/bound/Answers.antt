@@ -11,8 +11,8 @@ use Rattle.tilt_syntax.proofs.Descending.{number-comes, number-none}
 use Rattle.tilt_syntax.proofs.clauses.bound.Goals as goal
 
 unsigned : (found : Option (ℤ × Bor (List Token))) (ts : List Tok) → ((us : List Tok) → ts ≢ Sign mark.Minus ∷ us)
-  → MatchOption found ((n : ℤ) (us : List Tok) → ts ≢ Number n ∷ us) (λ x. ts ≡ Number x.0 ∷ kinds x.1.now)
-  → MatchOption found
+    → MatchOption found ((n : ℤ) (us : List Tok) → ts ≢ Number n ∷ us) (λ x. ts ≡ Number x.0 ∷ kinds x.1.now)
+    → MatchOption found
     ((behind : ℤ → List Tok → Plan) → Comes (bound_plan ts behind) None)
     (λ x. (behind : ℤ → List Tok → Plan) (r : Option Found) → Comes (behind x.0 (kinds x.1.now)) r → Comes (bound_plan ts behind) r)
 unfolding bound_plan

@@ -1,4 +1,4 @@
-use Rattle.std.proofs.Common.{◌≡◌, ℤ, to_z, of_z, w64, Some, arith}
+use Rattle.std.proofs.Common.{◌≡◌, to_z, of_z, w64, Some, arith}
 use Rattle.std.proofs.lemmas.Int.{ints}
 use Rattle.tilt_syntax.specs.Descent.{met, missed}
 use Rattle.tilt_syntax.proofs.Descending.{number-comes, number-none}

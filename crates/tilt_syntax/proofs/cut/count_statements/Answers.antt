@@ -1,6 +1,6 @@
-use Rattle.std.proofs.Common.{◌≡◌, ◌<◌, ◌≤◌, length, ap, arith, rules}
+use Rattle.std.proofs.Common.{◌≡◌, length, ap, rules}
 use Rattle.std.proofs.lemmas.List.{length-map}
-use Rattle.tilt_syntax.specs.Query.{kinds, statements}
+use Rattle.tilt_syntax.specs.Query.{kinds}
 use Rattle.tilt_syntax.proofs.Cutting.{statements-few}
 use Rattle.tilt_syntax.proofs.cut.count_statements.Goals as goal
 

@@ -1,6 +1,5 @@
-use Rattle.std.proofs.Common.{◌≡◌, ◌<◌, ◌≤◌, length, drop, arith, length-drop, ap, ◌∙◌, rules}
+use Rattle.std.proofs.Common.{◌≡◌, length, arith}
 use Rattle.std.proofs.lemmas.List.{length-map}
-use Rattle.tilt_syntax.specs.Cut.{first_length}
 use Rattle.tilt_syntax.specs.Query.{kinds}
 use Rattle.tilt_syntax.proofs.Cutting.{cut-tokens, length-positive, length-within, sound-front-tokens, sound-behind-tokens}
 use Rattle.tilt_syntax.proofs.cut.first_statement.Goals as goal

@@ -1,6 +1,6 @@
-use Rattle.std.proofs.Common.{◌≡◌, ◌≢◌, ℤ, to_z, of_z, w64, Option, None, rules, arith}
+use Rattle.std.proofs.Common.{◌≡◌, ◌≢◌, to_z, of_z, w64, rules, arith}
 use Rattle.std.proofs.lemmas.Int.{ints}
-use Rattle.tilt_syntax.specs.Descent.{Comes, done, met, missed, between, behind_all, found, none, Found, Reading, GoingOn, plan_of, atom_plan, choice_plan, chain_plan, going_plan, minus_plan, negation_plan}
+use Rattle.tilt_syntax.specs.Descent.{done, met, missed, between, behind_all, found, none, Reading, plan_of, choice_plan, chain_plan, going_plan, minus_plan, negation_plan}
 use Rattle.tilt_syntax.specs.Query.{kinds}
 use Rattle.tilt_syntax.specs.Tree.{expr_tree}
 use Rattle.tilt_syntax.specs.declared.level.Level.TheVariants.{When, Comparison, Atom}
@@ -36,23 +36,30 @@ choice-returns-in_default-2-clause-comes t c =
 
 pub choice-returns-in_default-behind_key-clause-comes : goal.choice-returns-in_default-behind_key-clause-comes
 choice-returns-in_default-behind_key-clause-comes t c =
-    met c.in-Some.ensures.front (found (rw c.in-Some-2.is at c.in_ok-c.ensures.comes) (missed c.in_default-behind_key.ensures.front done))
+    met c.in-Some.ensures.front (found (rw c.in-Some-2.is at c.in_ok-c.ensures.comes) (
+    missed c.in_default-behind_key.ensures.front done))
 
 pub choice-returns-in_default-3-clause-comes : goal.choice-returns-in_default-3-clause-comes
 choice-returns-in_default-3-clause-comes t c =
-    met c.in-Some.ensures.front (found (rw c.in-Some-2.is at c.in_ok-c.ensures.comes) (met c.in-Some-behind_key.ensures.front (none (rw c.in_default-3.is at c.in_ok-a.ensures.comes))))
+    met c.in-Some.ensures.front (found (rw c.in-Some-2.is at c.in_ok-c.ensures.comes) (met c.in-Some-behind_key.ensures.front (none (
+    rw c.in_default-3.is at c.in_ok-a.ensures.comes))))
 
 pub choice-returns-in_default-behind_key-2-clause-comes : goal.choice-returns-in_default-behind_key-2-clause-comes
 choice-returns-in_default-behind_key-2-clause-comes t c =
-    met c.in-Some.ensures.front (found (rw c.in-Some-2.is at c.in_ok-c.ensures.comes) (met c.in-Some-behind_key.ensures.front (found (rw c.in-Some-3.is at c.in_ok-a.ensures.comes) (missed c.in_default-behind_key-2.ensures.front done))))
+    met c.in-Some.ensures.front (found (rw c.in-Some-2.is at c.in_ok-c.ensures.comes) (met c.in-Some-behind_key.ensures.front (found (
+    rw c.in-Some-3.is at c.in_ok-a.ensures.comes) (missed c.in_default-behind_key-2.ensures.front done))))
 
 pub choice-returns-in_default-4-clause-comes : goal.choice-returns-in_default-4-clause-comes
 choice-returns-in_default-4-clause-comes t c =
-    met c.in-Some.ensures.front (found (rw c.in-Some-2.is at c.in_ok-c.ensures.comes) (met c.in-Some-behind_key.ensures.front (found (rw c.in-Some-3.is at c.in_ok-a.ensures.comes) (met c.in-Some-behind_key-2.ensures.front (none (rw c.in_default-4.is at c.in_ok-b.ensures.comes))))))
+    met c.in-Some.ensures.front (found (rw c.in-Some-2.is at c.in_ok-c.ensures.comes) (met c.in-Some-behind_key.ensures.front (found (
+    rw c.in-Some-3.is at c.in_ok-a.ensures.comes) (met c.in-Some-behind_key-2.ensures.front (none (
+    rw c.in_default-4.is at c.in_ok-b.ensures.comes))))))
 
 pub choice-returns-clause-comes : goal.choice-returns-clause-comes
 choice-returns-clause-comes t c =
-    rw c.in_ok-chosen.ensures (met c.in-Some.ensures.front (found (rw c.in-Some-2.is at c.in_ok-c.ensures.comes) (met c.in-Some-behind_key.ensures.front (found (rw c.in-Some-3.is at c.in_ok-a.ensures.comes) (met c.in-Some-behind_key-2.ensures.front (found (rw c.in-Some-4.is at c.in_ok-b.ensures.comes) (done)))))))
+    rw c.in_ok-chosen.ensures (met c.in-Some.ensures.front (found (rw c.in-Some-2.is at c.in_ok-c.ensures.comes) (
+    met c.in-Some-behind_key.ensures.front (found (rw c.in-Some-3.is at c.in_ok-a.ensures.comes) (
+    met c.in-Some-behind_key-2.ensures.front (found (rw c.in-Some-4.is at c.in_ok-b.ensures.comes) (done)))))))
 
 pub enclosed-returns-in_default-clause-comes : goal.enclosed-returns-in_default-clause-comes
 enclosed-returns-in_default-clause-comes t c =
@@ -64,11 +71,13 @@ enclosed-returns-in_default-2-clause-comes t c =
 
 pub enclosed-returns-in_default-behind_mark-clause-comes : goal.enclosed-returns-in_default-behind_mark-clause-comes
 enclosed-returns-in_default-behind_mark-clause-comes t c =
-    met c.in-Some.ensures.front (found (rw c.in-Some-2.is at c.in_ok-inside.ensures.comes) (missed c.in_default-behind_mark.ensures.front done))
+    met c.in-Some.ensures.front (found (rw c.in-Some-2.is at c.in_ok-inside.ensures.comes) (
+    missed c.in_default-behind_mark.ensures.front done))
 
 pub enclosed-returns-clause-comes : goal.enclosed-returns-clause-comes
 enclosed-returns-clause-comes t c =
-    met c.in-Some.ensures.front (found (rw c.in-Some-2.is at c.in_ok-inside.ensures.comes) (met c.in-Some-behind_mark.ensures.front (done)))
+    met c.in-Some.ensures.front (found (rw c.in-Some-2.is at c.in_ok-inside.ensures.comes) (
+    met c.in-Some-behind_mark.ensures.front (done)))
 
 pub is_null-returns-in_default-clause-comes : goal.is_null-returns-in_default-clause-comes
 is_null-returns-in_default-clause-comes t c =
@@ -80,11 +89,13 @@ is_null-returns-in_default-2-clause-comes t c =
 
 pub is_null-returns-in_default-behind_mark-clause-comes : goal.is_null-returns-in_default-behind_mark-clause-comes
 is_null-returns-in_default-behind_mark-clause-comes t c =
-    met c.in-Some.ensures.front (found (rw c.in-Some-2.is at c.in_ok-a.ensures.comes) (missed c.in_default-behind_mark.ensures.front done))
+    met c.in-Some.ensures.front (found (rw c.in-Some-2.is at c.in_ok-a.ensures.comes) (
+    missed c.in_default-behind_mark.ensures.front done))
 
 pub is_null-returns-clause-comes : goal.is_null-returns-clause-comes
 is_null-returns-clause-comes t c =
-    rw c.in_ok-tested.ensures (met c.in-Some.ensures.front (found (rw c.in-Some-2.is at c.in_ok-a.ensures.comes) (met c.in-Some-behind_mark.ensures.front (done))))
+    rw c.in_ok-tested.ensures (met c.in-Some.ensures.front (found (rw c.in-Some-2.is at c.in_ok-a.ensures.comes) (
+    met c.in-Some-behind_mark.ensures.front (done))))
 
 pub if_null-returns-in_default-clause-comes : goal.if_null-returns-in_default-clause-comes
 if_null-returns-in_default-clause-comes t c =
@@ -96,19 +107,24 @@ if_null-returns-in_default-2-clause-comes t c =
 
 pub if_null-returns-in_default-behind_mark-clause-comes : goal.if_null-returns-in_default-behind_mark-clause-comes
 if_null-returns-in_default-behind_mark-clause-comes t c =
-    met c.in-Some.ensures.front (found (rw c.in-Some-2.is at c.in_ok-a.ensures.comes) (missed c.in_default-behind_mark.ensures.front done))
+    met c.in-Some.ensures.front (found (rw c.in-Some-2.is at c.in_ok-a.ensures.comes) (
+    missed c.in_default-behind_mark.ensures.front done))
 
 pub if_null-returns-in_default-3-clause-comes : goal.if_null-returns-in_default-3-clause-comes
 if_null-returns-in_default-3-clause-comes t c =
-    met c.in-Some.ensures.front (found (rw c.in-Some-2.is at c.in_ok-a.ensures.comes) (met c.in-Some-behind_mark.ensures.front (none (rw c.in_default-3.is at c.in_ok-b.ensures.comes))))
+    met c.in-Some.ensures.front (found (rw c.in-Some-2.is at c.in_ok-a.ensures.comes) (met c.in-Some-behind_mark.ensures.front (none (
+    rw c.in_default-3.is at c.in_ok-b.ensures.comes))))
 
 pub if_null-returns-in_default-behind_mark-2-clause-comes : goal.if_null-returns-in_default-behind_mark-2-clause-comes
 if_null-returns-in_default-behind_mark-2-clause-comes t c =
-    met c.in-Some.ensures.front (found (rw c.in-Some-2.is at c.in_ok-a.ensures.comes) (met c.in-Some-behind_mark.ensures.front (found (rw c.in-Some-3.is at c.in_ok-b.ensures.comes) (missed c.in_default-behind_mark-2.ensures.front done))))
+    met c.in-Some.ensures.front (found (rw c.in-Some-2.is at c.in_ok-a.ensures.comes) (met c.in-Some-behind_mark.ensures.front (found (
+    rw c.in-Some-3.is at c.in_ok-b.ensures.comes) (missed c.in_default-behind_mark-2.ensures.front done))))
 
 pub if_null-returns-clause-comes : goal.if_null-returns-clause-comes
 if_null-returns-clause-comes t c =
-    rw c.in_ok-other.ensures (met c.in-Some.ensures.front (found (rw c.in-Some-2.is at c.in_ok-a.ensures.comes) (met c.in-Some-behind_mark.ensures.front (found (rw c.in-Some-3.is at c.in_ok-b.ensures.comes) (met c.in-Some-behind_mark-2.ensures.front (done))))))
+    rw c.in_ok-other.ensures (met c.in-Some.ensures.front (found (rw c.in-Some-2.is at c.in_ok-a.ensures.comes) (
+    met c.in-Some-behind_mark.ensures.front (found (rw c.in-Some-3.is at c.in_ok-b.ensures.comes) (
+    met c.in-Some-behind_mark-2.ensures.front (done))))))
 
 pub going_on-returns-in_default-clause-comes : goal.going_on-returns-in_default-clause-comes
 going_on-returns-in_default-clause-comes t c =
@@ -123,14 +139,16 @@ pub going_on-returns-then-eq-clause-comes : goal.going_on-returns-then-eq-clause
 going_on-returns-then-eq-clause-comes t c =
     let op = c.in-Some.ensures.front in
     let same : c.args.level ≡ Comparison = search rules in
-    rw c.in_ok-both.ensures (between op.1 op.2 (found (rw (c.tighter.ensures, c.in-Some-2.is) at c.in_ok-right.ensures.comes) (stopped c.args.level _ _ same)))
+    rw c.in_ok-both.ensures (between op.1 op.2 (found (rw (c.tighter.ensures, c.in-Some-2.is) at c.in_ok-right.ensures.comes) (
+    stopped c.args.level _ _ same)))
 
 pub going_on-returns-else-eq-clause-comes : goal.going_on-returns-else-eq-clause-comes
 going_on-returns-else-eq-clause-comes t c =
     let op = c.in-Some.ensures.front in
     let other : c.args.level ≢ Comparison = search rules in
     carried c.going_on.result _ (going_plan c.args.level (expr_tree c.args.left) (kinds c.args.tokens.now))
-    (λ r h. between op.1 op.2 (found (rw (c.tighter.ensures, c.in-Some-2.is) at c.in_ok-right.ensures.comes) (gone_on c.args.level _ _ r other (rw c.in_ok-both.ensures at h)))) c.going_on.ensures.comes
+    (λ r h. between op.1 op.2 (found (rw (c.tighter.ensures, c.in-Some-2.is) at c.in_ok-right.ensures.comes) (
+    gone_on c.args.level _ _ r other (rw c.in_ok-both.ensures at h)))) c.going_on.ensures.comes
 
 pub minus-returns-in_default-clause-comes : goal.minus-returns-in_default-clause-comes
 minus-returns-in_default-clause-comes t c =

@@ -1,4 +1,4 @@
-use Rattle.std.proofs.Common.{◌≡◌, ◌<◌, ◌≤◌, length, refl, arith}
+use Rattle.std.proofs.Common.{refl}
 use Rattle.std.proofs.lemmas.List.{length-map}
 use Rattle.tilt_syntax.specs.Query.{kinds, too_long, no_statement, misplaced}
 use Rattle.tilt_syntax.specs.Tree.{statement_tree}
@@ -10,7 +10,8 @@ returns-then-tokens-gt-MOST-clause-faulty c = λ other. too_long (rw length-map 
 
 pub returns-in_default-clause-faulty : goal.returns-in_default-clause-faulty
 returns-in_default-clause-faulty c = λ other.
-    no_statement (rw length-map c.if-tokens-gt-MOST.false) (no-statement (kinds c.args.tokens.now) (rw c.in_default.is at c.in_ok-statement.ensures))
+    no_statement (rw length-map c.if-tokens-gt-MOST.false) (no-statement (kinds c.args.tokens.now) (
+    rw c.in_default.is at c.in_ok-statement.ensures))
 
 pub returns-then-is_in_place-clause-good : goal.returns-then-is_in_place-clause-good
 returns-then-is_in_place-clause-good c = record {

@@ -11,9 +11,9 @@ invariant-loop-rest l = record {
   sound : AreSound (kinds l.rest);
   few : vec_len l.read + length (statements (kinds l.rest)) ≤ 256;
   good : (others : List StatementTree) → AreGood (statements (kinds l.rest)) others
-    → AreGood (statements (kinds l.tokens)) (map statement_tree l.read.items ++ others);
+      → AreGood (statements (kinds l.tokens)) (map statement_tree l.read.items ++ others);
   faulty : (fault : SyntaxFault) → FirstFault (vec_len l.read + 1) (statements (kinds l.rest)) fault
-    → FirstFault 1 (statements (kinds l.tokens)) fault;
+      → FirstFault 1 (statements (kinds l.tokens)) fault;
 }
 
 abbrev pub decreases-loop-rest : goal.decreases-loop-rest

@@ -1,4 +1,4 @@
-use Rattle.tilt_syntax.proofs.Refused.{emit-in-place, input-in-place, let-in-place}
+use Rattle.tilt_syntax.proofs.Parsing.{emit-in-place, input-in-place, let-in-place}
 use Rattle.tilt_syntax.proofs.parser.is_in_place.Goals as goal
 
 pub returns-in-Emit : goal.returns-in-Emit

@@ -1,8 +1,10 @@
-use Rattle.std.proofs.Common.{◌≡◌, ◌≢◌, ◌<◌, ◌≤◌, List, length, map, ◌∙◌, arith}
+use Rattle.std.proofs.Common.{◌≤◌, length, map, ◌∙◌, arith}
 use Rattle.std.proofs.lemmas.Result.{err_from_is_err_and}
-use Rattle.tilt_syntax.specs.Query.{IsQueryOf, IsRefused, too_many, no_tokens, faulty, kinds, statements}
+use Rattle.tilt_syntax.specs.Query.{IsQueryOf, too_many, no_tokens, faulty, kinds, statements}
 use Rattle.tilt_syntax.specs.Tree.{statement_tree}
-use Rattle.tilt_syntax.proofs.Refused.{all-sound, none-left, one_query, only-fault, only-memory, query-or-refused, some-left, some-statement, sound-kinds}
+use Rattle.tilt_syntax.proofs.Parsing.{all-sound, none-left, some-left, some-statement, sound-kinds}
+use Rattle.tilt_syntax.proofs.Refused.{only-fault, only-memory, query-or-refused}
+use Rattle.tilt_syntax.proofs.Unique.{one_query}
 use Rattle.tilt_syntax.proofs.parser.parse.Goals as goal
 
 pub returns-then-is_empty-clause-faulty : goal.returns-then-is_empty-clause-faulty
@@ -20,19 +22,22 @@ good_statements-requires-clause-sound c = sound-kinds c.args.tokens.now c.requir
 pub returns-in_err-statements-clause-faulty : goal.returns-in_err-statements-clause-faulty
 returns-in_err-statements-clause-faulty c =
     let p = err_from_is_err_and c.from_residual.result c.from_residual.ensures.1 in
-    let few : length (statements (kinds c.args.tokens.now)) ≤ 256 = omega (arith, c.count_statements.ensures, c.if-count_statements-gt-MOST.false) in
+    let few : length (statements (kinds c.args.tokens.now)) ≤ 256 = omega
+    (arith, c.count_statements.ensures, c.if-count_statements-gt-MOST.false) in
     rw (p.1, p.2) (λ other. faulty few (c.in_err-statements.ensures.faulty other))
 
 pub returns-in_err-statements-clause-only : goal.returns-in_err-statements-clause-only
 returns-in_err-statements-clause-only c = λ query is.
     let p = err_from_is_err_and c.from_residual.result c.from_residual.ensures.1 in
-    let few : length (statements (kinds c.args.tokens.now)) ≤ 256 = omega (arith, c.count_statements.ensures, c.if-count_statements-gt-MOST.false) in
+    let few : length (statements (kinds c.args.tokens.now)) ≤ 256 = omega
+    (arith, c.count_statements.ensures, c.if-count_statements-gt-MOST.false) in
     rw (p.1, p.2) (only-memory (kinds c.args.tokens.now) _ (λ other. faulty few (c.in_err-statements.ensures.faulty other)) query is)
 
 pub returns-in_err-statements-clause-first : goal.returns-in_err-statements-clause-first
 returns-in_err-statements-clause-first c = λ fault is.
     let p = err_from_is_err_and c.from_residual.result c.from_residual.ensures.1 in
-    let few : length (statements (kinds c.args.tokens.now)) ≤ 256 = omega (arith, c.count_statements.ensures, c.if-count_statements-gt-MOST.false) in
+    let few : length (statements (kinds c.args.tokens.now)) ≤ 256 = omega
+    (arith, c.count_statements.ensures, c.if-count_statements-gt-MOST.false) in
     rw (p.1, p.2) (only-fault (kinds c.args.tokens.now) _ (λ other. faulty few (c.in_err-statements.ensures.faulty other)) fault is)
 
 -- what was read is the query

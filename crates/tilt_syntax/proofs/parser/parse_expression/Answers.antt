@@ -1,8 +1,5 @@
-use Rattle.std.proofs.Common.{◌≡◌, ◌<◌, length, arith}
-use Rattle.std.proofs.lemmas.List.{length-map}
 use Rattle.tilt_syntax.specs.Query.{kinds}
-use Rattle.tilt_syntax.specs.Tree.{expr_tree}
-use Rattle.tilt_syntax.proofs.Refused.{all-read, no-expr, none-left, more-left, some-rest, sound-kinds}
+use Rattle.tilt_syntax.proofs.Parsing.{all-read, no-expr, none-left, more-left, some-rest, sound-kinds}
 use Rattle.tilt_syntax.proofs.Unique.{one_expr}
 use Rattle.tilt_syntax.proofs.parser.parse_expression.Goals as goal
 
@@ -17,12 +14,14 @@ returns-in_default-clause-only c = no-expr (kinds c.args.tokens.now) (rw c.in_de
 
 pub returns-then-is_empty-clause-found : goal.returns-then-is_empty-clause-found
 returns-then-is_empty-clause-found c =
-    all-read (kinds c.args.tokens.now) _ _ (rw c.in-Some.is at c.in_ok-expr.ensures.comes) (none-left c.in-Some.rest.now c.if-is_empty.ensures)
+    all-read (kinds c.args.tokens.now) _ _ (rw c.in-Some.is at c.in_ok-expr.ensures.comes) (
+    none-left c.in-Some.rest.now c.if-is_empty.ensures)
 
 pub returns-then-is_empty-clause-only : goal.returns-then-is_empty-clause-only
 returns-then-is_empty-clause-only c = λ tree is.
     one_expr (kinds c.args.tokens.now) _ tree
-    (all-read (kinds c.args.tokens.now) _ _ (rw c.in-Some.is at c.in_ok-expr.ensures.comes) (none-left c.in-Some.rest.now c.if-is_empty.ensures)) is
+    (all-read (kinds c.args.tokens.now) _ _ (rw c.in-Some.is at c.in_ok-expr.ensures.comes) (
+    none-left c.in-Some.rest.now c.if-is_empty.ensures)) is
 
 pub returns-else-is_empty-clause-found : goal.returns-else-is_empty-clause-found
 returns-else-is_empty-clause-found c = λ tree is.

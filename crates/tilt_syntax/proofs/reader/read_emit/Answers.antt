@@ -1,12 +1,6 @@
-use Rattle.std.proofs.Common.{◌≡◌, ℤ, List, Option, refl}
-use Rattle.tilt_lexer.specs.declared.mark.Mark.TheVariants as mark
-use Rattle.tilt_lexer.specs.declared.token.Tok.{Tok}
-use Rattle.tilt_lexer.specs.declared.token.Tok.TheVariants.{Mark as Sign}
-use Rattle.tilt_syntax.specs.Descent.{Ask, Reading, done, met, missed, found, none, expect}
-use Rattle.tilt_syntax.specs.Statements.{domain_plan, end_plan, period_plan}
-use Rattle.tilt_syntax.specs.Tree.{Input, Let, Emit}
-use Rattle.tilt_syntax.specs.declared.level.Level.TheVariants.{Choice}
-use Rattle.tilt_syntax.proofs.Descending.{name-comes, name-none, end-comes, end-none}
+use Rattle.std.proofs.Common.{refl}
+use Rattle.tilt_syntax.specs.Descent.{done, met, missed, found, none}
+use Rattle.tilt_syntax.proofs.Descending.{end-comes, end-none}
 use Rattle.tilt_syntax.proofs.reader.read_emit.Goals as goal
 
 pub returns-in_default : goal.returns-in_default
@@ -22,12 +16,15 @@ returns-in_default-span c = λ behind.
 
 pub returns-in_default-period : goal.returns-in_default-period
 returns-in_default-period c = λ behind.
-    found (rw c.in-Some.is at c.in_ok-expr.ensures.comes) (met c.in-Some-behind_key.ensures.front (c.in-Some-span.ensures.comes _ _ (c.in_default-period.ensures.comes _)))
+    found (rw c.in-Some.is at c.in_ok-expr.ensures.comes) (met c.in-Some-behind_key.ensures.front (c.in-Some-span.ensures.comes _ _ (
+    c.in_default-period.ensures.comes _)))
 
 pub returns-then-not-is_end : goal.returns-then-not-is_end
 returns-then-not-is_end c = λ behind.
-    found (rw c.in-Some.is at c.in_ok-expr.ensures.comes) (met c.in-Some-behind_key.ensures.front (c.in-Some-span.ensures.comes _ _ (c.in-Some-period.ensures.comes _ _ (end-none _ _ (λ e. (let at_end = c.if-not-is_end.ensures.1 e in cc))))))
+    found (rw c.in-Some.is at c.in_ok-expr.ensures.comes) (met c.in-Some-behind_key.ensures.front (c.in-Some-span.ensures.comes _ _ (
+    c.in-Some-period.ensures.comes _ _ (end-none _ _ (λ e. (let at_end = c.if-not-is_end.ensures.1 e in cc))))))
 
 pub returns : goal.returns
 returns c = λ behind r h.
-    found (rw c.in-Some.is at c.in_ok-expr.ensures.comes) (met c.in-Some-behind_key.ensures.front (c.in-Some-span.ensures.comes _ _ (c.in-Some-period.ensures.comes _ _ (end-comes _ _ r (c.if-not-is_end.ensures.0 refl) h))))
+    found (rw c.in-Some.is at c.in_ok-expr.ensures.comes) (met c.in-Some-behind_key.ensures.front (c.in-Some-span.ensures.comes _ _ (
+    c.in-Some-period.ensures.comes _ _ (end-comes _ _ r (c.if-not-is_end.ensures.0 refl) h))))

@@ -8,17 +8,18 @@ use Rattle.tilt_syntax.proofs.reader.read_statement.Goals as goal
 
 -- an answer to what stands behind the first word is one to the statement
 as_statement : {E : Type 0} (result : Result (Option Statement) E) (p q : (StatementTree → Plan) → Plan)
-  → ((behind : StatementTree → Plan) (r : Option Found) → Comes (p behind) r → Comes (q behind) r)
-  → IfOk result (λ found. MatchOption found ((behind : StatementTree → Plan) → Comes (p behind) None)
+    → ((behind : StatementTree → Plan) (r : Option Found) → Comes (p behind) r → Comes (q behind) r)
+    → IfOk result (λ found. MatchOption found ((behind : StatementTree → Plan) → Comes (p behind) None)
     (λ s. (behind : StatementTree → Plan) (r : Option Found) → Comes (behind (statement_tree s)) r → Comes (p behind) r))
-  → IfOk result (λ found. MatchOption found ((behind : StatementTree → Plan) → Comes (q behind) None)
+    → IfOk result (λ found. MatchOption found ((behind : StatementTree → Plan) → Comes (q behind) None)
     (λ s. (behind : StatementTree → Plan) (r : Option Found) → Comes (behind (statement_tree s)) r → Comes (q behind) r))
 as_statement (Ok None) p q same h = λ behind. same behind None (h behind)
 as_statement (Ok (Some s)) p q same h = λ behind r k. same behind r (h behind r k)
 as_statement (Err e) p q same h = h
 
 pub returns-in-Some : goal.returns-in-Some
-returns-in-Some c = as_statement c.read_input.result (input_plan (kinds c.in-Some.behind.now)) (statement_plan (kinds c.args.tokens.now))
+returns-in-Some c =
+    as_statement c.read_input.result (input_plan (kinds c.in-Some.behind.now)) (statement_plan (kinds c.args.tokens.now))
     (λ behind r h. met c.in-Some.ensures.front h) c.read_input.ensures
 
 pub returns-in-Some-behind_key : goal.returns-in-Some-behind_key
@@ -29,7 +30,8 @@ returns-in-Some-behind_key c =
 pub returns-in-Some-behind_key-2 : goal.returns-in-Some-behind_key-2
 returns-in-Some-behind_key-2 c =
     as_statement c.read_emit.result (emit_plan (kinds c.in-Some-behind_key-2.behind.now)) (statement_plan (kinds c.args.tokens.now))
-    (λ behind r h. missed c.in_default.ensures.front (missed c.in_default-behind_key.ensures.front (met c.in-Some-behind_key-2.ensures.front h)))
+    (λ behind r h. missed c.in_default.ensures.front (missed c.in_default-behind_key.ensures.front (
+    met c.in-Some-behind_key-2.ensures.front h)))
     c.read_emit.ensures
 
 pub returns-in-None : goal.returns-in-None
