@@ -1,9 +1,9 @@
 -- The names that the words bind, one after another.
-use Rattle.std.proofs.Common.{◌≡◌, inl, inr, ℕ, suc, true, List, [], ◌∷◌, ◌++◌, take, drop, refl, sym, ap, subst, ◌∙◌, arith, String, string_bytes, Option, Some, None, Contains, eqb}
+use Rattle.std.proofs.Common.{◌≡◌, inl, inr, ℕ, suc, true, List, [], ◌∷◌, ◌++◌, take, drop, refl, sym, ap, subst, ◌∙◌, arith, String, Option, Some, None, Contains, eqb}
 use Rattle.std.specs.declared.alloc.Global.{Global}
 use Rattle.std.specs.Str.{bytes_eq}
 use Rattle.std.proofs.lemmas.Bool.{cases_Bool, and_parts, false≢true, eqb-true}
-use Rattle.tilt_app.specs.Words.{Bind, bind_of, binds_of}
+use Rattle.tilt_app.specs.Words.{Bind, binds_of}
 use Rattle.tilt_app.specs.Inputs.{is_among, bound_names, first_unexpected, first_unbound, first_of_two, file_of, faulty_name}
 
 -- the first unexpected name is looked for behind this place, and those before it are the names before this place

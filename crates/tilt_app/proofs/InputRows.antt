@@ -1,10 +1,5 @@
 -- The inputs, one behind another.
-use Rattle.std.proofs.Common.{◌≡◌, ◌<◌, ◌+◌, Bool, true, false, if◌then◌else◌, List, [], ◌∷◌, ◌++◌, ℕ, zero, suc, length, get_or, Result, Ok, Err, refl, sym, ap, ◌∙◌, arith}
-use Rattle.std.specs.Str.{bytes_eq}
-use Rattle.std.proofs.lemmas.List.Elements.{Contains-get_or}
-use Rattle.std.proofs.lemmas.Slice.Eq.{bytes_eq-Decides}
-use Rattle.std.proofs.Math.ListN.{get_or-append}
-use Rattle.std.proofs.Math.Seq.{get_or-append_seam}
+use Rattle.std.proofs.Common.{◌≡◌, List, [], ◌∷◌, ◌++◌, ℕ, length, Result, Ok, Err, refl, sym, ap, ◌∙◌, arith}
 use Rattle.tilt_stream.specs.Snap.{Snapshot}
 use Rattle.tilt_app.specs.Outcome.{with_rows, input_read, inputs_read}
 use Rattle.tilt_app.specs.Report.{Reason}

@@ -2,12 +2,11 @@
 use Rattle.std.proofs.Common.{◌≡◌, inl, inr, ◌≢◌, ℕ, ◌+◌, ◌-◌, ◌==◌, ◌<◌, ◌≤◌, Bool, true, false, List, [], ◌∷◌, ◌++◌, length, get_or, take, drop, map, refl, sym, ap, subst, ◌∙◌, arith, one-add, codes, String, string_bytes, length-drop, append_assoc}
 use Rattle.std.specs.declared.alloc.Global.{Global}
 use Rattle.std.specs.List.{All, before_first, after_first, position_or_len, list_all}
-use Rattle.std.proofs.lemmas.Bool.{and_parts, cases_Bool, cases_lt, false≢true, or_left, eqb-true}
+use Rattle.std.proofs.lemmas.Bool.{and_parts, cases_Bool, cases_lt, false≢true, eqb-true}
 use Rattle.std.proofs.lemmas.List.{take_at, drop_at, length_push, take_rest}
 use Rattle.std.proofs.lemmas.List.Elements.{All-cons, All-head, All-tail, All-nil}
 use Rattle.std.proofs.lemmas.List.Sums.{split_at_first, passes_at_first}
-use Rattle.std.specs.Char.{is_ascii_digit}
-use Rattle.tilt_lexer.specs.Word.{IsWord, begins_word, goes_on_word}
+use Rattle.tilt_lexer.specs.Word.{IsWord, goes_on_word}
 use Rattle.tilt_lexer.proofs.Fronts.{word_goes_on}
 use Rattle.tilt_app.specs.Words.{Bind, IsBind, AreBinds, IsRun, IsCommand, bind_of, binds_of, bind_text, texts}
 

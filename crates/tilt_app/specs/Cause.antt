@@ -4,7 +4,7 @@ use Rattle.tilt_outside.specs.Faults.{Rose}
 use Rattle.tilt_outside.specs.Written.{AppendsFront}
 use Rattle.tilt_app.specs.Load.{IsLoadFault}
 use Rattle.tilt_app.specs.Words.{IsCommand}
-use Rattle.tilt_app.specs.Report.{Reason, Report, usage, refusal, read_fault, write_fault, out_of_memory}
+use Rattle.tilt_app.specs.Report.{Report, usage, refusal, read_fault, write_fault, out_of_memory}
 use Rattle.tilt_app.specs.Outcome.{IsOutcome, printed, refused, HasTurn}
 
 -- Of the shelf: whether it tells what it holds, what each name holds, and its count of read faults before and after.

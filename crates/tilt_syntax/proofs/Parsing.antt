@@ -1,11 +1,11 @@
 -- The steps of the parser over plain tokens.
-use Rattle.std.proofs.Common.{◌≡◌, ◌≢◌, ◌<◌, ◌+◌, ◌⊎◌, inl, inr, ℕ, suc, List, [], ◌∷◌, ◌++◌, length, take, drop, map, All, Bool, true, false, not, IsTrue, ◌==◌, Option, Some, None, ℤ, refl, ap, ◌∙◌, ◌↔◌, append_assoc, append-nil, arith}
+use Rattle.std.proofs.Common.{◌≡◌, ◌≢◌, ◌<◌, ℕ, suc, List, [], ◌∷◌, ◌++◌, length, take, drop, map, All, Bool, true, false, not, IsTrue, ◌==◌, Option, Some, None, ℤ, refl, ap, ◌∙◌, ◌↔◌, append_assoc, append-nil, arith}
 use Rattle.std.proofs.lemmas.List.{length-map, map-append}
 use Rattle.std.proofs.lemmas.List.Elements.{All-map, recursion_from_All}
 use Rattle.tilt_lexer.specs.Tokens.{IsSound}
 use Rattle.tilt_lexer.specs.declared.token.Tok.{Tok}
 use Rattle.tilt_lexer.specs.declared.token.Token.{Token}
-use Rattle.tilt_syntax.specs.Query.{kinds, statements, IsInPlace, IsGood, AreGood, IsQueryOf, HasFault, too_long, no_statement, misplaced, FirstFault, here, later, IsRefused, too_many, no_tokens, faulty}
+use Rattle.tilt_syntax.specs.Query.{kinds, statements, IsInPlace, IsGood, AreGood}
 use Rattle.tilt_syntax.specs.Rest.{AreSound}
 use Rattle.tilt_syntax.specs.Cut.{first_length}
 use Rattle.tilt_syntax.specs.Descent.{Comes, Reading, plan_of}
@@ -18,9 +18,6 @@ use Rattle.tilt_syntax.proofs.Cutting.{cut}
 use Rattle.tilt_syntax.proofs.Sound.{fits}
 use Rattle.tilt_syntax.proofs.Steady.{one_answer}
 use Rattle.tilt_syntax.proofs.Whole.{whole, same_rest}
-use Rattle.tilt_syntax.specs.declared.fault.SyntaxFault.{SyntaxFault}
-use Rattle.tilt_syntax.specs.declared.fault.SyntaxFault.TheVariants as fault
-use Rattle.tilt_syntax.proofs.Unique.{one_statement}
 
 pub all-sound : (ts : List Token) → All (λ token. IsSound token.kind) ts → All IsSound (kinds ts)
 all-sound ts h = All-map IsSound (λ token. token.kind) ts h

@@ -1,5 +1,5 @@
 -- Tokens are one expression at most, one statement, one query.
-use Rattle.std.proofs.Common.{◌≡◌, List, [], ◌∷◌, Option, Some, refl}
+use Rattle.std.proofs.Common.{◌≡◌, List, [], ◌∷◌, Some, refl}
 use Rattle.tilt_lexer.specs.declared.token.Tok.{Tok}
 use Rattle.tilt_syntax.specs.Descent.{done}
 use Rattle.tilt_syntax.specs.Grammar.{IsExpr, IsStatement}

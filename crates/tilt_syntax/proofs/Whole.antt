@@ -6,7 +6,6 @@ use Rattle.tilt_syntax.specs.Grammar.{IsExpr}
 use Rattle.tilt_syntax.specs.Tree.{ExprTree}
 use Rattle.tilt_syntax.specs.declared.level.Level.TheVariants.{Choice}
 use Rattle.tilt_syntax.proofs.Complete.{complete, stops-end}
-use Rattle.tilt_syntax.proofs.Steady.{one_answer}
 
 -- reading the whole tokens finds the expression that they are, and leaves nothing
 pub whole : (ts : List Tok) (e : ExprTree) → IsExpr 0 ts e → Comes (plan_of (Reading Choice ts)) (Some (record { tree = e; rest = [] }))

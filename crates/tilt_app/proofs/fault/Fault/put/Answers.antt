@@ -1,4 +1,4 @@
-use Rattle.std.proofs.Common.{◌++◌, codes, append_assoc}
+use Rattle.std.proofs.Common.{◌++◌, codes}
 use Rattle.tilt_outside.proofs.Puts.{puts-short}
 use Rattle.tilt_app.specs.Report.{report_of, words_of}
 use Rattle.tilt_app.proofs.fault.Fault.put.Goals as goal
