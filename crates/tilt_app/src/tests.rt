@@ -322,6 +322,12 @@ fn series_of(alloc: Global, rows: &str) -> Result<Vec<u8>, Fail> {
     Ok(bytes)
 }
 
+// The end over these files of the query, of x and of y. The words say which of them are bound.
+fn end_on(alloc: Global, words: &str, query: &[u8], x: &[u8], y: &[u8]) -> Result<End, Fail> {
+    let files = [("q", query), ("x", x), ("y", y)];
+    end_of(alloc, Case::sound(words, &files))
+}
+
 #[test]
 fn the_meaning_of_a_query_is_printed(rt: HostRuntime) -> Result<(), Fail> {
     for (i, (query, x, y, out)) in MEANINGS.iter().enumerate() {
@@ -333,12 +339,7 @@ fn the_meaning_of_a_query_is_printed(rt: HostRuntime) -> Result<(), Fail> {
         };
         let y = series_of(rt.alloc(), y)?;
         let out = series_of(rt.alloc(), out)?;
-        let files = [
-            ("q", query.as_bytes()),
-            ("x", x.as_slice()),
-            ("y", y.as_slice()),
-        ];
-        let end = end_of(rt.alloc(), Case::sound(words, &files))?;
+        let end = end_on(rt.alloc(), words, query.as_bytes(), &x, &y)?;
         assert_end(&rt, &end, 0, out.as_slice(), b"", i);
     }
     Ok(())
