@@ -1,3 +1,4 @@
+pub mod Constancy
 pub mod Order
 pub mod Cut
 pub mod Filled

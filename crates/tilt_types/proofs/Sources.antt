@@ -4,7 +4,7 @@ use Rattle.std.proofs.lemmas.List.{length-map}
 use Rattle.tilt_stream.specs.Snap.{Snapshot}
 use Rattle.tilt_stream.specs.Stream.{Stream, stream_of}
 use Rattle.tilt_types.specs.Meaning.{source_of, definition_of, with_definitions, sources}
-use Rattle.tilt_types.specs.Pointwise.{nothing}
+use Rattle.tilt_stream.specs.Pointwise.{nothing}
 use Rattle.tilt_types.specs.CoreTree.{Definition}
 
 source_of-front : (xs : List Stream) (x : Stream) (i : ℕ) → i < length xs → source_of (xs ++ x ∷ []) i ≡ source_of xs i

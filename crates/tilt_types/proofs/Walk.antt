@@ -8,8 +8,8 @@ use Rattle.tilt_stream.proofs.Cut.{int_gap_is, int_gap_none}
 use Rattle.tilt_stream.specs.Snap.{Snapshot}
 use Rattle.tilt_stream.specs.Snapshots.{snapshot_on, cut_behind}
 use Rattle.tilt_stream.specs.Stream.{Stream}
-use Rattle.tilt_types.specs.Domain.{some_mark}
-use Rattle.tilt_types.specs.Window.{met_behind}
+use Rattle.tilt_stream.specs.Domain.{some_mark}
+use Rattle.tilt_stream.specs.Window.{met_behind}
 
 numbers-cons : (cell : Option ℤ) (cells : List (Option ℤ)) → numbers (cell ∷ cells) ≡ numbers (cell ∷ []) ++ numbers cells
 numbers-cons None cells = refl

@@ -1,12 +1,8 @@
-pub mod Agreement
 pub mod Checked
 pub mod Core
 pub mod CoreTree
-pub mod Domain
 pub mod Evaluate
 pub mod Meaning
 pub mod Needs
-pub mod Pointwise
 pub mod Types
 pub mod WellFormed
-pub mod Window

@@ -6,11 +6,12 @@ use Rattle.tilt_base.specs.Grid.{IsGrid}
 use Rattle.tilt_stream.specs.Snap.{Snapshot}
 use Rattle.tilt_stream.specs.Snapshots.{snapshots}
 use Rattle.tilt_stream.specs.Stream.{Stream, stream_of}
+use Rattle.tilt_syntax.specs.declared.span.Span.{Span}
 use Rattle.tilt_types.specs.Core.{CoreParts, domain_of, emitted_number}
 use Rattle.tilt_types.specs.CoreTree.{Const, Read, Reduce, CoreTree, Definition}
-use Rattle.tilt_types.specs.Domain.{on_grid, within}
-use Rattle.tilt_types.specs.Pointwise.{constant, nothing, shifted, lifted1, lifted2, branched}
-use Rattle.tilt_types.specs.Window.{windowed}
+use Rattle.tilt_stream.specs.Domain.{on_grid, restricted}
+use Rattle.tilt_stream.specs.Pointwise.{constant, nothing, shifted, lifted1, lifted2, branched}
+use Rattle.tilt_stream.specs.Window.{windowed}
 
 -- the stream of a source; null where no source has the number
 abbrev pub source_of : List Stream → ℕ → Stream
@@ -26,6 +27,11 @@ body_of xs (Leaf (Reduce reducer source from to)) = windowed reducer from to (so
 body_of xs (One op a) = lifted1 op (body_of xs a)
 body_of xs (Two op a b) = lifted2 op (body_of xs a) (body_of xs b)
 body_of xs (If c a b) = branched (body_of xs c) (body_of xs a) (body_of xs b)
+
+-- a stream, restricted to a span where one is written
+abbrev pub within : Option Span → Stream → Stream
+within None x = x
+within (Some span) x = restricted span.start span.end x
 
 -- a definition over sources: its body, taken on the grid first and then restricted
 abbrev pub definition_of : List Stream → Definition → Stream

@@ -5,7 +5,7 @@ ghost use Rattle.tilt_base.specs.Reduce.{numbers};
 ghost use Rattle.tilt_types.specs.CoreTree.{tree_of};
 ghost use Rattle.tilt_types.specs.Evaluate.{IsNear};
 ghost use Rattle.tilt_types.specs.Meaning.{body_of, definition_of, meaning, sources};
-ghost use Rattle.tilt_types.specs.Window.{met};
+ghost use Rattle.tilt_stream.specs.Window.{met};
 
 use crate::definition::Def;
 use crate::marks::source_mark;

@@ -1,7 +1,7 @@
 // A law of the meaning.
 ghost use Rattle.std.specs.Prelude.{List, ℕ};
 ghost use Rattle.tilt_stream.specs.Snap.{Snapshot};
-ghost use Rattle.tilt_types.specs.Agreement.{ChangesOnlyAtMarks};
+ghost use Rattle.tilt_stream.specs.Agreement.{ChangesOnlyAtMarks};
 ghost use Rattle.tilt_types.specs.Core.{CoreParts, IsCore};
 ghost use Rattle.tilt_types.specs.CoreTree.{Definition};
 ghost use Rattle.tilt_types.specs.Meaning.{AreGrids, meaning};

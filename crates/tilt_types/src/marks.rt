@@ -1,7 +1,7 @@
 // The marks of a query's sources, at one tick.
 ghost use Rattle.std.specs.Prelude.{◌≡◌, ◌+◌, ◌*◌, ◌^◌, ◌<◌, ◌≤◌, length};
 ghost use Rattle.tilt_types.specs.CoreTree.{tree_of};
-ghost use Rattle.tilt_types.specs.Domain.{on_grid, some_mark};
+ghost use Rattle.tilt_stream.specs.Domain.{on_grid, some_mark};
 ghost use Rattle.tilt_types.specs.Evaluate.{IsNear};
 ghost use Rattle.tilt_types.specs.Meaning.{body_of, definition_of, meaning, sources};
 

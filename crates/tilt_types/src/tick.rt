@@ -2,7 +2,7 @@
 ghost use Rattle.std.specs.Prelude.{◌≡◌, pos, ◌+ℤ◌, ◌^◌, ◌≤ℤ◌, neg_ℤ};
 ghost use Rattle.std.specs.Ordering.{int_eq};
 ghost use Rattle.tilt_base.specs.Grid.{ceil, is_point};
-ghost use Rattle.tilt_types.specs.Domain.{lies_in};
+ghost use Rattle.tilt_stream.specs.Domain.{lies_in};
 
 use tilt_base::Grid;
 use tilt_syntax::Span;
@@ -16,7 +16,7 @@ pub fn follows(before: i64, tick: i128) -> bool
 
 /// Whether the tick lies in the span.
 pub fn lies_in(span: Span, tick: i128) -> bool
-    ensures { result ≡ lies_in span tick }
+    ensures { result ≡ lies_in span.start span.end tick }
 {
     i128::from(span.start) < tick && tick <= i128::from(span.end)
 }

@@ -6,7 +6,7 @@ use Rattle.tilt_stream.specs.Snap.{Snapshot}
 use Rattle.tilt_stream.specs.Stream.{Stream, cell_at}
 use Rattle.tilt_types.proofs.Sources.{source_of-input, source_of-definition, source_of-none}
 use Rattle.tilt_types.specs.Meaning.{definition_of, sources, meaning}
-use Rattle.tilt_types.specs.Window.{met}
+use Rattle.tilt_stream.specs.Window.{met}
 use Rattle.tilt_types.proofs.Weight.{weight-take}
 use Rattle.tilt_types.proofs.Walk.{met-more, met-same}
 use Rattle.tilt_types.proofs.cells.+cells.Goals as goal

@@ -3,7 +3,7 @@ use Rattle.std.specs.Int.{int_gap}
 use Rattle.std.specs.Ordering.{int_eq}
 use Rattle.tilt_base.specs.Reduce.{numbers}
 use Rattle.tilt_types.specs.Meaning.{meaning}
-use Rattle.tilt_types.specs.Window.{met, met_behind}
+use Rattle.tilt_stream.specs.Window.{met, met_behind}
 use Rattle.tilt_types.specs.CoreTree.{nodes, tree_of}
 use Rattle.tilt_types.proofs.Weight.{weight}
 use Rattle.tilt_types.proofs.cells.+cells.Given as goal

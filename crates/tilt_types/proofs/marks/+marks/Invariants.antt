@@ -1,5 +1,5 @@
 use Rattle.std.proofs.Common.{◌≡◌, ◌+◌, ◌-◌, pos, ◌+ℤ◌}
-use Rattle.tilt_types.specs.Domain.{some_mark}
+use Rattle.tilt_stream.specs.Domain.{some_mark}
 use Rattle.tilt_types.specs.Meaning.{body_of, sources}
 use Rattle.tilt_types.specs.CoreTree.{nodes, tree_of}
 use Rattle.tilt_types.proofs.Weight.{weight}
