@@ -11,14 +11,17 @@ use Rattle.tilt_syntax.specs.Query.{IsQueryOf, IsRefused, kinds}
 use Rattle.tilt_syntax.specs.Tree.{StatementTree}
 use Rattle.tilt_syntax.specs.declared.fault.SyntaxFault.{SyntaxFault}
 use Rattle.tilt_syntax.specs.declared.fault.SyntaxFault.TheVariants as syntax
+use Rattle.tilt_bounds.specs.Margins.{IsTold, margins_of}
+use Rattle.tilt_bounds.specs.declared.fault.ReachFault.{ReachFault}
+use Rattle.tilt_bounds.specs.declared.fault.ReachFault.TheVariants as reach
 use Rattle.tilt_types.specs.Checked.{checked}
 use Rattle.tilt_types.specs.Core.{CoreParts}
 use Rattle.tilt_types.specs.declared.fault.CheckFault.{CheckFault}
 use Rattle.tilt_types.specs.declared.fault.CheckFault.TheVariants as check
 use Rattle.tilt_app.specs.Inputs.{faulty_name}
 use Rattle.tilt_app.specs.Load.{IsLoadFault, IsTooLong, IsNameFault, HasInputTurn}
-use Rattle.tilt_app.specs.Outcome.{RefusesQuery, long, no_tokens, no_statements, ill_formed, TakesQuery, IsOutcome, no_query, no_names, no_series, refused, HasTurn, query_turn, input_turn, inputs_read}
-use Rattle.tilt_app.specs.Report.{Reason, Report, usage, refusal, read_fault, write_fault, out_of_memory, report_of_place, report_of_syntax, report_of_check}
+use Rattle.tilt_app.specs.Outcome.{RefusesQuery, no_core, far, long, no_tokens, no_statements, ill_formed, HasCore, TakesQuery, IsOutcome, no_query, no_names, no_series, refused, HasTurn, query_turn, input_turn, inputs_read}
+use Rattle.tilt_app.specs.Report.{Reason, Report, usage, refusal, read_fault, write_fault, out_of_memory, report_of_place, report_of_syntax, report_of_check, report_of_reach}
 use Rattle.tilt_app.specs.Words.{Bind, IsRun}
 
 -- a count that rose later rose
@@ -38,7 +41,7 @@ load_fault_weaker tells tells' is is' turn turn' b a b' a' told more next out_of
 
 -- a file that is too long is no query
 pub too_long_refuses : (name file : List ℕ) (why : Reason) → IsTooLong name file why → RefusesQuery name file why
-too_long_refuses name file why is = rw is.0 (long is.1)
+too_long_refuses name file why is = rw is.0 (no_core (long is.1))
 
 -- a report that is a refusal or wants memory, where each refusal refuses the query
 loads_by : (name bytes : List ℕ) (report : Report) → (report ≡ out_of_memory) ⊎ ((why : Reason) × (report ≡ refusal why)) → ((why : Reason) → report ≡ refusal why → RefusesQuery name bytes why) → IsLoadFault ⊤ (RefusesQuery name bytes) (λ _. ⊥) 0 0 report
@@ -68,18 +71,24 @@ check_report check.OutOfMemory = inl refl
 -- a faulty place refuses the query, unless it is want of memory
 pub place_refuses : (name bytes : List ℕ) (fault : LexFault) → length bytes ≤ FILE → (fault ≢ lexical.OutOfMemory → IsFaultyAt 0 bytes fault) → IsLoadFault ⊤ (RefusesQuery name bytes) (λ _. ⊥) 0 0 (report_of_place fault)
 place_refuses name bytes fault short faulty =
-    loads_by name bytes (report_of_place fault) (place_report fault) (λ why is. no_tokens fault short (faulty (λ same. let e = ap report_of_place same in cc)) is)
+    loads_by name bytes (report_of_place fault) (place_report fault) (λ why is. no_core (no_tokens fault short (faulty (λ same. let e = ap report_of_place same in cc)) is))
 
 -- tokens that are no query refuse it
 pub syntax_refuses : (name bytes : List ℕ) (tokens : List Token) (fault : SyntaxFault) → length bytes ≤ FILE → AreTokens 0 bytes tokens → (fault ≢ syntax.OutOfMemory → IsRefused (kinds tokens) fault) → IsLoadFault ⊤ (RefusesQuery name bytes) (λ _. ⊥) 0 0 (report_of_syntax fault)
 syntax_refuses name bytes tokens fault short lexed faulty =
-    loads_by name bytes (report_of_syntax fault) (syntax_report fault) (λ why is. no_statements tokens fault short lexed (faulty (λ same. let e = ap report_of_syntax same in cc)) is)
+    loads_by name bytes (report_of_syntax fault) (syntax_report fault) (λ why is. no_core (no_statements tokens fault short lexed (faulty (λ same. let e = ap report_of_syntax same in cc)) is))
 
 -- a query that isn't well formed is refused
 pub check_refuses : (name bytes : List ℕ) (tokens : List Token) (query : List StatementTree) (fault : CheckFault) → length bytes ≤ FILE → AreTokens 0 bytes tokens → IsQueryOf (kinds tokens) query → (fault ≡ check.OutOfMemory) ⊎ (checked query ≡ Err fault) → IsLoadFault ⊤ (RefusesQuery name bytes) (λ _. ⊥) 0 0 (report_of_check fault)
 check_refuses name bytes tokens query fault short lexed parsed (inl memory) = rw memory tt
 check_refuses name bytes tokens query fault short lexed parsed (inr is_fault) =
-    loads_by name bytes (report_of_check fault) (check_report fault) (λ why is. ill_formed tokens query fault short lexed parsed is_fault is)
+    loads_by name bytes (report_of_check fault) (check_report fault) (λ why is. no_core (ill_formed tokens query fault short lexed parsed is_fault is))
+
+-- a query that looks too far is refused
+pub reach_refuses : (name bytes : List ℕ) (core : CoreParts) (fault : ReachFault) → HasCore bytes core → IsTold (margins_of core) fault
+    → IsLoadFault ⊤ (RefusesQuery name bytes) (λ _. ⊥) 0 0 (report_of_reach fault)
+reach_refuses name bytes core (reach.TooFar back ahead) has is = λ _. far core (record { back = back; ahead = ahead }) has is
+reach_refuses name bytes core reach.OutOfMemory has is = tt
 
 module _ (tells : Type 0) (words : List (List ℕ)) (files : List ℕ → List ℕ) (query : List ℕ) (binds : List Bind) (run : IsRun words query binds) (before after : ℕ) where
   -- why nothing is printed

@@ -15,10 +15,12 @@ use Rattle.tilt_syntax.specs.declared.fault.SyntaxFault.{SyntaxFault}
 use Rattle.tilt_types.specs.Checked.{checked}
 use Rattle.tilt_types.specs.Core.{CoreParts}
 use Rattle.tilt_types.specs.Meaning.{output_of}
+use Rattle.tilt_types.specs.Needs.{Need}
 use Rattle.tilt_types.specs.declared.fault.CheckFault.{CheckFault}
+use Rattle.tilt_bounds.specs.Margins.{MarginsParts, margins_of}
 use Rattle.tilt_app.specs.Inputs.{faulty_name, file_of}
 use Rattle.tilt_app.specs.Words.{Bind, IsRun, IsCommand}
-use Rattle.tilt_app.specs.Report.{Reason, Report, usage, refusal, input_names, file_too_long, bad_series, report_of_place, report_of_syntax, report_of_check}
+use Rattle.tilt_app.specs.Report.{Reason, Report, usage, refusal, input_names, file_too_long, bad_series, too_far, report_of_place, report_of_syntax, report_of_check}
 
 -- a text, or a refusal
 pub data Outcome : Type 0 where
@@ -26,7 +28,7 @@ pub data Outcome : Type 0 where
   refused : Report → Outcome
 
 -- the text of the query file is no longer than a file may be, its tokens are a query, and that is well formed and has this core
-pub record TakesQuery (bytes : List ℕ) (core : CoreParts) : Type 0 where
+pub record HasCore (bytes : List ℕ) (core : CoreParts) : Type 0 where
   pub short : length bytes ≤ FILE
   pub tokens : List Token
   pub lexed : AreTokens 0 bytes tokens
@@ -34,14 +36,25 @@ pub record TakesQuery (bytes : List ℕ) (core : CoreParts) : Type 0 where
   pub parsed : IsQueryOf (kinds tokens) query
   pub accepted : checked query ≡ Ok core
 
--- why the query file of a name is refused: it is too long, has a faulty place, its tokens are no query, or the query isn't well formed
-pub data RefusesQuery (name bytes : List ℕ) : Reason → Type 0 where
-  long : FILE < length bytes → RefusesQuery name bytes (file_too_long name)
-  no_tokens : {why : Reason} (fault : LexFault) → length bytes ≤ FILE → IsFaultyAt 0 bytes fault → report_of_place fault ≡ refusal why → RefusesQuery name bytes why
+-- the query has this core, and looks no farther than a query may
+pub record TakesQuery (bytes : List ℕ) (core : CoreParts) : Type 0 where
+  pub has_core : HasCore bytes core
+  pub margins : MarginsParts
+  pub reach : margins_of core ≡ Ok margins
+
+-- why the query file of a name has no core: it is too long, has a faulty place, its tokens are no query, or the query isn't well formed
+pub data HasNoCore (name bytes : List ℕ) : Reason → Type 0 where
+  long : FILE < length bytes → HasNoCore name bytes (file_too_long name)
+  no_tokens : {why : Reason} (fault : LexFault) → length bytes ≤ FILE → IsFaultyAt 0 bytes fault → report_of_place fault ≡ refusal why → HasNoCore name bytes why
   no_statements : {why : Reason} (tokens : List Token) (fault : SyntaxFault) → length bytes ≤ FILE → AreTokens 0 bytes tokens → IsRefused (kinds tokens) fault → report_of_syntax fault ≡ refusal why
-      → RefusesQuery name bytes why
+      → HasNoCore name bytes why
   ill_formed : {why : Reason} (tokens : List Token) (query : List StatementTree) (fault : CheckFault) → length bytes ≤ FILE → AreTokens 0 bytes tokens → IsQueryOf (kinds tokens) query
-      → checked query ≡ Err fault → report_of_check fault ≡ refusal why → RefusesQuery name bytes why
+      → checked query ≡ Err fault → report_of_check fault ≡ refusal why → HasNoCore name bytes why
+
+-- why the query file of a name is refused: it has no core, or the query looks too far
+pub data RefusesQuery (name bytes : List ℕ) : Reason → Type 0 where
+  no_core : {why : Reason} → HasNoCore name bytes why → RefusesQuery name bytes why
+  far : (core : CoreParts) (widest : Need) → HasCore bytes core → margins_of core ≡ Err widest → RefusesQuery name bytes (too_far widest.back widest.ahead)
 
 -- no bound but the order of the rows
 abbrev pub no_bounds : Bounds

@@ -1,6 +1,6 @@
 -- What is told where a command isn't done: the status that the program ends with, and one line.
-use Rattle.std.specs.Prelude.{ℕ, List, ◌++◌, codes}
-use Rattle.std.specs.Fmt.{decimal}
+use Rattle.std.specs.Prelude.{ℕ, ℤ, List, ◌++◌, codes}
+use Rattle.std.specs.Fmt.{decimal, signed_decimal}
 use Rattle.tilt_lexer.specs.declared.fault.LexFault.{LexFault}
 use Rattle.tilt_lexer.specs.declared.fault.LexFault.TheVariants as lexical
 use Rattle.tilt_series.specs.declared.fault.SeriesFault.{SeriesFault}
@@ -9,6 +9,8 @@ use Rattle.tilt_syntax.specs.declared.fault.SyntaxFault.{SyntaxFault}
 use Rattle.tilt_syntax.specs.declared.fault.SyntaxFault.TheVariants as syntax
 use Rattle.tilt_types.specs.declared.fault.CheckFault.{CheckFault}
 use Rattle.tilt_types.specs.declared.fault.CheckFault.TheVariants as check
+use Rattle.tilt_bounds.specs.declared.fault.ReachFault.{ReachFault}
+use Rattle.tilt_bounds.specs.declared.fault.ReachFault.TheVariants as reach
 use Rattle.tilt_app.specs.declared.refusal.Refusal.{Refusal}
 use Rattle.tilt_app.specs.declared.refusal.Refusal.TheVariants as code
 use Rattle.tilt_app.specs.declared.refusal.StatementFault.{StatementFault}
@@ -16,7 +18,7 @@ use Rattle.tilt_app.specs.declared.refusal.StatementFault.TheVariants as stateme
 use Rattle.tilt_app.specs.declared.fault.Fault.{Fault}
 use Rattle.tilt_app.specs.declared.fault.Fault.TheVariants.{Usage, Refused, ReadFault, WriteFault, OutOfMemory}
 
--- why words that are a command are refused, with the name of the file or of the input that it is about, the place or the statement
+-- why words that are a command are refused, with the name of the file or of the input that it is about, the place, the statement, or how far the query looks back and ahead
 pub data Reason : Type 0 where
   input_names : List ℕ → Reason
   file_too_long : List ℕ → Reason
@@ -25,6 +27,7 @@ pub data Reason : Type 0 where
   big_number : ℕ → Reason
   too_many_statements : Reason
   bad_statement : StatementFault → ℕ → Reason
+  too_far : ℤ → ℤ → Reason
 
 -- why a command isn't done
 pub data Report : Type 0 where
@@ -44,6 +47,7 @@ reason_of (code.BadByte at) = bad_byte at
 reason_of (code.BigNumber at) = big_number at
 reason_of code.TooManyStatements = too_many_statements
 reason_of (code.BadStatement fault n) = bad_statement fault n
+reason_of (code.TooFar back ahead) = too_far back ahead
 
 -- the report of a fault
 abbrev pub report_of : Fault → Report
@@ -75,6 +79,11 @@ report_of_check (check.TypeMismatch n) = refusal (bad_statement statement.TypeMi
 report_of_check (check.BadWindow n) = refusal (bad_statement statement.BadWindow n)
 report_of_check (check.BadDomain n) = refusal (bad_statement statement.BadDomain n)
 report_of_check check.OutOfMemory = out_of_memory
+
+-- the report of a query that has no margins
+abbrev pub report_of_reach : ReachFault → Report
+report_of_reach (reach.TooFar back ahead) = refusal (too_far back ahead)
+report_of_reach reach.OutOfMemory = out_of_memory
 
 -- the status that the program ends with
 abbrev pub status_of : Report → ℕ
@@ -137,6 +146,7 @@ reason_words (bad_byte at) = codes "20 bad byte at " ++ decimal at
 reason_words (big_number at) = codes "21 big number at " ++ decimal at
 reason_words too_many_statements = codes "22 too many statements"
 reason_words (bad_statement fault n) = statement_front fault ++ decimal n ++ statement_words fault
+reason_words (too_far back ahead) = codes "31 too far: back " ++ signed_decimal back ++ codes " ahead " ++ signed_decimal ahead
 
 -- the number and the words of a fault
 abbrev pub words_of : Report → List ℕ

@@ -33,9 +33,9 @@ pub fn answer<'a, S: Shelf>(
     let Some(command) = read_words(words) else {
         return Err(Fault::Usage);
     };
-    let core = load_query(alloc, shelf, command.query)?;
-    let inputs = core.inputs();
+    let query = load_query(alloc, shelf, command.query)?;
+    let inputs = query.core.inputs();
     check_names(inputs, command.binds)?;
     let rows = load_inputs(alloc, shelf, inputs, command.binds)?;
-    Ok(evaluate_query(alloc, &core, &rows)?)
+    Ok(evaluate_query(alloc, &query.core, &rows)?)
 }

@@ -5,6 +5,7 @@ ghost use Rattle.tilt_outside.specs.Written.{Puts};
 use crate::line::{put_named, put_text};
 use crate::refusal::{Refusal, StatementFault};
 use std::alloc::AllocError;
+use tilt_bounds::ReachFault;
 use tilt_lexer::LexFault;
 use tilt_outside::{Failed, Sink};
 use tilt_syntax::SyntaxFault;
@@ -99,6 +100,20 @@ impl From<CheckFault> for Fault<'_> {
                 bad_statement(StatementFault::BadDomain, statement)
             }
             CheckFault::OutOfMemory => Fault::OutOfMemory,
+        }
+    }
+}
+
+impl From<ReachFault> for Fault<'_> {
+    ghost use Rattle.std.specs.Prelude.{◌≡◌};
+    ghost use Rattle.tilt_app.specs.Report.{report_of, report_of_reach};
+
+    ghost from_gives = { λ reach fault. report_of fault ≡ report_of_reach reach };
+
+    fn from(reach: ReachFault) -> Self {
+        match reach {
+            ReachFault::TooFar { back, ahead } => Fault::Refused(Refusal::TooFar { back, ahead }),
+            ReachFault::OutOfMemory => Fault::OutOfMemory,
         }
     }
 }

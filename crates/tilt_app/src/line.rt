@@ -1,6 +1,6 @@
 // Pieces of the line that tells of a fault. None takes memory.
 ghost use Rattle.std.specs.Prelude.{◌++◌, ℕ};
-ghost use Rattle.std.specs.Fmt.{decimal};
+ghost use Rattle.std.specs.Fmt.{decimal, signed_decimal};
 ghost use Rattle.tilt_outside.specs.Written.{Puts};
 
 use itoa::Buffer;
@@ -30,6 +30,16 @@ pub fn put_counted<E: Sink>(err: &mut E, text: &[u8], number: u64) -> Result<(),
     requires { (n : ℕ) → E.takes err.old n }
     ensures { Puts E.tells E.written E.faults E.takes err.old err.new
         (text.now ++ decimal number) result }
+{
+    let mut buffer = Buffer::new();
+    put_named(err, text, buffer.format(number).as_bytes())
+}
+
+/// Puts a text, and a number behind it that may have a sign.
+pub fn put_signed<E: Sink>(err: &mut E, text: &[u8], number: i128) -> Result<(), Failed>
+    requires { (n : ℕ) → E.takes err.old n }
+    ensures { Puts E.tells E.written E.faults E.takes err.old err.new
+        (text.now ++ signed_decimal number) result }
 {
     let mut buffer = Buffer::new();
     put_named(err, text, buffer.format(number).as_bytes())

@@ -1,6 +1,7 @@
 // The files that the words name, from the shelf to what they say.
 ghost use Rattle.std.specs.Prelude.{◌≡◌, ◌≤◌, ⊤, List, ℕ, Ok, Err, length, IfOk, IfErr};
 ghost use Rattle.tilt_base.specs.declared.limits.TheConstants.{FILE};
+ghost use Rattle.tilt_bounds.specs.Margins.{margins_of};
 ghost use Rattle.tilt_outside.specs.Reads.{OnlyReads};
 ghost use Rattle.tilt_app.specs.Outcome.{TakesQuery, RefusesQuery, input_read};
 ghost use Rattle.tilt_app.specs.Load.{IsLoadFault, IsTooLong};
@@ -10,6 +11,7 @@ use crate::fault::Fault;
 use crate::refusal::Refusal;
 use std::alloc::Global;
 use tilt_base::FILE;
+use tilt_bounds::{Margins, reach};
 use tilt_lexer::{Name, lex};
 use tilt_outside::{ReadAllFault, Shelf, read_all};
 use tilt_series::{ReadRowsFault, read_rows};
@@ -17,14 +19,22 @@ use tilt_stream::Rows;
 use tilt_syntax::parse;
 use tilt_types::{Core, check};
 
-/// The core of the query in the file of that name.
+/// A query that was accepted: its core, and how far it looks.
+#[derive(Drop)]
+pub struct LoadedQuery {
+    pub core: Core,
+    pub margins: Margins,
+}
+
+/// The query in the file of that name.
 pub fn load_query<'a, S: Shelf>(
     alloc: Global,
     shelf: &mut S,
     name: &'a str,
-) -> Result<Core, Fault<'a>>
+) -> Result<LoadedQuery, Fault<'a>>
     requires { S.lends name.now }
-    ensures taken { S.tells → IfOk result (λ core. TakesQuery (S.files shelf.old name.now) core) }
+    ensures taken { S.tells → IfOk result (λ query. TakesQuery (S.files shelf.old name.now) query.core) }
+    ensures margins { IfOk result (λ query. margins_of query.core ≡ Ok query.margins) }
     ensures fault { IfErr result (λ fault. IsLoadFault S.tells (RefusesQuery name.now (S.files shelf.old name.now))
         (λ which. which ≡ name.now) (S.read_faults shelf.old) (S.read_faults shelf.new) (report_of fault)) }
     ensures kept { S.read_faults shelf.old ≤ S.read_faults shelf.new }
@@ -34,16 +44,18 @@ pub fn load_query<'a, S: Shelf>(
     read_query(alloc, &bytes)
 }
 
-// The core of the query that bytes are, or why they are none.
-fn read_query<'a>(alloc: Global, bytes: &[u8]) -> Result<Core, Fault<'a>>
+// The query that bytes are, or why they are none.
+fn read_query<'a>(alloc: Global, bytes: &[u8]) -> Result<LoadedQuery, Fault<'a>>
     requires { length bytes.now ≤ FILE }
-    ensures core { IfOk result (λ core. TakesQuery bytes.now core) }
+    ensures taken { IfOk result (λ query. TakesQuery bytes.now query.core) }
+    ensures margins { IfOk result (λ query. margins_of query.core ≡ Ok query.margins) }
     ensures fault { (name : List ℕ) → IfErr result (λ fault. IsLoadFault ⊤ (RefusesQuery name bytes.now) (λ _. ⊥) 0 0 (report_of fault)) }
 {
     let tokens = lex(alloc, bytes)?;
     let query = parse(alloc, &tokens)?;
     let core = check(alloc, &query)?;
-    Ok(core)
+    let margins = reach(alloc, &core)?;
+    Ok(LoadedQuery { core, margins })
 }
 
 /// The rows of the input of a name in the file of another.

@@ -1,10 +1,10 @@
 // Why words that are a command are refused, and how it is told.
 ghost use Rattle.std.specs.Prelude.{◌≡◌, ◌++◌, ℕ, codes};
-ghost use Rattle.std.specs.Fmt.{decimal};
+ghost use Rattle.std.specs.Fmt.{decimal, signed_decimal};
 ghost use Rattle.tilt_outside.specs.Written.{Puts};
 ghost use Rattle.tilt_app.specs.Report.{series_number, series_words, statement_front, statement_words};
 
-use crate::line::{put_counted, put_named, put_text};
+use crate::line::{put_counted, put_named, put_signed, put_text};
 use tilt_lexer::Name;
 use tilt_outside::{Failed, Sink};
 use tilt_series::SeriesFault;
@@ -43,6 +43,13 @@ pub enum Refusal<'a> {
         fault: StatementFault,
         /// The number of the statement, counted from 1.
         statement: u32,
+    },
+    /// The query looks back or ahead farther than a query may.
+    TooFar {
+        /// The look-back, in ticks.
+        back: i128,
+        /// The look-ahead, in ticks.
+        ahead: i128,
     },
 }
 
@@ -85,6 +92,7 @@ impl Refusal<'_> {
             Refusal::BigNumber { at } => put_counted(err, b"21 big number at ", *at),
             Refusal::TooManyStatements => put_text(err, b"22 too many statements"),
             Refusal::BadStatement { fault, statement } => put_statement(err, *fault, *statement),
+            Refusal::TooFar { back, ahead } => put_reach(err, *back, *ahead),
         }
     }
 }
@@ -152,6 +160,16 @@ fn put_statement<E: Sink>(err: &mut E, fault: StatementFault, statement: u32) ->
 {
     put_counted(err, front_of(fault).as_bytes(), u64::from(statement))?;
     put_text(err, words_of(fault).as_bytes())
+}
+
+// Puts how far a query looks.
+fn put_reach<E: Sink>(err: &mut E, back: i128, ahead: i128) -> Result<(), Failed>
+    requires { (n : ℕ) → E.takes err.old n }
+    ensures { Puts E.tells E.written E.faults E.takes err.old err.new
+        (codes "31 too far: back " ++ signed_decimal back ++ codes " ahead " ++ signed_decimal ahead) result }
+{
+    put_signed(err, b"31 too far: back ", back)?;
+    put_signed(err, b" ahead ", ahead)
 }
 
 // What stands in front of the number of the statement.

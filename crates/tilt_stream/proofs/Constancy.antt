@@ -130,7 +130,7 @@ some_mark-none x h tick (suc n) clear =
     ap (λ (t : ℤ). x.cell t) at ∙ some_mark-none x h (tick +ℤ pos 1) n none.1 ∙ h.unchanged (tick +ℤ pos 1) none.0 ∙ ap (λ (t : ℤ). x.cell t) back
 
 -- a positive number is its absolute value
-unsigned_abs_is : (n : ℤ) → pos 1 ≤ℤ n → pos (unsigned_abs n) ≡ n
+pub unsigned_abs_is : (n : ℤ) → pos 1 ≤ℤ n → pos (unsigned_abs n) ≡ n
 unsigned_abs_is (pos n) h = refl
 unsigned_abs_is (negsuc n) h = absurd (omega (arith, ints))
 

@@ -1,4 +1,5 @@
 pub mod Constancy
+pub mod Locality
 pub mod Order
 pub mod Cut
 pub mod Filled

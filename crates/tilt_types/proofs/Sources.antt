@@ -7,22 +7,22 @@ use Rattle.tilt_types.specs.Meaning.{source_of, definition_of, with_definitions,
 use Rattle.tilt_stream.specs.Pointwise.{nothing}
 use Rattle.tilt_types.specs.CoreTree.{Definition}
 
-source_of-front : (xs : List Stream) (x : Stream) (i : ℕ) → i < length xs → source_of (xs ++ x ∷ []) i ≡ source_of xs i
+pub source_of-front : (xs : List Stream) (x : Stream) (i : ℕ) → i < length xs → source_of (xs ++ x ∷ []) i ≡ source_of xs i
 source_of-front [] x i h = absurd (omega arith)
 source_of-front (y ∷ ys) x zero h = refl
 source_of-front (y ∷ ys) x (suc i) h = source_of-front ys x i (omega arith)
 
-source_of-last : (xs : List Stream) (x : Stream) → source_of (xs ++ x ∷ []) (length xs) ≡ x
+pub source_of-last : (xs : List Stream) (x : Stream) → source_of (xs ++ x ∷ []) (length xs) ≡ x
 source_of-last [] x = refl
 source_of-last (y ∷ ys) x = source_of-last ys x
 
-source_of-past : (xs : List Stream) (i : ℕ) → length xs ≤ i → source_of xs i ≡ nothing
+pub source_of-past : (xs : List Stream) (i : ℕ) → length xs ≤ i → source_of xs i ≡ nothing
 source_of-past [] i h = refl
 source_of-past (y ∷ ys) zero h = absurd (omega arith)
 source_of-past (y ∷ ys) (suc i) h = source_of-past ys i (omega arith)
 
 -- definitions leave the sources before them as they are
-with_definitions-front : (xs : List Stream) (defs : List Definition) (i : ℕ) → i < length xs → source_of (with_definitions xs defs) i ≡ source_of xs i
+pub with_definitions-front : (xs : List Stream) (defs : List Definition) (i : ℕ) → i < length xs → source_of (with_definitions xs defs) i ≡ source_of xs i
 with_definitions-front xs [] i h = refl
 with_definitions-front xs (def ∷ defs) i h =
     let x = definition_of xs def in

@@ -1,5 +1,5 @@
 use Rattle.std.proofs.lemmas.Result.{err_from_is_err_and}
-use Rattle.tilt_app.proofs.Loads.{place_refuses, syntax_refuses, check_refuses}
+use Rattle.tilt_app.proofs.Loads.{place_refuses, syntax_refuses, check_refuses, reach_refuses}
 use Rattle.tilt_app.proofs.load.read_query.Goals as goal
 
 pub returns-in_err-tokens-clause-fault : goal.returns-in_err-tokens-clause-fault
@@ -19,3 +19,9 @@ returns-in_err-core-clause-fault c =
     λ name.
     let p = err_from_is_err_and c.from_residual-in_err-core.result c.from_residual-in_err-core.ensures.1 in
     rw (p.1, p.2) (check_refuses name c.args.bytes.now c.in_ok-tokens.tokens.items c.in_ok-query.query c.in_err-core.field-0.0 c.requires c.in_ok-tokens.ensures.tokens (rw c.deref.ensures.value at c.in_ok-query.ensures.query) c.in_err-core.ensures)
+
+pub returns-in_err-margins-clause-fault : goal.returns-in_err-margins-clause-fault
+returns-in_err-margins-clause-fault c =
+    λ name.
+    let p = err_from_is_err_and c.from_residual-in_err-margins.result c.from_residual-in_err-margins.ensures.1 in
+    rw (p.1, p.2) (reach_refuses name c.args.bytes.now c.in_ok-core.core c.in_err-margins.field-0.0 (has_core c) c.in_err-margins.ensures.margins)

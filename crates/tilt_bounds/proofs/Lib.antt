@@ -1,0 +1,6 @@
+pub mod Laws
+pub mod Local
+pub mod Needs
+pub mod Reached
+pub mod Spans
+pub mod Steps

@@ -1,0 +1,24 @@
+//! How far a query looks, and the stretch of time on which each definition has to be computed.
+//!
+//! What comes in is a core. `reach` gives its margins: how far each source is looked at, back and ahead of the output, and
+//! the look-back and look-ahead of the whole query; or the two numbers where one of them is too great. Its clauses
+//! `changes`, `local` and `causal` are the laws that make margins useful: that nothing else of a source matters. `stretch`
+//! gives the stretch of one definition.
+#![tactic(auto)]
+
+mod asking;
+mod fault;
+mod loop_span;
+mod margins;
+mod need;
+mod query_reach;
+#[cfg(test)]
+mod tests;
+mod wide_need;
+mod widest;
+
+pub use fault::ReachFault;
+pub use loop_span::{LoopSpan, stretch};
+pub use margins::Margins;
+pub use need::Need;
+pub use query_reach::reach;
