@@ -1,0 +1,97 @@
+-- What an answer says that is a command of the words, or that they are none.
+use Rattle.std.proofs.Common.{◌≡◌, ◌≢◌, ℕ, ◌-◌, ◌≤◌, List, [], ◌∷◌, length, get_or, take, drop, Option, Some, None, Result, Ok, Err, IfOk, IfErr, IsErr, MatchOption, MatchResult, codes, String, string_bytes, refl, sym, ap, ◌∙◌, subst, arith}
+use Rattle.std.specs.declared.alloc.Global.{Global}
+use Rattle.std.specs.Option.{ok_or}
+use Rattle.std.proofs.lemmas.List.{take_rest}
+use Rattle.tilt_words.specs.declared.command.Command.{Command}
+use Rattle.tilt_words.specs.declared.fault.WordsFault.{WordsFault}
+use Rattle.tilt_words.specs.declared.fault.WordsFault.TheVariants.{Usage, OutOfMemory}
+use Rattle.tilt_words.specs.Arguments.{Settings, no_settings, AreArguments}
+use Rattle.tilt_words.specs.Command.{CommandValue, IsCommand, IsFile, IsFileCommand, IsTry, IsWithin, command_of, texts}
+use Rattle.tilt_words.specs.Given.{IsCalled}
+use Rattle.tilt_words.proofs.Determined.{same_settings}
+use Rattle.tilt_words.proofs.Within.{within}
+use Rattle.tilt_words.proofs.OneCommand.{one_command, only_try, only_file, file_command}
+
+-- the texts of two words and of the others
+pub two_texts : (words : List (String Global)) (a b : String Global) (x y : List ℕ) → 2 ≤ length words → a ≡ get_or words 0 a →
+    b ≡ get_or words 1 b → x ≡ string_bytes a → y ≡ string_bytes b →
+    texts words ≡ x ∷ y ∷ texts (take (length words - 2) (drop 2 words))
+two_texts [] a b x y some p q e f = absurd (omega arith)
+two_texts (w ∷ []) a b x y some p q e f = absurd (omega arith)
+two_texts (w ∷ v ∷ ws) a b x y some p q e f =
+    let first = sym (ap string_bytes p) ∙ sym e in
+    let second = sym (ap string_bytes q) ∙ sym f in
+    let rest : take (length (w ∷ v ∷ ws) - 2) (drop 2 (w ∷ v ∷ ws)) ≡ ws = take_rest (w ∷ v ∷ ws) 2 in
+    λ i. first i ∷ second i ∷ sym (ap texts rest) i
+
+-- a call of the words answers the command of the words that has a file
+pub called : (name file : List ℕ) (rest : List (List ℕ)) (settings : Settings) (result : Option Command) → IsFile file →
+    AreArguments no_settings rest settings → IsCalled (record { name = name; file = file; settings = settings }) result →
+    MatchResult (ok_or result Usage) (λ command. IsFileCommand (name ∷ file ∷ rest) (command_of command)) (λ fault. fault ≡ Usage → (command : CommandValue) → ¬ (IsFileCommand (name ∷ file ∷ rest) command))
+called name file rest settings (Some command) is_file are answer =
+    record { call = record { name = name; file = file; settings = settings }; rest = rest; call_is = answer; words_are = refl; is_file = is_file; are_arguments = are }
+called name file rest settings None is_file are answer = λ usage command is.
+    let words : is.call.name ∷ is.call.file ∷ is.rest ≡ name ∷ file ∷ rest = sym is.words_are in
+    let names : is.call.name ≡ name = cc in
+    let files : is.call.file ≡ file = cc in
+    let rests : is.rest ≡ rest = cc in
+    let same = same_settings (subst (λ r. AreArguments no_settings r is.call.settings) rests is.are_arguments) are in
+    let calls : is.call ≡ record { name = name; file = file; settings = settings } =
+    λ i. record { name = names i; file = files i; settings = same i } in
+    answer command (is.call_is ∙ ap Some calls)
+
+-- `try` has one word behind the second
+pub try_texts : (first second : List ℕ) (rest : List (List ℕ)) (seed count : ℕ) → (is : IsTry (first ∷ second ∷ rest) seed count) →
+    (is.seed_word ≡ second) × (is.count_word ∷ [] ≡ rest)
+try_texts first second rest seed count is =
+    let words : codes "try" ∷ is.seed_word ∷ is.count_word ∷ [] ≡ first ∷ second ∷ rest = sym is.words_are in
+    ((cc), (cc))
+
+pub try_count : (rest : List (String Global)) (word : String Global) (text : List ℕ) → word ≡ get_or rest 0 word →
+    text ∷ [] ≡ texts rest → text ≡ string_bytes word
+try_count [] word text is same = cc
+try_count (w ∷ ws) word text is same = let heads : text ≡ string_bytes w = cc in heads ∙ sym (ap string_bytes is)
+
+module _ (words : List (List ℕ)) where
+  abbrev pub IsAnswer : Result Command WordsFault → Type 0
+  IsAnswer result =
+      MatchResult result (λ found. IsCommand words (command_of found)) (λ fault. fault ≡ Usage → (command : CommandValue) → ¬ (IsCommand words command))
+
+  pub by_try : (rest : List (List ℕ)) (result : Option Command) → words ≡ codes "try" ∷ rest →
+      MatchOption result ((seed count : ℕ) → ¬ (IsTry words seed count)) (λ command. IsCommand words (command_of command)) →
+      IsAnswer (ok_or result Usage)
+  by_try rest (Some command) e answer = answer
+  by_try rest None e answer =
+      λ usage command is. let a_try = only_try words command rest e is in answer a_try.seed a_try.count a_try.words_are
+
+  pub by_call : (name : List ℕ) (rest : List (List ℕ)) (result : Result Command WordsFault) → words ≡ name ∷ rest → name ≢ codes "try" →
+      MatchResult result (λ command. IsFileCommand words (command_of command)) (λ fault. fault ≡ Usage → (command : CommandValue) → ¬ (IsFileCommand words command)) → IsAnswer result
+  by_call name rest (Ok found) e differs answer = file_command words (command_of found) answer
+  by_call name rest (Err fault) e differs answer = λ usage command is. answer usage command (only_file words command name rest e differs is)
+
+  -- the parts of an answer
+  pub command_part : (result : Result Command WordsFault) → IsAnswer result → IfOk result (λ found. IsCommand words (command_of found))
+  command_part (Ok found) answer = answer
+  command_part (Err fault) answer = tt
+
+  pub usage_part : (result : Result Command WordsFault) → IsAnswer result →
+      IfErr result (λ fault. fault ≡ Usage → (command : CommandValue) → ¬ (IsCommand words command))
+  usage_part (Ok found) answer = tt
+  usage_part (Err fault) answer = answer
+
+  pub within_part : (result : Result Command WordsFault) → IsAnswer result → IfOk result (λ found. IsWithin (command_of found))
+  within_part (Ok found) answer = within words (command_of found) answer
+  within_part (Err fault) answer = tt
+
+  -- no other is answered, and none where the words are none
+  pub only_part : (result : Result Command WordsFault) → IsAnswer result → (command : CommandValue) → IsCommand words command →
+      MatchResult result (λ found. command_of found ≡ command) (λ fault. fault ≡ OutOfMemory)
+  only_part (Ok found) answer command is = one_command words (command_of found) command answer is
+  only_part (Err Usage) answer command is = absurd (answer refl command is)
+  only_part (Err OutOfMemory) answer command is = refl
+
+  pub none_part : (result : Result Command WordsFault) → IsAnswer result →
+      ((command : CommandValue) → ¬ (IsCommand words command)) → IsErr result
+  none_part (Ok found) answer none = absurd (none (command_of found) answer)
+  none_part (Err fault) answer none = refl

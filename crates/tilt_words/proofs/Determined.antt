@@ -1,0 +1,166 @@
+-- Words begin with one argument at most, and it gives one thing.
+use Rattle.std.proofs.Common.{◌≡◌, ◌≢◌, ◌==◌, ℕ, ℤ, neg_ℤ, true, false, List, [], ◌∷◌, ◌++◌, get_or, Some, None, codes, refl, sym, ap, ◌∙◌, subst, arith}
+use Rattle.std.proofs.lemmas.Bool.{false≢true}
+use Rattle.std.proofs.lemmas.Bool.Decides.{nat_tests}
+use Rattle.tilt_base.specs.declared.limits.TheConstants.{T}
+use Rattle.tilt_words.specs.Arguments.{Settings, Begins, AreArguments}
+use Rattle.tilt_words.specs.Arguments as argument
+use Rattle.tilt_words.specs.Binding.{IsBinding, binding_spelled}
+use Rattle.tilt_words.specs.Number.{IsNumber, AreRising}
+use Rattle.tilt_words.proofs.Rising.{same_number, same_rising}
+
+-- a word that is an option
+pub data IsOption : List ℕ → Type 0 where
+  plain : IsOption (codes "--plain")
+  end : IsOption (codes "--end")
+  cut : IsOption (codes "--cut")
+  upto : IsOption (codes "--upto")
+  save : IsOption (codes "--save")
+
+-- no option is a bind
+no_bind : {option : List ℕ} → IsOption option → (word : List ℕ) → word ≡ option → IsBinding (binding_spelled word) → ⊥
+no_bind plain word e is = false≢true (subst (λ w. IsBinding (binding_spelled w)) e is).named
+no_bind end word e is = false≢true (subst (λ w. IsBinding (binding_spelled w)) e is).named
+no_bind cut word e is = false≢true (subst (λ w. IsBinding (binding_spelled w)) e is).named
+no_bind upto word e is = false≢true (subst (λ w. IsBinding (binding_spelled w)) e is).named
+no_bind save word e is = false≢true (subst (λ w. IsBinding (binding_spelled w)) e is).named
+
+-- the third byte of the first word, in which the options differ
+abbrev third : List (List ℕ) → ℕ
+third [] = 0
+third (word ∷ words) = get_or word 2 0
+
+clash : {words others : List (List ℕ)} → words ≡ others → (third words == third others) ≡ false → ⊥
+clash {words} {others} e differ = let same : third words ≡ third others = ap third e in grind (arith, nat_tests)
+
+-- what `--cut` and `--upto` give
+pub record GivesCuts (old new : Settings) (value : List ℕ) (rest tail : List (List ℕ)) : Type 0 where
+  pub fresh : old.cuts ≡ []
+  pub times : List ℤ
+  pub are : AreRising (neg_ℤ T) T value times
+  pub gives : new ≡ record old { cuts = times }
+  pub rests : rest ≡ tail
+
+pub record GivesUpto (old new : Settings) (value : List ℕ) (rest tail : List (List ℕ)) : Type 0 where
+  pub fresh : old.upto ≡ None
+  pub time : ℤ
+  pub is : IsNumber (neg_ℤ T) T value time
+  pub gives : new ≡ record old { upto = Some time }
+  pub rests : rest ≡ tail
+
+-- what words give that begin with an option
+pub after_plain : {old new : Settings} {words rest : List (List ℕ)} → Begins old words new rest → (tail : List (List ℕ)) →
+    words ≡ codes "--plain" ∷ tail → (old.plain ≡ false) × (new ≡ record old { plain = true }) × (rest ≡ tail)
+after_plain (argument.bind {word = word} is) tail e = let heads : word ≡ codes "--plain" = cc in absurd (no_bind plain word heads is)
+after_plain (argument.plain fresh) tail e = (fresh, refl, (cc))
+after_plain (argument.end fresh) tail e = absurd (clash e refl)
+after_plain (argument.cut fresh are) tail e = absurd (clash e refl)
+after_plain (argument.upto fresh is) tail e = absurd (clash e refl)
+after_plain (argument.save fresh some) tail e = absurd (clash e refl)
+
+pub after_end : {old new : Settings} {words rest : List (List ℕ)} → Begins old words new rest → (tail : List (List ℕ)) →
+    words ≡ codes "--end" ∷ tail → (old.end ≡ false) × (new ≡ record old { end = true }) × (rest ≡ tail)
+after_end (argument.bind {word = word} is) tail e = let heads : word ≡ codes "--end" = cc in absurd (no_bind end word heads is)
+after_end (argument.plain fresh) tail e = absurd (clash e refl)
+after_end (argument.end fresh) tail e = (fresh, refl, (cc))
+after_end (argument.cut fresh are) tail e = absurd (clash e refl)
+after_end (argument.upto fresh is) tail e = absurd (clash e refl)
+after_end (argument.save fresh some) tail e = absurd (clash e refl)
+
+pub after_cut : {old new : Settings} {words rest : List (List ℕ)} → Begins old words new rest →
+    (value : List ℕ) (tail : List (List ℕ)) → words ≡ codes "--cut" ∷ value ∷ tail → GivesCuts old new value rest tail
+after_cut (argument.bind {word = word} is) value tail e = let heads : word ≡ codes "--cut" = cc in absurd (no_bind cut word heads is)
+after_cut (argument.plain fresh) value tail e = absurd (clash e refl)
+after_cut (argument.end fresh) value tail e = absurd (clash e refl)
+after_cut (argument.cut {value = v} {times = ts} fresh are) value tail e =
+    let same : v ≡ value = cc in
+    record { fresh = fresh; times = ts; are = subst (λ w. AreRising (neg_ℤ T) T w ts) same are; gives = refl; rests = cc }
+after_cut (argument.upto fresh is) value tail e = absurd (clash e refl)
+after_cut (argument.save fresh some) value tail e = absurd (clash e refl)
+
+pub after_upto : {old new : Settings} {words rest : List (List ℕ)} → Begins old words new rest →
+    (value : List ℕ) (tail : List (List ℕ)) → words ≡ codes "--upto" ∷ value ∷ tail → GivesUpto old new value rest tail
+after_upto (argument.bind {word = word} is) value tail e = let heads : word ≡ codes "--upto" = cc in absurd (no_bind upto word heads is)
+after_upto (argument.plain fresh) value tail e = absurd (clash e refl)
+after_upto (argument.end fresh) value tail e = absurd (clash e refl)
+after_upto (argument.cut fresh are) value tail e = absurd (clash e refl)
+after_upto (argument.upto {value = v} {time = z} fresh is) value tail e =
+    let same : v ≡ value = cc in
+    record { fresh = fresh; time = z; is = subst (λ w. IsNumber (neg_ℤ T) T w z) same is; gives = refl; rests = cc }
+after_upto (argument.save fresh some) value tail e = absurd (clash e refl)
+
+pub after_save : {old new : Settings} {words rest : List (List ℕ)} → Begins old words new rest →
+    (value : List ℕ) (tail : List (List ℕ)) → words ≡ codes "--save" ∷ value ∷ tail →
+    (old.save ≡ None) × (value ≢ []) × (new ≡ record old { save = Some value }) × (rest ≡ tail)
+after_save (argument.bind {word = word} is) value tail e = let heads : word ≡ codes "--save" = cc in absurd (no_bind save word heads is)
+after_save (argument.plain fresh) value tail e = absurd (clash e refl)
+after_save (argument.end fresh) value tail e = absurd (clash e refl)
+after_save (argument.cut fresh are) value tail e = absurd (clash e refl)
+after_save (argument.upto fresh is) value tail e = absurd (clash e refl)
+after_save (argument.save {file = v} fresh some) value tail e =
+    let same : v ≡ value = cc in
+    (fresh, subst (λ w. w ≢ []) same some, (cc), (cc))
+
+-- what words give that begin with no option
+pub after_bind : {old new : Settings} {words rest : List (List ℕ)} → Begins old words new rest →
+    (word : List ℕ) (tail : List (List ℕ)) → words ≡ word ∷ tail → ¬ (IsOption word) →
+    IsBinding (binding_spelled word) × (new ≡ record old { binds = old.binds ++ binding_spelled word ∷ [] }) × (rest ≡ tail)
+after_bind (argument.bind {old = old} {word = w} is) word tail e none =
+    let same : w ≡ word = cc in
+    (subst (λ v. IsBinding (binding_spelled v)) same is, (cc), (cc))
+after_bind (argument.plain fresh) word tail e none = let same : codes "--plain" ≡ word = cc in absurd (none (subst IsOption same plain))
+after_bind (argument.end fresh) word tail e none = let same : codes "--end" ≡ word = cc in absurd (none (subst IsOption same end))
+after_bind (argument.cut fresh are) word tail e none = let same : codes "--cut" ≡ word = cc in absurd (none (subst IsOption same cut))
+after_bind (argument.upto fresh is) word tail e none = let same : codes "--upto" ≡ word = cc in absurd (none (subst IsOption same upto))
+after_bind (argument.save fresh some) word tail e none = let same : codes "--save" ≡ word = cc in absurd (none (subst IsOption same save))
+
+-- words begin with one argument, and give one thing with it
+pub same_begins : {old new other : Settings} {words rest others : List (List ℕ)} → Begins old words new rest →
+    Begins old words other others → (new ≡ other) × (rest ≡ others)
+same_begins (argument.bind {word = word} {rest = rest} is) b =
+    let g = after_bind b word rest refl (λ o. no_bind o word refl is) in
+    (sym g.1, sym g.2)
+same_begins (argument.plain {rest = rest} fresh) b = let g = after_plain b rest refl in (sym g.1, sym g.2)
+same_begins (argument.end {rest = rest} fresh) b = let g = after_end b rest refl in (sym g.1, sym g.2)
+same_begins (argument.cut {old = old} {value = value} {rest = rest} {times = times} fresh are) b =
+    let g = after_cut b value rest refl in
+    let same = same_rising T (neg_ℤ T) value times g.times are g.are in
+    (ap (λ ts. record old { cuts = ts }) same ∙ sym g.gives, sym g.rests)
+same_begins (argument.upto {old = old} {value = value} {rest = rest} {time = time} fresh is) b =
+    let g = after_upto b value rest refl in
+    let same = same_number (neg_ℤ T) T (neg_ℤ T) T value time g.time is g.is in
+    (ap (λ z. record old { upto = Some z }) same ∙ sym g.gives, sym g.rests)
+same_begins (argument.save {file = file} {rest = rest} fresh some) b = let g = after_save b file rest refl in (sym g.2, sym g.3)
+
+-- no words begin with none
+no_begins : {old new : Settings} {words rest : List (List ℕ)} → Begins old words new rest → words ≡ [] → ⊥
+no_begins (argument.bind is) e = cc
+no_begins (argument.plain fresh) e = cc
+no_begins (argument.end fresh) e = cc
+no_begins (argument.cut fresh are) e = cc
+no_begins (argument.upto fresh is) e = cc
+no_begins (argument.save fresh some) e = cc
+
+-- what no words give, and what words give behind their first argument
+pub behind_none : {old new : Settings} {words : List (List ℕ)} → AreArguments old words new → words ≡ [] → new ≡ old
+behind_none argument.none e = refl
+behind_none (argument.more b r) e = absurd (no_begins b e)
+
+pub behind_first : {old between new : Settings} {words rest : List (List ℕ)} → AreArguments old words new →
+    Begins old words between rest → AreArguments between rest new
+behind_first argument.none b = absurd (no_begins b refl)
+behind_first {between = between} {new = new} {rest = rest} (argument.more {between = other} {rest = others} c r) b =
+    let same = same_begins c b in
+    subst (λ m. AreArguments m rest new) same.0 (subst (λ l. AreArguments other l new) same.1 r)
+
+-- words that are arguments begin with one
+pub first_begins : {old new : Settings} {words : List (List ℕ)} → AreArguments old words new →
+    ((between : Settings) (rest : List (List ℕ)) → Begins old words between rest → ⊥) → words ≡ []
+first_begins argument.none refused = refl
+first_begins (argument.more {between = between} {rest = rest} b r) refused = absurd (refused between rest b)
+
+-- words give one thing
+pub same_settings : {old new other : Settings} {words : List (List ℕ)} → AreArguments old words new → AreArguments old words other →
+    new ≡ other
+same_settings argument.none b = sym (behind_none b refl)
+same_settings (argument.more b r) c = same_settings r (behind_first c b)

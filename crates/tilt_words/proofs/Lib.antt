@@ -1,0 +1,7 @@
+pub mod Answered
+pub mod ArgumentsRead
+pub mod Determined
+pub mod Fronts
+pub mod OneCommand
+pub mod Rising
+pub mod Within

@@ -1,0 +1,60 @@
+-- The numbers of a command lie between their bounds.
+use Rattle.std.proofs.Common.{◌≡◌, ℕ, ℤ, neg_ℤ, ◌≤ℤ◌, List, [], ◌∷◌, Some, sym, ap, subst, arith}
+use Rattle.std.proofs.lemmas.Int.{ints}
+use Rattle.std.proofs.lemmas.Option.{same_Some, none-some}
+use Rattle.tilt_base.specs.declared.limits.TheConstants.{T}
+use Rattle.tilt_words.specs.Arguments.{Settings, no_settings, Begins, AreArguments}
+use Rattle.tilt_words.specs.Arguments as argument
+use Rattle.tilt_words.specs.Command.{Call, CommandValue, IsCommand, IsFileCommand, IsWithin, run, compile, exec, explain, start, resume_upto, resume_end, watch, try}
+use Rattle.tilt_words.specs.Number.{AreRising, RiseFrom, after_comma}
+
+rises : (least greatest : ℤ) (word : List ℕ) (numbers : List ℤ) → AreRising least greatest word numbers → RiseFrom least greatest numbers
+rises least greatest word [] are = absurd are
+rises least greatest word (number ∷ []) is = (is.low, is.high, tt)
+rises least greatest word (number ∷ next ∷ more) are = (are.0.low, are.0.high, rises number greatest (after_comma word) (next ∷ more) are.1)
+
+abbrev IsTime : ℤ → Type 0
+IsTime time = (neg_ℤ T ≤ℤ time) × (time ≤ℤ T)
+
+-- the numbers of settings
+record AreWithin (settings : Settings) : Type 0 where
+  cuts : RiseFrom (neg_ℤ T) T settings.cuts
+  upto : (time : ℤ) → settings.upto ≡ Some time → IsTime time
+
+none_within : AreWithin no_settings
+none_within = record { cuts = tt; upto = λ time e. absurd (none-some time e) }
+
+one_within : {old new : Settings} {words rest : List (List ℕ)} → Begins old words new rest → AreWithin old → AreWithin new
+one_within (argument.bind is) before = record { cuts = before.cuts; upto = before.upto }
+one_within (argument.plain fresh) before = record { cuts = before.cuts; upto = before.upto }
+one_within (argument.end fresh) before = record { cuts = before.cuts; upto = before.upto }
+one_within (argument.cut {value = value} {times = times} fresh are) before =
+    record { cuts = rises (neg_ℤ T) T value times are; upto = before.upto }
+one_within (argument.upto {time = time} fresh is) before =
+    record { cuts = before.cuts; upto = λ other e. subst IsTime (same_Some time other e) (is.low, is.high) }
+one_within (argument.save fresh some) before = record { cuts = before.cuts; upto = before.upto }
+
+all_within : {old new : Settings} {words : List (List ℕ)} → AreArguments old words new → AreWithin old → AreWithin new
+all_within argument.none before = before
+all_within (argument.more begins are) before = all_within are (one_within begins before)
+
+-- and of a command
+call_within : (words : List (List ℕ)) (command : CommandValue) → (is : IsFileCommand words command) → AreWithin is.call.settings
+call_within words command is = all_within is.are_arguments none_within
+
+pub within : (words : List (List ℕ)) (command : CommandValue) → IsCommand words command → IsWithin command
+within words (run query binds plain cuts) is =
+    let same = same_Some _ is.call is.call_is in
+    subst (λ (c : Call). RiseFrom (neg_ℤ T) T c.settings.cuts) (sym same) (call_within words (run query binds plain cuts) is).cuts
+within words (compile query plain) is = tt
+within words (exec code binds) is = tt
+within words (explain query) is = tt
+within words (start query binds plain upto save) is =
+    let same = same_Some _ is.call is.call_is in
+    (call_within words (start query binds plain upto save) is).upto upto (ap (λ (c : Call). c.settings.upto) (sym same))
+within words (resume_upto file binds plain upto save) is =
+    let same = same_Some _ is.call is.call_is in
+    (call_within words (resume_upto file binds plain upto save) is).upto upto (ap (λ (c : Call). c.settings.upto) (sym same))
+within words (resume_end file binds plain) is = tt
+within words (watch query binds plain) is = tt
+within words (try seed count) is = (omega (arith, ints, is.is_seed.high), omega (arith, ints, is.is_count.high))

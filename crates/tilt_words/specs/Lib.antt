@@ -1,0 +1,5 @@
+pub mod Arguments
+pub mod Binding
+pub mod Command
+pub mod Given
+pub mod Number

@@ -1,0 +1,19 @@
+//! The words of a command line. What comes in is the words behind the program's name; what goes out is the command that
+//! they are, or that they are none. The clauses of `read_words` say which, by `IsCommand` of `specs/Command`: words are
+//! one command at most, and only those that are none are refused.
+#![tactic(auto)]
+
+mod arguments;
+mod bind;
+mod call;
+mod command;
+mod fault;
+mod number;
+mod reader;
+#[cfg(test)]
+mod tests;
+
+pub use bind::Bind;
+pub use command::Command;
+pub use fault::WordsFault;
+pub use reader::read_words;

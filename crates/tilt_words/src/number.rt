@@ -1,0 +1,59 @@
+// Numbers within bounds.
+ghost use Rattle.std.specs.Prelude.{◌≡◌, ◌++◌, ◌∷◌, [], ◌≤ℤ◌, neg_ℤ, List, ℤ, pos, MatchOption, MatchResult};
+ghost use Rattle.tilt_base.specs.declared.limits.TheConstants.{T};
+ghost use Rattle.tilt_words.specs.Number.{AreRising, IsNumber};
+
+use crate::fault::WordsFault;
+use std::alloc::Global;
+use tilt_base::{T, read_number};
+
+// The number that the word spells, where it isn't below the least and not above the greatest.
+pub(crate) fn read_within(word: &str, least: i64, greatest: i64) -> Option<i64>
+    ensures { MatchOption result
+        ((z : ℤ) → ¬ (IsNumber least greatest word.now z))
+        (λ z. IsNumber least greatest word.now z) }
+{
+    let number = read_number(word.as_bytes())?;
+    if number < least || greatest < number {
+        return None;
+    }
+    Some(number)
+}
+
+// The numbers of 32 bits that the word spells, where it isn't above the greatest.
+pub(crate) fn read_up_to(word: &str, greatest: u32) -> Option<u32>
+    ensures { MatchOption result
+        ((z : ℤ) → ¬ (IsNumber (pos 0) (pos greatest) word.now z))
+        (λ n. IsNumber (pos 0) (pos greatest) word.now (pos n)) }
+{
+    let number = read_within(word, 0, i64::from(greatest))?;
+    u32::try_from(number).ok()
+}
+
+// The times that the word spells, one or more with commas between them, none below the one before it.
+pub(crate) fn read_rising(alloc: Global, word: &str) -> Result<Vec<i64>, WordsFault>
+    ensures { MatchResult result
+        (λ times. AreRising (neg_ℤ T) T word.now times.items)
+        (λ fault. fault ≡ WordsFault.Usage → (times : List ℤ) → ¬ (AreRising (neg_ℤ T) T word.now times)) }
+{
+    let mut times = Vec::new(alloc);
+    let mut least = -T;
+    let mut rest = word;
+    while let Some((piece, behind)) = rest.split_once(',') {
+        least = push_time(&mut times, piece, least)?;
+        rest = behind;
+    }
+    push_time(&mut times, rest, least)?;
+    Ok(times)
+}
+
+// Adds the time that the word spells, where it isn't below the least, and answers it.
+fn push_time(times: &mut Vec<i64>, word: &str, least: i64) -> Result<i64, WordsFault>
+    ensures { MatchResult result
+        (λ time. IsNumber least T word.now time × (times.new.items ≡ times.old.items ++ time ∷ []))
+        (λ fault. fault ≡ WordsFault.Usage → (time : ℤ) → ¬ (IsNumber least T word.now time)) }
+{
+    let time = read_within(word, least, T).ok_or(WordsFault::Usage)?;
+    times.push(time)?;
+    Ok(time)
+}

@@ -1,0 +1,226 @@
+// What command lines are which command.
+
+use crate::bind::Bind;
+use crate::command::Command;
+use crate::fault::WordsFault;
+use crate::reader::read_words;
+use std::alloc::Global;
+use std::test::Fail;
+
+// The pieces of a text between bars.
+fn words(alloc: Global, text: &str) -> Result<Vec<String>, Fail> {
+    let mut words = Vec::new(alloc);
+    for piece in text.split('|') {
+        words.push(String::from_str(alloc, piece)?)?;
+    }
+    Ok(words)
+}
+
+fn show_binds(alloc: Global, binds: &[Bind]) -> Result<String, Fail> {
+    let mut shown = String::new(alloc);
+    for bind in binds {
+        let name = std::str::from_utf8(bind.name.bytes())?;
+        let bind = format!(in alloc; " {name}={}", bind.file)?;
+        shown.push_str(bind.as_str())?;
+    }
+    Ok(shown)
+}
+
+fn show_cuts(alloc: Global, cuts: &[i64]) -> Result<String, Fail> {
+    let mut shown = String::new(alloc);
+    for cut in cuts {
+        let cut = format!(in alloc; " cut {cut}")?;
+        shown.push_str(cut.as_str())?;
+    }
+    Ok(shown)
+}
+
+fn show_plain(plain: bool) -> &'static str {
+    if plain { " plain" } else { "" }
+}
+
+// A command as text: its file, its binds, and then its options.
+fn show(alloc: Global, command: &Command) -> Result<String, Fail> {
+    Ok(match command {
+        Command::Run {
+            query,
+            binds,
+            plain,
+            cuts,
+        } => {
+            let (binds, plain) = (show_binds(alloc, binds)?, show_plain(*plain));
+            let cuts = show_cuts(alloc, cuts)?;
+            format!(in alloc; "run {query}{binds}{plain}{cuts}")?
+        }
+        Command::Compile { query, plain } => {
+            let plain = show_plain(*plain);
+            format!(in alloc; "compile {query}{plain}")?
+        }
+        Command::Exec { code, binds } => {
+            let binds = show_binds(alloc, binds)?;
+            format!(in alloc; "exec {code}{binds}")?
+        }
+        Command::Explain { query } => format!(in alloc; "explain {query}")?,
+        Command::Start {
+            query,
+            binds,
+            plain,
+            upto,
+            save,
+        } => {
+            let (binds, plain) = (show_binds(alloc, binds)?, show_plain(*plain));
+            format!(in alloc; "start {query}{binds}{plain} upto {upto} save {save}")?
+        }
+        Command::ResumeUpto {
+            file,
+            binds,
+            plain,
+            upto,
+            save,
+        } => {
+            let (binds, plain) = (show_binds(alloc, binds)?, show_plain(*plain));
+            format!(in alloc; "resume {file}{binds}{plain} upto {upto} save {save}")?
+        }
+        Command::ResumeEnd { file, binds, plain } => {
+            let (binds, plain) = (show_binds(alloc, binds)?, show_plain(*plain));
+            format!(in alloc; "resume {file}{binds}{plain} end")?
+        }
+        Command::Watch {
+            query,
+            binds,
+            plain,
+        } => {
+            let (binds, plain) = (show_binds(alloc, binds)?, show_plain(*plain));
+            format!(in alloc; "watch {query}{binds}{plain}")?
+        }
+        Command::Try { seed, count } => format!(in alloc; "try {seed} {count}")?,
+    })
+}
+
+#[test]
+fn words_are_the_command_that_they_spell(rt: HostRuntime) -> Result<(), Fail> {
+    for (text, want) in [
+        ("run|Q", "run Q"),
+        ("run|-", "run -"),
+        ("run|Q|x=F|y=G|x=H", "run Q x=F y=G x=H"),
+        ("run|Q|--plain|x=F|--cut|1|y=G", "run Q x=F y=G plain cut 1"),
+        ("run|Q|a=b=c", "run Q a=b=c"),
+        ("run|Q|x==", "run Q x=="),
+        ("run|Q|x=--plain", "run Q x=--plain"),
+        ("run|Q|input=F|_1=G", "run Q input=F _1=G"),
+        ("run|Q|--cut|+5", "run Q cut 5"),
+        ("run|Q|--cut|-0", "run Q cut 0"),
+        ("run|Q|--cut|-7,5,5,0006", "run Q cut -7 cut 5 cut 5 cut 6"),
+        (
+            "run|Q|--cut|-4000000000000000000,4000000000000000000",
+            "run Q cut -4000000000000000000 cut 4000000000000000000",
+        ),
+        ("compile|Q", "compile Q"),
+        ("compile|Q|--plain", "compile Q plain"),
+        ("exec|C|x=F", "exec C x=F"),
+        ("explain|Q", "explain Q"),
+        ("start|Q|x=F|--upto|5|--save|D", "start Q x=F upto 5 save D"),
+        (
+            "start|Q|--save|--plain|--upto|-5|--plain",
+            "start Q plain upto -5 save --plain",
+        ),
+        (
+            "resume|C|--save|C|x=F|--upto|5",
+            "resume C x=F upto 5 save C",
+        ),
+        ("resume|C|x=F|--end|--plain", "resume C x=F plain end"),
+        ("watch|Q|x=F|--plain", "watch Q x=F plain"),
+        ("try|0|0", "try 0 0"),
+        ("try|2147483647|1000000", "try 2147483647 1000000"),
+        ("try|-0|+7", "try 0 7"),
+    ] {
+        let words = words(rt.alloc(), text)?;
+        let command = read_words(rt.alloc(), words.as_slice())?;
+        let shown = show(rt.alloc(), &command)?;
+        assert_eq!(rt; shown.as_str(), want, "at {text}");
+    }
+    Ok(())
+}
+
+#[test]
+fn other_words_are_no_command(rt: HostRuntime) -> Result<(), Fail> {
+    for text in [
+        "",
+        "run",
+        "try",
+        "--help",
+        "Run|Q",
+        "run |Q",
+        "run|",
+        "run|--plain",
+        "run|Q|",
+        "run|Q|F",
+        "run|Q|=F",
+        "run|Q|x=",
+        "run|Q|1=F",
+        "run|Q|x y=F",
+        "run|Q|é=F",
+        "run|Q|--plain|--plain",
+        "run|Q|--plain=1",
+        "run|Q|--Plain",
+        "run|Q|--cut",
+        "run|Q|--cut|",
+        "run|Q|--cut|,",
+        "run|Q|--cut|5,",
+        "run|Q|--cut|,5",
+        "run|Q|--cut|5,,5",
+        "run|Q|--cut|5, 6",
+        "run|Q|--cut|5,4",
+        "run|Q|--cut|--5",
+        "run|Q|x=F|--cut|5,3",
+        "run|Q|x=F|--cut=5",
+        "run|Q|--cut|1|--cut|2",
+        "run|Q|--cut|4000000000000000001",
+        "run|Q|--cut|-4000000000000000001",
+        "run|Q|--cut|99999999999999999999",
+        "run|Q|--upto|5",
+        "run|Q|--save|D",
+        "run|Q|--end",
+        "compile|Q|x=F",
+        "compile|Q|--cut|5",
+        "exec|C|--plain",
+        "explain|Q|--plain",
+        "explain|Q|x=F",
+        "start|Q|--upto|5",
+        "start|Q|--save|D",
+        "start|Q|--save|D|--upto",
+        "start|Q|--upto|5|--save|",
+        "start|Q|--upto|5|--upto|5|--save|D",
+        "start|Q|--upto|5|--save|D|--save|D",
+        "start|Q|--upto|5,6|--save|D",
+        "start|Q|--upto|5|--save|D|--end",
+        "start|Q|--upto|5|--save|D|--cut|5",
+        "start|Q|--upto|4000000000000000001|--save|D",
+        "resume|C|x=F",
+        "resume|C|--end|--end",
+        "resume|C|x=F|--end|--upto|5|--save|D",
+        "resume|C|--end|--save|D",
+        "resume|C|--upto|5",
+        "resume|C|--end|--cut|5",
+        "watch|Q|--cut|5",
+        "try|1",
+        "try|1|2|3",
+        "try|1|2|--plain",
+        "try|1|x",
+        "try|-1|1",
+        "try|1|-1",
+        "try|2147483648|0",
+        "try|0|1000001",
+    ] {
+        let words = words(rt.alloc(), text)?;
+        match read_words(rt.alloc(), words.as_slice()) {
+            Ok(_) => assert!(rt; false, "at {text}"),
+            Err(fault) => assert_eq!(rt; fault, WordsFault::Usage, "at {text}"),
+        }
+    }
+    match read_words(rt.alloc(), &[]) {
+        Ok(_) => assert!(rt; false, "at no words"),
+        Err(fault) => assert_eq!(rt; fault, WordsFault::Usage),
+    }
+    Ok(())
+}
