@@ -58,7 +58,7 @@ met_behind-agrees : (x y : Stream) (begins : Bool) (lo hi tick : ℤ) (n : ℕ) 
     → met_behind x begins tick n ≡ met_behind y begins tick n
 met_behind-agrees x y begins lo hi tick zero h low high = refl
 met_behind-agrees x y true lo hi tick (suc n) h low high =
-    let above : lo <ℤ (tick +ℤ pos 1) = elim low [ | inl l ↦ omega (arith, ints) | inr e ↦ (let is = e.0 in omega (arith, ints)) ] in
+    let above : lo <ℤ (tick +ℤ pos 1) = elim low [ inl l ↦ omega (arith, ints) | inr e ↦ (let is = e.0 in omega (arith, ints)) ] in
     rw (h.cells (tick +ℤ pos 1) above (omega (arith, ints)), met_behind-agrees x y false lo hi (tick +ℤ pos 1) n h (inl above) (omega (arith, ints))) refl
 met_behind-agrees x y false lo hi tick (suc n) h (inl above) high =
     let mark = h.marks (tick +ℤ pos 1) (omega (arith, ints)) (omega (arith, ints)) in
