@@ -401,6 +401,15 @@ const REFUSED: &[(&str, &str)] = &[
         "input x; emit x over (0, 5] every 0;",
         "30 statement 2: bad domain",
     ),
+    (
+        "input x; emit x[t-1000000000001] over (0, 5];",
+        "31 too far: back 1000000000001 ahead 0",
+    ),
+    // Offsets that add up past 64 bits, and before an input that isn't bound.
+    (
+        "input x; input y; let a = x[t+9223372036854775807]; let b = a[t+9223372036854775807]; emit b[t-2] over (0, 5];",
+        "31 too far: back 2 ahead 18446744073709551614",
+    ),
     // The first fault of several: of the grammar before all others, then that of the first statement.
     (
         "input x; input x; emit over (0, 5];",

@@ -10,13 +10,13 @@ pub load_query-requires : goal.load_query-requires
 load_query-requires g c =
     c.requires c.in-Some.command.query.now (query_turn c.in-Some.command.query.now (binds_of c.in-Some.command.binds.now) c.in-Some.ensures)
 
-pub returns-in_err-core-clause-fault : goal.returns-in_err-core-clause-fault
-returns-in_err-core-clause-fault g c =
+pub returns-in_err-query-clause-fault : goal.returns-in_err-query-clause-fault
+returns-in_err-query-clause-fault g c =
     let p = err_from_is_err_and c.from_residual.result c.from_residual.ensures.1 in
     let q = c.in-Some.command.query.now in
     let binds = binds_of c.in-Some.command.binds.now in
     let run = c.in-Some.ensures in
-    rw (p.1, p.2) (inr ((q, binds, run), query_undone g.S.Shelf.tells (texts c.args.words.now) (g.S.Shelf.files c.args.shelf.now) q binds run _ _ (report_of c.in_err-core.field-0.0) c.in_err-core.ensures.fault))
+    rw (p.1, p.2) (inr ((q, binds, run), query_undone g.S.Shelf.tells (texts c.args.words.now) (g.S.Shelf.files c.args.shelf.now) q binds run _ _ (report_of c.in_err-query.field-0.0) c.in_err-query.ensures.fault))
 
 pub returns-in_err-check_names-clause-fault : goal.returns-in_err-check_names-clause-fault
 returns-in_err-check_names-clause-fault g c =
@@ -24,14 +24,14 @@ returns-in_err-check_names-clause-fault g c =
     let q = c.in-Some.command.query.now in
     let binds = binds_of c.in-Some.command.binds.now in
     let run = c.in-Some.ensures in
-    rw (p.1, p.2) (inr ((q, binds, run), names_undone g.S.Shelf.tells (texts c.args.words.now) (g.S.Shelf.files c.args.shelf.now) q binds run _ _ c.in_ok-core.core c.in_ok-core.ensures.taken (report_of c.in_err-check_names.field-0.0) (rw c.inputs-inputs.ensures.names at c.in_err-check_names.ensures)))
+    rw (p.1, p.2) (inr ((q, binds, run), names_undone g.S.Shelf.tells (texts c.args.words.now) (g.S.Shelf.files c.args.shelf.now) q binds run _ _ c.in_ok-query.query.core c.in_ok-query.ensures.taken (report_of c.in_err-check_names.field-0.0) (rw c.inputs-inputs.ensures.names at c.in_err-check_names.ensures)))
 
 pub load_inputs-requires-clause-lent : goal.load_inputs-requires-clause-lent
 load_inputs-requires-clause-lent g c =
     λ file turn.
     let q = c.in-Some.command.query.now in
     let binds = binds_of c.in-Some.command.binds.now in
-    c.requires file (turn_of_input g.S.Shelf.tells (texts c.args.words.now) (g.S.Shelf.files c.args.shelf.now) q binds c.in-Some.ensures 0 0 c.in_ok-core.core c.in_ok-core.ensures.taken (rw c.inputs-inputs.ensures.names at c.in_ok-check_names.ensures) file (rw (c.load_query.ensures.rest.same_files, c.inputs-inputs.ensures.names) at turn))
+    c.requires file (turn_of_input g.S.Shelf.tells (texts c.args.words.now) (g.S.Shelf.files c.args.shelf.now) q binds c.in-Some.ensures 0 0 c.in_ok-query.query.core c.in_ok-query.ensures.taken (rw c.inputs-inputs.ensures.names at c.in_ok-check_names.ensures) file (rw (c.load_query.ensures.rest.same_files, c.inputs-inputs.ensures.names) at turn))
 
 pub returns-in_err-rows-clause-fault : goal.returns-in_err-rows-clause-fault
 returns-in_err-rows-clause-fault g c =
@@ -39,15 +39,15 @@ returns-in_err-rows-clause-fault g c =
     let q = c.in-Some.command.query.now in
     let binds = binds_of c.in-Some.command.binds.now in
     let run = c.in-Some.ensures in
-    rw (p.1, p.2) (inr ((q, binds, run), inputs_undone g.S.Shelf.tells (texts c.args.words.now) (g.S.Shelf.files c.args.shelf.now) q binds run (g.S.Shelf.read_faults c.args.shelf.now) (g.S.Shelf.read_faults c.load_inputs.new.shelf) c.in_ok-core.core (g.S.Shelf.read_faults c.load_query.new.shelf) c.in_ok-core.ensures.taken (rw c.inputs-inputs.ensures.names at c.in_ok-check_names.ensures) c.load_query.ensures.kept (report_of c.in_err-rows.field-0.0) (rw (c.load_query.ensures.rest.same_files, c.inputs-inputs.ensures.names) at c.in_err-rows.ensures.fault)))
+    rw (p.1, p.2) (inr ((q, binds, run), inputs_undone g.S.Shelf.tells (texts c.args.words.now) (g.S.Shelf.files c.args.shelf.now) q binds run (g.S.Shelf.read_faults c.args.shelf.now) (g.S.Shelf.read_faults c.load_inputs.new.shelf) c.in_ok-query.query.core (g.S.Shelf.read_faults c.load_query.new.shelf) c.in_ok-query.ensures.taken (rw c.inputs-inputs.ensures.names at c.in_ok-check_names.ensures) c.load_query.ensures.kept (report_of c.in_err-rows.field-0.0) (rw (c.load_query.ensures.rest.same_files, c.inputs-inputs.ensures.names) at c.in_err-rows.ensures.fault)))
 
 pub returns-clause-printed : goal.returns-clause-printed
 returns-clause-printed g c =
     λ told.
     let q = c.in-Some.command.query.now in
     let binds = binds_of c.in-Some.command.binds.now in
-    let core = c.in_ok-core.core in
+    let core = c.in_ok-query.query.core in
     let names = rw c.inputs-inputs.ensures.names at c.in_ok-check_names.ensures in
     let read = rw (c.load_query.ensures.rest.same_files, c.inputs-inputs.ensures.names) at (c.in_ok-rows.ensures.taken told) in
     let out = rw c.deref.ensures.value at c.in_ok-evaluate_query.ensures in
-    done q binds core c.in_ok-rows.rows.items c.in_ok-evaluate_query.field-0 c.in-Some.ensures (c.in_ok-core.ensures.taken told) names read out
+    done q binds core c.in_ok-rows.rows.items c.in_ok-evaluate_query.field-0 c.in-Some.ensures (c.in_ok-query.ensures.taken told) names read out

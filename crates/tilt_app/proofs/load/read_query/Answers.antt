@@ -24,4 +24,13 @@ pub returns-in_err-margins-clause-fault : goal.returns-in_err-margins-clause-fau
 returns-in_err-margins-clause-fault c =
     λ name.
     let p = err_from_is_err_and c.from_residual-in_err-margins.result c.from_residual-in_err-margins.ensures.1 in
-    rw (p.1, p.2) (reach_refuses name c.args.bytes.now c.in_ok-core.core c.in_err-margins.field-0.0 (has_core c) c.in_err-margins.ensures.margins)
+    rw (p.1, p.2) (reach_refuses name c.args.bytes.now c.in_ok-core.core c.in_err-margins.field-0.0
+    (record {
+      short = c.requires;
+      tokens = c.in_ok-tokens.tokens.items;
+      lexed = c.in_ok-tokens.ensures.tokens;
+      query = c.in_ok-query.query;
+      parsed = rw c.deref.ensures.value at c.in_ok-query.ensures.query;
+      accepted = c.in_ok-core.ensures;
+    })
+    c.in_err-margins.ensures.margins)
