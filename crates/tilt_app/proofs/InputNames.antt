@@ -1,15 +1,15 @@
 -- The names that the words bind, one after another.
-use Rattle.std.proofs.Common.{◌≡◌, inl, inr, ℕ, suc, true, List, [], ◌∷◌, ◌++◌, take, drop, refl, sym, ap, subst, ◌∙◌, arith, String, Option, Some, None, Contains, eqb}
-use Rattle.std.specs.declared.alloc.Global.{Global}
+use Rattle.std.proofs.Common.{◌≡◌, inl, inr, ℕ, suc, true, List, [], ◌∷◌, ◌++◌, take, drop, refl, sym, ap, subst, ◌∙◌, arith, Option, Some, None, Contains, eqb}
 use Rattle.std.specs.Str.{bytes_eq}
 use Rattle.std.proofs.lemmas.Bool.{cases_Bool, and_parts, false≢true, eqb-true}
-use Rattle.tilt_app.specs.Words.{Bind, binds_of}
+use Rattle.tilt_words.specs.Binding.{Binding, bindings_of}
+use Rattle.tilt_words.specs.declared.bind.Bind.{Bind}
 use Rattle.tilt_app.specs.Inputs.{is_among, bound_names, first_unexpected, first_unbound, first_of_two, file_of, faulty_name}
 
 -- the first unexpected name is looked for behind this place, and those before it are the names before this place
-pub record IsBehind (declared : List (List ℕ)) (words : List (String Global)) (before : List (List ℕ)) (place : ℕ) : Type 0 where
-  pub same : first_unexpected declared before (bound_names (binds_of (drop place words))) ≡ first_unexpected declared [] (bound_names (binds_of words))
-  pub among : (name : List ℕ) → is_among name before ≡ is_among name (bound_names (binds_of (take place words)))
+pub record IsBehind (declared : List (List ℕ)) (words : List Bind) (before : List (List ℕ)) (place : ℕ) : Type 0 where
+  pub same : first_unexpected declared before (bound_names (bindings_of (drop place words))) ≡ first_unexpected declared [] (bound_names (bindings_of words))
+  pub among : (name : List ℕ) → is_among name before ≡ is_among name (bound_names (bindings_of (take place words)))
 
 -- where no name is faulty, a file is bound to each declared name
 bytes_same : (xs ys : List ℕ) → bytes_eq xs ys ≡ true → xs ≡ ys
@@ -22,14 +22,14 @@ bytes_same (x ∷ xs) (y ∷ ys) h =
     let tails = bytes_same xs ys parts.1 in
     λ i. heads i ∷ tails i
 
-file_among : (binds : List Bind) (name : List ℕ) → is_among name (bound_names binds) ≡ true → Contains binds (record { name = name; file = file_of binds name })
+file_among : (binds : List Binding) (name : List ℕ) → is_among name (bound_names binds) ≡ true → Contains binds (record { name = name; file = file_of binds name })
 file_among [] name h = absurd (false≢true h)
 file_among (bind ∷ binds) name h =
     elim (cases_Bool (bytes_eq bind.name name)) [
       | inl same ↦
           let names = bytes_same bind.name name same in
           let file : file_of (bind ∷ binds) name ≡ bind.file = rw same refl in
-          let it : Bind = record { name = name; file = file_of (bind ∷ binds) name } in
+          let it : Binding = record { name = name; file = file_of (bind ∷ binds) name } in
           let is : bind ≡ it = λ i. record { name = names i; file = sym file i } in
           (0, omega arith, is)
       | inr differs ↦
@@ -55,7 +55,7 @@ unbound_none_of_two : (first second : Option (List ℕ)) → first_of_two first 
 unbound_none_of_two None second none = none
 unbound_none_of_two (Some name) second none = cc
 
-pub bound_file : (declared : List (List ℕ)) (binds : List Bind) (name : List ℕ) (before after : List (List ℕ)) → faulty_name declared binds ≡ None → declared ≡ before ++ name ∷ after → Contains binds (record { name = name; file = file_of binds name })
+pub bound_file : (declared : List (List ℕ)) (binds : List Binding) (name : List ℕ) (before after : List (List ℕ)) → faulty_name declared binds ≡ None → declared ≡ before ++ name ∷ after → Contains binds (record { name = name; file = file_of binds name })
 bound_file declared binds name before after none place =
     let unbound = unbound_none_of_two (first_unexpected declared [] (bound_names binds)) (first_unbound (bound_names binds) declared) none in
     file_among binds name (unbound_none (bound_names binds) name before after (ap (first_unbound (bound_names binds)) (sym place) ∙ unbound))

@@ -1,9 +1,9 @@
 -- The inputs, one behind another.
 use Rattle.std.proofs.Common.{◌≡◌, List, [], ◌∷◌, ◌++◌, ℕ, length, Result, Ok, Err, refl, sym, ap, ◌∙◌, arith}
 use Rattle.tilt_stream.specs.Snap.{Snapshot}
-use Rattle.tilt_app.specs.Outcome.{with_rows, input_read, inputs_read}
+use Rattle.tilt_app.specs.Run.{with_rows, input_read, inputs_read}
 use Rattle.tilt_app.specs.Report.{Reason}
-use Rattle.tilt_app.specs.Words.{Bind}
+use Rattle.tilt_words.specs.Binding.{Binding}
 use Rattle.tilt_app.specs.Inputs.{file_of}
 
 -- the rows in front of others, where there was no refusal
@@ -22,7 +22,7 @@ both_taken (Ok rows) (Ok others) all is = record { one = rows; more = others; on
 both_more : (first : Result (List Snapshot) Reason) (others : Result (List (List Snapshot)) Reason) (one : List Snapshot) (more : List (List Snapshot)) → first ≡ Ok one → others ≡ Ok more → with_rows first others ≡ Ok (one ∷ more)
 both_more first others one more p q = rw (p, q) refl
 
-module _ (files : List ℕ → List ℕ) (binds : List Bind) where
+module _ (files : List ℕ → List ℕ) (binds : List Binding) where
   -- one more input is taken
   pub read_more : (names : List (List ℕ)) (rows : List (List Snapshot)) (name : List ℕ) (new : List Snapshot) → inputs_read files binds names ≡ Ok rows → input_read files (file_of binds name) name ≡ Ok new → inputs_read files binds (names ++ name ∷ []) ≡ Ok (rows ++ new ∷ [])
   read_more [] rows name new is taken =

@@ -3,5 +3,4 @@ pub mod InputNames
 pub mod InputRows
 pub mod Loads
 pub mod Once
-pub mod OneCut
 pub mod Turns

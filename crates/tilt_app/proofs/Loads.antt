@@ -20,9 +20,10 @@ use Rattle.tilt_types.specs.declared.fault.CheckFault.{CheckFault}
 use Rattle.tilt_types.specs.declared.fault.CheckFault.TheVariants as check
 use Rattle.tilt_app.specs.Inputs.{faulty_name}
 use Rattle.tilt_app.specs.Load.{IsLoadFault, IsTooLong, IsNameFault, HasInputTurn}
-use Rattle.tilt_app.specs.Outcome.{RefusesQuery, no_core, far, long, no_tokens, no_statements, ill_formed, HasCore, TakesQuery, IsOutcome, no_query, no_names, no_series, refused, HasTurn, query_turn, input_turn, inputs_read}
-use Rattle.tilt_app.specs.Report.{Reason, Report, usage, refusal, read_fault, write_fault, out_of_memory, report_of_place, report_of_syntax, report_of_check, report_of_reach}
-use Rattle.tilt_app.specs.Words.{Bind, IsRun}
+use Rattle.tilt_app.specs.Cause.{IsUnanswered}
+use Rattle.tilt_app.specs.Run.{RefusesQuery, no_core, far, long, no_tokens, no_statements, ill_formed, HasCore, TakesQuery, IsRunOutcome, no_query, no_names, no_series, HasRunTurn, query_turn, input_turn, inputs_read}
+use Rattle.tilt_app.specs.Report.{Reason, Outcome, refused, Report, usage, refusal, read_fault, write_fault, out_of_memory, report_of_place, report_of_syntax, report_of_check, report_of_reach}
+use Rattle.tilt_words.specs.Binding.{Binding}
 
 -- a count that rose later rose
 pub rose_later : (before mid after : ℕ) → before ≤ mid → Rose mid after → Rose before after
@@ -90,30 +91,44 @@ pub reach_refuses : (name bytes : List ℕ) (core : CoreParts) (fault : ReachFau
 reach_refuses name bytes core (reach.TooFar back ahead) has is = λ _. far core (record { back = back; ahead = ahead }) has is
 reach_refuses name bytes core reach.OutOfMemory has is = tt
 
-module _ (tells : Type 0) (words : List (List ℕ)) (files : List ℕ → List ℕ) (query : List ℕ) (binds : List Bind) (run : IsRun words query binds) (before after : ℕ) where
-  -- why nothing is printed
+module _ (tells : Type 0) (files : List ℕ → List ℕ) (query : List ℕ) (binds : List Binding) (before after : ℕ) where
+  -- why `run` prints nothing
   abbrev pub IsUndone : Report → Type 0
-  IsUndone report = IsLoadFault tells (λ why. IsOutcome words files (refused (refusal why))) (HasTurn tells words files) before after report
+  IsUndone report = IsLoadFault tells (λ why. IsRunOutcome files query binds (refused (refusal why))) (HasRunTurn tells files query binds) before after report
 
   -- the query isn't taken
   pub query_undone : (report : Report) → IsLoadFault tells (RefusesQuery query (files query)) (λ which. which ≡ query) before after report → IsUndone report
   query_undone report fault =
-      load_fault_weaker tells tells (RefusesQuery query (files query)) (λ why. IsOutcome words files (refused (refusal why))) (λ which. which ≡ query) (HasTurn tells words files) before after before after (λ t. t) (λ why t refuses. no_query query binds why run refuses) (λ name rose same. (rose, rw same (query_turn query binds run))) report fault
+      load_fault_weaker tells tells (RefusesQuery query (files query)) (λ why. IsRunOutcome files query binds (refused (refusal why))) (λ which. which ≡ query) (HasRunTurn tells files query binds)
+      before after before after (λ t. t) (λ why t refuses. no_query why refuses) (λ name rose same. (rose, rw same query_turn)) report fault
 
   -- the words bind other names
   pub names_undone : (core : CoreParts) → (tells → TakesQuery (files query) core) → (report : Report) → IsNameFault core.inputs binds report → IsUndone report
   names_undone core taken usage fault = absurd fault
-  names_undone core taken (refusal why) fault = λ t. rw fault.1 (no_names query binds core fault.0 run (taken t) fault.2)
+  names_undone core taken (refusal why) fault = λ t. rw fault.1 (no_names core fault.0 (taken t) fault.2)
   names_undone core taken (read_fault name) fault = absurd fault
   names_undone core taken write_fault fault = absurd fault
   names_undone core taken out_of_memory fault = tt
 
   -- the turn of an input is a file's turn
-  pub turn_of_input : (core : CoreParts) → (tells → TakesQuery (files query) core) → faulty_name core.inputs binds ≡ None → (file : List ℕ) → HasInputTurn tells files binds core.inputs file → HasTurn tells words files file
+  pub turn_of_input : (core : CoreParts) → (tells → TakesQuery (files query) core) → faulty_name core.inputs binds ≡ None → (file : List ℕ) → HasInputTurn tells files binds core.inputs file
+      → HasRunTurn tells files query binds file
   turn_of_input core taken names file turn =
-      rw (← turn.is) (input_turn query binds turn.bind run turn.among (λ t. record { core = core; taken = taken t; names = names; input = turn.next t }))
+      rw (← turn.is) (input_turn turn.bind turn.among (λ t. record { core = core; taken = taken t; names = names; input = turn.next t }))
 
   -- an input isn't taken
-  pub inputs_undone : (core : CoreParts) (mid : ℕ) → (tells → TakesQuery (files query) core) → faulty_name core.inputs binds ≡ None → before ≤ mid → (report : Report) → IsLoadFault tells (λ why. inputs_read files binds core.inputs ≡ Err why) (HasInputTurn tells files binds core.inputs) mid after report → IsUndone report
+  pub inputs_undone : (core : CoreParts) (mid : ℕ) → (tells → TakesQuery (files query) core) → faulty_name core.inputs binds ≡ None → before ≤ mid → (report : Report)
+      → IsLoadFault tells (λ why. inputs_read files binds core.inputs ≡ Err why) (HasInputTurn tells files binds core.inputs) mid after report → IsUndone report
   inputs_undone core mid taken names low report fault =
-      load_fault_weaker tells tells (λ why. inputs_read files binds core.inputs ≡ Err why) (λ why. IsOutcome words files (refused (refusal why))) (HasInputTurn tells files binds core.inputs) (HasTurn tells words files) mid after before after (λ t. t) (λ why t is. no_series query binds core why run (taken t) names is) (λ name rose turn. (rose_later before mid after low rose, turn_of_input core taken names name turn)) report fault
+      load_fault_weaker tells tells (λ why. inputs_read files binds core.inputs ≡ Err why) (λ why. IsRunOutcome files query binds (refused (refusal why))) (HasInputTurn tells files binds core.inputs)
+      (HasRunTurn tells files query binds) mid after before after (λ t. t) (λ why t is. no_series core why (taken t) names is)
+      (λ name rose turn. (rose_later before mid after low rose, turn_of_input core taken names name turn)) report fault
+
+-- why a command prints nothing, where it is one that is built
+pub unanswered : (is_outcome : Outcome → Type 0) (has_turn : List ℕ → Type 0) (tells : Type 0) (before after : ℕ) (report : Report)
+    → IsLoadFault tells (λ why. is_outcome (refused (refusal why))) has_turn before after report → IsUnanswered is_outcome has_turn tells before after report
+unanswered is_outcome has_turn tells before after usage fault = absurd fault
+unanswered is_outcome has_turn tells before after (refusal why) fault = fault
+unanswered is_outcome has_turn tells before after (read_fault name) fault = fault
+unanswered is_outcome has_turn tells before after write_fault fault = absurd fault
+unanswered is_outcome has_turn tells before after out_of_memory fault = tt

@@ -1,5 +1,5 @@
 -- Words and files have one outcome.
-use Rattle.std.proofs.Common.{◌≡◌, ◌∙◌, List, ℕ, Result, Ok, Err, None, Some, refl, sym, ap, arith}
+use Rattle.std.proofs.Common.{◌≡◌, ◌∙◌, List, ℕ, Result, Ok, Err, None, Some, refl, sym, ap, subst, arith}
 use Rattle.tilt_lexer.proofs.Unique.{same_fault, tokens_or_fault, same_tokens}
 use Rattle.tilt_stream.specs.Snap.{Snapshot}
 use Rattle.tilt_stream.specs.Text.{text_of}
@@ -13,10 +13,11 @@ use Rattle.tilt_types.specs.Meaning.{output_of}
 use Rattle.tilt_types.specs.Needs.{Need}
 use Rattle.tilt_types.specs.declared.fault.CheckFault.{CheckFault}
 use Rattle.tilt_app.specs.Inputs.{faulty_name}
-use Rattle.tilt_app.specs.Words.{Bind, IsRun, IsCommand}
-use Rattle.tilt_app.specs.Report.{Reason, Report, usage, refusal, input_names, report_of_place, report_of_syntax, report_of_check}
-use Rattle.tilt_app.specs.Outcome.{Outcome, printed, refused, IsOutcome, no_command, no_query, no_names, no_series, done, HasCore, TakesQuery, HasNoCore, RefusesQuery, no_core, far, long, no_tokens, no_statements, ill_formed, inputs_read}
-use Rattle.tilt_app.proofs.OneCut.{run_once}
+use Rattle.tilt_words.specs.Binding.{Binding}
+use Rattle.tilt_words.specs.Command.{CommandValue, run, compile, exec, explain, start, resume_upto, resume_end, watch, try, IsCommand}
+use Rattle.tilt_app.specs.Report.{Outcome, printed, refused, Reason, Report, usage, refusal, input_names, report_of_place, report_of_syntax, report_of_check}
+use Rattle.tilt_app.specs.Outcome.{IsCommandOutcome, IsOutcome, no_command, does, IsBuilt}
+use Rattle.tilt_app.specs.Run.{HasCore, TakesQuery, HasNoCore, RefusesQuery, no_core, far, long, no_tokens, no_statements, ill_formed, inputs_read, IsRunOutcome, no_query, no_names, no_series, done}
 
 same_err : {f g : CheckFault} → (let x : Result CoreParts CheckFault = Err f in x ≡ Err g) → f ≡ g
 same_err e = cc
@@ -105,25 +106,6 @@ refused_or_taken name bytes r core (far core' widest has is) taken =
     let both : Ok taken.margins ≡ Err widest = sym taken.reach ∙ ap margins_of (core_once bytes core core' taken.has_core has) ∙ is in
     cc
 
--- the words name one query file, and bind one list of files
-module _ (words : List (List ℕ)) (files : List ℕ → List ℕ) (q q' : List ℕ) (b b' : List Bind) (run : IsRun words q b) (run' : IsRun words q' b') where
-  same_refusal : (r s : Reason) → RefusesQuery q (files q) r → RefusesQuery q' (files q') s → r ≡ s
-  same_refusal r s refuses refuses' =
-      refused_once q (files q) r s refuses (rw (← (run_once run run').0) at refuses')
-
-  not_both : (r : Reason) (core : CoreParts) → RefusesQuery q (files q) r → TakesQuery (files q') core → ⊥
-  not_both r core refuses taken =
-      refused_or_taken q (files q) r core refuses (rw (← (run_once run run').0) at taken)
-
-  same_core : (c c' : CoreParts) → TakesQuery (files q) c → TakesQuery (files q') c' → c ≡ c'
-  same_core c c' taken taken' = taken_once (files q) c c' taken (rw (← (run_once run run').0) at taken')
-
-  same_names : (c c' : CoreParts) → TakesQuery (files q) c → TakesQuery (files q') c' → faulty_name c.inputs b ≡ faulty_name c'.inputs b'
-  same_names c c' taken taken' = rw (same_core c c' taken taken', (run_once run run').1) refl
-
-  same_read : (c c' : CoreParts) → TakesQuery (files q) c → TakesQuery (files q') c' → inputs_read files b c.inputs ≡ inputs_read files b' c'.inputs
-  same_read c c' taken taken' = rw (same_core c c' taken taken', (run_once run run').1) refl
-
 same_text : (c d : CoreParts) (rows others : List (List Snapshot)) (list list' : List Snapshot) → c ≡ d → (let x : Result (List (List Snapshot)) Reason = Ok rows in x ≡ Ok others) → output_of c rows ≡ Some list → output_of d others ≡ Some list' → printed (text_of list) ≡ printed (text_of list')
 same_text c d rows others list list' same read is is' =
     let rows_same : rows ≡ others = cc in
@@ -131,74 +113,77 @@ same_text c d rows others list list' same read is is' =
     let lists : list ≡ list' = cc in
     rw lists refl
 
-module _ (words : List (List ℕ)) (files : List ℕ → List ℕ) where
-  no_command_once : (o : Outcome) → ¬ (IsCommand words) → IsOutcome words files o → refused usage ≡ o
-  no_command_once o none (no_command none') = refl
-  no_command_once o none (no_query q b r run refuses) = absurd (none (q, b, run))
-  no_command_once o none (no_names q b p n run taken is) = absurd (none (q, b, run))
-  no_command_once o none (no_series q b p r run taken names is) = absurd (none (q, b, run))
-  no_command_once o none (done q b p rows list run taken names read out) = absurd (none (q, b, run))
+-- `run` has one outcome
+module _ (files : List ℕ → List ℕ) (q : List ℕ) (b : List Binding) where
+  same_core : (c d : CoreParts) → TakesQuery (files q) c → TakesQuery (files q) d → c ≡ d
+  same_core c d taken taken' = taken_once (files q) c d taken taken'
 
-  no_query_once : (q : List ℕ) (b : List Bind) (r : Reason) (o : Outcome) → IsRun words q b → RefusesQuery q (files q) r → IsOutcome words files o → refused (refusal r) ≡ o
-  no_query_once q b r o run refuses (no_command none) = absurd (none (q, b, run))
-  no_query_once q b r o run refuses (no_query q' b' r' run' refuses') =
-      ap (λ (why : Reason). refused (refusal why)) (same_refusal words files q q' b b' run run' r r' refuses refuses')
-  no_query_once q b r o run refuses (no_names q' b' p n run' taken is) =
-      absurd (not_both words files q q' b b' run run' r p refuses taken)
-  no_query_once q b r o run refuses (no_series q' b' p r' run' taken names is) =
-      absurd (not_both words files q q' b b' run run' r p refuses taken)
-  no_query_once q b r o run refuses (done q' b' p rows list run' taken names read out) =
-      absurd (not_both words files q q' b b' run run' r p refuses taken)
+  same_names : (c d : CoreParts) → TakesQuery (files q) c → TakesQuery (files q) d → faulty_name c.inputs b ≡ faulty_name d.inputs b
+  same_names c d taken taken' = rw (same_core c d taken taken') refl
 
-  no_names_once : (q : List ℕ) (b : List Bind) (p : CoreParts) (n : List ℕ) (o : Outcome) → IsRun words q b → TakesQuery (files q) p → faulty_name p.inputs b ≡ Some n → IsOutcome words files o → refused (refusal (input_names n)) ≡ o
-  no_names_once q b p n o run taken is (no_command none) = absurd (none (q, b, run))
-  no_names_once q b p n o run taken is (no_query q' b' r run' refuses) =
-      absurd (not_both words files q' q b' b run' run r p refuses taken)
-  no_names_once q b p n o run taken is (no_names q' b' p' n' run' taken' is') =
-      let same = same_names words files q q' b b' run run' p p' taken taken' in
+  same_read : (c d : CoreParts) → TakesQuery (files q) c → TakesQuery (files q) d → inputs_read files b c.inputs ≡ inputs_read files b d.inputs
+  same_read c d taken taken' = rw (same_core c d taken taken') refl
+
+  run_once : (o p : Outcome) → IsRunOutcome files q b o → IsRunOutcome files q b p → o ≡ p
+  run_once o p (no_query r refuses) (no_query r' refuses') = ap (λ (why : Reason). refused (refusal why)) (refused_once q (files q) r r' refuses refuses')
+  run_once o p (no_query r refuses) (no_names c n taken is) = absurd (refused_or_taken q (files q) r c refuses taken)
+  run_once o p (no_query r refuses) (no_series c r' taken names is) = absurd (refused_or_taken q (files q) r c refuses taken)
+  run_once o p (no_query r refuses) (done c rows list taken names read out) = absurd (refused_or_taken q (files q) r c refuses taken)
+  run_once o p (no_names c n taken is) (no_query r refuses) = absurd (refused_or_taken q (files q) r c refuses taken)
+  run_once o p (no_names c n taken is) (no_names c' n' taken' is') =
+      let same = same_names c c' taken taken' in
       let name : n ≡ n' = cc in
       rw name refl
-  no_names_once q b p n o run taken is (no_series q' b' p' r run' taken' names is') =
-      let same = same_names words files q q' b b' run run' p p' taken taken' in
-      cc
-  no_names_once q b p n o run taken is (done q' b' p' rows list run' taken' names read out) =
-      let same = same_names words files q q' b b' run run' p p' taken taken' in
-      cc
-
-  no_series_once : (q : List ℕ) (b : List Bind) (p : CoreParts) (r : Reason) (o : Outcome) → IsRun words q b → TakesQuery (files q) p → faulty_name p.inputs b ≡ None → inputs_read files b p.inputs ≡ Err r → IsOutcome words files o → refused (refusal r) ≡ o
-  no_series_once q b p r o run taken names is (no_command none) = absurd (none (q, b, run))
-  no_series_once q b p r o run taken names is (no_query q' b' r' run' refuses) =
-      absurd (not_both words files q' q b' b run' run r' p refuses taken)
-  no_series_once q b p r o run taken names is (no_names q' b' p' n run' taken' is') =
-      let same = same_names words files q q' b b' run run' p p' taken taken' in
-      cc
-  no_series_once q b p r o run taken names is (no_series q' b' p' r' run' taken' names' is') =
-      let same = same_read words files q q' b b' run run' p p' taken taken' in
+  run_once o p (no_names c n taken is) (no_series c' r taken' names is') = let same = same_names c c' taken taken' in cc
+  run_once o p (no_names c n taken is) (done c' rows list taken' names read out) = let same = same_names c c' taken taken' in cc
+  run_once o p (no_series c r taken names is) (no_query r' refuses) = absurd (refused_or_taken q (files q) r' c refuses taken)
+  run_once o p (no_series c r taken names is) (no_names c' n taken' is') = let same = same_names c c' taken taken' in cc
+  run_once o p (no_series c r taken names is) (no_series c' r' taken' names' is') =
+      let same = same_read c c' taken taken' in
       let report : r ≡ r' = cc in
       rw report refl
-  no_series_once q b p r o run taken names is (done q' b' p' rows list run' taken' names' read out) =
-      let same = same_read words files q q' b b' run run' p p' taken taken' in
-      cc
+  run_once o p (no_series c r taken names is) (done c' rows list taken' names' read out) = let same = same_read c c' taken taken' in cc
+  run_once o p (done c rows list taken names read out) (no_query r refuses) = absurd (refused_or_taken q (files q) r c refuses taken)
+  run_once o p (done c rows list taken names read out) (no_names c' n taken' is) = let same = same_names c c' taken taken' in cc
+  run_once o p (done c rows list taken names read out) (no_series c' r taken' names' is) = let same = same_read c c' taken taken' in cc
+  run_once o p (done c rows list taken names read out) (done c' rows' list' taken' names' read' out') =
+      same_text c c' rows rows' list list' (same_core c c' taken taken') (sym read ∙ same_read c c' taken taken' ∙ read') out out'
 
-  done_once : (q : List ℕ) (b : List Bind) (p : CoreParts) (rows : List (List Snapshot)) (list : List Snapshot) (o : Outcome) → IsRun words q b → TakesQuery (files q) p → faulty_name p.inputs b ≡ None → inputs_read files b p.inputs ≡ Ok rows → output_of p rows ≡ Some list → IsOutcome words files o → printed (text_of list) ≡ o
-  done_once q b p rows list o run taken names read out (no_command none) = absurd (none (q, b, run))
-  done_once q b p rows list o run taken names read out (no_query q' b' r run' refuses) =
-      absurd (not_both words files q' q b' b run' run r p refuses taken)
-  done_once q b p rows list o run taken names read out (no_names q' b' p' n run' taken' is') =
-      let same = same_names words files q q' b b' run run' p p' taken taken' in
-      cc
-  done_once q b p rows list o run taken names read out (no_series q' b' p' r run' taken' names' is') =
-      let same = same_read words files q q' b b' run run' p p' taken taken' in
-      cc
-  done_once q b p rows list o run taken names read out (done q' b' p' rows' list' run' taken' names' read' out') =
-      same_text p p' rows rows' list list' (same_core words files q q' b b' run run' p p' taken taken') (sym read ∙ same_read words files q q' b b' run run' p p' taken taken' ∙ read') out out'
+-- a command has one outcome
+pub command_once : (files : List ℕ → List ℕ) (command : CommandValue) (o p : Outcome) → IsCommandOutcome files command o → IsCommandOutcome files command p → o ≡ p
+command_once files (run query binds plain cuts) o p is is' = run_once files query binds o p is is'
+command_once files (compile query plain) o p is is' = is ∙ sym is'
+command_once files (exec code binds) o p is is' = is ∙ sym is'
+command_once files (explain query) o p is is' = is ∙ sym is'
+command_once files (start query binds plain upto save) o p is is' = is ∙ sym is'
+command_once files (resume_upto checkpoint binds plain upto save) o p is is' = is ∙ sym is'
+command_once files (resume_end checkpoint binds plain) o p is is' = is ∙ sym is'
+command_once files (watch query binds plain) o p is is' = is ∙ sym is'
+command_once files (try seed count) o p is is' = is ∙ sym is'
 
-  -- words and files have one outcome
-  pub outcome_once : (o p : Outcome) → IsOutcome words files o → IsOutcome words files p → o ≡ p
-  outcome_once o p (no_command none) other = no_command_once p none other
-  outcome_once o p (no_query q b r run refuses) other = no_query_once q b r p run refuses other
-  outcome_once o p (no_names q b core n run taken is) other = no_names_once q b core n p run taken is other
-  outcome_once o p (no_series q b core r run taken names is) other =
-      no_series_once q b core r p run taken names is other
-  outcome_once o p (done q b core rows list run taken names read out) other =
-      done_once q b core rows list p run taken names read out other
+-- words and files have one outcome, since words are one command at most
+pub outcome_once : (words : List (List ℕ)) (files : List ℕ → List ℕ) → ((c d : CommandValue) → IsCommand words c → IsCommand words d → c ≡ d)
+    → (o p : Outcome) → IsOutcome words files o → IsOutcome words files p → o ≡ p
+outcome_once words files one o p (no_command none) (no_command none') = refl
+outcome_once words files one o p (no_command none) (does c is outcome) = absurd (none c is)
+outcome_once words files one o p (does c is outcome) (no_command none) = absurd (none c is)
+outcome_once words files one o p (does c is outcome) (does d is' outcome') =
+    command_once files c o p outcome (subst (λ (e : CommandValue). IsCommandOutcome files e p) (sym (one c d is is')) outcome')
+
+-- a command that is built has another outcome than that of words that are none
+run_no_usage : (files : List ℕ → List ℕ) (query : List ℕ) (binds : List Binding) (o : Outcome) → IsRunOutcome files query binds o → o ≡ refused usage → ⊥
+run_no_usage files query binds o (no_query why refuses) same = cc
+run_no_usage files query binds o (no_names core name taken is) same = cc
+run_no_usage files query binds o (no_series core why taken names is) same = cc
+run_no_usage files query binds o (done core rows list taken names read out) same = cc
+
+pub no_usage : (files : List ℕ → List ℕ) (command : CommandValue) → IsCommandOutcome files command (refused usage) → IsBuilt command → ⊥
+no_usage files (run query binds plain cuts) is built = run_no_usage files query binds (refused usage) is refl
+no_usage files (compile query plain) is built = built
+no_usage files (exec code binds) is built = built
+no_usage files (explain query) is built = built
+no_usage files (start query binds plain upto save) is built = built
+no_usage files (resume_upto checkpoint binds plain upto save) is built = built
+no_usage files (resume_end checkpoint binds plain) is built = built
+no_usage files (watch query binds plain) is built = built
+no_usage files (try seed count) is built = built

@@ -4,9 +4,9 @@ use Rattle.std.proofs.lemmas.List.{drop_more, length-take-le, take-append-drop, 
 use Rattle.tilt_stream.specs.Snap.{Snapshot}
 use Rattle.tilt_app.specs.Inputs.{faulty_name, file_of}
 use Rattle.tilt_app.specs.Load.{IsLoadFault, HasInputTurn}
-use Rattle.tilt_app.specs.Outcome.{input_read, inputs_read}
+use Rattle.tilt_app.specs.Run.{input_read, inputs_read}
 use Rattle.tilt_app.specs.Report.{Reason, Report}
-use Rattle.tilt_app.specs.Words.{Bind}
+use Rattle.tilt_words.specs.Binding.{Binding}
 use Rattle.tilt_app.proofs.InputNames.{bound_file}
 use Rattle.tilt_app.proofs.InputRows.{read_more, read_stops, as_many}
 use Rattle.tilt_app.proofs.Loads.{load_fault_weaker, rose_later}
@@ -17,10 +17,10 @@ parted xs x i low is =
     sym (take-append-drop i xs) ∙ ap (λ (d : List (List ℕ)). take i xs ++ d) (drop_more xs i x low ∙ ap (λ (y : List ℕ). y ∷ drop (i + 1) xs) (sym is))
 
 -- the rows of the inputs before a place
-abbrev pub AreRead : (List ℕ → List ℕ) → List Bind → List (List ℕ) → ℕ → Type 0
+abbrev pub AreRead : (List ℕ → List ℕ) → List Binding → List (List ℕ) → ℕ → Type 0
 AreRead files binds inputs i = (rows : List (List Snapshot)) × (inputs_read files binds (take i inputs) ≡ Ok rows)
 
-module _ (files : List ℕ → List ℕ) (binds : List Bind) (inputs : List (List ℕ)) (name : List ℕ) (i : ℕ) (low : i < length inputs) (is : name ≡ get_or inputs i name) where
+module _ (files : List ℕ → List ℕ) (binds : List Binding) (inputs : List (List ℕ)) (name : List ℕ) (i : ℕ) (low : i < length inputs) (is : name ≡ get_or inputs i name) where
   -- it is the turn of the input at a place
   pub turn_at : (tells : Type 0) (file : List ℕ) → faulty_name inputs binds ≡ None → file ≡ file_of binds name → (tells → AreRead files binds inputs i) → HasInputTurn tells files binds inputs file
   turn_at tells file names bound read = record {
@@ -57,5 +57,5 @@ module _ (files : List ℕ → List ℕ) (binds : List Bind) (inputs : List (Lis
       load_fault_weaker tells tells (λ r. input_read now file name ≡ Err r) (λ r. inputs_read files binds inputs ≡ Err r) (λ which. which ≡ file) (HasInputTurn tells files binds inputs) mid after before after (λ t. t) (λ r t refused. refused_at (read t).0 r (read t).1 (rw (same, bound) at refused)) (λ which rose at. (rose_later before mid after kept rose, rw at (turn_at tells file names bound read))) report fault
 
 -- all were taken
-pub all_taken : (files : List ℕ → List ℕ) (binds : List Bind) (inputs : List (List ℕ)) (rows : List (List Snapshot)) (i : ℕ) → length inputs ≤ i → inputs_read files binds (take i inputs) ≡ Ok rows → inputs_read files binds inputs ≡ Ok rows
+pub all_taken : (files : List ℕ → List ℕ) (binds : List Binding) (inputs : List (List ℕ)) (rows : List (List Snapshot)) (i : ℕ) → length inputs ≤ i → inputs_read files binds (take i inputs) ≡ Ok rows → inputs_read files binds inputs ≡ Ok rows
 all_taken files binds inputs rows i high read = rw (take_all i inputs high) at read

@@ -2,31 +2,31 @@
 use Rattle.std.specs.Prelude.{◌≡◌, ◌⊎◌, ◌++◌, ⊤, List, ℕ}
 use Rattle.tilt_outside.specs.Faults.{Rose}
 use Rattle.tilt_outside.specs.Written.{AppendsFront}
-use Rattle.tilt_app.specs.Load.{IsLoadFault}
-use Rattle.tilt_app.specs.Words.{IsCommand}
-use Rattle.tilt_app.specs.Report.{Report, usage, refusal, read_fault, write_fault, out_of_memory}
-use Rattle.tilt_app.specs.Outcome.{IsOutcome, printed, refused, HasTurn}
+use Rattle.tilt_app.specs.Report.{Outcome, printed, refused, Report, usage, refusal, read_fault, write_fault, out_of_memory}
 
--- Of the shelf: whether it tells what it holds, what each name holds, and its count of read faults before and after.
--- Of the output: whether it tells what was written, what was written before and after, and its count of faults.
-module _ (shelf_tells out_tells : Type 0) (words : List (List ℕ)) (files : List ℕ → List ℕ) (reads_before reads_after : ℕ) (old new : List ℕ) (puts_before puts_after : ℕ) where
-  -- a text is the outcome, where the shelf tells it, and a front of the text was written
-  pub record IsCutShort (text : List ℕ) : Type 0 where
-    pub outcome : shelf_tells → IsOutcome words files (printed text)
-    pub front : out_tells → AppendsFront old new text
+-- Of a command: which outcome it has, and whose turn it is to be read.
+module _ (is_outcome : Outcome → Type 0) (has_turn : List ℕ → Type 0) where
+  -- Of the shelf: whether it tells what it holds, and its count of read faults before and after.
+  module _ (shelf_tells : Type 0) (reads_before reads_after : ℕ) where
+    -- why nothing is printed: a read fault only where its count rose, and each refusal only where it is the outcome
+    abbrev pub IsUnanswered : Report → Type 0
+    IsUnanswered usage = is_outcome (refused usage)
+    IsUnanswered (refusal why) = shelf_tells → is_outcome (refused (refusal why))
+    IsUnanswered (read_fault name) = Rose reads_before reads_after × has_turn name
+    IsUnanswered write_fault = ⊥
+    IsUnanswered out_of_memory = ⊤
 
-  -- why this is reported: a fault only where its count rose, and each refusal only where it is the outcome
-  abbrev pub IsCause : Report → Type 0
-  IsCause usage = ¬ (IsCommand words)
-  IsCause (read_fault name) = Rose reads_before reads_after × HasTurn shelf_tells words files name
-  IsCause write_fault = Rose puts_before puts_after × ((text : List ℕ) × IsCutShort text)
-  IsCause out_of_memory = ⊤
-  IsCause (refusal why) = shelf_tells → IsOutcome words files (refused (refusal why))
+    -- Of the output: whether it tells what was written, what was written before and after, and its count of faults.
+    module _ (out_tells : Type 0) (old new : List ℕ) (puts_before puts_after : ℕ) where
+      -- a text is the outcome, where the shelf tells it, and a front of the text was written
+      pub record IsCutShort (text : List ℕ) : Type 0 where
+        pub outcome : shelf_tells → is_outcome (printed text)
+        pub front : out_tells → AppendsFront old new text
 
--- why nothing is printed: the words are no command, or they are one, and the query, the names or an input were not taken
-abbrev pub IsUnanswered : Type 0 → List (List ℕ) → (List ℕ → List ℕ) → ℕ → ℕ → Report → Type 0
-IsUnanswered tells words files before after report =
-    ((report ≡ usage) × ¬ (IsCommand words)) ⊎ (IsCommand words × IsLoadFault tells (λ why. IsOutcome words files (refused (refusal why))) (HasTurn tells words files) before after report)
+      -- why this is reported: the same, and a write fault only where the count of the output rose
+      abbrev pub IsCause : Report → Type 0
+      IsCause write_fault = Rose puts_before puts_after × ((text : List ℕ) × IsCutShort text)
+      IsCause report = IsUnanswered report
 
 -- the line was written, or a front of it where the count of faults rose
 abbrev pub IsLineWritten : List ℕ → List ℕ → List ℕ → ℕ → ℕ → Type 0

@@ -2,7 +2,7 @@
 use Rattle.std.specs.Prelude.{ℕ, Bool, not, ◌||◌, if◌then◌else◌, List, [], ◌∷◌, Option, Some, None, map}
 use Rattle.std.specs.List.{list_any, slice_index_or}
 use Rattle.std.specs.Str.{bytes_eq}
-use Rattle.tilt_app.specs.Words.{Bind}
+use Rattle.tilt_words.specs.Binding.{Binding}
 use Rattle.tilt_app.specs.declared.binds.FaultyName.{FaultyName}
 use Rattle.tilt_app.specs.declared.binds.FaultyName.TheVariants.{Bound, Input}
 
@@ -11,7 +11,7 @@ abbrev pub is_among : List ℕ → List (List ℕ) → Bool
 is_among name names = list_any (λ other. bytes_eq other name) names
 
 -- the names that are bound, in order
-abbrev pub bound_names : List Bind → List (List ℕ)
+abbrev pub bound_names : List Binding → List (List ℕ)
 bound_names binds = map (λ bind. bind.name) binds
 
 -- the first of the bound names that isn't declared, or is bound a second time behind those before
@@ -31,11 +31,11 @@ first_of_two None second = second
 first_of_two (Some name) second = Some name
 
 -- the faulty name that is told, where there is one
-abbrev pub faulty_name : List (List ℕ) → List Bind → Option (List ℕ)
+abbrev pub faulty_name : List (List ℕ) → List Binding → Option (List ℕ)
 faulty_name declared binds = first_of_two (first_unexpected declared [] (bound_names binds)) (first_unbound (bound_names binds) declared)
 
 -- the file that is bound to a name; no file where none is
-abbrev pub file_of : List Bind → List ℕ → List ℕ
+abbrev pub file_of : List Binding → List ℕ → List ℕ
 file_of [] name = []
 file_of (bind ∷ binds) name = if bytes_eq bind.name name then bind.file else file_of binds name
 

@@ -3,4 +3,4 @@ pub mod Inputs
 pub mod Load
 pub mod Outcome
 pub mod Report
-pub mod Words
+pub mod Run

@@ -11,6 +11,8 @@ use Rattle.tilt_types.specs.declared.fault.CheckFault.{CheckFault}
 use Rattle.tilt_types.specs.declared.fault.CheckFault.TheVariants as check
 use Rattle.tilt_bounds.specs.declared.fault.ReachFault.{ReachFault}
 use Rattle.tilt_bounds.specs.declared.fault.ReachFault.TheVariants as reach
+use Rattle.tilt_words.specs.declared.fault.WordsFault.{WordsFault}
+use Rattle.tilt_words.specs.declared.fault.WordsFault.TheVariants as words
 use Rattle.tilt_app.specs.declared.refusal.Refusal.{Refusal}
 use Rattle.tilt_app.specs.declared.refusal.Refusal.TheVariants as code
 use Rattle.tilt_app.specs.declared.refusal.StatementFault.{StatementFault}
@@ -37,6 +39,11 @@ pub data Report : Type 0 where
   write_fault : Report
   out_of_memory : Report
 
+-- a text, or a refusal
+pub data Outcome : Type 0 where
+  printed : List ℕ → Outcome
+  refused : Report → Outcome
+
 -- the reason of a refusal
 abbrev pub reason_of : Refusal → Reason
 reason_of (code.UnexpectedName name) = input_names name.now
@@ -56,6 +63,11 @@ report_of (Refused why) = refusal (reason_of why)
 report_of (ReadFault name) = read_fault name.now
 report_of WriteFault = write_fault
 report_of OutOfMemory = out_of_memory
+
+-- the report of words that give no command
+abbrev pub report_of_words : WordsFault → Report
+report_of_words words.Usage = usage
+report_of_words words.OutOfMemory = out_of_memory
 
 -- the report of a query whose text has a faulty place
 abbrev pub report_of_place : LexFault → Report

@@ -10,6 +10,7 @@ use tilt_lexer::LexFault;
 use tilt_outside::{Failed, Sink};
 use tilt_syntax::SyntaxFault;
 use tilt_types::CheckFault;
+use tilt_words::WordsFault;
 
 /// Why a command isn't done.
 #[derive(Drop)]
@@ -34,6 +35,20 @@ impl From<AllocError> for Fault<'_> {
 
     fn from(_: AllocError) -> Self {
         Fault::OutOfMemory
+    }
+}
+
+impl From<WordsFault> for Fault<'_> {
+    ghost use Rattle.std.specs.Prelude.{◌≡◌};
+    ghost use Rattle.tilt_app.specs.Report.{report_of, report_of_words};
+
+    ghost from_gives = { λ words fault. report_of fault ≡ report_of_words words };
+
+    fn from(words: WordsFault) -> Self {
+        match words {
+            WordsFault::Usage => Fault::Usage,
+            WordsFault::OutOfMemory => Fault::OutOfMemory,
+        }
     }
 }
 

@@ -3,9 +3,9 @@ ghost use Rattle.std.specs.Prelude.{◌≡◌, ◌≤◌, List, [], ◌∷◌, �
 ghost use Rattle.tilt_outside.specs.Reads.{OnlyReads};
 ghost use Rattle.tilt_app.specs.Inputs.{faulty_name};
 ghost use Rattle.tilt_app.specs.Load.{HasInputTurn, IsLoadFault, IsNameFault};
-ghost use Rattle.tilt_app.specs.Outcome.{inputs_read};
+ghost use Rattle.tilt_app.specs.Run.{inputs_read};
 ghost use Rattle.tilt_app.specs.Report.{report_of};
-ghost use Rattle.tilt_app.specs.Words.{binds_of};
+ghost use Rattle.tilt_words.specs.Binding.{bindings_of};
 
 use crate::binds::{FaultyName, faulty_name, file_bound};
 use crate::fault::Fault;
@@ -15,12 +15,13 @@ use std::alloc::{AllocError as OutOfMemory, Global};
 use tilt_lexer::Name;
 use tilt_outside::Shelf;
 use tilt_stream::Rows;
+use tilt_words::Bind;
 
 /// Refuses words that don't bind each input once, and nothing else.
-pub fn check_names<'a>(inputs: &[Name], binds: &'a [String]) -> Result<(), Fault<'a>>
+pub fn check_names<'a>(inputs: &[Name], binds: &'a [Bind]) -> Result<(), Fault<'a>>
     ensures { MatchResult result
-        (λ _. faulty_name inputs.now (binds_of binds.now) ≡ None)
-        (λ fault. IsNameFault inputs.now (binds_of binds.now) (report_of fault)) }
+        (λ _. faulty_name inputs.now (bindings_of binds.now) ≡ None)
+        (λ fault. IsNameFault inputs.now (bindings_of binds.now) (report_of fault)) }
 {
     match faulty_name(inputs, binds) {
         None => Ok(()),
@@ -37,16 +38,16 @@ pub fn load_inputs<'a, S: Shelf>(
     alloc: Global,
     shelf: &mut S,
     inputs: &[Name],
-    binds: &'a [String],
+    binds: &'a [Bind],
 ) -> Result<Vec<Rows>, Fault<'a>>
-    requires named { faulty_name inputs.now (binds_of binds.now) ≡ None }
+    requires named { faulty_name inputs.now (bindings_of binds.now) ≡ None }
     requires lent { (file : List ℕ)
-        → HasInputTurn S.tells (S.files shelf.old) (binds_of binds.now) inputs.now file → S.lends file }
-    ensures taken { S.tells → IfOk result (λ rows. inputs_read (S.files shelf.old) (binds_of binds.now) inputs.now ≡ Ok rows.items) }
+        → HasInputTurn S.tells (S.files shelf.old) (bindings_of binds.now) inputs.now file → S.lends file }
+    ensures taken { S.tells → IfOk result (λ rows. inputs_read (S.files shelf.old) (bindings_of binds.now) inputs.now ≡ Ok rows.items) }
     ensures many { IfOk result (λ rows. length rows.items ≡ length inputs.now) }
     ensures fault { IfErr result (λ fault. IsLoadFault S.tells
-        (λ why. inputs_read (S.files shelf.old) (binds_of binds.now) inputs.now ≡ Err why)
-        (HasInputTurn S.tells (S.files shelf.old) (binds_of binds.now) inputs.now)
+        (λ why. inputs_read (S.files shelf.old) (bindings_of binds.now) inputs.now ≡ Err why)
+        (HasInputTurn S.tells (S.files shelf.old) (bindings_of binds.now) inputs.now)
         (S.read_faults shelf.old) (S.read_faults shelf.new) (report_of fault)) }
     ensures kept { S.read_faults shelf.old ≤ S.read_faults shelf.new }
     ensures rest { OnlyReads S.files S.save_faults S.takes shelf.old shelf.new }

@@ -13,8 +13,8 @@ mod inputs;
 mod line;
 mod load;
 mod refusal;
+mod run;
 #[cfg(test)]
 mod tests;
-mod words;
 
 pub use command::tilt;

@@ -3,7 +3,7 @@ ghost use Rattle.std.specs.Prelude.{◌≡◌, ◌≤◌, ⊤, List, ℕ, Ok, Er
 ghost use Rattle.tilt_base.specs.declared.limits.TheConstants.{FILE};
 ghost use Rattle.tilt_bounds.specs.Margins.{margins_of};
 ghost use Rattle.tilt_outside.specs.Reads.{OnlyReads};
-ghost use Rattle.tilt_app.specs.Outcome.{TakesQuery, RefusesQuery, input_read};
+ghost use Rattle.tilt_app.specs.Run.{TakesQuery, RefusesQuery, input_read};
 ghost use Rattle.tilt_app.specs.Load.{IsLoadFault, IsTooLong};
 ghost use Rattle.tilt_app.specs.Report.{report_of};
 

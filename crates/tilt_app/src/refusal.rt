@@ -13,7 +13,7 @@ use tilt_series::SeriesFault;
 #[derive(Drop)]
 pub enum Refusal<'a> {
     /// The words bind this name, which isn't the name of an input, or which was bound before.
-    UnexpectedName(&'a str),
+    UnexpectedName(&'a Name),
     /// The words bind no file to the input of this name.
     UnboundInput(Name),
     /// The file of this name has more bytes than a file may have.
@@ -84,7 +84,7 @@ impl Refusal<'_> {
             (reason_words (reason_of self.now)) result }
     {
         match self {
-            Refusal::UnexpectedName(name) => put_named(err, b"2 input names: ", name.as_bytes()),
+            Refusal::UnexpectedName(name) => put_named(err, b"2 input names: ", name.bytes()),
             Refusal::UnboundInput(name) => put_named(err, b"2 input names: ", name.bytes()),
             Refusal::FileTooLong(name) => put_named(err, b"3 file too long: ", name.as_bytes()),
             Refusal::BadSeries { name, fault } => put_series(err, name.bytes(), fault),

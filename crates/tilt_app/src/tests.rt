@@ -608,13 +608,18 @@ fn words_of_no_command_are_refused(rt: HostRuntime) -> Result<(), Fail> {
         "run\nq\nxs",
         "run\nq\nx s=s",
         "run\nq\nx=s\n\n",
-        "run\nq\n--plain",
-        "run\nq\nx=s\n--plain",
-        "run\nq\nx=s\n--cut\n5",
         "run\nq\nx=s\n--cut=5",
+        "run\nq\nx=s\n--end",
         "Run\nq\nx=s",
-        "compile\nq",
         "\nq\nx=s",
+        // Commands that aren't built yet.
+        "compile\nq",
+        "explain\nq",
+        "exec\nq\nx=s",
+        "start\nq\nx=s\n--upto\n5\n--save\nc",
+        "resume\nq\nx=s\n--end",
+        "watch\nq\nx=s",
+        "try\n1\n1",
     ];
     for (i, words) in cases.into_iter().enumerate() {
         let files = [("q", QUERY), ("s", SERIES)];
@@ -631,6 +636,7 @@ fn names_are_taken_as_they_stand(rt: HostRuntime) -> Result<(), Fail> {
         ("run\nq\nx=x=s", "q", "x=s"),
         ("run\n-\nx=--s", "-", "--s"),
         ("run\nx=s\nx= ", "x=s", " "),
+        ("run\nq\n--cut\n-4,5,5\nx=s\n--plain", "q", "s"),
     ];
     for (i, (words, query, series)) in cases.into_iter().enumerate() {
         let files = [("s", b"".as_slice()), (query, QUERY), (series, SERIES)];

@@ -1,25 +1,86 @@
-use Rattle.std.proofs.Common.{◌∙◌, ap, inl, inr}
-use Rattle.tilt_app.specs.Report.{report_of, status_of}
-use Rattle.tilt_app.specs.Words.{texts}
-use Rattle.tilt_app.proofs.Complete.{only_memory, the_refusal, printed_or_refused}
+use Rattle.std.proofs.Common.{◌≡◌, ◌∙◌, sym, ap, subst, inl, inr, List, ℕ}
+use Rattle.tilt_words.specs.Command.{CommandValue, command_of, texts}
+use Rattle.tilt_app.specs.Outcome.{IsBuilt, IsCommandOutcome, HasCommandTurn, IsOutcome, does, HasTurn}
+use Rattle.tilt_app.specs.Report.{Report, report_of, status_of}
+use Rattle.tilt_app.proofs.Complete.{printed_or_refused, only_memory, the_refusal, wider_cause, status_of_usage, cause_of_usage, cause_of_words}
+use Rattle.tilt_app.proofs.Once.{outcome_once, no_usage}
 use Rattle.tilt_app.proofs.command.tilt.Goals as goal
 
-pub returns-in-Err-clause-complete : goal.returns-in-Err-clause-complete
-returns-in-Err-clause-complete g c =
-    λ told text outcome no_read no_put.
-    let memory = only_memory g.S.Shelf.tells g.O.Sink.tells _ _ _ _ _ _ _ _ told no_read (report_of c.in-Err.fault) text c.in-Err.ensures.cause outcome no_put in
-    inr (c.status.ensures ∙ ap status_of memory)
+pub done-requires-clause-room : goal.done-requires-clause-room
+done-requires-clause-room g c = λ text outcome. c.requires.room text (λ t. does (command_of c.in-Ok.command) c.in-Ok.ensures.command (outcome t))
 
-pub returns-in-Err-clause-complete_refusal : goal.returns-in-Err-clause-complete_refusal
-returns-in-Err-clause-complete_refusal g c =
+pub returns-in-Ok-done-clause-done : goal.returns-in-Ok-done-clause-done
+returns-in-Ok-done-clause-done g c =
+    λ zero.
+    let done = c.in-Ok-done.ensures.done in
+    (done.0, (λ t. does (command_of c.in-Ok.command) c.in-Ok.ensures.command (done.1 t)), done.2)
+
+pub returns-in-Ok-done-clause-complete_refusal : goal.returns-in-Ok-done-clause-complete_refusal
+returns-in-Ok-done-clause-complete_refusal g c =
     λ told report outcome no_read.
-    elim (the_refusal g.S.Shelf.tells g.O.Sink.tells _ _ _ _ _ _ _ _ told no_read (report_of c.in-Err.fault) report c.in-Err.ensures.cause outcome) [
-      | inl same ↦ inl (c.status.ensures ∙ ap status_of same)
-      | inr memory ↦ inr (c.status.ensures ∙ ap status_of memory)
-    ]
+    let words = texts c.args.words.now in
+    let files = g.S.Shelf.files c.args.shelf.now in
+    let done = c.in-Ok-done.ensures.done in
+    absurd (printed_or_refused (IsOutcome words files) (outcome_once words files c.in-Ok.ensures.one) done.0 report (does (command_of c.in-Ok.command) c.in-Ok.ensures.command (done.1 told)) outcome)
+
+pub returns-in-Ok-clause-reported : goal.returns-in-Ok-clause-reported
+returns-in-Ok-clause-reported g c =
+    λ some.
+    let words = texts c.args.words.now in
+    let files = g.S.Shelf.files c.args.shelf.now in
+    let command = command_of c.in-Ok.command in
+    let tells = g.S.Shelf.tells in (
+      report_of c.in-Err-done.fault,
+      c.tell.ensures.status,
+      (wider_cause (IsCommandOutcome files command) (IsOutcome words files) (HasCommandTurn tells files command) (HasTurn tells words files) tells _ _ _ _ _ _ _
+          (λ o outcome. does command c.in-Ok.ensures.command outcome) (λ name turn. (command, c.in-Ok.ensures.command, turn)) (report_of c.in-Err-done.fault) c.in-Err-done.ensures.cause),
+      c.tell.ensures.line,
+    )
+
+pub returns-in-Ok-clause-usage : goal.returns-in-Ok-clause-usage
+returns-in-Ok-clause-usage g c =
+    λ two runnable.
+    let files = g.S.Shelf.files c.args.shelf.now in
+    let command = command_of c.in-Ok.command in
+    let report = status_of_usage (report_of c.in-Err-done.fault) (sym c.tell.ensures.status ∙ two) in
+    let outcome = cause_of_usage (IsCommandOutcome files command) (HasCommandTurn g.S.Shelf.tells files command) g.S.Shelf.tells _ _ _ _ _ _ _ (report_of c.in-Err-done.fault) report c.in-Err-done.ensures.cause in
+    no_usage files command outcome (subst (λ (d : CommandValue). IsBuilt d) (c.in-Ok.ensures.one runnable.0 command runnable.1 c.in-Ok.ensures.command) runnable.2)
+
+pub returns-in-Ok-clause-complete : goal.returns-in-Ok-clause-complete
+returns-in-Ok-clause-complete g c =
+    λ told text outcome no_read no_put.
+    let words = texts c.args.words.now in
+    let files = g.S.Shelf.files c.args.shelf.now in
+    let command = command_of c.in-Ok.command in
+    let tells = g.S.Shelf.tells in
+    let cause =
+    wider_cause (IsCommandOutcome files command) (IsOutcome words files) (HasCommandTurn tells files command) (HasTurn tells words files) tells _ _ _ _ _ _ _
+    (λ o out. does command c.in-Ok.ensures.command out) (λ name turn. (command, c.in-Ok.ensures.command, turn)) (report_of c.in-Err-done.fault) c.in-Err-done.ensures.cause in
+    let memory = only_memory (IsOutcome words files) (outcome_once words files c.in-Ok.ensures.one) (HasTurn tells words files) tells _ _ _ _ _ _ _ told no_read (report_of c.in-Err-done.fault) text cause outcome no_put in
+    inr (c.tell.ensures.status ∙ ap status_of memory)
 
 pub returns-in-Ok-clause-complete_refusal : goal.returns-in-Ok-clause-complete_refusal
 returns-in-Ok-clause-complete_refusal g c =
     λ told report outcome no_read.
-    let done = c.in-Ok.ensures.done in
-    absurd (printed_or_refused (texts c.args.words.now) (g.S.Shelf.files c.args.shelf.now) done.0 report (done.1 told) outcome)
+    let words = texts c.args.words.now in
+    let files = g.S.Shelf.files c.args.shelf.now in
+    let command = command_of c.in-Ok.command in
+    let tells = g.S.Shelf.tells in
+    let cause =
+    wider_cause (IsCommandOutcome files command) (IsOutcome words files) (HasCommandTurn tells files command) (HasTurn tells words files) tells _ _ _ _ _ _ _
+    (λ o out. does command c.in-Ok.ensures.command out) (λ name turn. (command, c.in-Ok.ensures.command, turn)) (report_of c.in-Err-done.fault) c.in-Err-done.ensures.cause in
+    elim (the_refusal (IsOutcome words files) (outcome_once words files c.in-Ok.ensures.one) (HasTurn tells words files) tells _ _ _ _ _ _ _ told no_read (report_of c.in-Err-done.fault) report cause outcome) [
+      | inl same ↦ inl (c.tell.ensures.status ∙ ap status_of same)
+      | inr memory ↦ inr (c.tell.ensures.status ∙ ap status_of memory)
+    ]
+
+pub returns-clause-reported : goal.returns-clause-reported
+returns-clause-reported g c =
+    λ some.
+    let words = texts c.args.words.now in
+    let files = g.S.Shelf.files c.args.shelf.now in (
+      report_of c.from.result,
+      c.tell-in-Err.ensures.status,
+      (rw c.from.ensures (cause_of_words words files (HasTurn g.S.Shelf.tells words files) g.S.Shelf.tells _ _ g.O.Sink.tells _ _ _ _ c.in-Err.fault c.in-Err.ensures.usage)),
+      c.tell-in-Err.ensures.line,
+    )

@@ -2,7 +2,7 @@ use Rattle.std.proofs.Common.{◌≡◌}
 use Rattle.std.specs.Prelude.{⊤}
 use Rattle.std.proofs.lemmas.Result.{err_from_is_err_and, IfErr-weaker}
 use Rattle.tilt_app.specs.Load.{IsTooLong}
-use Rattle.tilt_app.specs.Outcome.{RefusesQuery}
+use Rattle.tilt_app.specs.Run.{RefusesQuery}
 use Rattle.tilt_app.specs.Report.{report_of}
 use Rattle.tilt_app.proofs.Loads.{load_fault_weaker, too_long_refuses}
 use Rattle.tilt_app.proofs.load.load_query.Goals as goal

@@ -1,10 +1,10 @@
 use Rattle.tilt_app.proofs.refusal.Refusal.put.Goals as goal
 
 pub returns-in-UnexpectedName : goal.returns-in-UnexpectedName
-returns-in-UnexpectedName g c = rw (c.in-UnexpectedName.is, ← c.as_bytes.ensures.value) c.put_named.ensures
+returns-in-UnexpectedName g c = rw (c.in-UnexpectedName.is, ← c.bytes.ensures.value) c.put_named.ensures
 
 pub returns-in-UnboundInput : goal.returns-in-UnboundInput
-returns-in-UnboundInput g c = rw (c.in-UnboundInput.is, ← c.bytes.ensures.value) c.put_named-in-UnboundInput.ensures
+returns-in-UnboundInput g c = rw (c.in-UnboundInput.is, ← c.bytes-in-UnboundInput.ensures.value) c.put_named-in-UnboundInput.ensures
 
 pub returns-in-BadByte : goal.returns-in-BadByte
 returns-in-BadByte g c = rw c.in-BadByte.is c.put_counted.ensures
