@@ -1,0 +1,12 @@
+pub mod Body
+pub mod Code
+pub mod Fault
+pub mod Grammar
+pub mod Line
+pub mod Listing
+pub mod Meaning
+pub mod Partial
+pub mod Reading
+pub mod References
+pub mod Run
+pub mod Turn
