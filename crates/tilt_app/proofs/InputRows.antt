@@ -1,5 +1,5 @@
 -- The inputs, one behind another.
-use Rattle.std.proofs.Common.{◌≡◌, List, [], ◌∷◌, ◌++◌, ℕ, length, Result, Ok, Err, refl, sym, ap, ◌∙◌, arith}
+use Rattle.std.proofs.Common.{◌≡◌, List, [], ◌∷◌, ◌++◌, ℕ, Result, Ok, Err, refl, sym, ap, ◌∙◌}
 use Rattle.tilt_stream.specs.Snap.{Snapshot}
 use Rattle.tilt_app.specs.Run.{with_rows, input_read, inputs_read}
 use Rattle.tilt_app.specs.Report.{Reason}
@@ -40,10 +40,3 @@ module _ (files : List ℕ → List ℕ) (binds : List Binding) where
   read_stops (n ∷ ns) more rows name why is refused =
       let both = both_taken (input_read files (file_of binds n) n) (inputs_read files binds ns) rows is in
       rw (both.one_is, read_stops ns more both.more name why both.more_is refused) refl
-
-  -- there are as many rows as inputs
-  pub as_many : (names : List (List ℕ)) (rows : List (List Snapshot)) → inputs_read files binds names ≡ Ok rows → length rows ≡ length names
-  as_many [] rows is = let none : rows ≡ [] = cc in rw none refl
-  as_many (n ∷ ns) rows is =
-      let both = both_taken (input_read files (file_of binds n) n) (inputs_read files binds ns) rows is in
-      rw both.all_is (omega (arith, as_many ns both.more both.more_is))

@@ -20,9 +20,8 @@ use Rattle.tilt_types.specs.declared.fault.CheckFault.{CheckFault}
 use Rattle.tilt_types.specs.declared.fault.CheckFault.TheVariants as check
 use Rattle.tilt_app.specs.Inputs.{faulty_name}
 use Rattle.tilt_app.specs.Load.{IsLoadFault, IsTooLong, IsNameFault, HasInputTurn}
-use Rattle.tilt_app.specs.Cause.{IsUnanswered}
 use Rattle.tilt_app.specs.Run.{RefusesQuery, no_core, far, long, no_tokens, no_statements, ill_formed, HasCore, TakesQuery, IsRunOutcome, no_query, no_names, no_series, HasRunTurn, query_turn, input_turn, inputs_read}
-use Rattle.tilt_app.specs.Report.{Reason, Outcome, refused, Report, usage, refusal, read_fault, write_fault, out_of_memory, report_of_place, report_of_syntax, report_of_check, report_of_reach}
+use Rattle.tilt_app.specs.Report.{Reason, refused, Report, usage, refusal, read_fault, write_fault, out_of_memory, report_of_place, report_of_syntax, report_of_check, report_of_reach}
 use Rattle.tilt_words.specs.Binding.{Binding}
 
 -- a count that rose later rose
@@ -123,12 +122,3 @@ module _ (tells : Type 0) (files : List ℕ → List ℕ) (query : List ℕ) (bi
       load_fault_weaker tells tells (λ why. inputs_read files binds core.inputs ≡ Err why) (λ why. IsRunOutcome files query binds (refused (refusal why))) (HasInputTurn tells files binds core.inputs)
       (HasRunTurn tells files query binds) mid after before after (λ t. t) (λ why t is. no_series core why (taken t) names is)
       (λ name rose turn. (rose_later before mid after low rose, turn_of_input core taken names name turn)) report fault
-
--- why a command prints nothing, where it is one that is built
-pub unanswered : (is_outcome : Outcome → Type 0) (has_turn : List ℕ → Type 0) (tells : Type 0) (before after : ℕ) (report : Report)
-    → IsLoadFault tells (λ why. is_outcome (refused (refusal why))) has_turn before after report → IsUnanswered is_outcome has_turn tells before after report
-unanswered is_outcome has_turn tells before after usage fault = absurd fault
-unanswered is_outcome has_turn tells before after (refusal why) fault = fault
-unanswered is_outcome has_turn tells before after (read_fault name) fault = fault
-unanswered is_outcome has_turn tells before after write_fault fault = absurd fault
-unanswered is_outcome has_turn tells before after out_of_memory fault = tt

@@ -1,6 +1,6 @@
 -- Whose turn it is, among the inputs of a query.
-use Rattle.std.proofs.Common.{◌≡◌, ◌<◌, ◌≤◌, ◌+◌, List, [], ◌∷◌, ◌++◌, ℕ, length, get_or, take, drop, Ok, Err, None, sym, ap, ◌∙◌, arith}
-use Rattle.std.proofs.lemmas.List.{drop_more, length-take-le, take-append-drop, take_more, take_all}
+use Rattle.std.proofs.Common.{◌≡◌, ◌<◌, ◌≤◌, ◌+◌, List, [], ◌∷◌, ◌++◌, ℕ, length, get_or, take, drop, Ok, Err, None, sym, ap, ◌∙◌}
+use Rattle.std.proofs.lemmas.List.{drop_more, take-append-drop, take_more, take_all}
 use Rattle.tilt_stream.specs.Snap.{Snapshot}
 use Rattle.tilt_app.specs.Inputs.{faulty_name, file_of}
 use Rattle.tilt_app.specs.Load.{IsLoadFault, HasInputTurn}
@@ -8,7 +8,7 @@ use Rattle.tilt_app.specs.Run.{input_read, inputs_read}
 use Rattle.tilt_app.specs.Report.{Reason, Report}
 use Rattle.tilt_words.specs.Binding.{Binding}
 use Rattle.tilt_app.proofs.InputNames.{bound_file}
-use Rattle.tilt_app.proofs.InputRows.{read_more, read_stops, as_many}
+use Rattle.tilt_app.proofs.InputRows.{read_more, read_stops}
 use Rattle.tilt_app.proofs.Loads.{load_fault_weaker, rose_later}
 
 -- a list, parted at an item
@@ -46,10 +46,6 @@ module _ (files : List ℕ → List ℕ) (binds : List Binding) (inputs : List (
   pub refused_at : (rows : List (List Snapshot)) (why : Reason) → inputs_read files binds (take i inputs) ≡ Ok rows → input_read files (file_of binds name) name ≡ Err why → inputs_read files binds inputs ≡ Err why
   refused_at rows why read refused =
       ap (inputs_read files binds) (parted inputs name i low is) ∙ read_stops files binds (take i inputs) (drop (i + 1) inputs) rows name why read refused
-
-  pub rows_before : (rows : List (List Snapshot)) → inputs_read files binds (take i inputs) ≡ Ok rows → length rows ≡ i
-  rows_before rows read =
-      as_many files binds (take i inputs) rows read ∙ length-take-le i inputs (omega arith)
 
   -- why the inputs aren't taken, where the one at the place isn't
   pub fault_at : (tells : Type 0) (now : List ℕ → List ℕ) (file : List ℕ) (before mid after : ℕ) → faulty_name inputs binds ≡ None → file ≡ file_of binds name → (tells → AreRead files binds inputs i) → now ≡ files → before ≤ mid → (report : Report) → IsLoadFault tells (λ r. input_read now file name ≡ Err r) (λ which. which ≡ file) mid after report → IsLoadFault tells (λ r. inputs_read files binds inputs ≡ Err r) (HasInputTurn tells files binds inputs) before after report

@@ -3,9 +3,9 @@
 //! What comes in first is a query, as `parse` of `tilt_syntax` gives it. `check` gives its core, or its first fault, by its
 //! one clause; in `specs/`, `Types` and `WellFormed` say what has a fault, and `Checked` what the core is.
 //!
-//! What comes in then is a core and the rows of its inputs. What they mean stands in `specs/` too: `Pointwise`, `Window` and
-//! `Domain` define the streams of operators, windows, grids and spans, `Meaning` those of a whole query and what it gives, and
-//! `Needs` how far a query looks back and ahead. `evaluate_query` gives what the query gives by its one clause, tick by tick,
+//! What comes in then is a core and the rows of its inputs. What they mean stands in `specs/` too: `Meaning` makes the
+//! streams of a whole query of the operators, windows, grids and stretches that `tilt_stream` defines, and says what it
+//! gives, and `Needs` says how far it looks back and ahead. `evaluate_query` gives what the query gives by its one clause, tick by tick,
 //! and `evaluate` the snapshots of any source; all of it changes only at marks, by the clauses of `changes_only_at_marks`.
 #![tactic(auto)]
 
