@@ -1,0 +1,12 @@
+//! The reducers, one number at a time. What comes in is numbers, in order; what goes out is the reducer's answer on all of
+//! them. The law stands on the trait: where a state holds a list (`Holds`), `finish` answers what the reducer is defined to
+//! give on that list, `empty` holds the empty one, and `add` makes it one number longer. Nothing here takes memory.
+#![tactic(auto)]
+
+mod count;
+mod reduction;
+mod sum;
+
+pub use count::CountR;
+pub use reduction::Reduction;
+pub use sum::{AvgR, SumR};

@@ -1,0 +1,82 @@
+// The sum and the average.
+ghost use Rattle.std.specs.Prelude.{◌≡◌, ◌<◌, ℤ, List, [], ◌∷◌, ◌++◌, length};
+ghost use Rattle.tilt_base.specs.declared.reducer.Reducer.TheVariants.{Avg, Sum};
+ghost use Rattle.tilt_reduce.specs.States.{IsSumAndCount};
+
+use crate::reduction::Reduction;
+use tilt_base::Cell;
+
+/// What a sum and an average keep. At most 2^63 numbers are added, so that 128 bits hold their sum.
+#[derive(Drop)]
+pub struct SumAndCount {
+    pub sum: i128,
+    pub count: u64,
+}
+
+impl SumAndCount {
+    fn empty() -> SumAndCount
+        ensures { IsSumAndCount result [] }
+    {
+        SumAndCount { sum: 0, count: 0 }
+    }
+
+    fn add(&mut self, number: i64)
+        requires { (ns : List ℤ) × IsSumAndCount self.old ns × (length ns < 9223372036854775807) }
+        ensures { (ns : List ℤ) → IsSumAndCount self.old ns → IsSumAndCount self.new (ns ++ number ∷ []) }
+    {
+        self.sum += i128::from(number);
+        self.count += 1;
+    }
+}
+
+/// The exact sum: null where 64 bits don't hold it.
+pub struct SumR;
+
+impl Reduction for SumR {
+    type State = SumAndCount;
+
+    ghost reducer = { Sum };
+
+    ghost Holds = { IsSumAndCount };
+
+    fn empty() -> SumAndCount {
+        SumAndCount::empty()
+    }
+
+    fn add(state: &mut SumAndCount, number: i64) {
+        state.add(number);
+    }
+
+    fn finish(state: &SumAndCount) -> Cell {
+        if state.count == 0 {
+            return None;
+        }
+        i64::try_from(state.sum).ok()
+    }
+}
+
+/// The exact sum divided by the number of the numbers, truncated toward zero.
+pub struct AvgR;
+
+impl Reduction for AvgR {
+    type State = SumAndCount;
+
+    ghost reducer = { Avg };
+
+    ghost Holds = { IsSumAndCount };
+
+    fn empty() -> SumAndCount {
+        SumAndCount::empty()
+    }
+
+    fn add(state: &mut SumAndCount, number: i64) {
+        state.add(number);
+    }
+
+    fn finish(state: &SumAndCount) -> Cell {
+        if state.count == 0 {
+            return None;
+        }
+        i64::try_from(state.sum / i128::from(state.count)).ok()
+    }
+}
