@@ -56,7 +56,7 @@ impl<R: Reduction> Window for Refold<R> {
         Ok(())
     }
 
-    /// Never fails, since it takes no memory.
+    /// Does what `take_first` does, and so takes no memory.
     fn pop_front(&mut self) -> Result<Option<Cell>, OutOfMemory> {
         Ok(self.take_first())
     }

@@ -1,4 +1,4 @@
-use Rattle.std.proofs.Common.{◌≡◌, ◌∙◌, ℤ, pos, List, [], ◌∷◌, length, Option, Some, FitsSigned, int_div, to_z, of_z, subst, sym, ap, refl, arith, rules}
+use Rattle.std.proofs.Common.{◌≡◌, ◌∙◌, ℤ, pos, List, [], ◌∷◌, length, Some, FitsSigned, int_div, subst, sym, ap, refl, arith, rules}
 use Rattle.std.specs.Int.{w64, w128}
 use Rattle.std.specs.Result.{result_ok}
 use Rattle.std.proofs.lemmas.Int.{quot_is}
