@@ -4,9 +4,15 @@
 #![tactic(auto)]
 
 mod count;
+mod end;
+mod extreme;
 mod reduction;
 mod sum;
+mod truth;
 
 pub use count::CountR;
+pub use end::{FirstR, LastR};
+pub use extreme::{MaxR, MinR};
 pub use reduction::Reduction;
 pub use sum::{AvgR, SumR};
+pub use truth::{AllR, AnyR};

@@ -1,0 +1,85 @@
+// Whether one of the numbers is true, and whether each is. Any number but 0 is true.
+ghost use Rattle.std.specs.Prelude.{◌≡◌, ◌<◌, ℤ, List, [], ◌∷◌, ◌++◌, length};
+ghost use Rattle.tilt_base.specs.declared.reducer.Reducer.TheVariants.{All, Any};
+ghost use Rattle.tilt_reduce.specs.States.{IsTrueCount};
+
+use crate::reduction::Reduction;
+use tilt_base::Cell;
+
+/// How many of the numbers are true, and how many they are.
+#[derive(Drop)]
+pub struct TrueCount {
+    pub true_ones: u64,
+    pub count: u64,
+}
+
+impl TrueCount {
+    fn empty() -> TrueCount
+        ensures { IsTrueCount result [] }
+    {
+        TrueCount {
+            true_ones: 0,
+            count: 0,
+        }
+    }
+
+    fn add(&mut self, number: i64)
+        requires { (ns : List ℤ) × IsTrueCount self.old ns × (length ns < 9223372036854775807) }
+        ensures { (ns : List ℤ) → IsTrueCount self.old ns → IsTrueCount self.new (ns ++ number ∷ []) }
+    {
+        self.true_ones += u64::from(number != 0);
+        self.count += 1;
+    }
+}
+
+/// 1 where a number is true, else 0.
+pub struct AnyR;
+
+impl Reduction for AnyR {
+    type State = TrueCount;
+
+    ghost reducer = { Any };
+
+    ghost Holds = { IsTrueCount };
+
+    fn empty() -> TrueCount {
+        TrueCount::empty()
+    }
+
+    fn add(state: &mut TrueCount, number: i64) {
+        state.add(number);
+    }
+
+    fn finish(state: &TrueCount) -> Cell {
+        if state.count == 0 {
+            return None;
+        }
+        Some(i64::from(state.true_ones != 0))
+    }
+}
+
+/// 1 where every number is true, else 0.
+pub struct AllR;
+
+impl Reduction for AllR {
+    type State = TrueCount;
+
+    ghost reducer = { All };
+
+    ghost Holds = { IsTrueCount };
+
+    fn empty() -> TrueCount {
+        TrueCount::empty()
+    }
+
+    fn add(state: &mut TrueCount, number: i64) {
+        state.add(number);
+    }
+
+    fn finish(state: &TrueCount) -> Cell {
+        if state.count == 0 {
+            return None;
+        }
+        Some(i64::from(state.true_ones == state.count))
+    }
+}
