@@ -8,6 +8,8 @@ mod end;
 mod extreme;
 mod reduction;
 mod sum;
+#[cfg(test)]
+mod tests;
 mod truth;
 
 pub use count::CountR;
