@@ -3,6 +3,8 @@
 #![tactic(auto)]
 
 mod refold;
+#[cfg(test)]
+mod tests;
 mod window;
 
 pub use refold::Refold;

@@ -1,6 +1,5 @@
 // The window that reduces all of its cells anew.
-ghost use Rattle.std.specs.Prelude.{◌≡◌, ◌<◌, ℤ, List, [], ◌∷◌, ◌++◌, Option, length, IfOk, OnErr, OnOk};
-ghost use Rattle.tilt_base.specs.Reduce.{numbers, reduce};
+ghost use Rattle.std.specs.Prelude.{◌≡◌, []};
 ghost use Rattle.tilt_window.specs.Taken.{IsFirstTaken};
 
 use crate::window::Window;
