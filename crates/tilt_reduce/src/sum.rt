@@ -6,10 +6,12 @@ ghost use Rattle.tilt_reduce.specs.States.{IsSumAndCount};
 use crate::reduction::Reduction;
 use tilt_base::Cell;
 
-/// What a sum and an average keep. At most 2^63 numbers are added, so that 128 bits hold their sum.
+/// What a sum and an average keep. Fewer than 2^63 numbers are added, so that 128 bits hold their sum.
 #[derive(Drop)]
 pub struct SumAndCount {
+    /// Their exact sum.
     pub sum: i128,
+    /// How many they are.
     pub count: u64,
 }
 

@@ -1,3 +1,4 @@
+// What the nine reducers answer on some lists.
 ghost use Rattle.std.specs.Prelude.{◌≡◌, ◌<◌, length};
 ghost use Rattle.tilt_base.specs.Reduce.{reduce};
 

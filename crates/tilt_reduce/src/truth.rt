@@ -6,10 +6,12 @@ ghost use Rattle.tilt_reduce.specs.States.{IsTrueCount};
 use crate::reduction::Reduction;
 use tilt_base::Cell;
 
-/// How many of the numbers are true, and how many they are.
+/// What both keep of the numbers.
 #[derive(Drop)]
 pub struct TrueCount {
+    /// How many of them are true.
     pub true_ones: u64,
+    /// How many they are.
     pub count: u64,
 }
 

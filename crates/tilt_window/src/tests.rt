@@ -1,3 +1,4 @@
+// What windows answer while they move over some cells.
 ghost use Rattle.std.specs.Prelude.{◌≡◌, ◌<◌, ◌+◌, ◌++◌, length, OnOk};
 
 use crate::{Refold, Window};
