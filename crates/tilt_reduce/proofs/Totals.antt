@@ -8,14 +8,14 @@ use Rattle.tilt_base.specs.Reduce.{total}
 use Rattle.tilt_base.proofs.Average.{average_fits}
 
 fold_low : (s : ℤ) (ns : List ℤ) → All (FitsSigned w64) ns →
-  (s +ℤ neg_ℤ (pos (9223372036854775808 * length ns))) ≤ℤ fold ◌+ℤ◌ s ns
+    (s +ℤ neg_ℤ (pos (9223372036854775808 * length ns))) ≤ℤ fold ◌+ℤ◌ s ns
 fold_low s [] fits = omega (arith, ints)
 fold_low s (n ∷ ns) fits =
     let head = (All-head (FitsSigned w64) n ns fits).sfits in
     omega (arith, ints, fold_low (s +ℤ n) ns (All-tail (FitsSigned w64) n ns fits))
 
 fold_high : (s : ℤ) (ns : List ℤ) → All (FitsSigned w64) ns →
-  fold ◌+ℤ◌ s ns ≤ℤ (s +ℤ pos (9223372036854775807 * length ns))
+    fold ◌+ℤ◌ s ns ≤ℤ (s +ℤ pos (9223372036854775807 * length ns))
 fold_high s [] fits = omega (arith, ints)
 fold_high s (n ∷ ns) fits =
     let head = (All-head (FitsSigned w64) n ns fits).sfits in
@@ -34,13 +34,13 @@ pub total_push : (ns : List ℤ) (n : ℤ) → total (ns ++ n ∷ []) ≡ total 
 total_push ns n = fold_push ◌+ℤ◌ (pos 0) ns n
 
 fits_128_bits : (z : ℤ) (k : ℕ) →
-  neg_ℤ (pos (9223372036854775808 * k)) ≤ℤ z → z ≤ℤ pos (9223372036854775808 * k) → k ≤ 9223372036854775808 → FitsSigned w128 z
+    neg_ℤ (pos (9223372036854775808 * k)) ≤ℤ z → z ≤ℤ pos (9223372036854775808 * k) → k ≤ 9223372036854775808 → FitsSigned w128 z
 fits_128_bits (pos a) k low high small = record { sfits = omega (arith, ints) }
 fits_128_bits (negsuc a) k low high small = record { sfits = omega (arith, ints) }
 
 -- fewer than 2^63 numbers add up to a sum of 128 bits, also with one more
 pub total_fits : (ns : List ℤ) (n : ℤ) → All (FitsSigned w64) ns → FitsSigned w64 n →
-  length ns < 9223372036854775808 → FitsSigned w128 (total ns +ℤ n)
+    length ns < 9223372036854775808 → FitsSigned w128 (total ns +ℤ n)
 total_fits ns n fits last few =
     let low = total_low ns fits in
     let high = total_high ns fits in

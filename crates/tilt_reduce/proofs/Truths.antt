@@ -15,7 +15,7 @@ pub any_by_count : (ns : List ℤ) → list_any is_true ns ≡ not (count_by is_
 any_by_count [] = refl
 any_by_count (n ∷ ns) =
     rw (sum_by-cons (λ m. cond (is_true m) 1 0) n ns)
-      (any_more (is_true n) (list_any is_true ns) (count_by is_true ns) (any_by_count ns))
+    (any_more (is_true n) (list_any is_true ns) (count_by is_true ns) (any_by_count ns))
 
 all_more : (one rest : Bool) (count all : ℕ) → count ≤ all → rest ≡ (count == all) → (one && rest) ≡ (cond one 1 0 + count == suc all)
 all_more true rest count all few is = grind (arith, nat_tests)
@@ -26,7 +26,7 @@ pub all_by_count : (ns : List ℤ) → list_all is_true ns ≡ (count_by is_true
 all_by_count [] = refl
 all_by_count (n ∷ ns) =
     rw (sum_by-cons (λ m. cond (is_true m) 1 0) n ns)
-      (all_more (is_true n) (list_all is_true ns) (count_by is_true ns) (length ns) (count_by-le-length is_true ns) (all_by_count ns))
+    (all_more (is_true n) (list_all is_true ns) (count_by is_true ns) (length ns) (count_by-le-length is_true ns) (all_by_count ns))
 
 -- a test as a number is its truth value
 pub truth_is : (n : ℤ) (holds test : Bool) → n ≡ pos (from_bool test) → holds ≡ test → Some (to_z w64 (of_z w64 n)) ≡ truth holds

@@ -9,7 +9,7 @@ use Rattle.tilt_reduce.proofs.sum.SumAndCount.add.Goals as goal
 
 -- the sum that the code takes in 128 bits
 sum_is : (s wide n : ℤ) → FitsSigned w128 s → FitsSigned w128 wide → FitsSigned w64 n → wide ≡ to_z w64 (of_z w64 n) →
-  to_z w128 (of_z w128 s) +ℤ to_z w128 (of_z w128 wide) ≡ s +ℤ n
+    to_z w128 (of_z w128 s) +ℤ to_z w128 (of_z w128 wide) ≡ s +ℤ n
 sum_is s wide n s_fits wide_fits n_fits widened =
     rw (to_z-of_z w128 s s_fits, to_z-of_z w128 wide wide_fits, widened, to_z-of_z w64 n n_fits) refl
 
@@ -18,7 +18,7 @@ overflow_add-self c =
     let (ns, held, few) = c.requires in
     let n = c.args.number in
     rw (sum_is c.args.self.now.sum c.from.result n (search rules) (search rules) c.ranges.number c.from.ensures, held.sum)
-      (total_fits ns n held.fits c.ranges.number (omega arith))
+    (total_fits ns n held.fits c.ranges.number (omega arith))
 
 pub returns : goal.returns
 returns c = λ ns held.
@@ -27,7 +27,7 @@ returns c = λ ns held.
     let fits = total_fits ns n held.fits c.ranges.number (omega (arith, held.count, other.count)) in
     record {
       sum = rw (sum_is c.args.self.now.sum c.from.result n (search rules) (search rules) c.ranges.number c.from.ensures, held.sum, to_z-of_z w128 (total ns +ℤ n) fits)
-        (sym (total_push ns n));
+          (sym (total_push ns n));
       count = omega (arith, held.count, length_push ns n);
       fits = All-push (FitsSigned w64) ns n held.fits c.ranges.number;
     }

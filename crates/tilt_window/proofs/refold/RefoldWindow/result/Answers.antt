@@ -12,7 +12,7 @@ abbrev read : List (Bor (Option ℤ)) → List ℤ
 read yielded = numbers (map (λ cell. cell.now) yielded)
 
 few_read : (yielded : List (Bor (Option ℤ))) (all : List (Option ℤ)) →
-  length yielded < length all → length all ≤ 4611686018427387904 → length (read yielded) < 9223372036854775807
+    length yielded < length all → length all ≤ 4611686018427387904 → length (read yielded) < 9223372036854775807
 few_read yielded all turn held =
     let cells : List (Option ℤ) = map (λ cell. cell.now) yielded in
     omega (arith, length-numbers cells, length-map yielded (λ (cell : Bor (Option ℤ)). cell.now))
@@ -36,7 +36,7 @@ loop-cell-preserved-in-Some-cell g c =
     let turn = YieldsList-turn cells c.loop-cell.yielded _ c.loop-cell.yielded_by _ _ c.in-Some.cell c.in-Some.is c.next.ensures.steps in
     let added = c.add.ensures numbers_read (few_read _ _ turn.0 c.self.invariant) c.loop-cell.invariant in
     rw (read_more c.loop-cell.yielded c.in-Some.cell, c.in-Some-cell.is)
-      (subst (λ n. g.R.Reduction.Holds c.add.new.state (numbers_read ++ n ∷ [])) (to_z-of_z w64 _ fits) added)
+    (subst (λ n. g.R.Reduction.Holds c.add.new.state (numbers_read ++ n ∷ [])) (to_z-of_z w64 _ fits) added)
 
 pub loop-cell-preserved : goal.loop-cell-preserved
 loop-cell-preserved g c =
