@@ -1,18 +1,12 @@
 -- The turns of a loop: its snapshots, made one after the other (the TiLT paper's loop from change to change; where a snapshot ends is our
 -- own rule). A turn looks at one cell of the body, and at the body's marks above it.
-use Rattle.std.specs.Prelude.{◌≡◌, ℕ, zero, suc, ℤ, pos, ◌+ℤ◌, ◌-ℤ◌, ◌<ℤ◌, if◌then◌else◌, List, [], ◌∷◌, Option, Some, None, int_lt, true, false}
+use Rattle.std.specs.Prelude.{◌≡◌, ℕ, zero, suc, ℤ, pos, ◌+ℤ◌, ◌-ℤ◌, ◌<ℤ◌, if◌then◌else◌, List, [], ◌∷◌, Option, Some, None, int_lt}
 use Rattle.std.specs.Int.{int_gap, int_min}
 use Rattle.tilt_base.specs.Grid.{GridPoints, ceil, floor}
 use Rattle.tilt_code.specs.Body.{body_of}
 use Rattle.tilt_code.specs.Code.{LoopParts}
 use Rattle.tilt_stream.specs.Snap.{Snapshot}
 use Rattle.tilt_stream.specs.Stream.{Stream}
-
--- the least tick above `tick` that has a mark
-pub record IsNextMark (x : Stream) (tick next : ℤ) : Type 0 where
-  pub above : tick <ℤ next
-  pub marked : x.mark next ≡ true
-  pub least : (other : ℤ) → tick <ℤ other → other <ℤ next → x.mark other ≡ false
 
 -- the first of so many ticks behind `tick` that has a mark
 abbrev pub next_mark : Stream → ℤ → ℕ → Option ℤ

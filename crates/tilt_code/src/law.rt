@@ -1,7 +1,7 @@
 // Laws of the meaning of codes.
 ghost use Rattle.std.specs.Int.{int_min};
 ghost use Rattle.std.specs.List.{AllByRecursion};
-ghost use Rattle.std.specs.Prelude.{List, ◌≡◌, [], ◌∷◌, ◌++◌, ℤ, pos, neg_ℤ, ◌+ℤ◌, ◌-ℤ◌, ◌<ℤ◌, ◌≤ℤ◌, map, false};
+ghost use Rattle.std.specs.Prelude.{List, ◌≡◌, [], ◌∷◌, ◌++◌, ℤ, pos, neg_ℤ, ◌+ℤ◌, ◌-ℤ◌, ◌<ℤ◌, ◌≤ℤ◌, map};
 ghost use Rattle.tilt_base.specs.Grid.{GridPoints, IsGrid, ceil, floor};
 ghost use Rattle.tilt_base.specs.declared.limits.TheConstants.{WIDE};
 ghost use Rattle.tilt_code.specs.Body.{body_of};
@@ -9,8 +9,9 @@ ghost use Rattle.tilt_code.specs.Code.{LoopParts, CodeParts};
 ghost use Rattle.tilt_code.specs.Meaning.{IsTimed, loop_of, with_loops, meaning_of};
 ghost use Rattle.tilt_code.specs.References.{IsCode};
 ghost use Rattle.tilt_code.specs.Run.{buffers_of, run_of};
-ghost use Rattle.tilt_code.specs.Turn.{IsNextMark, Fill, turn, turns_until, turns};
+ghost use Rattle.tilt_code.specs.Turn.{Fill, turn, turns_until, turns};
 ghost use Rattle.tilt_stream.specs.Agreement.{ChangesOnlyAtMarks};
+ghost use Rattle.tilt_stream.specs.Marks.{IsNextMark, HasNoMarkAbove};
 ghost use Rattle.tilt_stream.specs.Snap.{Snapshot, AreSnapshots};
 ghost use Rattle.tilt_stream.specs.Snapshots.{snapshots};
 ghost use Rattle.tilt_stream.specs.Stream.{Stream, SameStream, stream_of};
@@ -29,7 +30,7 @@ pub fn turns_end_by_marks()
         → IsNextMark body (ceil grid (start +ℤ pos 1)) next
         → (turn body grid hi start).end ≡ int_min hi (floor grid (next -ℤ pos 1)) }
     ensures without_mark { (body : Stream) (grid : GridPoints) (hi start : ℤ) → IsGrid grid → start <ℤ hi
-        → ((tick : ℤ) → ceil grid (start +ℤ pos 1) <ℤ tick → body.mark tick ≡ false)
+        → HasNoMarkAbove body (ceil grid (start +ℤ pos 1))
         → (turn body grid hi start).end ≡ hi }
 {}
 

@@ -2,5 +2,6 @@ pub mod Constancy
 pub mod Locality
 pub mod Order
 pub mod Cut
+pub mod Ended
 pub mod Filled
 pub mod Streams

@@ -1,5 +1,6 @@
 pub mod Agreement
 pub mod Domain
+pub mod Marks
 pub mod Pointwise
 pub mod Snap
 pub mod Snapshots

@@ -1,5 +1,5 @@
 -- Snapshots, and lists of them in the order of time. Times are ticks, and `(start, end]` is the ticks behind the start, up to the end.
-use Rattle.std.specs.Prelude.{◌≡◌, ℤ, ◌<ℤ◌, ◌≤ℤ◌, neg_ℤ, List, [], ◌∷◌, Option, Some, None, ⊤, if◌then◌else◌, int_lt}
+use Rattle.std.specs.Prelude.{◌≡◌, ℕ, zero, suc, ℤ, ◌<ℤ◌, ◌≤ℤ◌, neg_ℤ, List, [], ◌∷◌, Option, Some, None, ⊤, if◌then◌else◌, int_lt}
 use Rattle.tilt_base.specs.declared.limits.TheConstants.{T, WIDE}
 
 -- a cell that holds on the ticks of `(start, end]`
@@ -33,6 +33,11 @@ abbrev pub last_end : List Snapshot → Option ℤ
 last_end [] = None
 last_end (s ∷ []) = Some s.end
 last_end (s ∷ next ∷ ss) = last_end (next ∷ ss)
+
+-- how many of them end below a tick
+abbrev pub ended_below : ℤ → List Snapshot → ℕ
+ended_below tick [] = zero
+ended_below tick (s ∷ ss) = if int_lt s.end tick then suc (ended_below tick ss) else ended_below tick ss
 
 -- the null snapshot that fills the gap between an end and a start, where there is a gap
 abbrev pub gap_before : Option ℤ → ℤ → List Snapshot

@@ -1,8 +1,11 @@
 //! Rows of a series, and snapshots of a stream, both in the order of time.
 //!
 //! What comes in is rows; what goes out is a list of snapshots without gaps that has the same cell and the same mark
-//! at every tick: the clause `stream` of `SnapList::from_rows`. The definitions of a stream, of its snapshots and of
-//! their text stand in `specs/`.
+//! at every tick: the clause `stream` of `SnapList::from_rows`. A list answers for each tick which cell its stream has
+//! there (`value_at`), and where its next mark stands (`next_begin`), by a search that halves.
+//!
+//! The definitions that all crates above share stand in `specs/`: streams and their marks, what scalar operators,
+//! windows, grids and stretches of time make of them, when two streams agree, and the snapshots of a stream and their text.
 #![tactic(auto)]
 
 mod rows;

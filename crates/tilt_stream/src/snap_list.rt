@@ -1,13 +1,15 @@
-ghost use Rattle.std.specs.Prelude.{◌≡◌, ◌<◌, [], ◌∷◌, ◌++◌, length, neg_ℤ, ◌≤ℤ◌, slice_get, IsTrue, ◌↔◌, OnOk, OnErr, IfOk, IfSome};
+ghost use Rattle.std.specs.Prelude.{◌≡◌, ◌<◌, [], ◌∷◌, ◌++◌, length, neg_ℤ, pos, ◌+ℤ◌, ◌<ℤ◌, ◌≤ℤ◌, slice_get, IsTrue, ◌↔◌, OnOk, OnErr, IfOk, IfSome};
 ghost use Rattle.std.specs.Option.{ForSome};
 ghost use Rattle.tilt_base.specs.declared.limits.TheConstants.{WIDE};
-ghost use Rattle.tilt_stream.specs.Snap.{AreSnapshots, gap_before, last_end};
-ghost use Rattle.tilt_stream.specs.Stream.{stream_of, SameStream};
+ghost use Rattle.tilt_stream.specs.Marks.{NamesNextMark};
+ghost use Rattle.tilt_stream.specs.Snap.{AreSnapshots, ended_below, gap_before, last_end};
+ghost use Rattle.tilt_stream.specs.Stream.{cell_at, stream_of, SameStream};
 
 use crate::rows::Rows;
 use crate::snap::{Row, Snap, last_end};
 use std::alloc::{AllocError as OutOfMemory, Global};
 use std::marker::Model;
+use tilt_base::Cell;
 
 /// Snapshots without gaps: times in `-WIDE..=WIDE`, each starting where the one before it ends. There may be none.
 /// Outside of them the stream of the list is null.
@@ -121,6 +123,47 @@ impl SnapList {
         self.snaps[i]
     }
 
+    /// The cell of the list's stream at a tick: null outside of all snapshots.
+    pub fn value_at(&self, tick: i64) -> Cell
+        ensures { result ≡ cell_at self.now tick }
+    {
+        let snap = self.first_left(tick)?;
+        if snap.start < tick { snap.value } else { None }
+    }
+
+    /// The least tick above this one at which the list's stream has a mark: where a snapshot begins, or the last one has
+    /// ended. `None` exactly where no such tick has a mark.
+    pub fn next_begin(&self, after: i64) -> Option<i64>
+        ensures next { NamesNextMark (stream_of self.now) after result }
+        ensures low { IfSome result (λ next. neg_ℤ WIDE <ℤ next) }
+        ensures high { IfSome result (λ next. next ≤ℤ (WIDE +ℤ pos 1)) }
+    {
+        let snap = self.first_left(after)?;
+        if after <= snap.start {
+            Some(snap.start + 1)
+        } else {
+            Some(snap.end + 1)
+        }
+    }
+
+    // The first snapshot that doesn't end below the tick.
+    fn first_left(&self, tick: i64) -> Option<Snap>
+        ensures snap { result ≡ slice_get self.now (ended_below tick self.now) }
+        ensures low { IfSome result (λ snap. neg_ℤ WIDE ≤ℤ snap.start) }
+        ensures high { IfSome result (λ snap. snap.end ≤ℤ WIDE) }
+        ensures no_gaps { AreSnapshots self.now }
+    {
+        let snap = self.snaps.get(self.ended_below(tick))?;
+        Some(*snap)
+    }
+
+    // How many snapshots end below the tick.
+    fn ended_below(&self, tick: i64) -> usize
+        ensures { result ≡ ended_below tick self.now }
+    {
+        self.snaps.partition_point(|snap| snap.end < tick)
+    }
+
     /// All snapshots in order.
     pub fn as_slice(&self) -> &[Snap]
         ensures snaps { result.now ≡ self.now }
@@ -173,6 +216,31 @@ mod tests {
         assert_eq!(rt; rows.get(1), SECOND);
         let list = SnapList::from_rows(rt.alloc(), &rows)?;
         assert_eq!(rt; list.as_slice(), [FIRST, GAP, SECOND, THIRD].as_slice());
+        Ok(())
+    }
+
+    #[test]
+    fn a_list_tells_its_cell_and_its_next_mark_at_each_tick(rt: HostRuntime) -> Result<(), Fail> {
+        let mut list = SnapList::new(rt.alloc());
+        assert_eq!(rt; list.value_at(0), None);
+        assert_eq!(rt; list.next_begin(i64::MIN), None);
+        list.push(FIRST)?;
+        list.push(GAP)?;
+        list.push(SECOND)?;
+        for (tick, cell, next) in [
+            (i64::MIN, None, Some(1)),
+            (0, None, Some(1)),
+            (1, Some(7), Some(6)),
+            (5, Some(7), Some(6)),
+            (6, None, Some(7)),
+            (7, Some(9), Some(9)),
+            (8, Some(9), Some(9)),
+            (9, None, None),
+            (i64::MAX, None, None),
+        ] {
+            assert_eq!(rt; list.value_at(tick), cell, "at {tick}");
+            assert_eq!(rt; list.next_begin(tick), next, "at {tick}");
+        }
         Ok(())
     }
 
