@@ -1,15 +1,13 @@
 -- What the body of a loop gives, tick by tick, over the streams of the buffers (the TiLT paper's temporal expressions; registers and marks
 -- are our own rule). A buffer, a register or a map that isn't there is null.
-use Rattle.std.specs.Prelude.{ℕ, ℤ, ◌+ℤ◌, Bool, false, ◌||◌, List, [], ◌∷◌, ◌++◌, map, get_or, Option, Some, None}
-use Rattle.tilt_base.specs.declared.reducer.Reducer.{Reducer}
-use Rattle.tilt_base.specs.Reduce.{numbers, reduce}
+use Rattle.std.specs.Prelude.{ℕ, ℤ, Bool, false, ◌||◌, List, [], ◌∷◌, ◌++◌, get_or, Option, Some, None}
 use Rattle.tilt_base.specs.Scalar.{apply1, apply2, choose}
 use Rattle.tilt_code.specs.Code.{Block, LoopParts}
 use Rattle.tilt_code.specs.declared.instr.Instr.{Instr}
 use Rattle.tilt_code.specs.declared.instr.Instr.TheVariants.{Const, Null, Argument, Port, Win, One, Two, If}
 use Rattle.tilt_stream.specs.Pointwise.{nothing, shifted}
 use Rattle.tilt_stream.specs.Stream.{Stream}
-use Rattle.tilt_stream.specs.Window.{met, windowed}
+use Rattle.tilt_stream.specs.Window.{windowed_by}
 
 -- the last of a list; of the empty one what is given for it
 abbrev pub last_or : {A : Type 0} → A → List A → A
@@ -43,13 +41,6 @@ map_leaf cell other = None
 abbrev pub mapped : List Block → Option ℕ → Option ℤ → Option ℤ
 mapped maps None cell = cell
 mapped maps (Some number) cell = block_cell (map_leaf cell) (get_or maps number [])
-
--- a window by a map: the reducer on the results that aren't null, one for each cell that each tick's window meets, null ones included
-abbrev pub windowed_by : (Option ℤ → Option ℤ) → Reducer → ℤ → ℤ → Stream → Stream
-windowed_by map_cell reducer from to x = record {
-  cell = λ tick. reduce reducer (numbers (map map_cell (met x (tick +ℤ from) (tick +ℤ to))));
-  mark = (windowed reducer from to x).mark;
-}
 
 -- the stream of a leaf of a body: a port is its buffer shifted, and a window is one over its buffer
 abbrev pub leaf_of : List Stream → List Block → Instr → Stream

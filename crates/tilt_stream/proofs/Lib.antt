@@ -1,5 +1,6 @@
 pub mod Constancy
 pub mod Locality
+pub mod Mapped
 pub mod Order
 pub mod Cut
 pub mod Ended

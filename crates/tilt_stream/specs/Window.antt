@@ -1,6 +1,6 @@
 -- Windows over a stream (the TiLT paper's reductions; which snapshots a window meets is our own rule).
 -- The window from `from` to `to` at a tick is the ticks `tick + from + 1` to `tick + to`. It meets each snapshot that has a tick in it, once.
-use Rattle.std.specs.Prelude.{ℕ, zero, suc, ℤ, pos, ◌+ℤ◌, Bool, true, false, ◌||◌, if◌then◌else◌, List, [], ◌∷◌, Option}
+use Rattle.std.specs.Prelude.{ℕ, zero, suc, ℤ, pos, ◌+ℤ◌, Bool, true, false, ◌||◌, if◌then◌else◌, List, [], ◌∷◌, map, Option}
 use Rattle.std.specs.Int.{int_gap}
 use Rattle.tilt_base.specs.declared.reducer.Reducer.{Reducer}
 use Rattle.tilt_base.specs.Reduce.{numbers, reduce}
@@ -22,4 +22,11 @@ abbrev pub windowed : Reducer → ℤ → ℤ → Stream → Stream
 windowed reducer from to x = record {
   cell = λ tick. reduce reducer (numbers (met x (tick +ℤ from) (tick +ℤ to)));
   mark = λ tick. x.mark (tick +ℤ to) || x.mark (tick +ℤ from +ℤ pos 1);
+}
+
+-- the same by a map: the reducer on the results that aren't null, one for each cell that each tick's window meets, null ones included
+abbrev pub windowed_by : (Option ℤ → Option ℤ) → Reducer → ℤ → ℤ → Stream → Stream
+windowed_by map_cell reducer from to x = record {
+  cell = λ tick. reduce reducer (numbers (map map_cell (met x (tick +ℤ from) (tick +ℤ to))));
+  mark = (windowed reducer from to x).mark;
 }
