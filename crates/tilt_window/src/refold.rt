@@ -60,10 +60,6 @@ impl<R: Reduction> Window for Refold<R> {
         Ok(self.take_first())
     }
 
-    fn clear(&mut self) {
-        self.cells.clear();
-    }
-
     fn result(&self) -> Cell {
         let mut state = R::empty();
         for cell in self.cells.iter() {

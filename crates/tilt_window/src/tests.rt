@@ -1,5 +1,5 @@
 // What windows answer while they move over some cells.
-ghost use Rattle.std.specs.Prelude.{◌≡◌, ◌<◌, ◌+◌, ◌++◌, length, OnOk};
+ghost use Rattle.std.specs.Prelude.{◌≡◌, ◌<◌, ◌+◌, [], ◌++◌, length, OnOk};
 
 use crate::{Refold, Window};
 use std::alloc::AllocError as OutOfMemory;
@@ -19,8 +19,9 @@ fn push_each<W: Window>(window: &mut W, cells: &[Cell]) -> Result<(), OutOfMemor
 }
 
 // The answers on 3, null, -8 and 0, and then with one, two, three and all of these cells gone.
-fn answers<W: Window>(window: &mut W) -> Result<[Cell; 5], OutOfMemory> {
-    window.clear();
+fn answers<W: Window>(window: &mut W) -> Result<[Cell; 5], OutOfMemory>
+    requires { W.cells window.old ≡ [] }
+{
     push_each(window, &[Some(3), None, Some(-8), Some(0)])?;
     let whole = window.result();
     window.pop_front()?;
@@ -66,7 +67,7 @@ fn a_window_is_used_again_after_it_was_emptied(rt: HostRuntime) -> Result<(), Fa
     push_each(&mut window, &[None, Some(5), Some(6)])?;
     assert_eq!(rt; window.take_first(), Some(None));
     assert_eq!(rt; window.take_first(), Some(Some(5)));
-    window.clear();
+    assert_eq!(rt; window.take_first(), Some(Some(6)));
     assert_eq!(rt; window.take_first(), None);
     push_each(&mut window, &[Some(2)])?;
     assert_eq!(rt; window.result(), Some(2));

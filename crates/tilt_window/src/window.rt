@@ -28,10 +28,6 @@ pub trait Window {
         ensures ok { IfOk result (λ taken. IsFirstTaken (cells self.old) taken (cells self.new)) }
         ensures err { OnErr result (cells self.new ≡ cells self.old) };
 
-    /// Takes all cells out, so that the window can be used anew.
-    fn clear(&mut self)
-        ensures { cells self.new ≡ [] };
-
     /// What the reducer gives on the cells that aren't null.
     fn result(&self) -> Cell
         ensures { result ≡ reduce reducer (numbers (cells self.now)) };
