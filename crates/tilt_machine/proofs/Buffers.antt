@@ -1,0 +1,102 @@
+-- The buffers of a code, made in order.
+use Rattle.std.proofs.Common.{◌≡◌, ◌<◌, ℕ, suc, List, [], ◌∷◌, ◌++◌, map, length, Some, None, IsTrue, refl, sym, ap, ◌∙◌, subst, arith, rules, tests}
+use Rattle.std.proofs.lemmas.List.{map-append}
+use Rattle.std.proofs.lemmas.Option.{same_Some}
+use Rattle.std.specs.List.{AllByRecursion}
+use Rattle.tilt_code.specs.Body.{last_or}
+use Rattle.tilt_code.specs.Code.{Block, LoopParts}
+use Rattle.tilt_code.specs.Grammar.{IsInstr, IsLoop, stands_in_body}
+use Rattle.tilt_code.specs.References.{refers_below, RefersBack, ReadsBefore}
+use Rattle.tilt_code.specs.Run.{with_buffers}
+use Rattle.tilt_code.specs.Turn.{turns}
+use Rattle.tilt_code.specs.declared.instr.Instr.{Instr}
+use Rattle.tilt_code.specs.declared.instr.Instr.TheVariants.{Const, Null, Argument, Port, Win, One, Two, If}
+use Rattle.tilt_machine.specs.Ready.{NamesBelow, NameEarlier, IsReadable, IsReady}
+use Rattle.tilt_stream.specs.Snap.{Snapshot}
+use Rattle.tilt_stream.specs.Stream.{Stream, stream_of}
+
+-- the last of a list to which one was added
+pub last_or-pushed : {A : Type 0} (given : A) (xs : List A) (x : A) → last_or given (xs ++ x ∷ []) ≡ x
+last_or-pushed given [] x = refl
+last_or-pushed given (y ∷ ys) x = last_or-pushed y ys x
+
+-- loops over buffers of the same streams make the same list at last
+pub same-run : (lists others : List (List Snapshot)) → map stream_of lists ≡ map stream_of others
+    → (loops : List LoopParts) → 0 < length loops
+    → last_or [] (with_buffers lists loops) ≡ last_or [] (with_buffers others loops)
+same-run lists others same [] some = absurd (omega arith)
+same-run lists others same (l ∷ []) some =
+    last_or-pushed [] lists (turns (map stream_of lists) l)
+    ∙ ap (λ (xs : List Stream). turns xs l) same
+    ∙ sym (last_or-pushed [] others (turns (map stream_of others) l))
+same-run lists others same (l ∷ next ∷ loops) some =
+    let made = turns (map stream_of lists) l in
+    let again = turns (map stream_of others) l in
+    same-run (lists ++ made ∷ []) (others ++ again ∷ [])
+    (map-append stream_of lists (made ∷ [])
+    ∙ ap (λ (xs : List Stream). xs ++ stream_of (turns xs l) ∷ []) same
+    ∙ sym (map-append stream_of others (again ∷ [])))
+    (next ∷ loops) (omega arith)
+
+-- an instruction that refers back, and has its numbers within their bounds, names earlier registers and may be read
+instr-names : (buffers maps register : ℕ) (i : Instr) → IsTrue (refers_below buffers maps register i) → NamesBelow register i
+instr-names buffers maps register (Const number) h = tt
+instr-names buffers maps register Null h = tt
+instr-names buffers maps register Argument h = tt
+instr-names buffers maps register (Port buffer offset) h = tt
+instr-names buffers maps register (Win reducer buffer from to number) h = tt
+instr-names buffers maps register (One op a) h = search (rules, tests)
+instr-names buffers maps register (Two op a b) h = search (rules, tests)
+instr-names buffers maps register (If c a b) h = search (rules, tests)
+
+instr-readable : (buffers maps register : ℕ) (i : Instr) → IsInstr i
+    → IsTrue (refers_below buffers maps register i) → IsReadable buffers maps i
+instr-readable buffers maps register (Const number) n h = tt
+instr-readable buffers maps register Null n h = tt
+instr-readable buffers maps register Argument n h = tt
+instr-readable buffers maps register (Port buffer offset) n h = (search (rules, tests), n.1)
+instr-readable buffers maps register (Win reducer buffer from to None) n h = record {
+  there = search (rules, tests);
+  low = n.low;
+  high = n.high;
+  some_ticks = n.some_ticks;
+  known = λ map is. cc;
+}
+instr-readable buffers maps register (Win reducer buffer from to (Some number)) n h =
+    let below : number < maps = search (rules, tests) in
+    record {
+      there = search (rules, tests);
+      low = n.0.low;
+      high = n.0.high;
+      some_ticks = n.0.some_ticks;
+      known = λ map is. subst (λ (m : ℕ). m < maps) (same_Some number map is) below;
+    }
+instr-readable buffers maps register (One op a) n h = tt
+instr-readable buffers maps register (Two op a b) n h = tt
+instr-readable buffers maps register (If c a b) n h = tt
+
+block-names : (buffers maps register : ℕ) (block : Block) → RefersBack buffers maps register block → NameEarlier register block
+block-names buffers maps register [] h = tt
+block-names buffers maps register (i ∷ block) h =
+    (instr-names buffers maps register i h.0, block-names buffers maps (suc register) block h.1)
+
+block-readable : (buffers maps register : ℕ) (block : Block) → AllByRecursion (λ i. IsTrue (stands_in_body i) × IsInstr i) block
+    → RefersBack buffers maps register block → AllByRecursion (IsReadable buffers maps) block
+block-readable buffers maps register [] n h = tt
+block-readable buffers maps register (i ∷ block) n h =
+    (instr-readable buffers maps register i n.0.1 h.0, block-readable buffers maps (suc register) block n.1 h.1)
+
+maps-name : (buffers maps : ℕ) (blocks : List Block) → AllByRecursion (RefersBack buffers maps 0) blocks
+    → AllByRecursion (NameEarlier 0) blocks
+maps-name buffers maps [] h = tt
+maps-name buffers maps (block ∷ blocks) h = (block-names buffers maps 0 block h.0, maps-name buffers maps blocks h.1)
+
+-- the next loop of a code may be run over the buffers so far
+pub loop-ready : (buffers : ℕ) (l : LoopParts) (loops : List LoopParts) → IsLoop l → ReadsBefore buffers (l ∷ loops) → IsReady buffers l
+loop-ready buffers l loops is reads = record {
+  stretch = is.stretch;
+  grid = is.grid;
+  maps = maps-name buffers (length l.maps) l.maps reads.0;
+  registers = block-names buffers (length l.maps) 0 l.body reads.1;
+  leaves = block-readable buffers (length l.maps) 0 l.body is.body.instrs reads.1;
+}
