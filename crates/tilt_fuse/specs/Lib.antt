@@ -1,0 +1,4 @@
+pub mod FusedTree
+pub mod Plan
+pub mod Streams
+pub mod Used

@@ -1,0 +1,146 @@
+-- Which definitions are merged into their users, and the loops of the others (the TiLT paper's operator fusion; when definitions
+-- are merged is our own rule).
+use Rattle.std.specs.Prelude.{ℕ, suc, ◌+◌, ◌==◌, nat_le, ℤ, pos, ◌+ℤ◌, Bool, true, false, ◌&&◌, ◌||◌, not, if◌then◌else◌, List, [], ◌∷◌, ◌++◌, length, replicate, get_or, Option, Some, None, is_some}
+use Rattle.std.specs.Option.{option_map_or}
+use Rattle.std.specs.Ordering.{int_eq}
+use Rattle.tilt_base.specs.declared.reducer.Reducer.{Reducer}
+use Rattle.tilt_base.specs.Expression as expression
+use Rattle.tilt_types.specs.Core.{CoreParts}
+use Rattle.tilt_types.specs.CoreTree as core
+use Rattle.tilt_types.specs.CoreTree.{CoreTree, Definition}
+use Rattle.tilt_types.specs.Needs.{Need, needs_from}
+use Rattle.tilt_fuse.specs.FusedTree.{FusedTree, Const, Port, Win, WinBy, Argument, One, Two, If, PlannedLoop}
+
+-- how many nodes a tree has: a window counts one more than its map
+abbrev pub nodes : FusedTree → ℕ
+nodes (WinBy map reducer source from to) = 1 + nodes map
+nodes (One op a) = 1 + nodes a
+nodes (Two op a b) = 1 + nodes a + nodes b
+nodes (If c a b) = 1 + nodes c + nodes a + nodes b
+nodes other = 1
+
+-- a tree so many ticks later
+abbrev pub moved : ℤ → FusedTree → FusedTree
+moved by (Port source offset) = Port source (offset +ℤ by)
+moved by (Win reducer source from to) = Win reducer source (from +ℤ by) (to +ℤ by)
+moved by (WinBy map reducer source from to) = WinBy map reducer source (from +ℤ by) (to +ℤ by)
+moved by (One op a) = One op (moved by a)
+moved by (Two op a b) = Two op (moved by a) (moved by b)
+moved by (If c a b) = If (moved by c) (moved by a) (moved by b)
+moved by other = other
+
+-- a reading of a source at an offset
+pub record Reading : Type 0 where
+  pub source : ℕ
+  pub offset : ℤ
+
+-- the ports of a tree, from left to right
+abbrev pub ports : FusedTree → List Reading
+ports (Port source offset) = record { source = source; offset = offset } ∷ []
+ports (One op a) = ports a
+ports (Two op a b) = ports a ++ ports b
+ports (If c a b) = ports c ++ ports a ++ ports b
+ports other = []
+
+-- whether a tree has a window
+abbrev pub has_window : FusedTree → Bool
+has_window (Win reducer source from to) = true
+has_window (WinBy map reducer source from to) = true
+has_window (One op a) = has_window a
+has_window (Two op a b) = has_window a || has_window b
+has_window (If c a b) = has_window c || has_window a || has_window b
+has_window other = false
+
+-- the one reading that all of them are, where there is one
+abbrev pub same_reading : List Reading → Option Reading
+same_reading [] = None
+same_reading (p ∷ []) = Some p
+same_reading (p ∷ q ∷ ps) = if (p.source == q.source) && int_eq p.offset q.offset then same_reading (q ∷ ps) else None
+
+-- the one reading that a tree is made from, where it has no window
+abbrev pub only_reading : FusedTree → Option Reading
+only_reading tree = if has_window tree then None else same_reading (ports tree)
+
+-- a tree as a map: its ports are the argument
+abbrev pub as_map : FusedTree → FusedTree
+as_map (Port source offset) = Argument
+as_map (One op a) = One op (as_map a)
+as_map (Two op a b) = Two op (as_map a) (as_map b)
+as_map (If c a b) = If (as_map c) (as_map a) (as_map b)
+as_map other = other
+
+-- a window on a merged definition is one on the reading that the tree is made from, by the tree as a map; there is no map where the
+-- tree is the port alone
+abbrev pub window_over : FusedTree → Reading → Reducer → ℤ → ℤ → FusedTree
+window_over (Port source offset) p reducer from to = Win reducer p.source (from +ℤ p.offset) (to +ℤ p.offset)
+window_over tree p reducer from to = WinBy (as_map tree) reducer p.source (from +ℤ p.offset) (to +ℤ p.offset)
+
+-- a window on a source, of which the tree is given where it was merged
+abbrev pub window_on : Option FusedTree → Reducer → ℕ → ℤ → ℤ → FusedTree
+window_on None reducer source from to = Win reducer source from to
+window_on (Some tree) reducer source from to =
+    option_map_or (λ p. window_over tree p reducer from to) (only_reading tree) (Win reducer source from to)
+
+-- a reading of a source, of which the tree is given where it was merged
+abbrev pub reading_of : Option FusedTree → ℕ → ℤ → FusedTree
+reading_of None source offset = Port source offset
+reading_of (Some tree) source offset = moved offset tree
+
+-- an expression over sources, of which the trees of those that were merged are given
+abbrev pub fused : List (Option FusedTree) → CoreTree → FusedTree
+fused merged (expression.Leaf (core.Const number)) = Const number
+fused merged (expression.Leaf (core.Read source offset)) = reading_of (get_or merged source None) source offset
+fused merged (expression.Leaf (core.Reduce reducer source from to)) = window_on (get_or merged source None) reducer source from to
+fused merged (expression.One op a) = One op (fused merged a)
+fused merged (expression.Two op a b) = Two op (fused merged a) (fused merged b)
+fused merged (expression.If c a b) = If (fused merged c) (fused merged a) (fused merged b)
+
+-- whether an expression has a window on a source
+abbrev pub has_window_on : CoreTree → ℕ → Bool
+has_window_on (expression.Leaf (core.Reduce reducer read from to)) source = read == source
+has_window_on (expression.One op a) source = has_window_on a source
+has_window_on (expression.Two op a b) source = has_window_on a source || has_window_on b source
+has_window_on (expression.If c a b) source = has_window_on c source || has_window_on a source || has_window_on b source
+has_window_on other source = false
+
+-- whether one of definitions with these needs is used and has a window on a source
+abbrev pub is_windowed : List Definition → List (Option Need) → ℕ → Bool
+is_windowed (def ∷ defs) (Some n ∷ ns) source = has_window_on def.body source || is_windowed defs ns source
+is_windowed (def ∷ defs) (None ∷ ns) source = is_windowed defs ns source
+is_windowed defs ns source = false
+
+-- whether there are none of them
+abbrev pub are_none : List Definition → Bool
+are_none [] = true
+are_none (def ∷ defs) = false
+
+-- whether a used definition is merged, that has this number and this tree, and these definitions behind it: it isn't the emitted one,
+-- it has neither a span nor a period above 1, its tree is small, and where a used definition has a window on it, its tree is made
+-- from one reading
+abbrev pub is_merged : Definition → List Definition → List (Option Need) → ℕ → FusedTree → Bool
+is_merged def behind ns number tree =
+    not (are_none behind) && not (is_some def.over) && int_eq def.grid.period (pos 1) && nat_le (nodes tree) 64
+    && (not (is_windowed behind ns number) || is_some (only_reading tree))
+
+-- the loops of definitions with these needs, of which the first is that at a place, behind so many inputs; the trees of merged
+-- sources before it are given
+abbrev pub loops_from : Bool → ℕ → ℕ → List (Option FusedTree) → List Definition → List (Option Need) → List PlannedLoop
+loops_from fuse inputs place merged (def ∷ defs) (Some n ∷ ns) =
+    let tree = fused merged def.body in
+    if fuse && is_merged def defs ns (inputs + place) tree
+    then loops_from fuse inputs (suc place) (merged ++ Some tree ∷ []) defs ns
+    else record { def = place; body = tree } ∷ loops_from fuse inputs (suc place) (merged ++ None ∷ []) defs ns
+loops_from fuse inputs place merged (def ∷ defs) (None ∷ ns) = loops_from fuse inputs (suc place) (merged ++ None ∷ []) defs ns
+loops_from fuse inputs place merged defs ns = []
+
+-- where nothing is merged: a loop for each used definition
+abbrev pub plain_loops : ℕ → List Definition → List (Option Need) → List PlannedLoop
+plain_loops place (def ∷ defs) (Some n ∷ ns) = record { def = place; body = fused [] def.body } ∷ plain_loops (suc place) defs ns
+plain_loops place (def ∷ defs) (None ∷ ns) = plain_loops (suc place) defs ns
+plain_loops place defs ns = []
+
+-- the loops of a query: its used definitions that aren't merged, in order; nothing is merged without fusion
+abbrev pub plan_of : CoreParts → Bool → List PlannedLoop
+plan_of core fuse =
+    let inputs = length core.inputs in
+    loops_from fuse inputs 0 (replicate inputs None) core.defs (needs_from inputs core.defs)

@@ -1,0 +1,12 @@
+pub mod All
+pub mod Blocks
+pub mod Bounds
+pub mod Cut
+pub mod Kept
+pub mod Numbers
+pub mod Planned
+pub mod Single
+pub mod Snapped
+pub mod Theorem
+pub mod Whole
+pub mod Worked

@@ -1,0 +1,60 @@
+// The loop of a definition.
+ghost use Rattle.std.specs.Prelude.{◌≡◌, ◌+◌, ◌≤◌, length, IfOk};
+ghost use Rattle.tilt_fuse.specs.FusedTree.{fused_tree_of};
+ghost use Rattle.tilt_lower.specs.Lowering.{ConstantsFit, buffer_of, loop_on, maps, null_on, registers};
+
+use crate::buffers::Buffers;
+use crate::instructions::block_of;
+use std::alloc::{AllocError as OutOfMemory, Global};
+use tilt_base::Grid;
+use tilt_bounds::LoopSpan;
+use tilt_code::{Instr, Loop};
+use tilt_fuse::Fused;
+use tilt_types::Def;
+
+/// The loop of a definition with this expression, which has no maps, on this stretch; null on all of it where the stretch is
+/// told to be empty.
+pub fn loop_on(
+    alloc: Global,
+    span: LoopSpan,
+    buffers: &Buffers,
+    def: &Def,
+    tree: &Fused,
+) -> Result<Loop, OutOfMemory>
+    requires few { registers (fused_tree_of tree.now) ≤ 256 }
+    requires plain { maps (fused_tree_of tree.now) ≡ 0 }
+    requires buffers { buffers.now.inputs + length buffers.now.loops.now ≤ 256 }
+    ensures made { IfOk result (λ made. made
+        ≡ loop_on span (buffer_of buffers.now.inputs buffers.now.loops.now) def.now (fused_tree_of tree.now)) }
+    ensures fit { IfOk result (λ made. ConstantsFit made) }
+{
+    if span.empty {
+        return null_loop(alloc, span.lo, span.hi);
+    }
+    let body = block_of(alloc, tree, buffers)?;
+    Ok(Loop {
+        lo: span.lo,
+        hi: span.hi,
+        grid: def.grid,
+        maps: Vec::new(alloc),
+        body,
+    })
+}
+
+// The loop that is null on all of a stretch.
+fn null_loop(alloc: Global, lo: i64, hi: i64) -> Result<Loop, OutOfMemory>
+    ensures { IfOk result (λ made. made ≡ null_on lo hi) }
+{
+    let mut body = Vec::new(alloc);
+    body.push(Instr::Null)?;
+    Ok(Loop {
+        lo,
+        hi,
+        grid: Grid {
+            period: 1,
+            offset: 0,
+        },
+        maps: Vec::new(alloc),
+        body,
+    })
+}
