@@ -6,7 +6,7 @@ use Rattle.tilt_words.specs.Command.{CommandValue, IsCommand}
 use Rattle.tilt_words.specs.declared.fault.WordsFault.{WordsFault}
 use Rattle.tilt_words.specs.declared.fault.WordsFault.TheVariants as variant
 use Rattle.tilt_app.specs.Outcome.{IsOutcome, no_command}
-use Rattle.tilt_app.specs.Report.{Outcome, printed, refused, Report, usage, refusal, read_fault, write_fault, out_of_memory, report_of_words, status_of}
+use Rattle.tilt_report.specs.Report.{Outcome, printed, refused, Report, usage, refusal, read_fault, write_fault, out_of_memory, report_of_words, status_of}
 
 text_is_no_refusal : (text : List ℕ) (report : Report) → printed text ≡ refused report → ⊥
 text_is_no_refusal text report same = cc
@@ -77,3 +77,11 @@ pub cause_of_words : (words : List (List ℕ)) (files : List ℕ → List ℕ) (
     → IsCause (IsOutcome words files) has_turn shelf_tells reads_before reads_after out_tells old new puts_before puts_after (report_of_words fault)
 cause_of_words words files has_turn st rb ra ot old new pb pa variant.Usage none = no_command (none refl)
 cause_of_words words files has_turn st rb ra ot old new pb pa variant.OutOfMemory none = tt
+
+-- what isn't reported as usage is built, so that where nothing is built usage is reported
+pub unbuilt_status : (report : Report) → ((report ≡ usage → ⊥) → ⊥) → status_of report ≡ 2
+unbuilt_status usage none = refl
+unbuilt_status (refusal why) none = absurd (none (λ same. cc))
+unbuilt_status (read_fault name) none = absurd (none (λ same. cc))
+unbuilt_status write_fault none = absurd (none (λ same. cc))
+unbuilt_status out_of_memory none = absurd (none (λ same. cc))

@@ -1,6 +1,4 @@
+pub mod Compiled
 pub mod Complete
-pub mod InputNames
-pub mod InputRows
-pub mod Loads
+pub mod Files
 pub mod Once
-pub mod Turns

@@ -1,159 +1,100 @@
 -- Words and files have one outcome.
-use Rattle.std.proofs.Common.{◌≡◌, ◌∙◌, List, ℕ, Result, Ok, Err, None, Some, refl, sym, ap, subst, arith}
-use Rattle.tilt_lexer.proofs.Unique.{same_fault, tokens_or_fault, same_tokens}
+use Rattle.std.proofs.Common.{◌≡◌, ◌∙◌, true, false, List, ℕ, Option, Some, Result, Ok, refl, sym, ap, subst}
+use Rattle.tilt_app.specs.Compile.{IsCompileOutcome, no_query, listed}
+use Rattle.tilt_app.specs.FileCommand.{IsFileOutcome, no_file, no_inputs, done}
+use Rattle.tilt_app.specs.Outcome.{IsCommandOutcome, IsOutcome, no_command, does, IsBuilt}
+use Rattle.tilt_bounds.specs.Margins.{MarginsParts, margins_of}
+use Rattle.tilt_code.specs.Listing.{listing}
+use Rattle.tilt_fuse.specs.Plan.{plan_of}
+use Rattle.tilt_lower.specs.Lowering.{code_of}
+use Rattle.tilt_syntax.specs.declared.span.Span.{Span}
+use Rattle.tilt_types.specs.Core.{CoreParts, domain_of}
+use Rattle.tilt_types.specs.Needs.{Need}
+use Rattle.tilt_load.specs.SeriesFiles.{TakesInputs, RefusesInputs}
+use Rattle.tilt_load.proofs.OneCode.{code_once, code_refused_once, code_refused_or_taken}
+use Rattle.tilt_load.proofs.OneQuery.{taken_once, refused_once, refused_or_taken}
+use Rattle.tilt_load.proofs.OneSeries.{inputs_once, inputs_refused_once, inputs_refused_or_taken}
+use Rattle.tilt_report.specs.Report.{Outcome, printed, refused, Reason, usage, refusal}
 use Rattle.tilt_stream.specs.Snap.{Snapshot}
 use Rattle.tilt_stream.specs.Text.{text_of}
-use Rattle.tilt_syntax.specs.Query.{kinds}
-use Rattle.tilt_syntax.proofs.Refused.{one_refusal, query-or-refused}
-use Rattle.tilt_syntax.proofs.Unique.{one_query}
-use Rattle.tilt_bounds.specs.Margins.{MarginsParts, margins_of}
-use Rattle.tilt_types.specs.Checked.{checked}
-use Rattle.tilt_types.specs.Core.{CoreParts}
-use Rattle.tilt_types.specs.Meaning.{output_of}
-use Rattle.tilt_types.specs.Needs.{Need}
-use Rattle.tilt_types.specs.declared.fault.CheckFault.{CheckFault}
-use Rattle.tilt_app.specs.Inputs.{faulty_name}
 use Rattle.tilt_words.specs.Binding.{Binding}
 use Rattle.tilt_words.specs.Command.{CommandValue, run, compile, exec, explain, start, resume_upto, resume_end, watch, try, IsCommand}
-use Rattle.tilt_app.specs.Report.{Outcome, printed, refused, Reason, Report, usage, refusal, input_names, report_of_place, report_of_syntax, report_of_check}
-use Rattle.tilt_app.specs.Outcome.{IsCommandOutcome, IsOutcome, no_command, does, IsBuilt}
-use Rattle.tilt_app.specs.Run.{HasCore, TakesQuery, HasNoCore, RefusesQuery, no_core, far, long, no_tokens, no_statements, ill_formed, inputs_read, IsRunOutcome, no_query, no_names, no_series, done}
 
-same_err : {f g : CheckFault} → (let x : Result CoreParts CheckFault = Err f in x ≡ Err g) → f ≡ g
-same_err e = cc
+-- A command that is given a file and binds has one outcome, where its file is one thing or is refused for one reason, and gives one list.
+module _ {A : Type 0} (takes : A → Type 0) (refuses : Reason → Type 0) (inputs_of : A → List (List ℕ)) (gives : A → List (List Snapshot) → List Snapshot → Type 0)
+    (one : (a b : A) → takes a → takes b → a ≡ b) (once : (r s : Reason) → refuses r → refuses s → r ≡ s) (either : (r : Reason) (a : A) → refuses r → takes a → ⊥)
+    (same : (a : A) (rows : List (List Snapshot)) (list list' : List Snapshot) → gives a rows list → gives a rows list' → list ≡ list')
+    (files : List ℕ → List ℕ) (binds : List Binding) where
+  same_refused : (a b : A) → takes a → takes b → (r s : Reason) → RefusesInputs files binds (inputs_of a) r → RefusesInputs files binds (inputs_of b) s → r ≡ s
+  same_refused a b taken taken' r s is is' =
+      inputs_refused_once files binds (inputs_of a) r s is (rw (← one a b taken taken') at is')
 
-same_ok : {c d : CoreParts} → (let x : Result CoreParts CheckFault = Ok c in x ≡ Ok d) → c ≡ d
-same_ok e = cc
+  not_both : (a b : A) → takes a → takes b → (r : Reason) (rows : List (List Snapshot)) → RefusesInputs files binds (inputs_of a) r → TakesInputs files binds (inputs_of b) rows → ⊥
+  not_both a b taken taken' r rows is read =
+      inputs_refused_or_taken files binds (inputs_of a) r rows is (rw (← one a b taken taken') at read)
 
-same_far : {m n : Need} → (let x : Result MarginsParts Need = Err m in x ≡ Err n) → m ≡ n
-same_far e = cc
+  same_list : (a b : A) → takes a → takes b → (rows rows' : List (List Snapshot)) (list list' : List Snapshot) → TakesInputs files binds (inputs_of a) rows → TakesInputs files binds (inputs_of b) rows'
+      → gives a rows list → gives b rows' list' → list ≡ list'
+  same_list a b taken taken' rows rows' list list' read read' is is' =
+      let both = one a b taken taken' in
+      let rows_same = inputs_once files binds (inputs_of a) rows rows' read (rw (← both) at read') in
+      same a rows list list' is (rw (← both, ← rows_same) at is')
 
--- a report is of one refusal
-same_reason : (report : Report) (r s : Reason) → report ≡ refusal r → report ≡ refusal s → r ≡ s
-same_reason report r s is other = cc
+  pub file_once : (o p : Outcome) → IsFileOutcome takes refuses inputs_of gives files binds o → IsFileOutcome takes refuses inputs_of gives files binds p → o ≡ p
+  file_once o p (no_file r is) (no_file s is') = ap (λ (why : Reason). refused (refusal why)) (once r s is is')
+  file_once o p (no_file r is) (no_inputs a s taken is') = absurd (either r a is taken)
+  file_once o p (no_file r is) (done a rows list taken read out) = absurd (either r a is taken)
+  file_once o p (no_inputs a r taken is) (no_file s is') = absurd (either s a is' taken)
+  file_once o p (no_inputs a r taken is) (no_inputs b s taken' is') = ap (λ (why : Reason). refused (refusal why)) (same_refused a b taken taken' r s is is')
+  file_once o p (no_inputs a r taken is) (done b rows list taken' read out) = absurd (not_both a b taken taken' r rows is read)
+  file_once o p (done a rows list taken read out) (no_file s is') = absurd (either s a is' taken)
+  file_once o p (done a rows list taken read out) (no_inputs b s taken' is') = absurd (not_both b a taken' taken s rows is' read)
+  file_once o p (done a rows list taken read out) (done b rows' list' taken' read' out') =
+      ap (λ (l : List Snapshot). printed (text_of l)) (same_list a b taken taken' rows rows' list list' read read' out out')
 
--- a query has no core for one reason
-no_core_once : (name bytes : List ℕ) (r s : Reason) → HasNoCore name bytes r → HasNoCore name bytes s → r ≡ s
-no_core_once name bytes r s (long over) (long over') = refl
-no_core_once name bytes r s (long over) (no_tokens f short faulty is) = absurd (omega arith)
-no_core_once name bytes r s (long over) (no_statements ts f short lexed refuses is) = absurd (omega arith)
-no_core_once name bytes r s (long over) (ill_formed ts q f short lexed parsed bad is) = absurd (omega arith)
-no_core_once name bytes r s (no_tokens f short faulty is) (long over) = absurd (omega arith)
-no_core_once name bytes r s (no_tokens f short faulty is) (no_tokens g short' faulty' is') =
-    same_reason (report_of_place f) r s is (rw (sym (same_fault faulty faulty' refl refl)) at is')
-no_core_once name bytes r s (no_tokens f short faulty is) (no_statements ts g short' lexed refuses is') =
-    absurd (tokens_or_fault lexed faulty refl)
-no_core_once name bytes r s (no_tokens f short faulty is) (ill_formed ts q g short' lexed parsed bad is') =
-    absurd (tokens_or_fault lexed faulty refl)
-no_core_once name bytes r s (no_statements ts f short lexed refuses is) (long over) = absurd (omega arith)
-no_core_once name bytes r s (no_statements ts f short lexed refuses is) (no_tokens g short' faulty is') =
-    absurd (tokens_or_fault lexed faulty refl)
-no_core_once name bytes r s (no_statements ts f short lexed refuses is) (no_statements us g short' lexed' refuses' is') =
-    let same = same_tokens lexed lexed' refl refl in
-    same_reason (report_of_syntax f) r s is (rw (sym (one_refusal (kinds ts) f g refuses (rw (sym same) at refuses'))) at is')
-no_core_once name bytes r s (no_statements ts f short lexed refuses is) (ill_formed us q g short' lexed' parsed bad is') =
-    let same = same_tokens lexed lexed' refl refl in
-    absurd (query-or-refused (kinds ts) q f (rw (sym same) at parsed) refuses)
-no_core_once name bytes r s (ill_formed ts q f short lexed parsed bad is) (long over) = absurd (omega arith)
-no_core_once name bytes r s (ill_formed ts q f short lexed parsed bad is) (no_tokens g short' faulty is') =
-    absurd (tokens_or_fault lexed faulty refl)
-no_core_once name bytes r s (ill_formed ts q f short lexed parsed bad is) (no_statements us g short' lexed' refuses is') =
-    let same = same_tokens lexed lexed' refl refl in
-    absurd (query-or-refused (kinds ts) q g parsed (rw (sym same) at refuses))
-no_core_once name bytes r s (ill_formed ts q f short lexed parsed bad is) (ill_formed us p g short' lexed' parsed' bad' is') =
-    let same = same_tokens lexed lexed' refl refl in
-    let query = one_query (kinds ts) q p parsed (rw (sym same) at parsed') in
-    let fault : f ≡ g = same_err (sym bad ∙ ap checked query ∙ bad') in
-    same_reason (report_of_check f) r s is (rw (sym fault) at is')
+-- such a command has another outcome than words that are none
+no_file_usage : {A : Type 0} {takes : A → Type 0} {refuses : Reason → Type 0} {inputs_of : A → List (List ℕ)} {gives : A → List (List Snapshot) → List Snapshot → Type 0}
+    → (files : List ℕ → List ℕ) (binds : List Binding) (o : Outcome) → IsFileOutcome takes refuses inputs_of gives files binds o → o ≡ refused usage → ⊥
+no_file_usage files binds o (no_file why is) same = cc
+no_file_usage files binds o (no_inputs a why taken is) same = cc
+no_file_usage files binds o (done a rows list taken read out) same = cc
 
--- a query has one core
-core_once : (bytes : List ℕ) (c d : CoreParts) → HasCore bytes c → HasCore bytes d → c ≡ d
-core_once bytes c d taken taken' =
-    let same = same_tokens taken.lexed taken'.lexed refl refl in
-    let query = one_query (kinds taken.tokens) taken.query taken'.query taken.parsed (rw (sym same) at taken'.parsed) in
-    same_ok (sym taken.accepted ∙ ap checked query ∙ taken'.accepted)
+same_some : (o : Option (List Snapshot)) (list list' : List Snapshot) → o ≡ Some list → o ≡ Some list' → list ≡ list'
+same_some o list list' is is' = cc
 
--- a query has a core, or none
-core_or_none : (name bytes : List ℕ) (r : Reason) (core : CoreParts) → HasNoCore name bytes r → HasCore bytes core → ⊥
-core_or_none name bytes r core (long over) taken = let short = taken.short in absurd (omega arith)
-core_or_none name bytes r core (no_tokens f short faulty is) taken = tokens_or_fault taken.lexed faulty refl
-core_or_none name bytes r core (no_statements ts f short lexed refuses is) taken =
-    let same = same_tokens taken.lexed lexed refl refl in
-    query-or-refused (kinds ts) taken.query f (rw same at taken.parsed) refuses
-core_or_none name bytes r core (ill_formed ts q f short lexed parsed bad is) taken =
-    let same = same_tokens taken.lexed lexed refl refl in
-    let query = one_query (kinds ts) q taken.query parsed (rw same at taken.parsed) in
-    let both : Ok core ≡ Err f = sym taken.accepted ∙ ap checked (sym query) ∙ bad in
-    cc
+same_margins : {m n : MarginsParts} → (let x : Result MarginsParts Need = Ok m in x ≡ Ok n) → m ≡ n
+same_margins e = cc
 
--- a query is refused for one reason
-refused_once : (name bytes : List ℕ) (r s : Reason) → RefusesQuery name bytes r → RefusesQuery name bytes s → r ≡ s
-refused_once name bytes r s (no_core none) (no_core none') = no_core_once name bytes r s none none'
-refused_once name bytes r s (no_core none) (far core widest has is) = absurd (core_or_none name bytes r core none has)
-refused_once name bytes r s (far core widest has is) (no_core none) = absurd (core_or_none name bytes s core none has)
-refused_once name bytes r s (far core widest has is) (far core' widest' has' is') =
-    let same = same_far (sym is ∙ ap margins_of (core_once bytes core core' has has') ∙ is') in
-    rw same refl
+same_domain : {d e : Span} → (let x : Option Span = Some d in x ≡ Some e) → d ≡ e
+same_domain e = cc
 
--- a query that is taken has one core
-taken_once : (bytes : List ℕ) (c d : CoreParts) → TakesQuery bytes c → TakesQuery bytes d → c ≡ d
-taken_once bytes c d taken taken' = core_once bytes c d taken.has_core taken'.has_core
+same_listing : (c d : CoreParts) (m n : MarginsParts) (s t : Span) → c ≡ d → margins_of c ≡ Ok m → margins_of d ≡ Ok n → domain_of c.defs ≡ Some s → domain_of d.defs ≡ Some t
+    → listing (code_of (plan_of c false) c m s.start s.end) ≡ listing (code_of (plan_of d false) d n t.start t.end)
+same_listing c d m n s t same is is' at at' =
+    let margins = same_margins (sym is ∙ ap margins_of same ∙ is') in
+    let domain = same_domain (sym at ∙ ap (λ (core : CoreParts). domain_of core.defs) same ∙ at') in
+    rw (same, margins, domain) refl
 
--- a query that is refused isn't taken
-refused_or_taken : (name bytes : List ℕ) (r : Reason) (core : CoreParts) → RefusesQuery name bytes r → TakesQuery bytes core → ⊥
-refused_or_taken name bytes r core (no_core none) taken = core_or_none name bytes r core none taken.has_core
-refused_or_taken name bytes r core (far core' widest has is) taken =
-    let both : Ok taken.margins ≡ Err widest = sym taken.reach ∙ ap margins_of (core_once bytes core core' taken.has_core has) ∙ is in
-    cc
+-- `compile` has one outcome
+compile_once : (files : List ℕ → List ℕ) (query : List ℕ) (o p : Outcome) → IsCompileOutcome files query o → IsCompileOutcome files query p → o ≡ p
+compile_once files query o p (no_query r is) (no_query s is') = ap (λ (why : Reason). refused (refusal why)) (refused_once query (files query) r s is is')
+compile_once files query o p (no_query r is) (listed c m d taken margins domain) = absurd (refused_or_taken query (files query) r c is taken)
+compile_once files query o p (listed c m d taken margins domain) (no_query s is') = absurd (refused_or_taken query (files query) s c is' taken)
+compile_once files query o p (listed c m d taken margins domain) (listed c' m' d' taken' margins' domain') =
+    ap printed (same_listing c c' m m' d d' (taken_once (files query) c c' taken taken') margins margins' domain domain')
 
-same_text : (c d : CoreParts) (rows others : List (List Snapshot)) (list list' : List Snapshot) → c ≡ d → (let x : Result (List (List Snapshot)) Reason = Ok rows in x ≡ Ok others) → output_of c rows ≡ Some list → output_of d others ≡ Some list' → printed (text_of list) ≡ printed (text_of list')
-same_text c d rows others list list' same read is is' =
-    let rows_same : rows ≡ others = cc in
-    let both : output_of c rows ≡ output_of d others = rw (same, rows_same) refl in
-    let lists : list ≡ list' = cc in
-    rw lists refl
-
--- `run` has one outcome
-module _ (files : List ℕ → List ℕ) (q : List ℕ) (b : List Binding) where
-  same_core : (c d : CoreParts) → TakesQuery (files q) c → TakesQuery (files q) d → c ≡ d
-  same_core c d taken taken' = taken_once (files q) c d taken taken'
-
-  same_names : (c d : CoreParts) → TakesQuery (files q) c → TakesQuery (files q) d → faulty_name c.inputs b ≡ faulty_name d.inputs b
-  same_names c d taken taken' = rw (same_core c d taken taken') refl
-
-  same_read : (c d : CoreParts) → TakesQuery (files q) c → TakesQuery (files q) d → inputs_read files b c.inputs ≡ inputs_read files b d.inputs
-  same_read c d taken taken' = rw (same_core c d taken taken') refl
-
-  run_once : (o p : Outcome) → IsRunOutcome files q b o → IsRunOutcome files q b p → o ≡ p
-  run_once o p (no_query r refuses) (no_query r' refuses') = ap (λ (why : Reason). refused (refusal why)) (refused_once q (files q) r r' refuses refuses')
-  run_once o p (no_query r refuses) (no_names c n taken is) = absurd (refused_or_taken q (files q) r c refuses taken)
-  run_once o p (no_query r refuses) (no_series c r' taken names is) = absurd (refused_or_taken q (files q) r c refuses taken)
-  run_once o p (no_query r refuses) (done c rows list taken names read out) = absurd (refused_or_taken q (files q) r c refuses taken)
-  run_once o p (no_names c n taken is) (no_query r refuses) = absurd (refused_or_taken q (files q) r c refuses taken)
-  run_once o p (no_names c n taken is) (no_names c' n' taken' is') =
-      let same = same_names c c' taken taken' in
-      let name : n ≡ n' = cc in
-      rw name refl
-  run_once o p (no_names c n taken is) (no_series c' r taken' names is') = let same = same_names c c' taken taken' in cc
-  run_once o p (no_names c n taken is) (done c' rows list taken' names read out) = let same = same_names c c' taken taken' in cc
-  run_once o p (no_series c r taken names is) (no_query r' refuses) = absurd (refused_or_taken q (files q) r' c refuses taken)
-  run_once o p (no_series c r taken names is) (no_names c' n taken' is') = let same = same_names c c' taken taken' in cc
-  run_once o p (no_series c r taken names is) (no_series c' r' taken' names' is') =
-      let same = same_read c c' taken taken' in
-      let report : r ≡ r' = cc in
-      rw report refl
-  run_once o p (no_series c r taken names is) (done c' rows list taken' names' read out) = let same = same_read c c' taken taken' in cc
-  run_once o p (done c rows list taken names read out) (no_query r refuses) = absurd (refused_or_taken q (files q) r c refuses taken)
-  run_once o p (done c rows list taken names read out) (no_names c' n taken' is) = let same = same_names c c' taken taken' in cc
-  run_once o p (done c rows list taken names read out) (no_series c' r taken' names' is) = let same = same_read c c' taken taken' in cc
-  run_once o p (done c rows list taken names read out) (done c' rows' list' taken' names' read' out') =
-      same_text c c' rows rows' list list' (same_core c c' taken taken') (sym read ∙ same_read c c' taken taken' ∙ read') out out'
+no_compile_usage : (files : List ℕ → List ℕ) (query : List ℕ) (o : Outcome) → IsCompileOutcome files query o → o ≡ refused usage → ⊥
+no_compile_usage files query o (no_query why is) same = cc
+no_compile_usage files query o (listed c m d taken margins domain) same = cc
 
 -- a command has one outcome
 pub command_once : (files : List ℕ → List ℕ) (command : CommandValue) (o p : Outcome) → IsCommandOutcome files command o → IsCommandOutcome files command p → o ≡ p
-command_once files (run query binds plain cuts) o p is is' = run_once files query binds o p is is'
-command_once files (compile query plain) o p is is' = is ∙ sym is'
-command_once files (exec code binds) o p is is' = is ∙ sym is'
+command_once files (run query binds plain cuts) o p is is' =
+    file_once _ _ _ _ (taken_once (files query)) (refused_once query (files query)) (refused_or_taken query (files query)) (λ core rows list list' out out'. same_some _ list list' out out') files binds o p is is'
+command_once files (compile query true) o p is is' = compile_once files query o p is is'
+command_once files (compile query false) o p is is' = is ∙ sym is'
+command_once files (exec code binds) o p is is' =
+    file_once _ _ _ _ (code_once (files code)) (code_refused_once code (files code)) (code_refused_or_taken code (files code)) (λ c rows list list' out out'. out ∙ sym out') files binds o p is is'
 command_once files (explain query) o p is is' = is ∙ sym is'
 command_once files (start query binds plain upto save) o p is is' = is ∙ sym is'
 command_once files (resume_upto checkpoint binds plain upto save) o p is is' = is ∙ sym is'
@@ -171,16 +112,11 @@ outcome_once words files one o p (does c is outcome) (does d is' outcome') =
     command_once files c o p outcome (subst (λ (e : CommandValue). IsCommandOutcome files e p) (sym (one c d is is')) outcome')
 
 -- a command that is built has another outcome than that of words that are none
-run_no_usage : (files : List ℕ → List ℕ) (query : List ℕ) (binds : List Binding) (o : Outcome) → IsRunOutcome files query binds o → o ≡ refused usage → ⊥
-run_no_usage files query binds o (no_query why refuses) same = cc
-run_no_usage files query binds o (no_names core name taken is) same = cc
-run_no_usage files query binds o (no_series core why taken names is) same = cc
-run_no_usage files query binds o (done core rows list taken names read out) same = cc
-
 pub no_usage : (files : List ℕ → List ℕ) (command : CommandValue) → IsCommandOutcome files command (refused usage) → IsBuilt command → ⊥
-no_usage files (run query binds plain cuts) is built = run_no_usage files query binds (refused usage) is refl
-no_usage files (compile query plain) is built = built
-no_usage files (exec code binds) is built = built
+no_usage files (run query binds plain cuts) is built = no_file_usage files binds (refused usage) is refl
+no_usage files (compile query true) is built = no_compile_usage files query (refused usage) is refl
+no_usage files (compile query false) is built = built
+no_usage files (exec code binds) is built = no_file_usage files binds (refused usage) is refl
 no_usage files (explain query) is built = built
 no_usage files (start query binds plain upto save) is built = built
 no_usage files (resume_upto checkpoint binds plain upto save) is built = built

@@ -2,7 +2,7 @@
 use Rattle.std.specs.Prelude.{◌≡◌, ◌⊎◌, ◌++◌, ⊤, List, ℕ}
 use Rattle.tilt_outside.specs.Faults.{Rose}
 use Rattle.tilt_outside.specs.Written.{AppendsFront}
-use Rattle.tilt_app.specs.Report.{Outcome, printed, refused, Report, usage, refusal, read_fault, write_fault, out_of_memory}
+use Rattle.tilt_report.specs.Report.{Outcome, printed, refused, Report, usage, refusal, read_fault, write_fault, out_of_memory}
 
 -- Of a command: which outcome it has, and whose turn it is to be read.
 module _ (is_outcome : Outcome → Type 0) (has_turn : List ℕ → Type 0) where

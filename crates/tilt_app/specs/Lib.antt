@@ -1,6 +1,7 @@
+pub mod Answer
 pub mod Cause
-pub mod Inputs
-pub mod Load
+pub mod Compile
+pub mod Exec
+pub mod FileCommand
 pub mod Outcome
-pub mod Report
 pub mod Run

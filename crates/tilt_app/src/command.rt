@@ -1,20 +1,16 @@
 // The program's one call.
 ghost use Rattle.std.specs.Prelude.{◌≡◌, ◌⊎◌, ◌++◌, List, ℕ, length, OnOk, OnErr, IfErr, MatchResult};
-ghost use Rattle.tilt_stream.specs.Text.{text_of};
 ghost use Rattle.tilt_outside.specs.Faults.{Rose};
 ghost use Rattle.tilt_outside.specs.Reads.{OnlyReads};
-ghost use Rattle.tilt_outside.specs.Written.{Puts};
 ghost use Rattle.tilt_app.specs.Cause.{IsCause, IsLineWritten};
 ghost use Rattle.tilt_words.specs.Command.{command_of, texts};
 ghost use Rattle.tilt_app.specs.Outcome.{IsBuilt, IsCommandOutcome, HasCommandTurn, IsOutcome, IsRunnable, HasTurn};
-ghost use Rattle.tilt_app.specs.Report.{printed, refused, Report, report_of, status_of, line_of, usage, write_fault};
+ghost use Rattle.tilt_report.specs.Report.{printed, refused, Report, report_of, status_of, line_of, usage, write_fault};
 
 use crate::answer::answer;
-use crate::fault::Fault;
 use std::alloc::Global;
-use tilt_outside::{Failed, Shelf, Sink};
-use tilt_series::{put_header, put_rows};
-use tilt_stream::SnapList;
+use tilt_outside::{Shelf, Sink};
+use tilt_report::Fault;
 use tilt_words::{Command, read_words};
 
 // Does what the command says: all is read and computed before the first put.
@@ -39,30 +35,11 @@ fn done<'a, S: Shelf, O: Sink>(
     ensures rest { OnlyReads S.files S.save_faults S.takes shelf.old shelf.new }
     ensures unwritten { IfErr result (λ fault. (report_of fault ≡ write_fault → ⊥) → out.new ≡ out.old) }
 {
-    let list = answer(alloc, command, shelf)?;
-    match print(out, &list) {
+    let text = answer(alloc, command, shelf)?;
+    match text.put(out) {
         Ok(()) => Ok(()),
         Err(_) => Err(Fault::WriteFault),
     }
-}
-
-// Puts the text of snapshots, and hands all of it on.
-fn print<O: Sink>(out: &mut O, list: &SnapList) -> Result<(), Failed>
-    requires { O.takes out.old (length (text_of list.now)) }
-    ensures puts { Puts O.tells O.written O.faults O.takes out.old out.new (text_of list.now) result }
-    ensures handed_on { OnOk result (O.held_back out.new ≡ 0) }
-{
-    put_text(out, list)?;
-    out.flush()
-}
-
-// Puts the text of snapshots.
-fn put_text<O: Sink>(out: &mut O, list: &SnapList) -> Result<(), Failed>
-    requires { O.takes out.old (length (text_of list.now)) }
-    ensures { Puts O.tells O.written O.faults O.takes out.old out.new (text_of list.now) result }
-{
-    put_header(out)?;
-    put_rows(out, list)
 }
 
 // Tells of a fault, and gives its status.
@@ -75,12 +52,14 @@ fn tell<E: Sink>(err: &mut E, fault: &Fault<'_>) -> u8
     fault.status()
 }
 
-/// Does what the words say: `run QUERY NAME=FILE ..` reads the query and then the series of each of its inputs from the
-/// shelf, puts to `out` the text of the snapshots of what the query emits on its output domain, and hands all of it on.
-/// Where that isn't done, one line that tells why goes to `err`, and nothing else. A fault of `err` changes nothing.
+/// Does what the words say: it reads a file and then the series of each of its inputs from the shelf, puts a text to `out`,
+/// and hands all of it on. `run QUERY NAME=FILE ..` puts the text of the snapshots of what the query emits on its output
+/// domain, `exec CODE NAME=FILE ..` that of the run of a loop code; `compile QUERY --plain` reads the query alone and puts
+/// the listing of its code. Where that isn't done, one line that tells why goes to
+/// `err`, and nothing else. A fault of `err` changes nothing.
 ///
-/// The first refusal is told: that of the words, then of the query, then of the names that are bound, then of the series
-/// in the order in which the query declares the inputs.
+/// The first refusal is told: that of the words, then of the query or the code, then of the names that are bound, then of
+/// the series in the order in which the inputs are declared.
 ///
 /// The answer is the status that the program ends with: 0 done, 1 refused, 2 the words are no command or one that isn't
 /// built yet, 3 a read failed, 4 a put or the flush failed, 5 there was no memory.

@@ -1,18 +1,16 @@
-//! The program's one call. In come the words, a shelf of files and two sinks; out goes the text of the query's
-//! snapshots, or one line that says why not, and a status.
+//! The program's one call. In come the words, a shelf of files and two sinks; out goes a text,
+//! or one line that says why not, and a status.
 //!
-//! The clauses that matter stand on `tilt`: `done`, that the bytes printed are what the query means, `reported`, that
+//! The clauses that matter stand on `tilt`: `done`, that the bytes printed are what the query means or the code gives, `reported`, that
 //! every other answer has its cause, and `complete` and `complete_refusal`, that the outcome is answered.
 #![tactic(auto)]
 
 mod answer;
-mod binds;
 mod command;
-mod fault;
-mod inputs;
-mod line;
-mod load;
-mod refusal;
+mod compile;
+mod exec;
+mod printed;
+mod query_code;
 mod run;
 #[cfg(test)]
 mod tests;

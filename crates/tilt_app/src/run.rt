@@ -1,22 +1,22 @@
 // What `run` prints.
 ghost use Rattle.std.specs.Prelude.{◌≤◌, List, ℕ, IfOk, IfErr};
-ghost use Rattle.tilt_stream.specs.Text.{text_of};
-ghost use Rattle.tilt_outside.specs.Reads.{OnlyReads};
-ghost use Rattle.tilt_words.specs.Binding.{bindings_of};
-ghost use Rattle.tilt_app.specs.Load.{IsLoadFault};
-ghost use Rattle.tilt_app.specs.Report.{printed, refused, refusal, report_of};
 ghost use Rattle.tilt_app.specs.Run.{IsRunOutcome, HasRunTurn};
+ghost use Rattle.tilt_load.specs.Load.{IsLoadFault};
+ghost use Rattle.tilt_outside.specs.Reads.{OnlyReads};
+ghost use Rattle.tilt_report.specs.Report.{printed, refused, refusal, report_of};
+ghost use Rattle.tilt_stream.specs.Text.{text_of};
+ghost use Rattle.tilt_words.specs.Binding.{bindings_of};
 
-use crate::fault::Fault;
-use crate::inputs::{check_names, load_inputs};
-use crate::load::load_query;
+use crate::query_code::query_code;
 use std::alloc::Global;
+use tilt_load::{load_inputs, load_query};
+use tilt_machine::run_code;
 use tilt_outside::Shelf;
+use tilt_report::Fault;
 use tilt_stream::SnapList;
-use tilt_types::evaluate_query;
 use tilt_words::Bind;
 
-/// The snapshots of what the query means on the files that are bound.
+/// The snapshots of what the query means on the files that are bound, by the run of its code.
 pub fn run<'a, S: Shelf>(
     alloc: Global,
     shelf: &mut S,
@@ -33,8 +33,7 @@ pub fn run<'a, S: Shelf>(
     ensures rest { OnlyReads S.files S.save_faults S.takes shelf.old shelf.new }
 {
     let query = load_query(alloc, shelf, query)?;
-    let inputs = query.core.inputs();
-    check_names(inputs, binds)?;
-    let rows = load_inputs(alloc, shelf, inputs, binds)?;
-    Ok(evaluate_query(alloc, &query.core, &rows)?)
+    let rows = load_inputs(alloc, shelf, query.core.inputs(), binds)?;
+    let code = query_code(alloc, &query)?;
+    Ok(run_code(alloc, &code, &rows)?)
 }

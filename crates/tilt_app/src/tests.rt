@@ -332,14 +332,16 @@ fn end_on(alloc: Global, words: &str, query: &[u8], x: &[u8], y: &[u8]) -> Resul
 fn the_meaning_of_a_query_is_printed(rt: HostRuntime) -> Result<(), Fail> {
     for (i, (query, x, y, out)) in MEANINGS.iter().enumerate() {
         let x = series_of(rt.alloc(), x)?;
-        let words = if y.is_empty() {
-            "run\nq\nx=x"
+        let (words, plain) = if y.is_empty() {
+            ("run\nq\nx=x", "run\nq\n--plain\nx=x")
         } else {
-            "run\nq\nx=x\ny=y"
+            ("run\nq\nx=x\ny=y", "run\nq\nx=x\ny=y\n--plain")
         };
         let y = series_of(rt.alloc(), y)?;
         let out = series_of(rt.alloc(), out)?;
         let end = end_on(rt.alloc(), words, query.as_bytes(), &x, &y)?;
+        assert_end(&rt, &end, 0, out.as_slice(), b"", i);
+        let end = end_on(rt.alloc(), plain, query.as_bytes(), &x, &y)?;
         assert_end(&rt, &end, 0, out.as_slice(), b"", i);
     }
     Ok(())
@@ -593,6 +595,85 @@ fn series_may_be_spelled_in_other_ways(rt: HostRuntime) -> Result<(), Fail> {
     Ok(())
 }
 
+// A query, and the listing of its code without fusion.
+const CODES: [(&str, &str); 5] = [
+    (
+        "input x; let y = x[t-2]; emit sum(y[t-3:t]) over (0, 5];",
+        "tilt 1\ninput x\nloop -2 5 1 0\nr0 = port b0 -2\nend\nloop 0 5 1 0\nr0 = win sum b1 -3 0\nend\n",
+    ),
+    // An unused definition has no loop, and operands come from the left.
+    (
+        "input x; let u = x; let y = x + 1; emit if y > 2 then -y else x[t-1] over (0, 5];",
+        "tilt 1\ninput x\nloop 0 5 1 0\nr0 = port b0 0\nr1 = const 1\nr2 = add r0 r1\nend\nloop 0 5 1 0\nr0 = port b1 0\nr1 = const 2\nr2 = gt r0 r1\nr3 = port b1 0\nr4 = neg r3\nr5 = port b0 -1\nr6 = if r2 r4 r5\nend\n",
+    ),
+    // A grid is looked ahead for.
+    (
+        "input x; let y = x[t+1]; let a = avg(y[t-10:t]) every 10; emit a over (0, 30];",
+        "tilt 1\ninput x\nloop -9 39 1 0\nr0 = port b0 1\nend\nloop 0 30 10 0\nr0 = win avg b1 -10 0\nend\nloop 0 30 1 0\nr0 = port b2 0\nend\n",
+    ),
+    // A span cuts a loop's stretch, or leaves nothing of it.
+    (
+        "input x; let y = x over (2, 4]; emit y over (0, 5];",
+        "tilt 1\ninput x\nloop 2 4 1 0\nr0 = port b0 0\nend\nloop 0 5 1 0\nr0 = port b1 0\nend\n",
+    ),
+    (
+        "input x; let y = x over (10, 20] every 5; emit y over (0, 5];",
+        "tilt 1\ninput x\nloop 0 5 1 0\nr0 = null\nend\nloop 0 5 1 0\nr0 = port b1 0\nend\n",
+    ),
+];
+
+#[test]
+fn the_code_of_a_query_is_listed(rt: HostRuntime) -> Result<(), Fail> {
+    for (i, (query, listing)) in CODES.iter().enumerate() {
+        let files = [("q", query.as_bytes())];
+        let end = end_of(rt.alloc(), Case::sound("compile\nq\n--plain", &files))?;
+        assert_end(&rt, &end, 0, listing.as_bytes(), b"", i);
+    }
+    Ok(())
+}
+
+// A listing, the text that its run prints and the line that is told.
+const LISTINGS: [(&str, &str, &str); 6] = [
+    (
+        "tilt 1\ninput x\nloop 0 8 1 0\nmap\nr0 = cell\nr1 = const 1\nr2 = add r0 r1\nend\nr0 = win max b0 -4 0 m0\nend\n",
+        "start,end,value\n0,3,2\n3,4,2\n4,7,6\n7,8,6\n",
+        "",
+    ),
+    (
+        "tilt 1\ninput x\nloop 0 8 1 0\nr0 = null\nend\n",
+        "start,end,value\n",
+        "",
+    ),
+    ("", "", "tilt: 40 bad code in line 1\n"),
+    (
+        "tilt 1\ninput x\nloop 0 8 1 0\nr0 = port b0 +1\nend\n",
+        "",
+        "tilt: 40 bad code in line 4\n",
+    ),
+    (
+        "tilt 1\ninput x\nloop 0 8 1 0\nr0 = null\nend\nloop 0 8 1 0\nr0 = port b2 0\nend\n",
+        "",
+        "tilt: 41 bad reference in loop 2, line 7\n",
+    ),
+    (
+        "tilt 1\ninput y\nloop 0 8 1 0\nr0 = null\nend\n",
+        "",
+        "tilt: 2 input names: x\n",
+    ),
+];
+
+#[test]
+fn a_listing_is_run_or_refused(rt: HostRuntime) -> Result<(), Fail> {
+    let series = b"start,end,value\n0,4,1\n4,8,5\n";
+    for (i, (listing, out, line)) in LISTINGS.iter().enumerate() {
+        let files = [("c", listing.as_bytes()), ("s", series.as_slice())];
+        let end = end_of(rt.alloc(), Case::sound("exec\nc\nx=s", &files))?;
+        let status = if line.is_empty() { 0 } else { 1 };
+        assert_end(&rt, &end, status, out.as_bytes(), line.as_bytes(), i);
+    }
+    Ok(())
+}
+
 #[test]
 fn words_of_no_command_are_refused(rt: HostRuntime) -> Result<(), Fail> {
     let cases = [
@@ -615,7 +696,6 @@ fn words_of_no_command_are_refused(rt: HostRuntime) -> Result<(), Fail> {
         // Commands that aren't built yet.
         "compile\nq",
         "explain\nq",
-        "exec\nq\nx=s",
         "start\nq\nx=s\n--upto\n5\n--save\nc",
         "resume\nq\nx=s\n--end",
         "watch\nq\nx=s",

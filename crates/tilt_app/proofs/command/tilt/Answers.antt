@@ -1,8 +1,8 @@
 use Rattle.std.proofs.Common.{◌≡◌, ◌∙◌, sym, ap, subst, inl, inr, List, ℕ}
 use Rattle.tilt_words.specs.Command.{CommandValue, command_of, texts}
 use Rattle.tilt_app.specs.Outcome.{IsBuilt, IsCommandOutcome, HasCommandTurn, IsOutcome, does, HasTurn}
-use Rattle.tilt_app.specs.Report.{Report, report_of, status_of}
-use Rattle.tilt_app.proofs.Complete.{printed_or_refused, only_memory, the_refusal, wider_cause, status_of_usage, cause_of_usage, cause_of_words}
+use Rattle.tilt_report.specs.Report.{Report, report_of, status_of}
+use Rattle.tilt_app.proofs.Complete.{printed_or_refused, only_memory, the_refusal, wider_cause, status_of_usage, unbuilt_status, cause_of_usage, cause_of_words}
 use Rattle.tilt_app.proofs.Once.{outcome_once, no_usage}
 use Rattle.tilt_app.proofs.command.tilt.Goals as goal
 
@@ -45,6 +45,11 @@ returns-in-Ok-clause-usage g c =
     let report = status_of_usage (report_of c.in-Err-done.fault) (sym c.tell.ensures.status ∙ two) in
     let outcome = cause_of_usage (IsCommandOutcome files command) (HasCommandTurn g.S.Shelf.tells files command) g.S.Shelf.tells _ _ _ _ _ _ _ (report_of c.in-Err-done.fault) report c.in-Err-done.ensures.cause in
     no_usage files command outcome (subst (λ (d : CommandValue). IsBuilt d) (c.in-Ok.ensures.one runnable.0 command runnable.1 c.in-Ok.ensures.command) runnable.2)
+
+pub returns-in-Ok-clause-no_command : goal.returns-in-Ok-clause-no_command
+returns-in-Ok-clause-no_command g c =
+    λ none.
+    inl (c.tell.ensures.status ∙ unbuilt_status (report_of c.in-Err-done.fault) (λ other. none (command_of c.in-Ok.command, c.in-Ok.ensures.command, c.in-Err-done.ensures.built other)))
 
 pub returns-in-Ok-clause-complete : goal.returns-in-Ok-clause-complete
 returns-in-Ok-clause-complete g c =

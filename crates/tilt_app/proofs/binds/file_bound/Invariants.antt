@@ -1,7 +1,0 @@
-use Rattle.std.proofs.Common.{◌≡◌, drop}
-use Rattle.tilt_app.specs.Inputs.{file_of}
-use Rattle.tilt_words.specs.Binding.{bindings_of}
-use Rattle.tilt_app.proofs.binds.file_bound.Given as goal
-
-abbrev pub invariant-loop-bind : goal.invariant-loop-bind
-invariant-loop-bind l = file_of (bindings_of (drop l.bind-index l.binds)) l.name ≡ file_of (bindings_of l.binds) l.name

@@ -1,0 +1,42 @@
+-- The inputs, one behind another.
+use Rattle.std.proofs.Common.{◌≡◌, List, [], ◌∷◌, ◌++◌, ℕ, Result, Ok, Err, refl, sym, ap, ◌∙◌}
+use Rattle.tilt_stream.specs.Snap.{Snapshot}
+use Rattle.tilt_load.specs.SeriesFiles.{with_rows, input_read, inputs_read}
+use Rattle.tilt_report.specs.Report.{Reason}
+use Rattle.tilt_words.specs.Binding.{Binding}
+use Rattle.tilt_load.specs.Inputs.{file_of}
+
+-- the rows in front of others, where there was no refusal
+record AreBoth (first : Result (List Snapshot) Reason) (others : Result (List (List Snapshot)) Reason) (all : List (List Snapshot)) : Type 0 where
+  one : List Snapshot
+  more : List (List Snapshot)
+  one_is : first ≡ Ok one
+  more_is : others ≡ Ok more
+  all_is : all ≡ one ∷ more
+
+both_taken : (first : Result (List Snapshot) Reason) (others : Result (List (List Snapshot)) Reason) (all : List (List Snapshot)) → with_rows first others ≡ Ok all → AreBoth first others all
+both_taken (Err why) others all is = cc
+both_taken (Ok rows) (Err why) all is = cc
+both_taken (Ok rows) (Ok others) all is = record { one = rows; more = others; one_is = refl; more_is = refl; all_is = cc }
+
+both_more : (first : Result (List Snapshot) Reason) (others : Result (List (List Snapshot)) Reason) (one : List Snapshot) (more : List (List Snapshot)) → first ≡ Ok one → others ≡ Ok more → with_rows first others ≡ Ok (one ∷ more)
+both_more first others one more p q = rw (p, q) refl
+
+module _ (files : List ℕ → List ℕ) (binds : List Binding) where
+  -- one more input is taken
+  pub read_more : (names : List (List ℕ)) (rows : List (List Snapshot)) (name : List ℕ) (new : List Snapshot) → inputs_read files binds names ≡ Ok rows → input_read files (file_of binds name) name ≡ Ok new → inputs_read files binds (names ++ name ∷ []) ≡ Ok (rows ++ new ∷ [])
+  read_more [] rows name new is taken =
+      let none : rows ≡ [] = cc in
+      rw (taken, none) refl
+  read_more (n ∷ ns) rows name new is taken =
+      let both = both_taken (input_read files (file_of binds n) n) (inputs_read files binds ns) rows is in
+      let next = read_more ns both.more name new both.more_is taken in
+      let all = both_more (input_read files (file_of binds n) n) (inputs_read files binds (ns ++ name ∷ [])) both.one (both.more ++ new ∷ []) both.one_is next in
+      all ∙ ap (λ (l : List (List Snapshot)). Ok (l ++ new ∷ [])) (sym both.all_is)
+
+  -- the next input is refused
+  pub read_stops : (names more : List (List ℕ)) (rows : List (List Snapshot)) (name : List ℕ) (why : Reason) → inputs_read files binds names ≡ Ok rows → input_read files (file_of binds name) name ≡ Err why → inputs_read files binds (names ++ name ∷ more) ≡ Err why
+  read_stops [] more rows name why is refused = rw refused refl
+  read_stops (n ∷ ns) more rows name why is refused =
+      let both = both_taken (input_read files (file_of binds n) n) (inputs_read files binds ns) rows is in
+      rw (both.one_is, read_stops ns more both.more name why both.more_is refused) refl

@@ -1,0 +1,107 @@
+-- A query file comes to one core, or to one reason why it has none.
+use Rattle.std.proofs.Common.{◌≡◌, ◌∙◌, List, ℕ, Result, Ok, Err, None, Some, refl, sym, ap, subst, arith}
+use Rattle.tilt_lexer.proofs.Unique.{same_fault, tokens_or_fault, same_tokens}
+use Rattle.tilt_stream.specs.Snap.{Snapshot}
+use Rattle.tilt_stream.specs.Text.{text_of}
+use Rattle.tilt_syntax.specs.Query.{kinds}
+use Rattle.tilt_syntax.proofs.Refused.{one_refusal, query-or-refused}
+use Rattle.tilt_syntax.proofs.Unique.{one_query}
+use Rattle.tilt_bounds.specs.Margins.{MarginsParts, margins_of}
+use Rattle.tilt_types.specs.Checked.{checked}
+use Rattle.tilt_types.specs.Core.{CoreParts}
+use Rattle.tilt_types.specs.Meaning.{output_of}
+use Rattle.tilt_types.specs.Needs.{Need}
+use Rattle.tilt_types.specs.declared.fault.CheckFault.{CheckFault}
+use Rattle.tilt_load.specs.Inputs.{faulty_name}
+use Rattle.tilt_words.specs.Binding.{Binding}
+use Rattle.tilt_words.specs.Command.{CommandValue, run, compile, exec, explain, start, resume_upto, resume_end, watch, try, IsCommand}
+use Rattle.tilt_report.specs.Report.{Outcome, printed, refused, Reason, Report, usage, refusal, input_names, report_of_place, report_of_syntax, report_of_check}
+use Rattle.tilt_load.specs.QueryFile.{HasCore, TakesQuery, HasNoCore, RefusesQuery, no_core, far, long, no_tokens, no_statements, ill_formed}
+use Rattle.tilt_load.specs.SeriesFiles.{inputs_read}
+
+same_err : {f g : CheckFault} → (let x : Result CoreParts CheckFault = Err f in x ≡ Err g) → f ≡ g
+same_err e = cc
+
+same_ok : {c d : CoreParts} → (let x : Result CoreParts CheckFault = Ok c in x ≡ Ok d) → c ≡ d
+same_ok e = cc
+
+same_far : {m n : Need} → (let x : Result MarginsParts Need = Err m in x ≡ Err n) → m ≡ n
+same_far e = cc
+
+-- a report is of one refusal
+same_reason : (report : Report) (r s : Reason) → report ≡ refusal r → report ≡ refusal s → r ≡ s
+same_reason report r s is other = cc
+
+-- a query has no core for one reason
+no_core_once : (name bytes : List ℕ) (r s : Reason) → HasNoCore name bytes r → HasNoCore name bytes s → r ≡ s
+no_core_once name bytes r s (long over) (long over') = refl
+no_core_once name bytes r s (long over) (no_tokens f short faulty is) = absurd (omega arith)
+no_core_once name bytes r s (long over) (no_statements ts f short lexed refuses is) = absurd (omega arith)
+no_core_once name bytes r s (long over) (ill_formed ts q f short lexed parsed bad is) = absurd (omega arith)
+no_core_once name bytes r s (no_tokens f short faulty is) (long over) = absurd (omega arith)
+no_core_once name bytes r s (no_tokens f short faulty is) (no_tokens g short' faulty' is') =
+    same_reason (report_of_place f) r s is (rw (sym (same_fault faulty faulty' refl refl)) at is')
+no_core_once name bytes r s (no_tokens f short faulty is) (no_statements ts g short' lexed refuses is') =
+    absurd (tokens_or_fault lexed faulty refl)
+no_core_once name bytes r s (no_tokens f short faulty is) (ill_formed ts q g short' lexed parsed bad is') =
+    absurd (tokens_or_fault lexed faulty refl)
+no_core_once name bytes r s (no_statements ts f short lexed refuses is) (long over) = absurd (omega arith)
+no_core_once name bytes r s (no_statements ts f short lexed refuses is) (no_tokens g short' faulty is') =
+    absurd (tokens_or_fault lexed faulty refl)
+no_core_once name bytes r s (no_statements ts f short lexed refuses is) (no_statements us g short' lexed' refuses' is') =
+    let same = same_tokens lexed lexed' refl refl in
+    same_reason (report_of_syntax f) r s is (rw (sym (one_refusal (kinds ts) f g refuses (rw (sym same) at refuses'))) at is')
+no_core_once name bytes r s (no_statements ts f short lexed refuses is) (ill_formed us q g short' lexed' parsed bad is') =
+    let same = same_tokens lexed lexed' refl refl in
+    absurd (query-or-refused (kinds ts) q f (rw (sym same) at parsed) refuses)
+no_core_once name bytes r s (ill_formed ts q f short lexed parsed bad is) (long over) = absurd (omega arith)
+no_core_once name bytes r s (ill_formed ts q f short lexed parsed bad is) (no_tokens g short' faulty is') =
+    absurd (tokens_or_fault lexed faulty refl)
+no_core_once name bytes r s (ill_formed ts q f short lexed parsed bad is) (no_statements us g short' lexed' refuses is') =
+    let same = same_tokens lexed lexed' refl refl in
+    absurd (query-or-refused (kinds ts) q g parsed (rw (sym same) at refuses))
+no_core_once name bytes r s (ill_formed ts q f short lexed parsed bad is) (ill_formed us p g short' lexed' parsed' bad' is') =
+    let same = same_tokens lexed lexed' refl refl in
+    let query = one_query (kinds ts) q p parsed (rw (sym same) at parsed') in
+    let fault : f ≡ g = same_err (sym bad ∙ ap checked query ∙ bad') in
+    same_reason (report_of_check f) r s is (rw (sym fault) at is')
+
+-- a query has one core
+core_once : (bytes : List ℕ) (c d : CoreParts) → HasCore bytes c → HasCore bytes d → c ≡ d
+core_once bytes c d taken taken' =
+    let same = same_tokens taken.lexed taken'.lexed refl refl in
+    let query = one_query (kinds taken.tokens) taken.query taken'.query taken.parsed (rw (sym same) at taken'.parsed) in
+    same_ok (sym taken.accepted ∙ ap checked query ∙ taken'.accepted)
+
+-- a query has a core, or none
+core_or_none : (name bytes : List ℕ) (r : Reason) (core : CoreParts) → HasNoCore name bytes r → HasCore bytes core → ⊥
+core_or_none name bytes r core (long over) taken = let short = taken.short in absurd (omega arith)
+core_or_none name bytes r core (no_tokens f short faulty is) taken = tokens_or_fault taken.lexed faulty refl
+core_or_none name bytes r core (no_statements ts f short lexed refuses is) taken =
+    let same = same_tokens taken.lexed lexed refl refl in
+    query-or-refused (kinds ts) taken.query f (rw same at taken.parsed) refuses
+core_or_none name bytes r core (ill_formed ts q f short lexed parsed bad is) taken =
+    let same = same_tokens taken.lexed lexed refl refl in
+    let query = one_query (kinds ts) q taken.query parsed (rw same at taken.parsed) in
+    let both : Ok core ≡ Err f = sym taken.accepted ∙ ap checked (sym query) ∙ bad in
+    cc
+
+-- a query is refused for one reason
+pub refused_once : (name bytes : List ℕ) (r s : Reason) → RefusesQuery name bytes r → RefusesQuery name bytes s → r ≡ s
+refused_once name bytes r s (no_core none) (no_core none') = no_core_once name bytes r s none none'
+refused_once name bytes r s (no_core none) (far core widest has is) = absurd (core_or_none name bytes r core none has)
+refused_once name bytes r s (far core widest has is) (no_core none) = absurd (core_or_none name bytes s core none has)
+refused_once name bytes r s (far core widest has is) (far core' widest' has' is') =
+    let same = same_far (sym is ∙ ap margins_of (core_once bytes core core' has has') ∙ is') in
+    rw same refl
+
+-- a query that is taken has one core
+pub taken_once : (bytes : List ℕ) (c d : CoreParts) → TakesQuery bytes c → TakesQuery bytes d → c ≡ d
+taken_once bytes c d taken taken' = core_once bytes c d taken.has_core taken'.has_core
+
+-- a query that is refused isn't taken
+pub refused_or_taken : (name bytes : List ℕ) (r : Reason) (core : CoreParts) → RefusesQuery name bytes r → TakesQuery bytes core → ⊥
+refused_or_taken name bytes r core (no_core none) taken = core_or_none name bytes r core none taken.has_core
+refused_or_taken name bytes r core (far core' widest has is) taken =
+    let both : Ok taken.margins ≡ Err widest = sym taken.reach ∙ ap margins_of (core_once bytes core core' taken.has_core has) ∙ is in
+    cc

@@ -1,0 +1,37 @@
+use Rattle.std.proofs.Common.{◌≡◌, ◌∙◌, sym}
+use Rattle.std.specs.Prelude.{⊤}
+use Rattle.std.proofs.lemmas.Result.{err_from_is_err_and}
+use Rattle.tilt_load.specs.CodeFile.{RefusesCode}
+use Rattle.tilt_load.specs.Load.{IsTooLong}
+use Rattle.tilt_load.proofs.Loads.{load_fault_weaker}
+use Rattle.tilt_load.proofs.OneCode.{code_refuses, code_too_long}
+use Rattle.tilt_report.specs.Report.{report_of, report_of_code}
+use Rattle.tilt_load.proofs.code_file.load_code.Goals as goal
+
+pub returns-in_err-bytes-clause-fault : goal.returns-in_err-bytes-clause-fault
+returns-in_err-bytes-clause-fault g c =
+    let p = err_from_is_err_and c.from_residual.result c.from_residual.ensures.1 in
+    let tells = g.S.Shelf.tells in
+    let name = c.args.name.now in
+    let file = g.S.Shelf.files c.args.shelf.now name in
+    rw (p.1, p.2) (load_fault_weaker tells tells (IsTooLong name file) (RefusesCode name file) (λ which. which ≡ name) (λ which. which ≡ name) _ _ _ _ (λ t. t)
+    (λ why t is. code_too_long name file why is) (λ which rose same. (rose, same)) (report_of c.in_err-bytes.field-0.0) c.in_err-bytes.ensures.fault)
+
+pub returns-in_err-read_code-clause-fault : goal.returns-in_err-read_code-clause-fault
+returns-in_err-read_code-clause-fault g c =
+    let p = err_from_is_err_and c.from_residual-in_err-read_code.result c.from_residual-in_err-read_code.ensures.1 in
+    let tells = g.S.Shelf.tells in
+    let name = c.args.name.now in
+    let file = g.S.Shelf.files c.args.shelf.now name in
+    let bytes = c.deref.result.now in
+    let fault = c.in_err-read_code.field-0.0 in
+    let refuses = code_refuses name bytes fault (rw c.deref.ensures.value c.in_ok-bytes.ensures.short) c.in_err-read_code.ensures.bad_line c.in_err-read_code.ensures.bad_reference in
+    rw (p.1, p.2) (load_fault_weaker ⊤ tells (RefusesCode name bytes) (RefusesCode name file) (λ _. ⊥) (λ which. which ≡ name) 0 0 _ _ (λ t. tt)
+    (λ why t is. rw (c.deref.ensures.value, c.in_ok-bytes.ensures.whole t) at is) (λ which rose never. absurd never) (report_of_code fault) refuses)
+
+pub returns-clause-taken : goal.returns-clause-taken
+returns-clause-taken g c =
+    λ told.
+    let whole = c.in_ok-bytes.ensures.whole told in
+    let read = c.in_ok-read_code.ensures.code in
+    record { short = rw whole at c.in_ok-bytes.ensures.short; good = read.0; listed = rw (c.deref.ensures.value, whole) at read.1 }

@@ -1,0 +1,45 @@
+-- Which input names are faulty: those of the words against those of the query.
+use Rattle.std.specs.Prelude.{ℕ, Bool, not, ◌||◌, if◌then◌else◌, List, [], ◌∷◌, Option, Some, None, map}
+use Rattle.std.specs.List.{list_any, slice_index_or}
+use Rattle.std.specs.Str.{bytes_eq}
+use Rattle.tilt_words.specs.Binding.{Binding}
+use Rattle.tilt_load.specs.declared.binds.FaultyName.{FaultyName}
+use Rattle.tilt_load.specs.declared.binds.FaultyName.TheVariants.{Bound, Input}
+
+-- whether a name is among names
+abbrev pub is_among : List ℕ → List (List ℕ) → Bool
+is_among name names = list_any (λ other. bytes_eq other name) names
+
+-- the names that are bound, in order
+abbrev pub bound_names : List Binding → List (List ℕ)
+bound_names binds = map (λ bind. bind.name) binds
+
+-- the first of the bound names that isn't declared, or is bound a second time behind those before
+abbrev pub first_unexpected : List (List ℕ) → List (List ℕ) → List (List ℕ) → Option (List ℕ)
+first_unexpected declared before [] = None
+first_unexpected declared before (name ∷ names) =
+    if not (is_among name declared) || is_among name before then Some name else first_unexpected declared (name ∷ before) names
+
+-- the first declared name that isn't bound
+abbrev pub first_unbound : List (List ℕ) → List (List ℕ) → Option (List ℕ)
+first_unbound bound [] = None
+first_unbound bound (name ∷ names) = if is_among name bound then first_unbound bound names else Some name
+
+-- the first of two, where it is there
+abbrev pub first_of_two : Option (List ℕ) → Option (List ℕ) → Option (List ℕ)
+first_of_two None second = second
+first_of_two (Some name) second = Some name
+
+-- the faulty name that is told, where there is one
+abbrev pub faulty_name : List (List ℕ) → List Binding → Option (List ℕ)
+faulty_name declared binds = first_of_two (first_unexpected declared [] (bound_names binds)) (first_unbound (bound_names binds) declared)
+
+-- the file that is bound to a name; no file where none is
+abbrev pub file_of : List Binding → List ℕ → List ℕ
+file_of [] name = []
+file_of (bind ∷ binds) name = if bytes_eq bind.name name then bind.file else file_of binds name
+
+-- the name that is told: a bound one itself, or that of the input at a place
+abbrev pub name_told : List (List ℕ) → FaultyName → List ℕ
+name_told declared (Bound name) = name.now
+name_told declared (Input place) = slice_index_or declared place []

@@ -1,0 +1,5 @@
+pub mod CodeFile
+pub mod Inputs
+pub mod Load
+pub mod QueryFile
+pub mod SeriesFiles

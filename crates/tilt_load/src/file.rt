@@ -1,0 +1,33 @@
+// A file that the words name, from the shelf to its bytes.
+ghost use Rattle.std.specs.Prelude.{◌≡◌, ◌≤◌, List, ℕ, length, IfOk, IfErr};
+ghost use Rattle.tilt_base.specs.declared.limits.TheConstants.{FILE};
+ghost use Rattle.tilt_load.specs.Load.{IsLoadFault, IsTooLong};
+ghost use Rattle.tilt_outside.specs.Reads.{OnlyReads};
+ghost use Rattle.tilt_report.specs.Report.{report_of};
+
+use std::alloc::Global;
+use tilt_base::FILE;
+use tilt_outside::{ReadAllFault, Shelf, read_all};
+use tilt_report::{Fault, Refusal};
+
+/// The bytes of the file of that name.
+pub(crate) fn load<'a, S: Shelf>(
+    alloc: Global,
+    shelf: &mut S,
+    name: &'a str,
+) -> Result<Vec<u8>, Fault<'a>>
+    requires { S.lends name.now }
+    ensures whole { S.tells → IfOk result (λ bytes. bytes.items ≡ S.files shelf.old name.now) }
+    ensures short { IfOk result (λ bytes. length bytes.items ≤ FILE) }
+    ensures fault { IfErr result (λ fault. IsLoadFault S.tells (IsTooLong name.now (S.files shelf.old name.now))
+        (λ which. which ≡ name.now) (S.read_faults shelf.old) (S.read_faults shelf.new) (report_of fault)) }
+    ensures kept { S.read_faults shelf.old ≤ S.read_faults shelf.new }
+    ensures rest { OnlyReads S.files S.save_faults S.takes shelf.old shelf.new }
+{
+    match read_all(alloc, shelf, name, FILE) {
+        Ok(bytes) => Ok(bytes),
+        Err(ReadAllFault::TooLong) => Err(Fault::Refused(Refusal::FileTooLong(name))),
+        Err(ReadAllFault::ReadFault) => Err(Fault::ReadFault(name)),
+        Err(ReadAllFault::OutOfMemory) => Err(Fault::OutOfMemory),
+    }
+}

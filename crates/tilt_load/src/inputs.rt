@@ -1,0 +1,91 @@
+// The inputs of a query or of a code, each from the file that is bound to it.
+ghost use Rattle.std.specs.Prelude.{◌≡◌, ◌≤◌, List, [], ◌∷◌, ◌++◌, ℕ, Ok, Err, None, length, IfOk, IfErr, OnOk, MatchResult};
+ghost use Rattle.tilt_outside.specs.Reads.{OnlyReads};
+ghost use Rattle.tilt_load.specs.Inputs.{faulty_name};
+ghost use Rattle.tilt_load.specs.Load.{HasInputTurn, IsLoadFault, IsNameFault};
+ghost use Rattle.tilt_load.specs.SeriesFiles.{TakesInputs, RefusesInputs, inputs_read};
+ghost use Rattle.tilt_report.specs.Report.{report_of};
+ghost use Rattle.tilt_words.specs.Binding.{bindings_of};
+
+use crate::binds::{FaultyName, faulty_name, file_bound};
+use crate::series_file::load_input;
+use std::alloc::{AllocError as OutOfMemory, Global};
+use tilt_lexer::Name;
+use tilt_outside::Shelf;
+use tilt_report::{Fault, Refusal};
+use tilt_stream::Rows;
+use tilt_words::Bind;
+
+/// The rows of each input, in order, from the file that is bound to its name. The names are tested before a file is read,
+/// and each input is done before the next one is read.
+pub fn load_inputs<'a, S: Shelf>(
+    alloc: Global,
+    shelf: &mut S,
+    inputs: &[Name],
+    binds: &'a [Bind],
+) -> Result<Vec<Rows>, Fault<'a>>
+    requires { (file : List ℕ)
+        → HasInputTurn S.tells (S.files shelf.old) (bindings_of binds.now) inputs.now file → S.lends file }
+    ensures taken { S.tells → IfOk result (λ rows. TakesInputs (S.files shelf.old) (bindings_of binds.now) inputs.now rows.items) }
+    ensures many { IfOk result (λ rows. length rows.items ≡ length inputs.now) }
+    ensures fault { IfErr result (λ fault. IsLoadFault S.tells
+        (RefusesInputs (S.files shelf.old) (bindings_of binds.now) inputs.now)
+        (HasInputTurn S.tells (S.files shelf.old) (bindings_of binds.now) inputs.now)
+        (S.read_faults shelf.old) (S.read_faults shelf.new) (report_of fault)) }
+    ensures kept { S.read_faults shelf.old ≤ S.read_faults shelf.new }
+    ensures rest { OnlyReads S.files S.save_faults S.takes shelf.old shelf.new }
+{
+    check_names(inputs, binds)?;
+    read_inputs(alloc, shelf, inputs, binds)
+}
+
+// Refuses words that don't bind each input once, and nothing else.
+fn check_names<'a>(inputs: &[Name], binds: &'a [Bind]) -> Result<(), Fault<'a>>
+    ensures { MatchResult result
+        (λ _. faulty_name inputs.now (bindings_of binds.now) ≡ None)
+        (λ fault. IsNameFault inputs.now (bindings_of binds.now) (report_of fault)) }
+{
+    match faulty_name(inputs, binds) {
+        None => Ok(()),
+        Some(FaultyName::Bound(name)) => Err(Fault::Refused(Refusal::UnexpectedName(name))),
+        Some(FaultyName::Input(place)) => {
+            let name = inputs[place].copy()?;
+            Err(Fault::Refused(Refusal::UnboundInput(name)))
+        }
+    }
+}
+
+// The rows of each input, in order. Each is done before the next one is read.
+fn read_inputs<'a, S: Shelf>(
+    alloc: Global,
+    shelf: &mut S,
+    inputs: &[Name],
+    binds: &'a [Bind],
+) -> Result<Vec<Rows>, Fault<'a>>
+    requires named { faulty_name inputs.now (bindings_of binds.now) ≡ None }
+    requires lent { (file : List ℕ)
+        → HasInputTurn S.tells (S.files shelf.old) (bindings_of binds.now) inputs.now file → S.lends file }
+    ensures taken { S.tells → IfOk result (λ rows. inputs_read (S.files shelf.old) (bindings_of binds.now) inputs.now ≡ Ok rows.items) }
+    ensures many { IfOk result (λ rows. length rows.items ≡ length inputs.now) }
+    ensures fault { IfErr result (λ fault. IsLoadFault S.tells
+        (λ why. inputs_read (S.files shelf.old) (bindings_of binds.now) inputs.now ≡ Err why)
+        (HasInputTurn S.tells (S.files shelf.old) (bindings_of binds.now) inputs.now)
+        (S.read_faults shelf.old) (S.read_faults shelf.new) (report_of fault)) }
+    ensures kept { S.read_faults shelf.old ≤ S.read_faults shelf.new }
+    ensures rest { OnlyReads S.files S.save_faults S.takes shelf.old shelf.new }
+{
+    let mut all = Vec::new(alloc);
+    for input in inputs {
+        let rows = load_input(alloc, shelf, input, file_bound(binds, input))?;
+        add(&mut all, rows)?;
+    }
+    Ok(all)
+}
+
+// Adds the rows of one more input.
+fn add(all: &mut Vec<Rows>, rows: Rows) -> Result<(), OutOfMemory>
+    ensures { OnOk result (all.new.items ≡ all.old.items ++ rows ∷ []) }
+{
+    all.push(rows)?;
+    Ok(())
+}

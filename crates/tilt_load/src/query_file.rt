@@ -1,0 +1,56 @@
+// A query file, from the shelf to the query that it holds.
+ghost use Rattle.std.specs.Prelude.{◌≡◌, ◌≤◌, ⊤, List, ℕ, Ok, length, IfOk, IfErr};
+ghost use Rattle.tilt_base.specs.declared.limits.TheConstants.{FILE};
+ghost use Rattle.tilt_bounds.specs.Margins.{margins_of};
+ghost use Rattle.tilt_load.specs.Load.{IsLoadFault};
+ghost use Rattle.tilt_load.specs.QueryFile.{TakesQuery, RefusesQuery};
+ghost use Rattle.tilt_outside.specs.Reads.{OnlyReads};
+ghost use Rattle.tilt_report.specs.Report.{report_of};
+
+use crate::file::load;
+use std::alloc::Global;
+use tilt_bounds::{Margins, reach};
+use tilt_lexer::lex;
+use tilt_outside::Shelf;
+use tilt_report::Fault;
+use tilt_syntax::parse;
+use tilt_types::{Core, check};
+
+/// A query that was accepted: its core, and how far it looks.
+#[derive(Drop)]
+pub struct LoadedQuery {
+    pub core: Core,
+    pub margins: Margins,
+}
+
+/// The query in the file of that name.
+pub fn load_query<'a, S: Shelf>(
+    alloc: Global,
+    shelf: &mut S,
+    name: &'a str,
+) -> Result<LoadedQuery, Fault<'a>>
+    requires { S.lends name.now }
+    ensures taken { S.tells → IfOk result (λ query. TakesQuery (S.files shelf.old name.now) query.core) }
+    ensures margins { IfOk result (λ query. margins_of query.core ≡ Ok query.margins) }
+    ensures fault { IfErr result (λ fault. IsLoadFault S.tells (RefusesQuery name.now (S.files shelf.old name.now))
+        (λ which. which ≡ name.now) (S.read_faults shelf.old) (S.read_faults shelf.new) (report_of fault)) }
+    ensures kept { S.read_faults shelf.old ≤ S.read_faults shelf.new }
+    ensures rest { OnlyReads S.files S.save_faults S.takes shelf.old shelf.new }
+{
+    let bytes = load(alloc, shelf, name)?;
+    read_query(alloc, &bytes)
+}
+
+// The query that bytes are, or why they are none.
+fn read_query<'a>(alloc: Global, bytes: &[u8]) -> Result<LoadedQuery, Fault<'a>>
+    requires { length bytes.now ≤ FILE }
+    ensures taken { IfOk result (λ query. TakesQuery bytes.now query.core) }
+    ensures margins { IfOk result (λ query. margins_of query.core ≡ Ok query.margins) }
+    ensures fault { (name : List ℕ) → IfErr result (λ fault. IsLoadFault ⊤ (RefusesQuery name bytes.now) (λ _. ⊥) 0 0 (report_of fault)) }
+{
+    let tokens = lex(alloc, bytes)?;
+    let query = parse(alloc, &tokens)?;
+    let core = check(alloc, &query)?;
+    let margins = reach(alloc, &core)?;
+    Ok(LoadedQuery { core, margins })
+}

@@ -1,0 +1,229 @@
+// Why words that are a command are refused, and how it is told.
+ghost use Rattle.std.specs.Prelude.{◌≡◌, ◌++◌, ℕ, codes};
+ghost use Rattle.std.specs.Fmt.{decimal, signed_decimal};
+ghost use Rattle.tilt_outside.specs.Written.{Puts};
+ghost use Rattle.tilt_report.specs.Report.{series_number, series_words, statement_front, statement_words};
+
+use crate::line::{put_counted, put_named, put_signed, put_text};
+use tilt_lexer::Name;
+use tilt_outside::{Failed, Sink};
+use tilt_series::SeriesFault;
+
+/// Why words that are a command are refused.
+#[derive(Drop)]
+pub enum Refusal<'a> {
+    /// The words bind this name, which isn't the name of an input, or which was bound before.
+    UnexpectedName(&'a Name),
+    /// The words bind no file to the input of this name.
+    UnboundInput(Name),
+    /// The file of this name has more bytes than a file may have.
+    FileTooLong(&'a str),
+    /// The series of an input is refused.
+    BadSeries {
+        /// The name of the input.
+        name: Name,
+        /// Why.
+        fault: SeriesFault,
+    },
+    /// The byte of the query at this place is no blank, and no token begins there.
+    BadByte {
+        /// The place, counted in bytes from 0.
+        at: u64,
+    },
+    /// The digits of the query that begin at this place spell a number above 9223372036854775807.
+    BigNumber {
+        /// The place, counted in bytes from 0.
+        at: u64,
+    },
+    /// The query has more than 256 statements.
+    TooManyStatements,
+    /// A statement of the query is refused.
+    BadStatement {
+        /// Why.
+        fault: StatementFault,
+        /// The number of the statement, counted from 1.
+        statement: u32,
+    },
+    /// The query looks back or ahead farther than a query may.
+    TooFar {
+        /// The look-back, in ticks.
+        back: i128,
+        /// The look-ahead, in ticks.
+        ahead: i128,
+    },
+    /// A line of the code can't stand where it stands, is spelled otherwise, or has a number out of its range.
+    BadCode {
+        /// The number of the line, counted from 1.
+        line: u64,
+    },
+    /// A line of the code names a buffer, a register or a map that isn't defined before it.
+    BadReference {
+        /// The number of its loop, counted from 1.
+        in_loop: u64,
+        /// The number of the line, counted from 1.
+        line: u64,
+    },
+}
+
+/// Why a statement of a query is refused.
+#[derive(Clone, Copy)]
+pub enum StatementFault {
+    /// It has more than 256 tokens.
+    TooLong,
+    /// It isn't in the grammar.
+    NoReading,
+    /// It is an `emit` and not the last one, or the last one and no `emit`.
+    EmitPlace,
+    /// It declares a name that was declared before.
+    NameTaken,
+    /// A name in its expression isn't declared before it.
+    UnknownName,
+    /// Its expression has no fitting type.
+    TypeMismatch,
+    /// A window in its expression doesn't end behind its start.
+    BadWindow,
+    /// Its span or its period is none that may stand there.
+    BadDomain,
+}
+
+impl Refusal<'_> {
+    ghost use Rattle.tilt_report.specs.Report.{reason_of, reason_words};
+
+    /// Puts its number and its words. It takes no memory.
+    pub fn put<E: Sink>(&self, err: &mut E) -> Result<(), Failed>
+        requires { (n : ℕ) → E.takes err.old n }
+        ensures { Puts E.tells E.written E.faults E.takes err.old err.new
+            (reason_words (reason_of self.now)) result }
+    {
+        match self {
+            Refusal::UnexpectedName(name) => put_named(err, b"2 input names: ", name.bytes()),
+            Refusal::UnboundInput(name) => put_named(err, b"2 input names: ", name.bytes()),
+            Refusal::FileTooLong(name) => put_named(err, b"3 file too long: ", name.as_bytes()),
+            Refusal::BadSeries { name, fault } => put_series(err, name.bytes(), fault),
+            Refusal::BadByte { at } => put_counted(err, b"20 bad byte at ", *at),
+            Refusal::BigNumber { at } => put_counted(err, b"21 big number at ", *at),
+            Refusal::TooManyStatements => put_text(err, b"22 too many statements"),
+            Refusal::BadStatement { fault, statement } => put_statement(err, *fault, *statement),
+            Refusal::TooFar { back, ahead } => put_reach(err, *back, *ahead),
+            Refusal::BadCode { line } => put_counted(err, b"40 bad code in line ", *line),
+            Refusal::BadReference { in_loop, line } => put_reference(err, *in_loop, *line),
+        }
+    }
+}
+
+// Puts why the series of an input of that name is refused.
+fn put_series<E: Sink>(err: &mut E, name: &[u8], fault: &SeriesFault) -> Result<(), Failed>
+    requires { (n : ℕ) → E.takes err.old n }
+    ensures { Puts E.tells E.written E.faults E.takes err.old err.new
+        (series_number fault.now ++ codes " series " ++ name.now ++ series_words fault.now) result }
+{
+    put_named(err, number_of(fault).as_bytes(), b" series ")?;
+    put_text(err, name)?;
+    put_fault(err, fault)
+}
+
+// The number that stands in front of the name.
+fn number_of(fault: &SeriesFault) -> &'static str
+    ensures { result.now ≡ series_number fault.now }
+{
+    match fault {
+        SeriesFault::BadHeader => "10",
+        SeriesFault::BadFields { .. } => "11",
+        SeriesFault::BadField { .. } => "12",
+        SeriesFault::TimeRange { .. } => "13",
+        SeriesFault::EmptyInterval { .. } => "14",
+        SeriesFault::OutOfOrder { .. } => "15",
+        SeriesFault::RowBeforeCut { .. } => "16",
+        SeriesFault::RowPastCut { .. } => "17",
+    }
+}
+
+// Puts what stands behind the name.
+fn put_fault<E: Sink>(err: &mut E, fault: &SeriesFault) -> Result<(), Failed>
+    requires { (n : ℕ) → E.takes err.old n }
+    ensures { Puts E.tells E.written E.faults E.takes err.old err.new
+        (series_words fault.now) result }
+{
+    match fault {
+        SeriesFault::BadHeader => put_text(err, b": bad header"),
+        SeriesFault::BadFields { row } => put_counted(err, b": bad fields in row ", *row),
+        SeriesFault::BadField { row, field } => put_field(err, *row, *field),
+        SeriesFault::TimeRange { row } => put_counted(err, b": time out of range in row ", *row),
+        SeriesFault::EmptyInterval { row } => put_counted(err, b": empty interval in row ", *row),
+        SeriesFault::OutOfOrder { row } => put_counted(err, b": out of order in row ", *row),
+        SeriesFault::RowBeforeCut { row } => put_counted(err, b": before the cut in row ", *row),
+        SeriesFault::RowPastCut { row } => put_counted(err, b": past the cut in row ", *row),
+    }
+}
+
+// Puts which field of which row is bad.
+fn put_field<E: Sink>(err: &mut E, row: u64, field: u8) -> Result<(), Failed>
+    requires { (n : ℕ) → E.takes err.old n }
+    ensures { Puts E.tells E.written E.faults E.takes err.old err.new
+        (codes ": bad field " ++ decimal field ++ codes " in row " ++ decimal row) result }
+{
+    put_counted(err, b": bad field ", u64::from(field))?;
+    put_counted(err, b" in row ", row)
+}
+
+// Puts why a statement is refused.
+fn put_statement<E: Sink>(err: &mut E, fault: StatementFault, statement: u32) -> Result<(), Failed>
+    requires { (n : ℕ) → E.takes err.old n }
+    ensures { Puts E.tells E.written E.faults E.takes err.old err.new
+        (statement_front fault ++ decimal statement ++ statement_words fault) result }
+{
+    put_counted(err, front_of(fault).as_bytes(), u64::from(statement))?;
+    put_text(err, words_of(fault).as_bytes())
+}
+
+// Puts how far a query looks.
+fn put_reach<E: Sink>(err: &mut E, back: i128, ahead: i128) -> Result<(), Failed>
+    requires { (n : ℕ) → E.takes err.old n }
+    ensures { Puts E.tells E.written E.faults E.takes err.old err.new
+        (codes "31 too far: back " ++ signed_decimal back ++ codes " ahead " ++ signed_decimal ahead) result }
+{
+    put_signed(err, b"31 too far: back ", back)?;
+    put_signed(err, b" ahead ", ahead)
+}
+
+// What stands in front of the number of the statement.
+fn front_of(fault: StatementFault) -> &'static str
+    ensures { result.now ≡ statement_front fault }
+{
+    match fault {
+        StatementFault::TooLong => "23 statement ",
+        StatementFault::NoReading => "24 statement ",
+        StatementFault::EmitPlace => "25 statement ",
+        StatementFault::NameTaken => "26 statement ",
+        StatementFault::UnknownName => "27 statement ",
+        StatementFault::TypeMismatch => "28 statement ",
+        StatementFault::BadWindow => "29 statement ",
+        StatementFault::BadDomain => "30 statement ",
+    }
+}
+
+// What stands behind the number of the statement.
+fn words_of(fault: StatementFault) -> &'static str
+    ensures { result.now ≡ statement_words fault }
+{
+    match fault {
+        StatementFault::TooLong => ": too long",
+        StatementFault::NoReading => ": syntax",
+        StatementFault::EmitPlace => ": place of emit",
+        StatementFault::NameTaken => ": name taken",
+        StatementFault::UnknownName => ": unknown name",
+        StatementFault::TypeMismatch => ": type mismatch",
+        StatementFault::BadWindow => ": bad window",
+        StatementFault::BadDomain => ": bad domain",
+    }
+}
+
+// Puts which line of the code names what isn't defined before it.
+fn put_reference<E: Sink>(err: &mut E, in_loop: u64, line: u64) -> Result<(), Failed>
+    requires { (n : ℕ) → E.takes err.old n }
+    ensures { Puts E.tells E.written E.faults E.takes err.old err.new
+        (codes "41 bad reference in loop " ++ decimal in_loop ++ codes ", line " ++ decimal line) result }
+{
+    put_counted(err, b"41 bad reference in loop ", in_loop)?;
+    put_counted(err, b", line ", line)
+}
