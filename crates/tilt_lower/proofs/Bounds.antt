@@ -14,7 +14,8 @@ use Rattle.tilt_code.specs.declared.instr.Instr.{Instr}
 use Rattle.tilt_code.specs.declared.instr.Instr.TheVariants as instr
 use Rattle.tilt_fuse.specs.Plan.{fused}
 use Rattle.tilt_lower.proofs.Blocks.{registers-some, length-block}
-use Rattle.tilt_lower.specs.Lowering.{registers, maps, block_of, result_at, ConstantFits}
+use Rattle.tilt_lower.specs.Constants.{ConstantFits}
+use Rattle.tilt_lower.specs.Lowering.{registers, maps, block_of, result_at}
 use Rattle.tilt_types.specs.Core.{ReadsBelow, IsDefinition}
 use Rattle.tilt_types.specs.CoreTree.{Const, Read, Reduce, CoreTree, Definition, nodes}
 use Rattle.tilt_types.specs.Needs.{Need, either, reaching, asked_by}

@@ -20,7 +20,8 @@ use Rattle.tilt_lower.proofs.Blocks.{registers-some, length-block, plain-maps, p
 use Rattle.tilt_lower.proofs.Bounds.{IsGood, Bound, first_bound, second_bound, bound-more, good, back, few_registers}
 use Rattle.tilt_lower.proofs.Numbers.{Placed, loops_for, buffer_of-input}
 use Rattle.tilt_lower.proofs.Theorem.{ends, made_loops, buffers_placed}
-use Rattle.tilt_lower.specs.Lowering.{maps_of, block_of, buffer_of, loop_on, code_of, ConstantFits, ConstantsFit}
+use Rattle.tilt_lower.specs.Constants.{ConstantFits, ConstantsFit}
+use Rattle.tilt_lower.specs.Lowering.{maps_of, block_of, buffer_of, loop_on, code_of}
 use Rattle.tilt_types.specs.Core.{CoreParts, IsCore, IsDefinition, AreDefinitions, IsSourceName}
 use Rattle.tilt_types.specs.CoreTree.{Definition}
 use Rattle.tilt_types.specs.Needs.{Need, no_margin, asked_by, body_need, either, asked_of, need_before, asked_from, needs_from, needs}

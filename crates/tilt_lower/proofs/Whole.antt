@@ -13,7 +13,8 @@ use Rattle.tilt_lower.proofs.Kept.{code-is}
 use Rattle.tilt_lower.proofs.Planned.{margins-needs, output-of}
 use Rattle.tilt_lower.proofs.Theorem.{means}
 use Rattle.tilt_lower.specs.Law.{LiesWithin, MeansTheQuery}
-use Rattle.tilt_lower.specs.Lowering.{ConstantsFit, lowered, code_of}
+use Rattle.tilt_lower.specs.Constants.{ConstantsFit}
+use Rattle.tilt_lower.specs.Lowering.{lowered, code_of}
 use Rattle.tilt_types.specs.Core.{CoreParts, IsCore, domain_of}
 use Rattle.tilt_types.specs.Needs.{needs_from}
 

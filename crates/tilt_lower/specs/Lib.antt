@@ -1,2 +1,3 @@
-pub mod Lowering
+pub mod Constants
 pub mod Law
+pub mod Lowering

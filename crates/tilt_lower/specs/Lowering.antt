@@ -1,7 +1,5 @@
 -- The code of a query: a loop for each loop of the plan (the TiLT paper's lowering to loops; how registers are numbered is our own rule).
-use Rattle.std.specs.Prelude.{ℕ, ◌+◌, ◌-◌, nat_lt, ℤ, pos, if◌then◌else◌, List, [], ◌∷◌, ◌++◌, length, map, get_or, Some, None, FitsSigned, ⊤}
-use Rattle.std.specs.Int.{w64}
-use Rattle.std.specs.List.{AllByRecursion}
+use Rattle.std.specs.Prelude.{ℕ, ◌+◌, ◌-◌, nat_lt, ℤ, pos, if◌then◌else◌, List, [], ◌∷◌, ◌++◌, length, map, get_or, Some, None}
 use Rattle.std.specs.Option.{unwrap_or}
 use Rattle.tilt_base.specs.Expression.{Leaf}
 use Rattle.tilt_base.specs.Grid.{GridPoints}
@@ -9,7 +7,6 @@ use Rattle.tilt_bounds.specs.Margins.{MarginsParts, need_at}
 use Rattle.tilt_bounds.specs.Stretch.{stretch_of}
 use Rattle.tilt_bounds.specs.declared.loop_span.LoopSpan.{LoopSpan}
 use Rattle.tilt_code.specs.Code.{Block, LoopParts, CodeParts}
-use Rattle.tilt_code.specs.declared.instr.Instr.{Instr}
 use Rattle.tilt_code.specs.declared.instr.Instr.TheVariants as instr
 use Rattle.tilt_fuse.specs.FusedTree.{FusedTree, Const, Port, Win, WinBy, Argument, One, Two, If, PlannedLoop}
 use Rattle.tilt_types.specs.Core.{CoreParts}
@@ -66,15 +63,6 @@ block_of buffer register number (If c a b) =
     ++ block_of buffer second (number + maps c) a
     ++ block_of buffer third (number + maps c + maps a) b
     ++ instr.If (result_at register c) (result_at second a) (result_at third b) ∷ []
-
--- a constant is a number of 64 bits
-abbrev pub ConstantFits : Instr → Type 0
-ConstantFits (instr.Const value) = FitsSigned w64 value
-ConstantFits other = ⊤
-
--- the constants of a loop's body are
-abbrev pub ConstantsFit : LoopParts → Type 0
-ConstantsFit l = AllByRecursion ConstantFits l.body
 
 -- the maps of a tree, in the order of their windows; maps have no windows, and name no buffers
 abbrev pub maps_of : FusedTree → List Block

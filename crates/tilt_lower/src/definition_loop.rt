@@ -1,7 +1,8 @@
 // The loop of a definition.
 ghost use Rattle.std.specs.Prelude.{◌≡◌, ◌+◌, ◌≤◌, length, IfOk};
 ghost use Rattle.tilt_fuse.specs.FusedTree.{fused_tree_of};
-ghost use Rattle.tilt_lower.specs.Lowering.{ConstantsFit, buffer_of, loop_on, maps, null_on, registers};
+ghost use Rattle.tilt_lower.specs.Constants.{ConstantsFit};
+ghost use Rattle.tilt_lower.specs.Lowering.{buffer_of, loop_on, maps, null_on, registers};
 
 use crate::buffers::Buffers;
 use crate::instructions::block_of;

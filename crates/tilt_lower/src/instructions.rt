@@ -2,7 +2,8 @@
 ghost use Rattle.std.specs.Prelude.{◌≡◌, ◌+◌, ◌^◌, ◌<◌, ◌≤◌, ◌++◌, [], ◌∷◌, length, IfOk, OnOk};
 ghost use Rattle.std.specs.List.{AllByRecursion};
 ghost use Rattle.tilt_fuse.specs.FusedTree.{fused_tree_of};
-ghost use Rattle.tilt_lower.specs.Lowering.{ConstantFits, block_of, buffer_of, maps, registers, result_at};
+ghost use Rattle.tilt_lower.specs.Constants.{ConstantFits};
+ghost use Rattle.tilt_lower.specs.Lowering.{block_of, buffer_of, maps, registers, result_at};
 
 use crate::buffers::{Buffers, buffer_of};
 use std::alloc::{AllocError as OutOfMemory, Global};

@@ -5,7 +5,8 @@ use Rattle.tilt_fuse.specs.FusedTree.{PlannedLoop, fused_tree_of}
 use Rattle.tilt_fuse.proofs.Plain.{plan_of-plain}
 use Rattle.tilt_lower.proofs.Planned.{margins-needs, output-of, all-pushed, planned-at, plain-few, used-at, lowered-is, lowered-more}
 use Rattle.tilt_lower.proofs.Whole.{whole-kept, whole-means}
-use Rattle.tilt_lower.specs.Lowering.{ConstantsFit, buffer_of, loop_on, lowered}
+use Rattle.tilt_lower.specs.Constants.{ConstantsFit}
+use Rattle.tilt_lower.specs.Lowering.{buffer_of, loop_on, lowered}
 use Rattle.tilt_types.specs.CoreTree.{Definition}
 use Rattle.tilt_types.specs.Needs.{needs_from}
 use Rattle.tilt_lower.proofs.query_code.lower.Goals as goal

@@ -1,6 +1,7 @@
 use Rattle.std.proofs.Common.{◌≡◌, map, take}
 use Rattle.std.specs.List.{AllByRecursion}
-use Rattle.tilt_lower.specs.Lowering.{ConstantsFit, lowered}
+use Rattle.tilt_lower.specs.Constants.{ConstantsFit}
+use Rattle.tilt_lower.specs.Lowering.{lowered}
 use Rattle.tilt_lower.proofs.query_code.lower.Given as goal
 
 abbrev pub invariant-loop-planned : goal.invariant-loop-planned
