@@ -1,0 +1,12 @@
+pub mod Bodies
+pub mod Decoded
+pub mod Frames
+pub mod Inputs
+pub mod Lines
+pub mod Numbers
+pub mod Pieces
+pub mod Queries
+pub mod QueryLines
+pub mod Rows
+pub mod Steps
+pub mod Words

@@ -1,0 +1,33 @@
+use Rattle.std.proofs.Common.{◌≡◌, ◌∙◌, sym, ap, List, ℕ, length, Result, Ok, Err}
+use Rattle.std.specs.Prelude.{MatchResult}
+use Rattle.std.proofs.lemmas.Option.{none-some}
+use Rattle.std.proofs.lemmas.Result.{IfOk-weaker}
+use Rattle.tilt_syntax.specs.Printing.{query_text}
+use Rattle.tilt_checkpoint.specs.Reading.{query_at}
+use Rattle.tilt_checkpoint.proofs.Queries.{lines-spelled, query-again}
+use Rattle.tilt_checkpoint.proofs.Words.{pair_is}
+use Rattle.tilt_checkpoint.proofs.query.read_query.Goals as goal
+
+and_more : {A E : Type 0} (P : A → Type 0) (Q : E → Type 0) (X : Type 0) (r : Result A E) → MatchResult r P Q → X → MatchResult r (λ a. P a × X) Q
+and_more P Q X (Ok a) h x = (h, x)
+and_more P Q X (Err e) h x = h
+
+pub returns-in-Some-clause-found : goal.returns-in-Some-clause-found
+returns-in-Some-clause-found c =
+    IfOk-weaker c.asked_of.result _ _
+    (λ asked h. (h.0, lines-spelled c.args.reader.now c.in-Some.count c.in-Some.text.now c.query_lines.new.self asked.query c.in-Some.ensures h.1 h.2))
+    c.asked_of.ensures.found
+
+pub returns-in-Some-clause-only : goal.returns-in-Some-clause-only
+returns-in-Some-clause-only c =
+    λ query more is e.
+    let same = sym c.in-Some.ensures ∙ ap query_at e ∙ query-again query more is.parsed in
+    let p = pair_is (c.in-Some.count, c.in-Some.text.now) (length query, query_text query) c.query_lines.new.self more same in
+    let counted : length query ≡ c.in-Some.count = sym (ap (λ (q : ℕ × List ℕ). q.0) p.0) in
+    let text : c.in-Some.text.now ≡ query_text query = ap (λ (q : ℕ × List ℕ). q.1) p.0 in
+    and_more _ _ _ c.asked_of.result (c.asked_of.ensures.only query is counted text) p.1
+
+pub returns-in-None-clause-only : goal.returns-in-None-clause-only
+returns-in-None-clause-only c =
+    λ query more is e.
+    absurd (none-some ((length query, query_text query), more) (sym c.in-None.ensures ∙ ap query_at e ∙ query-again query more is.parsed))

@@ -1,0 +1,7 @@
+pub mod Checkpoint
+pub mod Decided
+pub mod Faults
+pub mod Reading
+pub mod Spelling
+pub mod Stored
+pub mod Valid

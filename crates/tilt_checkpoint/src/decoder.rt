@@ -1,0 +1,143 @@
+// A checkpoint of its spelling.
+ghost use Rattle.std.specs.Prelude.{◌≡◌, ◌≢◌, ◌⊎◌, IfOk, IfErr, MatchResult};
+ghost use Rattle.tilt_checkpoint.specs.Checkpoint.{CheckpointParts, with_query};
+ghost use Rattle.tilt_checkpoint.specs.Decided.{IsFrame};
+ghost use Rattle.tilt_checkpoint.specs.Reading.{Gives, body_at, end_at, is_amid, is_cut, is_open, rest_at};
+ghost use Rattle.tilt_checkpoint.specs.Spelling.{spelling};
+ghost use Rattle.tilt_checkpoint.specs.Valid.{IsCheckpoint, IsCut};
+
+use crate::body::Body;
+use crate::checkpoint::Checkpoint;
+use crate::fault::CheckpointFault;
+use crate::frame::Frame;
+use crate::kept::Kept;
+use crate::query::read_query;
+use crate::reader::Reader;
+use crate::series::read_series;
+use std::alloc::Global;
+use tilt_base::T;
+use tilt_syntax::Query;
+
+/// The checkpoint whose spelling the bytes are. `BadCheckpoint` comes exactly where they are the spelling of no valid
+/// checkpoint.
+pub fn decode(alloc: Global, bytes: &[u8]) -> Result<Checkpoint, CheckpointFault>
+    ensures checkpoint { IfOk result (λ checkpoint. IsCheckpoint checkpoint × (bytes.now ≡ spelling checkpoint)) }
+    ensures bad { IfErr result (λ fault. fault ≡ CheckpointFault.BadCheckpoint
+        → (checkpoint : CheckpointParts) → IsCheckpoint checkpoint → bytes.now ≢ spelling checkpoint) }
+
+    // Nothing else is: no other checkpoint, and no other fault.
+    ensures only { (checkpoint : CheckpointParts) → IsCheckpoint checkpoint → bytes.now ≡ spelling checkpoint →
+        MatchResult result (λ found. found ≡ checkpoint) (λ fault. fault ≡ CheckpointFault.OutOfMemory) }
+    ensures none { ((checkpoint : CheckpointParts) → IsCheckpoint checkpoint → bytes.now ≢ spelling checkpoint) →
+        MatchResult result (λ _. ⊥) (λ fault. (fault ≡ CheckpointFault.BadCheckpoint) ⊎ (fault ≡ CheckpointFault.OutOfMemory)) }
+{
+    read(alloc, bytes)
+}
+
+// The checkpoint whose spelling the bytes are.
+fn read(alloc: Global, bytes: &[u8]) -> Result<Checkpoint, CheckpointFault>
+    ensures checkpoint { IfOk result (λ checkpoint. IsCheckpoint checkpoint × (bytes.now ≡ spelling checkpoint)) }
+    ensures only { (checkpoint : CheckpointParts) → IsCheckpoint checkpoint → bytes.now ≡ spelling checkpoint →
+        MatchResult result (λ found. found ≡ checkpoint) (λ fault. fault ≡ CheckpointFault.OutOfMemory) }
+{
+    let mut reader = Reader::new(bytes);
+    let asked = read_query(alloc, &mut reader)?;
+    let body = read_body(alloc, reader, asked.frame, asked.inputs)?;
+    Ok(whole(asked.query, body))
+}
+
+// The checkpoint of a query and what stands behind it.
+fn whole(query: Query, body: Body) -> Checkpoint
+    requires { IsCheckpoint (with_query query body) }
+    ensures { result ≡ with_query query body }
+{
+    Checkpoint::new(query, body.cut, body.open_start, body.series)
+}
+
+// What stands behind a query with that frame and so many inputs.
+fn read_body(
+    alloc: Global,
+    mut reader: Reader<'_>,
+    frame: Frame,
+    inputs: usize,
+) -> Result<Body, CheckpointFault>
+    requires { IsFrame frame }
+    ensures { Gives (body_at frame inputs reader.entry) (λ body. body) result }
+{
+    match reader.moment() {
+        Some((cut, open_start)) => {
+            if is_cut(cut) && is_open(frame, frame.decided(cut), open_start) {
+                read_rest(
+                    alloc,
+                    reader,
+                    inputs,
+                    frame.first_kept(cut),
+                    cut,
+                    open_start,
+                )
+            } else {
+                Err(CheckpointFault::BadCheckpoint)
+            }
+        }
+        None => Err(CheckpointFault::BadCheckpoint),
+    }
+}
+
+// What stands behind the cut and the start of the open snapshot, where `first` is the first tick that is kept.
+fn read_rest(
+    alloc: Global,
+    mut reader: Reader<'_>,
+    inputs: usize,
+    first: i64,
+    cut: i64,
+    open_start: Option<i64>,
+) -> Result<Body, CheckpointFault>
+    ensures { Gives (rest_at inputs first cut open_start reader.entry) (λ body. body) result }
+{
+    let series = read_series(alloc, &mut reader, inputs, first, cut)?;
+    end(series, cut, open_start, reader.left())
+}
+
+// The end, behind which nothing stands.
+fn end(
+    series: Vec<Kept>,
+    cut: i64,
+    open_start: Option<i64>,
+    bytes: &[u8],
+) -> Result<Body, CheckpointFault>
+    ensures { Gives (end_at cut open_start (series.items, bytes.now)) (λ body. body) result }
+{
+    if bytes == b"end\n".as_slice() {
+        Ok(Body {
+            cut,
+            open_start,
+            series,
+        })
+    } else {
+        Err(CheckpointFault::BadCheckpoint)
+    }
+}
+
+// Whether a cut lies within the range of times.
+fn is_cut(cut: i64) -> bool
+    ensures { result ≡ is_cut cut }
+{
+    -T <= cut && cut <= T
+}
+
+// Whether an open snapshot may start there, where the output is decided up to a tick.
+fn is_open(frame: Frame, decided: i64, open_start: Option<i64>) -> bool
+    ensures { result ≡ is_open frame decided open_start }
+{
+    match open_start {
+        None => !is_amid(frame, decided),
+        Some(start) => is_amid(frame, decided) && frame.start <= start && start < decided,
+    }
+}
+
+// Whether some of the output is decided, and not all.
+fn is_amid(frame: Frame, decided: i64) -> bool
+    ensures { result ≡ is_amid frame decided }
+{
+    frame.start < decided && decided < frame.end
+}

@@ -1,0 +1,28 @@
+//! Checkpoints: what a session of a query hands on to the next one, and their one spelling.
+//!
+//! What comes in is checkpoints and bytes; what goes out is bytes, and checkpoints again. A `Checkpoint` keeps that it is
+//! valid, as `specs/Valid` says. The clause of `encode` says that it gives the text of `specs/Spelling`. Those of `decode` say
+//! that it gives the valid checkpoint whose spelling the bytes are (`checkpoint`, `only`), and refuses them exactly where they
+//! are the spelling of none (`bad`, `none`); besides, it may only want memory. What is decided at a cut, and which ticks have
+//! to be kept then, stands in `specs/Decided`.
+#![tactic(auto)]
+
+mod body;
+mod checkpoint;
+mod decoder;
+mod encoder;
+mod fault;
+mod frame;
+mod kept;
+mod query;
+mod reader;
+mod series;
+#[cfg(test)]
+mod tests;
+
+pub use checkpoint::Checkpoint;
+pub use decoder::decode;
+pub use encoder::encode;
+pub use fault::CheckpointFault;
+pub use frame::Frame;
+pub use kept::Kept;

@@ -1,0 +1,93 @@
+// The query of a checkpoint, read.
+ghost use Rattle.std.specs.Prelude.{◌≡◌, ◌↔◌, ◌++◌, List, ℕ, length, IsTrue, IfOk, IfErr, MatchResult};
+ghost use Rattle.tilt_checkpoint.specs.Decided.{IsFrame, frame_of};
+ghost use Rattle.tilt_checkpoint.specs.Spelling.{query_lines, title};
+ghost use Rattle.tilt_checkpoint.specs.Valid.{IsAccepted};
+ghost use Rattle.tilt_syntax.specs.Printing.{query_text};
+ghost use Rattle.tilt_syntax.specs.Query.{IsQuery};
+ghost use Rattle.tilt_syntax.specs.Tree.{StatementTree};
+ghost use Rattle.tilt_types.specs.Checked.{core_of};
+
+use crate::fault::CheckpointFault;
+use crate::frame::Frame;
+use crate::reader::Reader;
+use std::alloc::{AllocError as OutOfMemory, Global};
+use tilt_bounds::reach;
+use tilt_lexer::lex;
+use tilt_syntax::{Query, parse, print};
+use tilt_types::check;
+
+// A query that is accepted.
+#[derive(Drop)]
+pub(crate) struct Asked {
+    pub(crate) query: Query,
+    pub(crate) frame: Frame,
+    pub(crate) inputs: usize,
+}
+
+// The query of a checkpoint, from the first line to the last of the query.
+pub(crate) fn read_query(alloc: Global, reader: &mut Reader<'_>) -> Result<Asked, CheckpointFault>
+    ensures found { IfOk result (λ asked. IsAccepted asked.query × (reader.old ≡ title ++ (query_lines asked.query ++ reader.new))) }
+    ensures frame { IfOk result (λ asked. IsFrame asked.frame × (asked.frame ≡ frame_of (core_of asked.query))) }
+    ensures inputs { IfOk result (λ asked. asked.inputs ≡ length (core_of asked.query).inputs) }
+    ensures only { (query : List StatementTree) (more : List ℕ) → IsAccepted query
+        → reader.old ≡ title ++ (query_lines query ++ more)
+        → MatchResult result (λ asked. (asked.query ≡ query) × (reader.new ≡ more)) (λ fault. fault ≡ CheckpointFault.OutOfMemory) }
+{
+    match reader.query_lines() {
+        Some((count, text)) => asked_of(alloc, count, text),
+        None => Err(CheckpointFault::BadCheckpoint),
+    }
+}
+
+// The query of so many statements of which the text is the printing.
+fn asked_of(alloc: Global, count: u64, text: &[u8]) -> Result<Asked, CheckpointFault>
+    ensures found { IfOk result (λ asked. IsAccepted asked.query × (length asked.query ≡ count) × (text.now ≡ query_text asked.query)) }
+    ensures frame { IfOk result (λ asked. IsFrame asked.frame × (asked.frame ≡ frame_of (core_of asked.query))) }
+    ensures inputs { IfOk result (λ asked. asked.inputs ≡ length (core_of asked.query).inputs) }
+    ensures only { (query : List StatementTree) → IsAccepted query → length query ≡ count → text.now ≡ query_text query
+        → MatchResult result (λ asked. asked.query ≡ query) (λ fault. fault ≡ CheckpointFault.OutOfMemory) }
+{
+    let query = query_of(alloc, text)?;
+    if query.statements().len() as u64 != count || !is_printing(alloc, text, &query)? {
+        return Err(CheckpointFault::BadCheckpoint);
+    }
+    let (frame, inputs) = plan(alloc, &query)?;
+    Ok(Asked {
+        query,
+        frame,
+        inputs,
+    })
+}
+
+// The query that a text reads as.
+fn query_of(alloc: Global, text: &[u8]) -> Result<Query, CheckpointFault>
+    ensures found { IfOk result (λ query. IsQuery query) }
+    ensures only { (query : List StatementTree) → IsQuery query → text.now ≡ query_text query
+        → MatchResult result (λ found. found ≡ query) (λ fault. fault ≡ CheckpointFault.OutOfMemory) }
+{
+    let tokens = lex(alloc, text)?;
+    let query = parse(alloc, &tokens)?;
+    Ok(query)
+}
+
+// Whether the text is the printing of the query.
+fn is_printing(alloc: Global, text: &[u8], query: &Query) -> Result<bool, OutOfMemory>
+    ensures { IfOk result (λ same. IsTrue same ↔ (text.now ≡ query_text query.now)) }
+{
+    let printed = print(alloc, query)?;
+    Ok(text == printed.as_slice())
+}
+
+// The frame of the query and the number of its inputs, where it is accepted.
+fn plan(alloc: Global, query: &Query) -> Result<(Frame, usize), CheckpointFault>
+    ensures found { IfOk result (λ found. IsAccepted query.now) }
+    ensures frame { IfOk result (λ found. IsFrame found.0 × (found.0 ≡ frame_of (core_of query.now))) }
+    ensures inputs { IfOk result (λ found. found.1 ≡ length (core_of query.now).inputs) }
+    ensures only { IsAccepted query.now → IfErr result (λ fault. fault ≡ CheckpointFault.OutOfMemory) }
+{
+    let _parsed = query.statements();
+    let core = check(alloc, query)?;
+    let margins = reach(alloc, &core)?;
+    Ok((Frame::new(&core, &margins), core.inputs().len()))
+}

@@ -1,0 +1,163 @@
+// The bytes of a checkpoint, from a place on, and the pieces that they begin with.
+ghost use Rattle.std.specs.Prelude.{◌≡◌, ◌↔◌, ◌==◌, [], ◌∷◌, option_map, IsTrue, MatchOption};
+ghost use Rattle.std.specs.List.{position};
+ghost use Rattle.tilt_checkpoint.specs.Reading.{behind, behind_line, count_at, maybe, maybe_at, moment_at, number_at, query_at, row_at, series_head, shortest, times, until_at, Reads};
+
+use crate::encoder::TITLE;
+use std::marker::Model;
+use tilt_base::read_shortest;
+use tilt_stream::{Row, Snap};
+
+// The bytes that are left. A clause sees them as a list.
+#[derive(Drop)]
+pub(crate) struct Reader<'a> {
+    left: &'a [u8],
+}
+
+impl<'a> Model for Reader<'a> {
+    ghost use Rattle.std.specs.Prelude.{List, ℕ};
+
+    ghost Value = { List ℕ };
+
+    ghost view = { λ r. r.left.now };
+}
+
+impl<'a> Reader<'a> {
+    // All of the bytes.
+    pub(crate) fn new(bytes: &'a [u8]) -> Reader<'a>
+        ensures { result ≡ bytes.now }
+    {
+        Reader { left: bytes }
+    }
+
+    // The bytes that are left.
+    pub(crate) fn left(&self) -> &'a [u8]
+        ensures { result.now ≡ self.now }
+    {
+        self.left
+    }
+
+    // Passes a text with which the bytes begin.
+    pub(crate) fn pass(&mut self, text: &[u8]) -> Option<()>
+        ensures { MatchOption result (behind text.now self.old ≡ None) (λ _. behind text.now self.old ≡ Some self.new) }
+    {
+        self.left = self.left.strip_prefix(text)?;
+        Some(())
+    }
+
+    // The bytes up to the first mark, which is passed too.
+    pub(crate) fn until(&mut self, mark: u8) -> Option<&'a [u8]>
+        ensures { MatchOption result (until_at mark self.old ≡ None) (λ word. until_at mark self.old ≡ Some (word.now, self.new)) }
+    {
+        let at = place_of(self.left, mark)?;
+        let word = &self.left[..at];
+        self.left = &self.left[at + 1..];
+        Some(word)
+    }
+
+    // The number up to the mark.
+    pub(crate) fn number(&mut self, mark: u8) -> Option<i64>
+        ensures { Reads (number_at mark self.old) result self.new }
+    {
+        shortest(self.until(mark)?)
+    }
+
+    // The count up to the mark.
+    pub(crate) fn count(&mut self, mark: u8) -> Option<u64>
+        ensures { Reads (count_at mark self.old) result self.new }
+    {
+        u64::try_from(self.number(mark)?).ok()
+    }
+
+    // The number up to the mark, or `None` where the word for nothing stands there.
+    fn maybe(&mut self, nothing: &[u8], mark: u8) -> Option<Option<i64>>
+        ensures { Reads (maybe_at nothing.now mark self.old) result self.new }
+    {
+        maybe(nothing, self.until(mark)?)
+    }
+
+    // The number of the query's statements, and as many lines.
+    pub(crate) fn query_lines(&mut self) -> Option<(u64, &'a [u8])>
+        ensures { MatchOption result (query_at self.old ≡ None) (λ found. query_at self.old ≡ Some ((found.0, found.1.now), self.new)) }
+    {
+        self.pass(TITLE)?;
+        self.pass(b"query ")?;
+        let count = self.count(b'\n')?;
+        let lines = self.left;
+        self.pass_lines(count)?;
+        let text = &lines[..lines.len() - self.left.len()];
+        Some((count, text))
+    }
+
+    // Passes so many lines.
+    fn pass_lines(&mut self, count: u64) -> Option<()>
+        ensures { MatchOption result (times behind_line count self.old ≡ None) (λ _. times behind_line count self.old ≡ Some self.new) }
+    {
+        for _ in 0..count {
+            self.until(b'\n')?;
+        }
+        Some(())
+    }
+
+    // The row of a line.
+    pub(crate) fn row(&mut self) -> Option<Row>
+        ensures { Reads (row_at self.old) result self.new }
+    {
+        let start = self.number(b',')?;
+        let end = self.number(b',')?;
+        let value = self.maybe(b"", b'\n')?;
+        if start < end {
+            Some(Snap { start, end, value })
+        } else {
+            None
+        }
+    }
+
+    // The last end and the number of rows of a series.
+    pub(crate) fn series_head(&mut self) -> Option<(Option<i64>, u64)>
+        ensures { Reads (series_head self.old) result self.new }
+    {
+        self.pass(b"last ")?;
+        let last_end = self.maybe(b"none", b' ')?;
+        self.pass(b"rows ")?;
+        let count = self.count(b'\n')?;
+        Some((last_end, count))
+    }
+
+    // The cut, and the start of the open snapshot.
+    pub(crate) fn moment(&mut self) -> Option<(i64, Option<i64>)>
+        ensures { Reads (moment_at self.old) result self.new }
+    {
+        self.pass(b"cut ")?;
+        let cut = self.number(b'\n')?;
+        self.pass(b"open ")?;
+        let open_start = self.maybe(b"none", b'\n')?;
+        Some((cut, open_start))
+    }
+}
+
+// The first place of the mark.
+fn place_of(bytes: &[u8], mark: u8) -> Option<usize>
+    ensures { result ≡ position (λ byte. byte == mark) bytes.now }
+{
+    bytes.iter().position(|byte| *byte == mark)
+}
+
+// The number whose shortest decimal the word is.
+fn shortest(word: &[u8]) -> Option<i64>
+    ensures { result ≡ shortest word.now }
+{
+    let number = read_shortest(word)?;
+    Some(number)
+}
+
+// The number whose shortest decimal the word is, or `None` where it is the word for nothing.
+fn maybe(nothing: &[u8], word: &[u8]) -> Option<Option<i64>>
+    ensures { result ≡ maybe nothing.now word.now }
+{
+    if word == nothing {
+        Some(None)
+    } else {
+        Some(Some(shortest(word)?))
+    }
+}
