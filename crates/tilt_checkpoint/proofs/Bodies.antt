@@ -146,7 +146,8 @@ moment-was bytes cut start rest e =
     }
 
 -- and what is read behind a query is spelled so
-pub body-was : (frame : Frame) (inputs : ℕ) (bytes : List ℕ) (body : BodyParts) → body_at frame inputs bytes ≡ Some body → IsBody frame inputs bytes body
+pub body-was : (frame : Frame) (inputs : ℕ) (bytes : List ℕ) (body : BodyParts) → body_at frame inputs bytes ≡ Some body
+    → IsBody frame inputs bytes body
 body-was frame inputs bytes body e =
     let m = bind_some (moment_at bytes) (behind_moment frame inputs) body e in
     let cut = m.0.0.0 in

@@ -56,17 +56,21 @@ series_few c =
     )
 
 -- and a valid checkpoint is read behind its query
-pub valid-read : (c : CheckpointParts) (query : List StatementTree) (frame : Frame) (inputs : ℕ) (bytes left : List ℕ) → IsCheckpoint c → IsFrame frame
-    → query ≡ c.query → frame ≡ frame_of (core_of query) → inputs ≡ length (core_of query).inputs → bytes ≡ spelling c → length bytes < 2 ^ 63
-    → left ≡ body_lines c.cut c.open_start c.series → body_at frame inputs left ≡ Some (body_of c)
-valid-read c query frame inputs bytes left h is same of counted spelled small e =
-    let own : frame ≡ frame_of (core_of c.query) = of ∙ ap (λ (q : List StatementTree). frame_of (core_of q)) same in
-    let many : inputs ≡ length c.series = counted ∙ ap (λ (q : List StatementTree). length (core_of q).inputs) same ∙ sym h.counted in
+pub valid-read : (c : CheckpointParts) (query : List StatementTree) (frame : Frame) (inputs : ℕ) (bytes left : List ℕ) → IsCheckpoint c
+    → IsFrame frame × (frame ≡ frame_of (core_of query)) → inputs ≡ length (core_of query).inputs
+    → (query ≡ c.query) × (left ≡ body_lines c.cut c.open_start c.series) → bytes ≡ spelling c → length bytes < 2 ^ 63
+    → body_at frame inputs left ≡ Some (body_of c)
+valid-read c query frame inputs bytes left h framed counted found spelled small =
+    let same = found.0 in
+    let own : frame ≡ frame_of (core_of c.query) = framed.1 ∙ ap (λ (q : List StatementTree). frame_of (core_of q)) same in
+    let many : inputs ≡ length c.series =
+    counted ∙ ap (λ (q : List StatementTree). length (core_of q).inputs) same ∙ sym h.counted in
     let opened = subst (λ (f : Frame). IsOpen f (decided f c.cut) c.open_start) (sym own) h.opened in
     let series = subst (λ (f : Frame). AllByRecursion (IsSeries (first_kept f c.cut) c.cut) c.series) (sym own) h.series in
-    let few : length (flat_map series_lines c.series) < 2 ^ 63 = omega (arith, series_few c, ap (λ (t : List ℕ). length t) spelled) in
-    let again = body-again frame c.cut c.open_start c.series is h.cut opened series (all_fewer (2 ^ 63) c.series few) in
-    (λ i. body_at frame (many i) (e i)) ∙ again
+    let few : length (flat_map series_lines c.series) < 2 ^ 63 =
+    omega (arith, series_few c, ap (λ (t : List ℕ). length t) spelled) in
+    let again = body-again frame c.cut c.open_start c.series framed.0 h.cut opened series (all_fewer (2 ^ 63) c.series few) in
+    (λ i. body_at frame (many i) (found.1 i)) ∙ again
 
 -- a fault where something is read is want of memory
 pub only_memory : {A : Type 0} (fault : CheckpointFault) (read : Option A) (x : A) → IsBad read fault → read ≡ Some x → fault ≡ OutOfMemory
@@ -79,7 +83,9 @@ abbrev Found : Result CheckpointParts CheckpointFault → List ℕ → Type 0
 Found result bytes = IfOk result (λ c. IsCheckpoint c × (bytes ≡ spelling c))
 
 abbrev Only : Result CheckpointParts CheckpointFault → List ℕ → Type 0
-Only result bytes = (c : CheckpointParts) → IsCheckpoint c → bytes ≡ spelling c → MatchResult result (λ found. found ≡ c) (λ fault. fault ≡ OutOfMemory)
+Only result bytes =
+    (c : CheckpointParts) → IsCheckpoint c → bytes ≡ spelling c
+    → MatchResult result (λ found. found ≡ c) (λ fault. fault ≡ OutOfMemory)
 
 bad-memory : ◌≡◌ {A = CheckpointFault} BadCheckpoint OutOfMemory → ⊥
 bad-memory e = cc e

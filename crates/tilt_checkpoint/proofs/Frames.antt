@@ -10,7 +10,8 @@ use Rattle.tilt_bounds.proofs.Needs.{widest-low}
 use Rattle.tilt_checkpoint.specs.Decided.{IsFrame}
 
 -- margins are those of the widest need
-given_by : (far : Bool) (w : Need) (made m : MarginsParts) → ◌≡◌ {A = Result MarginsParts Need} (if far then Err w else Ok made) (Ok m) → made ≡ m
+given_by : (far : Bool) (w : Need) (made m : MarginsParts) → ◌≡◌ {A = Result MarginsParts Need} (if far then Err w else Ok made) (Ok m)
+    → made ≡ m
 given_by true w made m e = absurd (cc e)
 given_by false w made m e = cc e
 
@@ -19,7 +20,8 @@ pub frame_bounds : (core : CoreParts) (m : MarginsParts) (span : Span) → margi
 frame_bounds core m span near kept stretch =
     let w = reach (length core.inputs) core.defs in
     let made = given_by (is_too_far w) w _ m near in
-    let low = widest-low (map (asked_from (length core.inputs) core.defs) (range_with_len 0 (length core.inputs)) ++ body_needs core.defs (needs_from (length core.inputs) core.defs)) in
+    let inputs = length core.inputs in
+    let low = widest-low (map (asked_from inputs core.defs) (range_with_len 0 inputs) ++ body_needs core.defs (needs_from inputs core.defs)) in
     let back : w.back ≡ m.back = ap (λ (p : MarginsParts). p.back) made in
     let ahead : w.ahead ≡ m.ahead = ap (λ (p : MarginsParts). p.ahead) made in
     record {

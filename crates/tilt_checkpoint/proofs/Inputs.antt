@@ -79,7 +79,7 @@ module _ (first cut : ℤ) where
       → kept_at first cut (series_lines kept ++ rest) ≡ Some (kept, rest)
   kept-again kept h small rest =
       let fits = last_fits_at first cut kept.rows (last_end kept.rows) kept.last_end refl h.in_order h.last in
-      let rows = rows-again first cut kept.rows [] (neg_ℤ T) rest (omega (arith, ints)) (λ s low. true_le (neg_ℤ T) s low) h.in_order h.rows in
+      let rows = rows-again first cut kept.rows [] (neg_ℤ T) rest (omega (arith, ints)) (λ s low. refl) h.in_order h.rows in
       ap (kept_at first cut) (series_shape kept rest)
       ∙ ap (λ o. o >>= λ head. times (with_row first cut) head.0.1 ([], head.1) >>= kept_with first cut head.0.0)
       (head-again kept.last_end fits (length kept.rows) small (row_lines kept.rows ++ rest))
@@ -144,7 +144,7 @@ module _ (first cut : ℤ) where
       let made : KeptParts = record { last_end = last; rows = r.0.0 } in
       let g = guard_some (is_last_end first cut (last_end r.0.0) last) (Some (made, r.0.1)) (kept, rest) r.2 in
       let p = pair_is made kept r.0.1 rest g.1 in
-      let rows = rows-were first cut count (neg_ℤ T) [] h.0.1 r.0.0 r.0.1 (λ s low. le_true (neg_ℤ T) s low) r.1 in
+      let rows = rows-were first cut count (neg_ℤ T) [] h.0.1 r.0.0 r.0.1 (λ s low h. low) r.1 in
       let head = (head-was bytes last count h.0.1 h.1).spelled in
       let counted : count ≡ length r.0.0 = rows.counted ∙ ap (λ (l : List Snapshot). length l) (sym rows.joined) in
       let lines : h.0.1 ≡ row_lines r.0.0 ++ r.0.1 = rows.spelled ∙ ap (λ (l : List Snapshot). row_lines l ++ r.0.1) (sym rows.joined) in
@@ -210,7 +210,8 @@ series_fewer kept =
     let is : series_lines kept ≡ front ++ row_lines kept.rows = simp append_assoc in
     omega (arith, rows_fewer kept.rows, ap (λ (t : List ℕ). length t) is, length-append front (row_lines kept.rows))
 
-pub all_fewer : (limit : ℕ) (series : List KeptParts) → length (flat_map series_lines series) < limit → AllByRecursion (λ kept. length kept.rows < limit) series
+pub all_fewer : (limit : ℕ) (series : List KeptParts) → length (flat_map series_lines series) < limit
+    → AllByRecursion (λ kept. length kept.rows < limit) series
 all_fewer limit [] h = tt
 all_fewer limit (kept ∷ series) h =
     let parts = length-append (series_lines kept) (flat_map series_lines series) in

@@ -38,7 +38,8 @@ query-again query more is =
 pub record WereLines (bytes : List ℕ) (count : ℕ) (text left : List ℕ) : Type 0 where
   pub spelled : bytes ≡ title ++ (codes "query " ++ (decimal count ++ 10 ∷ (text ++ left)))
 
-pub query-was : (bytes : List ℕ) (count : ℕ) (text left : List ℕ) → query_at bytes ≡ Some ((count, text), left) → WereLines bytes count text left
+pub query-was : (bytes : List ℕ) (count : ℕ) (text left : List ℕ) → query_at bytes ≡ Some ((count, text), left)
+    → WereLines bytes count text left
 query-was bytes count text left e =
     let n = bind_some (statements_at bytes) (λ n. times behind_line n.0 n.1 >>= λ rest. Some ((n.0, front_of rest n.1), rest)) ((count, text), left) e in
     let l = bind_some (times behind_line n.0.0 n.0.1) (λ rest. Some ((n.0.0, front_of rest n.0.1), rest)) ((count, text), left) n.2 in
@@ -57,7 +58,8 @@ query-was bytes count text left e =
     }
 
 -- lines that are the printing of a query with so many statements are those that are spelled
-pub lines-spelled : (bytes : List ℕ) (count : ℕ) (text left : List ℕ) (query : List StatementTree) → query_at bytes ≡ Some ((count, text), left)
+pub lines-spelled : (bytes : List ℕ) (count : ℕ) (text left : List ℕ) (query : List StatementTree)
+    → query_at bytes ≡ Some ((count, text), left)
     → length query ≡ count → text ≡ query_text query → bytes ≡ title ++ (query_lines query ++ left)
 lines-spelled bytes count text left query e counted is =
     (query-was bytes count text left e).spelled

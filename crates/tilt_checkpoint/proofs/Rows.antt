@@ -87,7 +87,8 @@ row-was bytes r rest e =
     let start = number-was 44 bytes s.0.0 s.0.1 s.1 in
     let end = number-was 44 s.0.1 n.0.0 n.0.1 n.1 in
     let value = maybe-was [] 10 n.0.1 v.0.0 v.0.1 v.1 in
-    let whole = start.spelled ∙ ap (λ (t : List ℕ). signed_decimal s.0.0 ++ 44 ∷ t) (end.spelled ∙ ap (λ (t : List ℕ). signed_decimal n.0.0 ++ 44 ∷ t) value.spelled) in
+    let behind_start = end.spelled ∙ ap (λ (t : List ℕ). signed_decimal n.0.0 ++ 44 ∷ t) value.spelled in
+    let whole = start.spelled ∙ ap (λ (t : List ℕ). signed_decimal s.0.0 ++ 44 ∷ t) behind_start in
     record {
       spelled = whole ∙ sym (row_shape made v.0.1) ∙ (λ i. row_text (p.0 i) ++ p.1 i);
       order = subst (λ (q : Snapshot). q.start <ℤ q.end) p.0 (lt_true s.0.0 n.0.0 g.0);
@@ -147,7 +148,7 @@ module _ (first cut : ℤ) where
     kept : IsKept first cut row
 
   step-was : (from : ℤ) (before : List Snapshot) (bytes : List ℕ) (all : List Snapshot) (rest : List ℕ)
-      → ((s : ℤ) → follows (last_end before) s ≡ true → from ≤ℤ s)
+      → ((s : ℤ) → neg_ℤ T ≤ℤ s → follows (last_end before) s ≡ true → from ≤ℤ s)
       → with_row first cut (before, bytes) ≡ Some (all, rest) → IsStep from before bytes all rest
   step-was from before bytes all rest behind e =
       let r = bind_some (row_at bytes) (λ row. if may_follow first cut before row.0 then Some (before ++ row.0 ∷ [], row.1) else None) (all, rest) e in
@@ -163,14 +164,14 @@ module _ (first cut : ℤ) where
         row = row;
         joined = sym p.0;
         spelled = is.spelled ∙ ap (λ (t : List ℕ). row_text row ++ t) p.1;
-        starts = behind row.start d.1;
+        starts = behind row.start (le_true (neg_ℤ T) row.start d.0) d.1;
         order = is.order;
         ends = le_true row.end T c.1;
         kept = record { reaches = le_true first row.end b.1; before = lt_true row.start cut a.1; cell = is.cell };
       }
 
   pub rows-were : (count : ℕ) (from : ℤ) (before : List Snapshot) (bytes : List ℕ) (all : List Snapshot) (rest : List ℕ)
-      → ((s : ℤ) → follows (last_end before) s ≡ true → from ≤ℤ s)
+      → ((s : ℤ) → neg_ℤ T ≤ℤ s → follows (last_end before) s ≡ true → from ≤ℤ s)
       → times (with_row first cut) count (before, bytes) ≡ Some (all, rest) → AreRead count from before bytes all rest
   rows-were zero from before bytes all rest behind e =
       let p = pair_is before all bytes rest e in
@@ -186,7 +187,7 @@ module _ (first cut : ℤ) where
       let b = bind_some (with_row first cut (before, bytes)) (times (with_row first cut) count) (all, rest) e in
       let s = step-was from before bytes b.0.0 b.0.1 behind b.1 in
       let next = rows-were count s.row.end b.0.0 b.0.1 all rest
-      (λ t h. le_true s.row.end t (rw (s.joined, last_end-push before s.row) at h)) b.2 in
+      (λ t low h. le_true s.row.end t (rw (s.joined, last_end-push before s.row) at h)) b.2 in
       record {
         rows = s.row ∷ next.rows;
         joined = next.joined ∙ ap (λ (l : List Snapshot). l ++ next.rows) s.joined ∙ append_assoc before (s.row ∷ []) next.rows;

@@ -21,11 +21,9 @@ pub times_refused : {A : Type 0} (step : A → Option A) (count done : ℕ) (x :
 times_refused step count done x more e =
     times_first step count done x more ∙ ap (λ o. o >>= times step (count - (done + 1))) e
 
-pub times_done : {A : Type 0} (step : A → Option A) (count done : ℕ) (x : A) → count ≡ done → times step (count - done) x ≡ Some x
-times_done step count done x e = let none : count - done ≡ 0 = omega arith in ap (λ (n : ℕ). times step n x) none
-
 -- where a part is bad, so is the whole
-pub bad : {A B : Type 0} (fault : CheckpointFault) (part : Option A) (whole : Option B) → IsBad part fault → (part ≡ None → whole ≡ None) → IsBad whole fault
+pub bad : {A B : Type 0} (fault : CheckpointFault) (part : Option A) (whole : Option B) → IsBad part fault
+    → (part ≡ None → whole ≡ None) → IsBad whole fault
 bad BadCheckpoint part whole h none = none h
 bad OutOfMemory part whole h none = tt
 

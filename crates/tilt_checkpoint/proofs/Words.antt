@@ -40,7 +40,8 @@ signed_lacks mark h (negsuc n) fits =
 
 -- numbers
 
-pub number-again : (mark : ℕ) → mark < 45 → (z : ℤ) → FitsSigned w64 z → (rest : List ℕ) → number_at mark (signed_decimal z ++ mark ∷ rest) ≡ Some (z, rest)
+pub number-again : (mark : ℕ) → mark < 45 → (z : ℤ) → FitsSigned w64 z → (rest : List ℕ)
+    → number_at mark (signed_decimal z ++ mark ∷ rest) ≡ Some (z, rest)
 number-again mark h z fits rest = rw (until-front mark (signed_decimal z) rest (signed_lacks mark h z fits), shortest-signed z fits) refl
 
 -- a number that was read
@@ -61,19 +62,23 @@ number-was mark bytes z rest e =
 
 -- counts
 
-pub count-again : (mark : ℕ) → mark < 45 → (n : ℕ) → n < 2 ^ 63 → (rest : List ℕ) → count_at mark (decimal n ++ mark ∷ rest) ≡ Some (n, rest)
+pub count-again : (mark : ℕ) → mark < 45 → (n : ℕ) → n < 2 ^ 63 → (rest : List ℕ)
+    → count_at mark (decimal n ++ mark ∷ rest) ≡ Some (n, rest)
 count-again mark h n small rest = rw (number-again mark h (pos n) (record { sfits = omega arith }) rest) refl
 
 natural_is : (z : ℤ) (n : ℕ) → natural z ≡ Some n → z ≡ pos n
 natural_is (pos m) n e = ap pos (same_Some m n e)
 natural_is (negsuc m) n e = absurd (none-some n e)
 
-pub count-was : (mark : ℕ) (bytes : List ℕ) (n : ℕ) (rest : List ℕ) → count_at mark bytes ≡ Some (n, rest) → bytes ≡ decimal n ++ mark ∷ rest
+pub count-was : (mark : ℕ) (bytes : List ℕ) (n : ℕ) (rest : List ℕ) → count_at mark bytes ≡ Some (n, rest)
+    → bytes ≡ decimal n ++ mark ∷ rest
 count-was mark bytes n rest e =
     let z = bind_some (number_at mark bytes) (λ number. natural number.0 >>= λ count. Some (count, number.1)) (n, rest) e in
     let c = bind_some (natural z.0.0) (λ count. Some (count, z.0.1)) (n, rest) z.2 in
     let p = pair_is c.0 n z.0.1 rest c.2 in
-    (number-was mark bytes z.0.0 z.0.1 z.1).spelled ∙ (λ i. signed_decimal (natural_is z.0.0 c.0 c.1 i) ++ mark ∷ z.0.1) ∙ (λ i. decimal (p.0 i) ++ mark ∷ p.1 i)
+    (number-was mark bytes z.0.0 z.0.1 z.1).spelled
+    ∙ (λ i. signed_decimal (natural_is z.0.0 c.0 c.1 i) ++ mark ∷ z.0.1)
+    ∙ (λ i. decimal (p.0 i) ++ mark ∷ p.1 i)
 
 -- numbers, or a word for none
 

@@ -111,9 +111,9 @@ row_at bytes = do
   value ← maybe_at [] 10 end.1
   if int_lt start.0 end.0 then Some (record { start = start.0; end = end.0; value = value.0 }, value.1) else None
 
--- whether a row may start there behind one that ends
+-- whether a row may start there behind the last one, where there is one
 abbrev pub follows : Option ℤ → ℤ → Bool
-follows None start = int_le (neg_ℤ T) start
+follows None start = true
 follows (Some end) start = int_le end start
 
 -- whether a row may be kept behind those
@@ -136,7 +136,7 @@ series_head bytes = do
   count ← count_at 10 rows
   Some ((last.0, count.0), count.1)
 
--- whether this is the last end of these rows' series, of which the last row ends there
+-- whether this is the last end of a series, of which the last row that is kept ends there
 abbrev pub is_last_end : ℤ → ℤ → Option ℤ → Option ℤ → Bool
 is_last_end first cut (Some end) None = false
 is_last_end first cut (Some end) (Some last) = int_eq last end

@@ -38,7 +38,9 @@ row_lines = flat_map row_text
 
 -- of an input, its last end and the number of rows, and the rows
 abbrev pub series_lines : KeptParts → List ℕ
-series_lines kept = codes "last " ++ (time_text kept.last_end ++ (codes " rows " ++ (decimal (length kept.rows) ++ (codes "\n" ++ row_lines kept.rows))))
+series_lines kept =
+    codes "last "
+    ++ (time_text kept.last_end ++ (codes " rows " ++ (decimal (length kept.rows) ++ (codes "\n" ++ row_lines kept.rows))))
 
 -- the lines behind the query
 abbrev pub body_lines : ℤ → Option ℤ → List KeptParts → List ℕ

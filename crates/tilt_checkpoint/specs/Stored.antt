@@ -15,7 +15,10 @@ coded_row =
 
 abbrev pub coded_kept : Coded KeptParts
 coded_kept =
-    code_by (Option ℤ × List Snapshot) (coded× (coded_option coded_ℤ) (coded_list coded_row)) (λ k. (k.last_end, k.rows)) (λ p. record { last_end = p.0; rows = p.1 }) (λ _. refl)
+    code_by (Option ℤ × List Snapshot) (coded× (coded_option coded_ℤ) (coded_list coded_row))
+    (λ k. (k.last_end, k.rows))
+    (λ p. record { last_end = p.0; rows = p.1 })
+    (λ _. refl)
 
 abbrev pub coded_body : Coded BodyParts
 coded_body =
@@ -26,7 +29,8 @@ coded_body =
 
 abbrev pub coded_checkpoint : Coded CheckpointParts
 coded_checkpoint =
-    code_by (List StatementTree × (ℤ × (Option ℤ × List KeptParts))) (coded× coded_query (coded× coded_ℤ (coded× (coded_option coded_ℤ) (coded_list coded_kept))))
+    code_by (List StatementTree × (ℤ × (Option ℤ × List KeptParts)))
+    (coded× coded_query (coded× coded_ℤ (coded× (coded_option coded_ℤ) (coded_list coded_kept))))
     (λ c. (c.query, (c.cut, (c.open_start, c.series))))
     (λ p. record { query = p.0; cut = p.1.0; open_start = p.1.1.0; series = p.1.1.1 })
     (λ _. refl)

@@ -113,17 +113,17 @@ fn may_follow(first: i64, cut: i64, rows: &Rows, row: Row) -> bool
         && row.start < cut
 }
 
-// Whether a row may start there behind one that ends.
+// Whether a row may start there behind the last one, where there is one.
 fn follows(last_end: Option<i64>, start: i64) -> bool
     ensures { result ≡ follows last_end start }
 {
     match last_end {
-        None => -T <= start,
+        None => true,
         Some(end) => end <= start,
     }
 }
 
-// Whether this is the last end of these rows' series, of which the last row ends there.
+// Whether this is the last end of a series, of which the last row that is kept ends there.
 fn is_last_end(first: i64, cut: i64, last_row: Option<i64>, last_end: Option<i64>) -> bool
     ensures { result ≡ is_last_end first cut last_row last_end }
 {

@@ -95,8 +95,8 @@ const OTHER_TAKEN: &[&str] = &[
 
 // Whole texts that are refused: another version, and queries that are spelled otherwise, counted wrong, faulty, or look too far.
 const OTHER_REFUSED: &[&str] = &[
-    "tilt checkpoint 2\nquery 1\nemit 1 over (0, 5];\ncut 3\nopen 0\nend\n",
-    "tilt checkpoint 1\nquery 1\nemit 1 over (0, 5 ];\ncut 3\nopen 0\nend\n",
+    "tilt checkpoint 2\nquery 2\ninput x;\nemit count(x[t-3:t]) over (0, 10];\ncut 5\nopen 2\nlast 5 rows 1\n0,5,7\nend\n",
+    "tilt checkpoint 1\nquery 2\ninput x;\nemit count(x[t-3:t]) over (0, 10 ];\ncut 5\nopen 2\nlast 5 rows 1\n0,5,7\nend\n",
     "tilt checkpoint 1\nquery 1\nemit 1 over (0, 5];\r\ncut 3\nopen 0\nend\n",
     "tilt checkpoint 1\nquery 1\nemit (1) over (0, 5];\ncut 3\nopen 0\nend\n",
     "tilt checkpoint 1\nquery 2\nemit 1 over (0, 5];\ncut 3\nopen 0\nend\n",

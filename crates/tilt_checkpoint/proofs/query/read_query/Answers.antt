@@ -8,7 +8,8 @@ use Rattle.tilt_checkpoint.proofs.Queries.{lines-spelled, query-again}
 use Rattle.tilt_checkpoint.proofs.Words.{pair_is}
 use Rattle.tilt_checkpoint.proofs.query.read_query.Goals as goal
 
-and_more : {A E : Type 0} (P : A → Type 0) (Q : E → Type 0) (X : Type 0) (r : Result A E) → MatchResult r P Q → X → MatchResult r (λ a. P a × X) Q
+and_more : {A E : Type 0} (P : A → Type 0) (Q : E → Type 0) (X : Type 0) (r : Result A E) → MatchResult r P Q → X
+    → MatchResult r (λ a. P a × X) Q
 and_more P Q X (Ok a) h x = (h, x)
 and_more P Q X (Err e) h x = h
 
