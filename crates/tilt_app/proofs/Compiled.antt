@@ -1,5 +1,5 @@
 -- The run of the code of a query on its output domain is what the query gives.
-use Rattle.std.proofs.Common.{◌≡◌, ◌∙◌, ◌==◌, true, List, length, Option, Some, refl, sym, ap, arith}
+use Rattle.std.proofs.Common.{◌≡◌, ◌==◌, true, List, length, Some, refl, arith}
 use Rattle.std.specs.Prelude.{◌<ℤ◌}
 use Rattle.std.proofs.lemmas.Int.{ints}
 use Rattle.tilt_bounds.specs.Margins.{MarginsParts}
@@ -8,8 +8,6 @@ use Rattle.tilt_code.specs.Run.{run_of}
 use Rattle.tilt_fuse.specs.FusedTree.{PlannedLoop}
 use Rattle.tilt_lower.specs.Law.{LiesWithin, MeansTheQuery}
 use Rattle.tilt_stream.specs.Snap.{Snapshot}
-use Rattle.tilt_stream.specs.Snapshots.{snapshots}
-use Rattle.tilt_stream.specs.Stream.{Stream}
 use Rattle.tilt_syntax.specs.declared.span.Span.{Span}
 use Rattle.tilt_types.specs.Core.{CoreParts, domain_of, emitted_number}
 use Rattle.tilt_types.specs.Meaning.{meaning, emitted, output_of}

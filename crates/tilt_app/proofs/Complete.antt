@@ -1,7 +1,7 @@
 -- What is reported where no count rose, by what a command or words come to.
 use Rattle.std.proofs.Common.{◌≡◌, ◌⊎◌, inl, inr, List, ℕ, refl, arith}
 use Rattle.tilt_outside.specs.Faults.{Rose}
-use Rattle.tilt_app.specs.Cause.{IsUnanswered, IsCause}
+use Rattle.tilt_app.specs.Cause.{IsCause}
 use Rattle.tilt_words.specs.Command.{CommandValue, IsCommand}
 use Rattle.tilt_words.specs.declared.fault.WordsFault.{WordsFault}
 use Rattle.tilt_words.specs.declared.fault.WordsFault.TheVariants as variant

@@ -1,6 +1,9 @@
 -- Words and files have one outcome.
-use Rattle.std.proofs.Common.{◌≡◌, ◌∙◌, true, false, List, ℕ, Option, Some, Result, Ok, refl, sym, ap, subst}
+use Rattle.std.proofs.Common.{◌≡◌, ◌∙◌, not, Bool, List, ℕ, Option, Some, Result, Ok, refl, sym, ap, subst}
 use Rattle.tilt_app.specs.Compile.{IsCompileOutcome, no_query, listed}
+use Rattle.tilt_app.specs.Explain.{IsExplainOutcome}
+use Rattle.tilt_app.specs.Explain as explaining
+use Rattle.tilt_explain.specs.Explain.{explained}
 use Rattle.tilt_app.specs.FileCommand.{IsFileOutcome, no_file, no_inputs, done}
 use Rattle.tilt_app.specs.Outcome.{IsCommandOutcome, IsOutcome, no_command, does, IsBuilt}
 use Rattle.tilt_bounds.specs.Margins.{MarginsParts, margins_of}
@@ -68,34 +71,50 @@ same_margins e = cc
 same_domain : {d e : Span} → (let x : Option Span = Some d in x ≡ Some e) → d ≡ e
 same_domain e = cc
 
-same_listing : (c d : CoreParts) (m n : MarginsParts) (s t : Span) → c ≡ d → margins_of c ≡ Ok m → margins_of d ≡ Ok n → domain_of c.defs ≡ Some s → domain_of d.defs ≡ Some t
-    → listing (code_of (plan_of c false) c m s.start s.end) ≡ listing (code_of (plan_of d false) d n t.start t.end)
-same_listing c d m n s t same is is' at at' =
+same_listing : (fuse : Bool) (c d : CoreParts) (m n : MarginsParts) (s t : Span) → c ≡ d → margins_of c ≡ Ok m → margins_of d ≡ Ok n → domain_of c.defs ≡ Some s → domain_of d.defs ≡ Some t
+    → listing (code_of (plan_of c fuse) c m s.start s.end) ≡ listing (code_of (plan_of d fuse) d n t.start t.end)
+same_listing fuse c d m n s t same is is' at at' =
     let margins = same_margins (sym is ∙ ap margins_of same ∙ is') in
     let domain = same_domain (sym at ∙ ap (λ (core : CoreParts). domain_of core.defs) same ∙ at') in
     rw (same, margins, domain) refl
 
 -- `compile` has one outcome
-compile_once : (files : List ℕ → List ℕ) (query : List ℕ) (o p : Outcome) → IsCompileOutcome files query o → IsCompileOutcome files query p → o ≡ p
-compile_once files query o p (no_query r is) (no_query s is') = ap (λ (why : Reason). refused (refusal why)) (refused_once query (files query) r s is is')
-compile_once files query o p (no_query r is) (listed c m d taken margins domain) = absurd (refused_or_taken query (files query) r c is taken)
-compile_once files query o p (listed c m d taken margins domain) (no_query s is') = absurd (refused_or_taken query (files query) s c is' taken)
-compile_once files query o p (listed c m d taken margins domain) (listed c' m' d' taken' margins' domain') =
-    ap printed (same_listing c c' m m' d d' (taken_once (files query) c c' taken taken') margins margins' domain domain')
+compile_once : (files : List ℕ → List ℕ) (query : List ℕ) (fuse : Bool) (o p : Outcome) → IsCompileOutcome files query fuse o → IsCompileOutcome files query fuse p → o ≡ p
+compile_once files query fuse o p (no_query r is) (no_query s is') = ap (λ (why : Reason). refused (refusal why)) (refused_once query (files query) r s is is')
+compile_once files query fuse o p (no_query r is) (listed c m d taken margins domain) = absurd (refused_or_taken query (files query) r c is taken)
+compile_once files query fuse o p (listed c m d taken margins domain) (no_query s is') = absurd (refused_or_taken query (files query) s c is' taken)
+compile_once files query fuse o p (listed c m d taken margins domain) (listed c' m' d' taken' margins' domain') =
+    ap printed (same_listing fuse c c' m m' d d' (taken_once (files query) c c' taken taken') margins margins' domain domain')
 
-no_compile_usage : (files : List ℕ → List ℕ) (query : List ℕ) (o : Outcome) → IsCompileOutcome files query o → o ≡ refused usage → ⊥
-no_compile_usage files query o (no_query why is) same = cc
-no_compile_usage files query o (listed c m d taken margins domain) same = cc
+no_compile_usage : (files : List ℕ → List ℕ) (query : List ℕ) (fuse : Bool) (o : Outcome) → IsCompileOutcome files query fuse o → o ≡ refused usage → ⊥
+no_compile_usage files query fuse o (no_query why is) same = cc
+no_compile_usage files query fuse o (listed c m d taken margins domain) same = cc
+
+same_told : (c d : CoreParts) (m n : MarginsParts) → c ≡ d → margins_of c ≡ Ok m → margins_of d ≡ Ok n → explained c m ≡ explained d n
+same_told c d m n same is is' =
+    let margins = same_margins (sym is ∙ ap margins_of same ∙ is') in
+    rw (same, margins) refl
+
+-- `explain` has one outcome
+explain_once : (files : List ℕ → List ℕ) (query : List ℕ) (o p : Outcome) → IsExplainOutcome files query o → IsExplainOutcome files query p → o ≡ p
+explain_once files query o p (explaining.no_query r is) (explaining.no_query s is') = ap (λ (why : Reason). refused (refusal why)) (refused_once query (files query) r s is is')
+explain_once files query o p (explaining.no_query r is) (explaining.told c m taken margins) = absurd (refused_or_taken query (files query) r c is taken)
+explain_once files query o p (explaining.told c m taken margins) (explaining.no_query s is') = absurd (refused_or_taken query (files query) s c is' taken)
+explain_once files query o p (explaining.told c m taken margins) (explaining.told c' m' taken' margins') =
+    ap printed (same_told c c' m m' (taken_once (files query) c c' taken taken') margins margins')
+
+no_explain_usage : (files : List ℕ → List ℕ) (query : List ℕ) (o : Outcome) → IsExplainOutcome files query o → o ≡ refused usage → ⊥
+no_explain_usage files query o (explaining.no_query why is) same = cc
+no_explain_usage files query o (explaining.told c m taken margins) same = cc
 
 -- a command has one outcome
 pub command_once : (files : List ℕ → List ℕ) (command : CommandValue) (o p : Outcome) → IsCommandOutcome files command o → IsCommandOutcome files command p → o ≡ p
 command_once files (run query binds plain cuts) o p is is' =
     file_once _ _ _ _ (taken_once (files query)) (refused_once query (files query)) (refused_or_taken query (files query)) (λ core rows list list' out out'. same_some _ list list' out out') files binds o p is is'
-command_once files (compile query true) o p is is' = compile_once files query o p is is'
-command_once files (compile query false) o p is is' = is ∙ sym is'
+command_once files (compile query plain) o p is is' = compile_once files query (not plain) o p is is'
 command_once files (exec code binds) o p is is' =
     file_once _ _ _ _ (code_once (files code)) (code_refused_once code (files code)) (code_refused_or_taken code (files code)) (λ c rows list list' out out'. out ∙ sym out') files binds o p is is'
-command_once files (explain query) o p is is' = is ∙ sym is'
+command_once files (explain query) o p is is' = explain_once files query o p is is'
 command_once files (start query binds plain upto save) o p is is' = is ∙ sym is'
 command_once files (resume_upto checkpoint binds plain upto save) o p is is' = is ∙ sym is'
 command_once files (resume_end checkpoint binds plain) o p is is' = is ∙ sym is'
@@ -114,10 +133,9 @@ outcome_once words files one o p (does c is outcome) (does d is' outcome') =
 -- a command that is built has another outcome than that of words that are none
 pub no_usage : (files : List ℕ → List ℕ) (command : CommandValue) → IsCommandOutcome files command (refused usage) → IsBuilt command → ⊥
 no_usage files (run query binds plain cuts) is built = no_file_usage files binds (refused usage) is refl
-no_usage files (compile query true) is built = no_compile_usage files query (refused usage) is refl
-no_usage files (compile query false) is built = built
+no_usage files (compile query plain) is built = no_compile_usage files query (not plain) (refused usage) is refl
 no_usage files (exec code binds) is built = no_file_usage files binds (refused usage) is refl
-no_usage files (explain query) is built = built
+no_usage files (explain query) is built = no_explain_usage files query (refused usage) is refl
 no_usage files (start query binds plain upto save) is built = built
 no_usage files (resume_upto checkpoint binds plain upto save) is built = built
 no_usage files (resume_end checkpoint binds plain) is built = built

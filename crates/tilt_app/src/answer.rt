@@ -9,6 +9,7 @@ ghost use Rattle.tilt_words.specs.Command.{command_of};
 
 use crate::compile::compile;
 use crate::exec::exec;
+use crate::explain::explain;
 use crate::printed::Printed;
 use crate::run::run;
 use std::alloc::Global;
@@ -33,17 +34,26 @@ pub fn answer<'a, S: Shelf>(
     ensures rest { OnlyReads S.files S.save_faults S.takes shelf.old shelf.new }
 {
     match command {
-        Command::Run { query, binds, .. } => {
-            let list = run(alloc, shelf, query.as_str(), binds)?;
+        Command::Run {
+            query,
+            binds,
+            plain,
+            ..
+        } => {
+            let list = run(alloc, shelf, query.as_str(), binds, !*plain)?;
             Ok(Printed::Snapshots(list))
         }
         Command::Exec { code, binds } => {
             let list = exec(alloc, shelf, code.as_str(), binds)?;
             Ok(Printed::Snapshots(list))
         }
-        Command::Compile { query, plain: true } => {
-            let listing = compile(alloc, shelf, query.as_str())?;
-            Ok(Printed::Listing(listing))
+        Command::Compile { query, plain } => {
+            let listing = compile(alloc, shelf, query.as_str(), !*plain)?;
+            Ok(Printed::Text(listing))
+        }
+        Command::Explain { query } => {
+            let lines = explain(alloc, shelf, query.as_str())?;
+            Ok(Printed::Text(lines))
         }
         _ => Err(Fault::Usage),
     }

@@ -54,8 +54,8 @@ fn tell<E: Sink>(err: &mut E, fault: &Fault<'_>) -> u8
 
 /// Does what the words say: it reads a file and then the series of each of its inputs from the shelf, puts a text to `out`,
 /// and hands all of it on. `run QUERY NAME=FILE ..` puts the text of the snapshots of what the query emits on its output
-/// domain, `exec CODE NAME=FILE ..` that of the run of a loop code; `compile QUERY --plain` reads the query alone and puts
-/// the listing of its code. Where that isn't done, one line that tells why goes to
+/// domain, `exec CODE NAME=FILE ..` that of the run of a loop code; `compile QUERY` reads the query alone and puts the
+/// listing of its code, and `explain QUERY` what is told of its plan; `--plain` leaves out fusion. Where that isn't done, one line that tells why goes to
 /// `err`, and nothing else. A fault of `err` changes nothing.
 ///
 /// The first refusal is told: that of the words, then of the query or the code, then of the names that are bound, then of

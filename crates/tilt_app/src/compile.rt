@@ -12,21 +12,22 @@ use tilt_load::load_query;
 use tilt_outside::Shelf;
 use tilt_report::Fault;
 
-/// The listing of the query's code on its output domain, without fusion.
+/// The listing of the query's code on its output domain, with fusion or without.
 pub fn compile<'a, S: Shelf>(
     alloc: Global,
     shelf: &mut S,
     query: &'a str,
+    fuse: bool,
 ) -> Result<Vec<u8>, Fault<'a>>
     requires { S.lends query.now }
-    ensures printed { S.tells → IfOk result (λ listing. IsCompileOutcome (S.files shelf.old) query.now (printed listing.items)) }
+    ensures printed { S.tells → IfOk result (λ listing. IsCompileOutcome (S.files shelf.old) query.now fuse (printed listing.items)) }
     ensures fault { IfErr result (λ fault. IsLoadFault S.tells
-        (λ why. IsCompileOutcome (S.files shelf.old) query.now (refused (refusal why)))
+        (λ why. IsCompileOutcome (S.files shelf.old) query.now fuse (refused (refusal why)))
         (λ which. which ≡ query.now) (S.read_faults shelf.old) (S.read_faults shelf.new) (report_of fault)) }
     ensures kept { S.read_faults shelf.old ≤ S.read_faults shelf.new }
     ensures rest { OnlyReads S.files S.save_faults S.takes shelf.old shelf.new }
 {
     let query = load_query(alloc, shelf, query)?;
-    let code = query_code(alloc, &query)?;
+    let code = query_code(alloc, &query, fuse)?;
     Ok(list(alloc, &code)?)
 }

@@ -9,6 +9,7 @@ mod answer;
 mod command;
 mod compile;
 mod exec;
+mod explain;
 mod printed;
 mod query_code;
 mod run;

@@ -13,8 +13,8 @@ use tilt_stream::SnapList;
 pub enum Printed {
     /// The text of these snapshots.
     Snapshots(SnapList),
-    /// The listing of a code.
-    Listing(Vec<u8>),
+    /// This text.
+    Text(Vec<u8>),
 }
 
 impl Printed {
@@ -35,7 +35,7 @@ impl Printed {
     {
         match self {
             Printed::Snapshots(list) => put_text(out, list),
-            Printed::Listing(listing) => out.put(listing),
+            Printed::Text(text) => out.put(text),
         }
     }
 }

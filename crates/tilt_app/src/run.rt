@@ -16,12 +16,14 @@ use tilt_report::Fault;
 use tilt_stream::SnapList;
 use tilt_words::Bind;
 
-/// The snapshots of what the query means on the files that are bound, by the run of its code.
+/// The snapshots of what the query means on the files that are bound, by the run of its code, with fusion
+/// or without.
 pub fn run<'a, S: Shelf>(
     alloc: Global,
     shelf: &mut S,
     query: &'a str,
     binds: &'a [Bind],
+    fuse: bool,
 ) -> Result<SnapList, Fault<'a>>
     requires { (name : List ℕ) → HasRunTurn S.tells (S.files shelf.old) query.now (bindings_of binds.now) name → S.lends name }
     ensures printed { S.tells → IfOk result (λ list. IsRunOutcome (S.files shelf.old) query.now (bindings_of binds.now) (printed (text_of list))) }
@@ -34,6 +36,6 @@ pub fn run<'a, S: Shelf>(
 {
     let query = load_query(alloc, shelf, query)?;
     let rows = load_inputs(alloc, shelf, query.core.inputs(), binds)?;
-    let code = query_code(alloc, &query)?;
+    let code = query_code(alloc, &query, fuse)?;
     Ok(run_code(alloc, &code, &rows)?)
 }

@@ -1,3 +1,10 @@
-pub mod Plain
+pub mod Asks
+pub mod Law
+pub mod Means
+pub mod Near
+pub mod Places
+pub mod Planned
+pub mod Same
+pub mod Shifted
 pub mod Used
 pub mod Worked

@@ -44,11 +44,11 @@ names_none bound (Two op a b) source reads high = rw (names_none bound a source 
 names_none bound (If c a b) source reads high =
     rw (names_none bound c source reads.0 high, names_none bound a source reads.1 high, names_none bound b source reads.2 high) refl
 
-some_need : (m : Option Need) → is_some m ≡ true → (n : Need) × (m ≡ Some n)
+pub some_need : (m : Option Need) → is_some m ≡ true → (n : Need) × (m ≡ Some n)
 some_need None is = absurd (cc is)
 some_need (Some n) is = (n, refl)
 
-no_need : (m : Option Need) → is_some m ≡ false → m ≡ None
+pub no_need : (m : Option Need) → is_some m ≡ false → m ≡ None
 no_need None is = refl
 no_need (Some n) is = absurd (cc is)
 

@@ -40,6 +40,24 @@ sum_in_window_fused : plan_of (over_x (taken_every 1 (Two Add (Leaf (Read 0 (pos
 unfolding over_x taken_every loop
 sum_in_window_fused = refl
 
+-- a window that is moved is moved at both ends: `let w = sum(x[t-3:t]); emit w[t-2]`
+shifted_window_fused : plan_of (over_x (taken_every 1 (Leaf (Reduce Sum 0 (negsuc 2) (pos 0))) ∷ taken_every 1 (Leaf (Read 1 (negsuc 1))) ∷ [])) true
+    ≡ loop 1 (tree.Win Sum 0 (negsuc 4) (negsuc 1)) ∷ []
+unfolding over_x taken_every loop
+shifted_window_fused = refl
+
+-- a window with a map is moved by the offset of the one reading: `let y = x[t-2] + 1; emit sum(y[t-3:t])`
+moved_map_fused : plan_of (over_x (taken_every 1 (Two Add (Leaf (Read 0 (negsuc 1))) (Leaf (Const (pos 1)))) ∷ taken_every 1 (Leaf (Reduce Sum 1 (negsuc 2) (pos 0))) ∷ [])) true
+    ≡ loop 1 (tree.WinBy (tree.Two Add tree.Argument (tree.Const (pos 1))) Sum 0 (negsuc 4) (negsuc 1)) ∷ []
+unfolding over_x taken_every loop
+moved_map_fused = refl
+
+-- a window's source that is made from two readings isn't merged: `let y = x + x[t-1]; emit max(y[t-4:t])`
+two_readings_fused : plan_of (over_x (taken_every 1 (Two Add (Leaf (Read 0 (pos 0))) (Leaf (Read 0 (negsuc 0)))) ∷ taken_every 1 (Leaf (Reduce Max 1 (negsuc 3) (pos 0))) ∷ [])) true
+    ≡ loop 0 (tree.Two Add (tree.Port 0 (pos 0)) (tree.Port 0 (negsuc 0))) ∷ loop 1 (tree.Win Max 1 (negsuc 3) (pos 0)) ∷ []
+unfolding over_x taken_every loop
+two_readings_fused = refl
+
 -- a definition on a grid isn't merged: `let y = x every 5; emit y[t-1] + x`
 grid_fused : plan_of (over_x (taken_every 5 (Leaf (Read 0 (pos 0))) ∷ taken_every 1 (Two Add (Leaf (Read 1 (negsuc 0))) (Leaf (Read 0 (pos 0)))) ∷ [])) true
     ≡ loop 0 (tree.Port 0 (pos 0)) ∷ loop 1 (tree.Two Add (tree.Port 1 (negsuc 0)) (tree.Port 0 (pos 0))) ∷ []

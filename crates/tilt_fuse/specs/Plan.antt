@@ -1,7 +1,8 @@
 -- Which definitions are merged into their users, and the loops of the others (the TiLT paper's operator fusion; when definitions
 -- are merged is our own rule).
-use Rattle.std.specs.Prelude.{ℕ, suc, ◌+◌, ◌==◌, nat_le, ℤ, pos, ◌+ℤ◌, Bool, true, false, ◌&&◌, ◌||◌, not, if◌then◌else◌, List, [], ◌∷◌, ◌++◌, length, replicate, get_or, Option, Some, None, is_some}
-use Rattle.std.specs.Option.{option_map_or}
+use Rattle.std.specs.Prelude.{ℕ, suc, ◌+◌, ◌==◌, nat_le, ℤ, pos, ◌+ℤ◌, Bool, true, false, ◌&&◌, ◌||◌, not, if◌then◌else◌, List, [], ◌∷◌, ◌++◌, length, replicate, get_or, Option, Some, None, is_some, option_and_then}
+use Rattle.std.specs.Option.{option_map_or, option_or}
+use Rattle.std.specs.List.{list_any}
 use Rattle.std.specs.Ordering.{int_eq}
 use Rattle.tilt_base.specs.declared.reducer.Reducer.{Reducer}
 use Rattle.tilt_base.specs.Expression as expression
@@ -9,6 +10,7 @@ use Rattle.tilt_types.specs.Core.{CoreParts}
 use Rattle.tilt_types.specs.CoreTree as core
 use Rattle.tilt_types.specs.CoreTree.{CoreTree, Definition}
 use Rattle.tilt_types.specs.Needs.{Need, needs_from}
+use Rattle.tilt_fuse.specs.declared.reading.Reading.{Reading}
 use Rattle.tilt_fuse.specs.FusedTree.{FusedTree, Const, Port, Win, WinBy, Argument, One, Two, If, PlannedLoop}
 
 -- how many nodes a tree has: a window counts one more than its map
@@ -29,51 +31,47 @@ moved by (Two op a b) = Two op (moved by a) (moved by b)
 moved by (If c a b) = If (moved by c) (moved by a) (moved by b)
 moved by other = other
 
--- a reading of a source at an offset
-pub record Reading : Type 0 where
-  pub source : ℕ
-  pub offset : ℤ
+-- its first port, from the left
+abbrev pub first_port : FusedTree → Option Reading
+first_port (Port source offset) = Some (record { source = source; offset = offset })
+first_port (One op a) = first_port a
+first_port (Two op a b) = option_or (first_port a) (first_port b)
+first_port (If c a b) = option_or (option_or (first_port c) (first_port a)) (first_port b)
+first_port other = None
 
--- the ports of a tree, from left to right
-abbrev pub ports : FusedTree → List Reading
-ports (Port source offset) = record { source = source; offset = offset } ∷ []
-ports (One op a) = ports a
-ports (Two op a b) = ports a ++ ports b
-ports (If c a b) = ports c ++ ports a ++ ports b
-ports other = []
+-- whether it has no window, and all of its ports are this reading
+abbrev pub reads_only : Reading → FusedTree → Bool
+reads_only p (Port source offset) = (source == p.source) && int_eq offset p.offset
+reads_only p (Win reducer source from to) = false
+reads_only p (WinBy map reducer source from to) = false
+reads_only p (One op a) = reads_only p a
+reads_only p (Two op a b) = reads_only p a && reads_only p b
+reads_only p (If c a b) = reads_only p c && (reads_only p a && reads_only p b)
+reads_only p other = true
 
--- whether a tree has a window
-abbrev pub has_window : FusedTree → Bool
-has_window (Win reducer source from to) = true
-has_window (WinBy map reducer source from to) = true
-has_window (One op a) = has_window a
-has_window (Two op a b) = has_window a || has_window b
-has_window (If c a b) = has_window c || has_window a || has_window b
-has_window other = false
-
--- the one reading that all of them are, where there is one
-abbrev pub same_reading : List Reading → Option Reading
-same_reading [] = None
-same_reading (p ∷ []) = Some p
-same_reading (p ∷ q ∷ ps) = if (p.source == q.source) && int_eq p.offset q.offset then same_reading (q ∷ ps) else None
-
--- the one reading that a tree is made from, where it has no window
+-- the one reading that it is made from, where it has no window, some port, and all of its ports are that reading
 abbrev pub only_reading : FusedTree → Option Reading
-only_reading tree = if has_window tree then None else same_reading (ports tree)
+only_reading tree = option_and_then (λ p. if reads_only p tree then Some p else None) (first_port tree)
 
--- a tree as a map: its ports are the argument
+-- a tree as a map: what it reads is the argument
 abbrev pub as_map : FusedTree → FusedTree
-as_map (Port source offset) = Argument
+as_map (Const number) = Const number
 as_map (One op a) = One op (as_map a)
 as_map (Two op a b) = Two op (as_map a) (as_map b)
 as_map (If c a b) = If (as_map c) (as_map a) (as_map b)
-as_map other = other
+as_map other = Argument
 
--- a window on a merged definition is one on the reading that the tree is made from, by the tree as a map; there is no map where the
+-- whether it is a port alone
+abbrev pub is_port : FusedTree → Bool
+is_port (Port source offset) = true
+is_port other = false
+
+-- a window on a merged definition is one on the reading that its tree is made from, by the tree as a map; there is no map where the
 -- tree is the port alone
 abbrev pub window_over : FusedTree → Reading → Reducer → ℤ → ℤ → FusedTree
-window_over (Port source offset) p reducer from to = Win reducer p.source (from +ℤ p.offset) (to +ℤ p.offset)
-window_over tree p reducer from to = WinBy (as_map tree) reducer p.source (from +ℤ p.offset) (to +ℤ p.offset)
+window_over tree p reducer from to =
+    if is_port tree then Win reducer p.source (from +ℤ p.offset) (to +ℤ p.offset)
+    else WinBy (as_map tree) reducer p.source (from +ℤ p.offset) (to +ℤ p.offset)
 
 -- a window on a source, of which the tree is given where it was merged
 abbrev pub window_on : Option FusedTree → Reducer → ℕ → ℤ → ℤ → FusedTree
@@ -100,7 +98,7 @@ abbrev pub has_window_on : CoreTree → ℕ → Bool
 has_window_on (expression.Leaf (core.Reduce reducer read from to)) source = read == source
 has_window_on (expression.One op a) source = has_window_on a source
 has_window_on (expression.Two op a b) source = has_window_on a source || has_window_on b source
-has_window_on (expression.If c a b) source = has_window_on c source || has_window_on a source || has_window_on b source
+has_window_on (expression.If c a b) source = has_window_on c source || (has_window_on a source || has_window_on b source)
 has_window_on other source = false
 
 -- whether one of definitions with these needs is used and has a window on a source
@@ -133,14 +131,12 @@ loops_from fuse inputs place merged (def ∷ defs) (Some n ∷ ns) =
 loops_from fuse inputs place merged (def ∷ defs) (None ∷ ns) = loops_from fuse inputs (suc place) (merged ++ None ∷ []) defs ns
 loops_from fuse inputs place merged defs ns = []
 
--- where nothing is merged: a loop for each used definition
-abbrev pub plain_loops : ℕ → List Definition → List (Option Need) → List PlannedLoop
-plain_loops place (def ∷ defs) (Some n ∷ ns) = record { def = place; body = fused [] def.body } ∷ plain_loops (suc place) defs ns
-plain_loops place (def ∷ defs) (None ∷ ns) = plain_loops (suc place) defs ns
-plain_loops place defs ns = []
-
 -- the loops of a query: its used definitions that aren't merged, in order; nothing is merged without fusion
 abbrev pub plan_of : CoreParts → Bool → List PlannedLoop
 plan_of core fuse =
     let inputs = length core.inputs in
     loops_from fuse inputs 0 (replicate inputs None) core.defs (needs_from inputs core.defs)
+
+-- whether loops have one for the definition of a number
+abbrev pub has_loop : List PlannedLoop → ℕ → Bool
+has_loop loops def = list_any (λ l. l.def == def) loops

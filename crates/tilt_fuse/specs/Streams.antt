@@ -1,13 +1,11 @@
 -- What loops compute, as streams over the streams of the sources.
-use Rattle.std.specs.Prelude.{◌≡◌, ℤ, ◌+ℤ◌, List, map, Option, Some, None}
+use Rattle.std.specs.Prelude.{◌≡◌, ℤ, List, length, Option, Some, None}
 use Rattle.std.specs.List.{AllByRecursion, slice_index_or}
-use Rattle.tilt_base.specs.Reduce.{numbers, reduce}
 use Rattle.tilt_base.specs.Scalar.{apply1, apply2, choose}
-use Rattle.tilt_base.specs.declared.reducer.Reducer.{Reducer}
 use Rattle.tilt_stream.specs.Pointwise.{constant, nothing, shifted, lifted1, lifted2, branched}
 use Rattle.tilt_stream.specs.Snap.{Snapshot}
 use Rattle.tilt_stream.specs.Stream.{Stream, SameStream}
-use Rattle.tilt_stream.specs.Window.{met, windowed}
+use Rattle.tilt_stream.specs.Window.{windowed, windowed_by}
 use Rattle.tilt_types.specs.Core.{CoreParts}
 use Rattle.tilt_types.specs.CoreTree.{Definition}
 use Rattle.tilt_types.specs.Meaning.{source_of, body_of, sources}
@@ -22,19 +20,12 @@ map_cell (Two op a b) cell = apply2 op (map_cell a cell) (map_cell b cell)
 map_cell (If c a b) cell = choose (map_cell c cell) (map_cell a cell) (map_cell b cell)
 map_cell other cell = None
 
--- a window by a map: the reducer on the results that aren't null, one for each cell that each tick's window meets, null ones included
-abbrev pub windowed_by : FusedTree → Reducer → ℤ → ℤ → Stream → Stream
-windowed_by tree reducer from to x = record {
-  cell = λ tick. reduce reducer (numbers (map (map_cell tree) (met x (tick +ℤ from) (tick +ℤ to))));
-  mark = (windowed reducer from to x).mark;
-}
-
 -- what a tree gives over the streams of sources; an argument, which stands in maps alone, is null outside of them
 abbrev pub fused_stream : List Stream → FusedTree → Stream
 fused_stream xs (Const number) = constant (Some number)
 fused_stream xs (Port source offset) = shifted (source_of xs source) offset
 fused_stream xs (Win reducer source from to) = windowed reducer from to (source_of xs source)
-fused_stream xs (WinBy tree reducer source from to) = windowed_by tree reducer from to (source_of xs source)
+fused_stream xs (WinBy tree reducer source from to) = windowed_by (map_cell tree) reducer from to (source_of xs source)
 fused_stream xs Argument = nothing
 fused_stream xs (One op a) = lifted1 op (fused_stream xs a)
 fused_stream xs (Two op a b) = lifted2 op (fused_stream xs a) (fused_stream xs b)
@@ -45,6 +36,6 @@ abbrev pub MeansItsBody : List Stream → List Definition → PlannedLoop → Ty
 MeansItsBody xs defs loop =
     (def : Definition) → def ≡ slice_index_or defs loop.def def → SameStream (fused_stream xs loop.body) (body_of xs def.body)
 
--- so does each loop, whatever the rows are
+-- so does each loop, whatever the rows are, one list of them for each input
 pub record MeanTheirBodies (core : CoreParts) (loops : List PlannedLoop) : Type 0 where
-  pub each : (rows : List (List Snapshot)) → AllByRecursion (MeansItsBody (sources rows core.defs) core.defs) loops
+  pub each : (rows : List (List Snapshot)) → length rows ≡ length core.inputs → AllByRecursion (MeansItsBody (sources rows core.defs) core.defs) loops

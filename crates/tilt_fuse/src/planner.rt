@@ -1,105 +1,104 @@
 // The loops of a query.
-ghost use Rattle.std.specs.Prelude.{◌≡◌, ◌+◌, ◌≤◌, ◌<◌, ◌++◌, [], ◌∷◌, false, length, IfOk, OnOk};
-ghost use Rattle.tilt_types.specs.CoreTree.{tree_of};
-ghost use Rattle.tilt_fuse.specs.FusedTree.{fused_tree_of};
-ghost use Rattle.tilt_fuse.specs.Plan.{fused, plain_loops, plan_of};
-ghost use Rattle.tilt_types.specs.Needs.{needs, needs_from};
+ghost use Rattle.std.specs.Prelude.{◌≡◌, ◌+◌, ◌<◌, true, suc, length, replicate, get_or, None, is_some, IfOk, OnOk, IsOk};
+ghost use Rattle.std.specs.List.{slice_index_or};
+ghost use Rattle.tilt_bounds.specs.Margins.{margins_of};
+ghost use Rattle.tilt_fuse.specs.Plan.{plan_of};
 ghost use Rattle.tilt_fuse.specs.Streams.{MeanTheirBodies};
-ghost use Rattle.tilt_fuse.specs.Used.{AreUsed};
+ghost use Rattle.tilt_fuse.specs.Trees.{IsKnown, IsPlanned};
+ghost use Rattle.tilt_types.specs.Needs.{needs_from};
 
-use crate::fused::Fused;
+use crate::fusion::fused;
 use crate::loop_list::LoopList;
-use crate::plan_loop::PlanLoop;
+use crate::merged::Merged;
+use crate::merging::is_merged;
+use crate::progress::Progress;
+use crate::query::Query;
 use crate::usage::used_of;
 use std::alloc::{AllocError as OutOfMemory, Global};
-use tilt_types::{Core, Def, Tree};
+use tilt_types::{Core, Def};
 
-/// The loops of the query: its used definitions that aren't merged into their users, in order. Without fusion nothing is
-/// merged, and fusion isn't built yet.
+/// The loops of a query that doesn't look too far: its used definitions that aren't merged into their users, in order.
+/// Without fusion nothing is merged.
 pub fn plan(alloc: Global, core: &Core, fuse: bool) -> Result<LoopList, OutOfMemory>
-    requires unfused { fuse ≡ false }
+    requires reaches { IsOk (margins_of core.now) }
     ensures plan { IfOk result (λ list. list.loops.items ≡ plan_of core.now fuse) }
     ensures means { IfOk result (λ list. MeanTheirBodies core.now list.loops.items) }
 {
-    let _ = fuse;
     let inputs = core.inputs().len();
     let defs = core.defs();
     let used = used_of(alloc, inputs, defs)?;
-    let loops = used_loops(alloc, inputs, defs, &used)?;
-    Ok(LoopList { loops })
-}
-
-// A loop for each used definition.
-fn used_loops(
-    alloc: Global,
-    inputs: usize,
-    defs: &[Def],
-    used: &[bool],
-) -> Result<Vec<PlanLoop>, OutOfMemory>
-    requires few { inputs + length defs.now ≤ 256 }
-    requires used { AreUsed used.now (needs inputs defs.now) }
-    ensures { IfOk result (λ loops. loops.items ≡ plain_loops 0 defs.now (needs_from inputs defs.now)) }
-{
-    let mut loops = Vec::new(alloc);
+    let query = Query {
+        inputs,
+        defs,
+        used: &used,
+        fuse,
+    };
+    let mut progress = Progress {
+        merged: unmerged(alloc, inputs)?,
+        loops: Vec::new(alloc),
+    };
     for place in 0..defs.len() {
-        if used[inputs + place] {
-            push_loop(alloc, &mut loops, place, &defs[place])?;
-        }
+        plan_definition(alloc, &query, place, &mut progress)?;
     }
-    Ok(loops)
+    Ok(LoopList {
+        loops: progress.loops,
+    })
 }
 
-// Adds the loop of a definition.
-fn push_loop(
+// So many sources, none of which is merged.
+fn unmerged(alloc: Global, count: usize) -> Result<Vec<Merged>, OutOfMemory>
+    ensures { IfOk result (λ merged. merged.items ≡ replicate count None) }
+{
+    let mut merged = Vec::new(alloc);
+    for _ in 0..count {
+        merged.push(Merged { tree: None })?;
+    }
+    Ok(merged)
+}
+
+// Goes on by the definition at a place: it isn't used, it is merged, or it has a loop.
+fn plan_definition(
     alloc: Global,
-    loops: &mut Vec<PlanLoop>,
+    query: &Query,
+    place: usize,
+    progress: &mut Progress,
+) -> Result<(), OutOfMemory>
+    requires known { IsKnown query.now.inputs query.now.defs.now query.now.used.now }
+    requires place { place < length query.now.defs.now }
+    requires so_far { IsPlanned query.now.fuse query.now.inputs query.now.defs.now place
+        progress.old.merged.items progress.old.loops.items }
+    ensures { OnOk result (IsPlanned query.now.fuse query.now.inputs query.now.defs.now (suc place)
+        progress.new.merged.items progress.new.loops.items) }
+{
+    if !query.used[query.inputs + place] {
+        progress.skip()?;
+        return Ok(());
+    }
+    plan_used(alloc, query, place, &query.defs[place], progress)
+}
+
+// The same by a used definition.
+fn plan_used(
+    alloc: Global,
+    query: &Query,
     place: usize,
     def: &Def,
+    progress: &mut Progress,
 ) -> Result<(), OutOfMemory>
-    requires { place < 256 }
-    ensures { OnOk result (loops.new.items ≡ loops.old.items ++ record { def = place; body = fused [] def.now.body } ∷ []) }
+    requires known { IsKnown query.now.inputs query.now.defs.now query.now.used.now }
+    requires place { place < length query.now.defs.now }
+    requires definition { def.now ≡ slice_index_or query.now.defs.now place def.now }
+    requires is_used { is_some (get_or (needs_from query.now.inputs query.now.defs.now) place None) ≡ true }
+    requires so_far { IsPlanned query.now.fuse query.now.inputs query.now.defs.now place
+        progress.old.merged.items progress.old.loops.items }
+    ensures { OnOk result (IsPlanned query.now.fuse query.now.inputs query.now.defs.now (suc place)
+        progress.new.merged.items progress.new.loops.items) }
 {
-    let body = unfused(alloc, &def.body)?;
-    loops.push(PlanLoop {
-        def: place as u32,
-        body,
-    })?;
+    let tree = fused(alloc, &progress.merged, &def.body)?;
+    if is_merged(query, place, def, &tree) {
+        progress.merge(tree)?;
+        return Ok(());
+    }
+    progress.add_loop(place, tree)?;
     Ok(())
-}
-
-// The expression itself, reading by reading.
-fn unfused(alloc: Global, body: &Tree) -> Result<Fused, OutOfMemory>
-    ensures { IfOk result (λ tree. fused_tree_of tree ≡ fused [] (tree_of body.now)) }
-{
-    Ok(match body {
-        Tree::Const(number) => Fused::Const(*number),
-        Tree::Read { source, offset } => Fused::Port {
-            source: *source,
-            offset: *offset,
-        },
-        Tree::Reduce {
-            reducer,
-            source,
-            from,
-            to,
-        } => Fused::Win {
-            reducer: *reducer,
-            source: *source,
-            from: *from,
-            to: *to,
-            map: None,
-        },
-        Tree::One(op, a) => Fused::One(*op, Box::new(alloc, unfused(alloc, a)?)?),
-        Tree::Two(op, a, b) => {
-            let a = Box::new(alloc, unfused(alloc, a)?)?;
-            let b = Box::new(alloc, unfused(alloc, b)?)?;
-            Fused::Two(*op, a, b)
-        }
-        Tree::If(c, a, b) => {
-            let c = Box::new(alloc, unfused(alloc, c)?)?;
-            let a = Box::new(alloc, unfused(alloc, a)?)?;
-            let b = Box::new(alloc, unfused(alloc, b)?)?;
-            Fused::If(c, a, b)
-        }
-    })
 }

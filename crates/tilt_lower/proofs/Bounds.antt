@@ -1,44 +1,73 @@
--- The code of a query keeps what a code keeps: its numbers lie within their bounds, and each instruction names only what stands before it.
-use Rattle.std.proofs.Common.{◌≡◌, ℕ, suc, ◌+◌, ◌<◌, ◌≤◌, pos, ◌+ℤ◌, ◌≤ℤ◌, true, [], ◌∷◌, ◌++◌, length, map, Option, Some, None, refl, arith, subst, length-append, IsTrue}
-use Rattle.std.specs.Prelude.{⊤, ◌&&◌, ◌==◌, nat_lt, if◌then◌else◌}
+-- The instructions of a tree keep what instructions keep: their numbers lie within their bounds, and each names only what stands before it.
+use Rattle.std.proofs.Common.{◌≡◌, ℕ, suc, ◌+◌, ◌<◌, ◌≤◌, ◌^◌, ℤ, pos, ◌+ℤ◌, ◌≤ℤ◌, ◌<ℤ◌, Bool, true, [], ◌∷◌, ◌++◌, length, refl, arith, subst, length-append, IsTrue}
+use Rattle.std.specs.Prelude.{◌&&◌, nat_lt}
 use Rattle.std.specs.List.{AllByRecursion}
 use Rattle.std.proofs.lemmas.Int.{ints, clamps}
-use Rattle.tilt_base.specs.Expression.{Leaf, One, Two, If}
-use Rattle.tilt_base.specs.declared.limits.TheConstants.{REACH}
-use Rattle.tilt_bounds.proofs.Local.{is_itself}
 use Rattle.tilt_code.proofs.Partials.{All-append}
 use Rattle.tilt_code.specs.Code.{Block}
-use Rattle.tilt_code.specs.Grammar.{IsInstr, stands_in_body}
+use Rattle.tilt_code.specs.Grammar.{IsInstr, IsWindow, stands_in_body, stands_in_map}
 use Rattle.tilt_code.specs.References.{RefersBack}
 use Rattle.tilt_code.specs.declared.instr.Instr.{Instr}
 use Rattle.tilt_code.specs.declared.instr.Instr.TheVariants as instr
-use Rattle.tilt_fuse.specs.Plan.{fused}
+use Rattle.tilt_fuse.proofs.Asks.{WithinReach}
+use Rattle.tilt_fuse.specs.FusedTree.{FusedTree}
+use Rattle.tilt_fuse.specs.FusedTree as tree
+use Rattle.tilt_fuse.specs.Plan.{nodes}
+use Rattle.tilt_fuse.specs.Trees.{IsMap, HasMaps, EachAsks}
 use Rattle.tilt_lower.proofs.Blocks.{registers-some, length-block}
 use Rattle.tilt_lower.specs.Constants.{ConstantFits}
-use Rattle.tilt_lower.specs.Lowering.{registers, maps, block_of, result_at}
-use Rattle.tilt_types.specs.Core.{ReadsBelow, IsDefinition}
-use Rattle.tilt_types.specs.CoreTree.{Const, Read, Reduce, CoreTree, Definition, nodes}
-use Rattle.tilt_types.specs.Needs.{Need, either, reaching, asked_by}
+use Rattle.tilt_lower.specs.Lowering.{registers, maps, maps_of, block_of, result_at}
+use Rattle.tilt_types.specs.Needs.{Need, reaching}
 
--- each node takes a register
-registers-nodes : (body : CoreTree) → registers (fused [] body) ≡ nodes body
-registers-nodes (Leaf (Const number)) = refl
-registers-nodes (Leaf (Read source offset)) = refl
-registers-nodes (Leaf (Reduce reducer source from to)) = refl
-registers-nodes (One op a) = omega (arith, registers-nodes a)
-registers-nodes (Two op a b) = omega (arith, registers-nodes a, registers-nodes b)
-registers-nodes (If c a b) = omega (arith, registers-nodes c, registers-nodes a, registers-nodes b)
+-- a tree takes no more registers than it has nodes, and no more maps
+pub registers-few : (t : FusedTree) → registers t ≤ nodes t
+registers-few (tree.Const number) = omega arith
+registers-few (tree.Port source offset) = omega arith
+registers-few (tree.Win reducer source from to) = omega arith
+registers-few (tree.WinBy map reducer source from to) = omega arith
+registers-few tree.Argument = omega arith
+registers-few (tree.One op a) = omega (arith, registers-few a)
+registers-few (tree.Two op a b) = omega (arith, registers-few a, registers-few b)
+registers-few (tree.If c a b) = omega (arith, registers-few c, registers-few a, registers-few b)
 
--- a definition's block is small
-pub few_registers : (number : ℕ) (def : Definition) → IsDefinition number def → registers (fused [] def.body) ≤ 256
-few_registers number def is = let small = is.small in omega (arith, registers-nodes def.body)
+pub maps-few : (t : FusedTree) → maps t ≤ nodes t
+maps-few (tree.Const number) = omega arith
+maps-few (tree.Port source offset) = omega arith
+maps-few (tree.Win reducer source from to) = omega arith
+maps-few (tree.WinBy map reducer source from to) = omega arith
+maps-few tree.Argument = omega arith
+maps-few (tree.One op a) = omega (arith, maps-few a)
+maps-few (tree.Two op a b) = omega (arith, maps-few a, maps-few b)
+maps-few (tree.If c a b) = omega (arith, maps-few c, maps-few a, maps-few b)
+
+-- a map has no windows, and so no maps
+pub map-plain : (t : FusedTree) → IsMap t → maps t ≡ 0
+map-plain (tree.Const number) is = refl
+map-plain (tree.Port source offset) is = refl
+map-plain (tree.Win reducer source from to) is = refl
+map-plain (tree.WinBy map reducer source from to) is = absurd is
+map-plain tree.Argument is = refl
+map-plain (tree.One op a) is = map-plain a is
+map-plain (tree.Two op a b) is = omega (arith, map-plain a is.0, map-plain b is.1)
+map-plain (tree.If c a b) is = omega (arith, map-plain c is.0, map-plain a is.1, map-plain b is.2)
+
+-- the maps of a tree that asks something of its sources are maps
+pub asks-maps : (P : ℕ → Need → Type 0) (n : Need) (t : FusedTree) → EachAsks P n t → HasMaps t
+asks-maps P n (tree.Const number) asks = tt
+asks-maps P n (tree.Port source offset) asks = tt
+asks-maps P n (tree.Win reducer source from to) asks = tt
+asks-maps P n (tree.WinBy map reducer source from to) asks = asks.2
+asks-maps P n tree.Argument asks = tt
+asks-maps P n (tree.One op a) asks = asks-maps P n a asks
+asks-maps P n (tree.Two op a b) asks = (asks-maps P n a asks.0, asks-maps P n b asks.1)
+asks-maps P n (tree.If c a b) asks = (asks-maps P n c asks.0, asks-maps P n a asks.1, asks-maps P n b asks.2)
 
 is_below : (m n : ℕ) → m < n → IsTrue (nat_lt m n)
 is_below m n low = let test : nat_lt m n ≡ true = grind arith in test
 
-both : (a b n : ℕ) → a < n → b < n → IsTrue (nat_lt a n && nat_lt b n)
-both a b n p q =
-    let first : nat_lt a n ≡ true = grind arith in
+both : (a b m n : ℕ) → a < m → b < n → IsTrue (nat_lt a m && nat_lt b n)
+both a b m n p q =
+    let first : nat_lt a m ≡ true = grind arith in
     let second : nat_lt b n ≡ true = grind arith in
     rw (first, second) refl
 
@@ -57,165 +86,220 @@ RefersBack-append buffers maps register (i ∷ one) two g h =
     let at : register + suc (length one) ≡ suc register + length one = omega arith in
     (g.0, RefersBack-append buffers maps (suc register) one two g.1 (subst (λ (r : ℕ). RefersBack buffers maps r two) at h))
 
--- what an instruction of a body is, where its constant is a number of 64 bits
-abbrev pub IsGood : Instr → Type 0
-IsGood i = IsTrue (stands_in_body i) × (ConstantFits i → IsInstr i)
+-- the instruction may stand there, and is one where its constant is a number of 64 bits
+abbrev pub IsGood : (Instr → Bool) → Instr → Type 0
+IsGood stands i = IsTrue (stands i) × (ConstantFits i → IsInstr i)
 
+-- a block behind another
+module _ (count made : ℕ) where
+  back-two : (register : ℕ) (first next : Block) (second : ℕ) → second ≡ register + length first → RefersBack count made register first → RefersBack count made second next → RefersBack count made register (first ++ next)
+  back-two register first next second at g h =
+      RefersBack-append count made register first next g (subst (λ (r : ℕ). RefersBack count made r next) at h)
+
+module _ (buffer : ℕ → ℕ) (count : ℕ) (few : count ≤ 256) (n : Need) (back_low : pos 0 ≤ℤ n.back) (ahead_low : pos 0 ≤ℤ n.ahead) where
+  -- the buffer of a source stands before the count, and it is asked for within the reach
+  abbrev pub Bounded : ℕ → Need → Type 0
+  Bounded source asked = (buffer source < count) × WithinReach asked
+
+  window-is : (source : ℕ) (from to : ℤ) → Bounded source (reaching n (from +ℤ pos 1) to) → from <ℤ to → IsWindow (buffer source) from to
+  window-is source from to bound some =
+      let low = bound.0 in
+      let back = bound.1.0 in
+      let ahead = bound.1.1 in
+      record {
+        number = omega arith;
+        low = (omega (arith, ints, clamps), omega (arith, ints, clamps));
+        high = (omega (arith, ints, clamps), omega (arith, ints, clamps));
+        some_ticks = some;
+      }
+
+  pub good : (t : FusedTree) → EachAsks Bounded n t → (register map : ℕ) → register + registers t ≤ 2 ^ 16 → map + maps t ≤ 2 ^ 16
+      → AllByRecursion (IsGood stands_in_body) (block_of buffer register map t)
+  good (tree.Const value) asks register map small fewer = ((refl, λ fits. fits), tt)
+  good (tree.Port source offset) asks register map small fewer =
+      let low = asks.0 in
+      let back = asks.1.0 in
+      let ahead = asks.1.1 in
+      ((refl, λ fits. (omega arith, (omega (arith, ints, clamps), omega (arith, ints, clamps)))), tt)
+  good (tree.Win reducer source from to) asks register map small fewer = ((refl, λ fits. window-is source from to asks.0 asks.1), tt)
+  good (tree.WinBy map_tree reducer source from to) asks register map small fewer = ((refl, λ fits. (window-is source from to asks.0 asks.1, omega arith)), tt)
+  good tree.Argument asks register map small fewer = absurd asks
+  good (tree.One op a) asks register map small fewer =
+      All-append (IsGood stands_in_body) (block_of buffer register map a) (instr.One op (result_at register a) ∷ []) (good a asks register map (omega arith) (omega arith)) ((refl, λ fits. omega arith), tt)
+  good (tree.Two op a b) asks register map small fewer =
+      let second = register + registers a in
+      All-append (IsGood stands_in_body) (block_of buffer register map a ++ block_of buffer second (map + maps a) b) (instr.Two op (result_at register a) (result_at second b) ∷ [])
+      (All-append (IsGood stands_in_body) (block_of buffer register map a) (block_of buffer second (map + maps a) b)
+      (good a asks.0 register map (omega arith) (omega arith)) (good b asks.1 second (map + maps a) (omega arith) (omega arith)))
+      ((refl, λ fits. (omega arith, omega arith)), tt)
+  good (tree.If c a b) asks register map small fewer =
+      let second = register + registers c in
+      let third = second + registers a in
+      let one = block_of buffer register map c in
+      let two = block_of buffer second (map + maps c) a in
+      let three = block_of buffer third (map + maps c + maps a) b in
+      All-append (IsGood stands_in_body) (one ++ two ++ three) (instr.If (result_at register c) (result_at second a) (result_at third b) ∷ [])
+      (All-append (IsGood stands_in_body) (one ++ two) three
+      (All-append (IsGood stands_in_body) one two (good c asks.0 register map (omega arith) (omega arith)) (good a asks.1 second (map + maps c) (omega arith) (omega arith)))
+      (good b asks.2 third (map + maps c + maps a) (omega arith) (omega arith)))
+      ((refl, λ fits. (omega arith, omega arith, omega arith)), tt)
+
+  -- each instruction names earlier registers, buffers before the count, and maps before theirs
+  pub back : (t : FusedTree) → EachAsks Bounded n t → (register map made : ℕ) → map + maps t ≤ made → RefersBack count made register (block_of buffer register map t)
+  back (tree.Const value) asks register map made fewer = (refl, tt)
+  back (tree.Port source offset) asks register map made fewer = (is_below (buffer source) count asks.0, tt)
+  back (tree.Win reducer source from to) asks register map made fewer = (is_below (buffer source) count asks.0.0, tt)
+  back (tree.WinBy map_tree reducer source from to) asks register map made fewer = (both (buffer source) map count made asks.0.0 (omega arith), tt)
+  back tree.Argument asks register map made fewer = absurd asks
+  back (tree.One op a) asks register map made fewer =
+      let first = block_of buffer register map a in
+      let some = registers-some a in
+      let many = length-block buffer register map a in
+      RefersBack-append count made register first (instr.One op (result_at register a) ∷ []) (back a asks register map made fewer)
+      (is_below (result_at register a) (register + length first) (omega (arith, many)), tt)
+  back (tree.Two op a b) asks register map made fewer =
+      let second = register + registers a in
+      let first = block_of buffer register map a in
+      let next = block_of buffer second (map + maps a) b in
+      let some_a = registers-some a in
+      let some_b = registers-some b in
+      let many_a = length-block buffer register map a in
+      let many_b = length-block buffer second (map + maps a) b in
+      let many = length-append first next in
+      let end = register + length (first ++ next) in
+      RefersBack-append count made register (first ++ next) (instr.Two op (result_at register a) (result_at second b) ∷ [])
+      (back-two count made register first next second (omega (arith, many_a)) (back a asks.0 register map made (omega arith)) (back b asks.1 second (map + maps a) made (omega arith)))
+      (both (result_at register a) (result_at second b) end end (omega (arith, many, many_a, many_b)) (omega (arith, many, many_a, many_b)), tt)
+  back (tree.If c a b) asks register map made fewer =
+      let second = register + registers c in
+      let third = second + registers a in
+      let one = block_of buffer register map c in
+      let two = block_of buffer second (map + maps c) a in
+      let three = block_of buffer third (map + maps c + maps a) b in
+      let some_c = registers-some c in
+      let some_a = registers-some a in
+      let some_b = registers-some b in
+      let many_c = length-block buffer register map c in
+      let many_a = length-block buffer second (map + maps c) a in
+      let many_b = length-block buffer third (map + maps c + maps a) b in
+      let many = length-append one two in
+      let all = length-append (one ++ two) three in
+      let end = register + length (one ++ two ++ three) in
+      RefersBack-append count made register (one ++ two ++ three) (instr.If (result_at register c) (result_at second a) (result_at third b) ∷ [])
+      (back-two count made register (one ++ two) three third (omega (arith, many, many_c, many_a))
+      (back-two count made register one two second (omega (arith, many_c)) (back c asks.0 register map made (omega arith)) (back a asks.1 second (map + maps c) made (omega arith)))
+      (back b asks.2 third (map + maps c + maps a) made (omega arith))) (
+        all_three (result_at register c) (result_at second a) (result_at third b) end (omega (arith, all, many, many_a, many_b, many_c)) (omega (arith, all, many, many_a, many_b, many_c))
+            (omega (arith, all, many, many_a, many_b, many_c)),
+        tt,
+      )
+
+-- maps have no leaves but arguments and constants, so a block of a map has no bounds to keep but those of registers
 module _ (buffer : ℕ → ℕ) where
-  -- the buffer of a source that is asked for something stands before a count, and it is asked for within the reach
-  abbrev pub Bound : ℕ → ℕ → Option Need → Type 0
-  Bound count source None = ⊤
-  Bound count source (Some n) = (buffer source < count) × (n.back ≤ℤ REACH) × (n.ahead ≤ℤ REACH)
+  map_good : (t : FusedTree) → IsMap t → (register map : ℕ) → register + registers t ≤ 2 ^ 16 → AllByRecursion (IsGood stands_in_map) (block_of buffer register map t)
+  map_good (tree.Const value) is register map small = ((refl, λ fits. fits), tt)
+  map_good (tree.Port source offset) is register map small = absurd is
+  map_good (tree.Win reducer source from to) is register map small = absurd is
+  map_good (tree.WinBy map_tree reducer source from to) is register map small = absurd is
+  map_good tree.Argument is register map small = ((refl, λ fits. tt), tt)
+  map_good (tree.One op a) is register map small =
+      All-append (IsGood stands_in_map) (block_of buffer register map a) (instr.One op (result_at register a) ∷ []) (map_good a is register map (omega arith)) ((refl, λ fits. omega arith), tt)
+  map_good (tree.Two op a b) is register map small =
+      let second = register + registers a in
+      All-append (IsGood stands_in_map) (block_of buffer register map a ++ block_of buffer second (map + maps a) b) (instr.Two op (result_at register a) (result_at second b) ∷ [])
+      (All-append (IsGood stands_in_map) (block_of buffer register map a) (block_of buffer second (map + maps a) b)
+      (map_good a is.0 register map (omega arith)) (map_good b is.1 second (map + maps a) (omega arith)))
+      ((refl, λ fits. (omega arith, omega arith)), tt)
+  map_good (tree.If c a b) is register map small =
+      let second = register + registers c in
+      let third = second + registers a in
+      let one = block_of buffer register map c in
+      let two = block_of buffer second (map + maps c) a in
+      let three = block_of buffer third (map + maps c + maps a) b in
+      All-append (IsGood stands_in_map) (one ++ two ++ three) (instr.If (result_at register c) (result_at second a) (result_at third b) ∷ [])
+      (All-append (IsGood stands_in_map) (one ++ two) three
+      (All-append (IsGood stands_in_map) one two (map_good c is.0 register map (omega arith)) (map_good a is.1 second (map + maps c) (omega arith)))
+      (map_good b is.2 third (map + maps c + maps a) (omega arith)))
+      ((refl, λ fits. (omega arith, omega arith, omega arith)), tt)
 
-  pub first_bound : (count source : ℕ) (m n : Option Need) → Bound count source (either m n) → Bound count source m
-  first_bound count source None n h = tt
-  first_bound count source (Some m) None h = h
-  first_bound count source (Some m) (Some n) h =
-      let back = h.1 in
-      let ahead = h.2 in
-      (h.0, omega (arith, ints, clamps), omega (arith, ints, clamps))
+  map_back : (t : FusedTree) → IsMap t → (count register map made : ℕ) → RefersBack count made register (block_of buffer register map t)
+  map_back (tree.Const value) is count register map made = (refl, tt)
+  map_back (tree.Port source offset) is count register map made = absurd is
+  map_back (tree.Win reducer source from to) is count register map made = absurd is
+  map_back (tree.WinBy map_tree reducer source from to) is count register map made = absurd is
+  map_back tree.Argument is count register map made = (refl, tt)
+  map_back (tree.One op a) is count register map made =
+      let first = block_of buffer register map a in
+      let some = registers-some a in
+      let many = length-block buffer register map a in
+      RefersBack-append count made register first (instr.One op (result_at register a) ∷ []) (map_back a is count register map made)
+      (is_below (result_at register a) (register + length first) (omega (arith, many)), tt)
+  map_back (tree.Two op a b) is count register map made =
+      let second = register + registers a in
+      let first = block_of buffer register map a in
+      let next = block_of buffer second (map + maps a) b in
+      let some_a = registers-some a in
+      let some_b = registers-some b in
+      let many_a = length-block buffer register map a in
+      let many_b = length-block buffer second (map + maps a) b in
+      let many = length-append first next in
+      let end = register + length (first ++ next) in
+      RefersBack-append count made register (first ++ next) (instr.Two op (result_at register a) (result_at second b) ∷ [])
+      (back-two count made register first next second (omega (arith, many_a)) (map_back a is.0 count register map made) (map_back b is.1 count second (map + maps a) made))
+      (both (result_at register a) (result_at second b) end end (omega (arith, many, many_a, many_b)) (omega (arith, many, many_a, many_b)), tt)
+  map_back (tree.If c a b) is count register map made =
+      let second = register + registers c in
+      let third = second + registers a in
+      let one = block_of buffer register map c in
+      let two = block_of buffer second (map + maps c) a in
+      let three = block_of buffer third (map + maps c + maps a) b in
+      let some_c = registers-some c in
+      let some_a = registers-some a in
+      let some_b = registers-some b in
+      let many_c = length-block buffer register map c in
+      let many_a = length-block buffer second (map + maps c) a in
+      let many_b = length-block buffer third (map + maps c + maps a) b in
+      let many = length-append one two in
+      let all = length-append (one ++ two) three in
+      let end = register + length (one ++ two ++ three) in
+      RefersBack-append count made register (one ++ two ++ three) (instr.If (result_at register c) (result_at second a) (result_at third b) ∷ [])
+      (back-two count made register (one ++ two) three third (omega (arith, many, many_c, many_a))
+      (back-two count made register one two second (omega (arith, many_c)) (map_back c is.0 count register map made) (map_back a is.1 count second (map + maps c) made))
+      (map_back b is.2 count third (map + maps c + maps a) made)) (
+        all_three (result_at register c) (result_at second a) (result_at third b) end (omega (arith, all, many, many_a, many_b, many_c)) (omega (arith, all, many, many_a, many_b, many_c))
+            (omega (arith, all, many, many_a, many_b, many_c)),
+        tt,
+      )
 
-  pub second_bound : (count source : ℕ) (m n : Option Need) → Bound count source (either m n) → Bound count source n
-  second_bound count source m None h = tt
-  second_bound count source None (Some n) h = h
-  second_bound count source (Some m) (Some n) h =
-      let back = h.1 in
-      let ahead = h.2 in
-      (h.0, omega (arith, ints, clamps), omega (arith, ints, clamps))
+-- the block of a map
+pub record IsGoodMap (block : Block) : Type 0 where
+  pub some : 0 < length block
+  pub few : length block ≤ 2 ^ 32
+  pub good : AllByRecursion (IsGood stands_in_map) block
+  pub back : (buffers maps : ℕ) → RefersBack buffers maps 0 block
 
-  pub bound-more : (count source : ℕ) (n : Option Need) → Bound count source n → Bound (suc count) source n
-  bound-more count source None h = tt
-  bound-more count source (Some n) h = (let low = h.0 in omega arith, h.1, h.2)
+map_is : (map : FusedTree) → IsMap map → nodes map ≤ 2 ^ 16 → IsGoodMap (block_of (λ source. source) 0 0 map)
+map_is map is small =
+    let many = length-block (λ source. source) 0 0 map in
+    let some = registers-some map in
+    let few = registers-few map in
+    record {
+      some = omega (arith, many);
+      few = omega (arith, many);
+      good = map_good (λ source. source) map is 0 0 (omega arith);
+      back = λ buffers made. map_back (λ source. source) map is buffers 0 0 made;
+    }
 
-  module _ (number count : ℕ) (n : Need) (back_low : pos 0 ≤ℤ n.back) (ahead_low : pos 0 ≤ℤ n.ahead) (few : count ≤ 256) where
-    -- the sources below the number are asked for within the reach
-    abbrev pub AllBound : CoreTree → Type 0
-    AllBound body = (source : ℕ) → source < number → Bound count source (asked_by n body source)
-
-    -- a reading asks for what it reads
-    read : (source : ℕ) (m : Need) → source < number → ((s : ℕ) → s < number → Bound count s (if source == s then Some m else None)) → Bound count source (Some m)
-    read source m low h = rw (is_itself source) at (h source low)
-
-    pub good : (body : CoreTree) → ReadsBelow number body → AllBound body → (register map : ℕ) → register + registers (fused [] body) ≤ 256
-        → AllByRecursion IsGood (block_of buffer register map (fused [] body))
-    good (Leaf (Const value)) reads h register map small = ((refl, λ fits. fits), tt)
-    good (Leaf (Read source offset)) reads h register map small =
-        let bound = read source (reaching n offset offset) reads h in
-        let low = bound.0 in
-        let back = bound.1 in
-        let ahead = bound.2 in
-        ((refl, λ fits. (omega arith, (omega (arith, ints, clamps), omega (arith, ints, clamps)))), tt)
-    good (Leaf (Reduce reducer source from to)) reads h register map small =
-        let bound = read source (reaching n (from +ℤ pos 1) to) reads.0 h in
-        let low = bound.0 in
-        let back = bound.1 in
-        let ahead = bound.2 in
-        let some = reads.1 in (
-          (
-            refl,
-            λ fits. record {
-              number = omega arith;
-              low = (omega (arith, ints, clamps), omega (arith, ints, clamps));
-              high = (omega (arith, ints, clamps), omega (arith, ints, clamps));
-              some_ticks = some;
-            },
-          ),
-          tt,
-        )
-    good (One op a) reads h register map small =
-        let ta = fused [] a in
-        All-append IsGood (block_of buffer register map ta) (instr.One op (result_at register ta) ∷ []) (good a reads h register map (omega arith)) ((refl, λ fits. omega arith), tt)
-    good (Two op a b) reads h register map small =
-        let ta = fused [] a in
-        let tb = fused [] b in
-        let second = register + registers ta in
-        All-append IsGood (block_of buffer register map ta ++ block_of buffer second (map + maps ta) tb) (instr.Two op (result_at register ta) (result_at second tb) ∷ [])
-        (All-append IsGood (block_of buffer register map ta) (block_of buffer second (map + maps ta) tb)
-        (good a reads.0 (λ s low. first_bound count s (asked_by n a s) (asked_by n b s) (h s low)) register map (omega arith))
-        (good b reads.1 (λ s low. second_bound count s (asked_by n a s) (asked_by n b s) (h s low)) second (map + maps ta) (omega arith)))
-        ((refl, λ fits. (omega arith, omega arith)), tt)
-    good (If c a b) reads h register map small =
-        let tc = fused [] c in
-        let ta = fused [] a in
-        let tb = fused [] b in
-        let second = register + registers tc in
-        let third = second + registers ta in
-        let one = block_of buffer register map tc in
-        let two = block_of buffer second (map + maps tc) ta in
-        let three = block_of buffer third (map + maps tc + maps ta) tb in
-        let others : (s : ℕ) → s < number → Bound count s (either (asked_by n a s) (asked_by n b s)) =
-        λ s low. second_bound count s (asked_by n c s) (either (asked_by n a s) (asked_by n b s)) (h s low) in
-        All-append IsGood (one ++ two ++ three) (instr.If (result_at register tc) (result_at second ta) (result_at third tb) ∷ [])
-        (All-append IsGood (one ++ two) three
-        (All-append IsGood one two
-        (good c reads.0 (λ s low. first_bound count s (asked_by n c s) (either (asked_by n a s) (asked_by n b s)) (h s low)) register map (omega arith))
-        (good a reads.1 (λ s low. first_bound count s (asked_by n a s) (asked_by n b s) (others s low)) second (map + maps tc) (omega arith)))
-        (good b reads.2 (λ s low. second_bound count s (asked_by n a s) (asked_by n b s) (others s low)) third (map + maps tc + maps ta) (omega arith)))
-        ((refl, λ fits. (omega arith, omega arith, omega arith)), tt)
-
-    -- each instruction names earlier registers, and buffers before the count
-    pub back : (body : CoreTree) → ReadsBelow number body → AllBound body → (register map made : ℕ) → RefersBack count made register (block_of buffer register map (fused [] body))
-    back (Leaf (Const value)) reads h register map made = (refl, tt)
-    back (Leaf (Read source offset)) reads h register map made = (is_below (buffer source) count (read source (reaching n offset offset) reads h).0, tt)
-    back (Leaf (Reduce reducer source from to)) reads h register map made =
-        (is_below (buffer source) count (read source (reaching n (from +ℤ pos 1) to) reads.0 h).0, tt)
-    back (One op a) reads h register map made =
-        let ta = fused [] a in
-        let first = block_of buffer register map ta in
-        let some = registers-some ta in
-        let many = length-block buffer register map ta in
-        RefersBack-append count made register first (instr.One op (result_at register ta) ∷ []) (back a reads h register map made)
-        (is_below (result_at register ta) (register + length first) (omega (arith, many)), tt)
-    back (Two op a b) reads h register map made =
-        let ta = fused [] a in
-        let tb = fused [] b in
-        let second = register + registers ta in
-        let first = block_of buffer register map ta in
-        let next = block_of buffer second (map + maps ta) tb in
-        let some_a = registers-some ta in
-        let some_b = registers-some tb in
-        let many_a = length-block buffer register map ta in
-        let many_b = length-block buffer second (map + maps ta) tb in
-        let many = length-append first next in
-        let mid : second ≡ register + length first = omega (arith, many_a) in
-        let end = register + length (first ++ next) in
-        RefersBack-append count made register (first ++ next) (instr.Two op (result_at register ta) (result_at second tb) ∷ [])
-        (RefersBack-append count made register first next
-        (back a reads.0 (λ s low. first_bound count s (asked_by n a s) (asked_by n b s) (h s low)) register map made)
-        (subst (λ (r : ℕ). RefersBack count made r next) mid
-        (back b reads.1 (λ s low. second_bound count s (asked_by n a s) (asked_by n b s) (h s low)) second (map + maps ta) made)))
-        (both (result_at register ta) (result_at second tb) end (omega (arith, many, many_a, many_b)) (omega (arith, many, many_a, many_b)), tt)
-    back (If c a b) reads h register map made =
-        let tc = fused [] c in
-        let ta = fused [] a in
-        let tb = fused [] b in
-        let second = register + registers tc in
-        let third = second + registers ta in
-        let one = block_of buffer register map tc in
-        let two = block_of buffer second (map + maps tc) ta in
-        let three = block_of buffer third (map + maps tc + maps ta) tb in
-        let some_c = registers-some tc in
-        let some_a = registers-some ta in
-        let some_b = registers-some tb in
-        let many_c = length-block buffer register map tc in
-        let many_a = length-block buffer second (map + maps tc) ta in
-        let many_b = length-block buffer third (map + maps tc + maps ta) tb in
-        let many = length-append one two in
-        let all = length-append (one ++ two) three in
-        let mid : second ≡ register + length one = omega (arith, many_c) in
-        let far : third ≡ register + length (one ++ two) = omega (arith, many, many_c, many_a) in
-        let end = register + length (one ++ two ++ three) in
-        let others : (s : ℕ) → s < number → Bound count s (either (asked_by n a s) (asked_by n b s)) =
-        λ s low. second_bound count s (asked_by n c s) (either (asked_by n a s) (asked_by n b s)) (h s low) in
-        RefersBack-append count made register (one ++ two ++ three) (instr.If (result_at register tc) (result_at second ta) (result_at third tb) ∷ [])
-        (RefersBack-append count made register (one ++ two) three
-        (RefersBack-append count made register one two
-        (back c reads.0 (λ s low. first_bound count s (asked_by n c s) (either (asked_by n a s) (asked_by n b s)) (h s low)) register map made)
-        (subst (λ (r : ℕ). RefersBack count made r two) mid
-        (back a reads.1 (λ s low. first_bound count s (asked_by n a s) (asked_by n b s) (others s low)) second (map + maps tc) made)))
-        (subst (λ (r : ℕ). RefersBack count made r three) far
-        (back b reads.2 (λ s low. second_bound count s (asked_by n a s) (asked_by n b s) (others s low)) third (map + maps tc + maps ta) made))) (
-          all_three (result_at register tc) (result_at second ta) (result_at third tb) end (omega (arith, all, many, many_a, many_b, many_c)) (omega (arith, all, many, many_a, many_b, many_c))
-              (omega (arith, all, many, many_a, many_b, many_c)),
-          tt,
-        )
+-- the maps of a tree
+pub maps-good : (P : ℕ → Need → Type 0) (n : Need) (t : FusedTree) → EachAsks P n t → nodes t ≤ 2 ^ 16 → AllByRecursion IsGoodMap (maps_of t)
+maps-good P n (tree.Const value) asks small = tt
+maps-good P n (tree.Port source offset) asks small = tt
+maps-good P n (tree.Win reducer source from to) asks small = tt
+maps-good P n (tree.WinBy map reducer source from to) asks small = (map_is map asks.2 (omega arith), tt)
+maps-good P n tree.Argument asks small = tt
+maps-good P n (tree.One op a) asks small = maps-good P n a asks (omega arith)
+maps-good P n (tree.Two op a b) asks small =
+    All-append IsGoodMap (maps_of a) (maps_of b) (maps-good P n a asks.0 (omega arith)) (maps-good P n b asks.1 (omega arith))
+maps-good P n (tree.If c a b) asks small =
+    All-append IsGoodMap (maps_of c ++ maps_of a) (maps_of b)
+    (All-append IsGoodMap (maps_of c) (maps_of a) (maps-good P n c asks.0 (omega arith)) (maps-good P n a asks.1 (omega arith))) (maps-good P n b asks.2 (omega arith))

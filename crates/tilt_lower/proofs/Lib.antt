@@ -1,4 +1,3 @@
-pub mod All
 pub mod Blocks
 pub mod Bounds
 pub mod Cut
@@ -7,6 +6,7 @@ pub mod Numbers
 pub mod Planned
 pub mod Single
 pub mod Snapped
+pub mod States
 pub mod Theorem
 pub mod Whole
 pub mod Worked

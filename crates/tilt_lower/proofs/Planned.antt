@@ -1,30 +1,33 @@
 -- What the loops of a plan are, one by one, and the loops of the code that they are lowered to.
-use Rattle.std.proofs.Common.{◌≡◌, ℕ, zero, suc, ◌+◌, ◌<◌, ◌≤◌, ℤ, ◌≤ℤ◌, ◌<ℤ◌, Bool, true, false, List, [], ◌∷◌, ◌++◌, length, map, take, get_or, Option, Some, None, Ok, Err, if◌then◌else◌, refl, sym, ap, ◌∙◌, arith, subst, append_assoc, length-append}
-use Rattle.std.specs.Prelude.{neg_ℤ}
+use Rattle.std.proofs.Common.{◌≡◌, ℕ, zero, suc, ◌+◌, ◌<◌, ◌≤◌, ℤ, ◌≤ℤ◌, ◌<ℤ◌, Bool, true, false, List, [], ◌∷◌, ◌++◌, length, map, take, get_or, Option, Some, None, Ok, Err, if◌then◌else◌, refl, sym, ap, ◌∙◌, arith, subst}
+use Rattle.std.specs.Prelude.{neg_ℤ, ◌&&◌, ◌*◌, is_some, replicate, IsOk}
 use Rattle.std.specs.List.{AllByRecursion, slice_index_or}
 use Rattle.std.specs.Option.{IsSome, unwrap_or}
-use Rattle.std.proofs.Math.Seq.{get_or-append_seam}
 use Rattle.std.proofs.lemmas.Int.{ints}
-use Rattle.std.proofs.lemmas.List.{take_more, map-append, get_or_default}
+use Rattle.std.proofs.lemmas.List.{take_more, map-append, length-map, length-replicate, get_or_default}
 use Rattle.tilt_base.specs.declared.limits.TheConstants.{T}
 use Rattle.tilt_bounds.proofs.Needs.{need_at-definition}
 use Rattle.tilt_bounds.specs.Margins.{MarginsParts, need_at, margins_of, is_too_far}
 use Rattle.tilt_bounds.specs.Stretch.{stretch_of}
 use Rattle.tilt_bounds.specs.declared.loop_span.LoopSpan.{LoopSpan}
 use Rattle.tilt_code.specs.Code.{LoopParts}
-use Rattle.tilt_fuse.specs.FusedTree.{PlannedLoop}
-use Rattle.tilt_fuse.specs.Plan.{plain_loops, plan_of}
-use Rattle.tilt_fuse.proofs.Plain.{plan_of-plain}
-use Rattle.tilt_lower.proofs.Blocks.{plain-maps}
-use Rattle.tilt_lower.proofs.Bounds.{few_registers}
-use Rattle.tilt_lower.specs.Law.{LiesWithin}
-use Rattle.tilt_lower.specs.Lowering.{registers, maps, buffer_of, loop_on, no_definition, lowered}
+use Rattle.tilt_fuse.proofs.Near.{needs-near}
+use Rattle.tilt_fuse.specs.FusedTree.{FusedTree, PlannedLoop}
+use Rattle.tilt_fuse.specs.Plan.{nodes, fused, is_merged, loops_from}
+use Rattle.tilt_fuse.specs.Trees.{HasMaps, Holds, IsKnown}
+use Rattle.tilt_fuse.specs.Used.{AreUsed}
+use Rattle.tilt_lower.proofs.Bounds.{asks-maps}
+use Rattle.tilt_lower.proofs.States.{AreLowered}
+use Rattle.tilt_lower.proofs.Theorem.{all-lowered, some-loop}
+use Rattle.tilt_lower.specs.Law.{IsPlan, LiesWithin}
+use Rattle.tilt_lower.specs.Lowering.{buffer_of, loop_on, no_definition, lowered}
+use Rattle.tilt_stream.specs.Pointwise.{nothing}
 use Rattle.tilt_syntax.specs.declared.span.Span.{Span}
-use Rattle.tilt_types.specs.Core.{CoreParts, IsCore, IsStretch, AreDefinitions, domain_of}
+use Rattle.tilt_types.specs.Core.{CoreParts, IsCore, IsStretch, domain_of}
 use Rattle.tilt_types.proofs.Last.{domain_of-stretch}
 use Rattle.tilt_types.specs.CoreTree.{Definition}
 use Rattle.tilt_types.specs.Needs as bounds
-use Rattle.tilt_types.specs.Needs.{Need, no_margin, needs_from, needs}
+use Rattle.tilt_types.specs.Needs.{Need, no_margin, body_need, needs_from, needs}
 
 -- the margins of a core have its needs
 same_margins : (test : Bool) (far : Need) (made margins : MarginsParts) → (if test then Err far else Ok made) ≡ Ok margins → margins.needs ≡ made.needs
@@ -49,12 +52,6 @@ output-bounds (Some span) lo hi is within =
 pub output-of : (query : CoreParts) (lo hi : ℤ) → IsCore query → LiesWithin (domain_of query.defs) lo hi → (neg_ℤ T ≤ℤ lo) × (lo <ℤ hi) × (hi ≤ℤ T)
 output-of query lo hi is within = output-bounds (domain_of query.defs) lo hi (domain_of-stretch (length query.inputs) query.defs is.definitions) within
 
--- what holds of each holds of the one at a place
-pub all-at : {A : Type 0} (P : A → Type 0) (xs : List A) (i : ℕ) (x : A) → AllByRecursion P xs → i < length xs → x ≡ get_or xs i x → P x
-all-at P [] i x all low is = absurd (omega arith)
-all-at P (y ∷ xs) zero x all low is = subst P (sym is) all.0
-all-at P (y ∷ xs) (suc i) x all low is = all-at P xs i x all.1 (omega arith) is
-
 all-push : {A : Type 0} (P : A → Type 0) (xs : List A) (x : A) → AllByRecursion P xs → P x → AllByRecursion P (xs ++ x ∷ [])
 all-push P [] x all one = (one, tt)
 all-push P (y ∷ xs) x all one = (all.0, all-push P xs x all.1 one)
@@ -62,52 +59,85 @@ all-push P (y ∷ xs) x all one = (all.0, all-push P xs x all.1 one)
 pub all-pushed : {A : Type 0} (P : A → Type 0) (xs ys : List A) (x : A) → AllByRecursion P xs → P x → ys ≡ xs ++ x ∷ [] → AllByRecursion P ys
 all-pushed {A = A} P xs ys x all one is = subst (λ (zs : List A). AllByRecursion P zs) (sym is) (all-push P xs x all one)
 
--- a loop of the plan is that of a definition that is used, and its expression is small and has no maps
-pub record IsPlanned (query : CoreParts) (ns : List (Option Need)) (l : PlannedLoop) : Type 0 where
-  pub numbered : l.def < length query.defs
-  pub used : IsSome (get_or ns l.def None)
-  pub few : registers l.body ≤ 256
-  pub plain : maps l.body ≡ 0
-
-module _ (query : CoreParts) (all : List (Option Need)) where
-  planned-from : (before defs : List Definition) (known ns : List (Option Need)) (place number : ℕ) → place ≡ length before → place ≡ length known → query.defs ≡ before ++ defs → all ≡ known ++ ns
-      → AreDefinitions number defs → AllByRecursion (IsPlanned query all) (plain_loops place defs ns)
-  planned-from before [] known ns place number at_def at_need defs_are ns_are are = tt
-  planned-from before (def ∷ defs) known [] place number at_def at_need defs_are ns_are are = tt
-  planned-from before (def ∷ defs) known (None ∷ ns) place number at_def at_need defs_are ns_are are =
-      planned-from (before ++ def ∷ []) defs (known ++ None ∷ []) ns (suc place) (suc number) (omega (arith, length-append before (def ∷ []))) (omega (arith, length-append known (None ∷ [])))
-      (defs_are ∙ sym (append_assoc before (def ∷ []) defs)) (ns_are ∙ sym (append_assoc known (None ∷ []) ns)) are.1
-  planned-from before (def ∷ defs) known (Some n ∷ ns) place number at_def at_need defs_are ns_are are = (
-    record {
-      numbered = omega (arith, ap length defs_are, length-append before (def ∷ defs));
-      used = subst (λ (o : Option Need). IsSome o) (sym ((λ i. get_or (ns_are i) (at_need i) None) ∙ get_or-append_seam known (Some n) ns None)) refl;
-      few = few_registers number def are.0;
-      plain = plain-maps def.body;
-    },
-    planned-from (before ++ def ∷ []) defs (known ++ Some n ∷ []) ns (suc place) (suc number) (omega (arith, length-append before (def ∷ []))) (omega (arith, length-append known (Some n ∷ [])))
-        (defs_are ∙ sym (append_assoc before (def ∷ []) defs)) (ns_are ∙ sym (append_assoc known (Some n ∷ []) ns)) are.1,
-  )
-
-pub are_planned : (query : CoreParts) → AreDefinitions (length query.inputs) query.defs
-    → AllByRecursion (IsPlanned query (needs_from (length query.inputs) query.defs)) (plain_loops 0 query.defs (needs_from (length query.inputs) query.defs))
-are_planned query are = planned-from query (needs_from (length query.inputs) query.defs) [] query.defs [] (needs_from (length query.inputs) query.defs) 0 (length query.inputs) refl refl refl refl are
-
--- so is the one whose turn it is
-pub planned-at : (query : CoreParts) (loops shown : List PlannedLoop) (i : ℕ) (item l : PlannedLoop) → IsCore query → loops ≡ plan_of query false → shown ≡ loops → i < length shown
-    → item ≡ get_or shown i item → l ≡ item → IsPlanned query (needs_from (length query.inputs) query.defs) l
-planned-at query loops shown i item l is plan are low at same =
-    let ns = needs_from (length query.inputs) query.defs in
-    let all = are ∙ plan ∙ plan_of-plain query in
-    subst (λ (x : PlannedLoop). IsPlanned query ns x) (sym same)
-    (all-at (IsPlanned query ns) (plain_loops 0 query.defs ns) i item (are_planned query is.definitions)
-    (omega (arith, ap length all)) (at ∙ ap (λ (ls : List PlannedLoop). get_or ls i item) all))
-
 -- there are no more loops than definitions
-pub plain-few : (place : ℕ) (defs : List Definition) (ns : List (Option Need)) → length (plain_loops place defs ns) ≤ length defs
-plain-few place [] ns = omega arith
-plain-few place (def ∷ defs) [] = omega arith
-plain-few place (def ∷ defs) (None ∷ ns) = omega (arith, plain-few (suc place) defs ns)
-plain-few place (def ∷ defs) (Some n ∷ ns) = omega (arith, plain-few (suc place) defs ns)
+few-loops : (fuse : Bool) (inputs place : ℕ) (merged : List (Option FusedTree)) (defs : List Definition) (ns : List (Option Need)) → length (loops_from fuse inputs place merged defs ns) ≤ length defs
+few-loops fuse inputs place merged [] ns = omega arith
+few-loops fuse inputs place merged (def ∷ defs) [] = omega arith
+few-loops fuse inputs place merged (def ∷ defs) (None ∷ ns) = omega (arith, few-loops fuse inputs (suc place) (merged ++ None ∷ []) defs ns)
+few-loops fuse inputs place merged (def ∷ defs) (Some n ∷ ns) =
+    let t = fused merged def.body in
+    few-of (fuse && is_merged def defs ns (inputs + place) t) (loops_from fuse inputs (suc place) (merged ++ Some t ∷ []) defs ns) (loops_from fuse inputs (suc place) (merged ++ None ∷ []) defs ns)
+    (record { def = place; body = t }) (length defs) (few-loops fuse inputs (suc place) (merged ++ Some t ∷ []) defs ns) (few-loops fuse inputs (suc place) (merged ++ None ∷ []) defs ns)
+  where
+    few-of : (test : Bool) (one other : List PlannedLoop) (l : PlannedLoop) (count : ℕ) → length one ≤ count → length other ≤ count → length (if test then one else l ∷ other) ≤ suc count
+    few-of true one other l count g h = omega arith
+    few-of false one other l count g h = omega arith
+
+-- whether sources are used can be read off their needs
+used-needs : (ns : List (Option Need)) → AreUsed (map is_some ns) ns
+used-needs ns = record { many = length-map ns is_some; each = λ source low. get_or-map_at ns source (omega (arith, length-map ns is_some)) } where
+  get_or-map_at : (ms : List (Option Need)) (i : ℕ) → i < length ms → get_or (map is_some ms) i false ≡ is_some (get_or ms i None)
+  get_or-map_at [] i low = absurd (omega arith)
+  get_or-map_at (m ∷ ms) zero low = refl
+  get_or-map_at (m ∷ ms) (suc i) low = get_or-map_at ms i (omega arith)
+
+-- what is told of a loop of the plan: its definition is used, its tree is small, and the tree's maps are maps
+pub record IsTold (query : CoreParts) (l : PlannedLoop) : Type 0 where
+  pub numbered : l.def < length query.defs
+  pub is_used : IsSome (get_or (needs_from (length query.inputs) query.defs) l.def None)
+  pub small : nodes l.body ≤ 65 * 256
+  pub maps : HasMaps l.body
+
+module _ (query : CoreParts) (margins : MarginsParts) (lo hi : ℤ) (is : IsCore query) (margins_is : margins_of query ≡ Ok margins) (loops : List PlannedLoop) (plan : IsPlan query loops) where
+  abbrev pub sources_used : List Bool
+  sources_used = map is_some (needs (length query.inputs) query.defs)
+
+  pub known : IsKnown (length query.inputs) query.defs sources_used
+  known = record {
+    few = is.few;
+    definitions = is.definitions;
+    are_used = used-needs (needs (length query.inputs) query.defs);
+    near = needs-near query is (subst IsOk (sym margins_is) refl);
+  }
+
+  pub few-all : length loops ≤ length query.defs
+  few-all =
+      let inputs = length query.inputs in
+      let all = ap length plan.1 in
+      omega (arith, few-loops plan.0 inputs 0 (replicate inputs None) query.defs (needs_from inputs query.defs))
+
+  abbrev pub AllLowered : ℕ → List PlannedLoop → Type 0
+  AllLowered = AreLowered query margins lo hi sources_used known (margins-needs query margins margins_is) plan.0 loops plan.1
+
+  told-at : (count i : ℕ) (ls : List PlannedLoop) (l : PlannedLoop) → AllLowered count ls → i < length ls → l ≡ get_or ls i l → IsTold query l
+  told-at count i [] l are low at = absurd (omega arith)
+  told-at count zero (m ∷ ls) l are low at =
+      let one = are.0 in
+      subst (λ (k : PlannedLoop). IsTold query k) (sym at) (record {
+        numbered = one.numbered;
+        is_used = subst (λ (o : Option Need). IsSome o) (sym one.needed) refl;
+        small = one.small;
+        maps = asks-maps (λ source asked. (buffer_of (length query.inputs) loops source < count) × Holds (need_at (needs (length query.inputs) query.defs) source) asked)
+            (body_need (get_or query.defs m.def no_definition) one.need) m.body one.asks;
+      })
+  told-at count (suc i) (m ∷ ls) l are low at = told-at (suc count) i ls l are.1 (omega arith) at
+
+  pub lowered-all : AllLowered (length query.inputs) loops
+  lowered-all =
+      all-lowered query margins lo hi sources_used known (margins-needs query margins margins_is) plan.0 loops plan.1 is.one_emitted
+      (replicate (length query.inputs) nothing) (length-replicate (length query.inputs) nothing)
+
+  -- the emitted definition has a loop
+  pub some-loops : 0 < length loops
+  some-loops =
+      some-loop query margins lo hi sources_used known (margins-needs query margins margins_is) plan.0 loops plan.1 is.one_emitted
+      (replicate (length query.inputs) nothing) (length-replicate (length query.inputs) nothing)
+
+  -- so it is of the one whose turn it is
+  pub planned-at : (shown : List PlannedLoop) (i : ℕ) (item l : PlannedLoop) → shown ≡ loops → i < length shown → item ≡ get_or shown i item → l ≡ item → IsTold query l
+  planned-at shown i item l are low at same =
+      subst (λ (x : PlannedLoop). IsTold query x) (sym same)
+      (told-at (length query.inputs) i loops item lowered-all (omega (arith, ap length are)) (at ∙ ap (λ (ls : List PlannedLoop). get_or ls i item) are))
 
 -- the need of the definition of a loop
 pub used-at : (query : CoreParts) (margins : MarginsParts) (place : ℕ) → margins.needs ≡ needs (length query.inputs) query.defs → IsSome (get_or (needs_from (length query.inputs) query.defs) place None)

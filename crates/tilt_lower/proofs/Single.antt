@@ -1,10 +1,8 @@
 -- One loop: it agrees with its definition as far as the definition is looked at, where its buffers agree with the sources as far as its body asks for them.
-use Rattle.std.proofs.Common.{◌≡◌, ℕ, zero, suc, ◌+◌, ◌<◌, ◌==◌, ℤ, pos, ◌+ℤ◌, ◌-ℤ◌, ◌<ℤ◌, Bool, true, false, List, [], ◌∷◌, ◌++◌, length, map, get_or, Option, Some, None, if◌then◌else◌, refl, sym, ap, ◌∙◌, arith, subst}
+use Rattle.std.proofs.Common.{◌≡◌, ℕ, zero, suc, ◌+◌, ◌<◌, ◌==◌, ℤ, pos, ◌+ℤ◌, ◌-ℤ◌, ◌<ℤ◌, Bool, true, false, List, [], ◌∷◌, ◌++◌, length, get_or, Option, Some, None, if◌then◌else◌, refl, sym, ap, ◌∙◌, arith, subst}
 use Rattle.std.specs.Prelude.{int_lt, option_map, ◌&&◌}
 use Rattle.std.specs.Int.{int_min, int_max}
-use Rattle.std.specs.List.{range_with_len}
 use Rattle.std.proofs.lemmas.Int.{ints, clamps}
-use Rattle.std.proofs.lemmas.List.FromFn.{get_or-map-range_with_len, length-map-range_with_len}
 use Rattle.tilt_base.specs.Expression.{Leaf, One, Two, If}
 use Rattle.tilt_base.specs.Grid.{is_point}
 use Rattle.tilt_bounds.proofs.Local.{with_definitions-agrees}
@@ -15,8 +13,7 @@ use Rattle.tilt_code.specs.Body as code
 use Rattle.tilt_code.specs.Code.{LoopParts}
 use Rattle.tilt_code.specs.Meaning.{loop_of}
 use Rattle.tilt_code.specs.declared.instr.Instr.TheVariants as instr
-use Rattle.tilt_fuse.specs.Plan.{fused}
-use Rattle.tilt_lower.proofs.Blocks.{body-same}
+use Rattle.tilt_fuse.specs.FusedTree.{FusedTree}
 use Rattle.tilt_lower.proofs.Cut.{uncut, cut, nothing_left}
 use Rattle.tilt_lower.specs.Lowering.{block_of, maps_of, each_tick, loop_on}
 use Rattle.tilt_stream.proofs.Locality.{narrower-agrees, on_grid-agrees}
@@ -93,82 +90,78 @@ and-false : (b : Bool) → (b && false) ≡ false
 and-false true = refl
 and-false false = refl
 
-module _ (lo hi : ℤ) (buffer : ℕ → ℕ) (number : ℕ) (def : Definition) (n : Need) (bs xs : List Stream) (is : IsDefinition number def) (xs_is : length xs ≡ number) where
+module _ (lo hi : ℤ) (number : ℕ) (n : Need) (ys xs : List Stream) (ys_is : length ys ≡ number) (xs_is : length xs ≡ number) where
   abbrev from : ℤ
   from = lo -ℤ n.back
 
   abbrev to : ℤ
   to = hi +ℤ n.ahead
 
-  -- the sources for which the buffers stand
-  abbrev ys : List Stream
-  ys = map (λ source. get_or bs (buffer source) nothing) (range_with_len 0 number)
+  -- the sources agree as far as a definition's body asks for them
+  abbrev pub AgreeForBody : Definition → Type 0
+  AgreeForBody def = (source : ℕ) → source < number → AgreeAsAsked (asked_by (body_need def n) def.body source) lo hi (source_of ys source) (source_of xs source)
 
-  stand : (source : ℕ) → source < number → source_of ys source ≡ get_or bs (buffer source) nothing
-  stand source low =
-      source_of-at ys source ∙ get_or-map-range_with_len (λ s. get_or bs (buffer s) nothing) 0 number source source nothing low (omega arith)
+  -- so the definition over the one agrees with it over the others
+  pub definitions-agree : (def : Definition) → IsDefinition number def → AgreeForBody def → Agree (definition_of ys def) (definition_of xs def) from to
+  definitions-agree def is h =
+      let y = definition_of ys def in
+      let x = definition_of xs def in
+      let k = body_need def no_margin in
+      let same : beside n k ≡ body_need def n = same_need (beside n k) (body_need def n) (omega (arith, ints)) (omega (arith, ints)) in
+      let asked : (source : ℕ) → source < number → AgreeAsAsked (asked_by k def.body source) from to (source_of ys source) (source_of xs source) =
+      λ source low.
+      agree-beside n (asked_by k def.body source) lo hi (source_of ys source) (source_of xs source)
+      (subst (λ (m : Option Need). AgreeAsAsked m lo hi (source_of ys source) (source_of xs source))
+      (ap (λ (m : Need). asked_by m def.body source) (sym same) ∙ asked-beside n k def.body source) (h source low)) in
+      let at : number + zero ≡ number = omega arith in
+      let at_y = ap (source_of (ys ++ y ∷ [])) (at ∙ sym ys_is) ∙ source_of-last ys y in
+      let at_x = ap (source_of (xs ++ x ∷ [])) (at ∙ sym xs_is) ∙ source_of-last xs x in
+      narrower-agrees y x (from -ℤ pos 0) (to +ℤ pos 0) from to
+      (rw (at_y, at_x) at (with_definitions-agrees from to number (def ∷ []) ys xs ys_is xs_is (is, tt) asked zero))
+      (omega (arith, ints)) (omega (arith, ints))
 
-  -- the definition without its span
-  abbrev free : Definition
-  free = record { body = def.body; over = None; grid = def.grid }
+  module _ (def : Definition) (is : IsDefinition number def) (h : AgreeForBody def) where
+    -- the definition without its span
+    abbrev free : Definition
+    free = record { body = def.body; over = None; grid = def.grid }
 
-  free_is : IsDefinition number free
-  free_is = record { reads = is.reads; small = is.small; stretch = tt; grid = is.grid; on_multiples = is.on_multiples }
+    free_is : IsDefinition number free
+    free_is = record { reads = is.reads; small = is.small; stretch = tt; grid = is.grid; on_multiples = is.on_multiples }
 
-  module _ (h : (source : ℕ) → source < number → AgreeAsAsked (asked_by (body_need def n) def.body source) lo hi (get_or bs (buffer source) nothing) (source_of xs source)) where
-    asked : (source : ℕ) → source < number → AgreeAsAsked (asked_by (body_need free no_margin) def.body source) from to (source_of ys source) (source_of xs source)
-    asked source low =
-        let k = body_need free no_margin in
-        let same : beside n k ≡ body_need def n = same_need (beside n k) (body_need def n) (omega (arith, ints)) (omega (arith, ints)) in
-        rw (stand source low)
-        (agree-beside n (asked_by k def.body source) lo hi (get_or bs (buffer source) nothing) (source_of xs source)
-        (subst (λ (m : Option Need). AgreeAsAsked m lo hi (get_or bs (buffer source) nothing) (source_of xs source))
-        (ap (λ (m : Need). asked_by m def.body source) (sym same) ∙ asked-beside n k def.body source) (h source low)))
-
-    -- the body over the buffers' sources, on the grid, agrees with the body over the sources
     bodies : Agree (on_grid def.grid (body_of ys def.body)) (on_grid def.grid (body_of xs def.body)) from to
-    bodies =
-        let y = on_grid def.grid (body_of ys def.body) in
-        let x = on_grid def.grid (body_of xs def.body) in
-        let ys_is : length ys ≡ number = length-map-range_with_len (λ s. get_or bs (buffer s) nothing) 0 number in
-        let at : number + zero ≡ number = omega arith in
-        let at_y = ap (source_of (ys ++ y ∷ [])) (at ∙ sym ys_is) ∙ source_of-last ys y in
-        let at_x = ap (source_of (xs ++ x ∷ [])) (at ∙ sym xs_is) ∙ source_of-last xs x in
-        narrower-agrees y x (from -ℤ pos 0) (to +ℤ pos 0) from to
-        (rw (at_y, at_x) at (with_definitions-agrees from to number (free ∷ []) ys xs ys_is xs_is (free_is, tt) asked zero))
-        (omega (arith, ints)) (omega (arith, ints))
+    bodies = definitions-agree free free_is h
 
-    module _ (l : LoopParts) (l_is : l.body ≡ block_of buffer 0 0 (fused [] def.body)) where
-      lowered_bodies : Agree (on_grid def.grid (code.body_of bs l)) (on_grid def.grid (body_of xs def.body)) from to
-      lowered_bodies =
-          let made = code.body_of bs l in
+    -- a loop of which the body gives what the definition's gives over these sources
+    module _ (bs : List Stream) (buffer : ℕ → ℕ) (tree : FusedTree)
+        (body : (l : LoopParts) → l.body ≡ block_of buffer 0 0 tree → l.maps ≡ maps_of tree → SameStream (code.body_of bs l) (body_of ys def.body)) where
+      abbrev made_on : ℤ → ℤ → LoopParts
+      made_on start end = record { lo = start; hi = end; grid = def.grid; maps = maps_of tree; body = block_of buffer 0 0 tree }
+
+      lowered_bodies : (start end : ℤ) → Agree (on_grid def.grid (code.body_of bs (made_on start end))) (on_grid def.grid (body_of xs def.body)) from to
+      lowered_bodies start end =
+          let made = code.body_of bs (made_on start end) in
           let y = body_of ys def.body in
           agree-trans (on_grid def.grid made) (on_grid def.grid y) (on_grid def.grid (body_of xs def.body)) from to
-          (on_grid-agrees def.grid made y from to is.grid.period_low
-          (same-agree made y from (to +ℤ def.grid.period -ℤ pos 1) (body-same bs l buffer ys number def.body stand is.reads l_is)))
+          (on_grid-agrees def.grid made y from to is.grid.period_low (same-agree made y from (to +ℤ def.grid.period -ℤ pos 1) (body (made_on start end) refl refl)))
           bodies
 
-    abbrev made_on : ℤ → ℤ → LoopParts
-    made_on start end = record { lo = start; hi = end; grid = def.grid; maps = maps_of (fused [] def.body); body = block_of buffer 0 0 (fused [] def.body) }
+      cut_loop : (span : Span) → span.start <ℤ span.end → (test : Bool) → int_lt (int_max from span.start) (int_min to span.end) ≡ test
+          → Agree (loop_of bs (loop_on
+          (if test then record { lo = int_max from span.start; hi = int_min to span.end; empty = false } else record { lo = from; hi = to; empty = true })
+          buffer def tree)) (within (Some span) (on_grid def.grid (body_of xs def.body))) from to
+      cut_loop span some true is_some =
+          cut (on_grid def.grid (code.body_of bs (made_on from to))) (on_grid def.grid (body_of xs def.body)) from to (lowered_bodies from to) span.start span.end
+      cut_loop span some false is_none =
+          let null = code.body_of bs (record { lo = from; hi = to; grid = each_tick; maps = []; body = instr.Null ∷ [] }) in
+          nothing_left from to span.start span.end some (grind (arith, ints)) (on_grid each_tick null) (on_grid def.grid (body_of xs def.body))
+          (λ tick. refl)
+          (λ tick. rw (no_marks null (tick -ℤ pos 1) 1 (λ t. refl)) (and-false (is_point each_tick (tick -ℤ pos 1))))
 
-    cut_loop : (span : Span) → span.start <ℤ span.end → (test : Bool) → int_lt (int_max from span.start) (int_min to span.end) ≡ test
-        → Agree (loop_of bs (loop_on
-        (if test then record { lo = int_max from span.start; hi = int_min to span.end; empty = false } else record { lo = from; hi = to; empty = true })
-        buffer def (fused [] def.body))) (within (Some span) (on_grid def.grid (body_of xs def.body))) from to
-    cut_loop span some true is_some =
-        cut (on_grid def.grid (code.body_of bs (made_on from to))) (on_grid def.grid (body_of xs def.body)) from to (lowered_bodies (made_on from to) refl) span.start span.end
-    cut_loop span some false is_none =
-        let null = code.body_of bs (record { lo = from; hi = to; grid = each_tick; maps = []; body = instr.Null ∷ [] }) in
-        nothing_left from to span.start span.end some (grind (arith, ints)) (on_grid each_tick null) (on_grid def.grid (body_of xs def.body))
-        (λ tick. refl)
-        (λ tick. rw (no_marks null (tick -ℤ pos 1) 1 (λ t. refl)) (and-false (is_point each_tick (tick -ℤ pos 1))))
+      any_loop : (over : Option Span) → IsStretch over
+          → Agree (loop_of bs (loop_on (cut_down over from to) buffer def tree)) (within over (on_grid def.grid (body_of xs def.body))) from to
+      any_loop None some = uncut (on_grid def.grid (code.body_of bs (made_on from to))) (on_grid def.grid (body_of xs def.body)) from to (lowered_bodies from to)
+      any_loop (Some span) some = cut_loop span some.1 (int_lt (int_max from span.start) (int_min to span.end)) refl
 
-    any_loop : (over : Option Span) → IsStretch over
-        → Agree (loop_of bs (loop_on (cut_down over from to) buffer def (fused [] def.body))) (within over (on_grid def.grid (body_of xs def.body))) from to
-    any_loop None some =
-        uncut (on_grid def.grid (code.body_of bs (made_on from to))) (on_grid def.grid (body_of xs def.body)) from to (lowered_bodies (made_on from to) refl)
-    any_loop (Some span) some = cut_loop span some.1 (int_lt (int_max from span.start) (int_min to span.end)) refl
-
-    -- the loop of the definition agrees with the definition
-    pub loop-agrees : Agree (loop_of bs (loop_on (stretch_of def n lo hi) buffer def (fused [] def.body))) (definition_of xs def) from to
-    loop-agrees = any_loop def.over is.stretch
+      -- the loop of the definition agrees with the definition
+      pub loop-agrees : Agree (loop_of bs (loop_on (stretch_of def n lo hi) buffer def tree)) (definition_of xs def) from to
+      loop-agrees = any_loop def.over is.stretch

@@ -1,102 +1,45 @@
 -- The code of a query means what the query means.
-use Rattle.std.proofs.Common.{◌≡◌, ℕ, zero, suc, ◌+◌, ◌<◌, ℤ, pos, ◌+ℤ◌, ◌-ℤ◌, true, false, List, [], ◌∷◌, ◌++◌, length, map, get_or, Option, Some, None, inl, inr, refl, sym, ap, ◌∙◌, arith, subst, length-append}
-use Rattle.std.specs.Prelude.{int_lt}
+use Rattle.std.proofs.Common.{◌≡◌, ℕ, zero, suc, ◌+◌, ◌-◌, ◌<◌, ◌==◌, ℤ, pos, ◌+ℤ◌, ◌-ℤ◌, Bool, true, false, List, [], ◌∷◌, ◌++◌, length, map, get_or, drop, Option, Some, None, inl, inr, refl, sym, ap, ◌∙◌, arith, subst, length-append}
+use Rattle.std.specs.Prelude.{int_lt, nat_lt, ◌&&◌}
 use Rattle.std.specs.Int.{int_min, int_max}
 use Rattle.std.specs.List.{AllByRecursion}
-use Rattle.std.proofs.Math.Seq.{get_or-append_seam}
+use Rattle.std.specs.Option.{unwrap_or}
+use Rattle.std.proofs.Math.Seq.{get_or-append_seam, drop-length}
 use Rattle.std.proofs.lemmas.Int.{ints, clamps}
-use Rattle.std.proofs.lemmas.List.{length-map}
+use Rattle.std.proofs.lemmas.List.{length-map, map-append, append-nil, get_or_past, get_or_default}
 use Rattle.tilt_bounds.proofs.Needs.{below_or_behind, need_at-definition}
-use Rattle.tilt_bounds.proofs.Steps.{length-needs_from}
+use Rattle.tilt_bounds.proofs.Steps.{length-needs}
 use Rattle.tilt_bounds.specs.Laws.{AgreeAsAsked}
 use Rattle.tilt_bounds.specs.Margins.{MarginsParts, need_at}
 use Rattle.tilt_bounds.specs.Stretch.{cut_down, stretch_of}
+use Rattle.tilt_bounds.specs.declared.loop_span.LoopSpan.{LoopSpan}
 use Rattle.tilt_code.proofs.Runs.{with_buffers-streams, run-is}
 use Rattle.tilt_code.specs.Body.{last_or}
 use Rattle.tilt_code.specs.Code.{LoopParts, CodeParts}
 use Rattle.tilt_code.specs.Meaning.{IsTimed, loop_of, with_loops, meaning_of}
 use Rattle.tilt_code.specs.Run.{buffers_of, run_of}
-use Rattle.tilt_fuse.specs.FusedTree.{PlannedLoop}
-use Rattle.tilt_fuse.specs.Plan.{fused, plain_loops}
-use Rattle.tilt_lower.proofs.All.{Held, held-agrees, held-input, all_held, with_loops-front}
+use Rattle.tilt_fuse.proofs.Law.{or-second}
+use Rattle.tilt_fuse.proofs.Planned.{rest-loop}
+use Rattle.tilt_fuse.specs.FusedTree.{FusedTree, PlannedLoop}
+use Rattle.tilt_fuse.specs.Plan.{fused, is_merged, loops_from, plan_of, has_loop}
+use Rattle.tilt_fuse.specs.Trees.{IsKnown}
 use Rattle.tilt_lower.proofs.Blocks.{last_or-pushed}
-use Rattle.tilt_lower.proofs.Numbers.{buffer_of-input, Placed, are-placed, loops_for, lowered-are}
-use Rattle.tilt_lower.proofs.Single.{source_of-at}
+use Rattle.tilt_lower.proofs.Numbers.{loops_from-behind, buffer_of-next}
+use Rattle.tilt_lower.proofs.States.{AreLowered, State, state, with_loops-grow, length-with_loops}
 use Rattle.tilt_lower.proofs.Snapped.{snapshots-agree}
-use Rattle.tilt_lower.specs.Law.{LiesWithin, MeansTheQuery}
-use Rattle.tilt_lower.specs.Lowering.{buffer_of, loop_on, code_of}
-use Rattle.tilt_stream.proofs.Locality.{same-agrees, narrower-agrees}
+use Rattle.tilt_lower.specs.Law.{LiesWithin, MeansTheQuery, has_buffer}
+use Rattle.tilt_lower.specs.Lowering.{buffer_of, loop_on, no_definition, lowered, code_of}
+use Rattle.tilt_stream.proofs.Locality.{narrower-agrees}
 use Rattle.tilt_stream.specs.Agreement.{Agree}
 use Rattle.tilt_stream.specs.Pointwise.{nothing}
 use Rattle.tilt_stream.specs.Snap.{Snapshot}
 use Rattle.tilt_stream.specs.Snapshots.{snapshots}
 use Rattle.tilt_stream.specs.Stream.{Stream, stream_of}
 use Rattle.tilt_syntax.specs.declared.span.Span.{Span}
-use Rattle.tilt_types.proofs.Sources.{with_definitions-front}
-use Rattle.tilt_types.specs.Core.{CoreParts, IsCore, domain_of, emitted_number}
+use Rattle.tilt_types.specs.Core.{CoreParts, domain_of, emitted_number}
 use Rattle.tilt_types.specs.CoreTree.{Definition}
-use Rattle.tilt_types.specs.Meaning.{with_definitions, meaning}
-use Rattle.tilt_types.specs.Needs.{Need, no_margin, asked_from, needs_from, needs}
-
--- the loop of the emitted definition is the last one
-pub record Ends (lo hi : ℤ) (buffer : ℕ → ℕ) (number count : ℕ) (defs : List Definition) (ns : List (Option Need)) : Type 0 where
-  pub front : List LoopParts
-  pub def : Definition
-  pub loops : loops_for lo hi buffer defs ns ≡ front ++ loop_on (stretch_of def no_margin lo hi) buffer def (fused [] def.body) ∷ []
-  pub domain : domain_of defs ≡ def.over
-  pub place : ℕ
-  pub last : length defs ≡ suc place
-  pub need : get_or ns place None ≡ Some no_margin
-  pub at : buffer (number + place) ≡ count + length front
-
-module _ (lo hi : ℤ) (buffer : ℕ → ℕ) where
-  one_before : (number count : ℕ) (def next : Definition) (defs : List Definition) (m : Option Need) (ns : List (Option Need)) → Placed buffer number count (m ∷ ns)
-      → ((made : ℕ) → Placed buffer (suc number) made ns → Ends lo hi buffer (suc number) made (next ∷ defs) ns) → Ends lo hi buffer number count (def ∷ next ∷ defs) (m ∷ ns)
-  one_before number count def next defs None ns placed rest =
-      let e = rest count placed in
-      let at : number + suc e.place ≡ suc number + e.place = omega arith in
-      record {
-        front = e.front;
-        def = e.def;
-        loops = e.loops;
-        domain = e.domain;
-        place = suc e.place;
-        last = ap suc e.last;
-        need = e.need;
-        at = ap buffer at ∙ e.at;
-      }
-  one_before number count def next defs (Some n) ns placed rest =
-      let e = rest (suc count) placed.1 in
-      let l = loop_on (stretch_of def n lo hi) buffer def (fused [] def.body) in
-      let at : number + suc e.place ≡ suc number + e.place = omega arith in
-      record {
-        front = l ∷ e.front;
-        def = e.def;
-        loops = ap (λ (ls : List LoopParts). l ∷ ls) e.loops;
-        domain = e.domain;
-        place = suc e.place;
-        last = ap suc e.last;
-        need = e.need;
-        at = ap buffer at ∙ e.at ∙ omega arith;
-      }
-
-  pub ends : (number count : ℕ) (defs : List Definition) → 0 < length defs → Placed buffer number count (needs_from number defs) → Ends lo hi buffer number count defs (needs_from number defs)
-  ends number count [] some placed = absurd (omega arith)
-  ends number count (def ∷ []) some placed =
-      let at : number + zero ≡ number = omega arith in
-      record {
-        front = [];
-        def = def;
-        loops = refl;
-        domain = refl;
-        place = zero;
-        last = refl;
-        need = refl;
-        at = ap buffer at ∙ placed.0 ∙ omega arith;
-      }
-  ends number count (def ∷ next ∷ defs) some placed =
-      one_before number count def next defs (asked_from (suc number) (next ∷ defs) number) (needs_from (suc number) (next ∷ defs)) placed
-      (λ made behind. ends (suc number) made (next ∷ defs) (omega arith) behind)
+use Rattle.tilt_types.specs.Meaning.{source_of, with_definitions, meaning}
+use Rattle.tilt_types.specs.Needs.{Need, no_margin, needs_from, needs}
 
 -- the stretch of the emitted definition is that of the output
 output_stretch : (over : Option Span) (lo hi : ℤ) → LiesWithin over lo hi
@@ -111,100 +54,216 @@ output_stretch (Some span) lo hi within =
     let test : int_lt lo hi ≡ true = grind (arith, ints) in
     rw (start, end, test) refl
 
--- loops over buffers are so many buffers more
-with_loops-grow : (bs : List Stream) (front : List LoopParts) (l : LoopParts) → with_loops bs (front ++ l ∷ []) ≡ with_loops bs front ++ loop_of (with_loops bs front) l ∷ []
-with_loops-grow bs [] l = refl
-with_loops-grow bs (first ∷ front) l = with_loops-grow (bs ++ loop_of bs first ∷ []) front l
+-- the last definition is needed on the output alone, and its span is the output domain
+last-need : (number place : ℕ) (defs : List Definition) → length defs ≡ suc place → get_or (needs_from number defs) place None ≡ Some no_margin
+last-need number place [] is = absurd (omega arith)
+last-need number zero (def ∷ []) is = refl
+last-need number (suc place) (def ∷ []) is = absurd (omega arith)
+last-need number zero (def ∷ next ∷ defs) is = absurd (omega arith)
+last-need number (suc place) (def ∷ next ∷ defs) is = last-need (suc number) place (next ∷ defs) (omega arith)
 
-length-with_loops : (bs : List Stream) (loops : List LoopParts) → length (with_loops bs loops) ≡ length bs + length loops
-length-with_loops bs [] = omega arith
-length-with_loops bs (l ∷ loops) =
-    let b = loop_of bs l in
-    omega (arith, length-with_loops (bs ++ b ∷ []) loops, length-append bs (b ∷ []))
+last-domain : (place : ℕ) (defs : List Definition) (other : Definition) → length defs ≡ suc place → domain_of defs ≡ (get_or defs place other).over
+last-domain place [] other is = absurd (omega arith)
+last-domain zero (def ∷ []) other is = refl
+last-domain (suc place) (def ∷ []) other is = absurd (omega arith)
+last-domain zero (def ∷ next ∷ defs) other is = absurd (omega arith)
+last-domain (suc place) (def ∷ next ∷ defs) other is = last-domain place (next ∷ defs) other (omega arith)
+
+-- it is never merged
+never-merged : (fuse : Bool) (def : Definition) (behind : List Definition) (ns : List (Option Need)) (number : ℕ) (t : FusedTree) → behind ≡ [] → (fuse && is_merged def behind ns number t) ≡ false
+never-merged false def behind ns number t is = refl
+never-merged true def behind ns number t is = rw is refl
 
 last-is : (bs : List Stream) (front : List LoopParts) (l : LoopParts) → last_or nothing (with_loops bs (front ++ l ∷ [])) ≡ get_or (with_loops bs (front ++ l ∷ [])) (length bs + length front) nothing
 last-is bs front l =
     let made = with_loops bs front in
     rw (with_loops-grow bs front l, ← length-with_loops bs front) (last_or-pushed nothing made (loop_of made l) ∙ sym (get_or-append_seam made (loop_of made l) [] nothing))
 
--- one stream agrees with itself on all that is asked
-agree_same : (n : Option Need) (lo hi : ℤ) (x y : Stream) → x ≡ y → AgreeAsAsked n lo hi x y
-agree_same None lo hi x y same = tt
-agree_same (Some n) lo hi x y same = subst (λ (z : Stream). Agree x z (lo -ℤ n.back) (hi +ℤ n.ahead)) same (same-agrees x (lo -ℤ n.back) (hi +ℤ n.ahead))
+has_loop-last : (front : List PlannedLoop) (l : PlannedLoop) (k : ℕ) → l.def ≡ k → has_loop (front ++ l ∷ []) k ≡ true
+has_loop-last [] l k is =
+    let test : (l.def == k) ≡ true = grind arith in
+    rw test refl
+has_loop-last (m ∷ front) l k is = or-second (m.def == k) (has_loop (front ++ l ∷ []) k) (has_loop-last front l k is)
 
-module _ (query : CoreParts) (margins : MarginsParts) (lo hi : ℤ) (is : IsCore query) (margins_are : margins.needs ≡ needs (length query.inputs) query.defs) where
+-- a definition without a loop has no buffer
+no_buffer : (inputs k : ℕ) (loops : List PlannedLoop) → has_loop loops k ≡ false → has_buffer inputs loops (inputs + k) ≡ false
+no_buffer inputs k loops none =
+    let test : nat_lt (inputs + k) inputs ≡ false = grind arith in
+    let at : inputs + k - inputs ≡ k = omega arith in
+    rw (test, at) none
+
+module _ (query : CoreParts) (margins : MarginsParts) (lo hi : ℤ) (used : List Bool) (known : IsKnown (length query.inputs) query.defs used)
+    (margins_are : margins.needs ≡ needs (length query.inputs) query.defs) (fuse : Bool) (loops : List PlannedLoop) (plan : loops ≡ plan_of query fuse)
+    (one_emitted : length query.defs ≡ suc (length query.names)) where
   abbrev inputs : ℕ
   inputs = length query.inputs
 
-  abbrev ns : List (Option Need)
-  ns = needs_from inputs query.defs
+  abbrev defs : List Definition
+  defs = query.defs
 
-  abbrev loops : List PlannedLoop
-  loops = plain_loops 0 query.defs ns
+  abbrev ns : List (Option Need)
+  ns = needs_from inputs defs
+
+  abbrev all : List (Option Need)
+  all = needs inputs defs
 
   abbrev buffer : ℕ → ℕ
   buffer = buffer_of inputs loops
 
+  abbrev lower : PlannedLoop → LoopParts
+  lower = lowered loops query margins lo hi
+
+  -- the place of the emitted definition
+  abbrev place : ℕ
+  place = length query.names
+
+  module _ (bs : List Stream) (many : length bs ≡ inputs) where
+    abbrev At : ℕ → Type 0
+    At = State query margins lo hi used known margins_are fuse loops plan bs many
+
+    -- before the emitted definition, and behind it
+    pub before : At place
+    before = state query margins lo hi used known margins_are fuse loops plan bs many place (omega (arith, one_emitted))
+
+    end : At (length defs)
+    end = state query margins lo hi used known margins_are fuse loops plan bs many (length defs) (omega arith)
+
+    front_all : end.front ≡ loops
+    front_all =
+        sym (append-nil end.front)
+        ∙ ap (λ (ds : List Definition). end.front ++ loops_from fuse inputs (length defs) end.merged ds (drop (length defs) ns)) (sym (drop-length defs))
+        ∙ sym end.loops_are
+
+    -- what is known of each loop
+    pub all-lowered : AreLowered query margins lo hi used known margins_are fuse loops plan inputs loops
+    all-lowered = subst (λ (ls : List PlannedLoop). AreLowered query margins lo hi used known margins_are fuse loops plan inputs ls) front_all end.lowered
+
+    sources-all : with_definitions bs defs ≡ end.xs
+    sources-all = end.rest ∙ ap (with_definitions end.xs) (drop-length defs)
+
+    -- the buffer of each source that has one agrees with the source
+    unmerged : (source : ℕ) → has_buffer inputs loops source ≡ true → (of : Option FusedTree) → get_or end.merged source None ≡ of → of ≡ None
+    unmerged source buffered None is = refl
+    unmerged source buffered (Some t) is =
+        let a = end.apart source t is in
+        let none : has_buffer inputs loops source ≡ false =
+        ap (has_buffer inputs loops) a.1.0 ∙ no_buffer inputs a.0 loops (subst (λ (ls : List PlannedLoop). has_loop ls a.0 ≡ false) front_all a.1.1) in
+        absurd (cc (sym none ∙ buffered))
+
+    abbrev made_buffers : List Stream
+    made_buffers = with_loops bs (map lower loops)
+
+    by_need : (source : ℕ) → has_buffer inputs loops source ≡ true → (m : Option Need) → need_at all source ≡ m
+        → AgreeAsAsked m lo hi (get_or made_buffers (buffer source) nothing) (source_of (with_definitions bs defs) source)
+    by_need source buffered None m_is = tt
+    by_need source buffered (Some m) m_is =
+        let below : source < inputs + length defs = elim (below_or_behind source (inputs + length defs)) [
+          | inl less ↦ less
+          | inr past ↦ (let at = past.1 in absurd (cc (sym (get_or_past all source None (omega (arith, length-needs inputs defs))) ∙ m_is)))
+        ] in
+        let has = end.have source below (unmerged source buffered (get_or end.merged source None) refl) m m_is in
+        let made : source_of end.ys source ≡ get_or made_buffers (buffer source) nothing =
+        has.1 ∙ ap (λ (ls : List PlannedLoop). get_or (with_loops bs (map lower ls)) (buffer source) nothing) front_all in
+        let agreed = subst (λ (k : Option Need). AgreeAsAsked k lo hi (source_of end.ys source) (source_of end.xs source)) m_is (end.agreed source below) in
+        subst (λ (y : Stream). Agree y (source_of (with_definitions bs defs) source) (lo -ℤ m.back) (hi +ℤ m.ahead)) made
+        (subst (λ (zs : List Stream). Agree (source_of end.ys source) (source_of zs source) (lo -ℤ m.back) (hi +ℤ m.ahead)) (sym sources-all) agreed)
+
+    buffers-agree : (source : ℕ) → has_buffer inputs loops source ≡ true
+        → AgreeAsAsked (need_at all source) lo hi (get_or made_buffers (buffer source) nothing) (source_of (with_definitions bs defs) source)
+    buffers-agree source buffered = by_need source buffered (need_at all source) refl
+
+    -- the loop of the emitted definition is the last one
+    abbrev def : Definition
+    def = get_or defs place no_definition
+
+    def_there : def ≡ get_or defs place def
+    def_there = get_or_default defs place no_definition (get_or defs place no_definition) (omega (arith, one_emitted))
+
+    abbrev pub last : PlannedLoop
+    last = record { def = place; body = fused before.merged def.body }
+
+    none_behind : drop (suc place) defs ≡ []
+    none_behind = ap (λ (k : ℕ). drop k defs) (sym one_emitted) ∙ drop-length defs
+
+    ends : loops ≡ before.front ++ last ∷ []
+    ends =
+        let low : place < length defs = omega (arith, one_emitted) in
+        before.loops_are
+        ∙ ap (λ (ls : List PlannedLoop). before.front ++ ls)
+        (rest-loop inputs defs used known place low def def_there before.merged before.as_many before.trees fuse no_margin (last-need inputs place defs one_emitted)
+        (never-merged fuse def (drop (suc place) defs) (drop (suc place) ns) (inputs + place) (fused before.merged def.body) none_behind)
+        ∙ ap (λ (ds : List Definition). last ∷ loops_from fuse inputs (suc place) (before.merged ++ None ∷ []) ds (drop (suc place) ns)) none_behind)
+
+    pub some-loop : 0 < length loops
+    some-loop = omega (arith, ap length ends, length-append before.front (last ∷ []))
+
+    emitted-buffered : has_buffer inputs loops (inputs + place) ≡ true
+    emitted-buffered =
+        let test : nat_lt (inputs + place) inputs ≡ false = grind arith in
+        let at : inputs + place - inputs ≡ place = omega arith in
+        rw (test, at) (ap (λ (ls : List PlannedLoop). has_loop ls place) ends ∙ has_loop-last before.front last place refl)
+
+    emitted-buffer : buffer (inputs + place) ≡ inputs + length before.front
+    emitted-buffer =
+        ap (λ (ls : List PlannedLoop). buffer_of inputs ls (inputs + place)) before.loops_are
+        ∙ buffer_of-next inputs place before.front (loops_from fuse inputs place before.merged (drop place defs) (drop place ns)) before.before
+        (loops_from-behind fuse inputs place before.merged (drop place defs) (drop place ns))
+
+    loops_end : map lower loops ≡ map lower before.front ++ lower last ∷ []
+    loops_end = ap (map lower) ends ∙ map-append lower before.front (last ∷ [])
+
+  emitted-need : need_at all (inputs + place) ≡ Some no_margin
+  emitted-need = need_at-definition inputs defs place ∙ last-need inputs place defs one_emitted
+
+  -- the stretch of its loop is that of the output
+  stretch-last : (t : FusedTree) → LiesWithin (domain_of defs) lo hi
+      → lower (record { def = place; body = t }) ≡ loop_on (record { lo = lo; hi = hi; empty = false }) buffer (get_or defs place no_definition) t
+  stretch-last t within =
+      let def = get_or defs place no_definition in
+      let need_there : unwrap_or (need_at margins.needs (inputs + place)) no_margin ≡ no_margin =
+      ap (λ (ms : List (Option Need)). unwrap_or (need_at ms (inputs + place)) no_margin) margins_are ∙ ap (λ (m : Option Need). unwrap_or m no_margin) emitted-need in
+      ap (λ (m : Need). loop_on (stretch_of def m lo hi) buffer def t) need_there
+      ∙ ap (λ (s : LoopSpan). loop_on s buffer def t)
+      (output_stretch def.over lo hi (subst (λ (o : Option Span). LiesWithin o lo hi) (last-domain place defs no_definition one_emitted) within))
+
   abbrev made : CodeParts
   made = code_of loops query margins lo hi
 
-  pub made_loops : made.loops ≡ loops_for lo hi buffer query.defs ns
-  made_loops = lowered-are loops query margins lo hi margins_are
-
-  pub buffers_placed : Placed buffer inputs inputs ns
-  buffers_placed = are-placed inputs query.defs ns (sym (length-needs_from inputs query.defs))
-
-  module _ (timed : AllByRecursion IsTimed made.loops) (rows : List (List Snapshot)) (many : length rows ≡ inputs) where
+  module _ (timed : AllByRecursion IsTimed made.loops) (rows : List (List Snapshot)) (rows_are : length rows ≡ inputs) where
     abbrev bs : List Stream
     bs = map stream_of rows
 
     bs_are : length bs ≡ inputs
-    bs_are = length-map rows stream_of ∙ many
+    bs_are = length-map rows stream_of ∙ rows_are
 
-    held : (k : ℕ) → Held lo hi buffer (with_loops bs made.loops) (with_definitions bs query.defs) (inputs + k) (get_or ns k None)
-    held k =
-        rw made_loops
-        (all_held lo hi buffer inputs query.defs bs bs inputs bs_are bs_are is.definitions buffers_placed
-        (λ source low. held-input lo hi buffer bs source (asked_from inputs query.defs source) (omega (arith, bs_are)) (buffer_of-input inputs loops source low)) k)
-
-    -- the buffer of each source agrees with it
-    as_needed : (source : ℕ) → AgreeAsAsked (need_at (needs inputs query.defs) source) lo hi (get_or (with_loops bs made.loops) (buffer source) nothing) (meaning rows query.defs source)
-    as_needed source =
-        elim (below_or_behind source inputs) [
-          | inl low ↦ agree_same (need_at (needs inputs query.defs) source) lo hi (get_or (with_loops bs made.loops) (buffer source) nothing) (meaning rows query.defs source)
-              (ap (λ (i : ℕ). get_or (with_loops bs made.loops) i nothing) (buffer_of-input inputs loops source low)
-              ∙ with_loops-front bs made.loops source (omega (arith, bs_are)) ∙ sym (source_of-at bs source) ∙ sym (with_definitions-front bs query.defs source (omega (arith, bs_are))))
-          | inr e ↦ rw (e.1, need_at-definition inputs query.defs e.0)
-              (held-agrees lo hi buffer (with_loops bs made.loops) (with_definitions bs query.defs) (inputs + e.0) (get_or ns e.0 None) (held e.0))
-        ]
-
-    agrees : (source : ℕ) → AgreeAsAsked (need_at margins.needs source) lo hi (get_or (map stream_of (buffers_of made rows)) (buffer source) nothing) (meaning rows query.defs source)
-    agrees source =
-        subst (λ (all : List (Option Need)). AgreeAsAsked (need_at all source) lo hi (get_or (map stream_of (buffers_of made rows)) (buffer source) nothing) (meaning rows query.defs source)) (sym margins_are)
-        (subst (λ (ys : List Stream). AgreeAsAsked (need_at (needs inputs query.defs) source) lo hi (get_or ys (buffer source) nothing) (meaning rows query.defs source))
-        (sym (with_buffers-streams rows made.loops timed)) (as_needed source))
+    agrees : (source : ℕ) → has_buffer inputs loops source ≡ true
+        → AgreeAsAsked (need_at margins.needs source) lo hi (get_or (map stream_of (buffers_of made rows)) (buffer source) nothing) (meaning rows defs source)
+    agrees source buffered =
+        subst (λ (ms : List (Option Need)). AgreeAsAsked (need_at ms source) lo hi (get_or (map stream_of (buffers_of made rows)) (buffer source) nothing) (meaning rows defs source)) (sym margins_are)
+        (subst (λ (ys : List Stream). AgreeAsAsked (need_at all source) lo hi (get_or ys (buffer source) nothing) (meaning rows defs source))
+        (sym (with_buffers-streams rows made.loops timed)) (buffers-agree bs bs_are source buffered))
 
     -- the run gives what the query gives
-    runs : LiesWithin (domain_of query.defs) lo hi → run_of made rows ≡ snapshots (meaning rows query.defs (emitted_number query)) lo hi
+    runs : LiesWithin (domain_of defs) lo hi → run_of made rows ≡ snapshots (meaning rows defs (emitted_number query)) lo hi
     runs within =
-        let e = ends lo hi buffer inputs inputs query.defs (omega (arith, is.one_emitted)) buffers_placed in
-        let l = loop_on (stretch_of e.def no_margin lo hi) buffer e.def (fused [] e.def.body) in
-        let ends_so : made.loops ≡ e.front ++ l ∷ [] = made_loops ∙ e.loops in
-        let stretch : stretch_of e.def no_margin lo hi ≡ record { lo = lo; hi = hi; empty = false } = output_stretch e.def.over lo hi (subst (λ (o : Option Span). LiesWithin o lo hi) e.domain within) in
-        let at : inputs + e.place ≡ emitted_number query = omega (arith, e.last, is.one_emitted) in
-        let x = meaning rows query.defs (emitted_number query) in
-        let last_place : buffer (inputs + e.place) ≡ length bs + length e.front = omega (arith, e.at, bs_are) in
-        let emitted : Agree (get_or (with_loops bs made.loops) (buffer (inputs + e.place)) nothing) x (lo -ℤ pos 0) (hi +ℤ pos 0) =
-        rw (← at) (subst (λ (n : Option Need). Held lo hi buffer (with_loops bs made.loops) (with_definitions bs query.defs) (inputs + e.place) n) e.need (held e.place)).1 in
-        let meant : meaning_of made rows ≡ get_or (with_loops bs made.loops) (buffer (inputs + e.place)) nothing =
-        ap (λ (ls : List LoopParts). last_or nothing (with_loops bs ls)) ends_so ∙ last-is bs e.front l
+        let l = lower (last bs bs_are) in
+        let front = map lower (before bs bs_are).front in
+        let x = meaning rows defs (inputs + place) in
+        let y = get_or (with_loops bs made.loops) (buffer (inputs + place)) nothing in
+        let ends_so = loops_end bs bs_are in
+        let stretch = stretch-last (last bs bs_are).body within in
+        let last_place : buffer (inputs + place) ≡ length bs + length front =
+        emitted-buffer bs bs_are ∙ omega (arith, bs_are, length-map (before bs bs_are).front lower) in
+        let emitted : Agree y x (lo -ℤ pos 0) (hi +ℤ pos 0) =
+        subst (λ (m : Option Need). AgreeAsAsked m lo hi y x) emitted-need (buffers-agree bs bs_are (inputs + place) (emitted-buffered bs bs_are)) in
+        let meant : meaning_of made rows ≡ y =
+        ap (λ (ls : List LoopParts). last_or nothing (with_loops bs ls)) ends_so ∙ last-is bs front l
         ∙ (λ i. get_or (with_loops bs (sym ends_so i)) (sym last_place i) nothing) in
-        run-is made rows e.front l ends_so timed
-        ∙ (λ i. snapshots (meant i) (loop_on (stretch i) buffer e.def (fused [] e.def.body)).lo (loop_on (stretch i) buffer e.def (fused [] e.def.body)).hi)
-        ∙ snapshots-agree (get_or (with_loops bs made.loops) (buffer (inputs + e.place)) nothing) x lo hi
-        (narrower-agrees (get_or (with_loops bs made.loops) (buffer (inputs + e.place)) nothing) x (lo -ℤ pos 0) (hi +ℤ pos 0) lo hi emitted (omega (arith, ints)) (omega (arith, ints)))
+        run-is made rows front l ends_so timed
+        ∙ (λ i. snapshots (meant i) (stretch i).lo (stretch i).hi)
+        ∙ snapshots-agree y x lo hi (narrower-agrees y x (lo -ℤ pos 0) (hi +ℤ pos 0) lo hi emitted (omega (arith, ints)) (omega (arith, ints)))
 
-  pub means : AllByRecursion IsTimed made.loops → LiesWithin (domain_of query.defs) lo hi → MeansTheQuery query margins loops lo hi made
+  pub means : AllByRecursion IsTimed made.loops → LiesWithin (domain_of defs) lo hi → MeansTheQuery query margins loops lo hi made
   means timed within = record {
     runs = λ rows many. runs timed rows many within;
     agrees = λ rows many source. agrees timed rows many source;

@@ -1,11 +1,14 @@
 // The loop of a definition.
-ghost use Rattle.std.specs.Prelude.{◌≡◌, ◌+◌, ◌≤◌, length, IfOk};
+ghost use Rattle.std.specs.Prelude.{◌≡◌, ◌+◌, ◌*◌, ◌≤◌, length, IfOk};
 ghost use Rattle.tilt_fuse.specs.FusedTree.{fused_tree_of};
+ghost use Rattle.tilt_fuse.specs.Plan.{nodes};
+ghost use Rattle.tilt_fuse.specs.Trees.{HasMaps};
 ghost use Rattle.tilt_lower.specs.Constants.{ConstantsFit};
-ghost use Rattle.tilt_lower.specs.Lowering.{buffer_of, loop_on, maps, null_on, registers};
+ghost use Rattle.tilt_lower.specs.Lowering.{buffer_of, loop_on, null_on};
 
 use crate::buffers::Buffers;
 use crate::instructions::block_of;
+use crate::map_blocks::maps_of;
 use std::alloc::{AllocError as OutOfMemory, Global};
 use tilt_base::Grid;
 use tilt_bounds::LoopSpan;
@@ -13,8 +16,7 @@ use tilt_code::{Instr, Loop};
 use tilt_fuse::Fused;
 use tilt_types::Def;
 
-/// The loop of a definition with this expression, which has no maps, on this stretch; null on all of it where the stretch is
-/// told to be empty.
+/// The loop of a definition with this expression, on this stretch; null on all of it where the stretch is told to be empty.
 pub fn loop_on(
     alloc: Global,
     span: LoopSpan,
@@ -22,8 +24,8 @@ pub fn loop_on(
     def: &Def,
     tree: &Fused,
 ) -> Result<Loop, OutOfMemory>
-    requires few { registers (fused_tree_of tree.now) ≤ 256 }
-    requires plain { maps (fused_tree_of tree.now) ≡ 0 }
+    requires small { nodes (fused_tree_of tree.now) ≤ 65 * 256 }
+    requires maps { HasMaps (fused_tree_of tree.now) }
     requires buffers { buffers.now.inputs + length buffers.now.loops.now ≤ 256 }
     ensures made { IfOk result (λ made. made
         ≡ loop_on span (buffer_of buffers.now.inputs buffers.now.loops.now) def.now (fused_tree_of tree.now)) }
@@ -32,12 +34,13 @@ pub fn loop_on(
     if span.empty {
         return null_loop(alloc, span.lo, span.hi);
     }
+    let maps = maps_of(alloc, tree)?;
     let body = block_of(alloc, tree, buffers)?;
     Ok(Loop {
         lo: span.lo,
         hi: span.hi,
         grid: def.grid,
-        maps: Vec::new(alloc),
+        maps,
         body,
     })
 }

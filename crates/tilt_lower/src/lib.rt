@@ -8,6 +8,7 @@
 mod buffers;
 mod definition_loop;
 mod instructions;
+mod map_blocks;
 mod query_code;
 #[cfg(test)]
 mod tests;

@@ -1,8 +1,7 @@
 // The code of a query.
-ghost use Rattle.std.specs.Prelude.{◌≡◌, false, Ok, IfOk};
+ghost use Rattle.std.specs.Prelude.{◌≡◌, Ok, IfOk};
 ghost use Rattle.tilt_bounds.specs.Margins.{margins_of};
-ghost use Rattle.tilt_fuse.specs.Plan.{plan_of};
-ghost use Rattle.tilt_lower.specs.Law.{LiesWithin, MeansTheQuery};
+ghost use Rattle.tilt_lower.specs.Law.{IsPlan, LiesWithin, MeansTheQuery};
 ghost use Rattle.tilt_lower.specs.Lowering.{code_of};
 ghost use Rattle.tilt_types.specs.Core.{domain_of};
 
@@ -16,7 +15,7 @@ use tilt_lexer::Name;
 use tilt_types::Core;
 
 /// The code of a query for the output on `(lo, hi]`, in ticks, which lies within the query's output domain. The plan is the
-/// query's without fusion, and the margins are the query's.
+/// query's, with fusion or without, and the margins are the query's.
 pub fn lower(
     alloc: Global,
     plan: &LoopList,
@@ -25,7 +24,7 @@ pub fn lower(
     lo: i64,
     hi: i64,
 ) -> Result<Code, OutOfMemory>
-    requires plan { plan.now.loops.items ≡ plan_of core.now false }
+    requires plan { IsPlan core.now plan.now.loops.items }
     requires margins { margins_of core.now ≡ Ok margins.now }
     requires output { LiesWithin (domain_of core.now.defs) lo hi }
     ensures code { IfOk result (λ code. code ≡ code_of plan.now.loops.items core.now margins.now lo hi) }

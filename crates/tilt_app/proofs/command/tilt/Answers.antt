@@ -1,7 +1,7 @@
-use Rattle.std.proofs.Common.{◌≡◌, ◌∙◌, sym, ap, subst, inl, inr, List, ℕ}
+use Rattle.std.proofs.Common.{◌∙◌, sym, ap, subst, inl, inr}
 use Rattle.tilt_words.specs.Command.{CommandValue, command_of, texts}
 use Rattle.tilt_app.specs.Outcome.{IsBuilt, IsCommandOutcome, HasCommandTurn, IsOutcome, does, HasTurn}
-use Rattle.tilt_report.specs.Report.{Report, report_of, status_of}
+use Rattle.tilt_report.specs.Report.{report_of, status_of}
 use Rattle.tilt_app.proofs.Complete.{printed_or_refused, only_memory, the_refusal, wider_cause, status_of_usage, unbuilt_status, cause_of_usage, cause_of_words}
 use Rattle.tilt_app.proofs.Once.{outcome_once, no_usage}
 use Rattle.tilt_app.proofs.command.tilt.Goals as goal

@@ -1,9 +1,7 @@
-use Rattle.std.proofs.Common.{◌≡◌, sym, ◌∙◌, rules}
 use Rattle.std.proofs.lemmas.Result.{err_from_is_err_and}
 use Rattle.tilt_words.specs.Binding.{bindings_of}
 use Rattle.tilt_app.specs.FileCommand.{own_turn, done}
 use Rattle.tilt_app.proofs.Files.{file_undone, inputs_undone, turn_of_input}
-use Rattle.tilt_load.specs.CodeFile.{TakesCode, RefusesCode}
 use Rattle.tilt_report.specs.Report.{report_of}
 use Rattle.tilt_app.proofs.exec.exec.Goals as goal
 

@@ -1,4 +1,4 @@
-use Rattle.std.proofs.Common.{◌≡◌, FitsSigned, w64, rules}
+use Rattle.std.proofs.Common.{FitsSigned, w64, rules}
 use Rattle.std.proofs.lemmas.Int.{to_z-of_z}
 use Rattle.std.proofs.lemmas.Result.{IfOk-weaker}
 use Rattle.tilt_app.proofs.Compiled.{compiled_output, domain-within}

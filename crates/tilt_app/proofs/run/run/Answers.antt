@@ -1,10 +1,9 @@
-use Rattle.std.proofs.Common.{◌≡◌, ap, sym, ◌∙◌, List, Some}
+use Rattle.std.proofs.Common.{ap, sym, ◌∙◌, List, Some}
 use Rattle.tilt_stream.specs.Snap.{Snapshot}
 use Rattle.std.proofs.lemmas.Result.{err_from_is_err_and}
 use Rattle.tilt_words.specs.Binding.{bindings_of}
 use Rattle.tilt_app.specs.FileCommand.{own_turn, done}
 use Rattle.tilt_app.proofs.Files.{file_undone, inputs_undone, turn_of_input}
-use Rattle.tilt_load.specs.QueryFile.{TakesQuery, RefusesQuery}
 use Rattle.tilt_report.specs.Report.{report_of}
 use Rattle.tilt_app.proofs.run.run.Goals as goal
 

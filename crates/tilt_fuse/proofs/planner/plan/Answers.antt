@@ -1,20 +1,33 @@
-use Rattle.std.proofs.Common.{◌≡◌, ◌∙◌, ap, sym, subst, length, List, false}
+use Rattle.std.proofs.Common.{◌≡◌, sym, subst, length, List, ℕ}
+use Rattle.tilt_fuse.proofs.Means.{plan-means, all-planned}
+use Rattle.tilt_fuse.proofs.Near.{known-is}
 use Rattle.tilt_fuse.specs.FusedTree.{PlannedLoop}
-use Rattle.tilt_fuse.specs.Plan.{plan_of, plain_loops}
+use Rattle.tilt_fuse.specs.Plan.{plan_of}
 use Rattle.tilt_fuse.specs.Streams.{MeanTheirBodies}
-use Rattle.tilt_fuse.proofs.Plain.{plan_of-plain, plan-means}
-use Rattle.tilt_types.specs.Needs.{needs_from}
+use Rattle.tilt_fuse.specs.Trees.{IsKnown}
+use Rattle.tilt_types.specs.CoreTree.{Definition}
 use Rattle.tilt_fuse.proofs.planner.plan.Goals as goal
 
+pub plan_definition-requires-clause-known : goal.plan_definition-requires-clause-known
+plan_definition-requires-clause-known c =
+    known-is c.args.core.now c.inputs-inputs.result.now c.defs-defs.result.now c.deref.result.now c.in_ok-used.used.items c.inputs-inputs.ensures.names c.defs-defs.ensures.defs
+    c.deref.ensures.value c.in_ok-used.ensures c.inputs-inputs.ensures.accepted c.requires.reaches
+
 -- the loops are those of the plan
-planned : (c : goal.After-drop-used-2) → c.in_ok-loops.loops.items ≡ plan_of c.args.core.now false
+planned : (c : goal.After-drop-used-2) → c.loop-place.progress.loops.items ≡ plan_of c.args.core.now c.args.fuse
 planned c =
-    c.in_ok-loops.ensures
-    ∙ (λ i. plain_loops 0 (c.defs-defs.ensures.defs i) (needs_from (length (c.inputs-inputs.ensures.names i)) (c.defs-defs.ensures.defs i)))
-    ∙ sym (plan_of-plain c.args.core.now)
+    all-planned c.args.core.now c.inputs-inputs.result.now c.defs-defs.result.now c.args.fuse c.loop-place.place c.loop-place.progress.merged.items c.loop-place.progress.loops.items
+    c.inputs-inputs.ensures.names c.defs-defs.ensures.defs c.loop-place.invariant c.loop-place-test.false
 
 pub returns-clause-plan : goal.returns-clause-plan
-returns-clause-plan c = planned c ∙ ap (plan_of c.args.core.now) (sym c.requires.unfused)
+returns-clause-plan c = planned c
 
 pub returns-clause-means : goal.returns-clause-means
-returns-clause-means c = subst (λ (loops : List PlannedLoop). MeanTheirBodies c.args.core.now loops) (sym (planned c)) (plan-means c.args.core.now)
+returns-clause-means c =
+    let core = c.args.core.now in
+    let known = known-is core c.inputs-inputs.result.now c.defs-defs.result.now c.deref.result.now c.in_ok-used.used.items c.inputs-inputs.ensures.names c.defs-defs.ensures.defs
+    c.deref.ensures.value c.in_ok-used.ensures c.inputs-inputs.ensures.accepted c.requires.reaches in
+    let same : IsKnown (length core.inputs) core.defs c.deref.result.now =
+    subst (λ (ds : List Definition). IsKnown (length core.inputs) ds c.deref.result.now) c.defs-defs.ensures.defs
+    (subst (λ (ns : List (List ℕ)). IsKnown (length ns) c.defs-defs.result.now c.deref.result.now) c.inputs-inputs.ensures.names known) in
+    subst (λ (loops : List PlannedLoop). MeanTheirBodies core loops) (sym (planned c)) (plan-means core c.args.fuse c.deref.result.now same)

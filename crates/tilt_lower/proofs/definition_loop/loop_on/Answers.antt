@@ -1,10 +1,14 @@
-use Rattle.std.proofs.Common.{rules, ◌≡◌, []}
+use Rattle.std.proofs.Common.{arith}
 use Rattle.tilt_fuse.specs.FusedTree.{fused_tree_of}
-use Rattle.tilt_lower.proofs.Blocks.{plain-maps_of}
-use Rattle.tilt_lower.specs.Lowering.{maps_of}
+use Rattle.tilt_lower.proofs.Bounds.{registers-few, maps-few}
 use Rattle.tilt_lower.proofs.definition_loop.loop_on.Goals as goal
 
-pub returns-clause-made : goal.returns-clause-made
-returns-clause-made c =
-    let none : maps_of (fused_tree_of c.args.tree.now) ≡ [] = plain-maps_of (fused_tree_of c.args.tree.now) c.requires.plain in
-    rw (c.if-span.false, none) (search rules)
+pub block_of-requires-clause-few : goal.block_of-requires-clause-few
+block_of-requires-clause-few c =
+    let small = c.requires.small in
+    omega (arith, registers-few (fused_tree_of c.args.tree.now))
+
+pub block_of-requires-clause-few_maps : goal.block_of-requires-clause-few_maps
+block_of-requires-clause-few_maps c =
+    let small = c.requires.small in
+    omega (arith, maps-few (fused_tree_of c.args.tree.now))

@@ -1,0 +1,21 @@
+use Rattle.std.proofs.Common.{◌≡◌}
+use Rattle.std.proofs.lemmas.Result.{err_from_is_err_and}
+use Rattle.tilt_app.specs.Explain.{IsExplainOutcome, no_query, told}
+use Rattle.tilt_load.specs.QueryFile.{RefusesQuery}
+use Rattle.tilt_load.proofs.Loads.{load_fault_weaker}
+use Rattle.tilt_report.specs.Report.{refused, refusal, report_of}
+use Rattle.tilt_app.proofs.explain.explain.Goals as goal
+
+pub returns-in_err-query-clause-fault : goal.returns-in_err-query-clause-fault
+returns-in_err-query-clause-fault g c =
+    let p = err_from_is_err_and c.from_residual.result c.from_residual.ensures.1 in
+    let tells = g.S.Shelf.tells in
+    let files = g.S.Shelf.files c.args.shelf.now in
+    let query = c.args.query.now in
+    rw (p.1, p.2) (load_fault_weaker tells tells (RefusesQuery query (files query)) (λ why. IsExplainOutcome files query (refused (refusal why))) (λ which. which ≡ query) (λ which. which ≡ query) _ _ _ _
+    (λ t. t) (λ why t is. no_query why is) (λ which rose same. (rose, same)) (report_of c.in_err-query.field-0.0) c.in_err-query.ensures.fault)
+
+pub returns-clause-printed : goal.returns-clause-printed
+returns-clause-printed g c =
+    λ shelf_tells.
+    rw c.in_ok-explain_text.ensures.text (told c.in_ok-query.query.core c.in_ok-query.query.margins (c.in_ok-query.ensures.taken shelf_tells) c.in_ok-query.ensures.margins)

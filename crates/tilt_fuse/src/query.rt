@@ -1,0 +1,10 @@
+use tilt_types::Def;
+
+/// The definitions of a query behind so many inputs, which of its sources are used, and whether definitions are merged.
+#[derive(Clone, Copy)]
+pub struct Query<'a> {
+    pub inputs: usize,
+    pub defs: &'a [Def],
+    pub used: &'a [bool],
+    pub fuse: bool,
+}
