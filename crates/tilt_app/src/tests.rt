@@ -308,6 +308,65 @@ const MEANINGS: &[(&str, &str, &str, &str)] = &[
         "",
         "0,1,1 1,2,1 2,3,1 3,4,1",
     ),
+    // Ten shifts that become one.
+    (
+        "input x; let a = x[t-1]; let b = a[t-1]; let c = b[t-1]; let d = c[t-1]; let e = d[t-1]; let f = e[t-1]; let g = f[t-1]; let h = g[t-1]; let i = h[t-1]; emit i[t-1] over (0, 15];",
+        "0,3,7",
+        "",
+        "10,13,7",
+    ),
+    // A window that is shifted twice.
+    (
+        "input x; let w = sum(x[t-2:t]); let v = w[t-1]; emit v[t-1] over (0, 6];",
+        "0,3,1",
+        "",
+        "2,3,1 3,5,1 5,6,1",
+    ),
+    // A definition at two offsets, and one that is a window's source and read by itself.
+    (
+        "input x; let y = x + 1; emit y[t-1] - y[t-2] over (0, 6];",
+        "0,2,3 2,5,7",
+        "",
+        "2,3,0 3,4,4 4,6,0",
+    ),
+    (
+        "input x; let y = x * 2; emit sum(y[t-2:t]) + y over (0, 4];",
+        "0,1,1 1,3,2",
+        "",
+        "0,1,4 1,2,10 2,3,8",
+    ),
+    // A constant under a window, and a period of 1.
+    (
+        "input x; let c = 5; emit sum(c[t-3:t]) over (0, 5];",
+        "0,4,3",
+        "",
+        "0,5,5",
+    ),
+    (
+        "input x; let y = x[t-1] every 1; emit y + 0 over (0, 4];",
+        "0,2,3",
+        "",
+        "1,3,3",
+    ),
+    // Windows by maps, three in one expression, and over what no row covers.
+    (
+        "input x; let a = x + 1; emit if sum(a[t-1:t]) > 3 then max(a[t-2:t]) else min(a[t-2:t]) over (0, 3];",
+        "0,1,1 1,3,4",
+        "",
+        "0,1,2 1,2,5 2,3,5",
+    ),
+    (
+        "input x; let y = ifnull(x, 0); emit count(y[t-3:t]) over (0, 6];",
+        "2,4,5",
+        "",
+        "0,2,1 2,4,2 4,6,2",
+    ),
+    (
+        "input x; let y = ifnull(x, 0); emit count(y[t-3:t]) over (0, 6];",
+        "",
+        "",
+        "0,6,1",
+    ),
 ];
 
 // The bytes of a series file with these rows, which stand with a blank between them.
