@@ -45,16 +45,7 @@ fn emit(
 {
     match tree {
         Fused::Const(number) => push_constant(block, *number),
-        Fused::Port { source, offset } => {
-            let buffer = buffer_of(buffers, *source);
-            push(
-                block,
-                Instr::Port {
-                    buffer,
-                    offset: *offset,
-                },
-            )
-        }
+        Fused::Port { source, offset } => push_port(block, buffers, *source, *offset),
         Fused::Win {
             reducer,
             source,
@@ -66,17 +57,14 @@ fn emit(
                 None => None,
                 Some(_) => Some(take_number(next_map)),
             };
-            let buffer = buffer_of(buffers, *source);
-            push(
-                block,
-                Instr::Win {
-                    reducer: *reducer,
-                    buffer,
-                    from: *from,
-                    to: *to,
-                    map,
-                },
-            )
+            let window = Instr::Win {
+                reducer: *reducer,
+                buffer: buffer_of(buffers, *source),
+                from: *from,
+                to: *to,
+                map,
+            };
+            push(block, window)
         }
         Fused::Argument => push(block, Instr::Argument),
         Fused::One(op, a) => {
@@ -95,6 +83,23 @@ fn emit(
             push(block, Instr::If(c, a, b))
         }
     }
+}
+
+// Adds the reading of a source at an offset.
+fn push_port(
+    block: &mut Vec<Instr>,
+    buffers: &Buffers,
+    source: u32,
+    offset: i64,
+) -> Result<u32, OutOfMemory>
+    requires few { length block.old.items < 2 ^ 32 }
+    requires buffers { buffers.now.inputs + length buffers.now.loops.now ≤ 256 }
+    ensures block { OnOk result (block.new.items
+        ≡ block.old.items ++ Instr.Port (buffer_of buffers.now.inputs buffers.now.loops.now source) offset ∷ []) }
+    ensures register { IfOk result (λ register. register ≡ length block.old.items) }
+{
+    let buffer = buffer_of(buffers, source);
+    push(block, Instr::Port { buffer, offset })
 }
 
 // The next number, which is taken.
