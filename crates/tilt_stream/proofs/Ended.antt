@@ -51,7 +51,7 @@ cell_by None tick = None
 cell_by (Some s) tick = if int_lt s.start tick then s.value else None
 
 -- none ends below a tick at or below the lower bound of all
-none_ended : (from limit : ℤ) (list : List Snapshot) (tick : ℤ) → InOrder from limit list → tick ≤ℤ from → ended_below tick list ≡ 0
+pub none_ended : (from limit : ℤ) (list : List Snapshot) (tick : ℤ) → InOrder from limit list → tick ≤ℤ from → ended_below tick list ≡ 0
 none_ended from limit [] tick h low = refl
 none_ended from limit (s ∷ ss) tick h low =
     let a = h.0 in

@@ -2,6 +2,7 @@ pub mod Constancy
 pub mod Locality
 pub mod Mapped
 pub mod Order
+pub mod Places
 pub mod Cut
 pub mod Ended
 pub mod Filled

@@ -33,6 +33,22 @@ AreSnapshots-push xs s h starts touches width ends = record {
   touch = Touch-push xs s h.touch touches;
 }
 
+-- snapshots without those behind them are in order and touch
+pub InOrder-front : (from limit : ℤ) (xs ys : List Snapshot) → InOrder from limit (xs ++ ys) → InOrder from limit xs
+InOrder-front from limit [] ys h = tt
+InOrder-front from limit (x ∷ xs) ys h = (h.0, h.1, h.2, InOrder-front x.end limit xs ys h.3)
+
+pub Touch-front : (xs ys : List Snapshot) → Touch (xs ++ ys) → Touch xs
+Touch-front [] ys h = tt
+Touch-front (x ∷ []) ys h = tt
+Touch-front (x ∷ y ∷ xs) ys h = (h.0, Touch-front (y ∷ xs) ys h.1)
+
+pub AreSnapshots-front : (xs ys : List Snapshot) → AreSnapshots (xs ++ ys) → AreSnapshots xs
+AreSnapshots-front xs ys h = record {
+  in_order = InOrder-front (neg_ℤ WIDE) WIDE xs ys h.in_order;
+  touch = Touch-front xs ys h.touch;
+}
+
 -- the end of the item in the last place
 pub last_end-get : (xs : List Snapshot) → option_map (λ (s : Snapshot). s.end) (slice_get xs (length xs - 1)) ≡ last_end xs
 last_end-get [] = refl

@@ -44,3 +44,8 @@ abbrev pub gap_before : Option ℤ → ℤ → List Snapshot
 gap_before None start = []
 gap_before (Some end) start =
     if int_lt end start then record { start = end; end = start; value = None } ∷ [] else []
+
+-- the list with that start of its first one
+abbrev pub joined_open : ℤ → List Snapshot → List Snapshot
+joined_open start [] = []
+joined_open start (s ∷ ss) = record { start = start; end = s.end; value = s.value } ∷ ss

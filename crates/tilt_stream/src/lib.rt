@@ -2,16 +2,23 @@
 //!
 //! What comes in is rows; what goes out is a list of snapshots without gaps that has the same cell and the same mark
 //! at every tick: the clause `stream` of `SnapList::from_rows`. A list answers for each tick which cell its stream has
-//! there (`value_at`), and where its next mark stands (`next_begin`), by a search that halves.
+//! there (`value_at`), and where its next mark stands (`next_begin`), by a search that halves. A `Cursor` answers the same of
+//! any `Buffer`, rows too, as it moves on with time: it takes the logarithm of how far it goes, and takes no memory.
 //!
 //! The definitions that all crates above share stand in `specs/`: streams and their marks, what scalar operators,
 //! windows, grids and stretches of time make of them, when two streams agree, and the snapshots of a stream and their text.
 #![tactic(auto)]
 
+mod buffer;
+mod cursor;
+mod join;
 mod rows;
 mod snap;
 mod snap_list;
 
+pub use buffer::Buffer;
+pub use cursor::Cursor;
+pub use join::join_open;
 pub use rows::Rows;
 pub use snap::{Row, Snap};
 pub use snap_list::SnapList;

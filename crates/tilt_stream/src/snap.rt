@@ -1,4 +1,4 @@
-ghost use Rattle.std.specs.Prelude.{◌≡◌};
+ghost use Rattle.std.specs.Prelude.{◌≡◌, ◌≤ℤ◌};
 ghost use Rattle.tilt_stream.specs.Snap.{last_end};
 
 use std::marker::Model;
@@ -29,6 +29,22 @@ impl Model for Snap {
     ghost invariant = { λ s. s.start <ℤ s.end };
 
     ghost inverse = { λ s. record { start = s.start; end = s.end; value = s.value } };
+}
+
+impl Snap {
+    // The same with that start, which isn't above its own.
+    pub(crate) fn opened_at(self, open_start: i64) -> Snap
+        requires { open_start ≤ℤ self.start }
+        ensures { result ≡ record { start = open_start; end = self.end; value = self.value } }
+    {
+        prove!(self.start < self.end);
+        let Snap { end, value, .. } = self;
+        Snap {
+            start: open_start,
+            end,
+            value,
+        }
+    }
 }
 
 /// Where the last one ends, or `None` where there is none.

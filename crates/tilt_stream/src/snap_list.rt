@@ -1,8 +1,8 @@
-ghost use Rattle.std.specs.Prelude.{◌≡◌, ◌<◌, [], ◌∷◌, ◌++◌, length, neg_ℤ, pos, ◌+ℤ◌, ◌<ℤ◌, ◌≤ℤ◌, slice_get, IsTrue, ◌↔◌, OnOk, OnErr, IfOk, IfSome};
+ghost use Rattle.std.specs.Prelude.{◌≡◌, ◌<◌, [], ◌∷◌, ◌++◌, length, neg_ℤ, pos, ◌+ℤ◌, ◌<ℤ◌, ◌≤ℤ◌, slice_get, IsTrue, ◌↔◌, OnOk, OnErr, IfOk, IfSome, MatchOption};
 ghost use Rattle.std.specs.Option.{ForSome};
 ghost use Rattle.tilt_base.specs.declared.limits.TheConstants.{WIDE};
 ghost use Rattle.tilt_stream.specs.Marks.{NamesNextMark};
-ghost use Rattle.tilt_stream.specs.Snap.{AreSnapshots, ended_below, gap_before, last_end};
+ghost use Rattle.tilt_stream.specs.Snap.{AreSnapshots, ended_below, gap_before, joined_open, last_end};
 ghost use Rattle.tilt_stream.specs.Stream.{cell_at, stream_of, SameStream};
 
 use crate::rows::Rows;
@@ -52,6 +52,13 @@ impl SnapList {
         Ok(())
     }
 
+    /// Takes the last snapshot off: `None` exactly where there is none. It takes no memory.
+    pub fn pop(&mut self) -> Option<Snap>
+        ensures { MatchOption result ((self.old ≡ []) × (self.new ≡ [])) (λ last. self.old ≡ self.new ++ last ∷ []) }
+    {
+        self.snaps.pop()
+    }
+
     /// The snapshots of rows: the rows, and one null snapshot for each gap between two of them. Their stream is that of
     /// the rows.
     pub fn from_rows(alloc: Global, rows: &Rows) -> Result<SnapList, OutOfMemory>
@@ -62,6 +69,17 @@ impl SnapList {
             list.push_row(*row)?;
         }
         Ok(list)
+    }
+
+    // Lets the first snapshot start at a tick that isn't above its start.
+    pub(crate) fn open_at(&mut self, open_start: i64)
+        requires some { 0 < length self.old }
+        requires low { neg_ℤ WIDE ≤ℤ open_start }
+        requires earlier { ForSome (slice_get self.old 0) (λ first. open_start ≤ℤ first.start) }
+        ensures { self.new ≡ joined_open open_start self.old }
+    {
+        let first = self.snaps[0];
+        self.snaps[0] = first.opened_at(open_start);
     }
 
     // Adds a row, behind a null snapshot where there is a gap.
@@ -176,6 +194,7 @@ impl SnapList {
 #[cfg(test)]
 mod tests {
     use super::*;
+    use crate::join::join_open;
     use std::test::Fail;
 
     const FIRST: Row = Row {
@@ -198,6 +217,12 @@ mod tests {
 
     const GAP: Snap = Snap {
         start: 5,
+        end: 6,
+        value: None,
+    };
+
+    const JOINED: Snap = Snap {
+        start: -7,
         end: 6,
         value: None,
     };
@@ -245,6 +270,15 @@ mod tests {
     }
 
     #[test]
+    fn the_last_snapshot_is_taken_off(rt: HostRuntime) -> Result<(), Fail> {
+        let mut list = SnapList::new(rt.alloc());
+        list.push(GAP)?;
+        assert_eq!(rt; list.pop(), Some(GAP));
+        assert_eq!(rt; list.pop(), None);
+        Ok(())
+    }
+
+    #[test]
     fn no_rows_make_no_snapshots(rt: HostRuntime) -> Result<(), Fail> {
         let rows = Rows::new(rt.alloc());
         assert!(rt; rows.is_empty());
@@ -253,6 +287,8 @@ mod tests {
         list.push(GAP)?;
         assert_eq!(rt; list.len(), 1);
         assert_eq!(rt; list.get(0), GAP);
+        let joined = join_open(list, -7);
+        assert_eq!(rt; joined.as_slice(), [JOINED].as_slice());
         Ok(())
     }
 }

@@ -1,0 +1,234 @@
+// Reading a buffer onwards.
+ghost use Rattle.std.specs.Prelude.{◌≡◌, ◌+◌, ◌<◌, ◌≤◌, neg_ℤ, pos, ◌+ℤ◌, ◌<ℤ◌, ◌≤ℤ◌, IfSome, IsTrue, ◌↔◌, length, slice_get};
+ghost use Rattle.tilt_base.specs.declared.limits.TheConstants.{WIDE};
+ghost use Rattle.tilt_stream.specs.Marks.{NamesNextMark};
+ghost use Rattle.tilt_stream.specs.Snap.{InOrder, ended_below};
+ghost use Rattle.tilt_stream.specs.Stream.{cell_at, stream_of};
+
+use crate::buffer::Buffer;
+use crate::snap::Snap;
+use tilt_base::Cell;
+
+/// A place in a buffer, which moves on with time. It stands at a tick: the place is that of the first snapshot that doesn't end
+/// below the tick. A buffer that made more snapshots since is fit for it too: then it has to move before it answers.
+#[derive(Clone, Copy, Debug)]
+pub struct Cursor {
+    tick: i64,
+    place: usize,
+}
+
+impl Cursor {
+    /// A cursor in front of all snapshots, at a tick below all of theirs. It is fit for any buffer.
+    pub fn new() -> Cursor
+        ensures { result ≡ record { tick = neg_ℤ (pos 9223372036854775808); place = 0 } }
+    {
+        Cursor {
+            tick: i64::MIN,
+            place: 0,
+        }
+    }
+
+    /// The tick at which it stands.
+    pub fn tick(&self) -> i64
+        ensures { result ≡ self.now.tick }
+    {
+        self.tick
+    }
+
+    /// The place of the first snapshot that doesn't end below the tick: no earlier one is read any more.
+    pub fn place(&self) -> usize
+        ensures { result ≡ self.now.place }
+    {
+        self.place
+    }
+
+    /// Moves to a tick that isn't below its own. It takes the logarithm of the number of snapshots that it passes, and reads one
+    /// where it passes none.
+    pub fn move_to<B: Buffer>(&mut self, buffer: &B, tick: i64)
+        requires fits { self.old.place ≤ ended_below self.old.tick (B.list buffer.now) }
+        requires kept { B.forgotten buffer.now ≤ self.old.place }
+        requires onwards { self.old.tick ≤ℤ tick }
+        ensures { self.new ≡ record { tick = tick; place = ended_below tick (B.list buffer.now) } }
+    {
+        let (low, high) = reach(buffer, self.place, tick);
+        self.place = parted(buffer, low, high, tick);
+        self.tick = tick;
+    }
+
+    /// The cell of the buffer's stream at the tick where the cursor stands.
+    pub fn value<B: Buffer>(&self, buffer: &B) -> Cell
+        requires stands { self.now.place ≡ ended_below self.now.tick (B.list buffer.now) }
+        requires kept { B.forgotten buffer.now ≤ self.now.place }
+        ensures { result ≡ cell_at (B.list buffer.now) self.now.tick }
+    {
+        let snap = snap_at(buffer, self.place)?;
+        if snap.start < self.tick {
+            snap.value
+        } else {
+            None
+        }
+    }
+
+    /// The least tick above that of the cursor at which the buffer's stream has a mark: where a snapshot begins, or one has ended.
+    /// `None` exactly where no such tick has a mark.
+    pub fn next<B: Buffer>(&self, buffer: &B) -> Option<i64>
+        requires stands { self.now.place ≡ ended_below self.now.tick (B.list buffer.now) }
+        requires kept { B.forgotten buffer.now ≤ self.now.place }
+        ensures next { NamesNextMark (stream_of (B.list buffer.now)) self.now.tick result }
+        ensures low { IfSome result (λ next. neg_ℤ WIDE <ℤ next) }
+        ensures high { IfSome result (λ next. next ≤ℤ (WIDE +ℤ pos 1)) }
+    {
+        let snap = snap_at(buffer, self.place)?;
+        if self.tick <= snap.start {
+            Some(snap.start + 1)
+        } else {
+            Some(snap.end + 1)
+        }
+    }
+}
+
+// The snapshot at a place, or none where so many weren't made.
+fn snap_at<B: Buffer>(buffer: &B, place: usize) -> Option<Snap>
+    requires kept { B.forgotten buffer.now ≤ place }
+    ensures snap { result ≡ slice_get (B.list buffer.now) place }
+    ensures low { IfSome result (λ snap. neg_ℤ WIDE ≤ℤ snap.start) }
+    ensures high { IfSome result (λ snap. snap.end ≤ℤ WIDE) }
+    ensures in_order { InOrder (neg_ℤ WIDE) WIDE (B.list buffer.now) }
+{
+    if place < buffer.made() {
+        Some(buffer.get(place))
+    } else {
+        None
+    }
+}
+
+// Whether the snapshot at a place ends below a tick.
+fn is_passed<B: Buffer>(buffer: &B, place: usize, tick: i64) -> bool
+    requires made { place < length (B.list buffer.now) }
+    requires kept { B.forgotten buffer.now ≤ place }
+    ensures { IsTrue result ↔ (place < ended_below tick (B.list buffer.now)) }
+{
+    buffer.get(place).end < tick
+}
+
+// Two places between which the first snapshot lies that doesn't end below a tick, or at one of them: by steps that double.
+fn reach<B: Buffer>(buffer: &B, from: usize, tick: i64) -> (usize, usize)
+    requires fits { from ≤ ended_below tick (B.list buffer.now) }
+    requires kept { B.forgotten buffer.now ≤ from }
+    ensures low { result.0 ≤ ended_below tick (B.list buffer.now) }
+    ensures high { ended_below tick (B.list buffer.now) ≤ result.1 }
+    ensures kept { B.forgotten buffer.now ≤ result.0 }
+    ensures made { result.1 ≤ length (B.list buffer.now) }
+{
+    let made = buffer.made();
+    let mut low = from;
+    let mut step = 1;
+    while step <= made - low {
+        if !is_passed(buffer, low + (step - 1), tick) {
+            return (low, low + (step - 1));
+        }
+        low += step;
+        step = step.saturating_add(step);
+    }
+    (low, made)
+}
+
+// The place between two at which the first snapshot lies that doesn't end below a tick: by halves.
+fn parted<B: Buffer>(buffer: &B, from: usize, to: usize, tick: i64) -> usize
+    requires low { from ≤ ended_below tick (B.list buffer.now) }
+    requires high { ended_below tick (B.list buffer.now) ≤ to }
+    requires kept { B.forgotten buffer.now ≤ from }
+    requires made { to ≤ length (B.list buffer.now) }
+    ensures { result ≡ ended_below tick (B.list buffer.now) }
+{
+    let mut low = from;
+    let mut high = to;
+    while low < high {
+        let middle = low + (high - low) / 2;
+        if is_passed(buffer, middle, tick) {
+            low = middle + 1;
+        } else {
+            high = middle;
+        }
+    }
+    low
+}
+
+#[cfg(test)]
+mod tests {
+    use super::*;
+    use crate::rows::Rows;
+    use crate::snap::Row;
+    use crate::snap_list::SnapList;
+    use std::test::Fail;
+
+    const FIRST: Row = Row {
+        start: 0,
+        end: 5,
+        value: Some(7),
+    };
+
+    const SECOND: Row = Row {
+        start: 6,
+        end: 8,
+        value: Some(9),
+    };
+
+    const NULL: Row = Row {
+        start: 8,
+        end: 9,
+        value: None,
+    };
+
+    const LAST: Row = Row {
+        start: 20,
+        end: 21,
+        value: Some(1),
+    };
+
+    // What a cursor answers at a tick, to which it came by another one that isn't above it.
+    fn answers<B: Buffer>(buffer: &B, by: i64, tick: i64) -> (Cell, Option<i64>)
+        requires { B.forgotten buffer.now ≡ 0 }
+    {
+        let mut cursor = Cursor::new();
+        if by <= tick {
+            cursor.move_to(buffer, by);
+        }
+        cursor.move_to(buffer, tick);
+        (cursor.value(buffer), cursor.next(buffer))
+    }
+
+    #[test]
+    fn a_cursor_tells_the_cell_and_the_next_mark(rt: HostRuntime) -> Result<(), Fail> {
+        let mut rows = Rows::new(rt.alloc());
+        rows.push(FIRST)?;
+        rows.push(SECOND)?;
+        rows.push(NULL)?;
+        rows.push(LAST)?;
+        let list = SnapList::from_rows(rt.alloc(), &rows)?;
+        for (by, tick, cell, next) in [
+            (i64::MIN, i64::MIN, None, Some(1)),
+            (0, 1, Some(7), Some(6)),
+            (1, 5, Some(7), Some(6)),
+            (5, 6, None, Some(7)),
+            (5, 8, Some(9), Some(9)),
+            (8, 9, None, Some(10)),
+            (9, 10, None, Some(21)),
+            (0, 21, Some(1), Some(22)),
+            (21, 22, None, None),
+            (0, i64::MAX, None, None),
+        ] {
+            assert_eq!(rt;
+                answers(&rows, by, tick),
+                (cell, next),
+                "in rows, at {tick}"
+            );
+            assert_eq!(rt;
+                answers(&list, by, tick),
+                (cell, next),
+                "in a list, at {tick}"
+            );
+        }
+        Ok(())
+    }
+}
