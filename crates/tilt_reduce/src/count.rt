@@ -2,7 +2,9 @@
 ghost use Rattle.std.specs.Prelude.{◌≡◌, length, pos};
 ghost use Rattle.tilt_base.specs.declared.reducer.Reducer.TheVariants.{Count};
 
+use crate::merge::Merge;
 use crate::reduction::Reduction;
+use crate::undo::Undo;
 use tilt_base::Cell;
 
 /// Counts the numbers.
@@ -25,5 +27,17 @@ impl Reduction for CountR {
 
     fn finish(state: &i64) -> Cell {
         (*state != 0).then_some(*state)
+    }
+}
+
+impl Undo for CountR {
+    fn remove_first(state: &mut i64, _number: i64) {
+        *state -= 1;
+    }
+}
+
+impl Merge for CountR {
+    fn merge(a: &i64, b: &i64) -> i64 {
+        *a + *b
     }
 }

@@ -3,6 +3,7 @@ ghost use Rattle.std.specs.Prelude.{◌≡◌};
 ghost use Rattle.tilt_base.specs.Reduce.{reduce};
 ghost use Rattle.tilt_base.specs.declared.reducer.Reducer.TheVariants.{First, Last};
 
+use crate::merge::Merge;
 use crate::reduction::Reduction;
 use tilt_base::Cell;
 
@@ -29,6 +30,12 @@ impl Reduction for FirstR {
     }
 }
 
+impl Merge for FirstR {
+    fn merge(a: &Cell, b: &Cell) -> Cell {
+        a.or(*b)
+    }
+}
+
 /// The last number.
 pub struct LastR;
 
@@ -49,5 +56,11 @@ impl Reduction for LastR {
 
     fn finish(state: &Cell) -> Cell {
         *state
+    }
+}
+
+impl Merge for LastR {
+    fn merge(a: &Cell, b: &Cell) -> Cell {
+        b.or(*a)
     }
 }

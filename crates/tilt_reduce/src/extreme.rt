@@ -3,6 +3,7 @@ ghost use Rattle.std.specs.Prelude.{◌≡◌};
 ghost use Rattle.tilt_base.specs.Reduce.{reduce};
 ghost use Rattle.tilt_base.specs.declared.reducer.Reducer.TheVariants.{Max, Min};
 
+use crate::merge::Merge;
 use crate::reduction::Reduction;
 use tilt_base::Cell;
 
@@ -32,6 +33,15 @@ impl Reduction for MinR {
     }
 }
 
+impl Merge for MinR {
+    fn merge(a: &Cell, b: &Cell) -> Cell {
+        match (*a, *b) {
+            (Some(least_a), Some(least_b)) => Some(least_a.min(least_b)),
+            (a, b) => a.or(b),
+        }
+    }
+}
+
 /// The greatest number.
 pub struct MaxR;
 
@@ -55,5 +65,14 @@ impl Reduction for MaxR {
 
     fn finish(state: &Cell) -> Cell {
         *state
+    }
+}
+
+impl Merge for MaxR {
+    fn merge(a: &Cell, b: &Cell) -> Cell {
+        match (*a, *b) {
+            (Some(greatest_a), Some(greatest_b)) => Some(greatest_a.max(greatest_b)),
+            (a, b) => a.or(b),
+        }
     }
 }

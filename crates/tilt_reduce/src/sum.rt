@@ -3,7 +3,9 @@ ghost use Rattle.std.specs.Prelude.{◌≡◌, ◌<◌, ℤ, List, [], ◌∷◌
 ghost use Rattle.tilt_base.specs.declared.reducer.Reducer.TheVariants.{Avg, Sum};
 ghost use Rattle.tilt_reduce.specs.States.{IsSumAndCount};
 
+use crate::merge::Merge;
 use crate::reduction::Reduction;
+use crate::undo::Undo;
 use tilt_base::Cell;
 
 /// What a sum and an average keep. Fewer than 2^63 numbers are added, so that 128 bits hold their sum.
@@ -28,6 +30,24 @@ impl SumAndCount {
     {
         self.sum += i128::from(number);
         self.count += 1;
+    }
+
+    fn remove_first(&mut self, number: i64)
+        requires { (ns : List ℤ) × IsSumAndCount self.old (number ∷ ns) }
+        ensures { (ns : List ℤ) → IsSumAndCount self.old (number ∷ ns) → IsSumAndCount self.new ns }
+    {
+        self.count -= 1;
+        self.sum -= i128::from(number);
+    }
+
+    fn merge(&self, other: &SumAndCount) -> SumAndCount
+        requires { (ms : List ℤ) × (ns : List ℤ) × IsSumAndCount self.now ms × IsSumAndCount other.now ns × (length (ms ++ ns) < 9223372036854775808) }
+        ensures { (ms ns : List ℤ) → IsSumAndCount self.now ms → IsSumAndCount other.now ns → IsSumAndCount result (ms ++ ns) }
+    {
+        SumAndCount {
+            sum: self.sum + other.sum,
+            count: self.count + other.count,
+        }
     }
 }
 
@@ -57,6 +77,18 @@ impl Reduction for SumR {
     }
 }
 
+impl Undo for SumR {
+    fn remove_first(state: &mut SumAndCount, number: i64) {
+        state.remove_first(number);
+    }
+}
+
+impl Merge for SumR {
+    fn merge(a: &SumAndCount, b: &SumAndCount) -> SumAndCount {
+        a.merge(b)
+    }
+}
+
 /// The exact sum divided by the number of the numbers, truncated toward zero.
 pub struct AvgR;
 
@@ -80,5 +112,17 @@ impl Reduction for AvgR {
             return None;
         }
         i64::try_from(state.sum / i128::from(state.count)).ok()
+    }
+}
+
+impl Undo for AvgR {
+    fn remove_first(state: &mut SumAndCount, number: i64) {
+        state.remove_first(number);
+    }
+}
+
+impl Merge for AvgR {
+    fn merge(a: &SumAndCount, b: &SumAndCount) -> SumAndCount {
+        a.merge(b)
     }
 }

@@ -3,7 +3,9 @@ ghost use Rattle.std.specs.Prelude.{◌≡◌, ◌<◌, ℤ, List, [], ◌∷◌
 ghost use Rattle.tilt_base.specs.declared.reducer.Reducer.TheVariants.{All, Any};
 ghost use Rattle.tilt_reduce.specs.States.{IsTrueCount};
 
+use crate::merge::Merge;
 use crate::reduction::Reduction;
+use crate::undo::Undo;
 use tilt_base::Cell;
 
 /// What both keep of the numbers.
@@ -31,6 +33,24 @@ impl TrueCount {
     {
         self.true_ones += u64::from(number != 0);
         self.count += 1;
+    }
+
+    fn remove_first(&mut self, number: i64)
+        requires { (ns : List ℤ) × IsTrueCount self.old (number ∷ ns) }
+        ensures { (ns : List ℤ) → IsTrueCount self.old (number ∷ ns) → IsTrueCount self.new ns }
+    {
+        self.true_ones -= u64::from(number != 0);
+        self.count -= 1;
+    }
+
+    fn merge(&self, other: &TrueCount) -> TrueCount
+        requires { (ms : List ℤ) × (ns : List ℤ) × IsTrueCount self.now ms × IsTrueCount other.now ns × (length (ms ++ ns) < 9223372036854775808) }
+        ensures { (ms ns : List ℤ) → IsTrueCount self.now ms → IsTrueCount other.now ns → IsTrueCount result (ms ++ ns) }
+    {
+        TrueCount {
+            true_ones: self.true_ones + other.true_ones,
+            count: self.count + other.count,
+        }
     }
 }
 
@@ -60,6 +80,18 @@ impl Reduction for AnyR {
     }
 }
 
+impl Undo for AnyR {
+    fn remove_first(state: &mut TrueCount, number: i64) {
+        state.remove_first(number);
+    }
+}
+
+impl Merge for AnyR {
+    fn merge(a: &TrueCount, b: &TrueCount) -> TrueCount {
+        a.merge(b)
+    }
+}
+
 /// 1 where every number is true, else 0.
 pub struct AllR;
 
@@ -83,5 +115,17 @@ impl Reduction for AllR {
             return None;
         }
         Some(i64::from(state.true_ones == state.count))
+    }
+}
+
+impl Undo for AllR {
+    fn remove_first(state: &mut TrueCount, number: i64) {
+        state.remove_first(number);
+    }
+}
+
+impl Merge for AllR {
+    fn merge(a: &TrueCount, b: &TrueCount) -> TrueCount {
+        a.merge(b)
     }
 }

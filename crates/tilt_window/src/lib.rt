@@ -1,11 +1,18 @@
 //! Windows over snapshots. What comes in is cells, one behind another, and the first of them goes again; what goes out is the
-//! reducer's answer on those that are there and aren't null. The clause of `result` on the trait says which answer it is.
+//! reducer's answer on those that are there and aren't null. The clause of `result` on the trait says which answer it is, and the
+//! kinds of windows differ in how many steps it takes.
 #![tactic(auto)]
 
 mod refold;
+mod state;
 #[cfg(test)]
 mod tests;
+mod turn;
+mod two_stack;
+mod undoing;
 mod window;
 
 pub use refold::Refold;
+pub use two_stack::TwoStack;
+pub use undoing::Undoing;
 pub use window::Window;

@@ -69,4 +69,8 @@ impl<R: Reduction> Window for Refold<R> {
         }
         R::finish(&state)
     }
+
+    fn clear(&mut self) {
+        self.cells.clear();
+    }
 }

@@ -31,4 +31,8 @@ pub trait Window {
     /// What the reducer gives on the cells that aren't null.
     fn result(&self) -> Cell
         ensures { result ≡ reduce reducer (numbers (cells self.now)) };
+
+    /// Takes all cells out, and keeps the memory.
+    fn clear(&mut self)
+        ensures { cells self.new ≡ [] };
 }

@@ -4,7 +4,7 @@ use Rattle.std.proofs.lemmas.Int.{to_z-of_z}
 use Rattle.std.proofs.lemmas.List.{length_push}
 use Rattle.std.proofs.lemmas.List.Elements.{All-push}
 use Rattle.tilt_base.specs.Reduce.{total}
-use Rattle.tilt_reduce.proofs.Totals.{total_push, total_fits}
+use Rattle.tilt_reduce.proofs.Totals.{total_push, push_fits}
 use Rattle.tilt_reduce.proofs.sum.SumAndCount.add.Goals as goal
 
 -- the sum that the code takes in 128 bits
@@ -18,13 +18,13 @@ overflow_add-self c =
     let (ns, held, few) = c.requires in
     let n = c.args.number in
     rw (sum_is c.args.self.now.sum c.from.result n (search rules) (search rules) c.ranges.number c.from.ensures, held.sum)
-    (total_fits ns n held.fits c.ranges.number (omega arith))
+    (push_fits ns n held.fits c.ranges.number (omega arith))
 
 pub returns : goal.returns
 returns c = λ ns held.
     let (_, other, few) = c.requires in
     let n = c.args.number in
-    let fits = total_fits ns n held.fits c.ranges.number (omega (arith, held.count, other.count)) in
+    let fits = push_fits ns n held.fits c.ranges.number (omega (arith, held.count, other.count)) in
     record {
       sum = rw (sum_is c.args.self.now.sum c.from.result n (search rules) (search rules) c.ranges.number c.from.ensures, held.sum, to_z-of_z w128 (total ns +ℤ n) fits)
           (sym (total_push ns n));
