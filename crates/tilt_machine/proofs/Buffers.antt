@@ -1,42 +1,19 @@
 -- The buffers of a code, made in order.
-use Rattle.std.proofs.Common.{◌≡◌, ◌<◌, ℕ, suc, List, [], ◌∷◌, ◌++◌, map, length, Some, None, IsTrue, refl, sym, ap, ◌∙◌, subst, arith, rules, tests}
-use Rattle.std.proofs.lemmas.List.{map-append}
+use Rattle.std.proofs.Common.{◌≡◌, ◌<◌, ℕ, suc, List, [], ◌∷◌, ◌++◌, length, Some, None, IsTrue, refl, subst, rules, tests}
 use Rattle.std.proofs.lemmas.Option.{same_Some}
 use Rattle.std.specs.List.{AllByRecursion}
 use Rattle.tilt_code.specs.Body.{last_or}
 use Rattle.tilt_code.specs.Code.{Block, LoopParts}
 use Rattle.tilt_code.specs.Grammar.{IsInstr, IsLoop, stands_in_body}
 use Rattle.tilt_code.specs.References.{refers_below, RefersBack, ReadsBefore}
-use Rattle.tilt_code.specs.Run.{with_buffers}
-use Rattle.tilt_code.specs.Turn.{turns}
 use Rattle.tilt_code.specs.declared.instr.Instr.{Instr}
 use Rattle.tilt_code.specs.declared.instr.Instr.TheVariants.{Const, Null, Argument, Port, Win, One, Two, If}
-use Rattle.tilt_machine.specs.Ready.{NamesBelow, NameEarlier, IsReadable, IsReady}
-use Rattle.tilt_stream.specs.Snap.{Snapshot}
-use Rattle.tilt_stream.specs.Stream.{Stream, stream_of}
+use Rattle.tilt_turn.specs.Ready.{NamesBelow, NameEarlier, IsReadable, IsReady}
 
 -- the last of a list to which one was added
 pub last_or-pushed : {A : Type 0} (given : A) (xs : List A) (x : A) → last_or given (xs ++ x ∷ []) ≡ x
 last_or-pushed given [] x = refl
 last_or-pushed given (y ∷ ys) x = last_or-pushed y ys x
-
--- loops over buffers of the same streams make the same list at last
-pub same-run : (lists others : List (List Snapshot)) → map stream_of lists ≡ map stream_of others
-    → (loops : List LoopParts) → 0 < length loops
-    → last_or [] (with_buffers lists loops) ≡ last_or [] (with_buffers others loops)
-same-run lists others same [] some = absurd (omega arith)
-same-run lists others same (l ∷ []) some =
-    last_or-pushed [] lists (turns (map stream_of lists) l)
-    ∙ ap (λ (xs : List Stream). turns xs l) same
-    ∙ sym (last_or-pushed [] others (turns (map stream_of others) l))
-same-run lists others same (l ∷ next ∷ loops) some =
-    let made = turns (map stream_of lists) l in
-    let again = turns (map stream_of others) l in
-    same-run (lists ++ made ∷ []) (others ++ again ∷ [])
-    (map-append stream_of lists (made ∷ [])
-    ∙ ap (λ (xs : List Stream). xs ++ stream_of (turns xs l) ∷ []) same
-    ∙ sym (map-append stream_of others (again ∷ [])))
-    (next ∷ loops) (omega arith)
 
 -- an instruction that refers back, and has its numbers within their bounds, names earlier registers and may be read
 instr-names : (buffers maps register : ℕ) (i : Instr) → IsTrue (refers_below buffers maps register i) → NamesBelow register i

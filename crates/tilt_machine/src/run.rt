@@ -1,9 +1,10 @@
 // The run of a code.
-ghost use Rattle.std.specs.Prelude.{◌≡◌, length, map, IfOk};
+ghost use Rattle.std.specs.Prelude.{◌≡◌, ◌++◌, length, map, IfOk, OnOk};
 ghost use Rattle.tilt_code.specs.Run.{run_of};
-ghost use Rattle.tilt_stream.specs.Stream.{stream_of};
+ghost use Rattle.tilt_machine.specs.Lists.{list_of};
 
-use crate::loop_run::LoopRun;
+use crate::any_buffer::AnyBuffer;
+use crate::turns::turns;
 use std::alloc::{AllocError as OutOfMemory, Global};
 use tilt_code::Code;
 use tilt_stream::{Rows, SnapList};
@@ -14,25 +15,36 @@ pub fn run_code(alloc: Global, code: &Code, inputs: &[Rows]) -> Result<SnapList,
     requires inputs { length inputs.now ≡ length code.now.inputs }
     ensures run { IfOk result (λ list. list ≡ run_of code.now inputs.now) }
 {
-    let mut buffers = input_buffers(alloc, inputs)?;
+    let mut made = Vec::new(alloc);
     for each in code.loops() {
-        let run = LoopRun {
-            buffers: &buffers,
-            each,
-        };
-        let made = run.turns(alloc)?;
-        buffers.push(made)?;
+        let list = turns(alloc, each, &buffers_of(alloc, inputs, &made)?)?;
+        made.push(list)?;
     }
-    Ok(buffers.pop().unwrap())
+    Ok(made.pop().unwrap())
 }
 
-// The buffers of the inputs. Their streams are those of the rows.
-fn input_buffers(alloc: Global, inputs: &[Rows]) -> Result<Vec<SnapList>, OutOfMemory>
-    ensures { IfOk result (λ buffers. map stream_of buffers.items ≡ map stream_of inputs.now) }
+// The buffers so far: the inputs, and behind them what loops made.
+fn buffers_of<'a>(
+    alloc: Global,
+    inputs: &'a [Rows],
+    made: &'a [SnapList],
+) -> Result<Vec<AnyBuffer<'a>>, OutOfMemory>
+    ensures { IfOk result (λ buffers. map list_of buffers.items ≡ inputs.now ++ made.now) }
 {
     let mut buffers = Vec::new(alloc);
     for rows in inputs {
-        buffers.push(SnapList::from_rows(alloc, rows)?)?;
+        buffers.push(AnyBuffer::Rows(rows))?;
     }
+    add_made(&mut buffers, made)?;
     Ok(buffers)
+}
+
+// Adds the buffers that loops made.
+fn add_made<'a>(buffers: &mut Vec<AnyBuffer<'a>>, made: &'a [SnapList]) -> Result<(), OutOfMemory>
+    ensures { OnOk result (map list_of buffers.new.items ≡ map list_of buffers.old.items ++ made.now) }
+{
+    for list in made {
+        buffers.push(AnyBuffer::Made(list))?;
+    }
+    Ok(())
 }

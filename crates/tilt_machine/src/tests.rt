@@ -76,6 +76,9 @@ const FIRST_UNREAD: &str =
 // The stretch begins and ends off the grid of 3, 8, 13, 18, 23.
 const OFF_THE_GRID: &str = "tilt 1\ninput x\nloop 1 19 5 3\nr0 = port b0 0\nend\n";
 
+// The two ticks of a window lie behind all those that it met at the grid point before.
+const LEAPS: &str = "tilt 1\ninput x\nloop 0 10 5 0\nr0 = win sum b0 -2 0\nend\n";
+
 // The first branch is always chosen, and the other has its marks at 3 and 5.
 const ONE_BRANCH: &str =
     "tilt 1\ninput x\ninput y\nloop 0 6 1 0\nr0 = port b0 -1\nr1 = port b1 1\nr2 = const 1\nr3 = if r2 r0 r1\nend\n";
@@ -148,6 +151,11 @@ const CASES: &[Case<'_>] = &[
             (13, 18, Some(3)),
             (18, 19, None),
         ],
+    },
+    Case {
+        code: LEAPS,
+        inputs: &[&[(0, 4, Some(1)), (4, 6, None), (6, 9, Some(5))]],
+        want: &[(0, 5, Some(1)), (5, 10, Some(5))],
     },
     Case {
         code: ONE_BRANCH,

@@ -1,4 +1,4 @@
-use Rattle.std.proofs.Common.{◌≡◌, [], length, ◌+◌, ◌<◌, drop}
+use Rattle.std.proofs.Common.{◌≡◌, ◌++◌, [], length, ◌+◌, ◌<◌, drop}
 use Rattle.std.specs.List.{AllByRecursion}
 use Rattle.tilt_code.specs.Body.{last_or}
 use Rattle.tilt_code.specs.Grammar.{IsLoop}
@@ -10,8 +10,8 @@ abbrev pub invariant-loop-each : goal.invariant-loop-each
 invariant-loop-each l =
     let rest = drop l.each-index l.each-items in
     record {
-      some : 0 < length l.buffers.items + length rest;
+      some : 0 < length l.made.items + length rest;
       loops : AllByRecursion IsLoop rest;
-      references : ReadsBefore (length l.buffers.items) rest;
-      made : last_or [] (with_buffers l.buffers.items rest) ≡ run_of l.code l.inputs;
+      references : ReadsBefore (length (l.inputs ++ l.made.items)) rest;
+      made : last_or [] (with_buffers (l.inputs ++ l.made.items) rest) ≡ run_of l.code l.inputs;
     }

@@ -1,0 +1,10 @@
+pub mod Cursors
+pub mod MarkBounds
+pub mod MarkedTicks
+pub mod Moves
+pub mod NextMarks
+pub mod Numbered
+pub mod Origins
+pub mod Registers
+pub mod Stepwise
+pub mod TurnTicks

@@ -1,0 +1,43 @@
+-- The next mark of a window's first tick.
+use Rattle.std.proofs.Common.{◌≡◌, ℤ, ◌<ℤ◌, ◌≤ℤ◌, List, [], ◌∷◌, Option, Some, None, slice_get, sym, ◌∙◌, arith}
+use Rattle.std.proofs.lemmas.Int.{ints, clamps, by_lt_z}
+use Rattle.std.specs.Int.{int_max}
+use Rattle.tilt_stream.specs.Marks.{IsNextMark, NamesNextMark}
+use Rattle.tilt_stream.specs.Stream.{Stream}
+use Rattle.tilt_turn.proofs.MarkedTicks.{marked-first, marked-empty}
+use Rattle.tilt_turn.proofs.Moves.{some_is}
+use Rattle.tilt_turn.specs.Marked.{marked}
+
+-- the first mark that a window holds is the next one
+pub held-next : (x : Stream) (first last mark : ℤ) (marks : List ℤ) → first ≤ℤ last → marks ≡ marked x first last
+    → slice_get marks 0 ≡ Some mark
+    → IsNextMark x first mark × (mark ≤ℤ last)
+held-next x first last mark [] some is found = absurd (cc found)
+held-next x first last mark (m ∷ marks) some is found =
+    let held = marked-first x first last m marks some (sym is) in
+    let same = some_is m mark found in
+    rw (← same) (held.next, held.within)
+
+empty-list : (marks : List ℤ) → slice_get marks 0 ≡ None → marks ≡ []
+empty-list [] is = cc
+empty-list (m ∷ marks) is = absurd (cc is)
+
+-- and where it holds none, that of its last tick
+pub later-next : (x : Stream) (first last : ℤ) (marks : List ℤ) (answer : Option ℤ) → first ≤ℤ last → marks ≡ marked x first last
+    → slice_get marks 0 ≡ None
+    → NamesNextMark x last answer → NamesNextMark x first answer
+later-next x first last marks None some is none names =
+    let clear = marked-empty x first last some (sym is ∙ empty-list marks none) in
+    λ other above. by_lt_z last other (λ later. names other later) (λ within. clear other above (omega (arith, ints)))
+later-next x first last marks (Some next) some is none names =
+    let clear = marked-empty x first last some (sym is ∙ empty-list marks none) in
+    let above = names.above in
+    record {
+      above = omega (arith, ints);
+      marked = names.marked;
+      least = λ other low below. by_lt_z last other (λ later. names.least other later below) (λ within. clear other low (omega (arith, ints)));
+    }
+
+-- it lies above neither the last tick nor the end of all
+pub held-bounds : (first last mark limit : ℤ) → first <ℤ mark → mark ≤ℤ last → (first <ℤ mark) × (mark ≤ℤ int_max last limit)
+held-bounds first last mark limit low high = (low, omega (arith, ints, clamps))

@@ -1,0 +1,20 @@
+use Rattle.std.proofs.Common.{w64}
+use Rattle.std.proofs.lemmas.Int.{to_z-of_z}
+use Rattle.std.proofs.lemmas.Result.{on_ok_weaker}
+use Rattle.tilt_turn.proofs.Cursors.{stands-after}
+use Rattle.tilt_turn.proofs.moving.Moving.push_at.Goals as goal
+
+pub value-requires-clause-kept : goal.value-requires-clause-kept
+value-requires-clause-kept g c =
+    let list = g.B.Buffer.list c.args.source.now.buffer.now in
+    let forgotten = g.B.Buffer.forgotten c.args.source.now.buffer.now in
+    let moved = rw (to_z-of_z w64 c.args.tick c.ranges.tick) at c.move_to.ensures in
+    (stands-after list forgotten c.args.tick c.args.self.now.back c.move_to.new.self c.requires.cursor moved).kept
+
+pub returns-clause-cursor : goal.returns-clause-cursor
+returns-clause-cursor g c =
+    let list = g.B.Buffer.list c.args.source.now.buffer.now in
+    let forgotten = g.B.Buffer.forgotten c.args.source.now.buffer.now in
+    let moved = rw (to_z-of_z w64 c.args.tick c.ranges.tick) at c.move_to.ensures in
+    let stands = stands-after list forgotten c.args.tick c.args.self.now.back c.move_to.new.self c.requires.cursor moved in
+    on_ok_weaker c.push_back.result (λ pushed. stands) c.push_back.ensures.cells

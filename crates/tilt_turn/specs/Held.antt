@@ -1,0 +1,86 @@
+-- What cursors, windows and leaves hold between the turns of a loop.
+use Rattle.std.specs.Prelude.{◌≡◌, ◌<◌, ◌≤◌, ℕ, ℤ, pos, ◌+ℤ◌, ◌-ℤ◌, ◌≤ℤ◌, List, [], map, get_or, length, Option, ⊤}
+use Rattle.std.specs.List.{AllByRecursion}
+use Rattle.tilt_code.specs.Body.{mapped}
+use Rattle.tilt_code.specs.Code.{Block, LoopParts}
+use Rattle.tilt_code.specs.Grammar.{IsOffset}
+use Rattle.tilt_code.specs.declared.instr.Instr.{Instr}
+use Rattle.tilt_code.specs.declared.instr.Instr.TheVariants as instr
+use Rattle.tilt_stream.specs.Snap.{Snapshot, ended_below}
+use Rattle.tilt_stream.specs.Stream.{Stream, stream_of}
+use Rattle.tilt_stream.specs.Window.{met}
+use Rattle.tilt_stream.specs.declared.cursor.Cursor.{Cursor}
+use Rattle.tilt_turn.specs.Kinds.{kind_cells, kind_reducer}
+use Rattle.tilt_turn.specs.Marked.{marked}
+use Rattle.tilt_turn.specs.Ready.{IsReadableWindow}
+use Rattle.tilt_turn.specs.declared.leaf.Leaf.{Leaf}
+use Rattle.tilt_turn.specs.declared.leaf.Leaf.TheVariants.{Idle, Port, Window}
+use Rattle.tilt_turn.specs.declared.port.PortLeaf.{PortLeaf}
+use Rattle.tilt_turn.specs.declared.span.WindowLeaf.{WindowLeaf}
+use Rattle.tilt_turn.specs.declared.moving.Moving.{Moving}
+use Rattle.tilt_turn.specs.declared.state.LoopState.{LoopState}
+
+-- a cursor that may move to a tick
+pub record MayMove (list : List Snapshot) (forgotten : ℕ) (tick : ℤ) (c : Cursor) : Type 0 where
+  pub fits : c.place ≤ ended_below c.tick list
+  pub kept : forgotten ≤ c.place
+  pub onwards : c.tick ≤ℤ tick
+
+-- a cursor that stands at a tick
+pub record StandsAt (list : List Snapshot) (forgotten : ℕ) (tick : ℤ) (c : Cursor) : Type 0 where
+  pub place : c.place ≡ ended_below tick list
+  pub kept : forgotten ≤ c.place
+  pub stands : c.tick ≡ tick
+
+-- a window from a first tick up to that of its cursor: its cells are by the map those that these ticks meet, and its marks those behind
+-- the first tick
+pub record Holds (x : Stream) (by_map : Option ℤ → Option ℤ) (first : ℤ) (w : Moving) : Type 0 where
+  pub cells : kind_cells w.kind ≡ map by_map (met x (first -ℤ pos 1) w.back.tick)
+  pub marks : w.marks.items ≡ marked x first w.back.tick
+
+-- what a leaf reads, as the instruction that it was made of; no leaf is a null
+abbrev pub origin : Leaf → Instr
+origin Idle = instr.Null
+origin (Port p) = instr.Port p.buffer p.offset
+origin (Window w) = instr.Win (kind_reducer w.window.kind) w.buffer w.from w.to w.map
+
+-- an instruction where it is a leaf, and else a null
+abbrev pub leaf_only : Instr → Instr
+leaf_only (instr.Port buffer offset) = instr.Port buffer offset
+leaf_only (instr.Win reducer buffer from to number) = instr.Win reducer buffer from to number
+leaf_only other = instr.Null
+
+-- what is said of a cursor over a list, of which so many aren't kept, and of a tick
+abbrev pub OfCursor : Type 1
+OfCursor = List Snapshot → ℕ → ℤ → Cursor → Type 0
+
+-- the cursor of a port at a grid point
+abbrev pub PortHolds : OfCursor → List (List Snapshot) → List ℕ → ℤ → PortLeaf → Type 0
+PortHolds says lists forgotten point p = says (get_or lists p.buffer []) (get_or forgotten p.buffer 0) (point +ℤ p.offset) p.cursor
+
+-- the cursor and the cells of a window at a grid point
+pub record WindowHolds (says : OfCursor) (lists : List (List Snapshot)) (forgotten : List ℕ) (maps : List Block) (point : ℤ)
+    (w : WindowLeaf) : Type 0 where
+  pub cursor : says (get_or lists w.buffer []) (get_or forgotten w.buffer 0) (point +ℤ w.to) w.window.back
+  pub held : Holds (stream_of (get_or lists w.buffer [])) (mapped maps w.map) (point +ℤ w.from +ℤ pos 1) w.window
+
+-- a port that may be read, at a grid point
+abbrev pub IsPortAt : OfCursor → List (List Snapshot) → List ℕ → ℤ → PortLeaf → Type 0
+IsPortAt says lists forgotten point p = ((p.buffer < length lists) × IsOffset p.offset) × PortHolds says lists forgotten point p
+
+-- a window that may be read, at a grid point
+abbrev pub IsWindowAt : OfCursor → List (List Snapshot) → List ℕ → List Block → ℤ → WindowLeaf → Type 0
+IsWindowAt says lists forgotten maps point w =
+    IsReadableWindow (length lists) (length maps) w.buffer w.from w.to w.map × WindowHolds says lists forgotten maps point w
+
+-- a leaf that may be read, at a grid point
+abbrev pub IsLeafAt : OfCursor → List (List Snapshot) → List ℕ → List Block → ℤ → Leaf → Type 0
+IsLeafAt says lists forgotten maps point Idle = ⊤
+IsLeafAt says lists forgotten maps point (Port p) = IsPortAt says lists forgotten point p
+IsLeafAt says lists forgotten maps point (Window w) = IsWindowAt says lists forgotten maps point w
+
+-- the state of a loop that may go on to any grid point from this one on: its leaves are those of the body, and each holds what its ticks
+-- meet at the grid point
+pub record IsFit (lists : List (List Snapshot)) (forgotten : List ℕ) (l : LoopParts) (point : ℤ) (state : LoopState) : Type 0 where
+  pub same : map origin state.leaves.items ≡ map leaf_only l.body
+  pub leaves : AllByRecursion (IsLeafAt MayMove lists forgotten l.maps point) state.leaves.items

@@ -1,0 +1,5 @@
+pub mod Held
+pub mod Kinds
+pub mod Leaves
+pub mod Marked
+pub mod Ready

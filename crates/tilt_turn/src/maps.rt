@@ -1,0 +1,58 @@
+// What the maps of a loop give on a cell.
+ghost use Rattle.std.specs.Prelude.{◌≡◌, ◌<◌, [], get_or, length, IfOk};
+ghost use Rattle.std.specs.List.{AllByRecursion};
+ghost use Rattle.std.specs.Option.{ForSome};
+ghost use Rattle.tilt_code.specs.Body.{block_cell, map_leaf, mapped};
+ghost use Rattle.tilt_turn.specs.Ready.{NameEarlier};
+
+use crate::register::{last, register};
+use std::alloc::AllocError as OutOfMemory;
+use tilt_base::Cell;
+use tilt_code::{Instr, Loop};
+
+// What a map gives on a cell, and the cell itself where no map is named. The registers are written anew.
+pub(crate) fn mapped(
+    each: &Loop,
+    map: Option<u32>,
+    cell: Cell,
+    registers: &mut Vec<Cell>,
+) -> Result<Cell, OutOfMemory>
+    requires earlier { AllByRecursion (NameEarlier 0) each.now.maps }
+    requires known { ForSome map (λ number. number < length each.now.maps) }
+    ensures { IfOk result (λ given. given ≡ mapped each.now.maps map cell) }
+{
+    match map {
+        None => Ok(cell),
+        Some(number) => block_cell(block_of(each, number), cell, registers),
+    }
+}
+
+// The block of the map of that number.
+fn block_of(each: &Loop, number: u32) -> &[Instr]
+    requires { number < length each.now.maps }
+    ensures { result.now ≡ get_or each.now.maps number [] }
+{
+    &each.maps[number as usize]
+}
+
+// What the block of a map gives on a cell.
+fn block_cell(block: &[Instr], cell: Cell, registers: &mut Vec<Cell>) -> Result<Cell, OutOfMemory>
+    requires { NameEarlier 0 block.now }
+    ensures { IfOk result (λ given. given ≡ block_cell (map_leaf cell) block.now) }
+{
+    registers.clear();
+    for instr in block {
+        registers.push(register(*instr, registers, argument(*instr, cell)))?;
+    }
+    Ok(last(registers))
+}
+
+// What the leaf of a map gives: its argument is the cell that the map is run on.
+fn argument(instr: Instr, cell: Cell) -> Cell
+    ensures { result ≡ map_leaf cell instr }
+{
+    match instr {
+        Instr::Argument => cell,
+        _ => None,
+    }
+}

@@ -1,0 +1,262 @@
+// A window over one buffer, which moves on with time.
+ghost use Rattle.std.specs.Prelude.{◌≡◌, ◌<◌, ℤ, pos, neg_ℤ, ◌+ℤ◌, ◌*ℤ◌, ◌<ℤ◌, ◌≤ℤ◌, [], ◌∷◌, ◌++◌, length, false, slice_get, Option, Some, IfSome, IsTrue, ◌↔◌, OnOk, MatchOption};
+ghost use Rattle.std.specs.Int.{int_max};
+ghost use Rattle.std.specs.List.{AllByRecursion};
+ghost use Rattle.std.specs.Option.{ForSome};
+ghost use Rattle.tilt_base.specs.declared.limits.TheConstants.{OFFSET, WIDE};
+ghost use Rattle.tilt_base.specs.Reduce.{numbers, reduce};
+ghost use Rattle.tilt_code.specs.Body.{mapped};
+ghost use Rattle.tilt_stream.specs.Agreement.{ChangesOnlyAtMarks};
+ghost use Rattle.tilt_stream.specs.Marks.{IsNextMark, NamesNextMark};
+ghost use Rattle.tilt_stream.specs.Stream.{Stream, cell_at, stream_of};
+ghost use Rattle.tilt_turn.specs.Held.{Holds, MayMove, StandsAt};
+ghost use Rattle.tilt_turn.specs.Kinds.{kind_cells, kind_reducer};
+ghost use Rattle.tilt_turn.specs.Ready.{NameEarlier};
+
+use crate::kind::Kind;
+use crate::maps::mapped;
+use std::alloc::{AllocError as OutOfMemory, Global};
+use std::collections::VecDeque;
+use tilt_base::{Cell, Reducer};
+use tilt_code::Loop;
+use tilt_stream::{Buffer, Cursor};
+
+// The cells that some ticks meet: one for the first tick, and one for each mark behind it. The cursor stands at the last tick, so
+// no snapshot that ended before is looked at again.
+#[derive(Drop)]
+pub(crate) struct Moving {
+    kind: Kind,
+    marks: VecDeque<i64>,
+    back: Cursor,
+}
+
+// The buffer that a window goes over, and the map by which it takes the cells.
+#[derive(Drop)]
+pub(crate) struct Source<'a, 'b, B> {
+    pub(crate) buffer: &'a B,
+    pub(crate) each: &'b Loop,
+    pub(crate) map: Option<u32>,
+}
+
+impl Moving {
+    // A window that was never moved.
+    pub(crate) fn new(alloc: Global, reducer: Reducer) -> Moving
+        ensures reducer { kind_reducer result.kind ≡ reducer }
+        ensures cells { kind_cells result.kind ≡ [] }
+        ensures marks { result.marks.items ≡ [] }
+        ensures back { result.back ≡ record { tick = neg_ℤ (pos 9223372036854775808); place = 0 } }
+    {
+        Moving {
+            kind: Kind::new(alloc, reducer),
+            marks: VecDeque::new(alloc),
+            back: Cursor::new(),
+        }
+    }
+
+    // Moves on to the ticks from a first to a last one.
+    pub(crate) fn move_to<B: Buffer>(
+        &mut self,
+        source: &Source<'_, '_, B>,
+        first: i64,
+        last: i64,
+        registers: &mut Vec<Cell>,
+    ) -> Result<(), OutOfMemory>
+        requires earlier { AllByRecursion (NameEarlier 0) source.now.each.now.maps }
+        requires known { ForSome source.now.map (λ number. number < length source.now.each.now.maps) }
+        requires some { first ≤ℤ last }
+        requires few { last ≤ℤ (first +ℤ pos 2 *ℤ OFFSET) }
+        requires cursor { MayMove (B.list source.now.buffer.now) (B.forgotten source.now.buffer.now) last self.old.back }
+        requires held { (begin : ℤ) × (begin ≤ℤ first)
+            × Holds (stream_of (B.list source.now.buffer.now)) (mapped source.now.each.now.maps source.now.map) begin self.old }
+        ensures cursor { OnOk result
+            (StandsAt (B.list source.now.buffer.now) (B.forgotten source.now.buffer.now) last self.new.back) }
+        ensures held { OnOk result
+            (Holds (stream_of (B.list source.now.buffer.now)) (mapped source.now.each.now.maps source.now.map) first self.new) }
+        ensures reducer { OnOk result (kind_reducer self.new.kind ≡ kind_reducer self.old.kind) }
+    {
+        self.begin_from(source, first, registers)?;
+        self.extend(source, last, registers)
+    }
+
+    // Lets those cells go that the ticks from a first one on don't meet, and holds the cell of the first tick at least.
+    fn begin_from<B: Buffer>(
+        &mut self,
+        source: &Source<'_, '_, B>,
+        first: i64,
+        registers: &mut Vec<Cell>,
+    ) -> Result<(), OutOfMemory>
+        requires earlier { AllByRecursion (NameEarlier 0) source.now.each.now.maps }
+        requires known { ForSome source.now.map (λ number. number < length source.now.each.now.maps) }
+        requires cursor { MayMove (B.list source.now.buffer.now) (B.forgotten source.now.buffer.now) self.old.back.tick self.old.back }
+        requires held { (begin : ℤ) × (begin ≤ℤ first)
+            × Holds (stream_of (B.list source.now.buffer.now)) (mapped source.now.each.now.maps source.now.map) begin self.old }
+        ensures cursor { OnOk result
+            (StandsAt (B.list source.now.buffer.now) (B.forgotten source.now.buffer.now) self.new.back.tick self.new.back) }
+        ensures low { OnOk result (first ≤ℤ self.new.back.tick) }
+        ensures high { OnOk result (self.new.back.tick ≤ℤ int_max first self.old.back.tick) }
+        ensures held { OnOk result
+            (Holds (stream_of (B.list source.now.buffer.now)) (mapped source.now.each.now.maps source.now.map) first self.new) }
+        ensures reducer { OnOk result (kind_reducer self.new.kind ≡ kind_reducer self.old.kind) }
+    {
+        let tick = self.back.tick();
+        if tick < first {
+            self.begin_at(source, first, registers)
+        } else {
+            self.back.move_to(source.buffer, tick);
+            self.drop_before(first)
+        }
+    }
+
+    // Lets all cells go, and holds the cell of a tick above all of them.
+    fn begin_at<B: Buffer>(
+        &mut self,
+        source: &Source<'_, '_, B>,
+        first: i64,
+        registers: &mut Vec<Cell>,
+    ) -> Result<(), OutOfMemory>
+        requires earlier { AllByRecursion (NameEarlier 0) source.now.each.now.maps }
+        requires known { ForSome source.now.map (λ number. number < length source.now.each.now.maps) }
+        requires cursor { MayMove (B.list source.now.buffer.now) (B.forgotten source.now.buffer.now) first self.old.back }
+        ensures cursor { OnOk result
+            (StandsAt (B.list source.now.buffer.now) (B.forgotten source.now.buffer.now) first self.new.back) }
+        ensures held { OnOk result
+            (Holds (stream_of (B.list source.now.buffer.now)) (mapped source.now.each.now.maps source.now.map) first self.new) }
+        ensures reducer { OnOk result (kind_reducer self.new.kind ≡ kind_reducer self.old.kind) }
+    {
+        self.kind.clear();
+        self.marks.clear();
+        self.push_at(source, first, registers)
+    }
+
+    // Lets those cells go that the ticks from a first one on don't meet, of which the window holds one at least.
+    fn drop_before(&mut self, first: i64) -> Result<(), OutOfMemory>
+        requires some { first ≤ℤ self.old.back.tick }
+        ensures held { OnOk result ((x : Stream) (by_map : Option ℤ → Option ℤ) (begin : ℤ) → ChangesOnlyAtMarks x
+            → begin ≤ℤ first → Holds x by_map begin self.old → Holds x by_map first self.new) }
+        ensures back { OnOk result (self.new.back ≡ self.old.back) }
+        ensures reducer { OnOk result (kind_reducer self.new.kind ≡ kind_reducer self.old.kind) }
+    {
+        while self.has_mark_within(first) {
+            self.kind.pop_front()?;
+            self.marks.pop_front();
+        }
+        Ok(())
+    }
+
+    // Whether the first mark isn't above a tick.
+    fn has_mark_within(&self, tick: i64) -> bool
+        ensures { IsTrue result ↔ ((mark : ℤ) × (slice_get self.now.marks.items 0 ≡ Some mark) × (mark ≤ℤ tick)) }
+    {
+        match self.first_mark() {
+            Some(mark) => mark <= tick,
+            None => false,
+        }
+    }
+
+    // The first mark, or none where there is none.
+    fn first_mark(&self) -> Option<i64>
+        ensures { result ≡ slice_get self.now.marks.items 0 }
+    {
+        self.marks.front().copied()
+    }
+
+    // Takes the cells in that the ticks behind those of the window meet, up to a last one.
+    fn extend<B: Buffer>(
+        &mut self,
+        source: &Source<'_, '_, B>,
+        last: i64,
+        registers: &mut Vec<Cell>,
+    ) -> Result<(), OutOfMemory>
+        requires earlier { AllByRecursion (NameEarlier 0) source.now.each.now.maps }
+        requires known { ForSome source.now.map (λ number. number < length source.now.each.now.maps) }
+        requires some { self.old.back.tick ≤ℤ last }
+        requires cursor { StandsAt (B.list source.now.buffer.now) (B.forgotten source.now.buffer.now) self.old.back.tick self.old.back }
+        requires held { (first : ℤ) × (first ≤ℤ self.old.back.tick) × (last ≤ℤ (first +ℤ pos 2 *ℤ OFFSET))
+            × Holds (stream_of (B.list source.now.buffer.now)) (mapped source.now.each.now.maps source.now.map) first self.old }
+        ensures cursor { OnOk result
+            (StandsAt (B.list source.now.buffer.now) (B.forgotten source.now.buffer.now) last self.new.back) }
+        ensures held { OnOk result ((first : ℤ) → first ≤ℤ self.old.back.tick
+            → Holds (stream_of (B.list source.now.buffer.now)) (mapped source.now.each.now.maps source.now.map) first self.old
+            → Holds (stream_of (B.list source.now.buffer.now)) (mapped source.now.each.now.maps source.now.map) first self.new) }
+        ensures reducer { OnOk result (kind_reducer self.new.kind ≡ kind_reducer self.old.kind) }
+    {
+        while let Some(mark) = next_within(&self.back, source.buffer, last) {
+            self.push_at(source, mark, registers)?;
+            self.marks.push_back(mark)?;
+        }
+        self.back.move_to(source.buffer, last);
+        Ok(())
+    }
+
+    // Moves the cursor to a tick, and adds the cell there.
+    fn push_at<B: Buffer>(
+        &mut self,
+        source: &Source<'_, '_, B>,
+        tick: i64,
+        registers: &mut Vec<Cell>,
+    ) -> Result<(), OutOfMemory>
+        requires earlier { AllByRecursion (NameEarlier 0) source.now.each.now.maps }
+        requires known { ForSome source.now.map (λ number. number < length source.now.each.now.maps) }
+        requires few { length (kind_cells self.old.kind) < 4611686018427387904 }
+        requires cursor { MayMove (B.list source.now.buffer.now) (B.forgotten source.now.buffer.now) tick self.old.back }
+        ensures cursor { OnOk result
+            (StandsAt (B.list source.now.buffer.now) (B.forgotten source.now.buffer.now) tick self.new.back) }
+        ensures cells { OnOk result (kind_cells self.new.kind ≡ kind_cells self.old.kind
+            ++ mapped source.now.each.now.maps source.now.map (cell_at (B.list source.now.buffer.now) tick) ∷ []) }
+        ensures marks { self.new.marks ≡ self.old.marks }
+        ensures reducer { kind_reducer self.new.kind ≡ kind_reducer self.old.kind }
+    {
+        self.back.move_to(source.buffer, tick);
+        let cell = mapped(
+            source.each,
+            source.map,
+            self.back.value(source.buffer),
+            registers,
+        )?;
+        self.kind.push_back(cell)
+    }
+
+    // What the reducer gives on the cells that aren't null.
+    pub(crate) fn result(&self) -> Cell
+        ensures { result ≡ reduce (kind_reducer self.now.kind) (numbers (kind_cells self.now.kind)) }
+    {
+        self.kind.result()
+    }
+
+    // The next mark above the last tick.
+    pub(crate) fn next_behind<B: Buffer>(&self, buffer: &B) -> Option<i64>
+        requires cursor { StandsAt (B.list buffer.now) (B.forgotten buffer.now) self.now.back.tick self.now.back }
+        ensures next { NamesNextMark (stream_of (B.list buffer.now)) self.now.back.tick result }
+        ensures low { IfSome result (λ next. neg_ℤ WIDE <ℤ next) }
+        ensures high { IfSome result (λ next. next ≤ℤ (WIDE +ℤ pos 1)) }
+    {
+        self.back.next(buffer)
+    }
+
+    // The next mark above the first tick: the first one in the window, and else the next above the last tick.
+    pub(crate) fn next_within<B: Buffer>(&self, buffer: &B) -> Option<i64>
+        requires cursor { StandsAt (B.list buffer.now) (B.forgotten buffer.now) self.now.back.tick self.now.back }
+        ensures next { (by_map : Option ℤ → Option ℤ) (first : ℤ) → first ≤ℤ self.now.back.tick
+            → Holds (stream_of (B.list buffer.now)) by_map first self.now
+            → NamesNextMark (stream_of (B.list buffer.now)) first result }
+        ensures bounds { (by_map : Option ℤ → Option ℤ) (first : ℤ) → first ≤ℤ self.now.back.tick
+            → Holds (stream_of (B.list buffer.now)) by_map first self.now
+            → IfSome result (λ next. (first <ℤ next) × (next ≤ℤ int_max self.now.back.tick (WIDE +ℤ pos 1))) }
+    {
+        match self.first_mark() {
+            Some(mark) => Some(mark),
+            None => self.back.next(buffer),
+        }
+    }
+}
+
+// The next mark above the tick of a cursor, where it isn't above a last tick.
+fn next_within<B: Buffer>(cursor: &Cursor, buffer: &B, last: i64) -> Option<i64>
+    requires cursor { StandsAt (B.list buffer.now) (B.forgotten buffer.now) cursor.now.tick cursor.now }
+    ensures { MatchOption result
+        ((other : ℤ) → cursor.now.tick <ℤ other → other ≤ℤ last → (stream_of (B.list buffer.now)).mark other ≡ false)
+        (λ mark. IsNextMark (stream_of (B.list buffer.now)) cursor.now.tick mark × (mark ≤ℤ last)) }
+{
+    let next = cursor.next(buffer)?;
+    if next <= last { Some(next) } else { None }
+}

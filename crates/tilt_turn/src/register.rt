@@ -1,0 +1,37 @@
+// Registers: what an instruction gives by those before it.
+ghost use Rattle.std.specs.Prelude.{◌≡◌, ◌<◌, None, get_or, length};
+ghost use Rattle.tilt_code.specs.Body.{instr_cell, last_or};
+ghost use Rattle.tilt_turn.specs.Ready.{NamesBelow};
+
+use tilt_base::{Cell, apply1, apply2, choose};
+use tilt_code::Instr;
+
+// What an instruction gives by the registers before it; where it is a leaf, it gives the cell of the leaf.
+pub(crate) fn register(instr: Instr, registers: &[Cell], leaf: Cell) -> Cell
+    requires { NamesBelow (length registers.now) instr }
+    ensures { result ≡ instr_cell (λ _. leaf) registers.now instr }
+{
+    match instr {
+        Instr::Const(number) => Some(number),
+        Instr::Null => None,
+        Instr::One(op, a) => apply1(op, read(registers, a)),
+        Instr::Two(op, a, b) => apply2(op, read(registers, a), read(registers, b)),
+        Instr::If(c, a, b) => { choose(read(registers, c), read(registers, a), read(registers, b)) }
+        Instr::Argument | Instr::Port { .. } | Instr::Win { .. } => leaf,
+    }
+}
+
+// The register of that number.
+fn read(registers: &[Cell], number: u32) -> Cell
+    requires { number < length registers.now }
+    ensures { result ≡ get_or registers.now number None }
+{
+    registers[number as usize]
+}
+
+// The last register, which is the result of a block.
+pub(crate) fn last(registers: &[Cell]) -> Cell
+    ensures { result ≡ last_or None registers.now }
+{
+    *registers.last()?
+}
