@@ -1,0 +1,107 @@
+-- What a query means on a stretch of time, where later rows come, and where rows aren't there that needn't be.
+use Rattle.std.proofs.Common.{◌≡◌, ℕ, zero, suc, ◌<◌, ℤ, pos, ◌+ℤ◌, ◌-ℤ◌, ◌≤ℤ◌, List, [], ◌∷◌, length, map, get_or, Option, Some, None, Ok, Err, Result, Bool, true, false, if◌then◌else◌, refl, sym, ap, ◌∙◌, arith, subst}
+use Rattle.std.specs.List.{AllByRecursion}
+use Rattle.std.proofs.lemmas.Int.{ints, by_lt_z}
+use Rattle.std.proofs.lemmas.List.{length-map}
+use Rattle.tilt_bounds.proofs.Laws.{core-IsLocal, core-IsCausal}
+use Rattle.tilt_bounds.proofs.Needs.{need_at-definition}
+use Rattle.tilt_bounds.specs.Laws.{AgreeAsAsked, AreContinued, IsLocal, IsCausal, StaysAsAsked}
+use Rattle.tilt_bounds.specs.Margins.{AreMargins, IsWithin, MarginsParts, is_too_far, margins_of, need_at}
+use Rattle.tilt_lower.proofs.Planned.{margins-needs}
+use Rattle.tilt_lower.proofs.Snapped.{snapshots-agree}
+use Rattle.tilt_stream.proofs.Cut.{snapshots-none}
+use Rattle.tilt_stream.proofs.Locality.{narrower-agrees}
+use Rattle.tilt_stream.specs.Agreement.{Agree}
+use Rattle.tilt_stream.specs.Snap.{Snapshot, AreRows}
+use Rattle.tilt_stream.specs.Stream.{Stream, stream_of}
+use Rattle.tilt_types.proofs.Sources.{with_definitions-front}
+use Rattle.tilt_types.specs.Core.{CoreParts, IsCore, emitted_number}
+use Rattle.tilt_types.specs.CoreTree.{Definition}
+use Rattle.tilt_types.specs.Meaning.{meaning, source_of}
+use Rattle.tilt_types.specs.Needs.{Need, needs_from, no_margin, reach}
+use Rattle.tilt_chunk.proofs.Lists.{length-added, rows_of, sources-kept}
+use Rattle.tilt_chunk.specs.Emitted.{given}
+use Rattle.tilt_chunk.specs.Kept.{kept_of}
+use Rattle.tilt_chunk.specs.NewRows.{added}
+
+-- margins have the look-back and the look-ahead of the core
+given_by : (far : Bool) (w : Need) (made m : MarginsParts)
+    → ◌≡◌ {A = Result MarginsParts Need} (if far then Err w else Ok made) (Ok m) → made ≡ m
+given_by true w made m e = absurd (cc e)
+given_by false w made m e = cc e
+
+pub margins-reach : (core : CoreParts) (m : MarginsParts) → margins_of core ≡ Ok m
+    → (let w = reach (length core.inputs) core.defs in (w.back ≡ m.back) × (w.ahead ≡ m.ahead))
+margins-reach core m near =
+    let w = reach (length core.inputs) core.defs in
+    let made = given_by (is_too_far w) w _ m near in
+    (ap (λ (p : MarginsParts). p.back) made, ap (λ (p : MarginsParts). p.ahead) made)
+
+-- the last definition is asked for the tick itself
+last-need : (number place : ℕ) (defs : List Definition) → length defs ≡ suc place
+    → get_or (needs_from number defs) place None ≡ Some no_margin
+last-need number place [] is = absurd (omega arith)
+last-need number zero (def ∷ []) is = refl
+last-need number (suc place) (def ∷ []) is = absurd (omega arith)
+last-need number zero (def ∷ next ∷ defs) is = absurd (omega arith)
+last-need number (suc place) (def ∷ next ∷ defs) is = last-need (suc number) place (next ∷ defs) (omega arith)
+
+module _ (core : CoreParts) (margins : MarginsParts) (is : IsCore core) (near : margins_of core ≡ Ok margins) (kept : AreMargins margins) where
+  local : IsLocal core margins
+  local = core-IsLocal core margins is (margins-needs core margins near)
+
+  causal : IsCausal core margins
+  causal = core-IsCausal core margins local kept.needs
+
+  emits : need_at margins.needs (emitted_number core) ≡ Some no_margin
+  emits =
+      ap (λ (ns : List (Option Need)). need_at ns (emitted_number core)) (margins-needs core margins near)
+      ∙ need_at-definition (length core.inputs) core.defs (length core.names)
+      ∙ last-need (length core.inputs) (length core.names) core.defs is.one_emitted
+
+  -- rows from a cut on change nothing up to the cut less the look-ahead
+  pub given-continued : (cut lo hi : ℤ) (before after : List (List Snapshot)) → length before ≡ length core.inputs
+      → AreContinued cut before after
+      → hi ≤ℤ (cut -ℤ margins.ahead) → given core before lo hi ≡ given core after lo hi
+  given-continued cut lo hi before after many are within =
+      let x = meaning before core.defs (emitted_number core) in
+      let y = meaning after core.defs (emitted_number core) in
+      let same = subst (λ (m : Option Need). StaysAsAsked m (cut -ℤ margins.ahead) x y) emits (causal.causal cut before after many are (emitted_number core)) in
+      snapshots-agree x y lo hi (record {
+        cells = λ tick above below. same.cells tick (omega (arith, ints));
+        marks = λ tick above below. same.marks tick (omega (arith, ints));
+      })
+
+  -- an input is its rows
+  input-is : (rows : List (List Snapshot)) (i : ℕ) → length rows ≡ length core.inputs → i < length core.inputs
+      → meaning rows core.defs i ≡ source_of (map stream_of rows) i
+  input-is rows i many low = with_definitions-front (map stream_of rows) core.defs i (omega (arith, length-map rows stream_of))
+
+  asked-agree : (m : Option Need) (lo hi : ℤ) (x y : Stream) → IsWithin (record { back = margins.back; ahead = margins.ahead }) m
+      → ((from to : ℤ) → (lo -ℤ margins.back) ≤ℤ from → Agree x y from to) → AgreeAsAsked m lo hi x y
+  asked-agree None lo hi x y within agree = tt
+  asked-agree (Some n) lo hi x y within agree =
+      let back = within.1 in
+      agree (lo -ℤ n.back) (hi +ℤ n.ahead) (omega (arith, ints))
+
+  -- from the first tick that is kept on, nothing is missing
+  pub given-kept : (first lo hi : ℤ) (rows new : List (List Snapshot)) → AllByRecursion AreRows rows → length rows ≡ length core.inputs
+      → length new ≡ length rows → first ≤ℤ (lo -ℤ margins.back +ℤ pos 1)
+      → given core (added (rows_of (map (kept_of first) rows)) new) lo hi ≡ given core (added rows new) lo hi
+  given-kept first lo hi rows new order many counted on =
+      let one = added (rows_of (map (kept_of first) rows)) new in
+      let all = added rows new in
+      let x = meaning one core.defs (emitted_number core) in
+      let y = meaning all core.defs (emitted_number core) in
+      let all_many : length all ≡ length core.inputs = length-added rows new counted ∙ many in
+      let kept_many : length (rows_of (map (kept_of first) rows)) ≡ length rows = length-map (map (kept_of first) rows) (λ k. k.rows) ∙ length-map rows (kept_of first) in
+      let one_many : length one ≡ length core.inputs = length-added (rows_of (map (kept_of first) rows)) new (counted ∙ sym kept_many) ∙ kept_many ∙ many in
+      by_lt_z lo hi
+      (λ some.
+      let agreed = subst (λ (m : Option Need). AgreeAsAsked m lo hi x y) emits
+      (local.local one all lo hi one_many all_many some
+      (λ i low. asked-agree (need_at margins.needs i) lo hi (meaning one core.defs i) (meaning all core.defs i) (kept.needs.each i)
+      (λ from to behind. rw (input-is one i one_many low, input-is all i all_many low) (sources-kept first from to rows new i order (omega (arith, ints)))))
+      (emitted_number core)) in
+      snapshots-agree x y lo hi (narrower-agrees x y (lo -ℤ pos 0) (hi +ℤ pos 0) lo hi agreed (omega (arith, ints)) (omega (arith, ints))))
+      (λ none. snapshots-none x lo hi none ∙ sym (snapshots-none y lo hi none))

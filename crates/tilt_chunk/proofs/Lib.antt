@@ -1,0 +1,11 @@
+pub mod Ends
+pub mod Given
+pub mod Joined
+pub mod Lists
+pub mod OneCut
+pub mod Parted
+pub mod Pieces
+pub mod Printed
+pub mod Reach
+pub mod Sessions
+pub mod Valid

@@ -1,0 +1,123 @@
+use Rattle.std.proofs.Common.{◌∙◌, ap, sym, subst, rules, w64, to_z, of_z, FitsSigned, ℤ, ◌≤ℤ◌, List, length, map, Some}
+use Rattle.std.specs.List.{AllByRecursion}
+use Rattle.std.proofs.lemmas.Int.{to_z-of_z}
+use Rattle.tilt_bounds.specs.Margins.{margins_of}
+use Rattle.tilt_checkpoint.proofs.Rows.{time_fits}
+use Rattle.tilt_checkpoint.specs.Decided.{decided}
+use Rattle.tilt_chunk.proofs.OneCut.{decided-most, decided-on, one-cut}
+use Rattle.tilt_chunk.proofs.Lists.{rows_of}
+use Rattle.tilt_chunk.proofs.Sessions.{are-behind, both-counted, later-is, later-left, newly-is, shown-later}
+use Rattle.tilt_chunk.specs.Cuts.{IsInRange}
+use Rattle.tilt_chunk.specs.Handed.{all_taken_up}
+use Rattle.tilt_chunk.specs.Later.{next_by}
+use Rattle.tilt_stream.specs.Snap.{Snapshot, AreRows}
+use Rattle.tilt_types.specs.Core.{CoreParts, IsCore}
+use Rattle.tilt_chunk.proofs.later_session.resume.Goals as goal
+use Rattle.tilt_chunk.proofs.later_session.resume.Goals.{in-Upto+in_ok-series-in-Upto, in-End}
+
+pub rows_behind-requires : goal.rows_behind-requires
+rows_behind-requires c =
+    rw (c.into_parts-query.ensures.series, c.deref.ensures.value)
+    (are-behind _ c.args.checkpoint.cut c.args.cut c.args.checkpoint.series c.args.rows.items c.cut.ensures.valid.series c.requires.rows)
+
+pub go_on-requires-clause-inputs : goal.go_on-requires-clause-inputs
+go_on-requires-clause-inputs c =
+    let frame = c.new.result in
+    let old_fits : FitsSigned w64 c.cut.result = search rules in
+    let last_fits : FitsSigned w64 c.decided_by-last.result = search rules in
+    let old_is = to_z-of_z w64 c.cut.result old_fits ∙ c.cut.ensures.value in
+    let last_is = to_z-of_z w64 c.decided_by-last.result last_fits ∙ c.decided_by-last.ensures in
+    let series = c.into_parts-query.result.1.items in
+    let ends = c.in_ok-handed.ensures.ends ∙ ap (λ (ns : List (List Snapshot)). map (λ k. k.last_end) (all_taken_up series ns)) c.deref.ensures.value in
+    let known = c.in_ok-handed.ensures.rows ∙ ap (λ (ns : List (List Snapshot)). rows_of (all_taken_up series ns)) c.deref.ensures.value in
+    ap length (shown-later c.args.checkpoint c.args.accepted.now.core.now frame c.args.cut (to_z w64 (of_z w64 c.cut.result)) (to_z w64 (of_z w64 c.decided_by-last.result))
+    c.args.rows.items c.in_ok-handed.handed.rows.items c.deref-2.result.now c.in_ok-handed.handed.ends.items series c.open_start.result c.requires.core
+    c.new.ensures.frame old_is last_is c.open_start.ensures.value c.into_parts-query.ensures.series ends known c.deref-2.ensures.value)
+    ∙ both-counted c.args.checkpoint c.args.cut c.args.rows.items c.cut.ensures.valid c.requires.rows
+    ∙ sym (ap (λ (core : CoreParts). length core.inputs) c.requires.core)
+
+pub go_on-requires-clause-onward : goal.go_on-requires-clause-onward
+go_on-requires-clause-onward c =
+    let frame = c.new.result in
+    let old_fits : FitsSigned w64 c.cut.result = search rules in
+    let last_fits : FitsSigned w64 c.decided_by-last.result = search rules in
+    let old_is = to_z-of_z w64 c.cut.result old_fits ∙ c.cut.ensures.value in
+    let last_is = to_z-of_z w64 c.decided_by-last.result last_fits ∙ c.decided_by-last.ensures in
+    subst (λ (t : ℤ). decided frame t ≤ℤ to_z w64 (of_z w64 c.decided_by-last.result)) (sym old_is)
+    (subst (λ (t : ℤ). decided frame c.args.checkpoint.cut ≤ℤ t) (sym last_is) (decided-on frame c.args.checkpoint.cut c.args.cut c.requires.onward))
+
+pub go_on-requires-clause-high : goal.go_on-requires-clause-high
+go_on-requires-clause-high c =
+    let frame = c.new.result in
+    let last_fits : FitsSigned w64 c.decided_by-last.result = search rules in
+    let last_is = to_z-of_z w64 c.decided_by-last.result last_fits ∙ c.decided_by-last.ensures in
+    subst (λ (t : ℤ). t ≤ℤ frame.end) (sym last_is) (decided-most frame c.args.cut)
+
+pub new-requires-in-Upto : goal.new-requires-in-Upto
+new-requires-in-Upto c =
+    let frame = c.new.result in
+    let old_fits : FitsSigned w64 c.cut.result = search rules in
+    let last_fits : FitsSigned w64 c.decided_by-last.result = search rules in
+    let old_is = to_z-of_z w64 c.cut.result old_fits ∙ c.cut.ensures.value in
+    let last_is = to_z-of_z w64 c.decided_by-last.result last_fits ∙ c.decided_by-last.ensures in
+    let series = c.into_parts-query.result.1.items in
+    let ends = c.in_ok-handed.ensures.ends ∙ ap (λ (ns : List (List Snapshot)). map (λ k. k.last_end) (all_taken_up series ns)) c.deref.ensures.value in
+    let known = c.in_ok-handed.ensures.rows ∙ ap (λ (ns : List (List Snapshot)). rows_of (all_taken_up series ns)) c.deref.ensures.value in
+    let upto = c.in-Upto.upto in
+    let range = subst IsInRange c.in-Upto.is c.requires.range in
+    let first_fits : FitsSigned w64 c.first_kept.result = search rules in
+    later-is c.args.checkpoint c.args.accepted.now.core.now frame c.args.cut (to_z w64 (of_z w64 c.cut.result)) (to_z w64 (of_z w64 c.decided_by-last.result))
+    c.args.rows.items c.in_ok-handed.handed.rows.items c.deref-2.result.now c.in_ok-handed.handed.ends.items series c.open_start.result c.requires.core
+    c.new.ensures.frame old_is last_is c.open_start.ensures.value c.into_parts-query.ensures.series ends known c.deref-2.ensures.value
+    upto _ c.first_kept.result _ c.into_parts-query.result.0 c.in_ok-closed.closed.open_start c.in_ok-series-in-Upto.series.items c.in-Upto.is
+    (to_z-of_z w64 upto (time_fits upto range.0 range.1)) (to_z-of_z w64 c.first_kept.result first_fits) c.first_kept.ensures c.into_parts-query.ensures.query
+    c.in_ok-closed.ensures.begun c.in_ok-series-in-Upto.ensures.kept c.cut.ensures.valid c.requires.range c.requires.onward c.new.ensures.bounds c.requires.rows
+    (subst (AllByRecursion AreRows) c.deref.ensures.value c.in_ok-handed.ensures.in_order) c.in_ok-series-in-Upto.ensures.cells
+
+pub returns-clause-newly : goal.returns-clause-newly
+returns-clause-newly c =
+    let frame = c.new.result in
+    let old_fits : FitsSigned w64 c.cut.result = search rules in
+    let last_fits : FitsSigned w64 c.decided_by-last.result = search rules in
+    let old_is = to_z-of_z w64 c.cut.result old_fits ∙ c.cut.ensures.value in
+    let last_is = to_z-of_z w64 c.decided_by-last.result last_fits ∙ c.decided_by-last.ensures in
+    let series = c.into_parts-query.result.1.items in
+    let ends = c.in_ok-handed.ensures.ends ∙ ap (λ (ns : List (List Snapshot)). map (λ k. k.last_end) (all_taken_up series ns)) c.deref.ensures.value in
+    let known = c.in_ok-handed.ensures.rows ∙ ap (λ (ns : List (List Snapshot)). rows_of (all_taken_up series ns)) c.deref.ensures.value in
+    newly-is c.args.checkpoint c.args.accepted.now.core.now frame c.args.cut (to_z w64 (of_z w64 c.cut.result)) (to_z w64 (of_z w64 c.decided_by-last.result))
+    c.args.rows.items c.in_ok-handed.handed.rows.items c.deref-2.result.now c.in_ok-handed.handed.ends.items series c.open_start.result c.requires.core
+    c.new.ensures.frame old_is last_is c.open_start.ensures.value c.into_parts-query.ensures.series ends known c.deref-2.ensures.value
+    c.in_ok-closed.closed.printed c.in_ok-closed.ensures.printed
+
+pub returns-clause-next : goal.returns-clause-next
+returns-clause-next c =
+    let frame = c.new.result in
+    let old_fits : FitsSigned w64 c.cut.result = search rules in
+    let last_fits : FitsSigned w64 c.decided_by-last.result = search rules in
+    let old_is = to_z-of_z w64 c.cut.result old_fits ∙ c.cut.ensures.value in
+    let last_is = to_z-of_z w64 c.decided_by-last.result last_fits ∙ c.decided_by-last.ensures in
+    let series = c.into_parts-query.result.1.items in
+    let ends = c.in_ok-handed.ensures.ends ∙ ap (λ (ns : List (List Snapshot)). map (λ k. k.last_end) (all_taken_up series ns)) c.deref.ensures.value in
+    let known = c.in_ok-handed.ensures.rows ∙ ap (λ (ns : List (List Snapshot)). rows_of (all_taken_up series ns)) c.deref.ensures.value in
+    elim c.match-cut.branch [
+      | in-Upto+in_ok-series-in-Upto w ↦
+          let upto = w.in-Upto.upto in
+          let range = subst IsInRange w.in-Upto.is c.requires.range in
+          let first_fits : FitsSigned w64 w.first_kept.result = search rules in
+          w.next-is
+          ∙ ap Some (w.new-in-Upto.ensures ∙ later-left c.args.checkpoint c.args.accepted.now.core.now frame c.args.cut (to_z w64 (of_z w64 c.cut.result)) (to_z w64 (of_z w64 c.decided_by-last.result))
+          c.args.rows.items c.in_ok-handed.handed.rows.items c.deref-2.result.now c.in_ok-handed.handed.ends.items series c.open_start.result c.requires.core
+          c.new.ensures.frame old_is last_is c.open_start.ensures.value c.into_parts-query.ensures.series ends known c.deref-2.ensures.value
+          upto _ w.first_kept.result _ c.into_parts-query.result.0 c.in_ok-closed.closed.open_start w.in_ok-series-in-Upto.series.items w.in-Upto.is
+          (to_z-of_z w64 upto (time_fits upto range.0 range.1)) (to_z-of_z w64 w.first_kept.result first_fits) w.first_kept.ensures
+          c.into_parts-query.ensures.query c.in_ok-closed.ensures.begun w.in_ok-series-in-Upto.ensures.kept)
+          ∙ sym (ap (next_by c.args.checkpoint c.args.rows.items) w.in-Upto.is)
+      | in-End w ↦ w.next-is ∙ sym (ap (next_by c.args.checkpoint c.args.rows.items) w.in-End.is)
+    ]
+
+pub returns-clause-law : goal.returns-clause-law
+returns-clause-law c =
+    let core = c.requires.core in
+    one-cut c.args.checkpoint c.args.accepted.now.margins.now c.args.cut c.args.rows.items (subst IsCore core c.inputs.ensures.accepted)
+    (sym (ap margins_of core) ∙ c.requires.margins) c.needs.ensures.kept c.requires.onward
+    (subst (AllByRecursion AreRows) c.deref.ensures.value c.in_ok-handed.ensures.in_order) c.requires.rows

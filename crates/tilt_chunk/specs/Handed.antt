@@ -1,0 +1,47 @@
+-- What a session knows of its inputs, step by step (for the crate's own functions).
+use Rattle.std.specs.Prelude.{ℤ, ◌≤ℤ◌, if◌then◌else◌, List, [], ◌∷◌, ◌++◌, Option, int_lt, ⊤}
+use Rattle.std.specs.List.{AllByRecursion}
+use Rattle.std.specs.Option.{ForSome}
+use Rattle.tilt_stream.specs.Snap.{Snapshot, last_end}
+use Rattle.tilt_checkpoint.specs.Checkpoint.{KeptParts}
+use Rattle.tilt_checkpoint.specs.Decided.{decided}
+use Rattle.tilt_checkpoint.specs.Valid.{IsCell}
+use Rattle.tilt_checkpoint.specs.declared.frame.Frame.{Frame}
+use Rattle.tilt_chunk.specs.Emitted.{closed}
+use Rattle.tilt_chunk.specs.Later.{last_or}
+use Rattle.tilt_chunk.specs.Pieces.{kept}
+
+-- rows start where others have ended, or behind that
+abbrev pub IsBehind : List Snapshot → List Snapshot → Type 0
+IsBehind rows more = ForSome (last_end rows) (λ end. AllByRecursion (λ row. end ≤ℤ row.start) more)
+
+-- the new rows of each input stand behind those that are kept, one list for each
+abbrev pub AreBehind : List KeptParts → List (List Snapshot) → Type 0
+AreBehind [] [] = ⊤
+AreBehind [] (new ∷ more) = ⊥
+AreBehind (k ∷ series) [] = ⊥
+AreBehind (k ∷ series) (new ∷ more) = IsBehind k.rows new × AreBehind series more
+
+-- what is known of an input with new rows
+abbrev pub taken_up : KeptParts → List Snapshot → KeptParts
+taken_up k new = record { last_end = last_or (last_end new) k.last_end; rows = k.rows ++ new }
+
+-- and of each input
+abbrev pub all_taken_up : List KeptParts → List (List Snapshot) → List KeptParts
+all_taken_up [] new = []
+all_taken_up (k ∷ series) [] = []
+all_taken_up (k ∷ series) (new ∷ more) = taken_up k new ∷ all_taken_up series more
+
+-- what is kept of each input, of which these are the ends of the last rows, and those the rows
+abbrev pub kept_at : ℤ → List (Option ℤ) → List (List Snapshot) → List KeptParts
+kept_at first [] rows = []
+kept_at first (end ∷ ends) [] = []
+kept_at first (end ∷ ends) (rows ∷ more) = record { last_end = end; rows = kept first rows } ∷ kept_at first ends more
+
+-- the values of rows are of 64 bits, or null
+abbrev pub AreCells : List Snapshot → Type 0
+AreCells rows = AllByRecursion (λ row. IsCell row.value) rows
+
+-- of snapshots behind a cut, those whose end is known; none where all of the output was decided before
+abbrev pub closed_behind : Frame → ℤ → ℤ → List Snapshot → List Snapshot
+closed_behind frame cut last list = if int_lt (decided frame cut) frame.end then closed frame last list else []

@@ -1,0 +1,25 @@
+-- The checkpoint of a session (our own rule).
+use Rattle.std.specs.Prelude.{ℤ, List, map}
+use Rattle.tilt_stream.specs.Snap.{Snapshot, last_end}
+use Rattle.tilt_syntax.specs.Tree.{StatementTree}
+use Rattle.tilt_types.specs.Checked.{core_of}
+use Rattle.tilt_checkpoint.specs.Checkpoint.{KeptParts, CheckpointParts}
+use Rattle.tilt_checkpoint.specs.Decided.{frame_of, first_kept}
+use Rattle.tilt_chunk.specs.Emitted.{open_at}
+use Rattle.tilt_chunk.specs.Pieces.{kept}
+use Rattle.tilt_chunk.specs.declared.cut.Cut.TheVariants.{Upto}
+
+-- what is kept of all rows of an input
+abbrev pub kept_of : ℤ → List Snapshot → KeptParts
+kept_of first rows = record { last_end = last_end rows; rows = kept first rows }
+
+-- the checkpoint of a query at a cut, where those are all rows so far
+abbrev pub checkpoint_at : List StatementTree → List (List Snapshot) → ℤ → CheckpointParts
+checkpoint_at query rows cut =
+    let core = core_of query in
+    record {
+      query = query;
+      cut = cut;
+      open_start = open_at core rows (Upto cut);
+      series = map (kept_of (first_kept (frame_of core) cut)) rows;
+    }

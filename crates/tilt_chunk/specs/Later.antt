@@ -1,0 +1,63 @@
+-- What a session behind a checkpoint prints, and its own checkpoint (our own rule). It is handed the rows behind the checkpoint alone.
+use Rattle.std.specs.Prelude.{ℤ, pos, ◌-ℤ◌, if◌then◌else◌, List, [], ◌∷◌, ◌++◌, map, Option, Some, None, int_lt}
+use Rattle.std.specs.Int.{int_max}
+use Rattle.tilt_stream.specs.Snap.{Snapshot, last_end}
+use Rattle.tilt_types.specs.Checked.{core_of}
+use Rattle.tilt_checkpoint.specs.Checkpoint.{KeptParts, CheckpointParts}
+use Rattle.tilt_checkpoint.specs.Decided.{frame_of, decided, first_kept}
+use Rattle.tilt_checkpoint.specs.declared.frame.Frame.{Frame}
+use Rattle.tilt_chunk.specs.Cuts.{decided_by}
+use Rattle.tilt_chunk.specs.Emitted.{given, closed, open_start}
+use Rattle.tilt_chunk.specs.NewRows.{added}
+use Rattle.tilt_chunk.specs.Pieces.{joined_from, kept}
+use Rattle.tilt_chunk.specs.declared.cut.Cut.{Cut}
+use Rattle.tilt_chunk.specs.declared.cut.Cut.TheVariants.{Upto, End}
+
+-- where a session goes on: before the tick that was decided last, or at the start of the output where nothing was
+abbrev pub resumed_at : Frame → ℤ → ℤ
+resumed_at frame cut = int_max frame.start (decided frame cut -ℤ pos 1)
+
+-- the rows of each input that a session knows: those that are kept, and the new ones
+abbrev pub both : CheckpointParts → List (List Snapshot) → List (List Snapshot)
+both c rows = added (map (λ k. k.rows) c.series) rows
+
+-- the snapshots that a session goes on by: from where it goes on, the first of them with the start of the open one
+abbrev pub going_on : CheckpointParts → List (List Snapshot) → Cut → List Snapshot
+going_on c rows cut =
+    let core = core_of c.query in
+    let frame = frame_of core in
+    joined_from c.open_start (given core (both c rows) (resumed_at frame c.cut) (decided_by frame cut))
+
+-- what a session prints: those of them whose end is known, and nothing where all of the output was decided before
+abbrev pub newly : CheckpointParts → List (List Snapshot) → Cut → List Snapshot
+newly c rows cut =
+    let frame = frame_of (core_of c.query) in
+    if int_lt (decided frame c.cut) frame.end then closed frame (decided_by frame cut) (going_on c rows cut) else []
+
+-- the end of the last row of an input: that of the last new one, and where none is new the one from before
+abbrev pub last_or : Option ℤ → Option ℤ → Option ℤ
+last_or None old = old
+last_or (Some end) old = Some end
+
+-- what is kept of each input
+abbrev pub kept_again : ℤ → List KeptParts → List (List Snapshot) → List KeptParts
+kept_again first [] new = []
+kept_again first (k ∷ series) [] = []
+kept_again first (k ∷ series) (rows ∷ more) =
+    record { last_end = last_or (last_end rows) k.last_end; rows = kept first (k.rows ++ rows) } ∷ kept_again first series more
+
+-- the checkpoint of a session that ends by a cut
+abbrev pub next : CheckpointParts → List (List Snapshot) → ℤ → CheckpointParts
+next c rows cut =
+    let frame = frame_of (core_of c.query) in
+    record {
+      query = c.query;
+      cut = cut;
+      open_start = open_start frame (decided frame cut) (going_on c rows (Upto cut));
+      series = kept_again (first_kept frame cut) c.series rows;
+    }
+
+-- the checkpoint of a session, and none where nothing comes behind it
+abbrev pub next_by : CheckpointParts → List (List Snapshot) → Cut → Option CheckpointParts
+next_by c rows (Upto cut) = Some (next c rows cut)
+next_by c rows End = None

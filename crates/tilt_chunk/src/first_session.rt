@@ -1,0 +1,48 @@
+// The first session of a query.
+ghost use Rattle.std.specs.Prelude.{◌≡◌, Ok, IfOk};
+ghost use Rattle.tilt_bounds.specs.Margins.{margins_of};
+ghost use Rattle.tilt_checkpoint.specs.Valid.{IsCut};
+ghost use Rattle.tilt_chunk.specs.Emitted.{emitted};
+ghost use Rattle.tilt_chunk.specs.Kept.{checkpoint_at};
+ghost use Rattle.tilt_chunk.specs.NewRows.{AreFirstRows};
+ghost use Rattle.tilt_chunk.specs.declared.cut.Cut.TheVariants.{Upto};
+ghost use Rattle.tilt_syntax.specs.Query.{IsQuery};
+ghost use Rattle.tilt_types.specs.Checked.{checked};
+
+use crate::accepted::Accepted;
+use crate::closing::close;
+use crate::handed::{first_rows, keep};
+use crate::stretch::run_on;
+use std::alloc::{AllocError as OutOfMemory, Global};
+use tilt_checkpoint::{Checkpoint, Frame};
+use tilt_stream::{Rows, SnapList};
+use tilt_syntax::Query;
+
+/// The first session of a query, up to a cut: what is printed by then, and the checkpoint there. The rows are those that start
+/// below the cut, one list for each input. `OutOfMemory` comes where memory is refused, and for no other reason.
+pub fn start(
+    alloc: Global,
+    query: Query,
+    accepted: &Accepted<'_>,
+    rows: Vec<Rows>,
+    upto: i64,
+) -> Result<(SnapList, Checkpoint), OutOfMemory>
+    requires query { IsQuery query }
+    requires core { checked query ≡ Ok accepted.now.core.now }
+    requires margins { margins_of accepted.now.core.now ≡ Ok accepted.now.margins.now }
+    requires rows { AreFirstRows accepted.now.core.now (Upto upto) rows.items }
+    requires cut { IsCut upto }
+    ensures printed { IfOk result (λ session. session.0 ≡ emitted accepted.now.core.now rows.items (Upto upto)) }
+    ensures left { IfOk result (λ session. session.1 ≡ checkpoint_at query rows.items upto) }
+{
+    let frame = Frame::new(accepted.core, accepted.margins);
+    let last = frame.decided(upto);
+    let handed = first_rows(alloc, rows)?;
+    let list = run_on(alloc, accepted, &handed.rows, frame.start, last)?;
+    let closed = close(frame, last, list);
+    let series = keep(alloc, &handed, frame.first_kept(upto))?;
+    Ok((
+        closed.printed,
+        Checkpoint::new(query, upto, closed.open_start, series),
+    ))
+}

@@ -1,0 +1,118 @@
+// A session behind a checkpoint.
+ghost use Rattle.std.specs.Prelude.{◌≡◌, ◌≤ℤ◌, Ok, IfOk, length};
+ghost use Rattle.tilt_bounds.specs.Margins.{margins_of};
+ghost use Rattle.tilt_checkpoint.specs.Decided.{IsFrame, decided, frame_of};
+ghost use Rattle.tilt_checkpoint.specs.Valid.{IsCut, IsOpen};
+ghost use Rattle.tilt_chunk.specs.Cuts.{IsOnward, IsInRange, decided_by};
+ghost use Rattle.tilt_chunk.specs.Emitted.{given, open_start};
+ghost use Rattle.tilt_chunk.specs.Handed.{closed_behind};
+ghost use Rattle.tilt_chunk.specs.Later.{newly, next_by, resumed_at};
+ghost use Rattle.tilt_chunk.specs.Law.{IsOneCut};
+ghost use Rattle.tilt_chunk.specs.NewRows.{AreNewRows};
+ghost use Rattle.tilt_chunk.specs.Pieces.{joined_from};
+ghost use Rattle.tilt_types.specs.Checked.{core_of};
+
+use crate::accepted::Accepted;
+use crate::closing::{Closed, close, join_from};
+use crate::cut::Cut;
+use crate::handed::{keep, rows_behind};
+use crate::stretch::run_on;
+use std::alloc::{AllocError as OutOfMemory, Global};
+use tilt_checkpoint::{Checkpoint, Frame};
+use tilt_stream::{Rows, SnapList};
+
+/// A session behind a checkpoint: what is printed newly, and where the session ends by a cut its own checkpoint. The rows are those
+/// behind the old cut and, where there is one, below the new one, one list for each input. Whatever the rows before them were, they
+/// need not be there again: `law` says that the sessions print together, and leave, what one session does on all rows.
+/// `OutOfMemory` comes where memory is refused, and for no other reason.
+pub fn resume(
+    alloc: Global,
+    checkpoint: Checkpoint,
+    accepted: &Accepted<'_>,
+    rows: Vec<Rows>,
+    cut: Cut,
+) -> Result<(SnapList, Option<Checkpoint>), OutOfMemory>
+    requires core { accepted.now.core.now ≡ core_of checkpoint.query }
+    requires margins { margins_of accepted.now.core.now ≡ Ok accepted.now.margins.now }
+    requires rows { AreNewRows checkpoint.cut cut checkpoint.series rows.items }
+    requires onward { IsOnward checkpoint.cut cut }
+    requires range { IsInRange cut }
+    ensures newly { IfOk result (λ session. session.0 ≡ newly checkpoint rows.items cut) }
+    ensures next { IfOk result (λ session. session.1 ≡ next_by checkpoint rows.items cut) }
+    ensures law { IfOk result (λ _. IsOneCut checkpoint rows.items cut) }
+{
+    // What the core and the margins keep is known from here on.
+    let _ = accepted.core.inputs();
+    let _ = accepted.margins.needs();
+    let behind = Behind {
+        frame: Frame::new(accepted.core, accepted.margins),
+        cut: checkpoint.cut(),
+        begun: checkpoint.open_start(),
+    };
+    let last = decided_by(behind.frame, cut);
+    let (query, series) = checkpoint.into_parts();
+    let handed = rows_behind(alloc, series, &rows)?;
+    let closed = go_on(alloc, accepted, behind, &handed.rows, last)?;
+    let next = match cut {
+        Cut::Upto(upto) => {
+            let series = keep(alloc, &handed, behind.frame.first_kept(upto))?;
+            Some(Checkpoint::new(query, upto, closed.open_start, series))
+        }
+        Cut::End => None,
+    };
+    Ok((closed.printed, next))
+}
+
+// Behind what a session goes on: the cut before it, and the start of the snapshot that was open there.
+#[derive(Clone, Copy)]
+struct Behind {
+    frame: Frame,
+    cut: i64,
+    begun: Option<i64>,
+}
+
+// The last tick of the output that is decided where a session ends.
+fn decided_by(frame: Frame, cut: Cut) -> i64
+    requires frame { IsFrame frame }
+    requires range { IsInRange cut }
+    ensures { result ≡ decided_by frame cut }
+{
+    match cut {
+        Cut::Upto(upto) => frame.decided(upto),
+        Cut::End => frame.end,
+    }
+}
+
+// What is printed newly where the output is decided up to a tick, and the start of the snapshot that is open there.
+fn go_on(
+    alloc: Global,
+    accepted: &Accepted<'_>,
+    behind: Behind,
+    rows: &[Rows],
+    last: i64,
+) -> Result<Closed, OutOfMemory>
+    requires margins { margins_of accepted.now.core.now ≡ Ok accepted.now.margins.now }
+    requires inputs { length rows.now ≡ length accepted.now.core.now.inputs }
+    requires framed { behind.frame ≡ frame_of accepted.now.core.now }
+    requires frame { IsFrame behind.frame }
+    requires cut { IsCut behind.cut }
+    requires begun { IsOpen behind.frame (decided behind.frame behind.cut) behind.begun }
+    requires onward { decided behind.frame behind.cut ≤ℤ last }
+    requires high { last ≤ℤ behind.frame.end }
+    ensures printed { IfOk result (λ made. made.printed ≡ closed_behind behind.frame behind.cut last
+        (joined_from behind.begun (given accepted.now.core.now rows.now (resumed_at behind.frame behind.cut) last))) }
+    ensures begun { IfOk result (λ made. made.open_start ≡ open_start behind.frame last
+        (joined_from behind.begun (given accepted.now.core.now rows.now (resumed_at behind.frame behind.cut) last))) }
+{
+    let frame = behind.frame;
+    let decided = frame.decided(behind.cut);
+    if decided >= frame.end {
+        return Ok(Closed {
+            printed: SnapList::new(alloc),
+            open_start: None,
+        });
+    }
+    let from = frame.start.max(decided - 1);
+    let list = run_on(alloc, accepted, rows, from, last)?;
+    Ok(close(frame, last, join_from(behind.begun, list)))
+}

@@ -1,0 +1,25 @@
+//! Sessions: a query is run on its rows part by part, each behind the checkpoint of the one before it.
+//!
+//! What comes in is a query, or the checkpoint of an earlier session, with the rows up to a cut; what goes out is the snapshots
+//! that are printed by then, and a checkpoint. `start` gives what is printed up to its cut, and the checkpoint there
+//! (`specs/Emitted`, `Kept`). `resume` gives what is printed newly, and the next checkpoint (`specs/Later`); its clause `law` says
+//! that sessions print together what one session prints on all rows (`specs/Law`). Both run the query's code on the ticks that are
+//! newly decided alone.
+#![tactic(auto)]
+
+mod accepted;
+mod closing;
+mod cut;
+mod cut_back;
+mod first_session;
+mod handed;
+mod later_session;
+mod stretch;
+#[cfg(test)]
+mod tests;
+
+pub use accepted::Accepted;
+pub use cut::Cut;
+pub use cut_back::{CutBack, next_cut};
+pub use first_session::start;
+pub use later_session::resume;
