@@ -1,0 +1,3 @@
+pub mod Generator
+pub mod Summary
+pub mod TryQuery

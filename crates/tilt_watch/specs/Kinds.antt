@@ -1,0 +1,45 @@
+-- What each kind of watcher begins with, and its step (our own rule).
+use Rattle.std.specs.Prelude.{ℤ, pos, negsuc, ◌+ℤ◌, Option, Some, None}
+use Rattle.std.specs.Int.{int_min, int_max}
+use Rattle.tilt_stream.specs.Snap.{Snapshot}
+
+-- the end of 64 bits above, and the one below
+abbrev pub highest : ℤ
+highest = pos 9223372036854775807
+
+abbrev pub lowest : ℤ
+lowest = negsuc 9223372036854775807
+
+-- the number, or the end of 64 bits that is nearest to it
+abbrev pub saturated : ℤ → ℤ
+saturated n = int_max lowest (int_min highest n)
+
+-- nothing was counted, and nothing added
+abbrev pub tally_begin : ℤ × ℤ
+tally_begin = (pos 0, pos 0)
+
+-- one more, and the value added, both as far as 64 bits go; no value changes nothing
+abbrev pub tallied : ℤ × ℤ → Option ℤ → ℤ × ℤ
+tallied pair None = pair
+tallied pair (Some value) = (saturated (pair.0 +ℤ pos 1), saturated (pair.1 +ℤ value))
+
+-- counts rows and adds their values
+abbrev pub tally_step : ℤ × ℤ → Snapshot → ℤ × ℤ
+tally_step pair row = tallied pair row.value
+
+-- no least one yet, and no greatest
+abbrev pub extremes_begin : ℤ × ℤ
+extremes_begin = (highest, lowest)
+
+-- the lesser of the first and the value, and the greater of the second and the value; no value changes nothing
+abbrev pub widened : ℤ × ℤ → Option ℤ → ℤ × ℤ
+widened pair None = pair
+widened pair (Some value) = (int_min pair.0 value, int_max pair.1 value)
+
+-- the least and the greatest value
+abbrev pub range_step : ℤ × ℤ → Snapshot → ℤ × ℤ
+range_step pair row = widened pair row.value
+
+-- the least start and the greatest end
+abbrev pub ends_step : ℤ × ℤ → Snapshot → ℤ × ℤ
+ends_step pair row = (int_min pair.0 row.start, int_max pair.1 row.end)

@@ -1,0 +1,75 @@
+// The text of figures, put line by line.
+ghost use Rattle.std.specs.Prelude.{◌≡◌, ◌≤◌, ◌+◌, ◌++◌, ◌∷◌, [], length, take};
+ghost use Rattle.std.specs.Fmt.{signed_decimal};
+ghost use Rattle.tilt_outside.specs.Written.{Puts};
+ghost use Rattle.tilt_watch.specs.Watch.{figures_line, figures_text, pairs_of, watches};
+
+use crate::watcher::Watcher;
+use itoa::Buffer;
+use tilt_outside::{Failed, Sink};
+
+/// Puts the line `figures A B` of each watcher's pair, in order, by one put a line. Takes no memory.
+pub fn put_figures<O: Sink>(out: &mut O, list: &[Box<dyn Watcher>]) -> Result<(), Failed>
+    requires { O.takes out.old (length (figures_text (pairs_of (watches pair step list.now)))) }
+    ensures { Puts O.tells O.written O.faults O.takes out.old out.new
+        (figures_text (pairs_of (watches pair step list.now))) result }
+{
+    for watcher in list {
+        put_watcher(out, watcher)?;
+    }
+    Ok(())
+}
+
+// Puts the line of a watcher's pair.
+fn put_watcher<O: Sink>(out: &mut O, watcher: &Box<dyn Watcher>) -> Result<(), Failed>
+    requires { O.takes out.old (length (figures_line (pair watcher.now))) }
+    ensures { Puts O.tells O.written O.faults O.takes out.old out.new (figures_line (pair watcher.now)) result }
+{
+    put_pair(out, watcher.figures())
+}
+
+// Puts the line of a pair by one put.
+fn put_pair<O: Sink>(out: &mut O, pair: (i64, i64)) -> Result<(), Failed>
+    requires { O.takes out.old (length (figures_line pair)) }
+    ensures { Puts O.tells O.written O.faults O.takes out.old out.new (figures_line pair) result }
+{
+    let mut room = [0; 64];
+    let length = figures_text(pair, &mut room);
+    out.put(&room[..length])
+}
+
+// Writes `figures A B` and LF into the front of the room, and answers how long that is.
+fn figures_text(pair: (i64, i64), room: &mut [u8; 64]) -> usize
+    ensures text { take result room.new ≡ figures_line pair }
+    ensures len { result ≡ length (figures_line pair) }
+    ensures short { result ≤ 64 }
+{
+    let (first, second) = pair;
+    let at = append(room, 0, b"figures ");
+    let at = append_number(room, at, first);
+    let at = append(room, at, b" ");
+    let at = append_number(room, at, second);
+    append(room, at, b"\n")
+}
+
+// Writes a number in shortest decimal behind what stands in front of `at`, and answers where it ends.
+fn append_number(room: &mut [u8; 64], at: usize, number: i64) -> usize
+    requires { at + 20 ≤ 64 }
+    ensures end { result ≡ at + length (signed_decimal number) }
+    ensures text { take result room.new ≡ take at room.old ++ signed_decimal number }
+    ensures short { result ≤ at + 20 }
+{
+    let mut buffer = Buffer::new();
+    append(room, at, buffer.format(number).as_bytes())
+}
+
+// Writes a piece behind what stands in front of `at`, and answers where it ends.
+fn append(room: &mut [u8; 64], at: usize, piece: &[u8]) -> usize
+    requires { at + length piece.now ≤ 64 }
+    ensures end { result ≡ at + length piece.now }
+    ensures text { take result room.new ≡ take at room.old ++ piece.now }
+{
+    let end = at + piece.len();
+    room[at..end].copy_from_slice(piece);
+    end
+}
