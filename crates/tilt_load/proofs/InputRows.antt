@@ -1,8 +1,9 @@
 -- The inputs, one behind another.
-use Rattle.std.proofs.Common.{◌≡◌, List, [], ◌∷◌, ◌++◌, ℕ, Result, Ok, Err, refl, sym, ap, ◌∙◌}
+use Rattle.std.proofs.Common.{◌≡◌, List, [], ◌∷◌, ◌++◌, ℕ, suc, length, Result, Ok, Err, refl, sym, ap, ◌∙◌}
 use Rattle.tilt_stream.specs.Snap.{Snapshot}
 use Rattle.tilt_load.specs.SeriesFiles.{with_rows, input_read, inputs_read}
 use Rattle.tilt_report.specs.Report.{Reason}
+use Rattle.tilt_series.specs.Series.{Bounds}
 use Rattle.tilt_words.specs.Binding.{Binding}
 use Rattle.tilt_load.specs.Inputs.{file_of}
 
@@ -23,20 +24,26 @@ both_more : (first : Result (List Snapshot) Reason) (others : Result (List (List
 both_more first others one more p q = rw (p, q) refl
 
 module _ (files : List ℕ → List ℕ) (binds : List Binding) where
-  -- one more input is taken
-  pub read_more : (names : List (List ℕ)) (rows : List (List Snapshot)) (name : List ℕ) (new : List Snapshot) → inputs_read files binds names ≡ Ok rows → input_read files (file_of binds name) name ≡ Ok new → inputs_read files binds (names ++ name ∷ []) ≡ Ok (rows ++ new ∷ [])
-  read_more [] rows name new is taken =
+  -- one more input is taken, within the bounds of its place
+  pub read_more : (bounds : ℕ → Bounds) (names : List (List ℕ)) (rows : List (List Snapshot)) (name : List ℕ) (new : List Snapshot)
+      → inputs_read files binds bounds names ≡ Ok rows → input_read files (bounds (length names)) (file_of binds name) name ≡ Ok new
+      → inputs_read files binds bounds (names ++ name ∷ []) ≡ Ok (rows ++ new ∷ [])
+  read_more bounds [] rows name new is taken =
       let none : rows ≡ [] = cc in
       rw (taken, none) refl
-  read_more (n ∷ ns) rows name new is taken =
-      let both = both_taken (input_read files (file_of binds n) n) (inputs_read files binds ns) rows is in
-      let next = read_more ns both.more name new both.more_is taken in
-      let all = both_more (input_read files (file_of binds n) n) (inputs_read files binds (ns ++ name ∷ [])) both.one (both.more ++ new ∷ []) both.one_is next in
+  read_more bounds (n ∷ ns) rows name new is taken =
+      let behind : ℕ → Bounds = λ place. bounds (suc place) in
+      let both = both_taken (input_read files (bounds 0) (file_of binds n) n) (inputs_read files binds behind ns) rows is in
+      let next = read_more behind ns both.more name new both.more_is taken in
+      let all = both_more (input_read files (bounds 0) (file_of binds n) n) (inputs_read files binds behind (ns ++ name ∷ [])) both.one (both.more ++ new ∷ []) both.one_is next in
       all ∙ ap (λ (l : List (List Snapshot)). Ok (l ++ new ∷ [])) (sym both.all_is)
 
   -- the next input is refused
-  pub read_stops : (names more : List (List ℕ)) (rows : List (List Snapshot)) (name : List ℕ) (why : Reason) → inputs_read files binds names ≡ Ok rows → input_read files (file_of binds name) name ≡ Err why → inputs_read files binds (names ++ name ∷ more) ≡ Err why
-  read_stops [] more rows name why is refused = rw refused refl
-  read_stops (n ∷ ns) more rows name why is refused =
-      let both = both_taken (input_read files (file_of binds n) n) (inputs_read files binds ns) rows is in
-      rw (both.one_is, read_stops ns more both.more name why both.more_is refused) refl
+  pub read_stops : (bounds : ℕ → Bounds) (names more : List (List ℕ)) (rows : List (List Snapshot)) (name : List ℕ) (why : Reason)
+      → inputs_read files binds bounds names ≡ Ok rows → input_read files (bounds (length names)) (file_of binds name) name ≡ Err why
+      → inputs_read files binds bounds (names ++ name ∷ more) ≡ Err why
+  read_stops bounds [] more rows name why is refused = rw refused refl
+  read_stops bounds (n ∷ ns) more rows name why is refused =
+      let behind : ℕ → Bounds = λ place. bounds (suc place) in
+      let both = both_taken (input_read files (bounds 0) (file_of binds n) n) (inputs_read files binds behind ns) rows is in
+      rw (both.one_is, read_stops behind ns more both.more name why both.more_is refused) refl

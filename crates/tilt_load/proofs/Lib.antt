@@ -1,7 +1,10 @@
+pub mod Framed
 pub mod InputNames
 pub mod InputRows
 pub mod Loads
+pub mod OneCheckpoint
 pub mod OneCode
 pub mod OneQuery
 pub mod OneSeries
 pub mod Turns
+pub mod Within

@@ -1,5 +1,5 @@
 -- Why files aren't taken: from one file to all.
-use Rattle.std.proofs.Common.{◌≡◌, ◌≢◌, ◌≤◌, ◌⊎◌, List, ℕ, length, inl, inr, arith, refl, ap, None, Err}
+use Rattle.std.proofs.Common.{◌≡◌, ◌≢◌, ◌≤◌, ◌⊎◌, List, ℕ, length, inl, inr, arith, refl, ap, Err}
 use Rattle.std.specs.Prelude.{⊤}
 use Rattle.tilt_base.specs.declared.limits.TheConstants.{FILE}
 use Rattle.tilt_lexer.specs.Tokens.{AreTokens, IsFaultyAt}
@@ -18,11 +18,11 @@ use Rattle.tilt_types.specs.Checked.{checked}
 use Rattle.tilt_types.specs.Core.{CoreParts}
 use Rattle.tilt_types.specs.declared.fault.CheckFault.{CheckFault}
 use Rattle.tilt_types.specs.declared.fault.CheckFault.TheVariants as check
-use Rattle.tilt_load.specs.Inputs.{faulty_name}
-use Rattle.tilt_load.specs.Load.{IsLoadFault, IsTooLong, IsNameFault, HasInputTurn}
-use Rattle.tilt_load.specs.QueryFile.{RefusesQuery, no_core, far, long, no_tokens, no_statements, ill_formed, HasCore, TakesQuery}
-use Rattle.tilt_load.specs.SeriesFiles.{inputs_read, RefusesInputs, by_names, by_series}
-use Rattle.tilt_report.specs.Report.{Reason, refused, Report, usage, refusal, read_fault, write_fault, out_of_memory, report_of_place, report_of_syntax, report_of_check, report_of_reach}
+use Rattle.tilt_load.specs.Load.{IsLoadFault, IsTooLong, IsNameFault}
+use Rattle.tilt_load.specs.QueryFile.{RefusesQuery, no_core, far, long, no_tokens, no_statements, ill_formed, HasCore}
+use Rattle.tilt_load.specs.SeriesFiles.{RefusesSession, by_names}
+use Rattle.tilt_report.specs.Report.{Reason, Report, usage, refusal, read_fault, write_fault, save_fault, out_of_memory, report_of_place, report_of_syntax, report_of_check, report_of_reach}
+use Rattle.tilt_series.specs.Series.{Bounds}
 use Rattle.tilt_words.specs.Binding.{Binding}
 
 -- a count that rose later rose
@@ -38,6 +38,7 @@ load_fault_weaker tells tells' is is' turn turn' b a b' a' told more next (refus
 load_fault_weaker tells tells' is is' turn turn' b a b' a' told more next (read_fault name) fault =
     next name fault.0 fault.1
 load_fault_weaker tells tells' is is' turn turn' b a b' a' told more next write_fault fault = fault
+load_fault_weaker tells tells' is is' turn turn' b a b' a' told more next (save_fault name) fault = fault
 load_fault_weaker tells tells' is is' turn turn' b a b' a' told more next out_of_memory fault = fault
 
 -- a file that is too long is no query
@@ -92,10 +93,11 @@ reach_refuses name bytes core (reach.TooFar back ahead) has is = λ _. far core 
 reach_refuses name bytes core reach.OutOfMemory has is = tt
 
 -- a faulty name refuses the inputs
-pub names_refuse : (tells : Type 0) (files : List ℕ → List ℕ) (binds : List Binding) (inputs : List (List ℕ)) (turn : List ℕ → Type 0) (before after : ℕ) (report : Report) → IsNameFault inputs binds report
-    → IsLoadFault tells (RefusesInputs files binds inputs) turn before after report
-names_refuse tells files binds inputs turn before after usage fault = absurd fault
-names_refuse tells files binds inputs turn before after (refusal why) fault = λ t. rw fault.1 (by_names fault.0 fault.2)
-names_refuse tells files binds inputs turn before after (read_fault name) fault = absurd fault
-names_refuse tells files binds inputs turn before after write_fault fault = absurd fault
-names_refuse tells files binds inputs turn before after out_of_memory fault = tt
+pub names_refuse : (tells : Type 0) (files : List ℕ → List ℕ) (binds : List Binding) (bounds : ℕ → Bounds) (inputs : List (List ℕ)) (turn : List ℕ → Type 0) (before after : ℕ) (report : Report) → IsNameFault inputs binds report
+    → IsLoadFault tells (RefusesSession files binds bounds inputs) turn before after report
+names_refuse tells files binds bounds inputs turn before after usage fault = absurd fault
+names_refuse tells files binds bounds inputs turn before after (refusal why) fault = λ t. rw fault.1 (by_names fault.0 fault.2)
+names_refuse tells files binds bounds inputs turn before after (read_fault name) fault = absurd fault
+names_refuse tells files binds bounds inputs turn before after write_fault fault = absurd fault
+names_refuse tells files binds bounds inputs turn before after (save_fault name) fault = absurd fault
+names_refuse tells files binds bounds inputs turn before after out_of_memory fault = tt

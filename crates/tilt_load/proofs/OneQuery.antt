@@ -1,23 +1,17 @@
 -- A query file comes to one core, or to one reason why it has none.
-use Rattle.std.proofs.Common.{◌≡◌, ◌∙◌, List, ℕ, Result, Ok, Err, None, Some, refl, sym, ap, subst, arith}
+use Rattle.std.proofs.Common.{◌≡◌, ◌∙◌, List, ℕ, Result, Ok, Err, refl, sym, ap, arith}
 use Rattle.tilt_lexer.proofs.Unique.{same_fault, tokens_or_fault, same_tokens}
-use Rattle.tilt_stream.specs.Snap.{Snapshot}
-use Rattle.tilt_stream.specs.Text.{text_of}
 use Rattle.tilt_syntax.specs.Query.{kinds}
 use Rattle.tilt_syntax.proofs.Refused.{one_refusal, query-or-refused}
 use Rattle.tilt_syntax.proofs.Unique.{one_query}
+use Rattle.tilt_syntax.specs.Tree.{StatementTree}
 use Rattle.tilt_bounds.specs.Margins.{MarginsParts, margins_of}
 use Rattle.tilt_types.specs.Checked.{checked}
 use Rattle.tilt_types.specs.Core.{CoreParts}
-use Rattle.tilt_types.specs.Meaning.{output_of}
 use Rattle.tilt_types.specs.Needs.{Need}
 use Rattle.tilt_types.specs.declared.fault.CheckFault.{CheckFault}
-use Rattle.tilt_load.specs.Inputs.{faulty_name}
-use Rattle.tilt_words.specs.Binding.{Binding}
-use Rattle.tilt_words.specs.Command.{CommandValue, run, compile, exec, explain, start, resume_upto, resume_end, watch, try, IsCommand}
-use Rattle.tilt_report.specs.Report.{Outcome, printed, refused, Reason, Report, usage, refusal, input_names, report_of_place, report_of_syntax, report_of_check}
-use Rattle.tilt_load.specs.QueryFile.{HasCore, TakesQuery, HasNoCore, RefusesQuery, no_core, far, long, no_tokens, no_statements, ill_formed}
-use Rattle.tilt_load.specs.SeriesFiles.{inputs_read}
+use Rattle.tilt_report.specs.Report.{Reason, Report, refusal, report_of_place, report_of_syntax, report_of_check}
+use Rattle.tilt_load.specs.QueryFile.{HasCore, HasQuery, TakesQuery, HasNoCore, RefusesQuery, no_core, far, long, no_tokens, no_statements, ill_formed}
 
 same_err : {f g : CheckFault} → (let x : Result CoreParts CheckFault = Err f in x ≡ Err g) → f ≡ g
 same_err e = cc
@@ -105,3 +99,14 @@ refused_or_taken name bytes r core (no_core none) taken = core_or_none name byte
 refused_or_taken name bytes r core (far core' widest has is) taken =
     let both : Ok taken.margins ≡ Err widest = sym taken.reach ∙ ap margins_of (core_once bytes core core' taken.has_core has) ∙ is in
     cc
+
+-- a text is one query
+pub query_once : (bytes : List ℕ) (q p : List StatementTree) (c d : CoreParts) → HasQuery bytes q c → HasQuery bytes p d → q ≡ p
+query_once bytes q p c d has has' =
+    let same = same_tokens has.lexed has'.lexed refl refl in
+    one_query (kinds has.tokens) q p has.parsed (rw (sym same) at has'.parsed)
+
+-- a text that is a query has its core
+pub query_core : (bytes : List ℕ) (q : List StatementTree) (c : CoreParts) → HasQuery bytes q c → HasCore bytes c
+query_core bytes q c has =
+    record { short = has.short; tokens = has.tokens; lexed = has.lexed; query = q; parsed = has.parsed; accepted = has.accepted }

@@ -1,7 +1,8 @@
--- The inputs of a file come to their rows, or to one reason why they have none.
-use Rattle.std.proofs.Common.{◌≡◌, ◌∙◌, List, ℕ, Result, Ok, Err, Some, None, refl, sym}
-use Rattle.tilt_load.specs.SeriesFiles.{TakesInputs, RefusesInputs, by_names, by_series}
+-- The inputs of a file come to their rows within bounds, or to one reason why they have none.
+use Rattle.std.proofs.Common.{◌≡◌, ◌∙◌, List, ℕ, Result, Ok, Err, refl, sym}
+use Rattle.tilt_load.specs.SeriesFiles.{TakesSession, RefusesSession, by_names, by_series}
 use Rattle.tilt_report.specs.Report.{Reason}
+use Rattle.tilt_series.specs.Series.{Bounds}
 use Rattle.tilt_stream.specs.Snap.{Snapshot}
 use Rattle.tilt_words.specs.Binding.{Binding}
 
@@ -11,13 +12,13 @@ same_rows e = cc
 same_reason : {r s : Reason} → (let x : Result (List (List Snapshot)) Reason = Err r in x ≡ Err s) → r ≡ s
 same_reason e = cc
 
-module _ (files : List ℕ → List ℕ) (binds : List Binding) (inputs : List (List ℕ)) where
+module _ (files : List ℕ → List ℕ) (binds : List Binding) {bounds : ℕ → Bounds} (inputs : List (List ℕ)) where
   -- inputs that are taken have one list of rows each
-  pub inputs_once : (xs ys : List (List Snapshot)) → TakesInputs files binds inputs xs → TakesInputs files binds inputs ys → xs ≡ ys
+  pub inputs_once : (xs ys : List (List Snapshot)) → TakesSession files binds bounds inputs xs → TakesSession files binds bounds inputs ys → xs ≡ ys
   inputs_once xs ys taken taken' = same_rows (sym taken.read ∙ taken'.read)
 
   -- they are refused for one reason
-  pub inputs_refused_once : (r s : Reason) → RefusesInputs files binds inputs r → RefusesInputs files binds inputs s → r ≡ s
+  pub inputs_refused_once : (r s : Reason) → RefusesSession files binds bounds inputs r → RefusesSession files binds bounds inputs s → r ≡ s
   inputs_refused_once r s (by_names n is) (by_names m is') =
       let same : n ≡ m = cc in
       rw same refl
@@ -26,6 +27,6 @@ module _ (files : List ℕ → List ℕ) (binds : List Binding) (inputs : List (
   inputs_refused_once r s (by_series why names is) (by_series why' names' is') = same_reason (sym is ∙ is')
 
   -- they are taken, or refused
-  pub inputs_refused_or_taken : (r : Reason) (xs : List (List Snapshot)) → RefusesInputs files binds inputs r → TakesInputs files binds inputs xs → ⊥
+  pub inputs_refused_or_taken : (r : Reason) (xs : List (List Snapshot)) → RefusesSession files binds bounds inputs r → TakesSession files binds bounds inputs xs → ⊥
   inputs_refused_or_taken r xs (by_names n is) taken = let names = taken.names in cc
   inputs_refused_or_taken r xs (by_series why names is) taken = let read = taken.read in cc

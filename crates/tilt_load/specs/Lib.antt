@@ -1,5 +1,7 @@
+pub mod CheckpointFile
 pub mod CodeFile
 pub mod Inputs
 pub mod Load
 pub mod QueryFile
 pub mod SeriesFiles
+pub mod Sessions

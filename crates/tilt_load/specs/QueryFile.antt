@@ -6,7 +6,7 @@ use Rattle.tilt_lexer.specs.Tokens.{AreTokens, IsFaultyAt}
 use Rattle.tilt_lexer.specs.declared.fault.LexFault.{LexFault}
 use Rattle.tilt_lexer.specs.declared.token.Token.{Token}
 use Rattle.tilt_report.specs.Report.{Reason, refusal, file_too_long, too_far, report_of_place, report_of_syntax, report_of_check}
-use Rattle.tilt_syntax.specs.Query.{IsQueryOf, IsRefused, kinds}
+use Rattle.tilt_syntax.specs.Query.{IsQuery, IsQueryOf, IsRefused, kinds}
 use Rattle.tilt_syntax.specs.Tree.{StatementTree}
 use Rattle.tilt_syntax.specs.declared.fault.SyntaxFault.{SyntaxFault}
 use Rattle.tilt_types.specs.Checked.{checked}
@@ -21,6 +21,15 @@ pub record HasCore (bytes : List ℕ) (core : CoreParts) : Type 0 where
   pub lexed : AreTokens 0 bytes tokens
   pub query : List StatementTree
   pub parsed : IsQueryOf (kinds tokens) query
+  pub accepted : checked query ≡ Ok core
+
+-- the text is no longer than a file may be, its tokens are exactly this query, and that is well formed and has this core
+pub record HasQuery (bytes : List ℕ) (query : List StatementTree) (core : CoreParts) : Type 0 where
+  pub short : length bytes ≤ FILE
+  pub tokens : List Token
+  pub lexed : AreTokens 0 bytes tokens
+  pub parsed : IsQueryOf (kinds tokens) query
+  pub valid : IsQuery query
   pub accepted : checked query ≡ Ok core
 
 -- the query has this core, and looks no farther than a query may

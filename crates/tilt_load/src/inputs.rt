@@ -2,13 +2,15 @@
 ghost use Rattle.std.specs.Prelude.{◌≡◌, ◌≤◌, List, [], ◌∷◌, ◌++◌, ℕ, Ok, Err, None, length, IfOk, IfErr, OnOk, MatchResult};
 ghost use Rattle.tilt_outside.specs.Reads.{OnlyReads};
 ghost use Rattle.tilt_load.specs.Inputs.{faulty_name};
-ghost use Rattle.tilt_load.specs.Load.{HasInputTurn, IsLoadFault, IsNameFault};
-ghost use Rattle.tilt_load.specs.SeriesFiles.{TakesInputs, RefusesInputs, inputs_read};
+ghost use Rattle.tilt_load.specs.Load.{HasInputTurn, HasSessionTurn, IsLoadFault, IsNameFault};
+ghost use Rattle.tilt_load.specs.SeriesFiles.{AreWithin, TakesInputs, TakesSession, RefusesInputs, RefusesSession, inputs_read};
+ghost use Rattle.tilt_load.specs.Sessions.{bounds_of};
 ghost use Rattle.tilt_report.specs.Report.{report_of};
 ghost use Rattle.tilt_words.specs.Binding.{bindings_of};
 
 use crate::binds::{FaultyName, faulty_name, file_bound};
 use crate::series_file::load_input;
+use crate::session::{Session, bounds_at};
 use std::alloc::{AllocError as OutOfMemory, Global};
 use tilt_lexer::Name;
 use tilt_outside::Shelf;
@@ -35,8 +37,38 @@ pub fn load_inputs<'a, S: Shelf>(
     ensures kept { S.read_faults shelf.old ≤ S.read_faults shelf.new }
     ensures rest { OnlyReads S.files S.save_faults S.takes shelf.old shelf.new }
 {
+    let session = Session {
+        kept: &[],
+        from: None,
+        upto: None,
+    };
+    load_session_inputs(alloc, shelf, inputs, binds, &session)
+}
+
+/// The rows of each input that a session is handed, in order, from the file that is bound to its name, each within the bounds of
+/// its place. The names are tested before a file is read, and each input is done before the next one is read.
+pub fn load_session_inputs<'a, S: Shelf>(
+    alloc: Global,
+    shelf: &mut S,
+    inputs: &[Name],
+    binds: &'a [Bind],
+    session: &Session<'_>,
+) -> Result<Vec<Rows>, Fault<'a>>
+    requires { (file : List ℕ)
+        → HasSessionTurn S.tells (S.files shelf.old) (bindings_of binds.now) (bounds_of session.now) inputs.now file → S.lends file }
+    ensures taken { S.tells → IfOk result (λ rows.
+        TakesSession (S.files shelf.old) (bindings_of binds.now) (bounds_of session.now) inputs.now rows.items) }
+    ensures many { IfOk result (λ rows. length rows.items ≡ length inputs.now) }
+    ensures within { IfOk result (λ rows. AreWithin (bounds_of session.now) rows.items) }
+    ensures fault { IfErr result (λ fault. IsLoadFault S.tells
+        (RefusesSession (S.files shelf.old) (bindings_of binds.now) (bounds_of session.now) inputs.now)
+        (HasSessionTurn S.tells (S.files shelf.old) (bindings_of binds.now) (bounds_of session.now) inputs.now)
+        (S.read_faults shelf.old) (S.read_faults shelf.new) (report_of fault)) }
+    ensures kept { S.read_faults shelf.old ≤ S.read_faults shelf.new }
+    ensures rest { OnlyReads S.files S.save_faults S.takes shelf.old shelf.new }
+{
     check_names(inputs, binds)?;
-    read_inputs(alloc, shelf, inputs, binds)
+    read_inputs(alloc, shelf, inputs, binds, session)
 }
 
 // Refuses words that don't bind each input once, and nothing else.
@@ -55,28 +87,32 @@ fn check_names<'a>(inputs: &[Name], binds: &'a [Bind]) -> Result<(), Fault<'a>>
     }
 }
 
-// The rows of each input, in order. Each is done before the next one is read.
+// The rows of each input, in order, each within the bounds of its place. Each is done before the next one is read.
 fn read_inputs<'a, S: Shelf>(
     alloc: Global,
     shelf: &mut S,
     inputs: &[Name],
     binds: &'a [Bind],
+    session: &Session<'_>,
 ) -> Result<Vec<Rows>, Fault<'a>>
     requires named { faulty_name inputs.now (bindings_of binds.now) ≡ None }
     requires lent { (file : List ℕ)
-        → HasInputTurn S.tells (S.files shelf.old) (bindings_of binds.now) inputs.now file → S.lends file }
-    ensures taken { S.tells → IfOk result (λ rows. inputs_read (S.files shelf.old) (bindings_of binds.now) inputs.now ≡ Ok rows.items) }
+        → HasSessionTurn S.tells (S.files shelf.old) (bindings_of binds.now) (bounds_of session.now) inputs.now file → S.lends file }
+    ensures taken { S.tells → IfOk result (λ rows.
+        inputs_read (S.files shelf.old) (bindings_of binds.now) (bounds_of session.now) inputs.now ≡ Ok rows.items) }
     ensures many { IfOk result (λ rows. length rows.items ≡ length inputs.now) }
+    ensures within { IfOk result (λ rows. AreWithin (bounds_of session.now) rows.items) }
     ensures fault { IfErr result (λ fault. IsLoadFault S.tells
-        (λ why. inputs_read (S.files shelf.old) (bindings_of binds.now) inputs.now ≡ Err why)
-        (HasInputTurn S.tells (S.files shelf.old) (bindings_of binds.now) inputs.now)
+        (λ why. inputs_read (S.files shelf.old) (bindings_of binds.now) (bounds_of session.now) inputs.now ≡ Err why)
+        (HasSessionTurn S.tells (S.files shelf.old) (bindings_of binds.now) (bounds_of session.now) inputs.now)
         (S.read_faults shelf.old) (S.read_faults shelf.new) (report_of fault)) }
     ensures kept { S.read_faults shelf.old ≤ S.read_faults shelf.new }
     ensures rest { OnlyReads S.files S.save_faults S.takes shelf.old shelf.new }
 {
     let mut all = Vec::new(alloc);
     for input in inputs {
-        let rows = load_input(alloc, shelf, input, file_bound(binds, input))?;
+        let bounds = bounds_at(session, all.len());
+        let rows = load_input(alloc, shelf, input, file_bound(binds, input), bounds)?;
         add(&mut all, rows)?;
     }
     Ok(all)

@@ -1,17 +1,22 @@
-//! From the files that the words name to what they say: a query with its core, a loop code, the rows of each input.
+//! From the files that the words name to what they say: a query with its core, a checkpoint, a loop code, the rows of each input.
 //!
-//! What comes in is a shelf, names of files and binds; what goes out is the query, the code or the rows, or the first fault.
-//! The clauses `taken` say what was read, by `specs/QueryFile`, `specs/CodeFile` and `specs/SeriesFiles`, and the clauses
+//! What comes in is a shelf, names of files and binds; what goes out is the query, the checkpoint, the code or the rows, or the
+//! first fault. The clauses `taken` say what was read, by `specs/QueryFile`, `specs/CheckpointFile`, `specs/CodeFile` and
+//! `specs/SeriesFiles`, and the clauses
 //! `fault` why nothing was, by `specs/Load`: a read fault only where its count rose, a refusal only where it is the outcome.
 #![tactic(auto)]
 
 mod binds;
+mod checkpoint_file;
 mod code_file;
 mod file;
 mod inputs;
 mod query_file;
 mod series_file;
+mod session;
 
+pub use checkpoint_file::{LoadedCheckpoint, load_checkpoint};
 pub use code_file::load_code;
-pub use inputs::load_inputs;
-pub use query_file::{LoadedQuery, load_query};
+pub use inputs::{load_inputs, load_session_inputs};
+pub use query_file::{LoadedQuery, load_query, read_query};
+pub use session::Session;

@@ -3,9 +3,11 @@ ghost use Rattle.std.specs.Prelude.{◌≡◌, ◌≤◌, ⊤, List, ℕ, Ok, le
 ghost use Rattle.tilt_base.specs.declared.limits.TheConstants.{FILE};
 ghost use Rattle.tilt_bounds.specs.Margins.{margins_of};
 ghost use Rattle.tilt_load.specs.Load.{IsLoadFault};
-ghost use Rattle.tilt_load.specs.QueryFile.{TakesQuery, RefusesQuery};
+ghost use Rattle.tilt_load.specs.QueryFile.{HasQuery, TakesQuery, RefusesQuery};
 ghost use Rattle.tilt_outside.specs.Reads.{OnlyReads};
 ghost use Rattle.tilt_report.specs.Report.{report_of};
+ghost use Rattle.tilt_syntax.specs.Query.{IsQuery};
+ghost use Rattle.tilt_types.specs.Checked.{checked};
 
 use crate::file::load;
 use std::alloc::Global;
@@ -13,12 +15,13 @@ use tilt_bounds::{Margins, reach};
 use tilt_lexer::lex;
 use tilt_outside::Shelf;
 use tilt_report::Fault;
-use tilt_syntax::parse;
+use tilt_syntax::{Query, parse};
 use tilt_types::{Core, check};
 
-/// A query that was accepted: its core, and how far it looks.
+/// A query that was accepted, its core, and how far it looks.
 #[derive(Drop)]
 pub struct LoadedQuery {
+    pub query: Query,
     pub core: Core,
     pub margins: Margins,
 }
@@ -31,6 +34,9 @@ pub fn load_query<'a, S: Shelf>(
 ) -> Result<LoadedQuery, Fault<'a>>
     requires { S.lends name.now }
     ensures taken { S.tells → IfOk result (λ query. TakesQuery (S.files shelf.old name.now) query.core) }
+    ensures query { S.tells → IfOk result (λ query. HasQuery (S.files shelf.old name.now) query.query query.core) }
+    ensures valid { IfOk result (λ query. IsQuery query.query) }
+    ensures accepted { IfOk result (λ query. checked query.query ≡ Ok query.core) }
     ensures margins { IfOk result (λ query. margins_of query.core ≡ Ok query.margins) }
     ensures fault { IfErr result (λ fault. IsLoadFault S.tells (RefusesQuery name.now (S.files shelf.old name.now))
         (λ which. which ≡ name.now) (S.read_faults shelf.old) (S.read_faults shelf.new) (report_of fault)) }
@@ -41,10 +47,13 @@ pub fn load_query<'a, S: Shelf>(
     read_query(alloc, &bytes)
 }
 
-// The query that bytes are, or why they are none.
-fn read_query<'a>(alloc: Global, bytes: &[u8]) -> Result<LoadedQuery, Fault<'a>>
+/// The query that a text is, which is no longer than a file may be. A refusal is that of a file of any name.
+pub fn read_query<'a>(alloc: Global, bytes: &[u8]) -> Result<LoadedQuery, Fault<'a>>
     requires { length bytes.now ≤ FILE }
     ensures taken { IfOk result (λ query. TakesQuery bytes.now query.core) }
+    ensures query { IfOk result (λ query. HasQuery bytes.now query.query query.core) }
+    ensures valid { IfOk result (λ query. IsQuery query.query) }
+    ensures accepted { IfOk result (λ query. checked query.query ≡ Ok query.core) }
     ensures margins { IfOk result (λ query. margins_of query.core ≡ Ok query.margins) }
     ensures fault { (name : List ℕ) → IfErr result (λ fault. IsLoadFault ⊤ (RefusesQuery name bytes.now) (λ _. ⊥) 0 0 (report_of fault)) }
 {
@@ -52,5 +61,10 @@ fn read_query<'a>(alloc: Global, bytes: &[u8]) -> Result<LoadedQuery, Fault<'a>>
     let query = parse(alloc, &tokens)?;
     let core = check(alloc, &query)?;
     let margins = reach(alloc, &core)?;
-    Ok(LoadedQuery { core, margins })
+    let _parsed = query.statements();
+    Ok(LoadedQuery {
+        query,
+        core,
+        margins,
+    })
 }

@@ -20,10 +20,10 @@ use Rattle.tilt_report.specs.declared.refusal.Refusal.TheVariants as code
 use Rattle.tilt_report.specs.declared.refusal.StatementFault.{StatementFault}
 use Rattle.tilt_report.specs.declared.refusal.StatementFault.TheVariants as statement
 use Rattle.tilt_report.specs.declared.fault.Fault.{Fault}
-use Rattle.tilt_report.specs.declared.fault.Fault.TheVariants.{Usage, Refused, ReadFault, WriteFault, OutOfMemory}
+use Rattle.tilt_report.specs.declared.fault.Fault.TheVariants.{Usage, Refused, ReadFault, WriteFault, SaveFault, OutOfMemory}
 
 -- why words that are a command are refused, with the name of the file or of the input that it is about, the place, the statement, how far the query
--- looks back and ahead, or the line of the code and its loop
+-- looks back and ahead, the line of the code and its loop, or the old cut and the new one
 pub data Reason : Type 0 where
   input_names : List ℕ → Reason
   file_too_long : List ℕ → Reason
@@ -35,6 +35,8 @@ pub data Reason : Type 0 where
   too_far : ℤ → ℤ → Reason
   bad_code : ℕ → Reason
   bad_reference : ℕ → ℕ → Reason
+  bad_checkpoint : Reason
+  cut_back : ℤ → ℤ → Reason
 
 -- why a command isn't done
 pub data Report : Type 0 where
@@ -42,11 +44,13 @@ pub data Report : Type 0 where
   refusal : Reason → Report
   read_fault : List ℕ → Report
   write_fault : Report
+  save_fault : List ℕ → Report
   out_of_memory : Report
 
--- a text, or a refusal
+-- a text that is printed; a text that is printed, and bytes that are saved under a name behind it; or a refusal
 pub data Outcome : Type 0 where
   printed : List ℕ → Outcome
+  printed_and_saved : (text name bytes : List ℕ) → Outcome
   refused : Report → Outcome
 
 -- the reason of a refusal
@@ -62,6 +66,8 @@ reason_of (code.BadStatement fault n) = bad_statement fault n
 reason_of (code.TooFar back ahead) = too_far back ahead
 reason_of (code.BadCode line) = bad_code line
 reason_of (code.BadReference in_loop line) = bad_reference in_loop line
+reason_of code.BadCheckpoint = bad_checkpoint
+reason_of (code.CutBack old new) = cut_back old new
 
 -- the report of a fault
 abbrev pub report_of : Fault → Report
@@ -69,6 +75,7 @@ report_of Usage = usage
 report_of (Refused why) = refusal (reason_of why)
 report_of (ReadFault name) = read_fault name.now
 report_of WriteFault = write_fault
+report_of (SaveFault name) = save_fault name.now
 report_of OutOfMemory = out_of_memory
 
 -- the report of words that give no command
@@ -116,6 +123,7 @@ status_of usage = 2
 status_of (refusal why) = 1
 status_of (read_fault name) = 3
 status_of write_fault = 4
+status_of (save_fault name) = 6
 status_of out_of_memory = 5
 
 -- the number of a series fault, as it stands in front of the input's name
@@ -174,6 +182,8 @@ reason_words (bad_statement fault n) = statement_front fault ++ decimal n ++ sta
 reason_words (too_far back ahead) = codes "31 too far: back " ++ signed_decimal back ++ codes " ahead " ++ signed_decimal ahead
 reason_words (bad_code line) = codes "40 bad code in line " ++ decimal line
 reason_words (bad_reference in_loop line) = codes "41 bad reference in loop " ++ decimal in_loop ++ codes ", line " ++ decimal line
+reason_words bad_checkpoint = codes "50 bad checkpoint"
+reason_words (cut_back old new) = codes "51 cut back from " ++ signed_decimal old ++ codes " to " ++ signed_decimal new
 
 -- the number and the words of a fault
 abbrev pub words_of : Report → List ℕ
@@ -181,6 +191,7 @@ words_of usage = codes "1 usage"
 words_of (refusal why) = reason_words why
 words_of (read_fault name) = codes "4 read fault: " ++ name
 words_of write_fault = codes "5 write fault"
+words_of (save_fault name) = codes "6 save fault: " ++ name
 words_of out_of_memory = codes "7 out of memory"
 
 -- the line that is told

@@ -24,6 +24,8 @@ pub enum Fault<'a> {
     ReadFault(&'a str),
     /// A put or the flush of the output failed.
     WriteFault,
+    /// The save of the file of this name failed.
+    SaveFault(&'a str),
     /// There was no memory.
     OutOfMemory,
 }
@@ -170,6 +172,7 @@ impl Fault<'_> {
             Fault::Usage => 2,
             Fault::ReadFault(_) => 3,
             Fault::WriteFault => 4,
+            Fault::SaveFault(_) => 6,
             Fault::OutOfMemory => 5,
         }
     }
@@ -196,6 +199,7 @@ impl Fault<'_> {
             Fault::Refused(refusal) => refusal.put(err),
             Fault::ReadFault(name) => put_named(err, b"4 read fault: ", name.as_bytes()),
             Fault::WriteFault => put_text(err, b"5 write fault"),
+            Fault::SaveFault(name) => put_named(err, b"6 save fault: ", name.as_bytes()),
             Fault::OutOfMemory => put_text(err, b"7 out of memory"),
         }
     }

@@ -63,6 +63,15 @@ pub enum Refusal<'a> {
         /// The number of the line, counted from 1.
         line: u64,
     },
+    /// The file of the checkpoint is the text of none.
+    BadCheckpoint,
+    /// The session would end before the cut of its checkpoint.
+    CutBack {
+        /// The cut of the checkpoint, in ticks.
+        old: i64,
+        /// The cut of the session, in ticks.
+        new: i64,
+    },
 }
 
 /// Why a statement of a query is refused.
@@ -107,6 +116,8 @@ impl Refusal<'_> {
             Refusal::TooFar { back, ahead } => put_reach(err, *back, *ahead),
             Refusal::BadCode { line } => put_counted(err, b"40 bad code in line ", *line),
             Refusal::BadReference { in_loop, line } => put_reference(err, *in_loop, *line),
+            Refusal::BadCheckpoint => put_text(err, b"50 bad checkpoint"),
+            Refusal::CutBack { old, new } => put_cut_back(err, *old, *new),
         }
     }
 }
@@ -226,4 +237,14 @@ fn put_reference<E: Sink>(err: &mut E, in_loop: u64, line: u64) -> Result<(), Fa
 {
     put_counted(err, b"41 bad reference in loop ", in_loop)?;
     put_counted(err, b", line ", line)
+}
+
+// Puts from which cut to which a session would go back.
+fn put_cut_back<E: Sink>(err: &mut E, old: i64, new: i64) -> Result<(), Failed>
+    requires { (n : ℕ) → E.takes err.old n }
+    ensures { Puts E.tells E.written E.faults E.takes err.old err.new
+        (codes "51 cut back from " ++ signed_decimal old ++ codes " to " ++ signed_decimal new) result }
+{
+    put_signed(err, b"51 cut back from ", i128::from(old))?;
+    put_signed(err, b" to ", i128::from(new))
 }

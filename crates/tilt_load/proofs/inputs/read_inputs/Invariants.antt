@@ -1,12 +1,14 @@
 use Rattle.std.proofs.Common.{◌≡◌, ◌≤◌, length, take, Ok}
 use Rattle.tilt_outside.specs.Reads.{OnlyReads}
-use Rattle.tilt_load.specs.SeriesFiles.{inputs_read}
+use Rattle.tilt_load.specs.SeriesFiles.{AreWithin, inputs_read}
+use Rattle.tilt_load.specs.Sessions.{bounds_of}
 use Rattle.tilt_words.specs.Binding.{bindings_of}
 use Rattle.tilt_load.proofs.inputs.read_inputs.Given as goal
 
 abbrev pub invariant-loop-input : goal.invariant-loop-input
 invariant-loop-input g l = record {
-  read : g.S.Shelf.tells → inputs_read (g.S.Shelf.files l.initial.shelf) (bindings_of l.binds) (take l.input-index l.inputs) ≡ Ok l.all.items;
+  read : g.S.Shelf.tells → inputs_read (g.S.Shelf.files l.initial.shelf) (bindings_of l.binds) (bounds_of l.session) (take l.input-index l.inputs) ≡ Ok l.all.items;
+  within : AreWithin (bounds_of l.session) l.all.items;
   many : length l.all.items ≡ l.input-index;
   kept : g.S.Shelf.read_faults l.initial.shelf ≤ g.S.Shelf.read_faults l.shelf;
   rest : OnlyReads g.S.Shelf.files g.S.Shelf.save_faults g.S.Shelf.takes l.initial.shelf l.shelf;

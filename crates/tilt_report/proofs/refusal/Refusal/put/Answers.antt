@@ -14,3 +14,6 @@ returns-in-BigNumber g c = rw c.in-BigNumber.is c.put_counted-in-BigNumber.ensur
 
 pub returns-in-TooManyStatements : goal.returns-in-TooManyStatements
 returns-in-TooManyStatements g c = rw c.in-TooManyStatements.is c.put_text.ensures
+
+pub returns-in-BadCheckpoint : goal.returns-in-BadCheckpoint
+returns-in-BadCheckpoint g c = rw c.in-BadCheckpoint.is c.put_text-in-BadCheckpoint.ensures
