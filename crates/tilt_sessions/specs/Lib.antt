@@ -1,0 +1,4 @@
+pub mod Parts
+pub mod Resume
+pub mod SessionFile
+pub mod Start
