@@ -1,28 +1,44 @@
-//! The program `tilt`: its words, the files of the disk and the standard streams, handed to the one call that does the
-//! work.
+//! The program `tilt`: it hands its words with the files of the disk, the standard streams and three watchers to the one
+//! call that does the work.
 #![tactic(auto)]
 
+use std::alloc::AllocError as OutOfMemory;
 use std::process::ExitCode;
 use std::{env, io};
 use tilt_app::tilt;
 use tilt_outside::{BufferedSink, DiskShelf, StdSink};
+use tilt_watch::{Ends, Range, Tally, Watcher};
 
 /// The status where the program isn't handed its words: one of them is no UTF-8, or there is no memory for them.
 const NO_WORDS: u8 = 7;
 
-/// The status where there is no memory for the buffer of the output.
+/// The status where there is no memory for the buffer of the output or for the watchers.
 const NO_MEMORY: u8 = 5;
 
 fn main(rt: HostRuntime) -> ExitCode {
     let Ok(words) = words(&rt) else {
         return ExitCode::from(NO_WORDS);
     };
-    let mut shelf = DiskShelf::new(rt.alloc(), &rt);
-    let Ok(mut out) = BufferedSink::new(rt.alloc(), rt.stdout()) else {
-        return ExitCode::from(NO_MEMORY);
-    };
+    ExitCode::from(status(&rt, &words).unwrap_or(NO_MEMORY))
+}
+
+// Does what the words say, beside a watcher of each kind.
+fn status(rt: &HostRuntime, words: &[String]) -> Result<u8, OutOfMemory> {
+    let mut shelf = DiskShelf::new(rt.alloc(), rt);
+    let mut out = BufferedSink::new(rt.alloc(), rt.stdout())?;
     let mut err = StdSink::new(rt.stderr());
-    ExitCode::from(tilt(rt.alloc(), &words, &mut shelf, &mut out, &mut err))
+    let mut watchers: Vec<Box<dyn Watcher>> = Vec::new(rt.alloc());
+    watchers.push(Box::new(rt.alloc(), Tally::new())?)?;
+    watchers.push(Box::new(rt.alloc(), Range::new())?)?;
+    watchers.push(Box::new(rt.alloc(), Ends::new())?)?;
+    Ok(tilt(
+        rt.alloc(),
+        words,
+        &mut shelf,
+        &mut out,
+        &mut err,
+        &mut watchers,
+    ))
 }
 
 // The words behind the program's name.

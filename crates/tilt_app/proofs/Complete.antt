@@ -1,58 +1,77 @@
 -- What is reported where no count rose, by what a command or words come to.
-use Rattle.std.proofs.Common.{◌≡◌, ◌⊎◌, inl, inr, List, ℕ, refl, arith}
+use Rattle.std.proofs.Common.{◌≡◌, ◌⊎◌, inl, inr, List, ℕ, Option, None, Some, refl, arith}
 use Rattle.tilt_outside.specs.Faults.{Rose}
 use Rattle.tilt_app.specs.Cause.{IsCause}
+use Rattle.tilt_app.specs.Saving.{Save, outcome_of}
+use Rattle.tilt_watch.specs.Watch.{Watch}
 use Rattle.tilt_words.specs.Command.{CommandValue, IsCommand}
 use Rattle.tilt_words.specs.declared.fault.WordsFault.{WordsFault}
 use Rattle.tilt_words.specs.declared.fault.WordsFault.TheVariants as variant
 use Rattle.tilt_app.specs.Outcome.{IsOutcome, no_command}
-use Rattle.tilt_report.specs.Report.{Outcome, printed, refused, Report, usage, refusal, read_fault, write_fault, out_of_memory, report_of_words, status_of}
+use Rattle.tilt_report.specs.Report.{Outcome, refused, Report, usage, refusal, read_fault, write_fault, save_fault, out_of_memory, report_of_words, status_of}
 
-text_is_no_refusal : (text : List ℕ) (report : Report) → printed text ≡ refused report → ⊥
-text_is_no_refusal text report same = cc
+text_is_no_refusal : (text : List ℕ) (save : Option Save) (report : Report) → outcome_of text save ≡ refused report → ⊥
+text_is_no_refusal text None report same = cc
+text_is_no_refusal text (Some save) report same = cc
 
 same_report : (report other : Report) → refused report ≡ refused other → report ≡ other
 same_report report other same = cc
 
 module _ (is_outcome : Outcome → Type 0) (once : (o p : Outcome) → is_outcome o → is_outcome p → o ≡ p) where
   -- what is printed isn't refused
-  pub printed_or_refused : (text : List ℕ) (report : Report) → is_outcome (printed text) → is_outcome (refused report) → ⊥
-  printed_or_refused text report outcome other = text_is_no_refusal text report (once (printed text) (refused report) outcome other)
+  pub printed_or_refused : (text : List ℕ) (save : Option Save) (report : Report) → is_outcome (outcome_of text save) → is_outcome (refused report) → ⊥
+  printed_or_refused text save report outcome other = text_is_no_refusal text save report (once (outcome_of text save) (refused report) outcome other)
 
-  module _ (has_turn : List ℕ → Type 0) (shelf_tells : Type 0) (reads_before reads_after : ℕ) (out_tells : Type 0) (old new : List ℕ) (puts_before puts_after : ℕ) (told : shelf_tells)
+  module _ (has_turn : List ℕ → Type 0) (shelf_tells : Type 0) (reads_before reads_after : ℕ) (held holds : List ℕ → List ℕ) (saves_before saves_after : ℕ) (out_tells : Type 0) (old new : List ℕ) (puts_before puts_after : ℕ) (told : shelf_tells)
       (no_read_fault : Rose reads_before reads_after → ⊥) where
-    -- a text that isn't printed wants memory
-    pub only_memory : (report : Report) (text : List ℕ) → IsCause is_outcome has_turn shelf_tells reads_before reads_after out_tells old new puts_before puts_after report → is_outcome (printed text)
-        → (Rose puts_before puts_after → ⊥) → report ≡ out_of_memory
-    only_memory usage text cause outcome no_put_fault = absurd (printed_or_refused text usage outcome cause)
-    only_memory (read_fault name) text cause outcome no_put_fault = absurd (no_read_fault cause.0)
-    only_memory write_fault text cause outcome no_put_fault = absurd (no_put_fault cause.0)
-    only_memory out_of_memory text cause outcome no_put_fault = refl
-    only_memory (refusal why) text cause outcome no_put_fault = absurd (printed_or_refused text (refusal why) outcome (cause told))
+    -- a text that isn't printed, or isn't saved, wants memory
+    pub only_memory : (report : Report) (text : List ℕ) (save : Option Save)
+        → IsCause is_outcome has_turn shelf_tells reads_before reads_after held holds saves_before saves_after out_tells old new puts_before puts_after report
+        → is_outcome (outcome_of text save) → (Rose saves_before saves_after → ⊥) → (Rose puts_before puts_after → ⊥) → report ≡ out_of_memory
+    only_memory usage text save cause outcome no_save_fault no_put_fault = absurd (printed_or_refused text save usage outcome cause)
+    only_memory (read_fault name) text save cause outcome no_save_fault no_put_fault = absurd (no_read_fault cause.0)
+    only_memory write_fault text save cause outcome no_save_fault no_put_fault = absurd (no_put_fault cause.0)
+    only_memory (save_fault name) text save cause outcome no_save_fault no_put_fault = absurd (no_save_fault cause.0)
+    only_memory out_of_memory text save cause outcome no_save_fault no_put_fault = refl
+    only_memory (refusal why) text save cause outcome no_save_fault no_put_fault = absurd (printed_or_refused text save (refusal why) outcome (cause told))
 
     same_refusal : (report other : Report) → is_outcome (refused report) → is_outcome (refused other) → (report ≡ other) ⊎ (report ≡ out_of_memory)
     same_refusal report other is outcome = inl (same_report report other (once (refused report) (refused other) is outcome))
 
     -- a refusal is reported, or it wants memory
-    pub the_refusal : (report other : Report) → IsCause is_outcome has_turn shelf_tells reads_before reads_after out_tells old new puts_before puts_after report → is_outcome (refused other)
+    pub the_refusal : (report other : Report) → IsCause is_outcome has_turn shelf_tells reads_before reads_after held holds saves_before saves_after out_tells old new puts_before puts_after report → is_outcome (refused other)
         → (report ≡ other) ⊎ (report ≡ out_of_memory)
     the_refusal usage other cause outcome = same_refusal usage other cause outcome
     the_refusal (refusal why) other cause outcome = same_refusal (refusal why) other (cause told) outcome
     the_refusal (read_fault name) other cause outcome = absurd (no_read_fault cause.0)
-    the_refusal write_fault other cause outcome = absurd (printed_or_refused cause.1.0 other (cause.1.1.outcome told) outcome)
+    the_refusal write_fault other cause outcome = absurd (printed_or_refused cause.1.0 cause.1.1 other (cause.1.2.outcome told) outcome)
+    the_refusal (save_fault name) other cause outcome =
+        absurd (printed_or_refused cause.1.0 (Some (record { name = name; bytes = cause.1.1 })) other (cause.1.2.outcome told) outcome)
     the_refusal out_of_memory other cause outcome = inr refl
 
 -- a cause for a command is one for the words that are it
-pub wider_cause : (is_outcome is_outcome' : Outcome → Type 0) (has_turn has_turn' : List ℕ → Type 0) (shelf_tells : Type 0) (reads_before reads_after : ℕ) (out_tells : Type 0) (old new : List ℕ) (puts_before puts_after : ℕ)
+pub wider_cause : (is_outcome is_outcome' : Outcome → Type 0) (has_turn has_turn' : List ℕ → Type 0) (shelf_tells : Type 0) (reads_before reads_after : ℕ) (held holds : List ℕ → List ℕ) (saves_before saves_after : ℕ) (out_tells : Type 0) (old new : List ℕ) (puts_before puts_after : ℕ)
     → ((o : Outcome) → is_outcome o → is_outcome' o) → ((name : List ℕ) → has_turn name → has_turn' name) → (report : Report)
-    → IsCause is_outcome has_turn shelf_tells reads_before reads_after out_tells old new puts_before puts_after report
-    → IsCause is_outcome' has_turn' shelf_tells reads_before reads_after out_tells old new puts_before puts_after report
-wider_cause is is' turn turn' st rb ra ot old new pb pa more next usage cause = more (refused usage) cause
-wider_cause is is' turn turn' st rb ra ot old new pb pa more next (refusal why) cause = λ t. more (refused (refusal why)) (cause t)
-wider_cause is is' turn turn' st rb ra ot old new pb pa more next (read_fault name) cause = (cause.0, next name cause.1)
-wider_cause is is' turn turn' st rb ra ot old new pb pa more next write_fault cause =
-    (cause.0, (cause.1.0, record { outcome = λ t. more (printed cause.1.0) (cause.1.1.outcome t); front = cause.1.1.front }))
-wider_cause is is' turn turn' st rb ra ot old new pb pa more next out_of_memory cause = tt
+    → IsCause is_outcome has_turn shelf_tells reads_before reads_after held holds saves_before saves_after out_tells old new puts_before puts_after report
+    → IsCause is_outcome' has_turn' shelf_tells reads_before reads_after held holds saves_before saves_after out_tells old new puts_before puts_after report
+wider_cause is is' turn turn' st rb ra he ho sb sa ot old new pb pa more next usage cause = more (refused usage) cause
+wider_cause is is' turn turn' st rb ra he ho sb sa ot old new pb pa more next (refusal why) cause = λ t. more (refused (refusal why)) (cause t)
+wider_cause is is' turn turn' st rb ra he ho sb sa ot old new pb pa more next (read_fault name) cause = (cause.0, next name cause.1)
+wider_cause is is' turn turn' st rb ra he ho sb sa ot old new pb pa more next write_fault cause =
+    (cause.0, (cause.1.0, cause.1.1, record { outcome = λ t. more (outcome_of cause.1.0 cause.1.1) (cause.1.2.outcome t); front = cause.1.2.front }))
+wider_cause is is' turn turn' st rb ra he ho sb sa ot old new pb pa more next (save_fault name) cause = (
+  cause.0,
+  (
+    cause.1.0,
+    cause.1.1,
+    record {
+      outcome = λ t. more (outcome_of cause.1.0 (Some (record { name = name; bytes = cause.1.1 }))) (cause.1.2.outcome t);
+      written = cause.1.2.written;
+      unsaved = cause.1.2.unsaved;
+    },
+  ),
+)
+wider_cause is is' turn turn' st rb ra he ho sb sa ot old new pb pa more next out_of_memory cause = tt
 
 -- the status of usage is that of no other report
 pub status_of_usage : (report : Report) → status_of report ≡ 2 → report ≡ usage
@@ -60,28 +79,22 @@ status_of_usage usage is = refl
 status_of_usage (refusal why) is = absurd (omega arith)
 status_of_usage (read_fault name) is = absurd (omega arith)
 status_of_usage write_fault is = absurd (omega arith)
+status_of_usage (save_fault name) is = absurd (omega arith)
 status_of_usage out_of_memory is = absurd (omega arith)
 
 -- usage is reported only where it is the outcome
-pub cause_of_usage : (is_outcome : Outcome → Type 0) (has_turn : List ℕ → Type 0) (shelf_tells : Type 0) (reads_before reads_after : ℕ) (out_tells : Type 0) (old new : List ℕ) (puts_before puts_after : ℕ)
-    → (report : Report) → report ≡ usage → IsCause is_outcome has_turn shelf_tells reads_before reads_after out_tells old new puts_before puts_after report → is_outcome (refused usage)
-cause_of_usage is_outcome has_turn st rb ra ot old new pb pa usage is cause = cause
-cause_of_usage is_outcome has_turn st rb ra ot old new pb pa (refusal why) is cause = absurd (cc is)
-cause_of_usage is_outcome has_turn st rb ra ot old new pb pa (read_fault name) is cause = absurd (cc is)
-cause_of_usage is_outcome has_turn st rb ra ot old new pb pa write_fault is cause = absurd (cc is)
-cause_of_usage is_outcome has_turn st rb ra ot old new pb pa out_of_memory is cause = absurd (cc is)
+pub cause_of_usage : (is_outcome : Outcome → Type 0) (has_turn : List ℕ → Type 0) (shelf_tells : Type 0) (reads_before reads_after : ℕ) (held holds : List ℕ → List ℕ) (saves_before saves_after : ℕ) (out_tells : Type 0) (old new : List ℕ) (puts_before puts_after : ℕ)
+    → (report : Report) → report ≡ usage → IsCause is_outcome has_turn shelf_tells reads_before reads_after held holds saves_before saves_after out_tells old new puts_before puts_after report → is_outcome (refused usage)
+cause_of_usage is_outcome has_turn st rb ra he ho sb sa ot old new pb pa usage is cause = cause
+cause_of_usage is_outcome has_turn st rb ra he ho sb sa ot old new pb pa (refusal why) is cause = absurd (cc is)
+cause_of_usage is_outcome has_turn st rb ra he ho sb sa ot old new pb pa (read_fault name) is cause = absurd (cc is)
+cause_of_usage is_outcome has_turn st rb ra he ho sb sa ot old new pb pa write_fault is cause = absurd (cc is)
+cause_of_usage is_outcome has_turn st rb ra he ho sb sa ot old new pb pa (save_fault name) is cause = absurd (cc is)
+cause_of_usage is_outcome has_turn st rb ra he ho sb sa ot old new pb pa out_of_memory is cause = absurd (cc is)
 
 -- words that give no command are reported as such, or want memory
-pub cause_of_words : (words : List (List ℕ)) (files : List ℕ → List ℕ) (has_turn : List ℕ → Type 0) (shelf_tells : Type 0) (reads_before reads_after : ℕ) (out_tells : Type 0) (old new : List ℕ)
+pub cause_of_words : (words : List (List ℕ)) (files : List ℕ → List ℕ) (watchers : List Watch) (has_turn : List ℕ → Type 0) (shelf_tells : Type 0) (reads_before reads_after : ℕ) (held holds : List ℕ → List ℕ) (saves_before saves_after : ℕ) (out_tells : Type 0) (old new : List ℕ)
     (puts_before puts_after : ℕ) (fault : WordsFault) → (fault ≡ variant.Usage → (command : CommandValue) → ¬ (IsCommand words command))
-    → IsCause (IsOutcome words files) has_turn shelf_tells reads_before reads_after out_tells old new puts_before puts_after (report_of_words fault)
-cause_of_words words files has_turn st rb ra ot old new pb pa variant.Usage none = no_command (none refl)
-cause_of_words words files has_turn st rb ra ot old new pb pa variant.OutOfMemory none = tt
-
--- what isn't reported as usage is built, so that where nothing is built usage is reported
-pub unbuilt_status : (report : Report) → ((report ≡ usage → ⊥) → ⊥) → status_of report ≡ 2
-unbuilt_status usage none = refl
-unbuilt_status (refusal why) none = absurd (none (λ same. cc))
-unbuilt_status (read_fault name) none = absurd (none (λ same. cc))
-unbuilt_status write_fault none = absurd (none (λ same. cc))
-unbuilt_status out_of_memory none = absurd (none (λ same. cc))
+    → IsCause (IsOutcome words files watchers) has_turn shelf_tells reads_before reads_after held holds saves_before saves_after out_tells old new puts_before puts_after (report_of_words fault)
+cause_of_words words files watchers has_turn st rb ra he ho sb sa ot old new pb pa variant.Usage none = no_command (none refl)
+cause_of_words words files watchers has_turn st rb ra he ho sb sa ot old new pb pa variant.OutOfMemory none = tt

@@ -1,11 +1,14 @@
 -- Words and files have one outcome.
-use Rattle.std.proofs.Common.{◌≡◌, ◌∙◌, not, Bool, List, ℕ, Option, Some, Result, Ok, refl, sym, ap, subst}
+use Rattle.std.proofs.Common.{◌≡◌, ◌∙◌, not, Bool, List, [], ℕ, Option, Some, Result, Ok, refl, sym, ap, subst}
 use Rattle.tilt_app.specs.Compile.{IsCompileOutcome, no_query, listed}
 use Rattle.tilt_app.specs.Explain.{IsExplainOutcome}
 use Rattle.tilt_app.specs.Explain as explaining
 use Rattle.tilt_explain.specs.Explain.{explained}
 use Rattle.tilt_app.specs.FileCommand.{IsFileOutcome, no_file, no_inputs, done}
-use Rattle.tilt_app.specs.Outcome.{IsCommandOutcome, IsOutcome, no_command, does, IsBuilt}
+use Rattle.tilt_app.specs.Run.{IsQueryOutcome}
+use Rattle.tilt_app.specs.Try.{IsTryOutcome, made_inputs, summed}
+use Rattle.tilt_app.specs.Watch.{watched_text}
+use Rattle.tilt_app.specs.Outcome.{IsCommandOutcome, IsOutcome, no_command, does}
 use Rattle.tilt_bounds.specs.Margins.{MarginsParts, margins_of}
 use Rattle.tilt_code.specs.Listing.{listing}
 use Rattle.tilt_fuse.specs.Plan.{plan_of}
@@ -18,15 +21,21 @@ use Rattle.tilt_load.proofs.OneCode.{code_once, code_refused_once, code_refused_
 use Rattle.tilt_load.proofs.OneQuery.{taken_once, refused_once, refused_or_taken}
 use Rattle.tilt_load.proofs.OneSeries.{inputs_once, inputs_refused_once, inputs_refused_or_taken}
 use Rattle.tilt_report.specs.Report.{Outcome, printed, refused, Reason, usage, refusal}
+use Rattle.tilt_chunk.specs.declared.cut.Cut.TheVariants.{Upto, End}
+use Rattle.tilt_sessions.proofs.Once.{start_once, resume_once, no_start_usage, no_resume_usage}
 use Rattle.tilt_stream.specs.Snap.{Snapshot}
+use Rattle.tilt_made.specs.Summary.{summary_text}
+use Rattle.tilt_made.specs.TryQuery.{query_text}
 use Rattle.tilt_stream.specs.Text.{text_of}
+use Rattle.tilt_types.specs.Meaning.{output_of}
+use Rattle.tilt_watch.specs.Watch.{Watch}
 use Rattle.tilt_words.specs.Binding.{Binding}
 use Rattle.tilt_words.specs.Command.{CommandValue, run, compile, exec, explain, start, resume_upto, resume_end, watch, try, IsCommand}
 
--- A command that is given a file and binds has one outcome, where its file is one thing or is refused for one reason, and gives one list.
-module _ {A : Type 0} (takes : A → Type 0) (refuses : Reason → Type 0) (inputs_of : A → List (List ℕ)) (gives : A → List (List Snapshot) → List Snapshot → Type 0)
+-- A command that is given a file and binds has one outcome, where its file is one thing or is refused for one reason, and comes to one outcome on rows.
+module _ {A : Type 0} (takes : A → Type 0) (refuses : Reason → Type 0) (inputs_of : A → List (List ℕ)) (gives : A → List (List Snapshot) → Outcome → Type 0)
     (one : (a b : A) → takes a → takes b → a ≡ b) (once : (r s : Reason) → refuses r → refuses s → r ≡ s) (either : (r : Reason) (a : A) → refuses r → takes a → ⊥)
-    (same : (a : A) (rows : List (List Snapshot)) (list list' : List Snapshot) → gives a rows list → gives a rows list' → list ≡ list')
+    (same : (a : A) (rows : List (List Snapshot)) (o p : Outcome) → gives a rows o → gives a rows p → o ≡ p)
     (files : List ℕ → List ℕ) (binds : List Binding) where
   same_refused : (a b : A) → takes a → takes b → (r s : Reason) → RefusesInputs files binds (inputs_of a) r → RefusesInputs files binds (inputs_of b) s → r ≡ s
   same_refused a b taken taken' r s is is' =
@@ -36,34 +45,53 @@ module _ {A : Type 0} (takes : A → Type 0) (refuses : Reason → Type 0) (inpu
   not_both a b taken taken' r rows is read =
       inputs_refused_or_taken files binds (inputs_of a) r rows is (rw (← one a b taken taken') at read)
 
-  same_list : (a b : A) → takes a → takes b → (rows rows' : List (List Snapshot)) (list list' : List Snapshot) → TakesInputs files binds (inputs_of a) rows → TakesInputs files binds (inputs_of b) rows'
-      → gives a rows list → gives b rows' list' → list ≡ list'
-  same_list a b taken taken' rows rows' list list' read read' is is' =
+  same_given : (a b : A) → takes a → takes b → (rows rows' : List (List Snapshot)) (o p : Outcome) → TakesInputs files binds (inputs_of a) rows
+      → TakesInputs files binds (inputs_of b) rows' → gives a rows o → gives b rows' p → o ≡ p
+  same_given a b taken taken' rows rows' o p read read' is is' =
       let both = one a b taken taken' in
       let rows_same = inputs_once files binds (inputs_of a) rows rows' read (rw (← both) at read') in
-      same a rows list list' is (rw (← both, ← rows_same) at is')
+      same a rows o p is (rw (← both, ← rows_same) at is')
 
   pub file_once : (o p : Outcome) → IsFileOutcome takes refuses inputs_of gives files binds o → IsFileOutcome takes refuses inputs_of gives files binds p → o ≡ p
   file_once o p (no_file r is) (no_file s is') = ap (λ (why : Reason). refused (refusal why)) (once r s is is')
   file_once o p (no_file r is) (no_inputs a s taken is') = absurd (either r a is taken)
-  file_once o p (no_file r is) (done a rows list taken read out) = absurd (either r a is taken)
+  file_once o p (no_file r is) (done a rows taken read out) = absurd (either r a is taken)
   file_once o p (no_inputs a r taken is) (no_file s is') = absurd (either s a is' taken)
   file_once o p (no_inputs a r taken is) (no_inputs b s taken' is') = ap (λ (why : Reason). refused (refusal why)) (same_refused a b taken taken' r s is is')
-  file_once o p (no_inputs a r taken is) (done b rows list taken' read out) = absurd (not_both a b taken taken' r rows is read)
-  file_once o p (done a rows list taken read out) (no_file s is') = absurd (either s a is' taken)
-  file_once o p (done a rows list taken read out) (no_inputs b s taken' is') = absurd (not_both b a taken' taken s rows is' read)
-  file_once o p (done a rows list taken read out) (done b rows' list' taken' read' out') =
-      ap (λ (l : List Snapshot). printed (text_of l)) (same_list a b taken taken' rows rows' list list' read read' out out')
+  file_once o p (no_inputs a r taken is) (done b rows taken' read out) = absurd (not_both a b taken taken' r rows is read)
+  file_once o p (done a rows taken read out) (no_file s is') = absurd (either s a is' taken)
+  file_once o p (done a rows taken read out) (no_inputs b s taken' is') = absurd (not_both b a taken' taken s rows is' read)
+  file_once o p (done a rows taken read out) (done b rows' taken' read' out') = same_given a b taken taken' rows rows' o p read read' out out'
 
--- such a command has another outcome than words that are none
-no_file_usage : {A : Type 0} {takes : A → Type 0} {refuses : Reason → Type 0} {inputs_of : A → List (List ℕ)} {gives : A → List (List Snapshot) → List Snapshot → Type 0}
-    → (files : List ℕ → List ℕ) (binds : List Binding) (o : Outcome) → IsFileOutcome takes refuses inputs_of gives files binds o → o ≡ refused usage → ⊥
-no_file_usage files binds o (no_file why is) same = cc
-no_file_usage files binds o (no_inputs a why taken is) same = cc
-no_file_usage files binds o (done a rows list taken read out) same = cc
+-- such a command has another outcome than words that are none, where its file comes to another one
+no_file_usage : {A : Type 0} {takes : A → Type 0} {refuses : Reason → Type 0} {inputs_of : A → List (List ℕ)} {gives : A → List (List Snapshot) → Outcome → Type 0}
+    → ((a : A) (rows : List (List Snapshot)) (o : Outcome) → gives a rows o → o ≡ refused usage → ⊥) → (files : List ℕ → List ℕ) (binds : List Binding) (o : Outcome)
+    → IsFileOutcome takes refuses inputs_of gives files binds o → o ≡ refused usage → ⊥
+no_file_usage other files binds o (no_file why is) same = cc
+no_file_usage other files binds o (no_inputs a why taken is) same = cc
+no_file_usage other files binds o (done a rows taken read out) same = other a rows o out same
+
+no_printed_usage : {text : List ℕ} → printed text ≡ refused usage → ⊥
+no_printed_usage same = cc
 
 same_some : (o : Option (List Snapshot)) (list list' : List Snapshot) → o ≡ Some list → o ≡ Some list' → list ≡ list'
 same_some o list list' is is' = cc
+
+-- a command that makes something of the snapshots of a query's meaning has one outcome
+query_once : (makes : List Snapshot → Outcome) (files : List ℕ → List ℕ) (query : List ℕ) (binds : List Binding) (o p : Outcome) → IsQueryOutcome makes files query binds o
+    → IsQueryOutcome makes files query binds p → o ≡ p
+query_once makes files query binds o p is is' =
+    file_once _ _ _ _ (taken_once (files query)) (refused_once query (files query)) (refused_or_taken query (files query))
+    (λ core rows o' p' made made'. made.2 ∙ ap makes (same_some _ made.0 made'.0 made.1 made'.1) ∙ sym made'.2) files binds o p is is'
+
+-- `try` has one outcome
+try_once : (seed count : ℕ) (o p : Outcome) → IsTryOutcome seed count o → IsTryOutcome seed count p → o ≡ p
+try_once seed count o p (summed core list taken out) (summed core' list' taken' out') =
+    let same = taken_once (query_text count) core core' taken taken' in
+    ap (λ (l : List Snapshot). printed (summary_text count l)) (same_some (output_of core (made_inputs seed count)) list list' out (rw (← same) at out'))
+
+no_try_usage : (seed count : ℕ) (o : Outcome) → IsTryOutcome seed count o → o ≡ refused usage → ⊥
+no_try_usage seed count o (summed core list taken out) same = cc
 
 same_margins : {m n : MarginsParts} → (let x : Result MarginsParts Need = Ok m in x ≡ Ok n) → m ≡ n
 same_margins e = cc
@@ -108,36 +136,36 @@ no_explain_usage files query o (explaining.no_query why is) same = cc
 no_explain_usage files query o (explaining.told c m taken margins) same = cc
 
 -- a command has one outcome
-pub command_once : (files : List ℕ → List ℕ) (command : CommandValue) (o p : Outcome) → IsCommandOutcome files command o → IsCommandOutcome files command p → o ≡ p
-command_once files (run query binds plain cuts) o p is is' =
-    file_once _ _ _ _ (taken_once (files query)) (refused_once query (files query)) (refused_or_taken query (files query)) (λ core rows list list' out out'. same_some _ list list' out out') files binds o p is is'
-command_once files (compile query plain) o p is is' = compile_once files query (not plain) o p is is'
-command_once files (exec code binds) o p is is' =
-    file_once _ _ _ _ (code_once (files code)) (code_refused_once code (files code)) (code_refused_or_taken code (files code)) (λ c rows list list' out out'. out ∙ sym out') files binds o p is is'
-command_once files (explain query) o p is is' = explain_once files query o p is is'
-command_once files (start query binds plain upto save) o p is is' = is ∙ sym is'
-command_once files (resume_upto checkpoint binds plain upto save) o p is is' = is ∙ sym is'
-command_once files (resume_end checkpoint binds plain) o p is is' = is ∙ sym is'
-command_once files (watch query binds plain) o p is is' = is ∙ sym is'
-command_once files (try seed count) o p is is' = is ∙ sym is'
+pub command_once : (files : List ℕ → List ℕ) (watchers : List Watch) (command : CommandValue) (o p : Outcome) → IsCommandOutcome files watchers command o
+    → IsCommandOutcome files watchers command p → o ≡ p
+command_once files watchers (run query binds plain cuts) o p is is' = query_once (λ list. printed (text_of list)) files query binds o p is is'
+command_once files watchers (compile query plain) o p is is' = compile_once files query (not plain) o p is is'
+command_once files watchers (exec code binds) o p is is' =
+    file_once _ _ _ _ (code_once (files code)) (code_refused_once code (files code)) (code_refused_or_taken code (files code)) (λ c rows o' p' out out'. out ∙ sym out') files binds o p is is'
+command_once files watchers (explain query) o p is is' = explain_once files query o p is is'
+command_once files watchers (start query binds plain upto save) o p is is' = start_once files query binds upto save o p is is'
+command_once files watchers (resume_upto checkpoint binds plain upto save) o p is is' = resume_once files checkpoint binds (Upto upto) save o p is is'
+command_once files watchers (resume_end checkpoint binds plain) o p is is' = resume_once files checkpoint binds End [] o p is is'
+command_once files watchers (watch query binds plain) o p is is' = query_once (λ list. printed (watched_text watchers list)) files query binds o p is is'
+command_once files watchers (try seed count) o p is is' = try_once seed count o p is is'
 
 -- words and files have one outcome, since words are one command at most
-pub outcome_once : (words : List (List ℕ)) (files : List ℕ → List ℕ) → ((c d : CommandValue) → IsCommand words c → IsCommand words d → c ≡ d)
-    → (o p : Outcome) → IsOutcome words files o → IsOutcome words files p → o ≡ p
-outcome_once words files one o p (no_command none) (no_command none') = refl
-outcome_once words files one o p (no_command none) (does c is outcome) = absurd (none c is)
-outcome_once words files one o p (does c is outcome) (no_command none) = absurd (none c is)
-outcome_once words files one o p (does c is outcome) (does d is' outcome') =
-    command_once files c o p outcome (subst (λ (e : CommandValue). IsCommandOutcome files e p) (sym (one c d is is')) outcome')
+pub outcome_once : (words : List (List ℕ)) (files : List ℕ → List ℕ) (watchers : List Watch) → ((c d : CommandValue) → IsCommand words c → IsCommand words d → c ≡ d)
+    → (o p : Outcome) → IsOutcome words files watchers o → IsOutcome words files watchers p → o ≡ p
+outcome_once words files watchers one o p (no_command none) (no_command none') = refl
+outcome_once words files watchers one o p (no_command none) (does c is outcome) = absurd (none c is)
+outcome_once words files watchers one o p (does c is outcome) (no_command none) = absurd (none c is)
+outcome_once words files watchers one o p (does c is outcome) (does d is' outcome') =
+    command_once files watchers c o p outcome (subst (λ (e : CommandValue). IsCommandOutcome files watchers e p) (sym (one c d is is')) outcome')
 
--- a command that is built has another outcome than that of words that are none
-pub no_usage : (files : List ℕ → List ℕ) (command : CommandValue) → IsCommandOutcome files command (refused usage) → IsBuilt command → ⊥
-no_usage files (run query binds plain cuts) is built = no_file_usage files binds (refused usage) is refl
-no_usage files (compile query plain) is built = no_compile_usage files query (not plain) (refused usage) is refl
-no_usage files (exec code binds) is built = no_file_usage files binds (refused usage) is refl
-no_usage files (explain query) is built = no_explain_usage files query (refused usage) is refl
-no_usage files (start query binds plain upto save) is built = built
-no_usage files (resume_upto checkpoint binds plain upto save) is built = built
-no_usage files (resume_end checkpoint binds plain) is built = built
-no_usage files (watch query binds plain) is built = built
-no_usage files (try seed count) is built = built
+-- a command has another outcome than that of words that are none
+pub no_usage : (files : List ℕ → List ℕ) (watchers : List Watch) (command : CommandValue) → IsCommandOutcome files watchers command (refused usage) → ⊥
+no_usage files watchers (run query binds plain cuts) is = no_file_usage (λ core rows o made same. no_printed_usage (sym made.2 ∙ same)) files binds (refused usage) is refl
+no_usage files watchers (compile query plain) is = no_compile_usage files query (not plain) (refused usage) is refl
+no_usage files watchers (exec code binds) is = no_file_usage (λ c rows o out same. no_printed_usage (sym out ∙ same)) files binds (refused usage) is refl
+no_usage files watchers (explain query) is = no_explain_usage files query (refused usage) is refl
+no_usage files watchers (start query binds plain upto save) is = no_start_usage files query binds upto save (refused usage) is refl
+no_usage files watchers (resume_upto checkpoint binds plain upto save) is = no_resume_usage files checkpoint binds (Upto upto) save (refused usage) is refl
+no_usage files watchers (resume_end checkpoint binds plain) is = no_resume_usage files checkpoint binds End [] (refused usage) is refl
+no_usage files watchers (watch query binds plain) is = no_file_usage (λ core rows o made same. no_printed_usage (sym made.2 ∙ same)) files binds (refused usage) is refl
+no_usage files watchers (try seed count) is = no_try_usage seed count (refused usage) is refl

@@ -1,8 +1,13 @@
 pub mod Answer
 pub mod Cause
 pub mod Compile
+pub mod Continues
 pub mod Exec
 pub mod Explain
 pub mod FileCommand
 pub mod Outcome
 pub mod Run
+pub mod Saving
+pub mod Show
+pub mod Try
+pub mod Watch

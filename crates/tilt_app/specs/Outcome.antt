@@ -1,25 +1,35 @@
--- What a command does, given its words and what each name holds: the text that it prints, or why it is refused.
+-- What a command does, given its words, what each name holds and who watches: the text that it prints, or why it is refused.
 -- That of each command stands in a file of its own.
-use Rattle.std.specs.Prelude.{◌≡◌, not, List, ℕ, ⊤}
-use Rattle.tilt_words.specs.Command.{CommandValue, run, compile, exec, explain, IsCommand}
+use Rattle.std.specs.Prelude.{◌≡◌, not, List, [], ℕ, ⊤}
+use Rattle.tilt_words.specs.Command.{CommandValue, run, compile, exec, explain, start, resume_upto, resume_end, watch, try, IsCommand}
 use Rattle.tilt_report.specs.Report.{Outcome, refused, usage}
 use Rattle.tilt_app.specs.Compile.{IsCompileOutcome}
 use Rattle.tilt_app.specs.Exec.{IsExecOutcome, HasExecTurn}
 use Rattle.tilt_app.specs.Explain.{IsExplainOutcome}
+use Rattle.tilt_chunk.specs.declared.cut.Cut.TheVariants.{Upto, End}
+use Rattle.tilt_sessions.specs.Resume.{IsResumeOutcome, HasResumeTurn}
+use Rattle.tilt_sessions.specs.Start.{IsStartOutcome, HasStartTurn}
 use Rattle.tilt_app.specs.Run.{IsRunOutcome, HasRunTurn}
+use Rattle.tilt_app.specs.Try.{IsTryOutcome}
+use Rattle.tilt_app.specs.Watch.{IsWatchOutcome}
+use Rattle.tilt_watch.specs.Watch.{Watch}
 
--- what a command does; those that aren't built are answered as if the words were no command
-abbrev pub IsCommandOutcome : (List ℕ → List ℕ) → CommandValue → Outcome → Type 0
-IsCommandOutcome files (run query binds plain cuts) outcome = IsRunOutcome files query binds outcome
-IsCommandOutcome files (compile query plain) outcome = IsCompileOutcome files query (not plain) outcome
-IsCommandOutcome files (exec code binds) outcome = IsExecOutcome files code binds outcome
-IsCommandOutcome files (explain query) outcome = IsExplainOutcome files query outcome
-IsCommandOutcome files command outcome = outcome ≡ refused usage
+-- what a command does
+abbrev pub IsCommandOutcome : (List ℕ → List ℕ) → List Watch → CommandValue → Outcome → Type 0
+IsCommandOutcome files watchers (run query binds plain cuts) outcome = IsRunOutcome files query binds outcome
+IsCommandOutcome files watchers (compile query plain) outcome = IsCompileOutcome files query (not plain) outcome
+IsCommandOutcome files watchers (exec code binds) outcome = IsExecOutcome files code binds outcome
+IsCommandOutcome files watchers (explain query) outcome = IsExplainOutcome files query outcome
+IsCommandOutcome files watchers (watch query binds plain) outcome = IsWatchOutcome files query binds watchers outcome
+IsCommandOutcome files watchers (try seed count) outcome = IsTryOutcome seed count outcome
+IsCommandOutcome files watchers (start query binds plain upto save) outcome = IsStartOutcome files query binds upto save outcome
+IsCommandOutcome files watchers (resume_upto checkpoint binds plain upto save) outcome = IsResumeOutcome files checkpoint binds (Upto upto) save outcome
+IsCommandOutcome files watchers (resume_end checkpoint binds plain) outcome = IsResumeOutcome files checkpoint binds End [] outcome
 
 -- what the words do
-pub data IsOutcome (words : List (List ℕ)) (files : List ℕ → List ℕ) : Outcome → Type 0 where
-  no_command : ((command : CommandValue) → ¬ (IsCommand words command)) → IsOutcome words files (refused usage)
-  does : {outcome : Outcome} (command : CommandValue) → IsCommand words command → IsCommandOutcome files command outcome → IsOutcome words files outcome
+pub data IsOutcome (words : List (List ℕ)) (files : List ℕ → List ℕ) (watchers : List Watch) : Outcome → Type 0 where
+  no_command : ((command : CommandValue) → ¬ (IsCommand words command)) → IsOutcome words files watchers (refused usage)
+  does : {outcome : Outcome} (command : CommandValue) → IsCommand words command → IsCommandOutcome files watchers command outcome → IsOutcome words files watchers outcome
 
 -- it is a file's turn to be read, for a command
 abbrev pub HasCommandTurn : Type 0 → (List ℕ → List ℕ) → CommandValue → List ℕ → Type 0
@@ -27,20 +37,26 @@ HasCommandTurn tells files (run query binds plain cuts) name = HasRunTurn tells 
 HasCommandTurn tells files (compile query plain) name = name ≡ query
 HasCommandTurn tells files (exec code binds) name = HasExecTurn tells files code binds name
 HasCommandTurn tells files (explain query) name = name ≡ query
-HasCommandTurn tells files command name = ⊥
+HasCommandTurn tells files (watch query binds plain) name = HasRunTurn tells files query binds name
+HasCommandTurn tells files (start query binds plain upto save) name = HasStartTurn tells files query binds upto name
+HasCommandTurn tells files (resume_upto checkpoint binds plain upto save) name = HasResumeTurn tells files checkpoint binds (Upto upto) name
+HasCommandTurn tells files (resume_end checkpoint binds plain) name = HasResumeTurn tells files checkpoint binds End name
+HasCommandTurn tells files (try seed count) name = ⊥
 
 -- it is a file's turn to be read
 abbrev pub HasTurn : Type 0 → List (List ℕ) → (List ℕ → List ℕ) → List ℕ → Type 0
 HasTurn tells words files name = (command : CommandValue) × IsCommand words command × HasCommandTurn tells files command name
 
--- whether a command is built
-abbrev pub IsBuilt : CommandValue → Type 0
-IsBuilt (run query binds plain cuts) = ⊤
-IsBuilt (compile query plain) = ⊤
-IsBuilt (exec code binds) = ⊤
-IsBuilt (explain query) = ⊤
-IsBuilt command = ⊥
-
--- the words are a command that is built
+-- the words are a command
 abbrev pub IsRunnable : List (List ℕ) → Type 0
-IsRunnable words = (command : CommandValue) × IsCommand words command × IsBuilt command
+IsRunnable words = (command : CommandValue) × IsCommand words command
+
+-- whether a command saves
+abbrev pub Saves : CommandValue → Type 0
+Saves (start query binds plain upto save) = ⊤
+Saves (resume_upto checkpoint binds plain upto save) = ⊤
+Saves command = ⊥
+
+-- the words are a command that saves
+abbrev pub IsSaving : List (List ℕ) → Type 0
+IsSaving words = (command : CommandValue) × IsCommand words command × Saves command

@@ -1,40 +1,64 @@
 // What is printed, and how.
-ghost use Rattle.std.specs.Prelude.{◌≡◌, length, OnOk};
+ghost use Rattle.std.specs.Prelude.{◌≡◌, length, MatchResult, OnOk};
 ghost use Rattle.tilt_app.specs.Answer.{printed_text};
+ghost use Rattle.tilt_app.specs.Show.{HaveSeen, HaveSeenInPart, SeeAll, SeePart, shown_of};
+ghost use Rattle.tilt_app.specs.Watch.{watched_text};
 ghost use Rattle.tilt_outside.specs.Written.{Puts};
 ghost use Rattle.tilt_stream.specs.Text.{text_of};
+ghost use Rattle.tilt_watch.specs.Watch.{watches};
 
 use tilt_outside::{Failed, Sink};
 use tilt_series::{put_header, put_rows};
 use tilt_stream::SnapList;
+use tilt_watch::{Watcher, put_figures, show};
 
 /// What a command prints.
 #[derive(Drop)]
 pub enum Printed {
     /// The text of these snapshots.
     Snapshots(SnapList),
+    /// The text of these snapshots, and then the figures of the watchers, which are shown them in between.
+    Watched(SnapList),
+    /// The lines of these snapshots, without the header.
+    Lines(SnapList),
     /// This text.
     Text(Vec<u8>),
 }
 
 impl Printed {
     /// Puts the text, and hands all of it on.
-    pub fn put<O: Sink>(&self, out: &mut O) -> Result<(), Failed>
-        requires { O.takes out.old (length (printed_text self.now)) }
-        ensures puts { Puts O.tells O.written O.faults O.takes out.old out.new (printed_text self.now) result }
+    pub fn put<O: Sink>(
+        &self,
+        out: &mut O,
+        watchers: &mut Vec<Box<dyn Watcher>>,
+    ) -> Result<(), Failed>
+        requires { O.takes out.old (length (printed_text (watches pair step watchers.old.items) self.now)) }
+        ensures puts { Puts O.tells O.written O.faults O.takes out.old out.new (printed_text (watches pair step watchers.old.items) self.now) result }
         ensures handed_on { OnOk result (O.held_back out.new ≡ 0) }
+        ensures seen { MatchResult result
+            (λ _. SeeAll O.tells (O.written out.old) (O.written out.new) (watchers.new ≡ watchers.old) (watches pair step watchers.old.items) (watches pair step watchers.new.items) (shown_of self.now))
+            (λ _. SeePart O.tells (O.written out.old) (O.written out.new) (watchers.new ≡ watchers.old) (watches pair step watchers.old.items) (watches pair step watchers.new.items) (shown_of self.now)) }
     {
-        self.put_all(out)?;
+        self.put_all(out, watchers)?;
         out.flush()
     }
 
     // Puts the text.
-    fn put_all<O: Sink>(&self, out: &mut O) -> Result<(), Failed>
-        requires { O.takes out.old (length (printed_text self.now)) }
-        ensures { Puts O.tells O.written O.faults O.takes out.old out.new (printed_text self.now) result }
+    fn put_all<O: Sink>(
+        &self,
+        out: &mut O,
+        watchers: &mut Vec<Box<dyn Watcher>>,
+    ) -> Result<(), Failed>
+        requires { O.takes out.old (length (printed_text (watches pair step watchers.old.items) self.now)) }
+        ensures puts { Puts O.tells O.written O.faults O.takes out.old out.new (printed_text (watches pair step watchers.old.items) self.now) result }
+        ensures seen { MatchResult result
+            (λ _. SeeAll O.tells (O.written out.old) (O.written out.new) (watchers.new ≡ watchers.old) (watches pair step watchers.old.items) (watches pair step watchers.new.items) (shown_of self.now))
+            (λ _. SeePart O.tells (O.written out.old) (O.written out.new) (watchers.new ≡ watchers.old) (watches pair step watchers.old.items) (watches pair step watchers.new.items) (shown_of self.now)) }
     {
         match self {
             Printed::Snapshots(list) => put_text(out, list),
+            Printed::Watched(list) => put_watched(out, list, watchers),
+            Printed::Lines(list) => put_rows(out, list),
             Printed::Text(text) => out.put(text),
         }
     }
@@ -47,4 +71,21 @@ fn put_text<O: Sink>(out: &mut O, list: &SnapList) -> Result<(), Failed>
 {
     put_header(out)?;
     put_rows(out, list)
+}
+
+// Puts the text of snapshots, shows them to the watchers, and puts the figures of these.
+fn put_watched<O: Sink>(
+    out: &mut O,
+    list: &SnapList,
+    watchers: &mut Vec<Box<dyn Watcher>>,
+) -> Result<(), Failed>
+    requires { O.takes out.old (length (watched_text (watches pair step watchers.old.items) list.now)) }
+    ensures puts { Puts O.tells O.written O.faults O.takes out.old out.new (watched_text (watches pair step watchers.old.items) list.now) result }
+    ensures seen { MatchResult result
+        (λ _. HaveSeen O.tells (O.written out.old) (O.written out.new) (watchers.new ≡ watchers.old) (watches pair step watchers.old.items) (watches pair step watchers.new.items) list.now)
+        (λ _. HaveSeenInPart O.tells (O.written out.old) (O.written out.new) (watchers.new ≡ watchers.old) (watches pair step watchers.old.items) (watches pair step watchers.new.items) list.now) }
+{
+    put_text(out, list)?;
+    show(watchers, list);
+    put_figures(out, watchers)
 }

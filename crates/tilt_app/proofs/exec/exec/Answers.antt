@@ -1,8 +1,11 @@
+use Rattle.std.proofs.Common.{List, ap}
 use Rattle.std.proofs.lemmas.Result.{err_from_is_err_and}
 use Rattle.tilt_words.specs.Binding.{bindings_of}
 use Rattle.tilt_app.specs.FileCommand.{own_turn, done}
 use Rattle.tilt_app.proofs.Files.{file_undone, inputs_undone, turn_of_input}
-use Rattle.tilt_report.specs.Report.{report_of}
+use Rattle.tilt_report.specs.Report.{printed, report_of}
+use Rattle.tilt_stream.specs.Snap.{Snapshot}
+use Rattle.tilt_stream.specs.Text.{text_of}
 use Rattle.tilt_app.proofs.exec.exec.Goals as goal
 
 pub load_code-requires : goal.load_code-requires
@@ -30,4 +33,4 @@ returns-clause-printed g c =
     λ told.
     let read = rw (c.load_code.ensures.rest.same_files, c.inputs.ensures.names) at (c.in_ok-rows.ensures.taken told) in
     let out = rw c.deref.ensures.value at c.in_ok-run_code.ensures.run in
-    done _ c.in_ok-rows.rows.items c.in_ok-run_code.field-0 (c.in_ok-code.ensures.taken told) read out
+    done _ c.in_ok-rows.rows.items (c.in_ok-code.ensures.taken told) read (ap (λ (list : List Snapshot). printed (text_of list)) out)

@@ -1,0 +1,87 @@
+// Runs that are cut, and sessions behind a checkpoint.
+use super::{Case, File, assert_cases, shelf_of, sink_of, words_of};
+use crate::command::tilt;
+use std::alloc::Global;
+use std::process::Abort;
+use std::test::Fail;
+
+const COUNT: &[u8] = b"input x; emit count(x[t-3:t]) over (0, 10];";
+
+const WHOLE: &[File<'_>] = &[("q", COUNT), ("s", b"start,end,value\n0,5,7\n5,8,7\n")];
+
+const FIRST: &[File<'_>] = &[("q", COUNT), ("s", b"start,end,value\n0,5,7\n")];
+
+const LATER: &[File<'_>] = &[("c", CHECKPOINT), ("s", b"start,end,value\n5,8,7\n")];
+
+const TEXT: &[u8] = b"start,end,value\n0,2,1\n2,5,1\n5,7,2\n7,8,1\n8,10,1\n";
+
+const CHECKPOINT: &[u8] =
+    b"tilt checkpoint 1\nquery 2\ninput x;\nemit count(x[t-3:t]) over (0, 10];\ncut 5\nopen 2\nlast 5 rows 1\n0,5,7\nend\n";
+
+const SESSIONS: &[Case<'_>] = &[
+    ("run\nq\nx=s\n--cut\n5", WHOLE, 0, TEXT, b""),
+    ("run\nq\nx=s\n--cut\n5,5", WHOLE, 0, TEXT, b""),
+    (
+        "resume\nc\nx=s\n--end",
+        LATER,
+        0,
+        b"2,5,1\n5,7,2\n7,8,1\n8,10,1\n",
+        b"",
+    ),
+    (
+        "resume\nc\nx=s\n--upto\n4\n--save\nd",
+        LATER,
+        1,
+        b"",
+        b"tilt: 51 cut back from 5 to 4\n",
+    ),
+    (
+        "resume\ns\nx=s\n--end",
+        LATER,
+        1,
+        b"",
+        b"tilt: 50 bad checkpoint\n",
+    ),
+];
+
+#[test]
+fn sessions_print_what_one_run_prints(rt: HostRuntime) -> Result<(), Fail> {
+    assert_cases(&rt, rt.alloc(), SESSIONS)
+}
+
+// The number of the save or the read that fails, the status, the line and what `c` holds then. The four reads come before the save.
+const STARTED: &[(u64, u8, &[u8], &[u8])] = &[
+    (0, 0, b"", CHECKPOINT),
+    (5, 6, b"tilt: 6 save fault: c\n", b""),
+];
+
+// Ends the test unless the first session ends so.
+fn assert_started(
+    rt: &impl Abort,
+    alloc: Global,
+    failing: u64,
+    status: u8,
+    line: &[u8],
+    saved: &[u8],
+) -> Result<(), Fail> {
+    let words = words_of(alloc, "start\nq\nx=s\n--upto\n5\n--save\nc")?;
+    let mut shelf = shelf_of(alloc, FIRST, failing)?;
+    shelf.hold("c", b"", 1000)?;
+    let mut out = sink_of(alloc, 0)?;
+    let mut err = sink_of(alloc, 0)?;
+    let mut watchers = Vec::new(alloc);
+    let end = tilt(alloc, &words, &mut shelf, &mut out, &mut err, &mut watchers);
+    assert_eq!(rt; end, status);
+    assert_eq!(rt; out.written(), b"start,end,value\n0,2,1\n".as_slice());
+    assert_eq!(rt; err.written(), line);
+    assert_eq!(rt; shelf.bytes("c"), Some(saved));
+    Ok(())
+}
+
+#[test]
+fn a_first_session_saves_its_checkpoint(rt: HostRuntime) -> Result<(), Fail> {
+    for (failing, status, line, saved) in STARTED {
+        assert_started(&rt, rt.alloc(), *failing, *status, line, saved)?;
+    }
+    Ok(())
+}
