@@ -21,7 +21,11 @@ pub trait Buffer {
         ensures count { result ≡ length (list self.now) }
         ensures in_order { InOrder (neg_ℤ WIDE) WIDE (list self.now) };
 
-    /// The one at a place, counted from 0 at the first that was made.
+    /// The place of the first one that is kept, counted from 0 at the first that was made.
+    fn first_kept(&self) -> usize
+        ensures { result ≡ forgotten self.now };
+
+    /// The one at a place, counted in the same way.
     fn get(&self, place: usize) -> Snap
         requires made { place < length (list self.now) }
         requires kept { forgotten self.now ≤ place }
@@ -38,6 +42,10 @@ impl Buffer for SnapList {
         self.as_slice().len()
     }
 
+    fn first_kept(&self) -> usize {
+        0
+    }
+
     fn get(&self, place: usize) -> Snap {
         self.as_slice()[place]
     }
@@ -50,6 +58,10 @@ impl Buffer for Rows {
 
     fn made(&self) -> usize {
         self.as_slice().len()
+    }
+
+    fn first_kept(&self) -> usize {
+        0
     }
 
     fn get(&self, place: usize) -> Snap {

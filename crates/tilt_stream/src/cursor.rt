@@ -42,15 +42,16 @@ impl Cursor {
         self.place
     }
 
-    /// Moves to a tick that isn't below its own. It takes the logarithm of the number of snapshots that it passes, and reads one
-    /// where it passes none.
+    /// Moves to a tick that isn't below its own, where the buffer keeps the snapshots from that tick on; those that it passes needn't
+    /// be kept any more. It takes the logarithm of the number of snapshots that it passes, and reads one where it passes none.
     pub fn move_to<B: Buffer>(&mut self, buffer: &B, tick: i64)
         requires fits { self.old.place ≤ ended_below self.old.tick (B.list buffer.now) }
-        requires kept { B.forgotten buffer.now ≤ self.old.place }
+        requires kept { B.forgotten buffer.now ≤ ended_below tick (B.list buffer.now) }
         requires onwards { self.old.tick ≤ℤ tick }
         ensures { self.new ≡ record { tick = tick; place = ended_below tick (B.list buffer.now) } }
     {
-        let (low, high) = reach(buffer, self.place, tick);
+        let from = self.place.max(buffer.first_kept());
+        let (low, high) = reach(buffer, from, tick);
         self.place = parted(buffer, low, high, tick);
         self.tick = tick;
     }
