@@ -1,14 +1,18 @@
 -- One turn after the other.
-use Rattle.std.proofs.Common.{◌≡◌, ◌<◌, ◌+◌, ℕ, zero, suc, ℤ, pos, ◌+ℤ◌, ◌≤ℤ◌, ◌<ℤ◌, List, [], ◌∷◌, ◌++◌, append_assoc, map, drop, get_or, length, refl, sym, ap, ◌∙◌, subst, arith}
+use Rattle.std.proofs.Common.{◌≡◌, ◌<◌, ◌+◌, ℕ, ℤ, pos, ◌+ℤ◌, ◌≤ℤ◌, ◌<ℤ◌, List, [], ◌∷◌, ◌++◌, append_assoc, drop, get_or, length, sym, ap, ◌∙◌, subst, arith}
 use Rattle.std.proofs.lemmas.Int.{ints}
 use Rattle.std.proofs.lemmas.List.{drop_more}
+use Rattle.std.specs.List.{AllByRecursion}
 use Rattle.tilt_base.proofs.GridPoints.{ceil-IsCeil}
 use Rattle.tilt_base.specs.Grid.{GridPoints, IsGrid, ceil}
 use Rattle.tilt_code.proofs.Turns.{turn-ends, turns_until-first}
+use Rattle.tilt_code.specs.Code.{Block}
 use Rattle.tilt_code.specs.Turn.{turn, turns_until}
-use Rattle.tilt_machine.specs.declared.any_buffer.AnyBuffer.{AnyBuffer}
+use Rattle.tilt_code.specs.declared.instr.Instr.{Instr}
+use Rattle.tilt_code.specs.declared.instr.Instr.TheVariants.{Const, Null, Argument, Port, Win, One, Two, If}
 use Rattle.tilt_stream.specs.Snap.{Snapshot}
 use Rattle.tilt_stream.specs.Stream.{Stream}
+use Rattle.tilt_turn.specs.Ready.{IsKept}
 
 -- a turn ends above its start, and not above the end of the stretch
 pub turn-bounds : (body : Stream) (grid : GridPoints) (hi start : ℤ) (s : Snapshot) → IsGrid grid → start <ℤ hi
@@ -38,15 +42,20 @@ points-rise grid start later valid onwards =
     let above = there.not_below in
     here.least (ceil grid (later +ℤ pos 1)) there.on_grid (omega (arith, ints))
 
--- how many of a buffer's snapshots aren't kept
-abbrev pub forgotten_of : AnyBuffer → ℕ
-forgotten_of buffer = 0
+-- where nothing is forgotten, all that a leaf reads is kept
+leaf-kept : (lists : List (List Snapshot)) (point : ℤ) (i : Instr) → IsKept lists [] point i
+leaf-kept lists point (Const number) = tt
+leaf-kept lists point Null = tt
+leaf-kept lists point Argument = tt
+leaf-kept lists point (Port buffer offset) = omega arith
+leaf-kept lists point (Win reducer buffer from to number) = omega arith
+leaf-kept lists point (One op a) = tt
+leaf-kept lists point (Two op a b) = tt
+leaf-kept lists point (If c a b) = tt
 
--- nothing is forgotten of any buffer
-pub none-forgotten : (buffers : List AnyBuffer) (i : ℕ) → get_or (map forgotten_of buffers) i 0 ≡ 0
-none-forgotten [] i = refl
-none-forgotten (x ∷ xs) zero = refl
-none-forgotten (x ∷ xs) (suc i) = none-forgotten xs i
+pub all-kept : (lists : List (List Snapshot)) (point : ℤ) (block : Block) → AllByRecursion (IsKept lists [] point) block
+all-kept lists point [] = tt
+all-kept lists point (i ∷ block) = (leaf-kept lists point i, all-kept lists point block)
 
 -- what is left from a place on, split at the first
 pub drop-first : {X : Type 0} (xs : List X) (i : ℕ) (x : X) → i < length xs → x ≡ get_or xs i x → drop i xs ≡ x ∷ drop (i + 1) xs

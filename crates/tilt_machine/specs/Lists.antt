@@ -1,10 +1,8 @@
 -- The lists of buffers.
-use Rattle.std.specs.Prelude.{List}
+use Rattle.std.specs.Prelude.{List, ◌++◌}
 use Rattle.tilt_stream.specs.Snap.{Snapshot}
-use Rattle.tilt_machine.specs.declared.any_buffer.AnyBuffer.{AnyBuffer}
-use Rattle.tilt_machine.specs.declared.any_buffer.AnyBuffer.TheVariants.{Rows, Made}
+use Rattle.tilt_machine.specs.declared.made_so_far.MadeSoFar.{MadeSoFar}
 
--- the rows of an input, or the snapshots of a loop
-abbrev pub list_of : AnyBuffer → List Snapshot
-list_of (Rows rows) = rows.now
-list_of (Made list) = list.now
+-- the rows of the inputs, and behind them the snapshots of the loops
+abbrev pub lists_of : MadeSoFar → List (List Snapshot)
+lists_of buffers = buffers.inputs.now ++ buffers.made.now

@@ -7,7 +7,7 @@
 //! each piece of a buffer comes into a window once and goes out once, and ticks are never counted.
 #![tactic(auto)]
 
-mod any_buffer;
+mod made_so_far;
 mod run;
 #[cfg(test)]
 mod tests;

@@ -1,9 +1,8 @@
 // The run of a code.
-ghost use Rattle.std.specs.Prelude.{◌≡◌, ◌++◌, length, map, IfOk, OnOk};
+ghost use Rattle.std.specs.Prelude.{◌≡◌, length, IfOk};
 ghost use Rattle.tilt_code.specs.Run.{run_of};
-ghost use Rattle.tilt_machine.specs.Lists.{list_of};
 
-use crate::any_buffer::AnyBuffer;
+use crate::made_so_far::MadeSoFar;
 use crate::turns::turns;
 use std::alloc::{AllocError as OutOfMemory, Global};
 use tilt_code::Code;
@@ -17,34 +16,12 @@ pub fn run_code(alloc: Global, code: &Code, inputs: &[Rows]) -> Result<SnapList,
 {
     let mut made = Vec::new(alloc);
     for each in code.loops() {
-        let list = turns(alloc, each, &buffers_of(alloc, inputs, &made)?)?;
+        let buffers = MadeSoFar {
+            inputs,
+            made: &made,
+        };
+        let list = turns(alloc, each, &buffers)?;
         made.push(list)?;
     }
     Ok(made.pop().unwrap())
-}
-
-// The buffers so far: the inputs, and behind them what loops made.
-fn buffers_of<'a>(
-    alloc: Global,
-    inputs: &'a [Rows],
-    made: &'a [SnapList],
-) -> Result<Vec<AnyBuffer<'a>>, OutOfMemory>
-    ensures { IfOk result (λ buffers. map list_of buffers.items ≡ inputs.now ++ made.now) }
-{
-    let mut buffers = Vec::new(alloc);
-    for rows in inputs {
-        buffers.push(AnyBuffer::Rows(rows))?;
-    }
-    add_made(&mut buffers, made)?;
-    Ok(buffers)
-}
-
-// Adds the buffers that loops made.
-fn add_made<'a>(buffers: &mut Vec<AnyBuffer<'a>>, made: &'a [SnapList]) -> Result<(), OutOfMemory>
-    ensures { OnOk result (map list_of buffers.new.items ≡ map list_of buffers.old.items ++ made.now) }
-{
-    for list in made {
-        buffers.push(AnyBuffer::Made(list))?;
-    }
-    Ok(())
 }

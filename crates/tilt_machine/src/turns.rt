@@ -1,11 +1,11 @@
 // The turns of a loop, one after the other.
 ghost use Rattle.std.specs.Prelude.{◌≡◌, length, map, IfOk};
 ghost use Rattle.tilt_code.specs.Turn.{turns};
-ghost use Rattle.tilt_machine.specs.Lists.{list_of};
+ghost use Rattle.tilt_machine.specs.Lists.{lists_of};
 ghost use Rattle.tilt_stream.specs.Stream.{stream_of};
 ghost use Rattle.tilt_turn.specs.Ready.{IsReady};
 
-use crate::any_buffer::AnyBuffer;
+use crate::made_so_far::MadeSoFar;
 use std::alloc::{AllocError as OutOfMemory, Global};
 use tilt_code::Loop;
 use tilt_stream::SnapList;
@@ -15,10 +15,10 @@ use tilt_turn::LoopState;
 pub(crate) fn turns(
     alloc: Global,
     each: &Loop,
-    buffers: &[AnyBuffer<'_>],
+    buffers: &MadeSoFar<'_>,
 ) -> Result<SnapList, OutOfMemory>
-    requires ready { IsReady (length buffers.now) each.now }
-    ensures { IfOk result (λ list. list ≡ turns (map stream_of (map list_of buffers.now)) each.now) }
+    requires ready { IsReady (length (lists_of buffers.now)) each.now }
+    ensures { IfOk result (λ list. list ≡ turns (map stream_of (lists_of buffers.now)) each.now) }
 {
     let mut list = SnapList::new(alloc);
     let mut state = LoopState::new(alloc, each)?;

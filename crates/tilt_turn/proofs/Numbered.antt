@@ -1,6 +1,5 @@
--- Reading the buffer of a number, and answers that hold where no memory was wanting.
+-- Reading what stands at a number, and answers that hold where no memory was wanting.
 use Rattle.std.proofs.Common.{◌≡◌, ◌<◌, ℕ, zero, suc, List, [], ◌∷◌, map, length, get_or, Result, Ok, Err, OnOk, refl, sym, ap, arith}
-use Rattle.std.proofs.lemmas.List.{length-map}
 use Rattle.tilt_stream.specs.Pointwise.{nothing}
 use Rattle.tilt_stream.specs.Snap.{Snapshot}
 use Rattle.tilt_stream.specs.Stream.{stream_of}
@@ -13,15 +12,10 @@ read-map f (y ∷ ys) zero x d within is = ap f (sym is)
 read-map f (y ∷ ys) (suc i) x d within is = read-map f ys i x d (omega arith) is
 
 -- the stream of the list of a number
-pub read-stream : (lists : List (List Snapshot)) (i : ℕ) → i < length lists
-    → get_or (map stream_of lists) i nothing ≡ stream_of (get_or lists i [])
-read-stream [] i within = absurd (omega arith)
-read-stream (list ∷ lists) zero within = refl
-read-stream (list ∷ lists) (suc i) within = read-stream lists i (omega arith)
-
--- there are as many answers as items
-pub within-map : {X Y Z : Type 0} (f : X → Y) (g : X → Z) (xs : List X) (i : ℕ) → i < length (map f xs) → i < length (map g xs)
-within-map f g xs i within = let a = length-map xs f in let b = length-map xs g in omega arith
+pub read-stream : (lists : List (List Snapshot)) (i : ℕ) → get_or (map stream_of lists) i nothing ≡ stream_of (get_or lists i [])
+read-stream [] i = refl
+read-stream (list ∷ lists) zero = refl
+read-stream (list ∷ lists) (suc i) = read-stream lists i
 
 -- two facts together
 pub both-ok : {X E : Type 0} (result : Result X E) (P Q R : Type 0) → OnOk result P → OnOk result Q → (P → Q → R) → OnOk result R

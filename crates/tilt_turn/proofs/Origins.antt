@@ -2,6 +2,7 @@
 use Rattle.std.proofs.Common.{◌≡◌, ◌<◌, ℕ, ℤ, List, [], ◌∷◌, map, length, get_or, Option, refl, sym, ap, ◌∙◌, arith}
 use Rattle.std.proofs.lemmas.Int.{ints}
 use Rattle.std.proofs.lemmas.List.{length-map, get_or-map}
+use Rattle.std.specs.List.{AllByRecursion}
 use Rattle.tilt_code.specs.Body.{leaf_of, leaf_marked, body_of}
 use Rattle.tilt_code.specs.Code.{Block, LoopParts}
 use Rattle.tilt_code.specs.declared.instr.Instr.{Instr}
@@ -12,7 +13,7 @@ use Rattle.tilt_stream.specs.Stream.{Stream}
 use Rattle.tilt_turn.proofs.Cursors.{may-move}
 use Rattle.tilt_turn.proofs.NextMarks.{names-same}
 use Rattle.tilt_turn.proofs.Numbered.{read-map}
-use Rattle.tilt_turn.specs.Held.{IsLeafAt, MayMove, StandsAt, leaf_only, origin}
+use Rattle.tilt_turn.specs.Held.{IsLeafAt, MayGo, StandsAt, leaf_only, origin}
 use Rattle.tilt_turn.specs.declared.leaf.Leaf.{Leaf}
 use Rattle.tilt_turn.specs.declared.leaf.Leaf.TheVariants as leaf
 
@@ -59,9 +60,24 @@ same-length leaves body same =
     let b = length-map body leaf_only in
     omega arith
 
+-- what holds of an instruction holds of the leaf that it is, where it holds of one that reads nothing
+only : (P : Instr → Type 0) (i : Instr) → P Null → P i → P (leaf_only i)
+only P (Const number) none holds = none
+only P Null none holds = none
+only P Argument none holds = none
+only P (Port buffer offset) none holds = holds
+only P (Win reducer buffer from to number) none holds = holds
+only P (One op a) none holds = none
+only P (Two op a b) none holds = none
+only P (If c a b) none holds = none
+
+pub all-only : (P : Instr → Type 0) (block : Block) → P Null → AllByRecursion P block → AllByRecursion P (map leaf_only block)
+all-only P [] none holds = tt
+all-only P (i ∷ block) none holds = (only P i none holds.0, all-only P block none holds.1)
+
 -- a leaf at a grid point may go on from there
 pub leaf-may : (lists : List (List Snapshot)) (forgotten : List ℕ) (maps : List Block) (point : ℤ) (own : Leaf)
-    → IsLeafAt StandsAt lists forgotten maps point own → IsLeafAt MayMove lists forgotten maps point own
+    → IsLeafAt StandsAt lists forgotten maps point own → IsLeafAt MayGo lists [] maps point own
 leaf-may lists forgotten maps point leaf.Idle at = tt
 leaf-may lists forgotten maps point (leaf.Port p) at = (at.0, may-move _ _ _ _ p.cursor at.1 (omega (arith, ints)))
 leaf-may lists forgotten maps point (leaf.Window w) at =

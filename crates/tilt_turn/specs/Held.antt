@@ -1,5 +1,5 @@
 -- What cursors, windows and leaves hold between the turns of a loop.
-use Rattle.std.specs.Prelude.{◌≡◌, ◌<◌, ◌≤◌, ℕ, ℤ, pos, ◌+ℤ◌, ◌-ℤ◌, ◌≤ℤ◌, List, [], map, get_or, length, Option, ⊤}
+use Rattle.std.specs.Prelude.{◌≡◌, ◌≤◌, ℕ, ℤ, pos, ◌+ℤ◌, ◌-ℤ◌, ◌≤ℤ◌, List, [], map, get_or, length, Option, ⊤}
 use Rattle.std.specs.List.{AllByRecursion}
 use Rattle.tilt_code.specs.Body.{mapped}
 use Rattle.tilt_code.specs.Code.{Block, LoopParts}
@@ -20,10 +20,9 @@ use Rattle.tilt_turn.specs.declared.span.WindowLeaf.{WindowLeaf}
 use Rattle.tilt_turn.specs.declared.moving.Moving.{Moving}
 use Rattle.tilt_turn.specs.declared.state.LoopState.{LoopState}
 
--- a cursor that may move to a tick
-pub record MayMove (list : List Snapshot) (forgotten : ℕ) (tick : ℤ) (c : Cursor) : Type 0 where
+-- a cursor that may move to a tick, where the snapshots from that tick on are kept
+pub record MayMove (list : List Snapshot) (tick : ℤ) (c : Cursor) : Type 0 where
   pub fits : c.place ≤ ended_below c.tick list
-  pub kept : forgotten ≤ c.place
   pub onwards : c.tick ≤ℤ tick
 
 -- a cursor that stands at a tick
@@ -54,6 +53,10 @@ leaf_only other = instr.Null
 abbrev pub OfCursor : Type 1
 OfCursor = List Snapshot → ℕ → ℤ → Cursor → Type 0
 
+-- that it may move there, however many aren't kept where it stands
+abbrev pub MayGo : OfCursor
+MayGo list forgotten tick c = MayMove list tick c
+
 -- the cursor of a port at a grid point
 abbrev pub PortHolds : OfCursor → List (List Snapshot) → List ℕ → ℤ → PortLeaf → Type 0
 PortHolds says lists forgotten point p = says (get_or lists p.buffer []) (get_or forgotten p.buffer 0) (point +ℤ p.offset) p.cursor
@@ -66,12 +69,12 @@ pub record WindowHolds (says : OfCursor) (lists : List (List Snapshot)) (forgott
 
 -- a port that may be read, at a grid point
 abbrev pub IsPortAt : OfCursor → List (List Snapshot) → List ℕ → ℤ → PortLeaf → Type 0
-IsPortAt says lists forgotten point p = ((p.buffer < length lists) × IsOffset p.offset) × PortHolds says lists forgotten point p
+IsPortAt says lists forgotten point p = IsOffset p.offset × PortHolds says lists forgotten point p
 
 -- a window that may be read, at a grid point
 abbrev pub IsWindowAt : OfCursor → List (List Snapshot) → List ℕ → List Block → ℤ → WindowLeaf → Type 0
 IsWindowAt says lists forgotten maps point w =
-    IsReadableWindow (length lists) (length maps) w.buffer w.from w.to w.map × WindowHolds says lists forgotten maps point w
+    IsReadableWindow (length maps) w.from w.to w.map × WindowHolds says lists forgotten maps point w
 
 -- a leaf that may be read, at a grid point
 abbrev pub IsLeafAt : OfCursor → List (List Snapshot) → List ℕ → List Block → ℤ → Leaf → Type 0
@@ -80,7 +83,7 @@ IsLeafAt says lists forgotten maps point (Port p) = IsPortAt says lists forgotte
 IsLeafAt says lists forgotten maps point (Window w) = IsWindowAt says lists forgotten maps point w
 
 -- the state of a loop that may go on to any grid point from this one on: its leaves are those of the body, and each holds what its ticks
--- meet at the grid point
-pub record IsFit (lists : List (List Snapshot)) (forgotten : List ℕ) (l : LoopParts) (point : ℤ) (state : LoopState) : Type 0 where
+-- meet at the grid point; what is kept of the lists doesn't matter to it
+pub record IsFit (lists : List (List Snapshot)) (l : LoopParts) (point : ℤ) (state : LoopState) : Type 0 where
   pub same : map origin state.leaves.items ≡ map leaf_only l.body
-  pub leaves : AllByRecursion (IsLeafAt MayMove lists forgotten l.maps point) state.leaves.items
+  pub leaves : AllByRecursion (IsLeafAt MayGo lists [] l.maps point) state.leaves.items

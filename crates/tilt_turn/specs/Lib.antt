@@ -3,3 +3,4 @@ pub mod Kinds
 pub mod Leaves
 pub mod Marked
 pub mod Ready
+pub mod Same

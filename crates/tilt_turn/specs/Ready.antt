@@ -1,5 +1,5 @@
 -- What a loop and its instructions have to be before they are run: all that they name is there, and no number overflows.
-use Rattle.std.specs.Prelude.{ℕ, suc, ◌<◌, ℤ, pos, neg_ℤ, ◌+ℤ◌, ◌<ℤ◌, ◌≤ℤ◌, [], ◌∷◌, length, Option, ⊤}
+use Rattle.std.specs.Prelude.{ℕ, suc, ◌<◌, ◌≤◌, ℤ, pos, neg_ℤ, ◌+ℤ◌, ◌<ℤ◌, ◌≤ℤ◌, List, [], ◌∷◌, get_or, length, Option, ⊤}
 use Rattle.std.specs.List.{AllByRecursion}
 use Rattle.std.specs.Option.{ForSome}
 use Rattle.tilt_base.specs.Grid.{IsGrid}
@@ -8,6 +8,7 @@ use Rattle.tilt_code.specs.Code.{Block, LoopParts}
 use Rattle.tilt_code.specs.Grammar.{IsOffset, IsStretch}
 use Rattle.tilt_code.specs.declared.instr.Instr.{Instr}
 use Rattle.tilt_code.specs.declared.instr.Instr.TheVariants.{Port, Win, One, Two, If}
+use Rattle.tilt_stream.specs.Snap.{Snapshot, ended_below}
 
 -- the registers that an instruction names lie below a number
 abbrev pub NamesBelow : ℕ → Instr → Type 0
@@ -21,9 +22,8 @@ abbrev pub NameEarlier : ℕ → Block → Type 0
 NameEarlier register [] = ⊤
 NameEarlier register (instr ∷ block) = NamesBelow register instr × NameEarlier (suc register) block
 
--- a window that may be read: its buffer and its map are there, and it has some ticks
-pub record IsReadableWindow (buffers maps buffer : ℕ) (from to : ℤ) (number : Option ℕ) : Type 0 where
-  pub there : buffer < buffers
+-- a window that may be read: its map is there, and it has some ticks
+pub record IsReadableWindow (maps : ℕ) (from to : ℤ) (number : Option ℕ) : Type 0 where
   pub low : IsOffset from
   pub high : IsOffset to
   pub some_ticks : from <ℤ to
@@ -32,7 +32,7 @@ pub record IsReadableWindow (buffers maps buffer : ℕ) (from to : ℤ) (number 
 -- a leaf that may be read where there are so many buffers and maps
 abbrev pub IsReadable : ℕ → ℕ → Instr → Type 0
 IsReadable buffers maps (Port buffer offset) = (buffer < buffers) × IsOffset offset
-IsReadable buffers maps (Win reducer buffer from to number) = IsReadableWindow buffers maps buffer from to number
+IsReadable buffers maps (Win reducer buffer from to number) = (buffer < buffers) × IsReadableWindow maps from to number
 IsReadable buffers maps other = ⊤
 
 -- a loop that may be run where there are so many buffers
@@ -52,3 +52,10 @@ pub record IsBodyTick (tick : ℤ) : Type 0 where
 pub record IsMarkTick (tick : ℤ) : Type 0 where
   pub low : (neg_ℤ WIDE +ℤ neg_ℤ OFFSET) ≤ℤ tick
   pub high : tick ≤ℤ (WIDE +ℤ PERIOD +ℤ OFFSET +ℤ OFFSET +ℤ pos 1)
+
+-- what a leaf reads first at a grid point is kept, where so many of each list aren't
+abbrev pub IsKept : List (List Snapshot) → List ℕ → ℤ → Instr → Type 0
+IsKept lists forgotten point (Port buffer offset) = get_or forgotten buffer 0 ≤ ended_below (point +ℤ offset) (get_or lists buffer [])
+IsKept lists forgotten point (Win reducer buffer from to number) =
+    get_or forgotten buffer 0 ≤ ended_below (point +ℤ from +ℤ pos 1) (get_or lists buffer [])
+IsKept lists forgotten point other = ⊤

@@ -1,5 +1,5 @@
 // The leaves of a body, each with its cursor.
-ghost use Rattle.std.specs.Prelude.{◌≡◌, ℕ, ℤ, List, ◌≤ℤ◌, neg_ℤ, get_or, length, map, IfSome, OnOk};
+ghost use Rattle.std.specs.Prelude.{◌≡◌, ℤ, List, [], ◌≤ℤ◌, neg_ℤ, length, map, IfSome, OnOk};
 ghost use Rattle.std.specs.List.{AllByRecursion};
 ghost use Rattle.tilt_base.specs.declared.limits.TheConstants.{WIDE};
 ghost use Rattle.tilt_code.specs.Body.{leaf_of};
@@ -7,16 +7,17 @@ ghost use Rattle.tilt_code.specs.Code.{Block};
 ghost use Rattle.tilt_stream.specs.Marks.{NamesNextMark};
 ghost use Rattle.tilt_stream.specs.Snap.{Snapshot};
 ghost use Rattle.tilt_stream.specs.Stream.{stream_of};
-ghost use Rattle.tilt_turn.specs.Held.{IsLeafAt, MayMove, StandsAt, leaf_only, origin};
-ghost use Rattle.tilt_turn.specs.Ready.{IsBodyTick, IsMarkTick, IsReadable, NameEarlier};
+ghost use Rattle.tilt_turn.specs.Held.{IsLeafAt, MayGo, StandsAt, leaf_only, origin};
+ghost use Rattle.tilt_turn.specs.Ready.{IsBodyTick, IsKept, IsMarkTick, IsReadable, NameEarlier};
 
+use crate::buffers::Buffers;
 use crate::moving::Moving;
 use crate::port::PortLeaf;
 use crate::span::WindowLeaf;
 use std::alloc::{AllocError as OutOfMemory, Global};
 use tilt_base::Cell;
 use tilt_code::{Instr, Loop};
-use tilt_stream::{Buffer, Cursor};
+use tilt_stream::Cursor;
 
 // An instruction of a body, as far as it reads buffers.
 #[derive(Drop)]
@@ -28,12 +29,11 @@ pub(crate) enum Leaf {
 }
 
 impl Leaf {
-    // The leaf of an instruction, which has read nothing so far. It is fit for any buffers of which nothing is forgotten.
+    // The leaf of an instruction, which has read nothing so far. It is fit for any buffers.
     pub(crate) fn new(alloc: Global, instr: Instr) -> Leaf
         ensures same { origin result ≡ leaf_only instr }
-        ensures fit { (lists : List (List Snapshot)) (forgotten : List ℕ) (maps : List Block) (point : ℤ)
-            → IsReadable (length lists) (length maps) instr → ((buffer : ℕ) → get_or forgotten buffer 0 ≡ 0) → neg_ℤ WIDE ≤ℤ point
-            → IsLeafAt MayMove lists forgotten maps point result }
+        ensures fit { (lists : List (List Snapshot)) (maps : List Block) (point : ℤ)
+            → IsReadable (length lists) (length maps) instr → neg_ℤ WIDE ≤ℤ point → IsLeafAt MayGo lists [] maps point result }
     {
         match instr {
             Instr::Port { buffer, offset } => Leaf::Port(PortLeaf {
@@ -59,9 +59,9 @@ impl Leaf {
     }
 
     // Moves on to a grid point.
-    pub(crate) fn move_to<B: Buffer>(
+    pub(crate) fn move_to<S: Buffers>(
         &mut self,
-        buffers: &[B],
+        buffers: &S,
         each: &Loop,
         point: i64,
         registers: &mut Vec<Cell>,
@@ -69,9 +69,10 @@ impl Leaf {
         requires earlier { AllByRecursion (NameEarlier 0) each.now.maps }
         requires near { IsBodyTick point }
         requires fit { (before : ℤ) × (before ≤ℤ point)
-            × IsLeafAt MayMove (map B.list buffers.now) (map B.forgotten buffers.now) each.now.maps before self.old }
+            × IsLeafAt MayGo (S.lists buffers.now) [] each.now.maps before self.old }
+        requires kept { IsKept (S.lists buffers.now) (S.forgotten buffers.now) point (origin self.old) }
         ensures at { OnOk result
-            (IsLeafAt StandsAt (map B.list buffers.now) (map B.forgotten buffers.now) each.now.maps point self.new) }
+            (IsLeafAt StandsAt (S.lists buffers.now) (S.forgotten buffers.now) each.now.maps point self.new) }
         ensures same { OnOk result (origin self.new ≡ origin self.old) }
     {
         match self {
@@ -85,12 +86,12 @@ impl Leaf {
     }
 
     // What it gives at the grid point to which it moved last.
-    pub(crate) fn cell<B: Buffer>(&self, buffers: &[B]) -> Cell
+    pub(crate) fn cell<S: Buffers>(&self, buffers: &S) -> Cell
         requires at { (maps : List Block) × (point : ℤ) × IsBodyTick point
-            × IsLeafAt StandsAt (map B.list buffers.now) (map B.forgotten buffers.now) maps point self.now }
+            × IsLeafAt StandsAt (S.lists buffers.now) (S.forgotten buffers.now) maps point self.now }
         ensures { (maps : List Block) (point : ℤ)
-            → IsLeafAt StandsAt (map B.list buffers.now) (map B.forgotten buffers.now) maps point self.now
-            → result ≡ (leaf_of (map stream_of (map B.list buffers.now)) maps (origin self.now)).cell point }
+            → IsLeafAt StandsAt (S.lists buffers.now) (S.forgotten buffers.now) maps point self.now
+            → result ≡ (leaf_of (map stream_of (S.lists buffers.now)) maps (origin self.now)).cell point }
     {
         match self {
             Leaf::Idle => None,
@@ -100,12 +101,12 @@ impl Leaf {
     }
 
     // Its next mark above that grid point.
-    pub(crate) fn next<B: Buffer>(&self, buffers: &[B]) -> Option<i64>
+    pub(crate) fn next<S: Buffers>(&self, buffers: &S) -> Option<i64>
         requires at { (maps : List Block) × (point : ℤ) × IsBodyTick point
-            × IsLeafAt StandsAt (map B.list buffers.now) (map B.forgotten buffers.now) maps point self.now }
+            × IsLeafAt StandsAt (S.lists buffers.now) (S.forgotten buffers.now) maps point self.now }
         ensures next { (maps : List Block) (point : ℤ)
-            → IsLeafAt StandsAt (map B.list buffers.now) (map B.forgotten buffers.now) maps point self.now
-            → NamesNextMark (leaf_of (map stream_of (map B.list buffers.now)) maps (origin self.now)) point result }
+            → IsLeafAt StandsAt (S.lists buffers.now) (S.forgotten buffers.now) maps point self.now
+            → NamesNextMark (leaf_of (map stream_of (S.lists buffers.now)) maps (origin self.now)) point result }
         ensures bounds { IfSome result IsMarkTick }
     {
         match self {

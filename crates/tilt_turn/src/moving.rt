@@ -1,5 +1,5 @@
 // A window over one buffer, which moves on with time.
-ghost use Rattle.std.specs.Prelude.{◌≡◌, ◌<◌, ℤ, pos, neg_ℤ, ◌+ℤ◌, ◌*ℤ◌, ◌<ℤ◌, ◌≤ℤ◌, [], ◌∷◌, ◌++◌, length, false, slice_get, Option, Some, IfSome, IsTrue, ◌↔◌, OnOk, MatchOption};
+ghost use Rattle.std.specs.Prelude.{◌≡◌, ◌<◌, ◌≤◌, ℤ, pos, neg_ℤ, ◌+ℤ◌, ◌*ℤ◌, ◌<ℤ◌, ◌≤ℤ◌, [], ◌∷◌, ◌++◌, length, false, slice_get, Option, Some, IfSome, IsTrue, ◌↔◌, OnOk, MatchOption};
 ghost use Rattle.std.specs.Int.{int_max};
 ghost use Rattle.std.specs.List.{AllByRecursion};
 ghost use Rattle.std.specs.Option.{ForSome};
@@ -8,6 +8,7 @@ ghost use Rattle.tilt_base.specs.Reduce.{numbers, reduce};
 ghost use Rattle.tilt_code.specs.Body.{mapped};
 ghost use Rattle.tilt_stream.specs.Agreement.{ChangesOnlyAtMarks};
 ghost use Rattle.tilt_stream.specs.Marks.{IsNextMark, NamesNextMark};
+ghost use Rattle.tilt_stream.specs.Snap.{ended_below};
 ghost use Rattle.tilt_stream.specs.Stream.{Stream, cell_at, stream_of};
 ghost use Rattle.tilt_turn.specs.Held.{Holds, MayMove, StandsAt};
 ghost use Rattle.tilt_turn.specs.Kinds.{kind_cells, kind_reducer};
@@ -65,7 +66,8 @@ impl Moving {
         requires known { ForSome source.now.map (λ number. number < length source.now.each.now.maps) }
         requires some { first ≤ℤ last }
         requires few { last ≤ℤ (first +ℤ pos 2 *ℤ OFFSET) }
-        requires cursor { MayMove (B.list source.now.buffer.now) (B.forgotten source.now.buffer.now) last self.old.back }
+        requires cursor { MayMove (B.list source.now.buffer.now) last self.old.back }
+        requires kept { B.forgotten source.now.buffer.now ≤ ended_below first (B.list source.now.buffer.now) }
         requires held { (begin : ℤ) × (begin ≤ℤ first)
             × Holds (stream_of (B.list source.now.buffer.now)) (mapped source.now.each.now.maps source.now.map) begin self.old }
         ensures cursor { OnOk result
@@ -87,7 +89,8 @@ impl Moving {
     ) -> Result<(), OutOfMemory>
         requires earlier { AllByRecursion (NameEarlier 0) source.now.each.now.maps }
         requires known { ForSome source.now.map (λ number. number < length source.now.each.now.maps) }
-        requires cursor { MayMove (B.list source.now.buffer.now) (B.forgotten source.now.buffer.now) self.old.back.tick self.old.back }
+        requires cursor { MayMove (B.list source.now.buffer.now) self.old.back.tick self.old.back }
+        requires kept { B.forgotten source.now.buffer.now ≤ ended_below first (B.list source.now.buffer.now) }
         requires held { (begin : ℤ) × (begin ≤ℤ first)
             × Holds (stream_of (B.list source.now.buffer.now)) (mapped source.now.each.now.maps source.now.map) begin self.old }
         ensures cursor { OnOk result
@@ -116,7 +119,8 @@ impl Moving {
     ) -> Result<(), OutOfMemory>
         requires earlier { AllByRecursion (NameEarlier 0) source.now.each.now.maps }
         requires known { ForSome source.now.map (λ number. number < length source.now.each.now.maps) }
-        requires cursor { MayMove (B.list source.now.buffer.now) (B.forgotten source.now.buffer.now) first self.old.back }
+        requires cursor { MayMove (B.list source.now.buffer.now) first self.old.back }
+        requires kept { B.forgotten source.now.buffer.now ≤ ended_below first (B.list source.now.buffer.now) }
         ensures cursor { OnOk result
             (StandsAt (B.list source.now.buffer.now) (B.forgotten source.now.buffer.now) first self.new.back) }
         ensures held { OnOk result
@@ -198,7 +202,8 @@ impl Moving {
         requires earlier { AllByRecursion (NameEarlier 0) source.now.each.now.maps }
         requires known { ForSome source.now.map (λ number. number < length source.now.each.now.maps) }
         requires few { length (kind_cells self.old.kind) < 4611686018427387904 }
-        requires cursor { MayMove (B.list source.now.buffer.now) (B.forgotten source.now.buffer.now) tick self.old.back }
+        requires cursor { MayMove (B.list source.now.buffer.now) tick self.old.back }
+        requires kept { B.forgotten source.now.buffer.now ≤ ended_below tick (B.list source.now.buffer.now) }
         ensures cursor { OnOk result
             (StandsAt (B.list source.now.buffer.now) (B.forgotten source.now.buffer.now) tick self.new.back) }
         ensures cells { OnOk result (kind_cells self.new.kind ≡ kind_cells self.old.kind

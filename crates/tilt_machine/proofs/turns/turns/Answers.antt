@@ -1,25 +1,23 @@
-use Rattle.std.proofs.Common.{◌≡◌, ◌∙◌, ◌<ℤ◌, ◌≤ℤ◌, ◌+ℤ◌, pos, neg_ℤ, ap, sym, refl, w64, to_z, of_z, map, length, FitsSigned, arith, rules}
+use Rattle.std.proofs.Common.{◌≡◌, ◌∙◌, ◌<ℤ◌, ◌≤ℤ◌, ◌+ℤ◌, pos, neg_ℤ, ap, sym, refl, w64, to_z, of_z, map, FitsSigned, arith, rules}
 use Rattle.std.proofs.lemmas.Int.{ints, to_z-of_z}
-use Rattle.std.proofs.lemmas.List.{length-map}
 use Rattle.tilt_base.proofs.GridPoints.{ceil-low}
 use Rattle.tilt_base.specs.Grid.{ceil}
 use Rattle.tilt_base.specs.declared.limits.TheConstants.{WIDE}
 use Rattle.tilt_code.specs.Body.{body_of}
 use Rattle.tilt_code.specs.Code.{LoopParts}
 use Rattle.tilt_code.specs.Turn.{turns}
-use Rattle.tilt_machine.proofs.TurnSteps.{turn-bounds, turns-step, points-rise, none-forgotten, forgotten_of}
-use Rattle.tilt_machine.specs.Lists.{list_of}
+use Rattle.tilt_machine.proofs.TurnSteps.{turn-bounds, turns-step, points-rise, all-kept}
+use Rattle.tilt_machine.specs.Lists.{lists_of}
 use Rattle.tilt_stream.proofs.Order.{last_end-after_push}
 use Rattle.tilt_stream.specs.Snap.{Snapshot}
 use Rattle.tilt_stream.specs.Stream.{stream_of}
-use Rattle.tilt_turn.specs.Ready.{IsReady}
 use Rattle.tilt_machine.proofs.turns.turns.Goals as goal
 
 pub loop-start-init : goal.loop-start-init
 loop-start-init c =
     let each = c.args.each.now in
     let buffers = c.args.buffers.now in
-    let lists = map list_of buffers in
+    let lists = lists_of buffers in
     let ready = c.requires.ready in
     let fits : FitsSigned w64 c.each.inside.lo = search rules in
     let lo : to_z w64 (of_z w64 c.each.inside.lo) ≡ each.lo = to_z-of_z w64 c.each.inside.lo fits ∙ ap (λ (l : LoopParts). l.lo) c.each.view_is in
@@ -27,15 +25,18 @@ loop-start-init c =
     let begins : each.lo ≤ℤ ceil each.grid (each.lo +ℤ pos 1) = omega (arith, ints) in
     let low : neg_ℤ WIDE ≤ℤ each.lo = ready.stretch.low in
     let some = ready.stretch in
-    let ready_lists : IsReady (length lists) each = rw (length-map buffers list_of) ready in
     let none = c.new-list.ensures in
     record {
       made = rw (none, lo) refl;
       touches = λ x is. let no = rw none at is in absurd (cc no);
       low = rw lo (omega (arith, ints));
       high = rw lo (omega (arith, ints));
-      fit = rw lo (each.lo, begins, c.in_ok-state.ensures lists (map forgotten_of buffers) each.lo ready_lists (none-forgotten buffers) low);
+      fit = rw lo (each.lo, begins, c.in_ok-state.ensures lists each.lo ready low);
     }
+
+pub turn-requires-clause-kept : goal.turn-requires-clause-kept
+turn-requires-clause-kept c =
+    all-kept (lists_of c.args.buffers.now) _ c.args.each.now.body
 
 pub push-requires-clause-high : goal.push-requires-clause-high
 push-requires-clause-high c =
@@ -43,7 +44,7 @@ push-requires-clause-high c =
     let start = to_z w64 c.loop-start.start-bits in
     let hi : c.each.inside.hi ≡ each.hi = ap (λ (l : LoopParts). l.hi) c.each.view_is in
     let some : start <ℤ each.hi = grind (arith, ints) in
-    let bounds = turn-bounds (body_of (map stream_of (map list_of c.args.buffers.now)) each)
+    let bounds = turn-bounds (body_of (map stream_of (lists_of c.args.buffers.now)) each)
     each.grid each.hi start c.in_ok-snap.snap c.requires.ready.grid some c.in_ok-snap.ensures.snap in
     let below = bounds.1 in
     let limit = c.requires.ready.stretch.high in
@@ -52,7 +53,7 @@ push-requires-clause-high c =
 pub loop-start-preserved : goal.loop-start-preserved
 loop-start-preserved c =
     let each = c.args.each.now in
-    let xs = map stream_of (map list_of c.args.buffers.now) in
+    let xs = map stream_of (lists_of c.args.buffers.now) in
     let body = body_of xs each in
     let start = to_z w64 c.loop-start.start-bits in
     let hi : c.each.inside.hi ≡ each.hi = ap (λ (l : LoopParts). l.hi) c.each.view_is in

@@ -4,8 +4,7 @@ use Rattle.std.specs.Option.{ForSome}
 use Rattle.tilt_base.specs.Grid.{ceil}
 use Rattle.tilt_code.specs.Body.{body_of}
 use Rattle.tilt_code.specs.Turn.{turns_until, turns}
-use Rattle.tilt_machine.specs.Lists.{list_of}
-use Rattle.tilt_machine.proofs.TurnSteps.{forgotten_of}
+use Rattle.tilt_machine.specs.Lists.{lists_of}
 use Rattle.tilt_stream.specs.Snap.{last_end}
 use Rattle.tilt_stream.specs.Stream.{stream_of}
 use Rattle.tilt_turn.specs.Held.{IsFit}
@@ -13,7 +12,7 @@ use Rattle.tilt_machine.proofs.turns.turns.Given as goal
 
 abbrev pub invariant-loop-start : goal.invariant-loop-start
 invariant-loop-start l =
-    let lists = map list_of l.buffers in
+    let lists = lists_of l.buffers in
     let xs = map stream_of lists in
     let each = l.each in
     record {
@@ -21,7 +20,7 @@ invariant-loop-start l =
       touches : ForSome (last_end l.list) (λ end. end ≡ l.start);
       low : each.lo ≤ℤ l.start;
       high : l.start ≤ℤ each.hi;
-      fit : (before : ℤ) × (before ≤ℤ ceil each.grid (l.start +ℤ pos 1)) × IsFit lists (map forgotten_of l.buffers) each before l.state;
+      fit : (before : ℤ) × (before ≤ℤ ceil each.grid (l.start +ℤ pos 1)) × IsFit lists each before l.state;
     }
 
 abbrev pub decreases-loop-start : goal.decreases-loop-start

@@ -13,8 +13,8 @@ use Rattle.tilt_turn.proofs.state.body_cell.Goals as goal
 
 pub cell-leaf-requires : goal.cell-leaf-requires
 cell-leaf-requires g c =
-    let lists = map g.B.Buffer.list c.args.buffers.now in
-    let forgotten = map g.B.Buffer.forgotten c.args.buffers.now in
+    let lists = g.S.Buffers.lists c.args.buffers.now in
+    let forgotten = g.S.Buffers.forgotten c.args.buffers.now in
     let each = c.args.each.now in
     let leaves = c.args.leaves.now in
     let items = c.deref-instr-items.ensures.value ∙ ap (λ (l : LoopParts). l.body) c.each.view_is in
@@ -34,8 +34,8 @@ cell-leaf-requires g c =
 
 pub loop-place-preserved : goal.loop-place-preserved
 loop-place-preserved g c =
-    let lists = map g.B.Buffer.list c.args.buffers.now in
-    let forgotten = map g.B.Buffer.forgotten c.args.buffers.now in
+    let lists = g.S.Buffers.lists c.args.buffers.now in
+    let forgotten = g.S.Buffers.forgotten c.args.buffers.now in
     let xs = map stream_of lists in
     let each = c.args.each.now in
     let leaves = c.args.leaves.now in
@@ -65,7 +65,7 @@ loop-place-preserved g c =
 
 pub returns : goal.returns
 returns g c =
-    let xs = map stream_of (map g.B.Buffer.list c.args.buffers.now) in
+    let xs = map stream_of (g.S.Buffers.lists c.args.buffers.now) in
     let each = c.args.each.now in
     let regs = c.loop-place.registers.items in
     let items = c.deref-instr-items.ensures.value ∙ ap (λ (l : LoopParts). l.body) c.each.view_is in

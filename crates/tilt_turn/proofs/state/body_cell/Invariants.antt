@@ -8,8 +8,8 @@ use Rattle.tilt_turn.proofs.state.body_cell.Given as goal
 
 abbrev pub invariant-loop-place : goal.invariant-loop-place
 invariant-loop-place g l =
-    let lists = map g.B.Buffer.list l.buffers in
-    let forgotten = map g.B.Buffer.forgotten l.buffers in
+    let lists = g.S.Buffers.lists l.buffers in
+    let forgotten = g.S.Buffers.forgotten l.buffers in
     let each = l.each in
     record {
       earlier : NameEarlier (length l.registers.items) (drop l.place each.body);

@@ -1,15 +1,15 @@
-use Rattle.std.proofs.Common.{◌≡◌, ℤ, ◌≤ℤ◌, map}
+use Rattle.std.proofs.Common.{◌≡◌, ℤ, ◌≤ℤ◌, [], map}
 use Rattle.tilt_turn.proofs.Stepwise.{ChangedTo}
-use Rattle.tilt_turn.specs.Held.{IsLeafAt, MayMove, StandsAt, origin}
+use Rattle.tilt_turn.specs.Held.{IsLeafAt, MayGo, StandsAt, origin}
 use Rattle.tilt_turn.specs.declared.leaf.Leaf.{Leaf}
 use Rattle.tilt_turn.proofs.state.move_leaves.Given as goal
 
 abbrev pub invariant-loop-place : goal.invariant-loop-place
 invariant-loop-place g l =
-    let lists = map g.B.Buffer.list l.buffers in
-    let forgotten = map g.B.Buffer.forgotten l.buffers in
+    let lists = g.S.Buffers.lists l.buffers in
+    let forgotten = g.S.Buffers.forgotten l.buffers in
     record {
-      moved : ChangedTo (λ (leaf : Leaf). (before : ℤ) × (before ≤ℤ l.point) × IsLeafAt MayMove lists forgotten l.each.maps before leaf)
+      moved : ChangedTo (λ (leaf : Leaf). (before : ℤ) × (before ≤ℤ l.point) × IsLeafAt MayGo lists [] l.each.maps before leaf)
           (λ (leaf : Leaf). IsLeafAt StandsAt lists forgotten l.each.maps l.point leaf) l.place l.leaves;
       same : map origin l.leaves ≡ map origin l.fn.leaves;
     }

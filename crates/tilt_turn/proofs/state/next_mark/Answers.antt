@@ -14,8 +14,8 @@ use Rattle.tilt_turn.proofs.state.next_mark.Goals as goal
 
 pub loop-leaf-preserved : goal.loop-leaf-preserved
 loop-leaf-preserved g c =
-    let lists = map g.B.Buffer.list c.args.buffers.now in
-    let forgotten = map g.B.Buffer.forgotten c.args.buffers.now in
+    let lists = g.S.Buffers.lists c.args.buffers.now in
+    let forgotten = g.S.Buffers.forgotten c.args.buffers.now in
     let xs = map stream_of lists in
     let leaves = c.args.leaves.now in
     let i = c.loop-leaf.leaf-index in
@@ -37,7 +37,7 @@ loop-leaf-preserved g c =
 
 pub returns-clause-next : goal.returns-clause-next
 returns-clause-next g c =
-    let xs = map stream_of (map g.B.Buffer.list c.args.buffers.now) in
+    let xs = map stream_of (g.S.Buffers.lists c.args.buffers.now) in
     let leaves = c.args.leaves.now in
     let block = map origin leaves in
     let i = c.loop-leaf.leaf-index in

@@ -10,8 +10,8 @@ use Rattle.tilt_turn.proofs.state.next_mark.Given as goal
 
 abbrev pub invariant-loop-leaf : goal.invariant-loop-leaf
 invariant-loop-leaf g l =
-    let lists = map g.B.Buffer.list l.buffers in
-    let forgotten = map g.B.Buffer.forgotten l.buffers in
+    let lists = g.S.Buffers.lists l.buffers in
+    let forgotten = g.S.Buffers.forgotten l.buffers in
     record {
       next : (p : LoopParts) (point : ℤ) → AllByRecursion (IsLeafAt StandsAt lists forgotten p.maps point) l.leaves
           → NamesNextMark (body_of (map stream_of lists) (record p { body = take l.leaf-index (map origin l.leaves) })) point l.next;

@@ -3,7 +3,7 @@ use Rattle.std.proofs.lemmas.Int.{ints, to_z-of_z}
 use Rattle.tilt_code.specs.Body.{mapped}
 use Rattle.tilt_stream.specs.Stream.{stream_of}
 use Rattle.tilt_stream.specs.declared.cursor.Cursor.{Cursor}
-use Rattle.tilt_turn.proofs.Cursors.{stands-after, stands-own, may-move}
+use Rattle.tilt_turn.proofs.Cursors.{stands-after, stands-own, kept-behind}
 use Rattle.tilt_turn.proofs.MarkedTicks.{few-met}
 use Rattle.tilt_turn.proofs.Moves.{pushed, moved}
 use Rattle.tilt_turn.specs.Kinds.{kind_cells}
@@ -22,6 +22,25 @@ push_at-requires-clause-few g c =
     let h = i.held first begins c.requires.held.3 in
     few-met (mapped s.each.now.maps s.map) (stream_of (g.B.Buffer.list s.buffer.now)) first w.back.tick (kind_cells w.kind)
     (omega (arith, ints)) (omega (arith, ints)) h.cells
+
+pub push_at-requires-clause-kept : goal.push_at-requires-clause-kept
+push_at-requires-clause-kept g c =
+    let s = c.args.source.now in
+    let w = c.loop-mark.self in
+    let mark_fits : FitsSigned w64 c.in-Some.mark = search rules in
+    let above = c.in-Some.ensures.0.above in
+    rw (to_z-of_z w64 c.in-Some.mark mark_fits)
+    (kept-behind (g.B.Buffer.list s.buffer.now) (g.B.Buffer.forgotten s.buffer.now) w.back.tick c.in-Some.mark w.back
+    c.loop-mark.invariant.cursor (omega (arith, ints)))
+
+pub move_to-requires-clause-kept : goal.move_to-requires-clause-kept
+move_to-requires-clause-kept g c =
+    let s = c.args.source.now in
+    let w = c.loop-mark.self in
+    let fits = to_z-of_z w64 c.args.last c.ranges.last in
+    let high : w.back.tick ≤ℤ c.args.last = rw fits at c.loop-mark.invariant.high in
+    rw fits (kept-behind (g.B.Buffer.list s.buffer.now) (g.B.Buffer.forgotten s.buffer.now) w.back.tick c.args.last w.back
+    c.loop-mark.invariant.cursor high)
 
 pub loop-mark-preserved : goal.loop-mark-preserved
 loop-mark-preserved g c =
@@ -62,8 +81,8 @@ returns-clause-cursor g c =
     let w = c.loop-mark.self in
     let fits = to_z-of_z w64 c.args.last c.ranges.last in
     let high : w.back.tick ≤ℤ c.args.last = rw fits at c.loop-mark.invariant.high in
-    stands-after list forgotten c.args.last w.back c.move_to.new.self
-    (may-move list forgotten w.back.tick c.args.last w.back c.loop-mark.invariant.cursor high) (rw fits at c.move_to.ensures)
+    stands-after list forgotten c.args.last c.move_to.new.self
+    (kept-behind list forgotten w.back.tick c.args.last w.back c.loop-mark.invariant.cursor high) (rw fits at c.move_to.ensures)
 
 pub returns-clause-held : goal.returns-clause-held
 returns-clause-held g c =

@@ -9,12 +9,12 @@ value-requires-clause-kept g c =
     let list = g.B.Buffer.list c.args.source.now.buffer.now in
     let forgotten = g.B.Buffer.forgotten c.args.source.now.buffer.now in
     let moved = rw (to_z-of_z w64 c.args.tick c.ranges.tick) at c.move_to.ensures in
-    (stands-after list forgotten c.args.tick c.args.self.now.back c.move_to.new.self c.requires.cursor moved).kept
+    (stands-after list forgotten c.args.tick c.move_to.new.self c.requires.kept moved).kept
 
 pub returns-clause-cursor : goal.returns-clause-cursor
 returns-clause-cursor g c =
     let list = g.B.Buffer.list c.args.source.now.buffer.now in
     let forgotten = g.B.Buffer.forgotten c.args.source.now.buffer.now in
     let moved = rw (to_z-of_z w64 c.args.tick c.ranges.tick) at c.move_to.ensures in
-    let stands = stands-after list forgotten c.args.tick c.args.self.now.back c.move_to.new.self c.requires.cursor moved in
+    let stands = stands-after list forgotten c.args.tick c.move_to.new.self c.requires.kept moved in
     on_ok_weaker c.push_back.result (λ pushed. stands) c.push_back.ensures.cells

@@ -13,7 +13,7 @@ returns c =
     let w = c.args.self.now in
     λ lists forgotten maps point at.
     let x = stream_of (get_or lists w.buffer []) in
-    let stream_is = read-stream lists w.buffer at.0.there in
+    let stream_is = read-stream lists w.buffer in
     let low : point +ℤ w.from +ℤ pos 1 -ℤ pos 1 ≡ point +ℤ w.from = omega (arith, ints) in
     let all = at.1.held.cells
     ∙ ap (λ (lo : ℤ). map (mapped maps w.map) (met x lo w.window.back.tick)) low

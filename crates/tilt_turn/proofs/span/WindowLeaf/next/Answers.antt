@@ -1,19 +1,17 @@
-use Rattle.std.proofs.Common.{◌≡◌, ◌∙◌, ◌≤ℤ◌, ◌+ℤ◌, pos, [], ap, sym, map, w64, to_z, of_z, arith}
+use Rattle.std.proofs.Common.{◌≡◌, ◌≤ℤ◌, ◌+ℤ◌, pos, [], sym, map, get_or, w64, to_z, of_z, arith}
 use Rattle.std.proofs.lemmas.Int.{ints, clamps}
 use Rattle.std.proofs.lemmas.Option.{IfSome_then}
 use Rattle.tilt_code.specs.Body.{mapped}
 use Rattle.tilt_stream.specs.Pointwise.{shifted}
 use Rattle.tilt_stream.specs.Stream.{stream_of}
 use Rattle.tilt_turn.proofs.NextMarks.{window-next}
-use Rattle.tilt_turn.proofs.Numbered.{read-map, read-stream}
+use Rattle.tilt_turn.proofs.Numbered.{read-stream}
 use Rattle.tilt_turn.specs.Kinds.{kind_reducer}
 use Rattle.tilt_turn.proofs.span.WindowLeaf.next.Goals as goal
 
 pub earlier-requires-2 : goal.earlier-requires-2
 earlier-requires-2 g c =
-    let buffers = c.args.buffers.now in
     let w = c.args.self.now in
-    let read = c.index-buffers-self in
     let maps = c.requires.at.0 in
     let point = c.requires.at.1 in
     let near = c.requires.at.2 in
@@ -27,9 +25,8 @@ earlier-requires-2 g c =
     let to_high = r.high.1 in
     let ticks = r.some_ticks in
     let stands = at.1.cursor.stands in
-    let list_is = read-map g.B.Buffer.list buffers w.buffer read.result [] r.there read.is in
     let some : (point +ℤ w.from +ℤ pos 1) ≤ℤ w.window.back.tick = rw stands (omega (arith, ints)) in
-    let held = rw list_is at at.1.held in
+    let held = at.1.held in
     let from : to_z w64 (of_z w64 (to_z w64 (of_z w64 w.from) +ℤ pos 1)) ≡ w.from +ℤ pos 1 = omega (arith, ints) in
     let bounds = c.next_within.ensures.bounds (mapped maps w.map) (point +ℤ w.from +ℤ pos 1) some held in
     rw from (IfSome_then c.next_within.result bounds
@@ -40,10 +37,8 @@ earlier-requires-2 g c =
 
 pub returns-clause-next : goal.returns-clause-next
 returns-clause-next g c =
-    let buffers = c.args.buffers.now in
-    let lists = map g.B.Buffer.list buffers in
+    let lists = g.S.Buffers.lists c.args.buffers.now in
     let w = c.args.self.now in
-    let read = c.index-buffers-self in
     λ maps point at.
     let r = at.0 in
     let from_low = r.low.0 in
@@ -52,11 +47,10 @@ returns-clause-next g c =
     let to_high = r.high.1 in
     let ticks = r.some_ticks in
     let stands = at.1.cursor.stands in
-    let list_is = read-map g.B.Buffer.list buffers w.buffer read.result [] r.there read.is in
-    let stream_is = read-stream lists w.buffer r.there ∙ ap stream_of list_is in
-    let x = stream_of (g.B.Buffer.list read.result) in
+    let stream_is = read-stream lists w.buffer in
+    let x = stream_of (get_or lists w.buffer []) in
     let some : (point +ℤ w.from +ℤ pos 1) ≤ℤ w.window.back.tick = rw stands (omega (arith, ints)) in
-    let held = rw list_is at at.1.held in
+    let held = at.1.held in
     let to : to_z w64 (of_z w64 w.to) ≡ w.to = omega (arith, ints) in
     let from : to_z w64 (of_z w64 (to_z w64 (of_z w64 w.from) +ℤ pos 1)) ≡ w.from +ℤ pos 1 = omega (arith, ints) in
     let first : point +ℤ w.from +ℤ pos 1 ≡ point +ℤ (w.from +ℤ pos 1) = omega (arith, ints) in

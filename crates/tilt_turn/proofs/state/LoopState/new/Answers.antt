@@ -3,7 +3,7 @@ use Rattle.std.proofs.lemmas.List.{map-append, take_more, take_all}
 use Rattle.tilt_code.specs.Code.{LoopParts}
 use Rattle.tilt_code.specs.declared.instr.Instr.TheVariants.{Const}
 use Rattle.tilt_turn.proofs.Stepwise.{all-push, all-pushed}
-use Rattle.tilt_turn.specs.Held.{IsLeafAt, MayMove, leaf_only, origin}
+use Rattle.tilt_turn.specs.Held.{IsLeafAt, MayGo, leaf_only, origin}
 use Rattle.tilt_turn.specs.Ready.{IsReadable}
 use Rattle.tilt_turn.proofs.state.LoopState.new.Goals as goal
 
@@ -20,18 +20,18 @@ loop-instr-preserved c =
       same = ap (map origin) pushed ∙ map-append origin before (c.new.result ∷ [])
           ∙ rw (c.loop-instr.invariant.same, c.new.ensures.same) refl
           ∙ sym (ap (map leaf_only) more ∙ map-append leaf_only (take i items) (instr ∷ []));
-      fit = λ lists forgotten point readable zeros low.
+      fit = λ lists point readable low.
           let parts = all-pushed (IsReadable (length lists) (length maps)) (take i items) instr (rw more at readable) in
-          rw pushed (all-push (IsLeafAt MayMove lists forgotten maps point) before c.new.result
-          (c.loop-instr.invariant.fit lists forgotten point parts.0 zeros low)
-          (c.new.ensures.fit lists forgotten maps point parts.1 zeros low));
+          rw pushed (all-push (IsLeafAt MayGo lists [] maps point) before c.new.result
+          (c.loop-instr.invariant.fit lists point parts.0 low)
+          (c.new.ensures.fit lists maps point parts.1 low));
     }
 
 pub returns : goal.returns
 returns c =
     let items = c.deref-instr-items.ensures.value ∙ ap (λ (l : LoopParts). l.body) c.each.view_is in
     let all = take_all c.loop-instr.instr-index c.deref-instr-items.result.now c.loop-instr-test.false ∙ items in
-    λ lists forgotten point ready zeros low. record {
+    λ lists point ready low. record {
       same = c.loop-instr.invariant.same ∙ ap (map leaf_only) all;
-      leaves = c.loop-instr.invariant.fit lists forgotten point (rw all ready.leaves) zeros low;
+      leaves = c.loop-instr.invariant.fit lists point (rw all ready.leaves) low;
     }

@@ -1,19 +1,36 @@
-use Rattle.std.proofs.Common.{◌≡◌, ◌∙◌, ap, sym, subst, ℤ, FitsSigned, w64, to_z, of_z, pos, ◌+ℤ◌, List, map, drop, length, rules, arith}
+use Rattle.std.proofs.Common.{◌≡◌, ◌∙◌, ap, sym, subst, ℤ, FitsSigned, w64, to_z, of_z, pos, ◌+ℤ◌, List, [], map, drop, length, rules, arith}
 use Rattle.std.specs.List.{AllByRecursion}
 use Rattle.std.proofs.lemmas.Int.{to_z-of_z}
 use Rattle.std.proofs.lemmas.List.{length-map}
 use Rattle.tilt_base.specs.Grid.{ceil}
 use Rattle.tilt_code.proofs.Turns.{turn-ends}
 use Rattle.tilt_code.specs.Body.{body_of}
+use Rattle.tilt_code.specs.Code.{Block}
 use Rattle.tilt_code.specs.Turn.{turn}
 use Rattle.tilt_stream.specs.Stream.{stream_of}
-use Rattle.tilt_turn.proofs.Origins.{leaf-may}
+use Rattle.tilt_turn.proofs.Origins.{all-only, leaf-may}
 use Rattle.tilt_turn.proofs.Stepwise.{all-weaker, whole}
-use Rattle.tilt_turn.specs.Held.{IsLeafAt, MayMove, StandsAt, leaf_only, origin}
+use Rattle.tilt_turn.specs.Held.{IsLeafAt, MayGo, StandsAt, leaf_only, origin}
+use Rattle.tilt_turn.specs.Ready.{IsKept}
 use Rattle.tilt_turn.specs.declared.leaf.Leaf.{Leaf}
 use Rattle.tilt_turn.proofs.state.LoopState.turn.Goals as goal
 use Rattle.tilt_turn.proofs.state.LoopState.turn.Goals.{After-turn_end-end}
 use Rattle.tilt_turn.proofs.state.LoopState.turn.Given.{Over}
+
+pub move_leaves-requires-clause-kept : goal.move_leaves-requires-clause-kept
+move_leaves-requires-clause-kept g c =
+    let lists = g.S.Buffers.lists c.args.buffers.now in
+    let forgotten = g.S.Buffers.forgotten c.args.buffers.now in
+    let each = c.args.each.now in
+    let point = c.point_of-point.result in
+    let fits : FitsSigned w64 point = search rules in
+    let value : point ≡ ceil each.grid (c.args.start +ℤ pos 1) =
+    rw (to_z-of_z w64 c.args.start c.ranges.start) at c.point_of-point.ensures.value in
+    let instrs : map origin c.deref_mut.result.now ≡ map leaf_only each.body =
+    ap (map origin) c.deref_mut.ensures.value ∙ c.requires.fit.2.same in
+    rw (to_z-of_z w64 point fits, value)
+    (subst (λ (block : Block). AllByRecursion (IsKept lists forgotten (ceil each.grid (c.args.start +ℤ pos 1))) block) (sym instrs)
+    (all-only (IsKept lists forgotten (ceil each.grid (c.args.start +ℤ pos 1))) each.body tt c.requires.kept))
 
 pub body_cell-requires-clause-at : goal.body_cell-requires-clause-at
 body_cell-requires-clause-at g c =
@@ -45,10 +62,10 @@ next_mark-requires g c =
 
 -- where the turn ends
 end_is : (g : Over) (c : After-turn_end-end g) → to_z w64 (of_z w64 c.turn_end-end.result)
-    ≡ (turn (body_of (map stream_of (map g.B.Buffer.list c.args.buffers.now)) c.args.each.now) c.args.each.now.grid c.args.each.now.hi c.args.start).end
+    ≡ (turn (body_of (map stream_of (g.S.Buffers.lists c.args.buffers.now)) c.args.each.now) c.args.each.now.grid c.args.each.now.hi c.args.start).end
 end_is g c =
     let each = c.args.each.now in
-    let body = body_of (map stream_of (map g.B.Buffer.list c.args.buffers.now)) each in
+    let body = body_of (map stream_of (g.S.Buffers.lists c.args.buffers.now)) each in
     let new = c.move_leaves.new.leaves in
     let old = c.deref_mut.result.now in
     let same = ap length c.in_ok-move_leaves.ensures.same in
@@ -70,14 +87,14 @@ end_is g c =
 pub invariant_of-result : goal.invariant_of-result
 invariant_of-result g c =
     let each = c.args.each.now in
-    let body = body_of (map stream_of (map g.B.Buffer.list c.args.buffers.now)) each in
+    let body = body_of (map stream_of (g.S.Buffers.lists c.args.buffers.now)) each in
     rw (to_z-of_z w64 c.args.start c.ranges.start, end_is g c)
     (turn-ends body each.grid c.requires.ready.grid each.hi c.args.start c.requires.high).0
 
 pub returns-clause-snap : goal.returns-clause-snap
 returns-clause-snap g c =
     let each = c.args.each.now in
-    let body = body_of (map stream_of (map g.B.Buffer.list c.args.buffers.now)) each in
+    let body = body_of (map stream_of (g.S.Buffers.lists c.args.buffers.now)) each in
     let new = c.move_leaves.new.leaves in
     let old = c.deref_mut.result.now in
     let same = ap length c.in_ok-move_leaves.ensures.same in
@@ -96,8 +113,8 @@ returns-clause-snap g c =
 
 pub returns-clause-fit : goal.returns-clause-fit
 returns-clause-fit g c =
-    let lists = map g.B.Buffer.list c.args.buffers.now in
-    let forgotten = map g.B.Buffer.forgotten c.args.buffers.now in
+    let lists = g.S.Buffers.lists c.args.buffers.now in
+    let forgotten = g.S.Buffers.forgotten c.args.buffers.now in
     let each = c.args.each.now in
     let new = c.move_leaves.new.leaves in
     let old = c.deref_mut.result.now in
@@ -113,8 +130,8 @@ returns-clause-fit g c =
     let instrs : map origin new ≡ map leaf_only each.body =
     c.in_ok-move_leaves.ensures.same ∙ ap (map origin) c.deref_mut.ensures.value ∙ c.requires.fit.2.same in
     let may = all-weaker (λ (own : Leaf). IsLeafAt StandsAt lists forgotten each.maps point own)
-    (λ (own : Leaf). IsLeafAt MayMove lists forgotten each.maps point own) new (leaf-may lists forgotten each.maps point) at in
+    (λ (own : Leaf). IsLeafAt MayGo lists [] each.maps point own) new (leaf-may lists forgotten each.maps point) at in
     rw (← value) (record {
       same = ap (map origin) leaves ∙ instrs;
-      leaves = subst (λ (ls : List Leaf). AllByRecursion (IsLeafAt MayMove lists forgotten each.maps point) ls) (sym leaves) may;
+      leaves = subst (λ (ls : List Leaf). AllByRecursion (IsLeafAt MayGo lists [] each.maps point) ls) (sym leaves) may;
     })

@@ -1,0 +1,10 @@
+use Rattle.std.proofs.Common.{neg_ℤ, arith}
+use Rattle.std.proofs.lemmas.Int.{ints}
+use Rattle.tilt_base.specs.declared.limits.TheConstants.{T, WIDE}
+use Rattle.tilt_stream.proofs.Places.{InOrder-wider}
+use Rattle.tilt_machine.proofs.made_so_far.MadeSoFar.list.Goals as goal
+
+pub returns-then-buffer-self-clause-in_order : goal.returns-then-buffer-self-clause-in_order
+returns-then-buffer-self-clause-in_order c =
+    rw c.as_slice.ensures.rows
+    (InOrder-wider (neg_ℤ T) T (neg_ℤ WIDE) WIDE _ c.as_slice.ensures.in_order (omega (arith, ints)) (omega (arith, ints)))

@@ -1,0 +1,223 @@
+-- A state and a turn over other lists, which tell the same as far as the loop reads them.
+use Rattle.std.proofs.Common.{◌≡◌, ℕ, zero, suc, ℤ, pos, ◌+ℤ◌, ◌-ℤ◌, ◌≤ℤ◌, List, [], ◌∷◌, ◌++◌, map, get_or, length, Option, None, refl, ap, ◌∙◌, sym, subst, arith}
+use Rattle.std.specs.Int.{int_gap}
+use Rattle.std.specs.List.{AllByRecursion}
+use Rattle.std.proofs.lemmas.Int.{ints, by_lt_z}
+use Rattle.tilt_base.specs.Grid.{ceil}
+use Rattle.tilt_base.specs.Reduce.{numbers, reduce}
+use Rattle.tilt_code.specs.Body.{body_of, instr_cell, last_or, leaf_marked, leaf_of, mapped, with_registers}
+use Rattle.tilt_code.specs.Code.{Block, LoopParts}
+use Rattle.tilt_code.specs.Turn.{turn, turn_end}
+use Rattle.tilt_code.specs.declared.instr.Instr.{Instr}
+use Rattle.tilt_code.specs.declared.instr.Instr.TheVariants.{Const, Null, Argument, Port, Win, One, Two, If}
+use Rattle.tilt_stream.proofs.Cut.{int_gap_is, int_gap_none}
+use Rattle.tilt_stream.proofs.Locality.{met-agrees}
+use Rattle.tilt_stream.specs.Snap.{Snapshot, ended_below}
+use Rattle.tilt_stream.specs.Stream.{Stream, cell_at, mark_at, stream_of}
+use Rattle.tilt_stream.specs.Window.{met}
+use Rattle.tilt_stream.specs.declared.cursor.Cursor.{Cursor}
+use Rattle.tilt_turn.proofs.Numbered.{read-stream}
+use Rattle.tilt_turn.proofs.Origins.{all-only}
+use Rattle.tilt_turn.proofs.SameMarks.{SameNext, either-same, next_mark-same, port-same, window-same}
+use Rattle.tilt_turn.proofs.Stepwise.{all-weaker}
+use Rattle.tilt_turn.specs.Held.{Holds, IsFit, IsLeafAt, MayGo, MayMove, leaf_only, origin}
+use Rattle.tilt_turn.specs.Marked.{marked, marked_behind}
+use Rattle.tilt_turn.specs.Ready.{IsReadable, IsReady}
+use Rattle.tilt_turn.specs.Same.{IsSameFor}
+use Rattle.tilt_turn.specs.declared.leaf.Leaf.{Leaf}
+use Rattle.tilt_turn.specs.declared.leaf.Leaf.TheVariants as leaf
+use Rattle.tilt_turn.specs.declared.moving.Moving.{Moving}
+use Rattle.tilt_turn.specs.declared.state.LoopState.{LoopState}
+
+-- a cursor that may move over one may move over the other
+cursor-same : (a b : List Snapshot) (last tick : ℤ) (c : Cursor) → ((at : ℤ) → at ≤ℤ last → ended_below at a ≡ ended_below at b)
+    → tick ≤ℤ last → MayMove a tick c → MayMove b tick c
+cursor-same a b last tick c same within may =
+    let onwards = may.onwards in
+    let fits = may.fits in
+    let ended = same c.tick (omega (arith, ints)) in
+    record { fits = rw ended at fits; onwards = may.onwards }
+
+behind-same : (x y : Stream) (tick : ℤ) (n : ℕ) → ((at : ℤ) → at ≤ℤ (tick +ℤ pos n) → x.mark at ≡ y.mark at)
+    → marked_behind x tick n ≡ marked_behind y tick n
+behind-same x y tick zero same = refl
+behind-same x y tick (suc n) same =
+    rw (same (tick +ℤ pos 1) (omega (arith, ints)), behind-same x y (tick +ℤ pos 1) n (λ at low. same at (omega (arith, ints)))) refl
+
+marked-same : (x y : Stream) (lo hi : ℤ) → ((at : ℤ) → at ≤ℤ hi → x.mark at ≡ y.mark at) → marked x lo hi ≡ marked y lo hi
+marked-same x y lo hi same =
+    by_lt_z lo hi
+    (λ some.
+    let gap = int_gap_is lo hi (omega (arith, ints)) in
+    behind-same x y lo (int_gap lo hi) (λ at low. same at (omega (arith, ints))))
+    (λ none. rw (int_gap_none lo hi none) refl)
+
+met-same : (x y : Stream) (lo hi : ℤ) → ((at : ℤ) → at ≤ℤ hi → x.cell at ≡ y.cell at) → ((at : ℤ) → at ≤ℤ hi → x.mark at ≡ y.mark at)
+    → met x lo hi ≡ met y lo hi
+met-same x y lo hi cells marks =
+    met-agrees x y lo hi lo hi (record { cells = λ at above below. cells at below; marks = λ at above below. marks at below })
+    (omega (arith, ints)) (omega (arith, ints))
+
+-- and a window that holds what one tells holds what the other tells
+holds-same : (a b : List Snapshot) (last first : ℤ) (f : Option ℤ → Option ℤ) (w : Moving)
+    → ((at : ℤ) → at ≤ℤ last → cell_at a at ≡ cell_at b at) → ((at : ℤ) → at ≤ℤ last → mark_at a at ≡ mark_at b at)
+    → w.back.tick ≤ℤ last → Holds (stream_of a) f first w → Holds (stream_of b) f first w
+holds-same a b last first f w cells marks within held =
+    let near : (at : ℤ) → at ≤ℤ w.back.tick → mark_at a at ≡ mark_at b at = λ at below. marks at (omega (arith, ints)) in
+    record {
+      cells = held.cells ∙ ap (map f) (met-same (stream_of a) (stream_of b) (first -ℤ pos 1) w.back.tick
+          (λ at below. cells at (omega (arith, ints))) near);
+      marks = held.marks ∙ marked-same (stream_of a) (stream_of b) first w.back.tick near;
+    }
+
+leaf-there : (a b : List (List Snapshot)) (maps : List Block) (before point : ℤ) (own : Leaf) → before ≤ℤ point
+    → IsSameFor a b point (origin own) → IsLeafAt MayGo a [] maps before own → IsLeafAt MayGo b [] maps before own
+leaf-there a b maps before point leaf.Idle onwards s at = tt
+leaf-there a b maps before point (leaf.Port p) onwards s at = (
+  at.0,
+  cursor-same (get_or a p.buffer []) (get_or b p.buffer []) (point +ℤ p.offset) (before +ℤ p.offset) p.cursor s.ended
+      (omega (arith, ints)) at.1,
+)
+leaf-there a b maps before point (leaf.Window w) onwards s at =
+    let stands = at.1.cursor.onwards in (
+      at.0,
+      record {
+        cursor = cursor-same (get_or a w.buffer []) (get_or b w.buffer []) (point +ℤ w.to) (before +ℤ w.to) w.window.back s.ended
+            (omega (arith, ints)) at.1.cursor;
+        held = holds-same (get_or a w.buffer []) (get_or b w.buffer []) (point +ℤ w.to) (before +ℤ w.from +ℤ pos 1) (mapped maps w.map)
+            w.window s.cells s.marks (omega (arith, ints)) at.1.held;
+      },
+    )
+
+leaf-back : (a b : List (List Snapshot)) (maps : List Block) (before point : ℤ) (own : Leaf) → before ≤ℤ point
+    → IsSameFor a b point (origin own) → IsLeafAt MayGo b [] maps before own → IsLeafAt MayGo a [] maps before own
+leaf-back a b maps before point leaf.Idle onwards s at = tt
+leaf-back a b maps before point (leaf.Port p) onwards s at = (
+  at.0,
+  cursor-same (get_or b p.buffer []) (get_or a p.buffer []) (point +ℤ p.offset) (before +ℤ p.offset) p.cursor
+      (λ tick below. sym (s.ended tick below)) (omega (arith, ints)) at.1,
+)
+leaf-back a b maps before point (leaf.Window w) onwards s at =
+    let stands = at.1.cursor.onwards in (
+      at.0,
+      record {
+        cursor = cursor-same (get_or b w.buffer []) (get_or a w.buffer []) (point +ℤ w.to) (before +ℤ w.to) w.window.back
+            (λ tick below. sym (s.ended tick below)) (omega (arith, ints)) at.1.cursor;
+        held = holds-same (get_or b w.buffer []) (get_or a w.buffer []) (point +ℤ w.to) (before +ℤ w.from +ℤ pos 1) (mapped maps w.map)
+            w.window (λ tick below. sym (s.cells tick below)) (λ tick below. sym (s.marks tick below)) (omega (arith, ints)) at.1.held;
+      },
+    )
+
+all-by : {X Y : Type 0} (f : X → Y) (P : Y → Type 0) (Q R : X → Type 0) (xs : List X) → ((x : X) → P (f x) → Q x → R x)
+    → AllByRecursion P (map f xs) → AllByRecursion Q xs → AllByRecursion R xs
+all-by f P Q R [] step p q = tt
+all-by f P Q R (x ∷ xs) step p q = (step x p.0 q.0, all-by f P Q R xs step p.1 q.1)
+
+same-leaves : (a b : List (List Snapshot)) (l : LoopParts) (point : ℤ) (leaves : List Leaf) → map origin leaves ≡ map leaf_only l.body
+    → AllByRecursion (IsSameFor a b point) l.body → AllByRecursion (IsSameFor a b point) (map origin leaves)
+same-leaves a b l point leaves is same =
+    subst (λ (block : Block). AllByRecursion (IsSameFor a b point) block) (sym is) (all-only (IsSameFor a b point) l.body tt same)
+
+-- a state that is fit over lists is fit over others that tell the same up to where the loop reads at a later grid point
+pub fit-elsewhere : (a b : List (List Snapshot)) (l : LoopParts) (before point : ℤ) (state : LoopState)
+    → AllByRecursion (IsSameFor a b point) l.body → before ≤ℤ point → IsFit a l before state → IsFit b l before state
+fit-elsewhere a b l before point state same onwards fit = record {
+  same = fit.same;
+  leaves = all-by origin (IsSameFor a b point) (λ (own : Leaf). IsLeafAt MayGo a [] l.maps before own)
+      (λ (own : Leaf). IsLeafAt MayGo b [] l.maps before own) state.leaves.items
+      (λ own s at. leaf-there a b l.maps before point own onwards s at)
+      (same-leaves a b l point state.leaves.items fit.same same) fit.leaves;
+}
+
+-- and the other way round
+pub fit-back : (a b : List (List Snapshot)) (l : LoopParts) (before point : ℤ) (state : LoopState)
+    → AllByRecursion (IsSameFor a b point) l.body → before ≤ℤ point → IsFit b l before state → IsFit a l before state
+fit-back a b l before point state same onwards fit = record {
+  same = fit.same;
+  leaves = all-by origin (IsSameFor a b point) (λ (own : Leaf). IsLeafAt MayGo b [] l.maps before own)
+      (λ (own : Leaf). IsLeafAt MayGo a [] l.maps before own) state.leaves.items
+      (λ own s at. leaf-back a b l.maps before point own onwards s at)
+      (same-leaves a b l point state.leaves.items fit.same same) fit.leaves;
+}
+
+-- the cell of a leaf at the grid point
+leaf_cell-same : (a b : List (List Snapshot)) (maps : List Block) (point : ℤ) (i : Instr) → IsSameFor a b point i
+    → (leaf_of (map stream_of a) maps i).cell point ≡ (leaf_of (map stream_of b) maps i).cell point
+leaf_cell-same a b maps point (Const number) s = refl
+leaf_cell-same a b maps point Null s = refl
+leaf_cell-same a b maps point Argument s = refl
+leaf_cell-same a b maps point (Port buffer offset) s =
+    ap (λ (x : Stream). x.cell (point +ℤ offset)) (read-stream a buffer) ∙ s.cells (point +ℤ offset) (omega (arith, ints))
+    ∙ sym (ap (λ (x : Stream). x.cell (point +ℤ offset)) (read-stream b buffer))
+leaf_cell-same a b maps point (Win reducer buffer from to number) s =
+    let given : List (Option ℤ) → Option ℤ = λ cells. reduce reducer (numbers (map (mapped maps number) cells)) in
+    ap (λ (x : Stream). given (met x (point +ℤ from) (point +ℤ to))) (read-stream a buffer)
+    ∙ ap given (met-same (stream_of (get_or a buffer [])) (stream_of (get_or b buffer [])) (point +ℤ from) (point +ℤ to) s.cells s.marks)
+    ∙ sym (ap (λ (x : Stream). given (met x (point +ℤ from) (point +ℤ to))) (read-stream b buffer))
+leaf_cell-same a b maps point (One op r) s = refl
+leaf_cell-same a b maps point (Two op r q) s = refl
+leaf_cell-same a b maps point (If c r q) s = refl
+
+instr_cell-same : (f g : Instr → Option ℤ) (cells : List (Option ℤ)) (i : Instr) → f i ≡ g i → instr_cell f cells i ≡ instr_cell g cells i
+instr_cell-same f g cells (Const number) is = refl
+instr_cell-same f g cells Null is = refl
+instr_cell-same f g cells Argument is = is
+instr_cell-same f g cells (Port buffer offset) is = is
+instr_cell-same f g cells (Win reducer buffer from to number) is = is
+instr_cell-same f g cells (One op r) is = refl
+instr_cell-same f g cells (Two op r q) is = refl
+instr_cell-same f g cells (If c r q) is = refl
+
+registers-same : (f g : Instr → Option ℤ) (cells : List (Option ℤ)) (block : Block) → AllByRecursion (λ (i : Instr). f i ≡ g i) block
+    → with_registers f cells block ≡ with_registers g cells block
+registers-same f g cells [] same = refl
+registers-same f g cells (i ∷ block) same =
+    ap (λ (cell : Option ℤ). with_registers f (cells ++ cell ∷ []) block) (instr_cell-same f g cells i same.0)
+    ∙ registers-same f g (cells ++ instr_cell g cells i ∷ []) block same.1
+
+-- and with it the cell of the body
+cell-same : (a b : List (List Snapshot)) (l : LoopParts) (point : ℤ) → AllByRecursion (IsSameFor a b point) l.body
+    → (body_of (map stream_of a) l).cell point ≡ (body_of (map stream_of b) l).cell point
+cell-same a b l point same =
+    let f : Instr → Option ℤ = λ i. (leaf_of (map stream_of a) l.maps i).cell point in
+    let g : Instr → Option ℤ = λ i. (leaf_of (map stream_of b) l.maps i).cell point in
+    ap (last_or None) (registers-same f g [] l.body
+    (all-weaker (IsSameFor a b point) (λ (i : Instr). f i ≡ g i) l.body (λ i s. leaf_cell-same a b l.maps point i s) same))
+
+-- the next mark of a leaf above the grid point
+leaf_next-same : (a b : List (List Snapshot)) (maps : List Block) (point : ℤ) (buffers known : ℕ) (i : Instr) → IsReadable buffers known i
+    → IsSameFor a b point i → SameNext (leaf_of (map stream_of a) maps i).mark (leaf_of (map stream_of b) maps i).mark point
+leaf_next-same a b maps point buffers known (Const number) readable s = λ at above none. refl
+leaf_next-same a b maps point buffers known Null readable s = λ at above none. refl
+leaf_next-same a b maps point buffers known Argument readable s = λ at above none. refl
+leaf_next-same a b maps point buffers known (Port buffer offset) readable s =
+    rw (read-stream a buffer, read-stream b buffer) (port-same (get_or a buffer []) (get_or b buffer []) offset point s)
+leaf_next-same a b maps point buffers known (Win reducer buffer from to number) readable s =
+    rw (read-stream a buffer, read-stream b buffer)
+    (window-same (mapped maps number) reducer from to (get_or a buffer []) (get_or b buffer []) point readable.1.some_ticks s)
+leaf_next-same a b maps point buffers known (One op r) readable s = λ at above none. refl
+leaf_next-same a b maps point buffers known (Two op r q) readable s = λ at above none. refl
+leaf_next-same a b maps point buffers known (If c r q) readable s = λ at above none. refl
+
+-- and with it that of all leaves
+next-same : (a b : List (List Snapshot)) (maps : List Block) (point : ℤ) (buffers known : ℕ) (block : Block)
+    → AllByRecursion (IsReadable buffers known) block → AllByRecursion (IsSameFor a b point) block
+    → SameNext (λ at. leaf_marked (map stream_of a) maps at block) (λ at. leaf_marked (map stream_of b) maps at block) point
+next-same a b maps point buffers known [] readable same = λ at above none. refl
+next-same a b maps point buffers known (i ∷ block) readable same =
+    either-same (leaf_of (map stream_of a) maps i).mark (λ at. leaf_marked (map stream_of a) maps at block)
+    (leaf_of (map stream_of b) maps i).mark (λ at. leaf_marked (map stream_of b) maps at block) point
+    (leaf_next-same a b maps point buffers known i readable.0 same.0)
+    (next-same a b maps point buffers known block readable.1 same.1)
+
+-- a turn over lists is the turn over others that tell the same up to where the loop reads at its grid point
+pub turn-elsewhere : (a b : List (List Snapshot)) (l : LoopParts) (start : ℤ) (buffers : ℕ) → IsReady buffers l
+    → AllByRecursion (IsSameFor a b (ceil l.grid (start +ℤ pos 1))) l.body
+    → turn (body_of (map stream_of a) l) l.grid l.hi start ≡ turn (body_of (map stream_of b) l) l.grid l.hi start
+turn-elsewhere a b l start buffers ready same =
+    let point = ceil l.grid (start +ℤ pos 1) in
+    let value = cell-same a b l point same in
+    let marks = next_mark-same (body_of (map stream_of a) l) (body_of (map stream_of b) l) point (int_gap point (l.hi +ℤ l.grid.period))
+    (next-same a b l.maps point buffers (length l.maps) l.body ready.leaves same) in
+    let end = ap (turn_end l.grid l.hi) marks in
+    λ i. record { start = start; end = end i; value = value i }
