@@ -27,8 +27,8 @@ pub fn put_rows<O: Sink>(sink: &mut O, list: &SnapList) -> Result<(), Failed>
     Ok(())
 }
 
-// Puts the line of a snapshot, and nothing for a null one.
-fn put_snap<O: Sink>(sink: &mut O, snap: &Snap) -> Result<(), Failed>
+/// Puts the line of a snapshot by one put, and nothing for a null one.
+pub fn put_snap<O: Sink>(sink: &mut O, snap: &Snap) -> Result<(), Failed>
     requires { O.takes sink.old (length (lines_of (snap.now ∷ []))) }
     ensures { Puts O.tells O.written O.faults O.takes sink.old sink.new (lines_of (snap.now ∷ [])) result }
 {

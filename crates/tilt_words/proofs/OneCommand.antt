@@ -4,10 +4,10 @@ use Rattle.std.proofs.lemmas.Bool.Decides.{nat_tests}
 use Rattle.std.proofs.lemmas.Option.{same_Some, none-some}
 use Rattle.tilt_base.specs.Number.{integer_spelled}
 use Rattle.tilt_words.specs.Arguments.{no_settings, AreArguments}
-use Rattle.tilt_words.specs.Command.{Call, CommandValue, IsCommand, IsFileCommand, IsTry, call_of, run, compile, exec, explain, start, resume_upto, resume_end, watch, try}
+use Rattle.tilt_words.specs.Command.{Call, CommandValue, IsCommand, IsFileCommand, IsTry, call_of, run, compile, exec, explain, start, resume_upto, resume_end, pipe, watch, try}
 use Rattle.tilt_words.proofs.Determined.{same_settings}
 
--- the third byte of a call's first word, in which the commands differ
+-- the third byte of a call's first word, in which the commands differ, but `pipe` and `explain`, whose first bytes do
 abbrev third : Call → ℕ
 third call = get_or call.name 2 0
 
@@ -19,7 +19,7 @@ rebuilt call =
     if third call == 110 then run file s.binds s.plain s.cuts
     else if third call == 109 then compile file s.plain
     else if third call == 101 then exec file s.binds
-    else if third call == 112 then explain file
+    else if third call == 112 then (if get_or call.name 0 0 == 112 then pipe file s.binds s.plain else explain file)
     else if third call == 97 then start file s.binds s.plain (unwrap_or s.upto (pos 0)) (unwrap_or s.save [])
     else if third call == 115 then (if s.end then resume_end file s.binds s.plain else resume_upto file s.binds s.plain (unwrap_or s.upto (pos 0)) (unwrap_or s.save []))
     else watch file s.binds s.plain
@@ -32,6 +32,7 @@ rebuilt_same (explain query) call e = ap rebuilt (sym (same_Some _ call e))
 rebuilt_same (start query binds plain upto save) call e = ap rebuilt (sym (same_Some _ call e))
 rebuilt_same (resume_upto file binds plain upto save) call e = ap rebuilt (sym (same_Some _ call e))
 rebuilt_same (resume_end file binds plain) call e = ap rebuilt (sym (same_Some _ call e))
+rebuilt_same (pipe query binds plain) call e = ap rebuilt (sym (same_Some _ call e))
 rebuilt_same (watch query binds plain) call e = ap rebuilt (sym (same_Some _ call e))
 rebuilt_same (try seed count) call e = absurd (none-some call e)
 
@@ -47,6 +48,7 @@ no_try (explain query) call e name = clash (ap (λ c. c.name) (same_Some _ call 
 no_try (start query binds plain upto save) call e name = clash (ap (λ c. c.name) (same_Some _ call e) ∙ name) refl
 no_try (resume_upto file binds plain upto save) call e name = clash (ap (λ c. c.name) (same_Some _ call e) ∙ name) refl
 no_try (resume_end file binds plain) call e name = clash (ap (λ c. c.name) (same_Some _ call e) ∙ name) refl
+no_try (pipe query binds plain) call e name = clash (ap (λ c. c.name) (same_Some _ call e) ∙ name) refl
 no_try (watch query binds plain) call e name = clash (ap (λ c. c.name) (same_Some _ call e) ∙ name) refl
 no_try (try seed count) call e name = none-some call e
 
@@ -65,6 +67,7 @@ kinds words (explain query) is = inl is
 kinds words (start query binds plain upto save) is = inl is
 kinds words (resume_upto file binds plain upto save) is = inl is
 kinds words (resume_end file binds plain) is = inl is
+kinds words (pipe query binds plain) is = inl is
 kinds words (watch query binds plain) is = inl is
 kinds words (try seed count) is = inr (record { seed = seed; count = count; is = refl; words_are = is })
 
@@ -76,6 +79,7 @@ file_command words (explain query) is = is
 file_command words (start query binds plain upto save) is = is
 file_command words (resume_upto file binds plain upto save) is = is
 file_command words (resume_end file binds plain) is = is
+file_command words (pipe query binds plain) is = is
 file_command words (watch query binds plain) is = is
 file_command words (try seed count) is = absurd (none-some is.call is.call_is)
 

@@ -21,6 +21,7 @@ pub data CommandValue : Type 0 where
   start : (query : List ℕ) (binds : List Binding) (plain : Bool) (upto : ℤ) (save : List ℕ) → CommandValue
   resume_upto : (checkpoint : List ℕ) (binds : List Binding) (plain : Bool) (upto : ℤ) (save : List ℕ) → CommandValue
   resume_end : (checkpoint : List ℕ) (binds : List Binding) (plain : Bool) → CommandValue
+  pipe : (query : List ℕ) (binds : List Binding) (plain : Bool) → CommandValue
   watch : (query : List ℕ) (binds : List Binding) (plain : Bool) → CommandValue
   try : (seed count : ℕ) → CommandValue
 
@@ -58,6 +59,8 @@ call_of (resume_end checkpoint binds plain) =
       file = checkpoint;
       settings = record no_settings { binds = binds; plain = plain; end = true };
     })
+call_of (pipe query binds plain) =
+    Some (record { name = codes "pipe"; file = query; settings = record no_settings { binds = binds; plain = plain } })
 call_of (watch query binds plain) =
     Some (record { name = codes "watch"; file = query; settings = record no_settings { binds = binds; plain = plain } })
 call_of (try seed count) = None
@@ -107,5 +110,6 @@ command_of (variant.Start query binds plain upto save) = start (string_bytes que
 command_of (variant.ResumeUpto file binds plain upto save) =
     resume_upto (string_bytes file) (bindings_of binds.items) plain upto (string_bytes save)
 command_of (variant.ResumeEnd file binds plain) = resume_end (string_bytes file) (bindings_of binds.items) plain
+command_of (variant.Pipe query binds plain) = pipe (string_bytes query) (bindings_of binds.items) plain
 command_of (variant.Watch query binds plain) = watch (string_bytes query) (bindings_of binds.items) plain
 command_of (variant.Try seed count) = try seed count

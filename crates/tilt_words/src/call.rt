@@ -16,6 +16,7 @@ pub(crate) fn command_named(name: &str, file: String, arguments: Arguments) -> O
         "explain" => explain(file, arguments),
         "start" => start(file, arguments),
         "resume" => resume(file, arguments),
+        "pipe" => pipe(file, arguments),
         "watch" => watch(file, arguments),
         _ => None,
     }
@@ -117,6 +118,23 @@ fn resume(file: String, arguments: Arguments) -> Option<Command>
         }),
         (true, None, None) => Some(Command::ResumeEnd {
             file,
+            binds: arguments.binds,
+            plain: arguments.plain,
+        }),
+        _ => None,
+    }
+}
+
+// `pipe`, with `--plain` or without.
+fn pipe(query: String, arguments: Arguments) -> Option<Command>
+    ensures { IsCalled (call_with (codes "pipe") query arguments) result }
+{
+    if !arguments.cuts.is_empty() {
+        return None;
+    }
+    match (arguments.end, arguments.upto, arguments.save) {
+        (false, None, None) => Some(Command::Pipe {
+            query,
             binds: arguments.binds,
             plain: arguments.plain,
         }),

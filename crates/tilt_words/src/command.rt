@@ -49,6 +49,12 @@ pub enum Command {
         binds: Vec<Bind>,
         plain: bool,
     },
+    /// Run the query on the files that are bound, and tell how many snapshots its loops held at most.
+    Pipe {
+        query: String,
+        binds: Vec<Bind>,
+        plain: bool,
+    },
     /// Run the query turn by turn beside whoever watches.
     Watch {
         query: String,

@@ -85,6 +85,14 @@ fn show(alloc: Global, command: &Command) -> Result<String, Fail> {
             let (binds, plain) = (show_binds(alloc, binds)?, show_plain(*plain));
             format!(in alloc; "resume {file}{binds}{plain} end")?
         }
+        Command::Pipe {
+            query,
+            binds,
+            plain,
+        } => {
+            let (binds, plain) = (show_binds(alloc, binds)?, show_plain(*plain));
+            format!(in alloc; "pipe {query}{binds}{plain}")?
+        }
         Command::Watch {
             query,
             binds,
@@ -129,6 +137,7 @@ fn words_are_the_command_that_they_spell(rt: HostRuntime) -> Result<(), Fail> {
             "resume C x=F upto 5 save C",
         ),
         ("resume|C|x=F|--end|--plain", "resume C x=F plain end"),
+        ("pipe|Q|--plain|x=F", "pipe Q x=F plain"),
         ("watch|Q|x=F|--plain", "watch Q x=F plain"),
         ("try|0|0", "try 0 0"),
         ("try|2147483647|1000000", "try 2147483647 1000000"),
@@ -202,6 +211,7 @@ fn other_words_are_no_command(rt: HostRuntime) -> Result<(), Fail> {
         "resume|C|--end|--save|D",
         "resume|C|--upto|5",
         "resume|C|--end|--cut|5",
+        "pipe|Q|--cut|5",
         "watch|Q|--cut|5",
         "try|1",
         "try|1|2|3",
