@@ -1,0 +1,97 @@
+-- The snapshots of a code's run, taken one after the other.
+use Rattle.std.proofs.Common.{◌≡◌, ◌<◌, ℕ, zero, suc, neg_ℤ, ◌≤ℤ◌, List, [], ◌∷◌, ◌++◌, length, take, slice_get, Option, Some, None, refl, sym, ap, ◌∙◌, arith}
+use Rattle.std.proofs.lemmas.Option.{same_Some, none-some}
+use Rattle.std.specs.List.{AllByRecursion}
+use Rattle.std.specs.Option.{ForSome}
+use Rattle.tilt_base.specs.declared.limits.TheConstants.{WIDE}
+use Rattle.tilt_code.proofs.Filling.{Fill-AreSnapshots}
+use Rattle.tilt_code.proofs.Runs.{run-Fill, loops-timed}
+use Rattle.tilt_code.specs.Code.{LoopParts, CodeParts}
+use Rattle.tilt_code.specs.Grammar.{IsLoop}
+use Rattle.tilt_code.specs.References.{IsCode}
+use Rattle.tilt_code.specs.Run.{run_of}
+use Rattle.tilt_pipe.specs.Value.{PipeParts}
+use Rattle.tilt_stream.proofs.Places.{read-within}
+use Rattle.tilt_stream.specs.Snap.{Snapshot, AreSnapshots, Touch, last_end}
+
+-- loops of which there are some end with one
+pub record EndsWith (loops : List LoopParts) : Type 0 where
+  pub front : List LoopParts
+  pub loop : LoopParts
+  pub ends : loops ≡ front ++ loop ∷ []
+  pub bounded : IsLoop loop
+
+last-loop : (l : LoopParts) (loops : List LoopParts) → AllByRecursion IsLoop (l ∷ loops) → EndsWith (l ∷ loops)
+last-loop l [] h = record { front = []; loop = l; ends = refl; bounded = h.0 }
+last-loop l (next ∷ loops) h =
+    let rest = last-loop next loops h.1 in
+    record { front = l ∷ rest.front; loop = rest.loop; ends = ap (λ ls. l ∷ ls) rest.ends; bounded = rest.bounded }
+
+ends-with : (loops : List LoopParts) → 0 < length loops → AllByRecursion IsLoop loops → EndsWith loops
+ends-with [] some h = absurd (omega arith)
+ends-with (l ∷ loops) some h = last-loop l loops h
+
+-- the run of a code is a list of snapshots
+pub run-snapshots : (code : CodeParts) (inputs : List (List Snapshot)) → IsCode code → AreSnapshots (run_of code inputs)
+run-snapshots code inputs is =
+    let last = ends-with code.loops is.grammatical.some is.grammatical.loops in
+    let stretch = last.bounded.stretch in
+    Fill-AreSnapshots last.loop.lo last.loop.hi (run_of code inputs) stretch.low stretch.high
+    (run-Fill code inputs last.front last.loop last.ends (loops-timed code.loops is.grammatical.loops))
+
+-- the one at a place starts where those before it end
+touches-at : (all : List Snapshot) (place : ℕ) (s : Snapshot) → Touch all → slice_get all place ≡ Some s
+    → ForSome (last_end (take place all)) (λ end. end ≡ s.start)
+touches-at [] place s touch is = absurd (none-some s is)
+touches-at (x ∷ xs) zero s touch is = λ end no. absurd (none-some end no)
+touches-at (x ∷ []) (suc place) s touch is = absurd (none-some s is)
+touches-at (x ∷ y ∷ xs) (suc zero) s touch is =
+    λ end last. sym (same_Some x.end end last) ∙ touch.0 ∙ ap (λ (n : Snapshot). n.start) (same_Some y s is)
+touches-at (x ∷ y ∷ xs) (suc (suc place)) s touch is = touches-at (y ∷ xs) (suc place) s touch.1 is
+
+-- one more of them
+one-more : (all : List Snapshot) (place : ℕ) (s : Snapshot) → slice_get all place ≡ Some s → take place all ++ s ∷ [] ≡ take (suc place) all
+one-more [] place s is = absurd (none-some s is)
+one-more (x ∷ xs) zero s is = ap (λ n. n ∷ []) (sym (same_Some x s is))
+one-more (x ∷ xs) (suc place) s is = ap (λ l. x ∷ l) (one-more xs place s is)
+
+-- there is one at the place
+pub placed : (all : List Snapshot) (place : ℕ) (s : Snapshot) → slice_get all place ≡ Some s → place < length all
+placed [] place s is = absurd (none-some s is)
+placed (x ∷ xs) zero s is = omega arith
+placed (x ∷ xs) (suc place) s is = let rest = placed xs place s is in omega arith
+
+-- all of them, where there is none at the place
+pub all-taken : (all : List Snapshot) (place : ℕ) → slice_get all place ≡ None → take place all ≡ all
+all-taken [] zero is = refl
+all-taken [] (suc place) is = refl
+all-taken (x ∷ xs) zero is = absurd (none-some x (sym is))
+all-taken (x ∷ xs) (suc place) is = ap (λ l. x ∷ l) (all-taken xs place is)
+
+-- of a code's run so many snapshots were taken, and this one comes next
+module _ (code : CodeParts) (inputs : List (List Snapshot)) (list : List Snapshot) (given : ℕ) (s : Snapshot)
+    (is : IsCode code) (so_far : list ≡ take given (run_of code inputs)) (next : slice_get (run_of code inputs) given ≡ Some s) where
+  pub next-touches : ForSome (last_end list) (λ end. end ≡ s.start)
+  next-touches = rw so_far (touches-at (run_of code inputs) given s (run-snapshots code inputs is).touch next)
+
+  pub next-low : neg_ℤ WIDE ≤ℤ s.start
+  next-low = (read-within (neg_ℤ WIDE) WIDE (run_of code inputs) given (Some s) (run-snapshots code inputs is).in_order (sym next)).0
+
+  pub next-high : s.end ≤ℤ WIDE
+  next-high = (read-within (neg_ℤ WIDE) WIDE (run_of code inputs) given (Some s) (run-snapshots code inputs is).in_order (sym next)).1
+
+  pub with-next : list ++ s ∷ [] ≡ take (suc given) (run_of code inputs)
+  with-next = ap (λ l. l ++ s ∷ []) so_far ∙ one-more (run_of code inputs) given s next
+
+-- what a pipe of the code gave out
+pub given-out : (pipe : PipeParts) (code : CodeParts) (inputs : List (List Snapshot)) (found : Option Snapshot) → pipe.code ≡ code → pipe.inputs ≡ inputs
+    → found ≡ slice_get (run_of pipe.code pipe.inputs) pipe.given → slice_get (run_of code inputs) pipe.given ≡ found
+given-out pipe code inputs found code_is inputs_is is = sym is-there where
+  is-there : found ≡ slice_get (run_of code inputs) pipe.given
+  is-there = rw (code_is, inputs_is) at is
+
+-- where it gave out nothing more, all were given out
+pub nothing-left : (all : List Snapshot) (place : ℕ) (found : Option Snapshot) → slice_get all place ≡ found → ((s : Snapshot) → found ≡ Some s → ⊥)
+    → take place all ≡ all
+nothing-left all place None is none = all-taken all place is
+nothing-left all place (Some s) is none = absurd (none s refl)

@@ -1,0 +1,120 @@
+-- A turn of a chain: what it asks, and what the chain keeps.
+use Rattle.std.proofs.Common.{◌≡◌, ◌≢◌, inl, inr, false, ◌+◌, ◌∙◌, ℕ, suc, ℤ, pos, true, List, map, drop, length, get_or, slice_get, slice_set, Some, sym, ap, subst, arith}
+use Rattle.std.proofs.lemmas.Bool.{cases_eq}
+use Rattle.std.proofs.lemmas.Int.{ints}
+use Rattle.std.proofs.lemmas.Option.{get_or_from_slice_get, same_Some}
+use Rattle.tilt_code.specs.References.{IsCode}
+use Rattle.tilt_code.specs.Run.{buffers_of}
+use Rattle.tilt_stream.specs.Snap.{Snapshot}
+use Rattle.tilt_turn.specs.Held.{IsFit}
+use Rattle.tilt_pipe.proofs.Keeping.{keeps-body}
+use Rattle.tilt_pipe.proofs.Nears.{work-sound}
+use Rattle.tilt_pipe.proofs.RingsKept.{next-kept, ring-of}
+use Rattle.tilt_pipe.proofs.Trimming.{IsTurn, alike-works, exact-trimmed, trimmed-other, turned, turned-starts, turned-trimmed, turned-wanted, wanted-too}
+use Rattle.tilt_pipe.proofs.Turning.{found-turns, own-turns, start-there, turns-set}
+use Rattle.tilt_pipe.proofs.Wanted.{turn_point-rises}
+use Rattle.tilt_pipe.specs.Chain.{AreTold, AreTurns, AreTurnsOf}
+use Rattle.tilt_pipe.specs.Made.{Work, reads_buffer}
+use Rattle.tilt_pipe.specs.Positions.{AreRings, IsOpen, RingParts, RingsParts, made_at, made_by, stages_at, start_at, starts_of, works_in}
+use Rattle.tilt_pipe.specs.Reads.{body_reads, turn_point}
+use Rattle.tilt_pipe.specs.Rings.{rings_of}
+use Rattle.tilt_pipe.specs.Trimmed.{IsTrimmed, KeepsWanted, MayTurn, StandAlike}
+use Rattle.tilt_pipe.specs.declared.chain.LoopTurns.{LoopTurns}
+
+-- the turns of the loop at a place of a chain, where it stands
+turns-here : (p : RingsParts) (all : List LoopTurns) (place : ℕ) (w : Work) (turns : LoopTurns)
+    → AreTurns (buffers_of p.code p.inputs) (length p.inputs) 0 (starts_of p.rings) (works_in p) all → slice_get (works_in p) place ≡ Some w
+    → turns ≡ get_or all place turns
+    → AreTurnsOf (buffers_of p.code p.inputs) (length p.inputs + place) place (start_at p place) w (drop (suc place) (works_in p)) turns
+turns-here p all place w turns are is at =
+    let start = start-there p all place w are is in
+    let stands : start.0 ≡ start_at p place = sym (get_or_from_slice_get (starts_of p.rings) place start.0 (pos 0) start.1) in
+    subst (λ (t : ℤ). AreTurnsOf (buffers_of p.code p.inputs) (length p.inputs + place) place t w (drop (suc place) (works_in p)) turns) stands
+    (own-turns p all place start.0 w turns are start.1 is (found-turns p all place w turns are is at))
+
+pub may-turn : (p : RingsParts) (all : List LoopTurns) (place : ℕ) (w : Work) (turns : LoopTurns) → IsCode p.code → AreRings p
+    → AreTurns (buffers_of p.code p.inputs) (length p.inputs) 0 (starts_of p.rings) (works_in p) all
+    → map (λ (r : RingParts). r.held) p.rings ≡ rings_of (length p.inputs) (stages_at (works_in p) (starts_of p.rings))
+    → IsOpen p place w → w.used ≡ true → AreTold p place w → turns ≡ get_or all place turns → MayTurn p place turns w
+may-turn p all place w turns code are fit exact is_open used told at = record {
+  is_open = is_open;
+  told = told;
+  kept = keeps-body p place w code are (λ k. exact-trimmed p k are exact) is_open used;
+  fit = (turns-here p all place w turns fit is_open.is at).fit;
+}
+
+-- the next snapshot of the loop is a turn of it
+pub record HasTurned (p : RingsParts) (place : ℕ) (w : Work) (s : Snapshot) : Type 0 where
+  pub ring : RingParts
+  pub turn : IsTurn p place w ring s
+  pub stands : start_at p place ≡ ring.start
+
+pub made-turn : (p : RingsParts) (place : ℕ) (w : Work) (s : Snapshot) → IsCode p.code → AreRings p → IsOpen p place w
+    → slice_get w.whole (length (made_at p place w)) ≡ Some s → HasTurned p place w s
+made-turn p place w s code are is_open is =
+    let it = ring-of p place w code are is_open.is in
+    let here : slice_get w.whole (length (made_by it.ring.start w.whole)) ≡ Some s =
+    subst (λ (t : ℤ). slice_get w.whole (length (made_by t w.whole)) ≡ Some s) it.start is in
+    record {
+      ring = it.ring;
+      turn = record {
+        are = are;
+        of = is_open.is;
+        at = it.at;
+        kept = it.kept;
+        grid = (work-sound p place w code are is_open.is).ready.grid;
+        next = next-kept w it.ring s it.kept here;
+      };
+      stands = it.start;
+    }
+
+-- and then the chain has the turns that it is to have
+pub new-turns : (p : RingsParts) (all : List LoopTurns) (place : ℕ) (w : Work) (old new : LoopTurns) (r : RingParts) (s : Snapshot)
+    → AreTurns (buffers_of p.code p.inputs) (length p.inputs) 0 (starts_of p.rings) (works_in p) all → IsTurn p place w r s
+    → start_at p place ≡ r.start → old ≡ get_or all place old → new.used ≡ old.used → new.readers.items ≡ old.readers.items
+    → IsFit (buffers_of p.code p.inputs) w.loop (turn_point w.loop (start_at p place)) new.state
+    → AreTurns (buffers_of p.code p.inputs) (length p.inputs) 0 (starts_of (turned p place r s).rings) (works_in p) (slice_set all place new)
+new-turns p all place w old new r s are turn stands at used readers fit =
+    let wholes = buffers_of p.code p.inputs in
+    let behind = drop (suc place) (works_in p) in
+    let here = turns-here p all place w old are turn.of at in
+    let up = turn.next.rises in
+    let own : AreTurnsOf wholes (length p.inputs + place) place s.end w behind new = record {
+      used = used ∙ here.used;
+      readers = readers ∙ here.readers;
+      fit = (turn_point w.loop (start_at p place), turn_point-rises w.loop (start_at p place) s.end turn.grid (omega (arith, ints)), fit);
+    } in
+    let same : place ≡ 0 + place = omega arith in
+    let own_ = subst (λ (n : ℕ). AreTurnsOf wholes (length p.inputs + place) n s.end w behind new) same own in
+    subst (λ (starts : List ℤ). AreTurns wholes (length p.inputs) 0 starts (works_in p) (slice_set all place new)) (sym (turned-starts p place r s))
+    (turns-set wholes (length p.inputs) 0 (starts_of p.rings) (works_in p) all place s.end w new are turn.of own_)
+
+-- once the loop's own ring is trimmed, those that it doesn't read are too
+pub record IsTrimmedAfter (z : RingsParts) (place : ℕ) : Type 0 where
+  pub wanted : (k : ℕ) → KeepsWanted z k
+  pub unread : (v : Work) → slice_get (works_in z) place ≡ Some v → (k : ℕ)
+      → reads_buffer (length z.inputs + k) (body_reads v.loop.body) ≡ false → IsTrimmed z k
+
+unread-too : (p z : RingsParts) (place k : ℕ) (w v : Work) (r : RingParts) (s : Snapshot) → IsTurn p place w r s → IsTrimmed p k
+    → StandAlike (turned p place r s) z → ((j : ℕ) → j ≢ place → slice_get z.rings j ≡ slice_get (turned p place r s).rings j)
+    → IsTrimmed z place → slice_get (works_in z) place ≡ Some v
+    → reads_buffer (length z.inputs + k) (body_reads v.loop.body) ≡ false → IsTrimmed z k
+unread-too p z place k w v r s turn trimmed alike others own of unread =
+    let q = turned p place r s in
+    let of_w : slice_get (works_in p) place ≡ Some v = subst (λ (ws : List Work). slice_get ws place ≡ Some v) (alike-works q z alike) of in
+    let same : v ≡ w = same_Some v w (sym of_w ∙ turn.of) in
+    let not_read : reads_buffer (length p.inputs + k) (body_reads w.loop.body) ≡ false =
+    ap (λ (x : Work). reads_buffer (length p.inputs + k) (body_reads x.loop.body)) (sym same)
+    ∙ ap (λ (inputs : List (List Snapshot)). reads_buffer (length inputs + k) (body_reads v.loop.body)) (sym alike.inputs) ∙ unread in
+    elim (cases_eq k place) as (λ _. IsTrimmed z k) [
+      | inl here ↦ subst (λ (n : ℕ). IsTrimmed z n) (sym here) own
+      | inr other ↦ trimmed-other q z place k alike (others k other) (turned-trimmed p place k w r s turn other trimmed not_read)
+    ]
+
+pub after-trim : (p z : RingsParts) (place : ℕ) (w : Work) (r : RingParts) (s : Snapshot) → IsTurn p place w r s → ((k : ℕ) → IsTrimmed p k)
+    → StandAlike (turned p place r s) z → ((j : ℕ) → j ≢ place → slice_get z.rings j ≡ slice_get (turned p place r s).rings j)
+    → IsTrimmed z place → IsTrimmedAfter z place
+after-trim p z place w r s turn trimmed alike others own = record {
+  wanted = λ k. wanted-too (turned p place r s) z place k alike others own (turned-wanted p place k w r s turn trimmed);
+  unread = λ v of k unread. unread-too p z place k w v r s turn (trimmed k) alike others own of unread;
+}

@@ -1,0 +1,164 @@
+-- A turn reads of the rings what it reads of the whole buffers.
+use Rattle.std.proofs.Common.{◌≡◌, ◌⊎◌, inl, inr, ◌≤◌, ◌<◌, ◌+◌, ◌-◌, ℕ, zero, suc, ℤ, pos, ◌+ℤ◌, ◌≤ℤ◌, List, [], ◌∷◌, ◌++◌, length, get_or, slice_get, Some, Contains, sym, ap, ◌∙◌, subst, arith}
+use Rattle.std.proofs.lemmas.Bool.{cases_lt}
+use Rattle.std.proofs.lemmas.List.{get_or-append-add, get_or_append_left}
+use Rattle.std.proofs.lemmas.Option.{get_or_from_slice_get}
+use Rattle.circular_buffer.proofs.Places.{slice_get-some}
+use Rattle.std.specs.List.{AllByRecursion}
+use Rattle.tilt_code.specs.Code.{Block}
+use Rattle.tilt_code.specs.References.{IsCode}
+use Rattle.tilt_code.specs.Run.{buffers_of}
+use Rattle.tilt_code.specs.declared.instr.Instr.{Instr}
+use Rattle.tilt_code.specs.declared.instr.Instr.TheVariants.{Const, Null, Argument, Port, Win, One, Two, If}
+use Rattle.tilt_stream.specs.Snap.{Snapshot}
+use Rattle.tilt_turn.specs.Same.{IsSameFor, IsSameUpTo}
+use Rattle.tilt_pipe.proofs.MadeSame.{made-same, same-is}
+use Rattle.tilt_pipe.proofs.Nears.{loops-there}
+use Rattle.tilt_pipe.proofs.OpenLists.{open-at, open_at}
+use Rattle.tilt_pipe.proofs.RingsKept.{rings-length}
+use Rattle.tilt_pipe.proofs.Works.{input-is, work-is}
+use Rattle.tilt_pipe.specs.Chain.{IsBehind, IsTold}
+use Rattle.tilt_pipe.specs.Made.{Work}
+use Rattle.tilt_pipe.specs.Positions.{RingParts, RingsParts, AreRings, lists_of, open_lists, start_at, starts_of, works_in}
+use Rattle.tilt_pipe.specs.Reads.{body_reads, reads_of, turn_point}
+use Rattle.tilt_pipe.specs.Trimmed.{IsNear, IsShort, ReadsNear}
+use Rattle.tilt_pipe.specs.declared.read.Read.{Read}
+
+abbrev pub none_held : RingParts
+none_held = record { held = []; forgotten = 0; start = pos 0 }
+
+-- the ring there
+pub there : (p : RingsParts) (source : ℕ) → AreRings p → source < length p.code.loops
+    → get_or p.rings source none_held ≡ get_or p.rings source (get_or p.rings source none_held)
+there p source are within =
+    let long = loops-there p are in
+    let found = slice_get-some p.rings source (omega arith) in
+    get_or_from_slice_get p.rings source found.0 none_held found.1
+    ∙ sym (get_or_from_slice_get p.rings source found.0 (get_or p.rings source none_held) found.1)
+
+-- the buffer of a loop
+same-loop : (p : RingsParts) (point : ℤ) (r : Read) (source : ℕ) → IsCode p.code → AreRings p → source < length p.code.loops
+    → r.buffer ≡ length p.inputs + source → IsTold p point r
+    → IsSameUpTo (point +ℤ r.last) (get_or (lists_of p) r.buffer []) (get_or (buffers_of p.code p.inputs) r.buffer [])
+same-loop p point r source code are within at told =
+    let last = point +ℤ r.last in
+    let ring = get_or p.rings source none_held in
+    let o = open-at p source ring code are within (there p source are within) in
+    let w = o.work in
+    let reached : (w.loop.hi ≤ℤ ring.start) ⊎ (last ≤ℤ ring.start) =
+    subst (λ (t : ℤ). (w.loop.hi ≤ℤ t) ⊎ (last ≤ℤ t)) o.it.start (told source w at o.it.of) in
+    let same = made-same w.loop.lo w.loop.hi ring.start last w.whole o.it.kept.fills o.it.kept.ring.fill reached in
+    let left : get_or (lists_of p) r.buffer [] ≡ open_at p source =
+    ap (λ (n : ℕ). get_or (lists_of p) n []) at ∙ get_or-append-add p.inputs (open_lists (works_in p) (starts_of p.rings)) source [] in
+    let right : get_or (buffers_of p.code p.inputs) r.buffer [] ≡ w.whole =
+    ap (λ (n : ℕ). get_or (buffers_of p.code p.inputs) n []) at ∙ (work-is p.code p.inputs source w o.it.of).filled in
+    subst (λ (list : List Snapshot). IsSameUpTo last (get_or (lists_of p) r.buffer []) list) (sym right)
+    (subst (λ (list : List Snapshot). IsSameUpTo last list w.whole) (sym (left ∙ o.list)) same)
+
+-- and of any read
+pub same-read : (p : RingsParts) (point : ℤ) (r : Read) → IsCode p.code → AreRings p → r.buffer < length p.inputs + length p.code.loops
+    → IsTold p point r → IsSameUpTo (point +ℤ r.last) (get_or (lists_of p) r.buffer []) (get_or (buffers_of p.code p.inputs) r.buffer [])
+same-read p point r code are within told =
+    elim (cases_lt r.buffer (length p.inputs)) as
+    (λ _. IsSameUpTo (point +ℤ r.last) (get_or (lists_of p) r.buffer []) (get_or (buffers_of p.code p.inputs) r.buffer [])) [
+      | inl input ↦ same-is (point +ℤ r.last) (get_or (lists_of p) r.buffer []) (get_or (buffers_of p.code p.inputs) r.buffer [])
+          (get_or_append_left p.inputs (open_lists (works_in p) (starts_of p.rings)) [] r.buffer input ∙ sym (input-is p.code p.inputs r.buffer input))
+      | inr behind ↦ same-loop p point r (r.buffer - length p.inputs) code are (omega arith) (omega arith) told
+    ]
+
+-- of what the leaves of a body read, over any lists that hold the whole buffers below a number
+same-leaf : (p : RingsParts) (wholes : List (List Snapshot)) (buffers : ℕ) (point : ℤ) (i : Instr) → IsCode p.code → AreRings p
+    → buffers ≤ length p.inputs + length p.code.loops
+    → ((n : ℕ) → n < buffers → get_or (buffers_of p.code p.inputs) n [] ≡ get_or wholes n []) → ReadsNear buffers i
+    → AllByRecursion (IsTold p point) (reads_of i) → IsSameFor (lists_of p) wholes point i
+same-leaf p wholes buffers point (Const number) code are within hold near told = tt
+same-leaf p wholes buffers point Null code are within hold near told = tt
+same-leaf p wholes buffers point Argument code are within hold near told = tt
+same-leaf p wholes buffers point (Port buffer offset) code are within hold near told =
+    let r : Read = record { buffer = buffer; first = offset; last = offset } in
+    let there_ = near.near.0.there in
+    subst (λ (list : List Snapshot). IsSameUpTo (point +ℤ offset) (get_or (lists_of p) buffer []) list) (hold buffer there_)
+    (same-read p point r code are (omega arith) told.0)
+same-leaf p wholes buffers point (Win reducer buffer from to number) code are within hold near told =
+    let r : Read = record { buffer = buffer; first = from +ℤ pos 1; last = to } in
+    let there_ = near.near.0.there in
+    subst (λ (list : List Snapshot). IsSameUpTo (point +ℤ to) (get_or (lists_of p) buffer []) list) (hold buffer there_)
+    (same-read p point r code are (omega arith) told.0)
+same-leaf p wholes buffers point (One op a) code are within hold near told = tt
+same-leaf p wholes buffers point (Two op a b) code are within hold near told = tt
+same-leaf p wholes buffers point (If c a b) code are within hold near told = tt
+
+pub all-first : (P : Read → Type 0) (xs ys : List Read) → AllByRecursion P (xs ++ ys) → AllByRecursion P xs × AllByRecursion P ys
+all-first P [] ys h = (tt, h)
+all-first P (x ∷ xs) ys h = let rest = all-first P xs ys h.1 in ((h.0, rest.0), rest.1)
+
+pub same-body : (p : RingsParts) (wholes : List (List Snapshot)) (buffers : ℕ) (point : ℤ) (block : Block) → IsCode p.code → AreRings p
+    → buffers ≤ length p.inputs + length p.code.loops
+    → ((n : ℕ) → n < buffers → get_or (buffers_of p.code p.inputs) n [] ≡ get_or wholes n [])
+    → AllByRecursion (ReadsNear buffers) block → AllByRecursion (IsTold p point) (body_reads block)
+    → AllByRecursion (IsSameFor (lists_of p) wholes point) block
+same-body p wholes buffers point [] code are within hold near told = tt
+same-body p wholes buffers point (i ∷ block) code are within hold near told =
+    let parts = all-first (IsTold p point) (reads_of i) (body_reads block) told in (
+      same-leaf p wholes buffers point i code are within hold near.0 parts.0,
+      same-body p wholes buffers point block code are within hold near.1 parts.1,
+    )
+
+-- a read of the buffer of a loop is told, where that loop has made enough
+pub told-one : (p : RingsParts) (point : ℤ) (r : Read) (source : ℕ) → r.buffer ≡ length p.inputs + source
+    → ((w : Work) → slice_get (works_in p) source ≡ Some w → (w.loop.hi ≤ℤ start_at p source) ⊎ ((point +ℤ r.last) ≤ℤ start_at p source))
+    → IsTold p point r
+told-one p point r source at made = λ other w is of.
+    let same : other ≡ source = omega arith in
+    subst (λ (n : ℕ). (w.loop.hi ≤ℤ start_at p n) ⊎ ((point +ℤ r.last) ≤ℤ start_at p n)) (sym same)
+    (made w (subst (λ (n : ℕ). slice_get (works_in p) n ≡ Some w) same of))
+
+pub works-there : (p : RingsParts) (place : ℕ) → AreRings p → place < length p.rings → (w : Work) × (slice_get (works_in p) place ≡ Some w)
+works-there p place are within =
+    let count = rings-length (works_in p) p.rings are.rings in
+    slice_get-some (works_in p) place (omega arith)
+
+-- what one instruction reads, the body does
+among-later : (xs ys : List Read) (r : Read) → Contains ys r → Contains (xs ++ ys) r
+among-later [] ys r among = among
+among-later (x ∷ xs) ys r among =
+    let rest = among-later xs ys r among in
+    let within = rest.1 in
+    (suc rest.0, omega arith, rest.2)
+
+among-first : (xs ys : List Read) (r : Read) → Contains xs r → Contains (xs ++ ys) r
+among-first [] ys r among = absurd (omega (arith, among.1))
+among-first (x ∷ xs) ys r (zero, within, at) = (zero, omega arith, at)
+among-first (x ∷ xs) ys r (suc k, within, at) =
+    let rest = among-first xs ys r (k, omega arith, at) in
+    let inside = rest.1 in
+    (suc rest.0, omega arith, rest.2)
+
+pub among-body : (body : Block) (i : ℕ) (d : Instr) (r : Read) → i < length body → Contains (reads_of (get_or body i d)) r
+    → Contains (body_reads body) r
+among-body [] i d r within among = absurd (omega arith)
+among-body (x ∷ body) zero d r within among = among-first (reads_of x) (body_reads body) r among
+among-body (x ∷ body) (suc i) d r within among =
+    among-later (reads_of x) (body_reads body) r (among-body body i d r (omega arith) among)
+
+pub all-contained : {X : Type 0} (P : X → Type 0) (xs : List X) (x : X) → AllByRecursion P xs → Contains xs x → P x
+all-contained P [] x all among = absurd (omega (arith, among.1))
+all-contained P (y ∷ xs) x all (zero, within, at) = subst P at all.0
+all-contained P (y ∷ xs) x all (suc k, within, at) = all-contained P xs x all.1 (k, omega arith, at)
+
+-- a loop that has made less than an instruction of a body reads
+pub short-behind : (p : RingsParts) (place : ℕ) (w : Work) (body : Block) (i : ℕ) (d : Instr) (source : ℕ) → i < length body → body ≡ w.loop.body
+    → AllByRecursion (IsNear (length p.inputs + place)) (reads_of (get_or body i d))
+    → IsShort p (turn_point w.loop (start_at p place)) (reads_of (get_or body i d)) source → IsBehind p place w source
+short-behind p place w body i d source within is near short =
+    let there_ = (all-contained (IsNear (length p.inputs + place)) (reads_of (get_or body i d)) short.read near short.among).there in
+    let at = short.of in
+    record {
+      read = short.read;
+      reads = subst (λ (block : Block). Contains (body_reads block) short.read) is (among-body body i d short.read within short.among);
+      of = short.of;
+      earlier = omega arith;
+      behind = short.behind;
+      is_open = short.is_open;
+      short = short.short;
+    }

@@ -1,0 +1,12 @@
+pub mod Chain
+pub mod Enough
+pub mod Gathered
+pub mod Made
+pub mod Pipes
+pub mod Positions
+pub mod Pulled
+pub mod Reads
+pub mod Rings
+pub mod Stored
+pub mod Trimmed
+pub mod Value

@@ -1,0 +1,61 @@
+-- What the ring of each loop holds (our own rule): of what the loop has made, that which the next turns of later loops may read.
+use Rattle.std.specs.Prelude.{ℕ, zero, suc, ◌+◌, ℤ, Bool, ◌&&◌, if◌then◌else◌, List, [], ◌∷◌, length, drop, max, Option, Some, None, int_lt}
+use Rattle.tilt_code.specs.Code.{CodeParts}
+use Rattle.tilt_code.specs.Run.{run_of}
+use Rattle.tilt_stream.specs.Snap.{Snapshot, ended_below, last_end}
+use Rattle.tilt_pipe.specs.Made.{Stage, stages_after}
+use Rattle.tilt_pipe.specs.Reads.{body_reads, earlier, first_tick, turn_point}
+
+-- an end, or a tick where there is none
+abbrev pub end_or : ℤ → Option ℤ → ℤ
+end_or tick None = tick
+end_or tick (Some end) = end
+
+-- where the next turn of a loop begins
+abbrev pub position : Stage → ℤ
+position s = end_or s.work.loop.lo (last_end s.made)
+
+-- whether a loop is at work: it is used, and not at the end of its stretch
+abbrev pub is_at_work : Stage → Bool
+is_at_work s = s.work.used && int_lt (position s) s.work.loop.hi
+
+-- the first tick of a buffer that the next turn of a loop reads, where it is at work
+abbrev pub next_read : ℕ → Stage → Option ℤ
+next_read buffer s = if is_at_work s then first_tick buffer (turn_point s.work.loop (position s)) (body_reads s.work.loop.body) else None
+
+-- the first tick of a buffer that the next turns of these loops read
+abbrev pub wanted : ℕ → List Stage → Option ℤ
+wanted buffer [] = None
+wanted buffer (s ∷ stages) = earlier (next_read buffer s) (wanted buffer stages)
+
+-- how many of some snapshots end below a tick, and all of them where there is no tick: so many are let go
+abbrev pub let_go : Option ℤ → List Snapshot → ℕ
+let_go None list = length list
+let_go (Some tick) list = ended_below tick list
+
+-- the others
+abbrev pub kept_from : Option ℤ → List Snapshot → List Snapshot
+kept_from tick list = drop (let_go tick list) list
+
+-- what the rings of these loops hold, of which the first fills the buffer with the number
+abbrev pub rings_of : ℕ → List Stage → List (List Snapshot)
+rings_of buffer [] = []
+rings_of buffer (s ∷ stages) = kept_from (wanted buffer stages) s.made ∷ rings_of (suc buffer) stages
+
+-- what the rings of a code's loops hold after so many snapshots were given out
+abbrev pub rings_after : CodeParts → List (List Snapshot) → ℕ → List (List Snapshot)
+rings_after code inputs given = rings_of (length inputs) (stages_after code inputs given)
+
+-- how many snapshots the rings hold together
+abbrev pub held : List (List Snapshot) → ℕ
+held [] = 0
+held (ring ∷ rings) = length ring + held rings
+
+-- the most that they hold together, while at most so many snapshots were given out
+abbrev pub most_held : CodeParts → List (List Snapshot) → ℕ → ℕ
+most_held code inputs zero = held (rings_after code inputs 0)
+most_held code inputs (suc given) = max (most_held code inputs given) (held (rings_after code inputs (suc given)))
+
+-- the most that they ever hold
+abbrev pub most_ever : CodeParts → List (List Snapshot) → ℕ
+most_ever code inputs = most_held code inputs (length (run_of code inputs))

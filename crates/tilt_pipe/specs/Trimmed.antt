@@ -1,0 +1,92 @@
+-- What is let go of the rings of a pipe after a turn.
+use Rattle.std.specs.Prelude.{neg_ℤ, ◌≡◌, ◌<◌, ◌≤◌, ◌+◌, ℕ, suc, ℤ, pos, ◌+ℤ◌, ◌<ℤ◌, ◌≤ℤ◌, ◌&&◌, if◌then◌else◌, List, [], ◌∷◌, drop, length, slice_get, Option, Some, None, int_lt}
+use Rattle.std.specs.List.{AllByRecursion, Contains}
+use Rattle.tilt_base.specs.declared.limits.TheConstants.{OFFSET}
+use Rattle.tilt_code.specs.Grammar.{IsInstr}
+use Rattle.tilt_code.specs.Run.{buffers_of}
+use Rattle.tilt_code.specs.declared.instr.Instr.{Instr}
+use Rattle.tilt_turn.specs.Held.{IsFit}
+use Rattle.tilt_turn.specs.Ready.{IsKept}
+use Rattle.tilt_pipe.specs.Chain.{AreTold, AreTurns}
+use Rattle.tilt_pipe.specs.Made.{Work}
+use Rattle.tilt_pipe.specs.Positions.{RingParts, RingsParts, IsOpen, forgotten_of, lists_of, made_by, stages_at, start_at, starts_of, works_in}
+use Rattle.tilt_pipe.specs.Reads.{earlier, reads_of, turn_point}
+use Rattle.tilt_pipe.specs.Rings.{let_go, wanted}
+use Rattle.tilt_pipe.specs.declared.chain.Chain.{Chain}
+use Rattle.tilt_pipe.specs.declared.chain.LoopTurns.{LoopTurns}
+use Rattle.tilt_pipe.specs.declared.chain.Reader.{Reader}
+use Rattle.tilt_pipe.specs.declared.read.Read.{Read}
+
+-- a read of one of so many buffers, no further off than an offset goes and one tick more
+pub record IsNear (buffers : ℕ) (r : Read) : Type 0 where
+  pub there : r.buffer < buffers
+  pub first_low : (neg_ℤ OFFSET) ≤ℤ r.first
+  pub first_high : r.first ≤ℤ (OFFSET +ℤ pos 1)
+  pub last_low : (neg_ℤ OFFSET) ≤ℤ r.last
+  pub last_high : r.last ≤ℤ OFFSET
+
+-- an instruction that reads such buffers alone
+pub record ReadsNear (buffers : ℕ) (instr : Instr) : Type 0 where
+  pub bounds : IsInstr instr
+  pub near : AllByRecursion (IsNear buffers) (reads_of instr)
+
+-- a loop that has made less than one of these reads asks for at a grid point, and not all
+pub record IsShort (p : RingsParts) (point : ℤ) (list : List Read) (source : ℕ) : Type 0 where
+  pub read : Read
+  pub among : Contains list read
+  pub of : read.buffer ≡ length p.inputs + source
+  pub behind : Work
+  pub is_open : IsOpen p source behind
+  pub short : start_at p source <ℤ (point +ℤ read.last)
+
+-- the turns of a chain, whatever its rings hold
+abbrev pub HasTurns : Chain → Type 0
+HasTurns c =
+    AreTurns (buffers_of c.rings.code c.rings.inputs) (length c.rings.inputs) 0 (starts_of c.rings.rings) (works_in c.rings) c.turns.items
+
+-- the first tick of a loop's buffer that the next turns of later loops read
+abbrev pub wanted_at : RingsParts → ℕ → Option ℤ
+wanted_at p place = wanted (length p.inputs + place) (drop (suc place) (stages_at (works_in p) (starts_of p.rings)))
+
+-- the tick that a reader's next turn reads first, where it is at work
+abbrev pub read_next : RingsParts → Reader → Option Work → Option ℤ
+read_next p reader None = None
+read_next p reader (Some w) =
+    if w.used && int_lt (start_at p reader.place) w.loop.hi then Some (turn_point w.loop (start_at p reader.place) +ℤ reader.first) else None
+
+-- the first tick that the next turns of readers read
+abbrev pub wanted_by : RingsParts → List Reader → Option ℤ
+wanted_by p [] = None
+wanted_by p (reader ∷ readers) = earlier (read_next p reader (slice_get (works_in p) reader.place)) (wanted_by p readers)
+
+-- a loop that is there, and reads a buffer no further off than an offset goes and one tick more
+pub record IsReader (p : RingsParts) (reader : Reader) : Type 0 where
+  pub work : Work
+  pub is : slice_get (works_in p) reader.place ≡ Some work
+  pub low : (neg_ℤ OFFSET) ≤ℤ reader.first
+  pub high : reader.first ≤ℤ (OFFSET +ℤ pos 1)
+
+-- of the buffer of a loop no more is let go than what isn't wanted
+abbrev pub KeepsWanted : RingsParts → ℕ → Type 0
+KeepsWanted p place =
+    (w : Work) (r : RingParts) → slice_get (works_in p) place ≡ Some w → slice_get p.rings place ≡ Some r
+    → r.forgotten ≤ let_go (wanted_at p place) (made_by r.start w.whole)
+
+-- just what isn't wanted is let go of it
+abbrev pub IsTrimmed : RingsParts → ℕ → Type 0
+IsTrimmed p place =
+    (w : Work) (r : RingParts) → slice_get (works_in p) place ≡ Some w → slice_get p.rings place ≡ Some r
+    → r.forgotten ≡ let_go (wanted_at p place) (made_by r.start w.whole)
+
+-- rings of the same loops, which stand at the same ticks
+pub record StandAlike (p q : RingsParts) : Type 0 where
+  pub code : q.code ≡ p.code
+  pub inputs : q.inputs ≡ p.inputs
+  pub starts : starts_of q.rings ≡ starts_of p.rings
+
+-- a loop's next turn may be made
+pub record MayTurn (p : RingsParts) (place : ℕ) (turns : LoopTurns) (w : Work) : Type 0 where
+  pub is_open : IsOpen p place w
+  pub told : AreTold p place w
+  pub kept : AllByRecursion (IsKept (lists_of p) (forgotten_of p) (turn_point w.loop (start_at p place))) w.loop.body
+  pub fit : (point : ℤ) × (point ≤ℤ turn_point w.loop (start_at p place)) × IsFit (buffers_of p.code p.inputs) w.loop point turns.state

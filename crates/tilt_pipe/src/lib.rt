@@ -1,0 +1,23 @@
+//! The pipelined machine.
+//!
+//! What comes in is a code and the rows of its inputs; what goes out is the snapshots of its last loop, one each time that it is asked.
+//! The loops pull one another: each makes only what the loops behind it read, and of that its ring keeps only what their next turns may
+//! read. `specs/Made` says what each loop has made, and `specs/Rings` what its ring holds, after so many snapshots of the output; the
+//! clause `given` of `Pipe::next` says that the snapshots are those of the code's run, and that the rings are these. A turn is the one
+//! that the machine over whole buffers makes too.
+#![tactic(auto)]
+
+mod chain;
+mod loop_ring;
+mod pipe;
+mod read;
+mod rings;
+mod run;
+mod snap_ring;
+mod starting;
+#[cfg(test)]
+mod tests;
+
+pub use pipe::Pipe;
+pub use run::run_pipe;
+pub use snap_ring::SnapRing;

@@ -1,0 +1,123 @@
+// The ring of one loop.
+ghost use Rattle.std.specs.Prelude.{◌≡◌, ◌<◌, ◌≤◌, ◌+◌, ◌-◌, ◌^◌, List, [], ◌∷◌, ◌++◌, drop, length, slice_get, Some, neg_ℤ, ◌≤ℤ◌, IfOk, OnOk, OnErr, IsTrue, ◌↔◌};
+ghost use Rattle.std.specs.Option.{ForSome};
+ghost use Rattle.tilt_base.specs.declared.limits.TheConstants.{WIDE};
+ghost use Rattle.tilt_pipe.specs.Rings.{kept_from, let_go};
+ghost use Rattle.tilt_stream.specs.Snap.{Snapshot, InOrder, last_end};
+
+use crate::snap_ring::SnapRing;
+use std::alloc::{AllocError as OutOfMemory, Global};
+use std::marker::Model;
+use tilt_stream::Snap;
+
+// What is kept of a loop's buffer: the snapshots in the ring, how many were let go before them, and where the next one starts.
+#[derive(Drop)]
+pub(crate) struct LoopRing {
+    ring: SnapRing,
+    forgotten: usize,
+    start: i64,
+}
+
+impl Model for LoopRing {
+    ghost use Rattle.tilt_pipe.specs.Positions.{RingParts, coded_ring};
+
+    ghost Value = { RingParts };
+
+    ghost coded = { coded_ring };
+
+    ghost view = { λ r. record { held = r.ring; forgotten = r.forgotten; start = r.start } };
+}
+
+impl LoopRing {
+    // An empty ring of a loop that stands there.
+    pub(crate) fn new(alloc: Global, start: i64) -> Result<LoopRing, OutOfMemory>
+        ensures { IfOk result (λ r. r ≡ record { held = []; forgotten = 0; start = start }) }
+    {
+        Ok(LoopRing {
+            ring: SnapRing::new(alloc)?,
+            forgotten: 0,
+            start,
+        })
+    }
+
+    // Where the next snapshot starts.
+    pub(crate) fn start(&self) -> i64
+        ensures { result ≡ self.now.start }
+    {
+        self.start
+    }
+
+    // How many snapshots were let go.
+    pub(crate) fn forgotten(&self) -> usize
+        ensures { result ≡ self.now.forgotten }
+    {
+        self.forgotten
+    }
+
+    // How many snapshots are kept.
+    pub(crate) fn len(&self) -> usize
+        ensures { result ≡ length self.now.held }
+    {
+        self.ring.len()
+    }
+
+    // The snapshot at a place, counted from 0 at the first that was made.
+    pub(crate) fn get(&self, place: usize) -> Snap
+        requires kept { self.now.forgotten ≤ place }
+        requires made { place < self.now.forgotten + length self.now.held }
+        ensures { slice_get self.now.held (place - self.now.forgotten) ≡ Some result }
+    {
+        self.ring.get(place - self.forgotten)
+    }
+
+    // Adds a snapshot that starts where the last one ends. After want of memory all is as before.
+    pub(crate) fn push(&mut self, snap: Snap) -> Result<(), OutOfMemory>
+        requires touches { ForSome (last_end self.old.held) (λ end. end ≡ snap.start) }
+        requires low { neg_ℤ WIDE ≤ℤ snap.start }
+        requires high { snap.end ≤ℤ WIDE }
+        ensures ok { OnOk result (self.new ≡
+            record { held = self.old.held ++ snap ∷ []; forgotten = self.old.forgotten; start = snap.end }) }
+        ensures err { OnErr result (self.new ≡ self.old) }
+    {
+        self.ring.push(snap)?;
+        self.start = snap.end;
+        Ok(())
+    }
+
+    // Lets go the snapshots that end below a tick, and all where there is no tick: of what was made, the others are kept.
+    pub(crate) fn keep_from(&mut self, first: Option<i64>)
+        requires { self.old.forgotten + length self.old.held < 2 ^ 64 }
+        ensures { (made : List Snapshot) → InOrder (neg_ℤ WIDE) WIDE made
+            → self.old.forgotten ≤ let_go first made → self.old.held ≡ drop self.old.forgotten made
+            → self.new ≡ record { held = kept_from first made; forgotten = let_go first made; start = self.old.start } }
+    {
+        while self.lets_go(first) {
+            self.let_first_go();
+        }
+    }
+
+    // Whether there is a first snapshot, and it ends below the tick, or there is no tick.
+    fn lets_go(&self, first: Option<i64>) -> bool
+        ensures some { IsTrue result → 0 < length self.now.held }
+        ensures more { (made : List Snapshot) → InOrder (neg_ℤ WIDE) WIDE made → self.now.held ≡ drop self.now.forgotten made
+            → IsTrue result ↔ (self.now.forgotten < let_go first made) }
+    {
+        if self.ring.len() == 0 {
+            return false;
+        }
+        match first {
+            Some(tick) => self.ring.get(0).end < tick,
+            None => true,
+        }
+    }
+
+    // Lets the first snapshot go.
+    fn let_first_go(&mut self)
+        requires some { 0 < length self.old.held }
+        requires fits { self.old.forgotten + length self.old.held < 2 ^ 64 }
+        ensures { self.new ≡ record { held = drop 1 self.old.held; forgotten = self.old.forgotten + 1; start = self.old.start } }
+    {
+        self.ring.pop_front();
+        self.forgotten += 1;
+    }
+}

@@ -1,0 +1,206 @@
+// The buffers that the loops of a pipe read: the rows of the inputs, and a ring for each loop.
+ghost use Rattle.std.specs.Prelude.{◌≡◌, ◌<◌, ◌≤◌, ◌+◌, ℕ, ℤ, pos, neg_ℤ, ◌<ℤ◌, List, [], ◌∷◌, ◌++◌, get_or, length, map, slice_get, Some, IfOk, OnOk, OnErr, IsTrue, ◌↔◌, MatchOption};
+ghost use Rattle.tilt_code.specs.References.{IsCode};
+ghost use Rattle.tilt_base.specs.declared.limits.TheConstants.{WIDE};
+ghost use Rattle.tilt_pipe.specs.Made.{Work};
+ghost use Rattle.tilt_pipe.specs.Positions.{AreRings, IsOpen, RingParts, forgotten_of, lists_of, made_at, open_lists, start_at, starts_of, with_ring, works_in};
+ghost use Rattle.tilt_pipe.specs.Reads.{turn_point};
+ghost use Rattle.tilt_pipe.specs.Rings.{held, kept_from, let_go};
+ghost use Rattle.tilt_stream.specs.Snap.{InOrder};
+
+use crate::loop_ring::LoopRing;
+use std::alloc::{AllocError as OutOfMemory, Global};
+use std::marker::Model;
+use tilt_code::{Code, Loop};
+use tilt_stream::{Buffer, Rows, Snap};
+use tilt_turn::Buffers;
+
+// A code, the rows of its inputs, and the rings of its loops. Where a loop stands says what it has made: the part of its buffer
+// that ends there.
+#[derive(Drop)]
+pub(crate) struct Rings {
+    code: Code,
+    inputs: Vec<Rows>,
+    rings: Vec<LoopRing>,
+}
+
+impl Model for Rings {
+    ghost use Rattle.tilt_pipe.specs.Positions.{RingsParts, AreRings, coded_rings};
+
+    ghost Value = { RingsParts };
+
+    ghost coded = { coded_rings };
+
+    ghost view = { λ r. record { code = r.code; inputs = r.inputs.items; rings = r.rings.items } };
+
+    ghost invariant = { λ r. AreRings (record { code = r.code; inputs = r.inputs.items; rings = r.rings.items }) };
+}
+
+impl Buffers for Rings {
+    ghost lists = { lists_of };
+
+    ghost forgotten = { forgotten_of };
+
+    fn made(&self, buffer: usize) -> usize {
+        match self.inputs.get(buffer) {
+            Some(rows) => rows.made(),
+            None => self.ring_made(buffer - self.inputs.len()),
+        }
+    }
+
+    fn first_kept(&self, buffer: usize) -> usize {
+        if buffer < self.inputs.len() {
+            return 0;
+        }
+        match self.rings.get(buffer - self.inputs.len()) {
+            Some(ring) => ring.forgotten(),
+            None => 0,
+        }
+    }
+
+    fn get(&self, buffer: usize, place: usize) -> Snap {
+        match self.inputs.get(buffer) {
+            Some(rows) => Buffer::get(rows, place),
+            None => self.ring_get(buffer - self.inputs.len(), place),
+        }
+    }
+}
+
+impl Rings {
+    // The rings of a code before the first turn: all loops stand at the lower ends of their stretches.
+    pub(crate) fn new(alloc: Global, code: Code, inputs: Vec<Rows>) -> Result<Rings, OutOfMemory>
+        requires { length inputs.items ≡ length code.inputs }
+        ensures code { IfOk result (λ r. r.code ≡ code) }
+        ensures inputs { IfOk result (λ r. r.inputs ≡ inputs.items) }
+        ensures rings { IfOk result (λ r. r.rings ≡ map (λ l. record { held = []; forgotten = 0; start = l.lo }) code.loops) }
+    {
+        let mut rings = Vec::new(alloc);
+        for each in code.loops() {
+            rings.push(LoopRing::new(alloc, each.lo)?)?;
+        }
+        Ok(Rings {
+            code,
+            inputs,
+            rings,
+        })
+    }
+
+    // The loops of the code.
+    pub(crate) fn loops(&self) -> &[Loop]
+        ensures loops { result.now ≡ self.now.code.loops }
+        ensures code { IsCode self.now.code }
+        ensures rings { AreRings self.now }
+    {
+        self.code.loops()
+    }
+
+    // How many inputs there are.
+    pub(crate) fn inputs(&self) -> usize
+        ensures { result ≡ length self.now.inputs }
+    {
+        self.inputs.len()
+    }
+
+    // Where a loop stands.
+    pub(crate) fn start(&self, place: usize) -> i64
+        requires { place < length self.now.rings }
+        ensures { result ≡ start_at self.now place }
+    {
+        self.rings[place].start()
+    }
+
+    // Whether a loop stands before the end of its stretch.
+    pub(crate) fn is_open(&self, place: usize) -> bool
+        requires { place < length self.now.rings }
+        ensures { (w : Work) → slice_get (works_in self.now) place ≡ Some w → IsTrue result ↔ (start_at self.now place <ℤ w.loop.hi) }
+    {
+        let each = &self.code.loops()[place];
+        self.start(place) < each.hi
+    }
+
+    // The grid point of a loop's next turn.
+    pub(crate) fn point(&self, place: usize) -> i64
+        requires { (w : Work) × IsOpen self.now place w }
+        ensures { (w : Work) → IsOpen self.now place w → result ≡ turn_point w.loop (start_at self.now place) }
+    {
+        let each = &self.code.loops()[place];
+        each.grid.ceil(self.start(place) + 1)
+    }
+
+    // The loop that fills a buffer, if it is none of an input.
+    pub(crate) fn source(&self, buffer: u32) -> Option<usize>
+        ensures { MatchOption result (buffer < length self.now.inputs) (λ source. buffer ≡ length self.now.inputs + source) }
+    {
+        (buffer as usize).checked_sub(self.inputs.len())
+    }
+
+    // Adds a snapshot to what a loop has made: the one of its buffer that starts where it stands.
+    pub(crate) fn push(&mut self, place: usize, snap: Snap) -> Result<(), OutOfMemory>
+        requires { (w : Work) × IsOpen self.old place w × (slice_get w.whole (length (made_at self.old place w)) ≡ Some snap) }
+        ensures ok { (r : RingParts) → slice_get self.old.rings place ≡ Some r → OnOk result (self.new ≡ with_ring self.old place
+            (record { held = r.held ++ snap ∷ []; forgotten = r.forgotten; start = snap.end })) }
+        ensures err { OnErr result (self.new ≡ self.old) }
+    {
+        prove!(place < self.code.loops().len());
+        self.rings[place].push(snap)?;
+        Ok(())
+    }
+
+    // Lets go what a loop has made and ends below a tick, and all of it where there is no tick. It may have let go less before.
+    pub(crate) fn keep_from(&mut self, place: usize, first: Option<i64>)
+        requires { (w : Work) × (r : RingParts) × (slice_get (works_in self.old) place ≡ Some w) × (slice_get self.old.rings place ≡ Some r)
+            × (r.forgotten ≤ let_go first (made_at self.old place w)) }
+        ensures { (w : Work) → slice_get (works_in self.old) place ≡ Some w → self.new ≡ with_ring self.old place (record {
+          held = kept_from first (made_at self.old place w);
+          forgotten = let_go first (made_at self.old place w);
+          start = start_at self.old place;
+        }) }
+    {
+        prove!(place < self.code.loops().len());
+        self.rings[place].keep_from(first);
+    }
+
+    // How many snapshots the rings hold together.
+    pub(crate) fn held(&self) -> u128
+        ensures { result ≡ held (map (λ r. r.held) self.now.rings) }
+    {
+        let mut held = 0;
+        for ring in &self.rings {
+            held += ring.len() as u128;
+        }
+        held
+    }
+
+    // How many snapshots a turn reads of a loop: those that are made, and one more where the loop isn't at the end of its stretch.
+    fn ring_made(&self, place: usize) -> usize
+        ensures count { result ≡ length (get_or (open_lists (works_in self.now) (starts_of self.now.rings)) place []) }
+        ensures in_order { InOrder (neg_ℤ WIDE) WIDE (get_or (open_lists (works_in self.now) (starts_of self.now.rings)) place []) }
+    {
+        if place >= self.code.loops().len() {
+            return 0;
+        }
+        let ring = &self.rings[place];
+        let made = ring.forgotten() + ring.len();
+        if self.is_open(place) { made + 1 } else { made }
+    }
+
+    // The one at a place of these.
+    fn ring_get(&self, place: usize, number: usize) -> Snap
+        requires made { number < length (get_or (open_lists (works_in self.now) (starts_of self.now.rings)) place []) }
+        requires kept { get_or (map (λ r. r.forgotten) self.now.rings) place 0 ≤ number }
+        ensures snap { slice_get (get_or (open_lists (works_in self.now) (starts_of self.now.rings)) place []) number ≡ Some result }
+        ensures in_order { InOrder (neg_ℤ WIDE) WIDE (get_or (open_lists (works_in self.now) (starts_of self.now.rings)) place []) }
+    {
+        let each = &self.code.loops()[place];
+        let ring = &self.rings[place];
+        if number < ring.forgotten() + ring.len() {
+            ring.get(number)
+        } else {
+            Snap {
+                start: ring.start(),
+                end: each.hi,
+                value: None,
+            }
+        }
+    }
+}

@@ -1,0 +1,24 @@
+// The run of a code by a pipe.
+ghost use Rattle.std.specs.Prelude.{◌≡◌, length, IfOk};
+ghost use Rattle.tilt_code.specs.Run.{run_of};
+
+use crate::pipe::Pipe;
+use std::alloc::{AllocError as OutOfMemory, Global};
+use tilt_code::Code;
+use tilt_stream::{Rows, SnapList};
+
+/// The run of a code on the rows of its inputs: all that its pipe gives out. There is one list of rows for each input, in the order
+/// of the code. `OutOfMemory` comes where memory is refused, and for no other reason.
+pub fn run_pipe(alloc: Global, code: Code, inputs: Vec<Rows>) -> Result<SnapList, OutOfMemory>
+    requires { length inputs.items ≡ length code.inputs }
+    ensures { IfOk result (λ list. list ≡ run_of code inputs.items) }
+{
+    // What a code keeps is known from here on.
+    let _ = code.loops();
+    let mut pipe = Pipe::new(alloc, code, inputs)?;
+    let mut list = SnapList::new(alloc);
+    while let Some(snap) = pipe.next()? {
+        list.push(snap)?;
+    }
+    Ok(list)
+}
