@@ -290,6 +290,15 @@ behind-some frame cut last list before =
     let test : int_lt (decided frame cut) frame.end ≡ true = grind (arith, ints) in
     rw test refl
 
+-- a snapshot that is open begins within the widest times
+pub begun-low : (frame : Frame) (done start : ℤ) (o : Option ℤ) → IsFrame frame → IsOpen frame done o → o ≡ Some start → neg_ℤ WIDE ≤ℤ start
+begun-low frame done start None is h e = absurd (cc e)
+begun-low frame done start (Some begun) is h e =
+    let same : begun ≡ start = cc e in
+    let low = is.low in
+    let behind = h.1 in
+    omega (arith, ints)
+
 -- an open snapshot starts where a session goes on, or before that
 pub begun-earlier : (frame : Frame) (cut start : ℤ) (o : Option ℤ) → IsOpen frame (decided frame cut) o → o ≡ Some start
     → start ≤ℤ resumed_at frame cut

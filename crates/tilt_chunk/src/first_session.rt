@@ -38,9 +38,9 @@ pub fn start(
     let frame = Frame::new(accepted.core, accepted.margins);
     let last = frame.decided(upto);
     let handed = first_rows(alloc, rows)?;
-    let list = run_on(alloc, accepted, &handed.rows, frame.start, last)?;
-    let closed = close(frame, last, list);
     let series = keep(alloc, &handed, frame.first_kept(upto))?;
+    let list = run_on(alloc, accepted, handed.rows, frame.start, last)?;
+    let closed = close(frame, last, list);
     Ok((
         closed.printed,
         Checkpoint::new(query, upto, closed.open_start, series),

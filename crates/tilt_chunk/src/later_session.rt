@@ -1,24 +1,26 @@
 // A session behind a checkpoint.
-ghost use Rattle.std.specs.Prelude.{◌≡◌, ◌≤ℤ◌, Ok, IfOk, length};
+ghost use Rattle.std.specs.List.{AllByRecursion};
+ghost use Rattle.std.specs.Prelude.{◌≡◌, ◌≤ℤ◌, ℤ, Ok, IfOk, length};
 ghost use Rattle.tilt_bounds.specs.Margins.{margins_of};
-ghost use Rattle.tilt_checkpoint.specs.Decided.{IsFrame, decided, frame_of};
+ghost use Rattle.tilt_checkpoint.specs.Decided.{IsFrame, decided, first_kept, frame_of};
 ghost use Rattle.tilt_checkpoint.specs.Valid.{IsCut, IsOpen};
 ghost use Rattle.tilt_chunk.specs.Cuts.{IsOnward, IsInRange, decided_by};
 ghost use Rattle.tilt_chunk.specs.Emitted.{given, open_start};
-ghost use Rattle.tilt_chunk.specs.Handed.{closed_behind};
+ghost use Rattle.tilt_chunk.specs.Handed.{AreCells, closed_behind, kept_at};
 ghost use Rattle.tilt_chunk.specs.Later.{newly, next_by, resumed_at};
 ghost use Rattle.tilt_chunk.specs.Law.{IsOneCut};
 ghost use Rattle.tilt_chunk.specs.NewRows.{AreNewRows};
 ghost use Rattle.tilt_chunk.specs.Pieces.{joined_from};
+ghost use Rattle.tilt_chunk.specs.declared.cut.Cut.TheVariants.{Upto};
 ghost use Rattle.tilt_types.specs.Checked.{core_of};
 
 use crate::accepted::Accepted;
 use crate::closing::{Closed, close, join_from};
 use crate::cut::Cut;
-use crate::handed::{keep, rows_behind};
+use crate::handed::{Handed, keep, rows_behind};
 use crate::stretch::run_on;
 use std::alloc::{AllocError as OutOfMemory, Global};
-use tilt_checkpoint::{Checkpoint, Frame};
+use tilt_checkpoint::{Checkpoint, Frame, Kept};
 use tilt_stream::{Rows, SnapList};
 
 /// A session behind a checkpoint: what is printed newly, and where the session ends by a cut its own checkpoint. The rows are those
@@ -52,15 +54,28 @@ pub fn resume(
     let last = decided_by(behind.frame, cut);
     let (query, series) = checkpoint.into_parts();
     let handed = rows_behind(alloc, series, &rows)?;
-    let closed = go_on(alloc, accepted, behind, &handed.rows, last)?;
+    let kept = keep_by(alloc, behind.frame, cut, &handed)?;
+    let closed = go_on(alloc, accepted, behind, handed.rows, last)?;
     let next = match cut {
-        Cut::Upto(upto) => {
-            let series = keep(alloc, &handed, behind.frame.first_kept(upto))?;
-            Some(Checkpoint::new(query, upto, closed.open_start, series))
-        }
+        Cut::Upto(upto) => Some(Checkpoint::new(query, upto, closed.open_start, kept)),
         Cut::End => None,
     };
     Ok((closed.printed, next))
+}
+
+// What is kept of each input where a session ends by a cut, and nothing where none comes behind it.
+fn keep_by(alloc: Global, frame: Frame, cut: Cut, handed: &Handed) -> Result<Vec<Kept>, OutOfMemory>
+    requires ends { length handed.now.ends.items ≡ length handed.now.rows.items }
+    requires frame { IsFrame frame }
+    requires range { IsInRange cut }
+    ensures kept { (upto : ℤ) → cut ≡ Upto upto
+        → IfOk result (λ series. series.items ≡ kept_at (first_kept frame upto) handed.now.ends.items handed.now.rows.items) }
+    ensures cells { IfOk result (λ series. AllByRecursion (λ k. AreCells k.rows) series.items) }
+{
+    match cut {
+        Cut::Upto(upto) => keep(alloc, handed, frame.first_kept(upto)),
+        Cut::End => Ok(Vec::new(alloc)),
+    }
 }
 
 // Behind what a session goes on: the cut before it, and the start of the snapshot that was open there.
@@ -88,11 +103,11 @@ fn go_on(
     alloc: Global,
     accepted: &Accepted<'_>,
     behind: Behind,
-    rows: &[Rows],
+    rows: Vec<Rows>,
     last: i64,
 ) -> Result<Closed, OutOfMemory>
     requires margins { margins_of accepted.now.core.now ≡ Ok accepted.now.margins.now }
-    requires inputs { length rows.now ≡ length accepted.now.core.now.inputs }
+    requires inputs { length rows.items ≡ length accepted.now.core.now.inputs }
     requires framed { behind.frame ≡ frame_of accepted.now.core.now }
     requires frame { IsFrame behind.frame }
     requires cut { IsCut behind.cut }
@@ -100,9 +115,9 @@ fn go_on(
     requires onward { decided behind.frame behind.cut ≤ℤ last }
     requires high { last ≤ℤ behind.frame.end }
     ensures printed { IfOk result (λ made. made.printed ≡ closed_behind behind.frame behind.cut last
-        (joined_from behind.begun (given accepted.now.core.now rows.now (resumed_at behind.frame behind.cut) last))) }
+        (joined_from behind.begun (given accepted.now.core.now rows.items (resumed_at behind.frame behind.cut) last))) }
     ensures begun { IfOk result (λ made. made.open_start ≡ open_start behind.frame last
-        (joined_from behind.begun (given accepted.now.core.now rows.now (resumed_at behind.frame behind.cut) last))) }
+        (joined_from behind.begun (given accepted.now.core.now rows.items (resumed_at behind.frame behind.cut) last))) }
 {
     let frame = behind.frame;
     let decided = frame.decided(behind.cut);

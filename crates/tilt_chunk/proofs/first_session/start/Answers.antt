@@ -1,4 +1,4 @@
-use Rattle.std.proofs.Common.{◌∙◌, FitsSigned, ap, rules, w64}
+use Rattle.std.proofs.Common.{◌∙◌, FitsSigned, ap, refl, rules, w64}
 use Rattle.std.proofs.lemmas.Int.{to_z-of_z}
 use Rattle.tilt_checkpoint.specs.Decided.{decided}
 use Rattle.tilt_chunk.proofs.Sessions.{first-is, first-left, passed-most}
@@ -16,9 +16,9 @@ new-requires c =
     let last : FitsSigned w64 c.decided-last.result = search rules in
     let from : FitsSigned w64 c.new-frame.result.start = search rules in
     let first : FitsSigned w64 c.first_kept.result = search rules in
-    first-is c.args.query c.args.accepted.now.core.now c.new-frame.result c.args.rows.items c.in_ok-handed.handed.rows.items c.deref.result.now
+    first-is c.args.query c.args.accepted.now.core.now c.new-frame.result c.args.rows.items c.in_ok-handed.handed.rows.items c.in_ok-handed.handed.rows.items
     c.in_ok-handed.handed.ends.items c.in_ok-list.list c.close-closed.result.open_start c.in_ok-series.series.items c.args.upto c.decided-last.result
-    c.first_kept.result _ _ _ _ c.requires.core c.new-frame.ensures.frame c.in_ok-handed.ensures.ends c.in_ok-handed.ensures.rows c.deref.ensures.value
+    c.first_kept.result _ _ _ _ c.requires.core c.new-frame.ensures.frame c.in_ok-handed.ensures.ends c.in_ok-handed.ensures.rows refl
     (to_z-of_z w64 c.args.upto c.ranges.upto) (to_z-of_z w64 c.decided-last.result last) (to_z-of_z w64 c.new-frame.result.start from)
     (to_z-of_z w64 c.first_kept.result first) c.decided-last.ensures c.first_kept.ensures c.in_ok-list.ensures c.close-closed.ensures.begun
     c.in_ok-series.ensures.kept c.args.accepted.now.margins.now c.requires.query c.requires.margins c.requires.cut c.new-frame.ensures.bounds c.requires.rows
@@ -30,9 +30,9 @@ returns-clause-left c =
     let from : FitsSigned w64 c.new-frame.result.start = search rules in
     let first : FitsSigned w64 c.first_kept.result = search rules in
     c.new.ensures
-    ∙ first-left c.args.query c.args.accepted.now.core.now c.new-frame.result c.args.rows.items c.in_ok-handed.handed.rows.items c.deref.result.now
+    ∙ first-left c.args.query c.args.accepted.now.core.now c.new-frame.result c.args.rows.items c.in_ok-handed.handed.rows.items c.in_ok-handed.handed.rows.items
     c.in_ok-handed.handed.ends.items c.in_ok-list.list c.close-closed.result.open_start c.in_ok-series.series.items c.args.upto c.decided-last.result
-    c.first_kept.result _ _ _ _ c.requires.core c.new-frame.ensures.frame c.in_ok-handed.ensures.ends c.in_ok-handed.ensures.rows c.deref.ensures.value
+    c.first_kept.result _ _ _ _ c.requires.core c.new-frame.ensures.frame c.in_ok-handed.ensures.ends c.in_ok-handed.ensures.rows refl
     (to_z-of_z w64 c.args.upto c.ranges.upto) (to_z-of_z w64 c.decided-last.result last) (to_z-of_z w64 c.new-frame.result.start from)
     (to_z-of_z w64 c.first_kept.result first) c.decided-last.ensures c.first_kept.ensures c.in_ok-list.ensures c.close-closed.ensures.begun
     c.in_ok-series.ensures.kept

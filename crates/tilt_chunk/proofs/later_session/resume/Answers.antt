@@ -1,9 +1,9 @@
-use Rattle.std.proofs.Common.{◌∙◌, ap, sym, subst, rules, w64, to_z, of_z, FitsSigned, ℤ, ◌≤ℤ◌, List, length, map, Some}
+use Rattle.std.proofs.Common.{◌∙◌, ap, refl, sym, subst, rules, w64, to_z, of_z, FitsSigned, ℤ, ◌≤ℤ◌, List, length, map, Some}
 use Rattle.std.specs.List.{AllByRecursion}
 use Rattle.std.proofs.lemmas.Int.{to_z-of_z}
 use Rattle.tilt_bounds.specs.Margins.{margins_of}
 use Rattle.tilt_checkpoint.proofs.Rows.{time_fits}
-use Rattle.tilt_checkpoint.specs.Decided.{decided}
+use Rattle.tilt_checkpoint.specs.Decided.{decided, first_kept}
 use Rattle.tilt_chunk.proofs.OneCut.{decided-most, decided-on, one-cut}
 use Rattle.tilt_chunk.proofs.Lists.{rows_of}
 use Rattle.tilt_chunk.proofs.Sessions.{are-behind, both-counted, later-is, later-left, newly-is, shown-later}
@@ -13,7 +13,7 @@ use Rattle.tilt_chunk.specs.Later.{next_by}
 use Rattle.tilt_stream.specs.Snap.{Snapshot, AreRows}
 use Rattle.tilt_types.specs.Core.{CoreParts, IsCore}
 use Rattle.tilt_chunk.proofs.later_session.resume.Goals as goal
-use Rattle.tilt_chunk.proofs.later_session.resume.Goals.{in-Upto+in_ok-series-in-Upto, in-End}
+use Rattle.tilt_chunk.proofs.later_session.resume.Goals.{in-Upto, in-End}
 
 pub rows_behind-requires : goal.rows_behind-requires
 rows_behind-requires c =
@@ -31,8 +31,8 @@ go_on-requires-clause-inputs c =
     let ends = c.in_ok-handed.ensures.ends ∙ ap (λ (ns : List (List Snapshot)). map (λ k. k.last_end) (all_taken_up series ns)) c.deref.ensures.value in
     let known = c.in_ok-handed.ensures.rows ∙ ap (λ (ns : List (List Snapshot)). rows_of (all_taken_up series ns)) c.deref.ensures.value in
     ap length (shown-later c.args.checkpoint c.args.accepted.now.core.now frame c.args.cut (to_z w64 (of_z w64 c.cut.result)) (to_z w64 (of_z w64 c.decided_by-last.result))
-    c.args.rows.items c.in_ok-handed.handed.rows.items c.deref-2.result.now c.in_ok-handed.handed.ends.items series c.open_start.result c.requires.core
-    c.new.ensures.frame old_is last_is c.open_start.ensures.value c.into_parts-query.ensures.series ends known c.deref-2.ensures.value)
+    c.args.rows.items c.in_ok-handed.handed.rows.items c.in_ok-handed.handed.rows.items c.in_ok-handed.handed.ends.items series c.open_start.result c.requires.core
+    c.new.ensures.frame old_is last_is c.open_start.ensures.value c.into_parts-query.ensures.series ends known refl)
     ∙ both-counted c.args.checkpoint c.args.cut c.args.rows.items c.cut.ensures.valid c.requires.rows
     ∙ sym (ap (λ (core : CoreParts). length core.inputs) c.requires.core)
 
@@ -65,14 +65,14 @@ new-requires-in-Upto c =
     let known = c.in_ok-handed.ensures.rows ∙ ap (λ (ns : List (List Snapshot)). rows_of (all_taken_up series ns)) c.deref.ensures.value in
     let upto = c.in-Upto.upto in
     let range = subst IsInRange c.in-Upto.is c.requires.range in
-    let first_fits : FitsSigned w64 c.first_kept.result = search rules in
+    let upto_is = to_z-of_z w64 upto (time_fits upto range.0 range.1) in
     later-is c.args.checkpoint c.args.accepted.now.core.now frame c.args.cut (to_z w64 (of_z w64 c.cut.result)) (to_z w64 (of_z w64 c.decided_by-last.result))
-    c.args.rows.items c.in_ok-handed.handed.rows.items c.deref-2.result.now c.in_ok-handed.handed.ends.items series c.open_start.result c.requires.core
-    c.new.ensures.frame old_is last_is c.open_start.ensures.value c.into_parts-query.ensures.series ends known c.deref-2.ensures.value
-    upto _ c.first_kept.result _ c.into_parts-query.result.0 c.in_ok-closed.closed.open_start c.in_ok-series-in-Upto.series.items c.in-Upto.is
-    (to_z-of_z w64 upto (time_fits upto range.0 range.1)) (to_z-of_z w64 c.first_kept.result first_fits) c.first_kept.ensures c.into_parts-query.ensures.query
-    c.in_ok-closed.ensures.begun c.in_ok-series-in-Upto.ensures.kept c.cut.ensures.valid c.requires.range c.requires.onward c.new.ensures.bounds c.requires.rows
-    (subst (AllByRecursion AreRows) c.deref.ensures.value c.in_ok-handed.ensures.in_order) c.in_ok-series-in-Upto.ensures.cells
+    c.args.rows.items c.in_ok-handed.handed.rows.items c.in_ok-handed.handed.rows.items c.in_ok-handed.handed.ends.items series c.open_start.result c.requires.core
+    c.new.ensures.frame old_is last_is c.open_start.ensures.value c.into_parts-query.ensures.series ends known refl
+    upto _ (first_kept frame upto) _ c.into_parts-query.result.0 c.in_ok-closed.closed.open_start c.in_ok-kept.kept.items c.in-Upto.is
+    upto_is refl (sym (ap (first_kept frame) upto_is)) c.into_parts-query.ensures.query
+    c.in_ok-closed.ensures.begun (c.in_ok-kept.ensures.kept upto c.in-Upto.is) c.cut.ensures.valid c.requires.range c.requires.onward c.new.ensures.bounds c.requires.rows
+    (subst (AllByRecursion AreRows) c.deref.ensures.value c.in_ok-handed.ensures.in_order) c.in_ok-kept.ensures.cells
 
 pub returns-clause-newly : goal.returns-clause-newly
 returns-clause-newly c =
@@ -85,8 +85,8 @@ returns-clause-newly c =
     let ends = c.in_ok-handed.ensures.ends ∙ ap (λ (ns : List (List Snapshot)). map (λ k. k.last_end) (all_taken_up series ns)) c.deref.ensures.value in
     let known = c.in_ok-handed.ensures.rows ∙ ap (λ (ns : List (List Snapshot)). rows_of (all_taken_up series ns)) c.deref.ensures.value in
     newly-is c.args.checkpoint c.args.accepted.now.core.now frame c.args.cut (to_z w64 (of_z w64 c.cut.result)) (to_z w64 (of_z w64 c.decided_by-last.result))
-    c.args.rows.items c.in_ok-handed.handed.rows.items c.deref-2.result.now c.in_ok-handed.handed.ends.items series c.open_start.result c.requires.core
-    c.new.ensures.frame old_is last_is c.open_start.ensures.value c.into_parts-query.ensures.series ends known c.deref-2.ensures.value
+    c.args.rows.items c.in_ok-handed.handed.rows.items c.in_ok-handed.handed.rows.items c.in_ok-handed.handed.ends.items series c.open_start.result c.requires.core
+    c.new.ensures.frame old_is last_is c.open_start.ensures.value c.into_parts-query.ensures.series ends known refl
     c.in_ok-closed.closed.printed c.in_ok-closed.ensures.printed
 
 pub returns-clause-next : goal.returns-clause-next
@@ -100,17 +100,17 @@ returns-clause-next c =
     let ends = c.in_ok-handed.ensures.ends ∙ ap (λ (ns : List (List Snapshot)). map (λ k. k.last_end) (all_taken_up series ns)) c.deref.ensures.value in
     let known = c.in_ok-handed.ensures.rows ∙ ap (λ (ns : List (List Snapshot)). rows_of (all_taken_up series ns)) c.deref.ensures.value in
     elim c.match-cut.branch [
-      | in-Upto+in_ok-series-in-Upto w ↦
+      | in-Upto w ↦
           let upto = w.in-Upto.upto in
           let range = subst IsInRange w.in-Upto.is c.requires.range in
-          let first_fits : FitsSigned w64 w.first_kept.result = search rules in
+          let upto_is = to_z-of_z w64 upto (time_fits upto range.0 range.1) in
           w.next-is
           ∙ ap Some (w.new-in-Upto.ensures ∙ later-left c.args.checkpoint c.args.accepted.now.core.now frame c.args.cut (to_z w64 (of_z w64 c.cut.result)) (to_z w64 (of_z w64 c.decided_by-last.result))
-          c.args.rows.items c.in_ok-handed.handed.rows.items c.deref-2.result.now c.in_ok-handed.handed.ends.items series c.open_start.result c.requires.core
-          c.new.ensures.frame old_is last_is c.open_start.ensures.value c.into_parts-query.ensures.series ends known c.deref-2.ensures.value
-          upto _ w.first_kept.result _ c.into_parts-query.result.0 c.in_ok-closed.closed.open_start w.in_ok-series-in-Upto.series.items w.in-Upto.is
-          (to_z-of_z w64 upto (time_fits upto range.0 range.1)) (to_z-of_z w64 w.first_kept.result first_fits) w.first_kept.ensures
-          c.into_parts-query.ensures.query c.in_ok-closed.ensures.begun w.in_ok-series-in-Upto.ensures.kept)
+          c.args.rows.items c.in_ok-handed.handed.rows.items c.in_ok-handed.handed.rows.items c.in_ok-handed.handed.ends.items series c.open_start.result c.requires.core
+          c.new.ensures.frame old_is last_is c.open_start.ensures.value c.into_parts-query.ensures.series ends known refl
+          upto _ (first_kept frame upto) _ c.into_parts-query.result.0 c.in_ok-closed.closed.open_start c.in_ok-kept.kept.items w.in-Upto.is
+          upto_is refl (sym (ap (first_kept frame) upto_is))
+          c.into_parts-query.ensures.query c.in_ok-closed.ensures.begun (c.in_ok-kept.ensures.kept upto w.in-Upto.is))
           ∙ sym (ap (next_by c.args.checkpoint c.args.rows.items) w.in-Upto.is)
       | in-End w ↦ w.next-is ∙ sym (ap (next_by c.args.checkpoint c.args.rows.items) w.in-End.is)
     ]
