@@ -71,7 +71,9 @@ wider_cause is is' turn turn' st rb ra he ho sb sa ot old new pb pa more next (s
     },
   ),
 )
-wider_cause is is' turn turn' st rb ra he ho sb sa ot old new pb pa more next out_of_memory cause = tt
+wider_cause is is' turn turn' st rb ra he ho sb sa ot old new pb pa more next out_of_memory (inl none) = inl none
+wider_cause is is' turn turn' st rb ra he ho sb sa ot old new pb pa more next out_of_memory (inr part) =
+    inr (part.0, part.1, record { outcome = λ t. more (outcome_of part.0 part.1) (part.2.outcome t); front = part.2.front })
 
 -- the status of usage is that of no other report
 pub status_of_usage : (report : Report) → status_of report ≡ 2 → report ≡ usage
@@ -94,7 +96,7 @@ cause_of_usage is_outcome has_turn st rb ra he ho sb sa ot old new pb pa out_of_
 
 -- words that give no command are reported as such, or want memory
 pub cause_of_words : (words : List (List ℕ)) (files : List ℕ → List ℕ) (watchers : List Watch) (has_turn : List ℕ → Type 0) (shelf_tells : Type 0) (reads_before reads_after : ℕ) (held holds : List ℕ → List ℕ) (saves_before saves_after : ℕ) (out_tells : Type 0) (old new : List ℕ)
-    (puts_before puts_after : ℕ) (fault : WordsFault) → (fault ≡ variant.Usage → (command : CommandValue) → ¬ (IsCommand words command))
+    (puts_before puts_after : ℕ) (fault : WordsFault) → new ≡ old → (fault ≡ variant.Usage → (command : CommandValue) → ¬ (IsCommand words command))
     → IsCause (IsOutcome words files watchers) has_turn shelf_tells reads_before reads_after held holds saves_before saves_after out_tells old new puts_before puts_after (report_of_words fault)
-cause_of_words words files watchers has_turn st rb ra he ho sb sa ot old new pb pa variant.Usage none = no_command (none refl)
-cause_of_words words files watchers has_turn st rb ra he ho sb sa ot old new pb pa variant.OutOfMemory none = tt
+cause_of_words words files watchers has_turn st rb ra he ho sb sa ot old new pb pa variant.Usage same none = no_command (none refl)
+cause_of_words words files watchers has_turn st rb ra he ho sb sa ot old new pb pa variant.OutOfMemory same none = inl (λ _. same)

@@ -1,23 +1,20 @@
 -- What puts and a save leave, from what each of them did.
-use Rattle.std.proofs.Common.{◌≡◌, ◌++◌, List, ℕ, true, false, Option, None, Some, Result, Ok, Err, subst}
-use Rattle.std.specs.Prelude.{OnErr, OnOk, Vec}
-use Rattle.std.specs.Result.{is_err}
+use Rattle.std.proofs.Common.{◌≡◌, ◌++◌, List, ℕ, true, false, Option, None, Some, Result, Ok, Err, inr, refl, subst}
+use Rattle.std.specs.Prelude.{OnOk, Vec}
 use Rattle.std.specs.declared.alloc.Global.{Global}
 use Rattle.tilt_app.specs.Answer.{save_of}
-use Rattle.tilt_app.specs.Cause.{IsCause, IsSaveFault, IsUnanswered}
-use Rattle.tilt_app.specs.Saving.{outcome_of, IsUnsaved}
+use Rattle.tilt_app.specs.Cause.{IsCause, IsSaveFault, IsUnanswered, report_of_unput}
+use Rattle.tilt_app.specs.declared.unput.Unput.{Unput}
+use Rattle.tilt_app.specs.declared.unput.Unput.TheVariants.{Failed, OutOfMemory}
+use Rattle.tilt_outside.specs.Written.{AppendsFront}
+use Rattle.tilt_app.specs.Saving.{Save, outcome_of, IsUnsaved}
 use Rattle.tilt_outside.specs.Faults.{Rose}
 use Rattle.tilt_report.specs.Report.{Outcome, Report, usage, refusal, read_fault, write_fault, save_fault, out_of_memory}
 
--- what holds where a call failed, and it did
-pub on_err : {E X : Type 0} (r : Result (Unit {0}) E) → is_err r ≡ true → OnErr r X → X
-on_err (Ok u) failed x = absurd (cc failed)
-on_err (Err e) failed x = x
-
--- what holds where it was done, and it was
-pub on_ok : {E X : Type 0} (r : Result (Unit {0}) E) → is_err r ≡ false → OnOk r X → X
-on_ok (Ok u) done x = x
-on_ok (Err e) done x = absurd (cc done)
+-- what holds where a call didn't fail
+pub on_ok : {E X : Type 0} (r : Result (Unit {0}) E) → ((e : E) → r ≡ Err e → ⊥) → OnOk r X → X
+on_ok (Ok u) fine x = x
+on_ok (Err e) fine x = absurd (fine e refl)
 
 pub on_ok_then : {E X Y : Type 0} (r : Result (Unit {0}) E) → (X → Y) → OnOk r X → OnOk r Y
 on_ok_then (Ok u) f x = f x
@@ -51,3 +48,23 @@ no_save_fault is_outcome has_turn tells rb ra (read_fault name) fault is = is
 no_save_fault is_outcome has_turn tells rb ra write_fault fault is = is
 no_save_fault is_outcome has_turn tells rb ra (save_fault name) fault is = fault
 no_save_fault is_outcome has_turn tells rb ra out_of_memory fault is = is
+
+-- a text that wasn't put whole is the cause
+pub unput_cause : (is_outcome : Outcome → Type 0) (has_turn : List ℕ → Type 0) (tells : Type 0) (rb ra : ℕ) (held holds : List ℕ → List ℕ) (sb sa : ℕ) (out_tells : Type 0) (old new : List ℕ)
+    (pb pa : ℕ) (text : List ℕ) (save : Option Save) (unput : Unput) (report : Report) → report ≡ report_of_unput unput → (tells → is_outcome (outcome_of text save))
+    → (out_tells → AppendsFront old new text) → (unput ≡ Failed → Rose pb pa) → IsCause is_outcome has_turn tells rb ra held holds sb sa out_tells old new pb pa report
+unput_cause is_outcome has_turn tells rb ra held holds sb sa out_tells old new pb pa text save Failed report is outcome front rose =
+    rw is (rose refl, (text, save, record { outcome = outcome; front = front }))
+unput_cause is_outcome has_turn tells rb ra held holds sb sa out_tells old new pb pa text save OutOfMemory report is outcome front rose =
+    rw is (inr (text, save, record { outcome = outcome; front = front }))
+
+-- no save failed where a text wasn't put whole
+pub unput_no_save : (unput : Unput) (report : Report) → report ≡ report_of_unput unput → IsSaveFault report → ⊥
+unput_no_save Failed report is fault = rw is at fault
+unput_no_save OutOfMemory report is fault = rw is at fault
+
+-- it is a write fault, or memory was wanting where the text is put as it is made
+pub unput_either : (unput : Unput) (report : Report) (streams : Type 0) → report ≡ report_of_unput unput → (unput ≡ OutOfMemory → streams)
+    → (report ≡ write_fault → ⊥) → ((report ≡ out_of_memory) × streams → ⊥) → ⊥
+unput_either Failed report streams is streamed no_fault no_stream = no_fault is
+unput_either OutOfMemory report streams is streamed no_fault no_stream = no_stream (is, streamed refl)

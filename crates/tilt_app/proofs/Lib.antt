@@ -4,4 +4,6 @@ pub mod Files
 pub mod Finish
 pub mod MadeQuery
 pub mod Once
+pub mod Printing
 pub mod Seen
+pub mod Streams

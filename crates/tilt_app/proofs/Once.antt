@@ -1,5 +1,5 @@
 -- Words and files have one outcome.
-use Rattle.std.proofs.Common.{◌≡◌, ◌∙◌, not, Bool, List, [], ℕ, Option, Some, Result, Ok, refl, sym, ap, subst}
+use Rattle.std.proofs.Common.{◌≡◌, ◌++◌, ◌∙◌, not, Bool, List, [], ℕ, Option, Some, Result, Ok, refl, sym, ap, subst}
 use Rattle.tilt_app.specs.Compile.{IsCompileOutcome, no_query, listed}
 use Rattle.tilt_app.specs.Explain.{IsExplainOutcome}
 use Rattle.tilt_app.specs.Explain as explaining
@@ -7,6 +7,9 @@ use Rattle.tilt_explain.specs.Explain.{explained}
 use Rattle.tilt_app.specs.FileCommand.{IsFileOutcome, no_file, no_inputs, done}
 use Rattle.tilt_app.specs.Run.{IsQueryOutcome}
 use Rattle.tilt_app.specs.Try.{IsTryOutcome, made_inputs, summed}
+use Rattle.tilt_app.specs.Pipe.{IsCodeOf, IsPiped, IsPipeOutcome, rings_line}
+use Rattle.tilt_code.specs.Code.{CodeParts}
+use Rattle.tilt_pipe.specs.Rings.{most_ever}
 use Rattle.tilt_app.specs.Watch.{watched_text}
 use Rattle.tilt_app.specs.Outcome.{IsCommandOutcome, IsOutcome, no_command, does}
 use Rattle.tilt_bounds.specs.Margins.{MarginsParts, margins_of}
@@ -30,7 +33,7 @@ use Rattle.tilt_stream.specs.Text.{text_of}
 use Rattle.tilt_types.specs.Meaning.{output_of}
 use Rattle.tilt_watch.specs.Watch.{Watch}
 use Rattle.tilt_words.specs.Binding.{Binding}
-use Rattle.tilt_words.specs.Command.{CommandValue, run, compile, exec, explain, start, resume_upto, resume_end, watch, try, IsCommand}
+use Rattle.tilt_words.specs.Command.{CommandValue, run, compile, exec, explain, start, resume_upto, resume_end, pipe, watch, try, IsCommand}
 
 -- A command that is given a file and binds has one outcome, where its file is one thing or is refused for one reason, and comes to one outcome on rows.
 module _ {A : Type 0} (takes : A → Type 0) (refuses : Reason → Type 0) (inputs_of : A → List (List ℕ)) (gives : A → List (List Snapshot) → Outcome → Type 0)
@@ -123,6 +126,24 @@ same_told c d m n same is is' =
     let margins = same_margins (sym is ∙ ap margins_of same ∙ is') in
     rw (same, margins) refl
 
+same_code : (fuse : Bool) (core : CoreParts) (c d : CodeParts) → IsCodeOf core fuse c → IsCodeOf core fuse d → c ≡ d
+same_code fuse core c d a b =
+    let margins = same_margins (sym a.near ∙ b.near) in
+    let domain = same_domain (sym a.stretch ∙ b.stretch) in
+    a.is ∙ (λ i. code_of (plan_of core fuse) core (margins i) (domain i).start (domain i).end) ∙ sym b.is
+
+same_piped : (fuse : Bool) (core : CoreParts) (rows : List (List Snapshot)) (o p : Outcome) → IsPiped fuse core rows o → IsPiped fuse core rows p → o ≡ p
+same_piped fuse core rows o p a b =
+    let lists = same_some (output_of core rows) a.list b.list a.means b.means in
+    let codes_same = same_code fuse core a.code b.code a.code_is b.code_is in
+    a.is ∙ (λ i. printed (text_of (lists i) ++ rings_line (most_ever (codes_same i) rows))) ∙ sym b.is
+
+-- `pipe` has one outcome
+pipe_once : (files : List ℕ → List ℕ) (query : List ℕ) (binds : List Binding) (fuse : Bool) (o p : Outcome) → IsPipeOutcome files query binds fuse o
+    → IsPipeOutcome files query binds fuse p → o ≡ p
+pipe_once files query binds fuse o p is is' =
+    file_once _ _ _ _ (taken_once (files query)) (refused_once query (files query)) (refused_or_taken query (files query)) (same_piped fuse) files binds o p is is'
+
 -- `explain` has one outcome
 explain_once : (files : List ℕ → List ℕ) (query : List ℕ) (o p : Outcome) → IsExplainOutcome files query o → IsExplainOutcome files query p → o ≡ p
 explain_once files query o p (explaining.no_query r is) (explaining.no_query s is') = ap (λ (why : Reason). refused (refusal why)) (refused_once query (files query) r s is is')
@@ -146,6 +167,7 @@ command_once files watchers (explain query) o p is is' = explain_once files quer
 command_once files watchers (start query binds plain upto save) o p is is' = start_once files query binds upto save o p is is'
 command_once files watchers (resume_upto checkpoint binds plain upto save) o p is is' = resume_once files checkpoint binds (Upto upto) save o p is is'
 command_once files watchers (resume_end checkpoint binds plain) o p is is' = resume_once files checkpoint binds End [] o p is is'
+command_once files watchers (pipe query binds plain) o p is is' = pipe_once files query binds (not plain) o p is is'
 command_once files watchers (watch query binds plain) o p is is' = query_once (λ list. printed (watched_text watchers list)) files query binds o p is is'
 command_once files watchers (try seed count) o p is is' = try_once seed count o p is is'
 
@@ -167,5 +189,6 @@ no_usage files watchers (explain query) is = no_explain_usage files query (refus
 no_usage files watchers (start query binds plain upto save) is = no_start_usage files query binds upto save (refused usage) is refl
 no_usage files watchers (resume_upto checkpoint binds plain upto save) is = no_resume_usage files checkpoint binds (Upto upto) save (refused usage) is refl
 no_usage files watchers (resume_end checkpoint binds plain) is = no_resume_usage files checkpoint binds End [] (refused usage) is refl
+no_usage files watchers (pipe query binds plain) is = no_file_usage (λ core rows o made same. no_printed_usage (sym made.is ∙ same)) files binds (refused usage) is refl
 no_usage files watchers (watch query binds plain) is = no_file_usage (λ core rows o made same. no_printed_usage (sym made.2 ∙ same)) files binds (refused usage) is refl
 no_usage files watchers (try seed count) is = no_try_usage seed count (refused usage) is refl

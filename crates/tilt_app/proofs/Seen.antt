@@ -1,13 +1,18 @@
 -- How the watchers stand: behind puts, and behind the call.
-use Rattle.std.proofs.Common.{◌≡◌, ◌++◌, ◌∙◌, List, [], ℕ, Bool, Option, None, Some, Result, Ok, Err, refl, sym, subst, append_assoc, arith}
+use Rattle.std.proofs.Common.{◌≡◌, ◌++◌, ◌∙◌, List, [], ℕ, Bool, Option, None, Some, Result, Ok, Err, inl, refl, sym, subst, append_assoc, arith}
 use Rattle.std.proofs.lemmas.List.{append-nil}
 use Rattle.std.specs.Prelude.{MatchResult, OnOk, OnErr}
 use Rattle.tilt_app.specs.Run.{IsRunOutcome}
-use Rattle.tilt_app.specs.Show.{HaveSeen, HaveSeenInPart, in_figures, IsShow, SeeAll, SeePart, SeeOfFault}
+use Rattle.tilt_app.specs.Show.{HaveSeen, HaveSeenInPart, in_figures, IsShow, SeeAll, SeePart, SeeOfFault, shown_of}
 use Rattle.tilt_app.specs.Watch.{figures_after}
 use Rattle.tilt_outside.specs.Written.{AppendsFront}
-use Rattle.tilt_outside.specs.declared.failed.Failed.{Failed}
-use Rattle.tilt_app.specs.Cause.{IsCause, IsUnanswered}
+use Rattle.tilt_outside.specs.declared.failed.Failed as sink
+use Rattle.tilt_app.specs.Answer.{IsStreamed}
+use Rattle.tilt_app.specs.Cause.{IsCause, IsSaveFault, IsUnanswered, report_of_unput}
+use Rattle.tilt_app.specs.declared.printed.Printed.{Printed}
+use Rattle.tilt_app.specs.declared.printed.Printed.TheVariants.{Whole, Run, Rings}
+use Rattle.tilt_app.specs.declared.unput.Unput.{Unput}
+use Rattle.tilt_app.specs.declared.unput.Unput.TheVariants.{Failed, OutOfMemory}
 use Rattle.tilt_report.specs.Report.{Outcome, Report, printed, usage, refusal, read_fault, write_fault, save_fault, out_of_memory, status_of}
 use Rattle.tilt_stream.specs.Snap.{Snapshot}
 use Rattle.tilt_stream.specs.Text.{text_of}
@@ -28,23 +33,17 @@ module _ (out_tells kept : Type 0) (before now : List Watch) where
       })
 
   -- a flush that failed leaves a part
-  see_part : (old mid new : List ℕ) (shown : Option (List Snapshot)) → new ≡ mid → SeeAll out_tells old mid kept before now shown → SeePart out_tells old new kept before now shown
+  pub see_part : (old mid new : List ℕ) (shown : Option (List Snapshot)) → new ≡ mid → SeeAll out_tells old mid kept before now shown → SeePart out_tells old new kept before now shown
   see_part old mid new None same all = all
   see_part old mid new (Some list) same all = rw same (flush_failed old mid list all)
 
   -- the figures behind a text that was put whole
-  pub figures_seen : (old mid new : List ℕ) (list : List Snapshot) (result : Result (Unit {0}) Failed) → now ≡ after_show before list → (out_tells → mid ≡ old ++ text_of list)
+  pub figures_seen : (old mid new : List ℕ) (list : List Snapshot) (result : Result (Unit {0}) sink.Failed) → now ≡ after_show before list → (out_tells → mid ≡ old ++ text_of list)
       → (out_tells → OnOk result (new ≡ mid ++ figures_after before list)) → (out_tells → OnErr result (AppendsFront mid new (figures_after before list)))
       → MatchResult result (λ _. HaveSeen out_tells old new kept before now list) (λ _. HaveSeenInPart out_tells old new kept before now list)
   figures_seen old mid new list (Ok u) saw text whole front =
       record { saw = saw; written = λ t. whole t ∙ rw (text t) (append_assoc old (text_of list) (figures_after before list)) }
   figures_seen old mid new list (Err e) saw text whole front = in_figures saw (λ t. rw (← text t) (front t))
-
-  -- and then the flush
-  pub flush_seen : (old mid new : List ℕ) (shown : Option (List Snapshot)) (result : Result (Unit {0}) Failed) → new ≡ mid → SeeAll out_tells old mid kept before now shown
-      → MatchResult result (λ _. SeeAll out_tells old new kept before now shown) (λ _. SeePart out_tells old new kept before now shown)
-  flush_seen old mid new shown (Ok u) same all = rw same all
-  flush_seen old mid new shown (Err e) same all = see_part old mid new shown same all
 
 -- what `watch` shows is what `run` prints
 pub run_shown : (tells : Type 0) (files : List ℕ → List ℕ) (command : CommandValue) (query : List ℕ) (binds : List Binding) (plain : Bool) (shown : Option (List Snapshot))
@@ -62,14 +61,14 @@ status_of_write_fault out_of_memory is = absurd (omega arith)
 
 -- why nothing was answered is the cause
 pub unanswered_cause : (is_outcome : Outcome → Type 0) (has_turn : List ℕ → Type 0) (shelf_tells : Type 0) (reads_before reads_after : ℕ) (held holds : List ℕ → List ℕ) (saves_before saves_after : ℕ) (out_tells : Type 0) (old new : List ℕ)
-    (puts_before puts_after : ℕ) (report : Report) → IsUnanswered is_outcome has_turn shelf_tells reads_before reads_after report
+    (puts_before puts_after : ℕ) (report : Report) → new ≡ old → IsUnanswered is_outcome has_turn shelf_tells reads_before reads_after report
     → IsCause is_outcome has_turn shelf_tells reads_before reads_after held holds saves_before saves_after out_tells old new puts_before puts_after report
-unanswered_cause is_outcome has_turn st rb ra he ho sb sa ot old new pb pa usage fault = fault
-unanswered_cause is_outcome has_turn st rb ra he ho sb sa ot old new pb pa (refusal why) fault = fault
-unanswered_cause is_outcome has_turn st rb ra he ho sb sa ot old new pb pa (read_fault name) fault = fault
-unanswered_cause is_outcome has_turn st rb ra he ho sb sa ot old new pb pa write_fault fault = absurd fault
-unanswered_cause is_outcome has_turn st rb ra he ho sb sa ot old new pb pa (save_fault name) fault = absurd fault
-unanswered_cause is_outcome has_turn st rb ra he ho sb sa ot old new pb pa out_of_memory fault = fault
+unanswered_cause is_outcome has_turn st rb ra he ho sb sa ot old new pb pa usage same fault = fault
+unanswered_cause is_outcome has_turn st rb ra he ho sb sa ot old new pb pa (refusal why) same fault = fault
+unanswered_cause is_outcome has_turn st rb ra he ho sb sa ot old new pb pa (read_fault name) same fault = fault
+unanswered_cause is_outcome has_turn st rb ra he ho sb sa ot old new pb pa write_fault same fault = absurd fault
+unanswered_cause is_outcome has_turn st rb ra he ho sb sa ot old new pb pa (save_fault name) same fault = absurd fault
+unanswered_cause is_outcome has_turn st rb ra he ho sb sa ot old new pb pa out_of_memory same fault = inl (λ _. same)
 
 -- where nothing was answered, the watchers are as they were
 pub unanswered_seen : (is_outcome : Outcome → Type 0) (has_turn : List ℕ → Type 0) (shelf_tells : Type 0) (reads_before reads_after : ℕ) (out_tells : Type 0) (old new : List ℕ) (kept : Type 0)
@@ -100,3 +99,27 @@ part_shown tells files out_tells old new kept before now command query binds pla
     let part = subst (λ (r : Report). SeeOfFault out_tells old new kept before now (IsShow tells files command) r) fault seen in
     let run = run_shown tells files command query binds plain part.0 same part.1 in
     (run.0, run.2, subst (λ (o : Option (List Snapshot)). SeePart out_tells old new kept before now o) run.1 part.2)
+
+-- what is put as it is made isn't shown
+pub streamed_kept : (out_tells : Type 0) (old new : List ℕ) (kept : Type 0) (before now : List Watch) (text : Printed) → IsStreamed text
+    → SeePart out_tells old new kept before now (shown_of text) → kept
+streamed_kept out_tells old new kept before now (Whole text) streamed part = absurd streamed
+streamed_kept out_tells old new kept before now (Run pipe) streamed part = part
+streamed_kept out_tells old new kept before now (Rings pipe) streamed part = part
+
+-- what the watchers were shown where a text wasn't put whole
+pub unput_seen : (out_tells : Type 0) (old new : List ℕ) (kept : Type 0) (before now : List Watch) (is_show : Option (List Snapshot) → Type 0) (text : Printed)
+    (unput : Unput) (report : Report) → report ≡ report_of_unput unput → is_show (shown_of text) → (unput ≡ OutOfMemory → IsStreamed text)
+    → SeePart out_tells old new kept before now (shown_of text) → SeeOfFault out_tells old new kept before now is_show report
+unput_seen out_tells old new kept before now is_show text Failed report is show streamed part = rw is (shown_of text, show, part)
+unput_seen out_tells old new kept before now is_show text OutOfMemory report is show streamed part =
+    rw is (streamed_kept out_tells old new kept before now text (streamed refl) part)
+
+-- the status of a save fault
+pub status_of_save : (report : Report) → IsSaveFault report → status_of report ≡ 6
+status_of_save usage is = absurd is
+status_of_save (refusal why) is = absurd is
+status_of_save (read_fault name) is = absurd is
+status_of_save write_fault is = absurd is
+status_of_save (save_fault name) is = refl
+status_of_save out_of_memory is = absurd is

@@ -1,6 +1,8 @@
 -- Why a status that isn't 0 comes, and what stands after it.
 use Rattle.std.specs.Prelude.{◌≡◌, ◌⊎◌, ◌++◌, ⊤, List, ℕ, Option, Some}
 use Rattle.tilt_app.specs.Saving.{Save, outcome_of, IsUnsaved}
+use Rattle.tilt_app.specs.declared.unput.Unput.{Unput}
+use Rattle.tilt_app.specs.declared.unput.Unput.TheVariants.{Failed, OutOfMemory}
 use Rattle.tilt_outside.specs.Faults.{Rose}
 use Rattle.tilt_outside.specs.Written.{AppendsFront}
 use Rattle.tilt_report.specs.Report.{Outcome, refused, Report, usage, refusal, read_fault, write_fault, save_fault, out_of_memory}
@@ -32,11 +34,22 @@ module _ (is_outcome : Outcome → Type 0) (has_turn : List ℕ → Type 0) wher
         pub written : out_tells → new ≡ old ++ text
         pub unsaved : IsUnsaved shelf_tells held holds save
 
-      -- why this is reported: the same, a write fault only where the count of the output rose, and a save fault only where that of the shelf rose
+      -- memory was wanting: nothing was written, or a text is what is printed and a front of it was
+      abbrev pub IsShortOfMemory : Type 0
+      IsShortOfMemory = (out_tells → new ≡ old) ⊎ ((text : List ℕ) × (save : Option Save) × IsCutShort text save)
+
+      -- why this is reported: the same, a write fault only where the count of the output rose, a save fault only where that of the shelf rose, and want of
+      -- memory with what was written by then
       abbrev pub IsCause : Report → Type 0
       IsCause write_fault = Rose puts_before puts_after × ((text : List ℕ) × (save : Option Save) × IsCutShort text save)
       IsCause (save_fault name) = Rose saves_before saves_after × ((text : List ℕ) × (bytes : List ℕ) × IsUnfinished text (record { name = name; bytes = bytes }))
+      IsCause out_of_memory = IsShortOfMemory
       IsCause report = IsUnanswered report
+
+-- why a text wasn't put whole
+abbrev pub report_of_unput : Unput → Report
+report_of_unput Failed = write_fault
+report_of_unput OutOfMemory = out_of_memory
 
 -- a save failed
 abbrev pub IsSaveFault : Report → Type 0

@@ -6,6 +6,8 @@ pub mod Exec
 pub mod Explain
 pub mod FileCommand
 pub mod Outcome
+pub mod Pipe
+pub mod Prints
 pub mod Run
 pub mod Saving
 pub mod Show

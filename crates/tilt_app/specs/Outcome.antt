@@ -1,7 +1,7 @@
 -- What a command does, given its words, what each name holds and who watches: the text that it prints, or why it is refused.
 -- That of each command stands in a file of its own.
 use Rattle.std.specs.Prelude.{◌≡◌, not, List, [], ℕ, ⊤}
-use Rattle.tilt_words.specs.Command.{CommandValue, run, compile, exec, explain, start, resume_upto, resume_end, watch, try, IsCommand}
+use Rattle.tilt_words.specs.Command.{CommandValue, run, compile, exec, explain, start, resume_upto, resume_end, pipe, watch, try, IsCommand}
 use Rattle.tilt_report.specs.Report.{Outcome, refused, usage}
 use Rattle.tilt_app.specs.Compile.{IsCompileOutcome}
 use Rattle.tilt_app.specs.Exec.{IsExecOutcome, HasExecTurn}
@@ -9,6 +9,7 @@ use Rattle.tilt_app.specs.Explain.{IsExplainOutcome}
 use Rattle.tilt_chunk.specs.declared.cut.Cut.TheVariants.{Upto, End}
 use Rattle.tilt_sessions.specs.Resume.{IsResumeOutcome, HasResumeTurn}
 use Rattle.tilt_sessions.specs.Start.{IsStartOutcome, HasStartTurn}
+use Rattle.tilt_app.specs.Pipe.{IsPipeOutcome}
 use Rattle.tilt_app.specs.Run.{IsRunOutcome, HasRunTurn}
 use Rattle.tilt_app.specs.Try.{IsTryOutcome}
 use Rattle.tilt_app.specs.Watch.{IsWatchOutcome}
@@ -20,6 +21,7 @@ IsCommandOutcome files watchers (run query binds plain cuts) outcome = IsRunOutc
 IsCommandOutcome files watchers (compile query plain) outcome = IsCompileOutcome files query (not plain) outcome
 IsCommandOutcome files watchers (exec code binds) outcome = IsExecOutcome files code binds outcome
 IsCommandOutcome files watchers (explain query) outcome = IsExplainOutcome files query outcome
+IsCommandOutcome files watchers (pipe query binds plain) outcome = IsPipeOutcome files query binds (not plain) outcome
 IsCommandOutcome files watchers (watch query binds plain) outcome = IsWatchOutcome files query binds watchers outcome
 IsCommandOutcome files watchers (try seed count) outcome = IsTryOutcome seed count outcome
 IsCommandOutcome files watchers (start query binds plain upto save) outcome = IsStartOutcome files query binds upto save outcome
@@ -37,6 +39,7 @@ HasCommandTurn tells files (run query binds plain cuts) name = HasRunTurn tells 
 HasCommandTurn tells files (compile query plain) name = name ≡ query
 HasCommandTurn tells files (exec code binds) name = HasExecTurn tells files code binds name
 HasCommandTurn tells files (explain query) name = name ≡ query
+HasCommandTurn tells files (pipe query binds plain) name = HasRunTurn tells files query binds name
 HasCommandTurn tells files (watch query binds plain) name = HasRunTurn tells files query binds name
 HasCommandTurn tells files (start query binds plain upto save) name = HasStartTurn tells files query binds upto name
 HasCommandTurn tells files (resume_upto checkpoint binds plain upto save) name = HasResumeTurn tells files checkpoint binds (Upto upto) name
@@ -60,3 +63,13 @@ Saves command = ⊥
 -- the words are a command that saves
 abbrev pub IsSaving : List (List ℕ) → Type 0
 IsSaving words = (command : CommandValue) × IsCommand words command × Saves command
+
+-- whether a command prints each snapshot as soon as it is made: `run` without cuts, and `pipe`
+abbrev pub Streams : CommandValue → Type 0
+Streams (run query binds plain []) = ⊤
+Streams (pipe query binds plain) = ⊤
+Streams command = ⊥
+
+-- the words are a command that does
+abbrev pub IsStreaming : List (List ℕ) → Type 0
+IsStreaming words = (command : CommandValue) × IsCommand words command × Streams command

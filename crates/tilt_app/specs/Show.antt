@@ -3,7 +3,9 @@ use Rattle.std.specs.Prelude.{◌≡◌, ◌++◌, List, ℕ, Bool, Option, None
 use Rattle.tilt_app.specs.Run.{IsRunOutcome}
 use Rattle.tilt_app.specs.Watch.{figures_after, watched_text}
 use Rattle.tilt_app.specs.declared.printed.Printed.{Printed}
-use Rattle.tilt_app.specs.declared.printed.Printed.TheVariants.{Snapshots, Lines, Watched, Text}
+use Rattle.tilt_app.specs.declared.printed.Printed.TheVariants.{Whole, Run, Rings}
+use Rattle.tilt_app.specs.declared.whole_text.WholeText.{WholeText}
+use Rattle.tilt_app.specs.declared.whole_text.WholeText.TheVariants.{Snapshots, Lines, Watched, Text}
 use Rattle.tilt_outside.specs.Written.{AppendsFront}
 use Rattle.tilt_report.specs.Report.{Report, usage, refusal, read_fault, write_fault, save_fault, out_of_memory, printed}
 use Rattle.tilt_stream.specs.Snap.{Snapshot}
@@ -20,12 +22,18 @@ IsWatchOf words query binds = (plain : Bool) × IsCommand words (watch query bin
 abbrev pub IsWatch : List (List ℕ) → Type 0
 IsWatch words = (query : List ℕ) × (binds : List Binding) × IsWatchOf words query binds
 
--- the snapshots that the watchers are shown of what is printed, if any
+-- the snapshots that the watchers are shown of a text that is made whole, if any
+abbrev pub shown_whole : WholeText → Option (List Snapshot)
+shown_whole (Snapshots list) = None
+shown_whole (Watched list) = Some list
+shown_whole (Lines list) = None
+shown_whole (Text text) = None
+
+-- and of what is printed
 abbrev pub shown_of : Printed → Option (List Snapshot)
-shown_of (Snapshots list) = None
-shown_of (Watched list) = Some list
-shown_of (Lines list) = None
-shown_of (Text text) = None
+shown_of (Whole text) = shown_whole text
+shown_of (Run pipe) = None
+shown_of (Rings pipe) = None
 
 -- what a command shows the watchers: nothing, or those snapshots whose text `run` prints
 abbrev pub IsShow : Type 0 → (List ℕ → List ℕ) → CommandValue → Option (List Snapshot) → Type 0

@@ -1,9 +1,9 @@
 // What a command comes to.
 ghost use Rattle.std.specs.Prelude.{◌≡◌, ◌≤◌, ⊤, List, ℕ, None, IfOk, IfErr, MatchOption};
-ghost use Rattle.tilt_app.specs.Answer.{comes_to, name_of};
+ghost use Rattle.tilt_app.specs.Answer.{comes_to, name_of, IsFresh, IsStreamed};
 ghost use Rattle.tilt_app.specs.Cause.{IsUnanswered};
 ghost use Rattle.tilt_app.specs.Continues.{Continues};
-ghost use Rattle.tilt_app.specs.Outcome.{IsCommandOutcome, HasCommandTurn, Saves};
+ghost use Rattle.tilt_app.specs.Outcome.{IsCommandOutcome, HasCommandTurn, Saves, Streams};
 ghost use Rattle.tilt_outside.specs.Reads.{OnlyReads};
 ghost use Rattle.tilt_app.specs.Show.{IsShow, shown_of};
 ghost use Rattle.tilt_report.specs.Report.{report_of};
@@ -14,9 +14,12 @@ use crate::compile::compile;
 use crate::exec::exec;
 use crate::explain::explain;
 use crate::made::made_run;
+use crate::piped::pipe_of;
 use crate::printed::Printed;
 use crate::query_run::Manner;
 use crate::run::run;
+use crate::run_printed::run_printed;
+use crate::whole_text::WholeText;
 use std::alloc::Global;
 use tilt_chunk::Cut;
 use tilt_outside::Shelf;
@@ -33,7 +36,20 @@ pub struct Answered {
     pub bytes: Option<Vec<u8>>,
 }
 
-/// What the command prints and saves. All files are read and all memory is taken here.
+impl Answered {
+    // What is printed, where nothing is saved.
+    fn unsaved(printed: Printed) -> Answered
+        ensures { result ≡ record { printed = printed; bytes = None } }
+    {
+        Answered {
+            printed,
+            bytes: None,
+        }
+    }
+}
+
+/// What the command prints and saves. All files are read here, and all memory is taken but that of snapshots which are put as they
+/// are made.
 pub fn answer<'a, S: Shelf>(
     alloc: Global,
     command: &'a Command,
@@ -44,6 +60,8 @@ pub fn answer<'a, S: Shelf>(
     ensures made { S.tells → IfOk result (λ answer. (watchers : List Watch)
         → IsCommandOutcome (S.files shelf.old) watchers (command_of command.now) (comes_to watchers (name_of (command_of command.now)) answer)) }
     ensures shown { IfOk result (λ answer. IsShow S.tells (S.files shelf.old) (command_of command.now) (shown_of answer.printed)) }
+    ensures fresh { IfOk result (λ answer. IsFresh answer.printed) }
+    ensures streams { IfOk result (λ answer. IsStreamed answer.printed → Streams (command_of command.now)) }
     ensures saving { IfOk result (λ answer. MatchOption answer.bytes ⊤ (λ _. Saves (command_of command.now))) }
     ensures law { S.tells → IfOk result (λ _. Continues (S.files shelf.old) (command_of command.now)) }
     ensures fault { (watchers : List Watch) → IfErr result (λ fault. IsUnanswered
@@ -64,32 +82,20 @@ pub fn answer<'a, S: Shelf>(
                 fuse: !*plain,
                 cuts: cuts.as_slice(),
             };
-            let list = run(alloc, shelf, query.as_str(), binds, manner)?;
-            Ok(Answered {
-                printed: Printed::Snapshots(list),
-                bytes: None,
-            })
+            let text = run_printed(alloc, shelf, query.as_str(), binds, manner)?;
+            Ok(Answered::unsaved(text))
         }
         Command::Exec { code, binds } => {
             let list = exec(alloc, shelf, code.as_str(), binds)?;
-            Ok(Answered {
-                printed: Printed::Snapshots(list),
-                bytes: None,
-            })
+            Ok(Answered::unsaved(Printed::Whole(WholeText::Snapshots(list))))
         }
         Command::Compile { query, plain } => {
             let listing = compile(alloc, shelf, query.as_str(), !*plain)?;
-            Ok(Answered {
-                printed: Printed::Text(listing),
-                bytes: None,
-            })
+            Ok(Answered::unsaved(Printed::Whole(WholeText::Text(listing))))
         }
         Command::Explain { query } => {
             let lines = explain(alloc, shelf, query.as_str())?;
-            Ok(Answered {
-                printed: Printed::Text(lines),
-                bytes: None,
-            })
+            Ok(Answered::unsaved(Printed::Whole(WholeText::Text(lines))))
         }
         Command::Watch {
             query,
@@ -101,17 +107,19 @@ pub fn answer<'a, S: Shelf>(
                 cuts: &[],
             };
             let watched = run(alloc, shelf, query.as_str(), binds, whole)?;
-            Ok(Answered {
-                printed: Printed::Watched(watched),
-                bytes: None,
-            })
+            Ok(Answered::unsaved(Printed::Whole(WholeText::Watched(watched))))
+        }
+        Command::Pipe {
+            query,
+            binds,
+            plain,
+        } => {
+            let pipe = pipe_of(alloc, shelf, query.as_str(), binds, !*plain)?;
+            Ok(Answered::unsaved(Printed::Rings(pipe)))
         }
         Command::Try { seed, count } => {
             let summary = made_run(alloc, *seed, *count)?;
-            Ok(Answered {
-                printed: Printed::Text(summary),
-                bytes: None,
-            })
+            Ok(Answered::unsaved(Printed::Whole(WholeText::Text(summary))))
         }
         Command::Start {
             query,
@@ -122,7 +130,7 @@ pub fn answer<'a, S: Shelf>(
         } => {
             let (list, bytes) = start_session(alloc, shelf, query.as_str(), binds, !*plain, *upto)?;
             Ok(Answered {
-                printed: Printed::Snapshots(list),
+                printed: Printed::Whole(WholeText::Snapshots(list)),
                 bytes: Some(bytes),
             })
         }
@@ -136,7 +144,7 @@ pub fn answer<'a, S: Shelf>(
             let cut = Cut::Upto(*upto);
             let (list, bytes) = resume_session(alloc, shelf, file.as_str(), binds, !*plain, cut)?;
             Ok(Answered {
-                printed: Printed::Lines(list),
+                printed: Printed::Whole(WholeText::Lines(list)),
                 bytes,
             })
         }
@@ -150,7 +158,7 @@ pub fn answer<'a, S: Shelf>(
                 Cut::End,
             )?;
             Ok(Answered {
-                printed: Printed::Lines(list),
+                printed: Printed::Whole(WholeText::Lines(list)),
                 bytes,
             })
         }

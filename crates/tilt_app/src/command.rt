@@ -4,11 +4,11 @@ ghost use Rattle.tilt_outside.specs.Faults.{Rose};
 ghost use Rattle.tilt_outside.specs.Reads.{OnlyReads};
 ghost use Rattle.tilt_app.specs.Cause.{IsCause, IsLineWritten, IsSaveFault};
 ghost use Rattle.tilt_app.specs.Continues.{Continues};
-ghost use Rattle.tilt_app.specs.Outcome.{IsCommandOutcome, HasCommandTurn, IsOutcome, IsRunnable, IsSaving, HasTurn, Saves};
+ghost use Rattle.tilt_app.specs.Outcome.{IsCommandOutcome, HasCommandTurn, IsOutcome, IsRunnable, IsSaving, IsStreaming, HasTurn, Saves, Streams};
 ghost use Rattle.tilt_app.specs.Run.{IsRunOutcome};
 ghost use Rattle.tilt_app.specs.Saving.{IsSaved, IsUnsaved, Save, outcome_of};
 ghost use Rattle.tilt_app.specs.Show.{HaveSeen, HaveSeenInPart, IsShow, IsWatch, IsWatchOf, SeeAll, SeeOfFault};
-ghost use Rattle.tilt_report.specs.Report.{printed, refused, Report, report_of, status_of, line_of, write_fault, save_fault};
+ghost use Rattle.tilt_report.specs.Report.{printed, refused, Report, report_of, status_of, line_of, write_fault, save_fault, out_of_memory};
 ghost use Rattle.tilt_stream.specs.Snap.{Snapshot};
 ghost use Rattle.tilt_stream.specs.Text.{text_of};
 ghost use Rattle.tilt_watch.specs.Watch.{watches};
@@ -22,7 +22,7 @@ use tilt_report::Fault;
 use tilt_watch::Watcher;
 use tilt_words::{Command, read_words};
 
-// Does what the command says: all is read and computed before the first put, and what is saved is saved behind all puts.
+// Does what the command says: all is read before the first put, and what is saved is saved behind all puts.
 fn done<'a, S: Shelf, O: Sink>(
     alloc: Global,
     command: &'a Command,
@@ -57,12 +57,13 @@ fn done<'a, S: Shelf, O: Sink>(
     ensures rest { MatchResult result (λ _. (Saves (command_of command.now) → ⊥) → OnlyReads S.files S.save_faults S.takes shelf.old shelf.new)
         (λ fault. (IsSaveFault (report_of fault) → ⊥) → OnlyReads S.files S.save_faults S.takes shelf.old shelf.new) }
     ensures saving { IfErr result (λ fault. IsSaveFault (report_of fault) → Saves (command_of command.now)) }
-    ensures unwritten { IfErr result (λ fault. (report_of fault ≡ write_fault → ⊥) → (IsSaveFault (report_of fault) → ⊥) → out.new ≡ out.old) }
+    ensures unwritten { IfErr result (λ fault. (report_of fault ≡ write_fault → ⊥) → (IsSaveFault (report_of fault) → ⊥)
+        → ((report_of fault ≡ out_of_memory) × Streams (command_of command.now) → ⊥) → out.new ≡ out.old) }
 {
     let answered = answer(alloc, command, shelf)?;
     let Answered { printed, bytes } = answered;
-    if printed.put(out, watchers).is_err() {
-        return Err(Fault::WriteFault);
+    if let Err(unput) = printed.put(out, watchers) {
+        return Err(unput.fault());
     }
     match bytes {
         None => Ok(()),
@@ -97,7 +98,8 @@ fn tell<E: Sink>(err: &mut E, fault: &Fault<'_>) -> u8
 /// Does what the words say: it reads a file and then the series of each of its inputs from the shelf, puts a text to `out`,
 /// and hands all of it on. `run QUERY NAME=FILE ..` puts the text of the snapshots of what the query emits on its output
 /// domain, `exec CODE NAME=FILE ..` that of the run of a loop code; `compile QUERY` reads the query alone and puts the
-/// listing of its code, and `explain QUERY` what is told of its plan; `--plain` leaves out fusion. `watch QUERY NAME=FILE ..`
+/// listing of its code, and `explain QUERY` what is told of its plan; `--plain` leaves out fusion. `pipe QUERY NAME=FILE ..` puts
+/// what `run` puts, and then the line of how many snapshots the loops held at most. `watch QUERY NAME=FILE ..`
 /// puts what `run` puts, shows the snapshots to the watchers, and puts a line of each one's figures. `try SEED COUNT` reads
 /// nothing: it puts the summary of a query on that many rows for each input, which are made from the seed. `start QUERY ..`
 /// puts what `run` would put by a cut, and `resume CHECKPOINT ..` the lines behind it; where they end by a cut, the bytes of a
@@ -105,8 +107,9 @@ fn tell<E: Sink>(err: &mut E, fault: &Fault<'_>) -> u8
 /// fault of `err` changes nothing.
 ///
 /// The first refusal is told: that of the words, then of the query, the code or the checkpoint, then of the cut, then of the
-/// names that are bound, then of the series in the order in which the inputs are declared. All memory is taken before the
-/// first put.
+/// names that are bound, then of the series in the order in which the inputs are declared. `run` without cuts and `pipe` put each
+/// snapshot as soon as it is made, so that memory may be wanting behind a front of the text. All other commands take all memory
+/// before the first put.
 ///
 /// The answer is the status that the program ends with: 0 done, 1 refused, 2 the words are no command, 3 a read failed, 4 a
 /// put or the flush failed, 5 there was no memory, 6 the save failed.
@@ -145,7 +148,10 @@ pub fn tilt<S: Shelf, O: Sink, E: Sink>(
         (S.read_faults shelf.old) (S.read_faults shelf.new) (S.files shelf.old) (S.files shelf.new) (S.save_faults shelf.old)
         (S.save_faults shelf.new) O.tells (O.written out.old) (O.written out.new) (O.faults out.old) (O.faults out.new) report
         × (E.tells → IsLineWritten (E.written err.old) (E.written err.new) (line_of report) (E.faults err.old) (E.faults err.new)) }
-    ensures unwritten { (result ≡ 0 → ⊥) → (result ≡ 4 → ⊥) → (result ≡ 6 → ⊥) → out.new ≡ out.old }
+
+    // Nothing is written but under status 0, 4 and 6, and under 5 by a command that prints each snapshot as soon as it is made.
+    ensures unwritten { (result ≡ 0 → ⊥) → (result ≡ 4 → ⊥) → (result ≡ 6 → ⊥)
+        → ((result ≡ 5) × IsStreaming (texts words.now) → ⊥) → out.new ≡ out.old }
     ensures usage { result ≡ 2 → ¬ (IsRunnable (texts words.now)) }
     ensures no_command { ¬ (IsRunnable (texts words.now)) → (result ≡ 2) ⊎ (result ≡ 5) }
 

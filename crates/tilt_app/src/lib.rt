@@ -12,12 +12,17 @@ mod compile;
 mod exec;
 mod explain;
 mod made;
+mod piped;
 mod printed;
 mod query_code;
 mod query_run;
 mod run;
+mod run_printed;
+mod streamed;
 #[cfg(test)]
 mod tests;
+mod unput;
+mod whole_text;
 
 pub use command::tilt;
 pub use tilt_made::made_rows;

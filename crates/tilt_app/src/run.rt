@@ -1,4 +1,4 @@
-// What `run` and `watch` print.
+// The snapshots of what a query means.
 ghost use Rattle.std.specs.Prelude.{◌≤◌, neg_ℤ, List, ℕ, IfOk, IfErr};
 ghost use Rattle.tilt_app.specs.Run.{IsQueryOutcome, HasRunTurn};
 ghost use Rattle.tilt_base.specs.declared.limits.TheConstants.{T};

@@ -2,6 +2,7 @@
 mod codes;
 mod faults;
 mod meanings;
+mod piping;
 mod refusals;
 mod sessions;
 mod texts;

@@ -1,11 +1,11 @@
-use Rattle.std.proofs.Common.{◌∙◌, sym, subst, ap, inl, inr}
+use Rattle.std.proofs.Common.{◌∙◌, refl, sym, subst, ap, inl, inr}
 use Rattle.tilt_app.specs.Continues.{Continues}
 use Rattle.tilt_words.specs.Command.{CommandValue, command_of, texts, watch}
 use Rattle.tilt_app.specs.Outcome.{IsCommandOutcome, HasCommandTurn, IsOutcome, does, HasTurn}
 use Rattle.tilt_report.specs.Report.{report_of, status_of}
 use Rattle.tilt_app.proofs.Complete.{printed_or_refused, only_memory, the_refusal, wider_cause, status_of_usage, cause_of_usage, cause_of_words}
 use Rattle.tilt_app.proofs.Once.{outcome_once, no_usage}
-use Rattle.tilt_app.proofs.Seen.{all_shown, part_shown, status_of_write_fault}
+use Rattle.tilt_app.proofs.Seen.{all_shown, part_shown, status_of_save, status_of_write_fault}
 use Rattle.tilt_app.proofs.command.tilt.Goals as goal
 
 pub done-requires-clause-room : goal.done-requires-clause-room
@@ -96,7 +96,7 @@ returns-clause-reported g c =
     let files = g.S.Shelf.files c.args.shelf.now in (
       report_of c.from.result,
       c.tell-in-Err.ensures.status,
-      (rw c.from.ensures (cause_of_words words files _ (HasTurn g.S.Shelf.tells words files) g.S.Shelf.tells _ _ _ _ _ _ g.O.Sink.tells _ _ _ _ c.in-Err.fault c.in-Err.ensures.usage)),
+      (rw c.from.ensures (cause_of_words words files _ (HasTurn g.S.Shelf.tells words files) g.S.Shelf.tells _ _ _ _ _ _ g.O.Sink.tells _ _ _ _ c.in-Err.fault refl c.in-Err.ensures.usage)),
       c.tell-in-Err.ensures.line,
     )
 
@@ -127,3 +127,11 @@ returns-in-Ok-done-clause-continues g c =
     λ zero told command is.
     subst (λ (d : CommandValue). Continues (g.S.Shelf.files c.args.shelf.now) d) (c.in-Ok.ensures.one (command_of c.in-Ok.command) command c.in-Ok.ensures.command is)
     (c.in-Ok-done.ensures.law told)
+
+pub returns-in-Ok-clause-unwritten : goal.returns-in-Ok-clause-unwritten
+returns-in-Ok-clause-unwritten g c =
+    λ some no_fault no_save no_stream.
+    let status = c.tell.ensures.status in
+    let report = report_of c.in-Err-done.fault in
+    c.in-Err-done.ensures.unwritten (λ is. no_fault (status ∙ ap status_of is)) (λ is. no_save (status ∙ status_of_save report is))
+    (λ both. no_stream (status ∙ ap status_of both.0, (command_of c.in-Ok.command, c.in-Ok.ensures.command, both.1)))

@@ -1,7 +1,10 @@
-use Rattle.tilt_app.proofs.Seen.{flush_seen}
+use Rattle.std.proofs.lemmas.Result.{err_from_is_err_and}
+use Rattle.tilt_app.proofs.Seen.{see_part}
 use Rattle.tilt_app.specs.Show.{shown_of}
 use Rattle.tilt_app.proofs.printed.Printed.put.Goals as goal
 
-pub returns-clause-seen : goal.returns-clause-seen
-returns-clause-seen g c =
-    flush_seen g.O.Sink.tells _ _ _ (g.O.Sink.written c.args.out.now) (g.O.Sink.written c.put_all.new.out) _ (shown_of c.args.self.now) c.flush.result c.flush.ensures.written c.in_ok-put_all.ensures.seen
+pub returns-in_err-flush-clause-seen : goal.returns-in_err-flush-clause-seen
+returns-in_err-flush-clause-seen g c =
+    let p = err_from_is_err_and c.from_residual-in_err-flush.result c.from_residual-in_err-flush.ensures.1 in
+    rw p.1 (see_part g.O.Sink.tells _ _ _ (g.O.Sink.written c.args.out.now) (g.O.Sink.written c.put_all.new.out) _ (shown_of c.args.self) c.in_err-flush.ensures.written
+    c.in_ok-put_all.ensures.seen)

@@ -2,7 +2,7 @@ use Rattle.tilt_app.proofs.Seen.{figures_seen}
 use Rattle.tilt_app.specs.Watch.{figures_after}
 use Rattle.tilt_outside.proofs.Puts.{puts-then, puts-short}
 use Rattle.tilt_stream.specs.Text.{text_of}
-use Rattle.tilt_app.proofs.printed.put_watched.Goals as goal
+use Rattle.tilt_app.proofs.whole_text.put_watched.Goals as goal
 
 pub returns-in_err-put_text-clause-puts : goal.returns-in_err-put_text-clause-puts
 returns-in_err-put_text-clause-puts g c =

@@ -1,7 +1,7 @@
 use Rattle.std.proofs.Common.{codes}
 use Rattle.tilt_outside.proofs.Puts.{puts-then, puts-short}
 use Rattle.tilt_stream.specs.Text.{lines_of}
-use Rattle.tilt_app.proofs.printed.put_text.Goals as goal
+use Rattle.tilt_app.proofs.whole_text.put_text.Goals as goal
 
 pub returns-in_err-put_header : goal.returns-in_err-put_header
 returns-in_err-put_header g c =
