@@ -8,9 +8,9 @@ use Rattle.tilt_code.specs.Run.{run_of}
 use Rattle.tilt_fuse.specs.FusedTree.{PlannedLoop}
 use Rattle.tilt_lower.specs.Law.{LiesWithin, MeansTheQuery}
 use Rattle.tilt_stream.specs.Snap.{Snapshot}
-use Rattle.tilt_syntax.specs.declared.span.Span.{Span}
-use Rattle.tilt_types.specs.Core.{CoreParts, domain_of, emitted_number}
-use Rattle.tilt_types.specs.Meaning.{meaning, emitted, output_of}
+use Rattle.tilt_base.specs.declared.span.Span.{Span}
+use Rattle.tilt_core.specs.Core.{CoreParts, domain_of, emitted_number}
+use Rattle.tilt_core.specs.Meaning.{meaning, emitted, output_of}
 
 -- a query emits its last definition where there are as many lists of rows as inputs
 emits : (core : CoreParts) (rows : List (List Snapshot)) → length rows ≡ length core.inputs → emitted core rows ≡ Some (meaning rows core.defs (emitted_number core))

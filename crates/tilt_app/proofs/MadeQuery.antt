@@ -21,13 +21,13 @@ use Rattle.tilt_syntax.specs.Printing as printing
 use Rattle.tilt_made.specs.TryQuery.{query_text}
 use Rattle.tilt_syntax.specs.Query.{kinds, statements, AreGood}
 use Rattle.tilt_syntax.specs.Tree.{Num, Read, Reduce, StatementTree, Input, Let, Emit}
-use Rattle.tilt_syntax.specs.declared.span.Span.{Span}
+use Rattle.tilt_base.specs.declared.span.Span.{Span}
 use Rattle.tilt_syntax.proofs.Cuts.{query_cut}
 use Rattle.tilt_syntax.proofs.Spelling.{AreSound, lexed}
 use Rattle.tilt_syntax.proofs.Spelt.{query_spells}
 use Rattle.tilt_syntax.proofs.Written.{statement_tokens, statement_is}
 use Rattle.tilt_types.specs.Checked.{checked, core_of}
-use Rattle.tilt_types.specs.Core.{CoreParts}
+use Rattle.tilt_core.specs.Core.{CoreParts}
 use Rattle.tilt_types.specs.WellFormed.{domain_fault, first_fault, is_domain, is_stretch, multiples}
 use Rattle.std.specs.Fmt.{decimal}
 use Rattle.std.specs.List.{flat_map}

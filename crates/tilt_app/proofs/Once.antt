@@ -16,9 +16,9 @@ use Rattle.tilt_bounds.specs.Margins.{MarginsParts, margins_of}
 use Rattle.tilt_code.specs.Listing.{listing}
 use Rattle.tilt_fuse.specs.Plan.{plan_of}
 use Rattle.tilt_lower.specs.Lowering.{code_of}
-use Rattle.tilt_syntax.specs.declared.span.Span.{Span}
-use Rattle.tilt_types.specs.Core.{CoreParts, domain_of}
-use Rattle.tilt_types.specs.Needs.{Need}
+use Rattle.tilt_base.specs.declared.span.Span.{Span}
+use Rattle.tilt_core.specs.Core.{CoreParts, domain_of}
+use Rattle.tilt_core.specs.Needs.{Need}
 use Rattle.tilt_load.specs.SeriesFiles.{TakesInputs, RefusesInputs}
 use Rattle.tilt_load.proofs.OneCode.{code_once, code_refused_once, code_refused_or_taken}
 use Rattle.tilt_load.proofs.OneQuery.{taken_once, refused_once, refused_or_taken}
@@ -30,7 +30,7 @@ use Rattle.tilt_stream.specs.Snap.{Snapshot}
 use Rattle.tilt_made.specs.Summary.{summary_text}
 use Rattle.tilt_made.specs.TryQuery.{query_text}
 use Rattle.tilt_stream.specs.Text.{text_of}
-use Rattle.tilt_types.specs.Meaning.{output_of}
+use Rattle.tilt_core.specs.Meaning.{output_of}
 use Rattle.tilt_watch.specs.Watch.{Watch}
 use Rattle.tilt_words.specs.Binding.{Binding}
 use Rattle.tilt_words.specs.Command.{CommandValue, run, compile, exec, explain, start, resume_upto, resume_end, pipe, watch, try, IsCommand}

@@ -26,9 +26,9 @@ use Rattle.tilt_report.specs.Report.{printed}
 use Rattle.tilt_series.proofs.Writes.{lines_of-append}
 use Rattle.tilt_stream.specs.Snap.{Snapshot}
 use Rattle.tilt_stream.specs.Text.{lines_of, text_of}
-use Rattle.tilt_syntax.specs.declared.span.Span.{Span}
-use Rattle.tilt_types.specs.Core.{CoreParts, domain_of}
-use Rattle.tilt_types.specs.Meaning.{output_of}
+use Rattle.tilt_base.specs.declared.span.Span.{Span}
+use Rattle.tilt_core.specs.Core.{CoreParts, domain_of}
+use Rattle.tilt_core.specs.Meaning.{output_of}
 use Rattle.tilt_words.specs.Binding.{Binding}
 use Rattle.tilt_words.specs.Command.{run}
 

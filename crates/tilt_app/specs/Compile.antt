@@ -6,8 +6,8 @@ use Rattle.tilt_fuse.specs.Plan.{plan_of}
 use Rattle.tilt_load.specs.QueryFile.{TakesQuery, RefusesQuery}
 use Rattle.tilt_lower.specs.Lowering.{code_of}
 use Rattle.tilt_report.specs.Report.{Reason, Outcome, printed, refused, refusal}
-use Rattle.tilt_syntax.specs.declared.span.Span.{Span}
-use Rattle.tilt_types.specs.Core.{CoreParts, domain_of}
+use Rattle.tilt_base.specs.declared.span.Span.{Span}
+use Rattle.tilt_core.specs.Core.{CoreParts, domain_of}
 
 -- what `compile` does, with fusion or without, a case for each end
 pub data IsCompileOutcome (files : List ℕ → List ℕ) (query : List ℕ) (fuse : Bool) : Outcome → Type 0 where

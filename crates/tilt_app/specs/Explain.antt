@@ -4,7 +4,7 @@ use Rattle.tilt_bounds.specs.Margins.{MarginsParts, margins_of}
 use Rattle.tilt_explain.specs.Explain.{explained}
 use Rattle.tilt_load.specs.QueryFile.{TakesQuery, RefusesQuery}
 use Rattle.tilt_report.specs.Report.{Reason, Outcome, printed, refused, refusal}
-use Rattle.tilt_types.specs.Core.{CoreParts}
+use Rattle.tilt_core.specs.Core.{CoreParts}
 
 -- what `explain` does, a case for each end
 pub data IsExplainOutcome (files : List ℕ → List ℕ) (query : List ℕ) : Outcome → Type 0 where

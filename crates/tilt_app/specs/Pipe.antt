@@ -15,9 +15,9 @@ use Rattle.tilt_pipe.specs.Value.{PipeParts}
 use Rattle.tilt_report.specs.Report.{Outcome, printed}
 use Rattle.tilt_stream.specs.Snap.{Snapshot}
 use Rattle.tilt_stream.specs.Text.{text_of}
-use Rattle.tilt_syntax.specs.declared.span.Span.{Span}
-use Rattle.tilt_types.specs.Core.{CoreParts, domain_of}
-use Rattle.tilt_types.specs.Meaning.{output_of}
+use Rattle.tilt_base.specs.declared.span.Span.{Span}
+use Rattle.tilt_core.specs.Core.{CoreParts, domain_of}
+use Rattle.tilt_core.specs.Meaning.{output_of}
 use Rattle.tilt_words.specs.Binding.{Binding}
 
 -- the line `rings G`

@@ -5,8 +5,8 @@ use Rattle.tilt_load.specs.QueryFile.{TakesQuery, RefusesQuery}
 use Rattle.tilt_report.specs.Report.{Outcome, printed}
 use Rattle.tilt_stream.specs.Snap.{Snapshot}
 use Rattle.tilt_stream.specs.Text.{text_of}
-use Rattle.tilt_types.specs.Core.{CoreParts}
-use Rattle.tilt_types.specs.Meaning.{output_of}
+use Rattle.tilt_core.specs.Core.{CoreParts}
+use Rattle.tilt_core.specs.Meaning.{output_of}
 use Rattle.tilt_words.specs.Binding.{Binding}
 
 -- the outcome is what is made of the snapshots of the query's meaning on its output domain

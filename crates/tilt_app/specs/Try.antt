@@ -6,8 +6,8 @@ use Rattle.tilt_made.specs.Summary.{summary_text}
 use Rattle.tilt_made.specs.TryQuery.{query_text}
 use Rattle.tilt_report.specs.Report.{Outcome, printed}
 use Rattle.tilt_stream.specs.Snap.{Snapshot}
-use Rattle.tilt_types.specs.Core.{CoreParts}
-use Rattle.tilt_types.specs.Meaning.{output_of}
+use Rattle.tilt_core.specs.Core.{CoreParts}
+use Rattle.tilt_core.specs.Meaning.{output_of}
 
 -- the rows of both inputs
 abbrev pub made_inputs : ℕ → ℕ → List (List Snapshot)

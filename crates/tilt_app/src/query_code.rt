@@ -5,9 +5,9 @@ ghost use Rattle.tilt_code.specs.Run.{run_of};
 ghost use Rattle.tilt_fuse.specs.Plan.{plan_of};
 ghost use Rattle.tilt_lower.specs.Lowering.{code_of};
 ghost use Rattle.tilt_stream.specs.Snap.{Snapshot};
-ghost use Rattle.tilt_syntax.specs.declared.span.Span.{Span};
-ghost use Rattle.tilt_types.specs.Core.{domain_of};
-ghost use Rattle.tilt_types.specs.Meaning.{output_of};
+ghost use Rattle.tilt_base.specs.declared.span.Span.{Span};
+ghost use Rattle.tilt_core.specs.Core.{domain_of};
+ghost use Rattle.tilt_core.specs.Meaning.{output_of};
 
 use std::alloc::{AllocError as OutOfMemory, Global};
 use tilt_code::Code;

@@ -1,4 +1,5 @@
 pub mod Average
+pub mod Bits
 pub mod Decimals
 pub mod GridPoints
 pub mod Last

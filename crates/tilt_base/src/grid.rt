@@ -1,7 +1,7 @@
 // Grids, and their points below and above a tick.
-ghost use Rattle.std.specs.Prelude.{◌≡◌, ◌≤ℤ◌, ◌+ℤ◌, ◌*ℤ◌, pos, neg_ℤ, MatchOption};
+ghost use Rattle.std.specs.Prelude.{◌≡◌, ◌^◌, ◌≤ℤ◌, ◌+ℤ◌, ◌*ℤ◌, pos, neg_ℤ, MatchOption};
 ghost use Rattle.tilt_base.specs.declared.limits.TheConstants.{WIDE, OFFSET};
-ghost use Rattle.tilt_base.specs.Grid.{IsGrid, IsCeil, IsFloor, ceil, floor};
+ghost use Rattle.tilt_base.specs.Grid.{IsGrid, IsCeil, IsFloor, ceil, floor, is_point};
 
 use crate::limits::PERIOD;
 use std::marker::Model;
@@ -59,6 +59,15 @@ impl Grid {
         ensures value { result ≡ floor self.now tick }
     {
         tick - (tick - self.offset).rem_euclid(self.period)
+    }
+
+    /// Whether the tick is a grid point. Ticks have 128 bits here, since shifts may lead far outside 64.
+    pub fn is_point(&self, tick: i128) -> bool
+        requires low { neg_ℤ (pos (2 ^ 98)) ≤ℤ tick }
+        requires high { tick ≤ℤ pos (2 ^ 98) }
+        ensures { result ≡ is_point self.now tick }
+    {
+        (tick - i128::from(self.offset)).rem_euclid(i128::from(self.period)) == 0
     }
 }
 

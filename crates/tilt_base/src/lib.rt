@@ -13,6 +13,7 @@ mod number;
 mod operator;
 mod reducer;
 mod scalar;
+mod span;
 
 pub use cell::Cell;
 pub use grid::Grid;
@@ -21,3 +22,4 @@ pub use number::{read_number, read_shortest};
 pub use operator::{Op1, Op2};
 pub use reducer::{Reducer, reduce};
 pub use scalar::{apply1, apply2, choose};
+pub use span::Span;

@@ -8,10 +8,10 @@ use Rattle.tilt_stream.proofs.Streams.{cell_at-before, mark_at-before}
 use Rattle.tilt_stream.specs.Agreement.{Agree}
 use Rattle.tilt_stream.specs.Snap.{Snapshot, InOrder}
 use Rattle.tilt_stream.specs.Stream.{Stream, stream_of, cell_at, mark_at}
-use Rattle.tilt_types.proofs.Sources.{with_definitions-front}
-use Rattle.tilt_types.specs.Core.{CoreParts, IsCore}
-use Rattle.tilt_types.specs.Meaning.{source_of, with_definitions, meaning}
-use Rattle.tilt_types.specs.Needs.{Need, asked_from, needs}
+use Rattle.tilt_core.proofs.Sources.{with_definitions-front}
+use Rattle.tilt_core.specs.Core.{CoreParts, IsCore}
+use Rattle.tilt_core.specs.Meaning.{source_of, with_definitions, meaning}
+use Rattle.tilt_core.specs.Needs.{Need, asked_from, needs}
 use Rattle.tilt_bounds.proofs.Local.{with_definitions-agrees}
 use Rattle.tilt_bounds.proofs.Needs.{below_or_behind, need_at-input, need_at-definition}
 use Rattle.tilt_bounds.specs.Laws.{AgreeAsAsked, IsLocal, IsContinued, AreContinued, SameUpTo, StaysAsAsked, IsCausal}

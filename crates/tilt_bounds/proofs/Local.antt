@@ -9,12 +9,12 @@ use Rattle.tilt_stream.specs.Agreement.{Agree}
 use Rattle.tilt_stream.specs.Domain.{on_grid}
 use Rattle.tilt_stream.specs.Pointwise.{constant}
 use Rattle.tilt_stream.specs.Stream.{Stream}
-use Rattle.tilt_syntax.specs.declared.span.Span.{Span}
-use Rattle.tilt_types.proofs.Sources.{source_of-front, source_of-last, with_definitions-front}
-use Rattle.tilt_types.specs.Core.{ReadsBelow, IsDefinition, AreDefinitions}
-use Rattle.tilt_types.specs.CoreTree.{Const, Read, Reduce, CoreTree, Definition}
-use Rattle.tilt_types.specs.Meaning.{source_of, body_of, within, definition_of, with_definitions}
-use Rattle.tilt_types.specs.Needs.{Need, no_margin, wider, either, reaching, asked_by, body_need, asked_of, need_before, asked_from, needs_from}
+use Rattle.tilt_base.specs.declared.span.Span.{Span}
+use Rattle.tilt_core.proofs.Sources.{source_of-front, source_of-last, with_definitions-front}
+use Rattle.tilt_core.specs.Core.{ReadsBelow, IsDefinition, AreDefinitions}
+use Rattle.tilt_core.specs.CoreTree.{Const, Read, Reduce, CoreTree, Definition}
+use Rattle.tilt_core.specs.Meaning.{source_of, body_of, within, definition_of, with_definitions}
+use Rattle.tilt_core.specs.Needs.{Need, no_margin, wider, either, reaching, asked_by, body_need, asked_of, need_before, asked_from, needs_from}
 use Rattle.tilt_bounds.specs.Laws.{AgreeAsAsked}
 
 -- a number is itself

@@ -6,9 +6,9 @@ use Rattle.std.proofs.Math.ListN.{get_or-append}
 use Rattle.std.proofs.lemmas.Int.{ints, clamps}
 use Rattle.std.proofs.lemmas.List.{get_or-append-add, take_more, length-take-le}
 use Rattle.std.proofs.lemmas.List.FromFn.{get_or-map-range_with_len, length-map-range_with_len}
-use Rattle.tilt_types.specs.CoreTree.{Definition}
-use Rattle.tilt_types.specs.Meaning.{AreGrids}
-use Rattle.tilt_types.specs.Needs.{Need, no_margin, wider, asked_from, needs_from, needs, body_need, body_needs, widest}
+use Rattle.tilt_core.specs.CoreTree.{Definition}
+use Rattle.tilt_core.specs.Meaning.{AreGrids}
+use Rattle.tilt_core.specs.Needs.{Need, no_margin, wider, asked_from, needs_from, needs, body_need, body_needs, widest}
 use Rattle.tilt_bounds.specs.Margins.{IsWithin, AreWithin, need_at}
 
 -- needs of the same numbers are the same

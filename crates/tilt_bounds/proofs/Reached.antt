@@ -5,10 +5,10 @@ use Rattle.std.proofs.Math.Seq.{take-append_seam, drop-append_seam}
 use Rattle.std.proofs.lemmas.Int.{ints}
 use Rattle.std.proofs.lemmas.List.FromFn.{length-map-range_with_len}
 use Rattle.tilt_base.specs.declared.limits.TheConstants.{REACH}
-use Rattle.tilt_types.proofs.Constancy.{definitions-AreGrids}
-use Rattle.tilt_types.specs.Core.{CoreParts, IsCore}
-use Rattle.tilt_types.specs.CoreTree.{Definition}
-use Rattle.tilt_types.specs.Needs.{Need, asked_from, needs_from, needs, body_needs, widest, reach}
+use Rattle.tilt_core.proofs.Constancy.{definitions-AreGrids}
+use Rattle.tilt_core.specs.Core.{CoreParts, IsCore}
+use Rattle.tilt_core.specs.CoreTree.{Definition}
+use Rattle.tilt_core.specs.Needs.{Need, asked_from, needs_from, needs, body_needs, widest, reach}
 use Rattle.tilt_bounds.proofs.Needs.{AreWithin-widest, widest-low}
 use Rattle.tilt_bounds.proofs.Steps.{length-needs_from}
 use Rattle.tilt_bounds.specs.Margins.{MarginsParts, IsWithin, AreWithin, evenly, is_too_far, margins_of, need_at}

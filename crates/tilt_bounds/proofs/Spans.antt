@@ -4,8 +4,8 @@ use Rattle.std.specs.Prelude.{neg_ℤ, int_lt, if◌then◌else◌}
 use Rattle.std.specs.Int.{int_max, int_min}
 use Rattle.std.proofs.lemmas.Int.{ints, clamps}
 use Rattle.tilt_base.specs.declared.limits.TheConstants.{WIDE}
-use Rattle.tilt_syntax.specs.declared.span.Span.{Span}
-use Rattle.tilt_types.specs.Needs as needs
+use Rattle.tilt_base.specs.declared.span.Span.{Span}
+use Rattle.tilt_core.specs.Needs as needs
 use Rattle.tilt_bounds.specs.Margins.{need_of, need_at}
 use Rattle.tilt_bounds.specs.Stretch.{cut_down}
 use Rattle.tilt_bounds.specs.declared.loop_span.LoopSpan.{LoopSpan}

@@ -8,9 +8,9 @@ use Rattle.std.proofs.lemmas.List.{ext_get_or, length-set, append-nil, get_or-se
 use Rattle.std.proofs.lemmas.List.FromFn.{length-map-range_with_len}
 use Rattle.tilt_base.specs.Expression.{Leaf, One, Two, If}
 use Rattle.tilt_base.specs.Grid.{IsGrid}
-use Rattle.tilt_types.specs.Core.{ReadsBelow, IsDefinition, AreDefinitions}
-use Rattle.tilt_types.specs.CoreTree.{Const, Read, Reduce, CoreTree, Definition}
-use Rattle.tilt_types.specs.Needs.{Need, wider, either, reaching, asked_by, body_need, asked_of, need_before, asked_from, needs_from, needs}
+use Rattle.tilt_core.specs.Core.{ReadsBelow, IsDefinition, AreDefinitions}
+use Rattle.tilt_core.specs.CoreTree.{Const, Read, Reduce, CoreTree, Definition}
+use Rattle.tilt_core.specs.Needs.{Need, wider, either, reaching, asked_by, body_need, asked_of, need_before, asked_from, needs_from, needs}
 use Rattle.tilt_bounds.proofs.Needs.{below_or_behind, need_at-input, need_at-definition, wider-grows}
 use Rattle.tilt_bounds.proofs.Local.{is_itself}
 use Rattle.tilt_bounds.specs.Margins.{IsWithin, AreWithin, evenly, need_at}

@@ -4,9 +4,9 @@ use Rattle.tilt_base.specs.declared.limits.TheConstants.{T}
 use Rattle.tilt_stream.specs.Agreement.{Agree, ChangesOnlyAtMarks}
 use Rattle.tilt_stream.specs.Snap.{Snapshot, InOrder}
 use Rattle.tilt_stream.specs.Stream.{Stream}
-use Rattle.tilt_types.specs.Core.{CoreParts}
-use Rattle.tilt_types.specs.Meaning.{meaning}
-use Rattle.tilt_types.specs.Needs.{Need}
+use Rattle.tilt_core.specs.Core.{CoreParts}
+use Rattle.tilt_core.specs.Meaning.{meaning}
+use Rattle.tilt_core.specs.Needs.{Need}
 use Rattle.tilt_bounds.specs.Margins.{MarginsParts, need_at}
 
 -- each source changes only at marks, whatever the rows are

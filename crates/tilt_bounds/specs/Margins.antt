@@ -3,8 +3,8 @@ use Rattle.std.specs.Prelude.{◌≡◌, ℕ, ℤ, pos, ◌≤ℤ◌, Bool, ◌|
 use Rattle.std.specs.Coded.{Coded, code_by, coded×, coded_ℤ, coded_list, coded_option}
 use Rattle.std.specs.List.{slice_index_or}
 use Rattle.tilt_base.specs.declared.limits.TheConstants.{REACH}
-use Rattle.tilt_types.specs.Core.{CoreParts}
-use Rattle.tilt_types.specs.Needs as needs
+use Rattle.tilt_core.specs.Core.{CoreParts}
+use Rattle.tilt_core.specs.Needs as needs
 use Rattle.tilt_bounds.specs.declared.fault.ReachFault.{ReachFault}
 use Rattle.tilt_bounds.specs.declared.fault.ReachFault.TheVariants.{TooFar, OutOfMemory}
 use Rattle.tilt_bounds.specs.declared.need.Need.{Need}

@@ -1,9 +1,9 @@
 -- The stretch of time on which the loop of a definition runs (our own rule).
 use Rattle.std.specs.Prelude.{◌≡◌, ℤ, ◌+ℤ◌, ◌-ℤ◌, true, false, if◌then◌else◌, Option, Some, None, int_lt}
 use Rattle.std.specs.Int.{int_min, int_max}
-use Rattle.tilt_syntax.specs.declared.span.Span.{Span}
-use Rattle.tilt_types.specs.CoreTree.{Definition}
-use Rattle.tilt_types.specs.Needs.{Need}
+use Rattle.tilt_base.specs.declared.span.Span.{Span}
+use Rattle.tilt_core.specs.CoreTree.{Definition}
+use Rattle.tilt_core.specs.Needs.{Need}
 use Rattle.tilt_bounds.specs.declared.loop_span.LoopSpan.{LoopSpan}
 
 -- `(lo, hi]`, cut down to a span where one is written; where that leaves nothing, the uncut stretch, which is then told to be empty

@@ -1,13 +1,13 @@
 // The needs of sources: each definition asks the sources before it, from the last definition to the first.
 ghost use Rattle.std.specs.Prelude.{◌≡◌, ◌+◌, ◌*◌, ◌^◌, ◌<◌, ◌≤◌, ◌≤ℤ◌, ◌∷◌, ℕ, suc, pos, neg_ℤ, None, Some, length, IfOk, replicate, slice_set};
-ghost use Rattle.tilt_types.specs.Core.{AreDefinitions, IsDefinition, ReadsBelow};
-ghost use Rattle.tilt_types.specs.CoreTree.{tree_of};
-ghost use Rattle.tilt_types.specs.Needs.{asked_by, body_need, either, need_before, needs, reaching};
+ghost use Rattle.tilt_core.specs.Core.{AreDefinitions, IsDefinition, ReadsBelow};
+ghost use Rattle.tilt_core.specs.CoreTree.{tree_of};
+ghost use Rattle.tilt_core.specs.Needs.{asked_by, body_need, either, need_before, needs, reaching};
 ghost use Rattle.tilt_bounds.specs.Margins.{AreWithin, IsWithin, evenly, need_at};
 
 use crate::wide_need::{WideNeed, no_margin, wider};
 use std::alloc::{AllocError as OutOfMemory, Global};
-use tilt_types::{Def, Tree};
+use tilt_core::{Def, Tree};
 
 /// The needs of the sources, the inputs first; none where a source isn't used.
 pub fn needs_of(

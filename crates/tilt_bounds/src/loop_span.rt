@@ -3,13 +3,13 @@ ghost use Rattle.std.specs.List.{slice_index_or};
 ghost use Rattle.tilt_base.specs.declared.limits.TheConstants.{T, WIDE};
 ghost use Rattle.tilt_bounds.specs.Margins.{margins_of, need_at};
 ghost use Rattle.tilt_bounds.specs.Stretch.{cut_down, stretch_of};
-ghost use Rattle.tilt_types.specs.CoreTree.{Definition};
-ghost use Rattle.tilt_types.specs.Needs as needs;
+ghost use Rattle.tilt_core.specs.CoreTree.{Definition};
+ghost use Rattle.tilt_core.specs.Needs as needs;
 
 use crate::margins::Margins;
 use crate::need::Need;
-use tilt_syntax::Span;
-use tilt_types::Core;
+use tilt_base::Span;
+use tilt_core::Core;
 
 /// The stretch `(lo, hi]` of time on which a loop runs, in ticks.
 #[derive(Clone, Copy, Debug, PartialEq, Eq)]

@@ -11,7 +11,7 @@ use crate::wide_need::WideNeed;
 use crate::widest::widest_of;
 use std::alloc::{AllocError as OutOfMemory, Global};
 use tilt_base::REACH;
-use tilt_types::Core;
+use tilt_core::Core;
 
 /// The margins of the query: the need of each source, and the look-back and the look-ahead. `TooFar` comes where one of the
 /// two is above `REACH`, and tells both.

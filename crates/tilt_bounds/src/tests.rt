@@ -1,9 +1,10 @@
 use crate::{Margins, Need, ReachFault, reach, stretch};
 use std::alloc::Global;
 use std::test::Fail;
+use tilt_core::Core;
 use tilt_lexer::lex;
 use tilt_syntax::parse;
-use tilt_types::{Core, check};
+use tilt_types::check;
 
 fn core_of(alloc: Global, text: &str) -> Result<Core, Fail> {
     let tokens = lex(alloc, text.as_bytes())?;

@@ -1,6 +1,6 @@
 // Needs before it is known that they are within the limit.
 ghost use Rattle.std.specs.Prelude.{◌≡◌};
-ghost use Rattle.tilt_types.specs.Needs.{no_margin, wider};
+ghost use Rattle.tilt_core.specs.Needs.{no_margin, wider};
 
 use std::marker::Model;
 
@@ -13,7 +13,7 @@ pub struct WideNeed {
 }
 
 impl Model for WideNeed {
-    ghost use Rattle.tilt_types.specs.Needs.{Need};
+    ghost use Rattle.tilt_core.specs.Needs.{Need};
 
     ghost Value = { Need };
 

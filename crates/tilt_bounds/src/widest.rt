@@ -1,11 +1,11 @@
 // The widest of the needs of a query.
 ghost use Rattle.std.specs.Prelude.{◌≡◌, ◌+◌, ◌*◌, ◌++◌, ◌≤◌, ◌^◌, pos, length, take, drop};
-ghost use Rattle.tilt_types.specs.Needs.{body_needs, widest};
+ghost use Rattle.tilt_core.specs.Needs.{body_needs, widest};
 ghost use Rattle.tilt_bounds.specs.Margins.{AreWithin, evenly};
 
 use crate::asking::body_need;
 use crate::wide_need::{WideNeed, no_margin, wider};
-use tilt_types::Def;
+use tilt_core::Def;
 
 /// The widest of the needs of the inputs and of the needs of the bodies of the definitions. The needs of the definitions
 /// stand behind those of the inputs.

@@ -2,9 +2,9 @@
 use Rattle.std.proofs.Common.{◌≡◌, Bool, true, false, if◌then◌else◌, length, map, ◌++◌, Some, Result, Ok, Err, ap, arith}
 use Rattle.std.proofs.lemmas.Int.{ints}
 use Rattle.std.specs.List.{range_with_len}
-use Rattle.tilt_syntax.specs.declared.span.Span.{Span}
-use Rattle.tilt_types.specs.Core.{CoreParts, IsStretch}
-use Rattle.tilt_types.specs.Needs.{Need, asked_from, body_needs, needs_from, reach}
+use Rattle.tilt_base.specs.declared.span.Span.{Span}
+use Rattle.tilt_core.specs.Core.{CoreParts, IsStretch}
+use Rattle.tilt_core.specs.Needs.{Need, asked_from, body_needs, needs_from, reach}
 use Rattle.tilt_bounds.specs.Margins.{AreMargins, MarginsParts, is_too_far, margins_of}
 use Rattle.tilt_bounds.proofs.Needs.{widest-low}
 use Rattle.tilt_checkpoint.specs.Decided.{IsFrame}

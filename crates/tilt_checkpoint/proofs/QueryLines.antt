@@ -25,7 +25,7 @@ use Rattle.tilt_syntax.specs.Printing.{domain_text, expr_text, in_place, level_o
 use Rattle.tilt_syntax.specs.Query.{AreGood, IsQuery, statements}
 use Rattle.tilt_syntax.specs.Rest.{AreSound}
 use Rattle.tilt_syntax.specs.Tree.{Num, Truth, Read, Reduce, ExprTree, StatementTree, Input, Let, Emit}
-use Rattle.tilt_syntax.specs.declared.span.Span.{Span}
+use Rattle.tilt_base.specs.declared.span.Span.{Span}
 use Rattle.tilt_checkpoint.specs.Reading.{◌>>=◌, behind_line, times}
 use Rattle.tilt_checkpoint.proofs.Pieces.{Lacks, lacks-append, lacks-more, same_from, until-front}
 use Rattle.tilt_checkpoint.proofs.Words.{signed_lacks}

@@ -2,9 +2,9 @@
 use Rattle.std.specs.Prelude.{ℤ, pos, neg_ℤ, ◌+ℤ◌, ◌-ℤ◌, ◌≤ℤ◌, ◌<ℤ◌, length, Option, Some, None}
 use Rattle.std.specs.Int.{int_min, int_max}
 use Rattle.tilt_base.specs.declared.limits.TheConstants.{T, REACH}
-use Rattle.tilt_syntax.specs.declared.span.Span.{Span}
-use Rattle.tilt_types.specs.Core.{CoreParts, domain_of}
-use Rattle.tilt_types.specs.Needs.{Need, reach}
+use Rattle.tilt_base.specs.declared.span.Span.{Span}
+use Rattle.tilt_core.specs.Core.{CoreParts, domain_of}
+use Rattle.tilt_core.specs.Needs.{Need, reach}
 use Rattle.tilt_checkpoint.specs.declared.frame.Frame.{Frame}
 
 -- the frame of a query with this output domain, which each accepted query has, and this look-back and look-ahead

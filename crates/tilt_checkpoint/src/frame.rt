@@ -4,7 +4,7 @@ ghost use Rattle.tilt_checkpoint.specs.Decided.{IsFrame, decided, first_kept, fr
 ghost use Rattle.tilt_checkpoint.specs.Valid.{IsCut};
 
 use tilt_bounds::Margins;
-use tilt_types::Core;
+use tilt_core::Core;
 
 /// What the sessions of a query go by: its output domain `(start, end]`, and how far it looks, all in ticks.
 #[derive(Clone, Copy, Debug, PartialEq, Eq)]

@@ -14,11 +14,11 @@ use Rattle.tilt_stream.proofs.Locality.{narrower-agrees}
 use Rattle.tilt_stream.specs.Agreement.{Agree}
 use Rattle.tilt_stream.specs.Snap.{Snapshot, AreRows}
 use Rattle.tilt_stream.specs.Stream.{Stream, stream_of}
-use Rattle.tilt_types.proofs.Sources.{with_definitions-front}
-use Rattle.tilt_types.specs.Core.{CoreParts, IsCore, emitted_number}
-use Rattle.tilt_types.specs.CoreTree.{Definition}
-use Rattle.tilt_types.specs.Meaning.{meaning, source_of}
-use Rattle.tilt_types.specs.Needs.{Need, needs_from, no_margin, reach}
+use Rattle.tilt_core.proofs.Sources.{with_definitions-front}
+use Rattle.tilt_core.specs.Core.{CoreParts, IsCore, emitted_number}
+use Rattle.tilt_core.specs.CoreTree.{Definition}
+use Rattle.tilt_core.specs.Meaning.{meaning, source_of}
+use Rattle.tilt_core.specs.Needs.{Need, needs_from, no_margin, reach}
 use Rattle.tilt_chunk.proofs.Lists.{length-added, rows_of, sources-kept}
 use Rattle.tilt_chunk.specs.Emitted.{given}
 use Rattle.tilt_chunk.specs.Kept.{kept_of}

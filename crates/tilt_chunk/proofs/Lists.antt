@@ -7,7 +7,7 @@ use Rattle.tilt_checkpoint.specs.Checkpoint.{KeptParts}
 use Rattle.tilt_stream.specs.Agreement.{Agree}
 use Rattle.tilt_stream.specs.Snap.{Snapshot, AreRows, InOrder, last_end}
 use Rattle.tilt_stream.specs.Stream.{stream_of}
-use Rattle.tilt_types.specs.Meaning.{source_of}
+use Rattle.tilt_core.specs.Meaning.{source_of}
 use Rattle.tilt_chunk.proofs.Reach.{kept-agrees, kept-again}
 use Rattle.tilt_chunk.specs.Handed.{all_taken_up, kept_at}
 use Rattle.tilt_chunk.specs.Kept.{kept_of}

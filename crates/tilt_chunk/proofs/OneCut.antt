@@ -15,12 +15,12 @@ use Rattle.tilt_stream.specs.Snap.{Snapshot, AreRows}
 use Rattle.tilt_stream.specs.Snapshots.{snapshots}
 use Rattle.tilt_stream.specs.Stream.{Stream}
 use Rattle.tilt_syntax.specs.Tree.{StatementTree}
-use Rattle.tilt_syntax.specs.declared.span.Span.{Span}
-use Rattle.tilt_types.proofs.Constancy.{definitions-AreGrids, meaning-changes}
+use Rattle.tilt_base.specs.declared.span.Span.{Span}
+use Rattle.tilt_core.proofs.Constancy.{definitions-AreGrids, meaning-changes}
 use Rattle.tilt_types.specs.Checked.{core_of}
-use Rattle.tilt_types.specs.Core.{CoreParts, IsCore, domain_of, emitted_number}
-use Rattle.tilt_types.specs.Meaning.{meaning}
-use Rattle.tilt_types.specs.Needs.{Need, reach}
+use Rattle.tilt_core.specs.Core.{CoreParts, IsCore, domain_of, emitted_number}
+use Rattle.tilt_core.specs.Meaning.{meaning}
+use Rattle.tilt_core.specs.Needs.{Need, reach}
 use Rattle.tilt_chunk.proofs.Given.{given-continued, given-kept, margins-reach}
 use Rattle.tilt_chunk.proofs.Joined.{snapshots-parted, snapshots-some}
 use Rattle.tilt_chunk.proofs.Lists.{continued, kept-all, new-counted}

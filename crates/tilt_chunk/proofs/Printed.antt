@@ -7,8 +7,8 @@ use Rattle.tilt_checkpoint.specs.declared.frame.Frame.{Frame}
 use Rattle.tilt_code.proofs.Filling.{snapshots-Fill, Fill-AreSnapshots}
 use Rattle.tilt_stream.proofs.Cut.{snapshots-none}
 use Rattle.tilt_stream.specs.Snap.{Snapshot, AreSnapshots}
-use Rattle.tilt_types.specs.Core.{CoreParts, emitted_number}
-use Rattle.tilt_types.specs.Meaning.{meaning}
+use Rattle.tilt_core.specs.Core.{CoreParts, emitted_number}
+use Rattle.tilt_core.specs.Meaning.{meaning}
 use Rattle.tilt_chunk.proofs.OneCut.{decided-most}
 use Rattle.tilt_chunk.proofs.Parted.{AreSnapshots-front}
 use Rattle.tilt_chunk.specs.Cuts.{decided_by}

@@ -18,8 +18,8 @@ use Rattle.tilt_stream.specs.Stream.{Stream}
 use Rattle.tilt_syntax.specs.Query.{IsQuery}
 use Rattle.tilt_syntax.specs.Tree.{StatementTree}
 use Rattle.tilt_types.specs.Checked.{checked, core_of, core_unless}
-use Rattle.tilt_types.specs.Core.{CoreParts, emitted_number}
-use Rattle.tilt_types.specs.Meaning.{meaning}
+use Rattle.tilt_core.specs.Core.{CoreParts, emitted_number}
+use Rattle.tilt_core.specs.Meaning.{meaning}
 use Rattle.tilt_types.specs.WellFormed.{first_fault}
 use Rattle.tilt_types.specs.declared.fault.CheckFault.{CheckFault}
 use Rattle.tilt_chunk.proofs.Lists.{kept_at-again, kept_at-first, last_or-none, length-added, length-kept_again, new-counted, rows-taken_up, rows_of}

@@ -2,8 +2,8 @@
 use Rattle.std.specs.Prelude.{ℤ, if◌then◌else◌, List, Option, None, int_lt}
 use Rattle.tilt_stream.specs.Snap.{Snapshot}
 use Rattle.tilt_stream.specs.Snapshots.{snapshots}
-use Rattle.tilt_types.specs.Core.{CoreParts, emitted_number}
-use Rattle.tilt_types.specs.Meaning.{meaning}
+use Rattle.tilt_core.specs.Core.{CoreParts, emitted_number}
+use Rattle.tilt_core.specs.Meaning.{meaning}
 use Rattle.tilt_checkpoint.specs.Decided.{frame_of}
 use Rattle.tilt_checkpoint.specs.declared.frame.Frame.{Frame}
 use Rattle.tilt_chunk.specs.Cuts.{decided_by}

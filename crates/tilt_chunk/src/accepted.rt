@@ -1,5 +1,5 @@
 use tilt_bounds::Margins;
-use tilt_types::Core;
+use tilt_core::Core;
 
 /// A query that was accepted: its core, its margins, and whether its definitions are fused.
 #[derive(Clone, Copy)]

@@ -4,8 +4,8 @@ use Rattle.std.specs.Fmt.{decimal, signed_decimal}
 use Rattle.tilt_bounds.specs.Margins.{MarginsParts, need_at}
 use Rattle.tilt_fuse.specs.FusedTree.{PlannedLoop}
 use Rattle.tilt_fuse.specs.Plan.{plan_of, has_loop}
-use Rattle.tilt_types.specs.Core.{CoreParts}
-use Rattle.tilt_types.specs.Needs.{Need}
+use Rattle.tilt_core.specs.Core.{CoreParts}
+use Rattle.tilt_core.specs.Needs.{Need}
 
 -- a number behind a blank
 abbrev pub spaced : ℤ → List ℕ

@@ -7,9 +7,9 @@ ghost use Rattle.tilt_explain.specs.Explain.{explained, input_lines, let_lines, 
 use crate::text::{put, put_count, put_spaced};
 use std::alloc::{AllocError as OutOfMemory, Global};
 use tilt_bounds::{Margins, Need};
+use tilt_core::Core;
 use tilt_fuse::{PlanLoop, plan};
 use tilt_lexer::Name;
-use tilt_types::Core;
 
 /// How far the query looks back and ahead; how far each input and each named definition is looked at, or that it isn't used;
 /// whether a definition has a loop or is merged into those that read it; and how many loops there are with fusion and

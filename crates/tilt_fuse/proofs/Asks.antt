@@ -12,10 +12,10 @@ use Rattle.tilt_fuse.specs.FusedTree.{FusedTree, Const, Port, Win, WinBy, Argume
 use Rattle.tilt_fuse.specs.Plan.{nodes, moved, first_port, reads_only, only_reading, as_map, is_port, window_over, window_on, reading_of, fused, has_window_on}
 use Rattle.tilt_fuse.specs.Trees.{IsMap, IsNear, IsNearBody, EachAsks}
 use Rattle.tilt_fuse.specs.declared.reading.Reading.{Reading}
-use Rattle.tilt_types.specs.Core.{ReadsBelow}
-use Rattle.tilt_types.specs.CoreTree.{CoreTree}
-use Rattle.tilt_types.specs.CoreTree as core
-use Rattle.tilt_types.specs.Needs.{Need, wider, either, reaching, asked_by}
+use Rattle.tilt_core.specs.Core.{ReadsBelow}
+use Rattle.tilt_core.specs.CoreTree.{CoreTree}
+use Rattle.tilt_core.specs.CoreTree as core
+use Rattle.tilt_core.specs.Needs.{Need, wider, either, reaching, asked_by}
 
 -- a map is one
 pub as_map-is : (tree : FusedTree) → IsMap (as_map tree)

@@ -18,10 +18,10 @@ use Rattle.tilt_fuse.specs.declared.reading.Reading.{Reading}
 use Rattle.tilt_stream.specs.Pointwise.{constant, shifted}
 use Rattle.tilt_stream.specs.Stream.{Stream, SameStream}
 use Rattle.tilt_stream.specs.Window.{windowed}
-use Rattle.tilt_types.specs.CoreTree.{CoreTree}
-use Rattle.tilt_types.specs.CoreTree as core
-use Rattle.tilt_types.specs.Meaning.{source_of, body_of}
-use Rattle.tilt_types.specs.Needs.{Need}
+use Rattle.tilt_core.specs.CoreTree.{CoreTree}
+use Rattle.tilt_core.specs.CoreTree as core
+use Rattle.tilt_core.specs.Meaning.{source_of, body_of}
+use Rattle.tilt_core.specs.Needs.{Need}
 
 pub both-true : (a b : Bool) → (a && b) ≡ true → (a ≡ true) × (b ≡ true)
 both-true true b h = (refl, h)

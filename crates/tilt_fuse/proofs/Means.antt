@@ -19,13 +19,13 @@ use Rattle.tilt_stream.specs.Domain.{on_grid}
 use Rattle.tilt_stream.specs.Pointwise.{shifted, lifted1, lifted2, branched}
 use Rattle.tilt_stream.specs.Stream.{Stream, SameStream, stream_of}
 use Rattle.tilt_stream.specs.Window.{windowed}
-use Rattle.tilt_syntax.specs.declared.span.Span.{Span}
-use Rattle.tilt_types.proofs.Sources.{source_of-last, with_definitions-front}
-use Rattle.tilt_types.specs.Core.{CoreParts, ReadsBelow}
-use Rattle.tilt_types.specs.CoreTree as core
-use Rattle.tilt_types.specs.CoreTree.{CoreTree, Definition}
-use Rattle.tilt_types.specs.Meaning.{source_of, body_of, within, definition_of, with_definitions, sources}
-use Rattle.tilt_types.specs.Needs.{Need, needs_from, needs}
+use Rattle.tilt_base.specs.declared.span.Span.{Span}
+use Rattle.tilt_core.proofs.Sources.{source_of-last, with_definitions-front}
+use Rattle.tilt_core.specs.Core.{CoreParts, ReadsBelow}
+use Rattle.tilt_core.specs.CoreTree as core
+use Rattle.tilt_core.specs.CoreTree.{CoreTree, Definition}
+use Rattle.tilt_core.specs.Meaning.{source_of, body_of, within, definition_of, with_definitions, sources}
+use Rattle.tilt_core.specs.Needs.{Need, needs_from, needs}
 
 -- an expression is the same over sources that are the same below a number
 pub body_of-below : (xs ys : List Stream) (bound : ℕ) (body : CoreTree) → ReadsBelow bound body → ((source : ℕ) → source < bound → source_of xs source ≡ source_of ys source)

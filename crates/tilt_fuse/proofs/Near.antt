@@ -9,9 +9,9 @@ use Rattle.tilt_bounds.proofs.Reached as reached
 use Rattle.tilt_bounds.specs.Margins.{MarginsParts, IsWithin, AreWithin, evenly, is_too_far, margins_of, need_at}
 use Rattle.tilt_fuse.specs.Trees.{IsKnown}
 use Rattle.tilt_fuse.specs.Used.{AreUsed}
-use Rattle.tilt_types.specs.Core.{CoreParts, IsCore, AreDefinitions}
-use Rattle.tilt_types.specs.CoreTree.{Const, Read, Reduce, CoreTree, Definition}
-use Rattle.tilt_types.specs.Needs.{Need, wider, either, reaching, asked_by, body_need, asked_of, need_before, asked_from, needs_from, needs, widest}
+use Rattle.tilt_core.specs.Core.{CoreParts, IsCore, AreDefinitions}
+use Rattle.tilt_core.specs.CoreTree.{Const, Read, Reduce, CoreTree, Definition}
+use Rattle.tilt_core.specs.Needs.{Need, wider, either, reaching, asked_by, body_need, asked_of, need_before, asked_from, needs_from, needs, widest}
 
 -- a need has no negative number
 abbrev IsLow : Option Need → Type 0

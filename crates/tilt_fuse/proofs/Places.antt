@@ -5,8 +5,8 @@ use Rattle.tilt_bounds.proofs.Needs.{need_at-definition}
 use Rattle.tilt_bounds.proofs.Steps.{length-needs, length-needs_from}
 use Rattle.tilt_fuse.specs.Plan.{has_window_on, is_windowed, are_none}
 use Rattle.tilt_fuse.specs.Trees.{IsKnown}
-use Rattle.tilt_types.specs.CoreTree.{Definition}
-use Rattle.tilt_types.specs.Needs.{Need, needs_from}
+use Rattle.tilt_core.specs.CoreTree.{Definition}
+use Rattle.tilt_core.specs.Needs.{Need, needs_from}
 
 -- one more of many that are the same
 pub replicate-more : {A : Type 0} (x : A) (count : ℕ) → replicate count x ++ x ∷ [] ≡ replicate (suc count) x

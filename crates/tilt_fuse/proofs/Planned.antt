@@ -17,9 +17,9 @@ use Rattle.tilt_fuse.proofs.Used.{no_need}
 use Rattle.tilt_fuse.specs.FusedTree.{FusedTree, PlannedLoop}
 use Rattle.tilt_fuse.specs.Plan.{nodes, only_reading, fused, has_window_on, is_windowed, is_merged, are_none, loops_from}
 use Rattle.tilt_fuse.specs.Trees.{IsNearBody, AreNear, EachAsks, Holds, IsMergedTree, AreMergedTrees, IsKnown, IsPlanned}
-use Rattle.tilt_types.specs.Core.{IsDefinition}
-use Rattle.tilt_types.specs.CoreTree.{Definition}
-use Rattle.tilt_types.specs.Needs.{Need, either, asked_by, body_need, asked_of, need_before, asked_from, needs_from, needs}
+use Rattle.tilt_core.specs.Core.{IsDefinition}
+use Rattle.tilt_core.specs.CoreTree.{Definition}
+use Rattle.tilt_core.specs.Needs.{Need, either, asked_by, body_need, asked_of, need_before, asked_from, needs_from, needs}
 
 -- all that is asked is held by a need
 abbrev pub HoldsAll : Option Need → Option Need → Type 0

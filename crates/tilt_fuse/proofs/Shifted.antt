@@ -11,7 +11,7 @@ use Rattle.tilt_fuse.specs.Streams.{map_cell, fused_stream}
 use Rattle.tilt_stream.specs.Pointwise.{constant, nothing, shifted}
 use Rattle.tilt_stream.specs.Stream.{Stream, SameStream}
 use Rattle.tilt_stream.specs.Window.{met}
-use Rattle.tilt_types.specs.Meaning.{source_of}
+use Rattle.tilt_core.specs.Meaning.{source_of}
 
 -- by no ticks it is itself
 pub moved-none : (tree : FusedTree) → moved (pos 0) tree ≡ tree

@@ -5,9 +5,9 @@ use Rattle.std.proofs.Math.Bool.{or-false}
 use Rattle.std.proofs.lemmas.List.{get_or-set_same, get_or-set_other, length-replicate, take_all}
 use Rattle.std.proofs.Math.Seq.{drop-length}
 use Rattle.tilt_base.specs.Expression.{Leaf, One, Two, If}
-use Rattle.tilt_types.specs.Core.{ReadsBelow}
-use Rattle.tilt_types.specs.CoreTree.{Const, Read, Reduce, CoreTree, Definition}
-use Rattle.tilt_types.specs.Needs.{Need, either, asked_by, body_need, asked_of, need_before, asked_from, needs_from, needs}
+use Rattle.tilt_core.specs.Core.{ReadsBelow}
+use Rattle.tilt_core.specs.CoreTree.{Const, Read, Reduce, CoreTree, Definition}
+use Rattle.tilt_core.specs.Needs.{Need, either, asked_by, body_need, asked_of, need_before, asked_from, needs_from, needs}
 use Rattle.tilt_bounds.proofs.Needs.{below_or_behind, need_at-input, need_at-definition}
 use Rattle.tilt_bounds.proofs.Steps.{length-needs, unasked-needs}
 use Rattle.tilt_fuse.specs.Plan.{are_none}

@@ -3,8 +3,8 @@ use Rattle.std.proofs.Common.{◌≡◌, ℕ, pos, negsuc, List, [], ◌∷◌, 
 use Rattle.tilt_base.specs.declared.operator.Op2.TheVariants.{Add}
 use Rattle.tilt_base.specs.declared.reducer.Reducer.TheVariants.{Sum, Max, Count}
 use Rattle.tilt_base.specs.Expression.{Leaf, Two}
-use Rattle.tilt_types.specs.Core.{CoreParts}
-use Rattle.tilt_types.specs.CoreTree.{Const, Read, Reduce, CoreTree, Definition}
+use Rattle.tilt_core.specs.Core.{CoreParts}
+use Rattle.tilt_core.specs.CoreTree.{Const, Read, Reduce, CoreTree, Definition}
 use Rattle.tilt_fuse.specs.FusedTree.{FusedTree, PlannedLoop}
 use Rattle.tilt_fuse.specs.FusedTree as tree
 use Rattle.tilt_fuse.specs.Plan.{plan_of}

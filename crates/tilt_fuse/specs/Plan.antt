@@ -6,10 +6,10 @@ use Rattle.std.specs.List.{list_any}
 use Rattle.std.specs.Ordering.{int_eq}
 use Rattle.tilt_base.specs.declared.reducer.Reducer.{Reducer}
 use Rattle.tilt_base.specs.Expression as expression
-use Rattle.tilt_types.specs.Core.{CoreParts}
-use Rattle.tilt_types.specs.CoreTree as core
-use Rattle.tilt_types.specs.CoreTree.{CoreTree, Definition}
-use Rattle.tilt_types.specs.Needs.{Need, needs_from}
+use Rattle.tilt_core.specs.Core.{CoreParts}
+use Rattle.tilt_core.specs.CoreTree as core
+use Rattle.tilt_core.specs.CoreTree.{CoreTree, Definition}
+use Rattle.tilt_core.specs.Needs.{Need, needs_from}
 use Rattle.tilt_fuse.specs.declared.reading.Reading.{Reading}
 use Rattle.tilt_fuse.specs.FusedTree.{FusedTree, Const, Port, Win, WinBy, Argument, One, Two, If, PlannedLoop}
 

@@ -6,10 +6,10 @@ use Rattle.tilt_bounds.specs.Margins.{AreWithin, evenly, need_at}
 use Rattle.tilt_fuse.specs.FusedTree.{FusedTree, Const, Port, Win, WinBy, Argument, One, Two, If, PlannedLoop}
 use Rattle.tilt_fuse.specs.Plan.{nodes, only_reading, is_windowed, loops_from}
 use Rattle.tilt_fuse.specs.Used.{AreUsed}
-use Rattle.tilt_types.specs.Core.{AreDefinitions}
-use Rattle.tilt_types.specs.CoreTree as core
-use Rattle.tilt_types.specs.CoreTree.{CoreTree, Definition}
-use Rattle.tilt_types.specs.Needs.{Need, reaching, needs_from, needs}
+use Rattle.tilt_core.specs.Core.{AreDefinitions}
+use Rattle.tilt_core.specs.CoreTree as core
+use Rattle.tilt_core.specs.CoreTree.{CoreTree, Definition}
+use Rattle.tilt_core.specs.Needs.{Need, reaching, needs_from, needs}
 
 -- an offset, or an end of a window, that a loop may have
 abbrev pub IsOffset : ℤ → Type 0

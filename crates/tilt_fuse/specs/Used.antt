@@ -1,8 +1,8 @@
 -- Which sources are used.
 use Rattle.std.specs.Prelude.{◌≡◌, ℕ, ◌<◌, ◌==◌, Bool, false, ◌||◌, List, length, get_or, Option, None, is_some}
 use Rattle.tilt_base.specs.Expression.{Leaf, One, Two, If}
-use Rattle.tilt_types.specs.CoreTree.{Const, Read, Reduce, CoreTree}
-use Rattle.tilt_types.specs.Needs.{Need}
+use Rattle.tilt_core.specs.CoreTree.{Const, Read, Reduce, CoreTree}
+use Rattle.tilt_core.specs.Needs.{Need}
 
 -- whether an expression names a source
 abbrev pub names : CoreTree → ℕ → Bool

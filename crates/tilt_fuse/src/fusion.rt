@@ -3,15 +3,15 @@ ghost use Rattle.std.specs.Prelude.{◌≡◌, length, IfOk, IfSome};
 ghost use Rattle.tilt_fuse.specs.FusedTree.{fused_tree_of};
 ghost use Rattle.tilt_fuse.specs.Plan.{fused, reading_of};
 ghost use Rattle.tilt_fuse.specs.Trees.{AreNear, IsNear, IsNearBody, IsOffset};
-ghost use Rattle.tilt_types.specs.Core.{ReadsBelow};
-ghost use Rattle.tilt_types.specs.CoreTree.{tree_of};
+ghost use Rattle.tilt_core.specs.Core.{ReadsBelow};
+ghost use Rattle.tilt_core.specs.CoreTree.{tree_of};
 
 use crate::fused::Fused;
 use crate::merged::Merged;
 use crate::shift::moved;
 use crate::window::{Window, window_on};
 use std::alloc::{AllocError as OutOfMemory, Global};
-use tilt_types::Tree;
+use tilt_core::Tree;
 
 /// The expression with each reading of a merged source as that source's tree, moved.
 pub fn fused(alloc: Global, merged: &[Merged], body: &Tree) -> Result<Fused, OutOfMemory>

@@ -4,13 +4,13 @@ ghost use Rattle.std.specs.Ordering.{int_eq};
 ghost use Rattle.tilt_fuse.specs.FusedTree.{fused_tree_of};
 ghost use Rattle.tilt_fuse.specs.Plan.{are_none, has_window_on, is_merged, is_windowed, nodes, only_reading};
 ghost use Rattle.tilt_fuse.specs.Trees.{IsKnown};
-ghost use Rattle.tilt_types.specs.CoreTree.{tree_of};
-ghost use Rattle.tilt_types.specs.Needs.{needs_from};
+ghost use Rattle.tilt_core.specs.CoreTree.{tree_of};
+ghost use Rattle.tilt_core.specs.Needs.{needs_from};
 
 use crate::fused::Fused;
 use crate::query::Query;
 use crate::reading::only_reading;
-use tilt_types::{Def, Tree};
+use tilt_core::{Def, Tree};
 
 /// A merged definition has at most so many nodes.
 const MOST: u32 = 64;

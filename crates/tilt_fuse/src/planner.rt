@@ -5,7 +5,7 @@ ghost use Rattle.tilt_bounds.specs.Margins.{margins_of};
 ghost use Rattle.tilt_fuse.specs.Plan.{plan_of};
 ghost use Rattle.tilt_fuse.specs.Streams.{MeanTheirBodies};
 ghost use Rattle.tilt_fuse.specs.Trees.{IsKnown, IsPlanned};
-ghost use Rattle.tilt_types.specs.Needs.{needs_from};
+ghost use Rattle.tilt_core.specs.Needs.{needs_from};
 
 use crate::fusion::fused;
 use crate::loop_list::LoopList;
@@ -15,7 +15,7 @@ use crate::progress::Progress;
 use crate::query::Query;
 use crate::usage::used_of;
 use std::alloc::{AllocError as OutOfMemory, Global};
-use tilt_types::{Core, Def};
+use tilt_core::{Core, Def};
 
 /// The loops of a query that doesn't look too far: its used definitions that aren't merged into their users, in order.
 /// Without fusion nothing is merged.

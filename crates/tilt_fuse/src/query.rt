@@ -1,4 +1,4 @@
-use tilt_types::Def;
+use tilt_core::Def;
 
 /// The definitions of a query behind so many inputs, which of its sources are used, and whether definitions are merged.
 #[derive(Clone, Copy)]

@@ -1,13 +1,13 @@
 // Which sources are used: the last definition, and what a used one names.
 ghost use Rattle.std.specs.Prelude.{◌≡◌, ◌+◌, ◌≤◌, ◌<◌, ◌∷◌, ◌||◌, ℕ, suc, length, IfOk, replicate, get_or, false};
-ghost use Rattle.tilt_types.specs.Core.{AreDefinitions, ReadsBelow};
-ghost use Rattle.tilt_types.specs.CoreTree.{tree_of};
-ghost use Rattle.tilt_types.specs.Needs.{needs};
+ghost use Rattle.tilt_core.specs.Core.{AreDefinitions, ReadsBelow};
+ghost use Rattle.tilt_core.specs.CoreTree.{tree_of};
+ghost use Rattle.tilt_core.specs.Needs.{needs};
 ghost use Rattle.tilt_fuse.specs.Plan.{are_none};
 ghost use Rattle.tilt_fuse.specs.Used.{AreUsed, names};
 
 use std::alloc::{AllocError as OutOfMemory, Global};
-use tilt_types::{Def, Tree};
+use tilt_core::{Def, Tree};
 
 /// Whether each source is used, the inputs first.
 pub fn used_of(alloc: Global, inputs: usize, defs: &[Def]) -> Result<Vec<bool>, OutOfMemory>

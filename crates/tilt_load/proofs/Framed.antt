@@ -9,13 +9,13 @@ use Rattle.tilt_bounds.proofs.Needs.{widest-low}
 use Rattle.tilt_checkpoint.specs.Decided.{IsFrame, frame_of, frame_with}
 use Rattle.tilt_checkpoint.specs.Valid.{IsAccepted}
 use Rattle.tilt_syntax.specs.Tree.{StatementTree}
-use Rattle.tilt_syntax.specs.declared.span.Span.{Span}
-use Rattle.tilt_types.proofs.Last.{domain_of-stretch}
+use Rattle.tilt_base.specs.declared.span.Span.{Span}
+use Rattle.tilt_core.proofs.Last.{domain_of-stretch}
 use Rattle.tilt_types.proofs.Places.{query-definitions}
 use Rattle.tilt_types.proofs.Texts.{query-ends, query-of_text}
 use Rattle.tilt_types.specs.Checked.{core_of, core_unless, input_names, source_names}
-use Rattle.tilt_types.specs.Core.{CoreParts, IsStretch, domain_of}
-use Rattle.tilt_types.specs.Needs.{Need, asked_from, body_needs, needs_from, reach}
+use Rattle.tilt_core.specs.Core.{CoreParts, IsStretch, domain_of}
+use Rattle.tilt_core.specs.Needs.{Need, asked_from, body_needs, needs_from, reach}
 use Rattle.tilt_types.specs.WellFormed.{first_fault}
 use Rattle.tilt_types.specs.declared.fault.CheckFault.{CheckFault}
 

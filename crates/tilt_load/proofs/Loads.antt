@@ -15,7 +15,7 @@ use Rattle.tilt_bounds.specs.Margins.{IsTold, margins_of}
 use Rattle.tilt_bounds.specs.declared.fault.ReachFault.{ReachFault}
 use Rattle.tilt_bounds.specs.declared.fault.ReachFault.TheVariants as reach
 use Rattle.tilt_types.specs.Checked.{checked}
-use Rattle.tilt_types.specs.Core.{CoreParts}
+use Rattle.tilt_core.specs.Core.{CoreParts}
 use Rattle.tilt_types.specs.declared.fault.CheckFault.{CheckFault}
 use Rattle.tilt_types.specs.declared.fault.CheckFault.TheVariants as check
 use Rattle.tilt_load.specs.Load.{IsLoadFault, IsTooLong, IsNameFault}

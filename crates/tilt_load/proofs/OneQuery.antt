@@ -7,8 +7,8 @@ use Rattle.tilt_syntax.proofs.Unique.{one_query}
 use Rattle.tilt_syntax.specs.Tree.{StatementTree}
 use Rattle.tilt_bounds.specs.Margins.{MarginsParts, margins_of}
 use Rattle.tilt_types.specs.Checked.{checked}
-use Rattle.tilt_types.specs.Core.{CoreParts}
-use Rattle.tilt_types.specs.Needs.{Need}
+use Rattle.tilt_core.specs.Core.{CoreParts}
+use Rattle.tilt_core.specs.Needs.{Need}
 use Rattle.tilt_types.specs.declared.fault.CheckFault.{CheckFault}
 use Rattle.tilt_report.specs.Report.{Reason, Report, refusal, report_of_place, report_of_syntax, report_of_check}
 use Rattle.tilt_load.specs.QueryFile.{HasCore, HasQuery, TakesQuery, HasNoCore, RefusesQuery, no_core, far, long, no_tokens, no_statements, ill_formed}

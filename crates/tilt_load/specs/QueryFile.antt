@@ -10,8 +10,8 @@ use Rattle.tilt_syntax.specs.Query.{IsQuery, IsQueryOf, IsRefused, kinds}
 use Rattle.tilt_syntax.specs.Tree.{StatementTree}
 use Rattle.tilt_syntax.specs.declared.fault.SyntaxFault.{SyntaxFault}
 use Rattle.tilt_types.specs.Checked.{checked}
-use Rattle.tilt_types.specs.Core.{CoreParts}
-use Rattle.tilt_types.specs.Needs.{Need}
+use Rattle.tilt_core.specs.Core.{CoreParts}
+use Rattle.tilt_core.specs.Needs.{Need}
 use Rattle.tilt_types.specs.declared.fault.CheckFault.{CheckFault}
 
 -- the text of the query file is no longer than a file may be, its tokens are a query, and that is well formed and has this core

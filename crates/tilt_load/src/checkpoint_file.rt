@@ -12,9 +12,10 @@ use crate::file::load;
 use std::alloc::Global;
 use tilt_bounds::{Margins, reach};
 use tilt_checkpoint::{Checkpoint, CheckpointFault, decode};
+use tilt_core::Core;
 use tilt_outside::Shelf;
 use tilt_report::{Fault, Refusal};
-use tilt_types::{Core, check};
+use tilt_types::check;
 
 /// A checkpoint that was read, the core of its query, and how far that looks.
 #[derive(Drop)]

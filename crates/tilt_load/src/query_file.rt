@@ -12,11 +12,12 @@ ghost use Rattle.tilt_types.specs.Checked.{checked};
 use crate::file::load;
 use std::alloc::Global;
 use tilt_bounds::{Margins, reach};
+use tilt_core::Core;
 use tilt_lexer::lex;
 use tilt_outside::Shelf;
 use tilt_report::Fault;
 use tilt_syntax::{Query, parse};
-use tilt_types::{Core, check};
+use tilt_types::check;
 
 /// A query that was accepted, its core, and how far it looks.
 #[derive(Drop)]

@@ -20,8 +20,8 @@ use Rattle.tilt_lower.specs.Lowering.{registers, result_at, maps, maps_of, block
 use Rattle.tilt_stream.specs.Pointwise.{nothing}
 use Rattle.tilt_stream.specs.Stream.{Stream, SameStream}
 use Rattle.tilt_stream.specs.Window.{met}
-use Rattle.tilt_types.specs.Meaning.{source_of}
-use Rattle.tilt_types.specs.Needs.{Need}
+use Rattle.tilt_core.specs.Meaning.{source_of}
+use Rattle.tilt_core.specs.Needs.{Need}
 use mathlib.Core.Path.{fun_ext}
 
 pub last_or-pushed : {A : Type 0} (given : A) (xs : List A) (x : A) → last_or given (xs ++ x ∷ []) ≡ x

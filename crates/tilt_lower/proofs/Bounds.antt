@@ -17,7 +17,7 @@ use Rattle.tilt_fuse.specs.Trees.{IsMap, HasMaps, EachAsks}
 use Rattle.tilt_lower.proofs.Blocks.{registers-some, length-block}
 use Rattle.tilt_lower.specs.Constants.{ConstantFits}
 use Rattle.tilt_lower.specs.Lowering.{registers, maps, maps_of, block_of, result_at}
-use Rattle.tilt_types.specs.Needs.{Need, reaching}
+use Rattle.tilt_core.specs.Needs.{Need, reaching}
 
 -- a tree takes no more registers than it has nodes, and no more maps
 pub registers-few : (t : FusedTree) → registers t ≤ nodes t

@@ -26,9 +26,9 @@ use Rattle.tilt_lower.proofs.Bounds.{IsGood, IsGoodMap, Bounded, good, back, map
 use Rattle.tilt_lower.proofs.States.{IsLowered, AreLowered}
 use Rattle.tilt_lower.specs.Constants.{BlockFits, ConstantsFit}
 use Rattle.tilt_lower.specs.Lowering.{maps_of, block_of, buffer_of, loop_on, no_definition, lowered, code_of}
-use Rattle.tilt_types.specs.Core.{CoreParts, IsCore, IsDefinition, IsSourceName}
-use Rattle.tilt_types.specs.CoreTree.{Definition}
-use Rattle.tilt_types.specs.Needs.{Need, no_margin, body_need, needs}
+use Rattle.tilt_core.specs.Core.{CoreParts, IsCore, IsDefinition, IsSourceName}
+use Rattle.tilt_core.specs.CoreTree.{Definition}
+use Rattle.tilt_core.specs.Needs.{Need, no_margin, body_need, needs}
 
 -- what a loop keeps, before which there are so many buffers
 record IsKept (count : ℕ) (l : LoopParts) : Type 0 where

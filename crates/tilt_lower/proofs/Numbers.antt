@@ -4,8 +4,8 @@ use Rattle.std.specs.Prelude.{nat_lt, ◌&&◌, ⊤}
 use Rattle.tilt_fuse.specs.FusedTree.{FusedTree, PlannedLoop}
 use Rattle.tilt_fuse.specs.Plan.{fused, is_merged, loops_from}
 use Rattle.tilt_lower.specs.Lowering.{loops_before, buffer_of}
-use Rattle.tilt_types.specs.CoreTree.{Definition}
-use Rattle.tilt_types.specs.Needs.{Need}
+use Rattle.tilt_core.specs.CoreTree.{Definition}
+use Rattle.tilt_core.specs.Needs.{Need}
 
 -- an input's buffer has its own number
 pub buffer_of-input : (inputs : ℕ) (loops : List PlannedLoop) (source : ℕ) → source < inputs → buffer_of inputs loops source ≡ source

@@ -22,12 +22,12 @@ use Rattle.tilt_lower.proofs.Theorem.{all-lowered, some-loop}
 use Rattle.tilt_lower.specs.Law.{IsPlan, LiesWithin}
 use Rattle.tilt_lower.specs.Lowering.{buffer_of, loop_on, no_definition, lowered}
 use Rattle.tilt_stream.specs.Pointwise.{nothing}
-use Rattle.tilt_syntax.specs.declared.span.Span.{Span}
-use Rattle.tilt_types.specs.Core.{CoreParts, IsCore, IsStretch, domain_of}
-use Rattle.tilt_types.proofs.Last.{domain_of-stretch}
-use Rattle.tilt_types.specs.CoreTree.{Definition}
-use Rattle.tilt_types.specs.Needs as bounds
-use Rattle.tilt_types.specs.Needs.{Need, no_margin, body_need, needs_from, needs}
+use Rattle.tilt_base.specs.declared.span.Span.{Span}
+use Rattle.tilt_core.specs.Core.{CoreParts, IsCore, IsStretch, domain_of}
+use Rattle.tilt_core.proofs.Last.{domain_of-stretch}
+use Rattle.tilt_core.specs.CoreTree.{Definition}
+use Rattle.tilt_core.specs.Needs as bounds
+use Rattle.tilt_core.specs.Needs.{Need, no_margin, body_need, needs_from, needs}
 
 -- the margins of a core have its needs
 same_margins : (test : Bool) (far : Need) (made margins : MarginsParts) → (if test then Err far else Ok made) ≡ Ok margins → margins.needs ≡ made.needs

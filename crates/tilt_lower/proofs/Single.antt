@@ -21,12 +21,12 @@ use Rattle.tilt_stream.specs.Agreement.{Agree}
 use Rattle.tilt_stream.specs.Domain.{some_mark, on_grid}
 use Rattle.tilt_stream.specs.Pointwise.{nothing}
 use Rattle.tilt_stream.specs.Stream.{Stream, SameStream}
-use Rattle.tilt_syntax.specs.declared.span.Span.{Span}
-use Rattle.tilt_types.proofs.Sources.{source_of-last}
-use Rattle.tilt_types.specs.Core.{IsStretch, IsDefinition}
-use Rattle.tilt_types.specs.CoreTree.{Const, Read, Reduce, CoreTree, Definition}
-use Rattle.tilt_types.specs.Meaning.{source_of, body_of, within, definition_of}
-use Rattle.tilt_types.specs.Needs.{Need, no_margin, wider, either, reaching, asked_by, body_need}
+use Rattle.tilt_base.specs.declared.span.Span.{Span}
+use Rattle.tilt_core.proofs.Sources.{source_of-last}
+use Rattle.tilt_core.specs.Core.{IsStretch, IsDefinition}
+use Rattle.tilt_core.specs.CoreTree.{Const, Read, Reduce, CoreTree, Definition}
+use Rattle.tilt_core.specs.Meaning.{source_of, body_of, within, definition_of}
+use Rattle.tilt_core.specs.Needs.{Need, no_margin, wider, either, reaching, asked_by, body_need}
 
 -- streams that are the same agree on each stretch
 pub same-agree : (x y : Stream) (lo hi : ℤ) → SameStream x y → Agree x y lo hi

@@ -36,11 +36,11 @@ use Rattle.tilt_stream.specs.Agreement.{Agree}
 use Rattle.tilt_stream.specs.Pointwise.{nothing, shifted, lifted1, lifted2, branched}
 use Rattle.tilt_stream.specs.Stream.{Stream, SameStream}
 use Rattle.tilt_stream.specs.Window.{windowed, windowed_by}
-use Rattle.tilt_types.proofs.Sources.{source_of-front, source_of-last}
-use Rattle.tilt_types.specs.Core.{CoreParts}
-use Rattle.tilt_types.specs.CoreTree.{Definition}
-use Rattle.tilt_types.specs.Meaning.{source_of, body_of, definition_of, with_definitions}
-use Rattle.tilt_types.specs.Needs.{Need, no_margin, asked_by, body_need, asked_of, needs_from, needs}
+use Rattle.tilt_core.proofs.Sources.{source_of-front, source_of-last}
+use Rattle.tilt_core.specs.Core.{CoreParts}
+use Rattle.tilt_core.specs.CoreTree.{Definition}
+use Rattle.tilt_core.specs.Meaning.{source_of, body_of, definition_of, with_definitions}
+use Rattle.tilt_core.specs.Needs.{Need, no_margin, asked_by, body_need, asked_of, needs_from, needs}
 
 -- a tree gives the same over sources that are the same where it reads them
 fused_stream-same : (xs ys : List Stream) (n : Need) (t : FusedTree) → EachAsks (λ source asked. source_of xs source ≡ source_of ys source) n t → fused_stream xs t ≡ fused_stream ys t

@@ -35,11 +35,11 @@ use Rattle.tilt_stream.specs.Pointwise.{nothing}
 use Rattle.tilt_stream.specs.Snap.{Snapshot}
 use Rattle.tilt_stream.specs.Snapshots.{snapshots}
 use Rattle.tilt_stream.specs.Stream.{Stream, stream_of}
-use Rattle.tilt_syntax.specs.declared.span.Span.{Span}
-use Rattle.tilt_types.specs.Core.{CoreParts, domain_of, emitted_number}
-use Rattle.tilt_types.specs.CoreTree.{Definition}
-use Rattle.tilt_types.specs.Meaning.{source_of, with_definitions, meaning}
-use Rattle.tilt_types.specs.Needs.{Need, no_margin, needs_from, needs}
+use Rattle.tilt_base.specs.declared.span.Span.{Span}
+use Rattle.tilt_core.specs.Core.{CoreParts, domain_of, emitted_number}
+use Rattle.tilt_core.specs.CoreTree.{Definition}
+use Rattle.tilt_core.specs.Meaning.{source_of, with_definitions, meaning}
+use Rattle.tilt_core.specs.Needs.{Need, no_margin, needs_from, needs}
 
 -- the stretch of the emitted definition is that of the output
 output_stretch : (over : Option Span) (lo hi : ℤ) → LiesWithin over lo hi

@@ -13,8 +13,8 @@ use Rattle.tilt_lower.proofs.Theorem.{means}
 use Rattle.tilt_lower.specs.Law.{IsPlan, LiesWithin, MeansTheQuery}
 use Rattle.tilt_lower.specs.Constants.{ConstantsFit}
 use Rattle.tilt_lower.specs.Lowering.{lowered, code_of}
-use Rattle.tilt_types.specs.Core.{CoreParts, IsCore, domain_of}
-use Rattle.tilt_types.specs.Needs.{needs}
+use Rattle.tilt_core.specs.Core.{CoreParts, IsCore, domain_of}
+use Rattle.tilt_core.specs.Needs.{needs}
 
 module _ (query : CoreParts) (margins : MarginsParts) (lo hi : ℤ) (is : IsCore query) (margins_is : margins_of query ≡ Ok margins) (within : LiesWithin (domain_of query.defs) lo hi)
     (loops : List PlannedLoop) (plan : IsPlan query loops) where

@@ -7,9 +7,9 @@ use Rattle.tilt_bounds.specs.Margins.{MarginsParts}
 use Rattle.tilt_code.specs.Code.{Block, LoopParts, CodeParts}
 use Rattle.tilt_code.specs.declared.instr.Instr.TheVariants as instr
 use Rattle.tilt_fuse.specs.Plan.{plan_of}
-use Rattle.tilt_types.specs.Core.{CoreParts}
-use Rattle.tilt_types.specs.CoreTree.{Const, Read, Reduce, CoreTree, Definition}
-use Rattle.tilt_types.specs.Needs.{needs}
+use Rattle.tilt_core.specs.Core.{CoreParts}
+use Rattle.tilt_core.specs.CoreTree.{Const, Read, Reduce, CoreTree, Definition}
+use Rattle.tilt_core.specs.Needs.{needs}
 use Rattle.tilt_lower.specs.Lowering.{each_tick, code_of}
 
 -- a definition on each tick

@@ -11,9 +11,9 @@ use Rattle.tilt_stream.specs.Pointwise.{nothing}
 use Rattle.tilt_stream.specs.Snap.{Snapshot}
 use Rattle.tilt_stream.specs.Snapshots.{snapshots}
 use Rattle.tilt_stream.specs.Stream.{stream_of}
-use Rattle.tilt_syntax.specs.declared.span.Span.{Span}
-use Rattle.tilt_types.specs.Core.{CoreParts, emitted_number}
-use Rattle.tilt_types.specs.Meaning.{meaning}
+use Rattle.tilt_base.specs.declared.span.Span.{Span}
+use Rattle.tilt_core.specs.Core.{CoreParts, emitted_number}
+use Rattle.tilt_core.specs.Meaning.{meaning}
 
 -- loops are the plan of a query, with fusion or without
 abbrev pub IsPlan : CoreParts → List PlannedLoop → Type 0

@@ -13,8 +13,8 @@ use std::alloc::{AllocError as OutOfMemory, Global};
 use tilt_base::Grid;
 use tilt_bounds::LoopSpan;
 use tilt_code::{Instr, Loop};
+use tilt_core::Def;
 use tilt_fuse::Fused;
-use tilt_types::Def;
 
 /// The loop of a definition with this expression, on this stretch; null on all of it where the stretch is told to be empty.
 pub fn loop_on(

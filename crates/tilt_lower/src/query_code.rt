@@ -3,16 +3,16 @@ ghost use Rattle.std.specs.Prelude.{◌≡◌, Ok, IfOk};
 ghost use Rattle.tilt_bounds.specs.Margins.{margins_of};
 ghost use Rattle.tilt_lower.specs.Law.{IsPlan, LiesWithin, MeansTheQuery};
 ghost use Rattle.tilt_lower.specs.Lowering.{code_of};
-ghost use Rattle.tilt_types.specs.Core.{domain_of};
+ghost use Rattle.tilt_core.specs.Core.{domain_of};
 
 use crate::buffers::Buffers;
 use crate::definition_loop::loop_on;
 use std::alloc::{AllocError as OutOfMemory, Global};
 use tilt_bounds::{Margins, stretch};
 use tilt_code::Code;
+use tilt_core::Core;
 use tilt_fuse::LoopList;
 use tilt_lexer::Name;
-use tilt_types::Core;
 
 /// The code of a query for the output on `(lo, hi]`, in ticks, which lies within the query's output domain. The plan is the
 /// query's, with fusion or without, and the margins are the query's.

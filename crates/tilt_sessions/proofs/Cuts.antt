@@ -9,9 +9,9 @@ use Rattle.tilt_chunk.specs.Emitted.{emitted}
 use Rattle.tilt_chunk.specs.declared.cut.Cut.TheVariants.{End}
 use Rattle.tilt_sessions.proofs.Printed.{output-given}
 use Rattle.tilt_stream.specs.Snap.{Snapshot}
-use Rattle.tilt_syntax.specs.declared.span.Span.{Span}
-use Rattle.tilt_types.specs.Core.{CoreParts, domain_of}
-use Rattle.tilt_types.specs.Meaning.{output_of}
+use Rattle.tilt_base.specs.declared.span.Span.{Span}
+use Rattle.tilt_core.specs.Core.{CoreParts, domain_of}
+use Rattle.tilt_core.specs.Meaning.{output_of}
 use Rattle.tilt_words.specs.Number.{RiseFrom}
 
 -- the next of cuts that don't fall

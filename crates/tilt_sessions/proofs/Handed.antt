@@ -9,7 +9,7 @@ use Rattle.tilt_load.specs.SeriesFiles.{AreWithin, IsWithin, session_bounds}
 use Rattle.tilt_sessions.specs.Resume.{limit_of}
 use Rattle.tilt_sessions.specs.Start.{first_bounds}
 use Rattle.tilt_stream.specs.Snap.{Snapshot}
-use Rattle.tilt_types.specs.Core.{CoreParts}
+use Rattle.tilt_core.specs.Core.{CoreParts}
 
 early_rows : (upto : ℤ) (rows : List Snapshot) → AllByRecursion (IsWithin (first_bounds upto 0)) rows → AllByRecursion (StartsBefore (Upto upto)) rows
 early_rows upto [] h = tt

@@ -5,9 +5,9 @@ use Rattle.tilt_checkpoint.specs.Decided.{frame_of}
 use Rattle.tilt_chunk.specs.Emitted.{given, emitted}
 use Rattle.tilt_chunk.specs.declared.cut.Cut.TheVariants.{End}
 use Rattle.tilt_stream.specs.Snap.{Snapshot}
-use Rattle.tilt_syntax.specs.declared.span.Span.{Span}
-use Rattle.tilt_types.specs.Core.{CoreParts, domain_of}
-use Rattle.tilt_types.specs.Meaning.{output_of}
+use Rattle.tilt_base.specs.declared.span.Span.{Span}
+use Rattle.tilt_core.specs.Core.{CoreParts, domain_of}
+use Rattle.tilt_core.specs.Meaning.{output_of}
 
 -- at the end all is printed
 pub emitted-all : (core : CoreParts) (rows : List (List Snapshot)) → emitted core rows End ≡ given core rows (frame_of core).start (frame_of core).end

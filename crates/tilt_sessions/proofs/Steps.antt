@@ -22,7 +22,7 @@ use Rattle.tilt_sessions.specs.Parts.{AreJoined, IsRun, early, part_of}
 use Rattle.tilt_stream.specs.Snap.{Snapshot, AreRows, AreSnapshots}
 use Rattle.tilt_syntax.specs.Tree.{StatementTree}
 use Rattle.tilt_types.specs.Checked.{core_of}
-use Rattle.tilt_types.specs.Core.{CoreParts}
+use Rattle.tilt_core.specs.Core.{CoreParts}
 
 -- a session up to a cut is handed rows that start before it
 early-handed : (core : CoreParts) (rows : List (List Snapshot)) (cut : Cut) → length rows ≡ length core.inputs → AreFirstRows core cut (map (early cut) rows)

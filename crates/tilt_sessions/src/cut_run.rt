@@ -2,7 +2,7 @@
 ghost use Rattle.std.specs.Prelude.{◌≡◌, ◌∷◌, neg_ℤ, Some, IfOk};
 ghost use Rattle.tilt_base.specs.declared.limits.TheConstants.{T};
 ghost use Rattle.tilt_sessions.specs.Parts.{IsRun};
-ghost use Rattle.tilt_types.specs.Meaning.{output_of};
+ghost use Rattle.tilt_core.specs.Meaning.{output_of};
 ghost use Rattle.tilt_words.specs.Number.{RiseFrom};
 
 use crate::joined::Joined;

@@ -12,7 +12,7 @@ use Rattle.tilt_syntax.specs.Descent.{Comes, Reading, plan_of}
 use Rattle.tilt_syntax.specs.Grammar.{IsExpr}
 use Rattle.tilt_syntax.specs.Tree.{ExprTree, StatementTree, Input, Let, Emit, statement_tree}
 use Rattle.tilt_syntax.specs.declared.level.Level.TheVariants.{Choice}
-use Rattle.tilt_syntax.specs.declared.span.Span.{Span}
+use Rattle.tilt_base.specs.declared.span.Span.{Span}
 use Rattle.tilt_syntax.specs.declared.statement.Statement.{Statement}
 use Rattle.tilt_syntax.proofs.Cutting.{cut}
 use Rattle.tilt_syntax.proofs.Sound.{fits}

@@ -11,7 +11,7 @@ use Rattle.tilt_syntax.specs.Grammar.{Infix, infix_of, IsOffset, now, later, ear
 use Rattle.tilt_syntax.specs.Printing.{level_of}
 use Rattle.tilt_syntax.specs.Query.{with_first, statements}
 use Rattle.tilt_syntax.specs.Tree.{ExprTree, StatementTree}
-use Rattle.tilt_syntax.specs.declared.span.Span.{Span}
+use Rattle.tilt_base.specs.declared.span.Span.{Span}
 use Rattle.tilt_syntax.proofs.Spelling.{AreSound}
 use Rattle.tilt_syntax.proofs.Written.{place_tokens, offset_tokens, reading_tokens, operands_tokens, expr_tokens, bound_tokens, span_tokens, domain_tokens, period_tokens, statement_tokens}
 

@@ -12,7 +12,7 @@ use Rattle.tilt_lexer.specs.declared.token.Tok.TheVariants.{Word, Number, Key as
 use Rattle.tilt_syntax.specs.Grammar.{Infix, infix_of, reducer_key}
 use Rattle.tilt_syntax.specs.Printing.{level_of, in_place, offset_text, reading_text, atom_text, sign_text, operands_text, expr_text, span_text, domain_text, period_text, statement_text, query_text}
 use Rattle.tilt_syntax.specs.Tree.{Atom, Num, Truth, Read, Reduce, ExprTree, StatementTree, Input, Let, Emit}
-use Rattle.tilt_syntax.specs.declared.span.Span.{Span}
+use Rattle.tilt_base.specs.declared.span.Span.{Span}
 use Rattle.tilt_syntax.proofs.Spelling.{closes, is_alone, ends_before, Spells, end, blank, token}
 use Rattle.tilt_syntax.proofs.Written.{place_tokens, offset_tokens, reading_tokens, atom_tokens, operands_tokens, expr_tokens, bound_tokens, span_tokens, domain_tokens, period_tokens, statement_tokens}
 

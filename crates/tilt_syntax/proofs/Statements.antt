@@ -13,7 +13,7 @@ use Rattle.tilt_syntax.specs.Statements.{bound_plan, span_plan, domain_plan, per
 use Rattle.tilt_syntax.specs.Stored.{stored_statement, stored_statement_inj}
 use Rattle.tilt_syntax.specs.Tree.{Num, Truth, ExprTree, StatementTree, Input, Let, Emit}
 use Rattle.tilt_syntax.specs.declared.level.Level.TheVariants.{Choice}
-use Rattle.tilt_syntax.specs.declared.span.Span.{Span}
+use Rattle.tilt_base.specs.declared.span.Span.{Span}
 use Rattle.tilt_syntax.proofs.Complete.{complete, met-append, Stops, stops-at}
 use Rattle.tilt_syntax.proofs.Descending.{end-comes}
 use Rattle.tilt_syntax.proofs.Sound.{Keeps, kept, number-keeps, name-keeps}

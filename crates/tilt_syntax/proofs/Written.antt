@@ -13,7 +13,7 @@ use Rattle.tilt_lexer.specs.declared.token.Tok.TheVariants.{Word, Number, Key as
 use Rattle.tilt_syntax.specs.Grammar.{Infix, infix_of, reducer_key, IsOffset, now, later, earlier, IsExpr, tighter, choice, between, negation, minus, number, true_word, false_word, name, reading, window, is_null, if_null, enclosed, IsBound, from_zero, below_zero, IsSpan, over, MayBeSpan, no_span, some_span, MayBePeriod, no_period, some_period, IsStatement, input, definition, emission}
 use Rattle.tilt_syntax.specs.Printing.{level_of, level2}
 use Rattle.tilt_syntax.specs.Tree.{Atom, Num, Truth, Read, Reduce, ExprTree, StatementTree, Input, Let, Emit}
-use Rattle.tilt_syntax.specs.declared.span.Span.{Span}
+use Rattle.tilt_base.specs.declared.span.Span.{Span}
 
 -- tokens in parentheses where their level is lower than the one that their place asks for
 abbrev pub place_tokens : ℕ → ℕ → List Tok → List Tok

@@ -12,7 +12,7 @@ use Rattle.tilt_lexer.specs.declared.mark.Mark.TheVariants as mark
 use Rattle.tilt_lexer.specs.declared.token.Tok.{Tok}
 use Rattle.tilt_lexer.specs.declared.token.Tok.TheVariants.{Word, Number, Key as Reserved, Mark as Sign}
 use Rattle.tilt_syntax.specs.Tree.{Num, Truth, Read, Reduce, ExprTree, StatementTree, Input, Let, Emit}
-use Rattle.tilt_syntax.specs.declared.span.Span.{Span}
+use Rattle.tilt_base.specs.declared.span.Span.{Span}
 
 -- an operator that stands between its operands: its sign, its level, and the levels that the places of its operands ask for
 pub record Infix : Type 0 where

@@ -11,7 +11,7 @@ use Rattle.tilt_lexer.specs.declared.token.Token.{Token}
 use Rattle.tilt_syntax.specs.Grammar.{Infix, infix_of, reducer_key, IsStatement}
 use Rattle.tilt_syntax.specs.Query.{kinds, statements, IsQueryOf}
 use Rattle.tilt_syntax.specs.Tree.{Atom, Num, Truth, Read, Reduce, ExprTree, StatementTree, Input, Let, Emit}
-use Rattle.tilt_syntax.specs.declared.span.Span.{Span}
+use Rattle.tilt_base.specs.declared.span.Span.{Span}
 
 -- the level of an operator on two operands; `ifnull` is written as a call
 abbrev pub level2 : Option Infix → ℕ

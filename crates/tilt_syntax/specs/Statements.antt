@@ -7,7 +7,7 @@ use Rattle.tilt_lexer.specs.declared.token.Tok.TheVariants.{Key as Reserved, Mar
 use Rattle.tilt_syntax.specs.Descent.{Plan, Test, Ask, Reading, nothing, expect, number_plan, name_plan}
 use Rattle.tilt_syntax.specs.Tree.{StatementTree, Input, Let, Emit}
 use Rattle.tilt_syntax.specs.declared.level.Level.TheVariants.{Choice}
-use Rattle.tilt_syntax.specs.declared.span.Span.{Span}
+use Rattle.tilt_base.specs.declared.span.Span.{Span}
 
 -- a bound has to come
 unfoldable pub bound_plan : List Tok → (ℤ → List Tok → Plan) → Plan

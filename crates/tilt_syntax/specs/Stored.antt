@@ -4,8 +4,8 @@ use Rattle.std.specs.Coded.{Coded, coded_bool, coded_ℕ, coded_ℤ, coded_list,
 use base.Stored.{Gv, gnil, gnum, gcons}
 use Rattle.tilt_base.specs.Expression.{coded_expression}
 use Rattle.tilt_base.specs.contracts.reducer.Reducer as reducer
-use Rattle.tilt_syntax.specs.contracts.span.Span as span
-use Rattle.tilt_syntax.specs.declared.span.Span.{Span}
+use Rattle.tilt_base.specs.contracts.span.Span as span
+use Rattle.tilt_base.specs.declared.span.Span.{Span}
 use Rattle.tilt_syntax.specs.Tree.{Atom, Num, Truth, Read, Reduce, ExprTree, StatementTree, Input, Let, Emit}
 
 -- the parts of an atom, as one tree of numbers

@@ -4,7 +4,7 @@ use Rattle.tilt_base.specs.Expression.{Expression, Leaf, One, Two, If}
 use Rattle.tilt_base.specs.declared.reducer.Reducer.{Reducer}
 use Rattle.tilt_syntax.specs.declared.expr.Expr.{Expr}
 use Rattle.tilt_syntax.specs.declared.expr.Expr.TheVariants as expr
-use Rattle.tilt_syntax.specs.declared.span.Span.{Span}
+use Rattle.tilt_base.specs.declared.span.Span.{Span}
 use Rattle.tilt_syntax.specs.declared.statement.Statement.{Statement}
 use Rattle.tilt_syntax.specs.declared.statement.Statement.TheVariants as statement
 

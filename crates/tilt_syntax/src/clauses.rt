@@ -5,10 +5,10 @@ ghost use Rattle.tilt_syntax.specs.Descent.{Comes, Found, Plan};
 ghost use Rattle.tilt_syntax.specs.Query.{kinds};
 ghost use Rattle.tilt_syntax.specs.Rest.{AreSound, IsRest};
 ghost use Rattle.tilt_syntax.specs.Statements.{bound_plan, domain_plan, period_plan, span_plan};
-ghost use Rattle.tilt_syntax.specs.declared.span.Span.{Span};
+ghost use Rattle.tilt_base.specs.declared.span.Span.{Span};
 
 use crate::front::{behind_key, behind_mark, front_number};
-use crate::span::Span;
+use tilt_base::Span;
 use tilt_lexer::{Key, Mark, Token};
 
 // The bound at the front, and what stands behind it.

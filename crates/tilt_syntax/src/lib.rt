@@ -16,7 +16,6 @@ mod parser;
 mod printer;
 mod query;
 mod reader;
-mod span;
 mod statement;
 #[cfg(test)]
 mod tests;
@@ -27,5 +26,5 @@ pub use fault::SyntaxFault;
 pub use parser::{parse, parse_expression};
 pub use printer::print;
 pub use query::Query;
-pub use span::Span;
 pub use statement::Statement;
+pub use tilt_base::Span;

@@ -11,11 +11,10 @@ ghost use Rattle.tilt_syntax.specs.Tree.{Reduce, expr_tree, statement_tree};
 
 use crate::expr::Expr;
 use crate::query::Query;
-use crate::span::Span;
 use crate::statement::Statement;
 use itoa::Buffer;
 use std::alloc::{AllocError as OutOfMemory, Global};
-use tilt_base::{Op1, Op2, Reducer};
+use tilt_base::{Op1, Op2, Reducer, Span};
 use tilt_lexer::Name;
 
 /// The text of the query: one line for each statement, with parentheses only where they are needed. It reads as this query

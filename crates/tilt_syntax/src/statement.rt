@@ -1,5 +1,5 @@
 use crate::expr::Expr;
-use crate::span::Span;
+use tilt_base::Span;
 use tilt_lexer::Name;
 
 /// A statement of a query.

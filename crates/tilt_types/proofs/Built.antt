@@ -9,8 +9,8 @@ use Rattle.tilt_types.proofs.Distinct.{source_names-distinct}
 use Rattle.tilt_types.proofs.Places.{query-definitions}
 use Rattle.tilt_types.proofs.Texts.{input_names-free, let_names-free, query-ends, query-of_text, sources-few}
 use Rattle.tilt_types.specs.Checked.{core_of, definitions, input_names, let_names, source_names}
-use Rattle.tilt_types.specs.Core.{IsCore, IsSourceName}
-use Rattle.tilt_types.specs.CoreTree.{Definition}
+use Rattle.tilt_core.specs.Core.{IsCore, IsSourceName}
+use Rattle.tilt_core.specs.CoreTree.{Definition}
 use Rattle.tilt_types.specs.WellFormed.{first_fault}
 
 names-append : (xs ys : List (List ℕ)) → AllByRecursion IsWord (xs ++ ys) → AllByRecursion (λ x. ¬ (IsReserved x)) xs → AllByRecursion (λ x. ¬ (IsReserved x)) ys → AllByRecursion IsSourceName (xs ++ ys)

@@ -1,13 +1,5 @@
-pub mod Constancy
-pub mod Worked
-pub mod Bits
-pub mod Last
 pub mod Texts
 pub mod Clear
 pub mod Distinct
 pub mod Places
 pub mod Built
-pub mod Weight
-pub mod Sources
-pub mod Walk
-pub mod Accepted

@@ -9,13 +9,13 @@ use Rattle.std.proofs.lemmas.Slice.Eq.{bytes_eq-Decides}
 use Rattle.std.specs.Prelude.{Contains, ℤ}
 use Rattle.tilt_base.specs.Expression.{Leaf, One, Two, If}
 use Rattle.tilt_syntax.specs.Tree.{Num, Truth, Read, Reduce, ExprTree, StatementTree, Input, Let, Emit}
-use Rattle.tilt_syntax.specs.declared.span.Span.{Span}
+use Rattle.tilt_base.specs.declared.span.Span.{Span}
 use Rattle.tilt_types.proofs.Clear.{IsClear, both_true, neither, expr-clear, domain-clear, domain-period, domain-stretch, multiples-IsGrid, stretch-IsStretch}
 use Rattle.tilt_types.proofs.Distinct.{bytes_eq-same, is_declared-push}
 use Rattle.tilt_types.proofs.Texts.{IsOfText}
 use Rattle.tilt_types.specs.Checked.{definition, definitions, input_names, let_names, numbered, place_of, source_names}
-use Rattle.tilt_types.specs.Core.{AreDefinitions, IsDefinition, ReadsBelow}
-use Rattle.tilt_types.specs.CoreTree.{nodes}
+use Rattle.tilt_core.specs.Core.{AreDefinitions, IsDefinition, ReadsBelow}
+use Rattle.tilt_core.specs.CoreTree.{nodes}
 use Rattle.tilt_types.specs.Types.{type_of}
 use Rattle.tilt_types.specs.WellFormed.{declared_as, declared_by, domain_fault, expr_fault, fault_of, first_fault, has_windows, is_declared, is_domain, knows_names, name_fault, period_of}
 use Rattle.tilt_types.specs.declared.declared.Declared.{Declared}

@@ -10,8 +10,8 @@ use Rattle.tilt_syntax.specs.Query.{AreGood, IsQuery, statements}
 use Rattle.tilt_syntax.proofs.Sounds.{statements_sound}
 use Rattle.tilt_syntax.specs.Tree.{ExprTree, StatementTree, Input, Let, Emit}
 use Rattle.tilt_types.specs.Checked.{definition as core_definition, definitions, input_names, let_names, source_names}
-use Rattle.tilt_types.specs.Core.{domain_of}
-use Rattle.tilt_types.specs.CoreTree.{Definition, nodes}
+use Rattle.tilt_core.specs.Core.{domain_of}
+use Rattle.tilt_core.specs.CoreTree.{Definition, nodes}
 
 -- each node of an expression takes at least one token
 nodes-tokens : {level : ℕ} {ts : List Tok} {e : ExprTree} → IsExpr level ts e → nodes e ≤ length ts

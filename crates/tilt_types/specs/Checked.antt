@@ -3,9 +3,9 @@ use Rattle.std.specs.Prelude.{◌≡◌, ◌⊎◌, ℕ, zero, suc, ℤ, pos, Bo
 use Rattle.std.specs.Str.{bytes_eq}
 use Rattle.tilt_base.specs.Expression.{Leaf, One, Two, If}
 use Rattle.tilt_syntax.specs.Tree.{Num, Truth, Read, Reduce, ExprTree, StatementTree, Input, Let, Emit}
-use Rattle.tilt_syntax.specs.declared.span.Span.{Span}
-use Rattle.tilt_types.specs.Core.{CoreParts}
-use Rattle.tilt_types.specs.CoreTree.{CoreTree, Definition, Const, Read as CoreRead, Reduce as CoreReduce}
+use Rattle.tilt_base.specs.declared.span.Span.{Span}
+use Rattle.tilt_core.specs.Core.{CoreParts}
+use Rattle.tilt_core.specs.CoreTree.{CoreTree, Definition, Const, Read as CoreRead, Reduce as CoreReduce}
 use Rattle.tilt_types.specs.WellFormed.{first_fault, multiples, period_of}
 use Rattle.tilt_types.specs.declared.fault.CheckFault.{CheckFault}
 use Rattle.tilt_types.specs.declared.fault.CheckFault.TheVariants.{OutOfMemory}

@@ -5,7 +5,7 @@ use Rattle.tilt_base.specs.Expression.{Leaf, One, Two, If}
 use Rattle.tilt_base.specs.Grid.{GridPoints, is_point}
 use Rattle.tilt_base.specs.declared.limits.TheConstants.{T, PERIOD}
 use Rattle.tilt_syntax.specs.Tree.{Num, Truth, Read, Reduce, ExprTree, StatementTree, Input, Let, Emit}
-use Rattle.tilt_syntax.specs.declared.span.Span.{Span}
+use Rattle.tilt_base.specs.declared.span.Span.{Span}
 use Rattle.tilt_types.specs.Types.{same_type, type_declared, type_of}
 use Rattle.tilt_types.specs.declared.declared.Declared.{Declared}
 use Rattle.tilt_types.specs.declared.fault.CheckFault.{CheckFault}

@@ -4,16 +4,14 @@ ghost use Rattle.std.specs.List.{AllByRecursion};
 ghost use Rattle.tilt_lexer.specs.Word.{IsWord};
 ghost use Rattle.tilt_syntax.specs.Tree.{expr_tree, statement_tree};
 ghost use Rattle.tilt_types.specs.Checked.{core_of, definition, definitions, input_names, let_names, numbered, place_of};
-ghost use Rattle.tilt_types.specs.CoreTree.{tree_of};
+ghost use Rattle.tilt_core.specs.CoreTree.{tree_of};
 ghost use Rattle.tilt_types.specs.WellFormed.{IsWellFormed, is_period, period_of, statement_period};
 
-use crate::definition::Def;
-use crate::query_core::Core;
-use crate::tree::Tree;
 use std::alloc::{AllocError as OutOfMemory, Global};
-use tilt_base::Grid;
+use tilt_base::{Grid, Span};
+use tilt_core::{Core, Def, Tree};
 use tilt_lexer::{Name, is_word};
-use tilt_syntax::{Expr, Query, Span, Statement};
+use tilt_syntax::{Expr, Query, Statement};
 
 /// The core of the query, which is well formed.
 pub fn build(alloc: Global, query: &Query) -> Result<Core, OutOfMemory>

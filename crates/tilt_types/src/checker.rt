@@ -8,14 +8,13 @@ ghost use Rattle.tilt_types.specs.WellFormed.{declared_as, declared_by, domain_f
 use crate::builder::build;
 use crate::declared::Declared;
 use crate::fault::CheckFault;
-use crate::query_core::Core;
-use crate::tick::is_point;
 use crate::types::{same_type, type_declared, type_of};
 use crate::value_type::ValueType;
 use std::alloc::{AllocError as OutOfMemory, Global};
-use tilt_base::{Grid, T};
+use tilt_base::{Grid, Span, T};
+use tilt_core::Core;
 use tilt_lexer::Name;
-use tilt_syntax::{Expr, Query, Span, Statement};
+use tilt_syntax::{Expr, Query, Statement};
 
 /// The core of the query, where it is well formed; else the fault of its first faulty statement, counted from 1, and of
 /// several in one the first of these. `NameTaken`: it declares a name that was declared before. `UnknownName`: a name in
@@ -209,5 +208,5 @@ fn is_stretch(span: Span) -> bool
 fn has_bounds_on(span: Span, grid: Grid) -> bool
     ensures { result ≡ (is_point grid span.start && is_point grid span.end) }
 {
-    is_point(grid, i128::from(span.start)) && is_point(grid, i128::from(span.end))
+    grid.is_point(i128::from(span.start)) && grid.is_point(i128::from(span.end))
 }

@@ -1,8 +1,8 @@
 use Rattle.std.proofs.Common.{◌≡◌, ◌∙◌, ℕ, ◌<◌, ◌+◌, ◌==◌, ℤ, pos, ◌+ℤ◌, ap, arith, length, List, Option, Some, None, if◌then◌else◌, to_z, of_z}
 use Rattle.std.proofs.lemmas.Int.{ints}
 use Rattle.std.specs.Int.{w128}
-use Rattle.tilt_types.specs.CoreTree.{tree_of}
-use Rattle.tilt_types.specs.Needs.{Need, either, reaching, asked_by}
+use Rattle.tilt_core.specs.CoreTree.{tree_of}
+use Rattle.tilt_core.specs.Needs.{Need, either, reaching, asked_by}
 use Rattle.tilt_bounds.specs.Margins.{evenly, need_at}
 use Rattle.tilt_bounds.proofs.Steps.{asks-source, either-grows, within-reaching, all_within-source}
 use Rattle.tilt_bounds.proofs.asking.+ask.Goals as goal

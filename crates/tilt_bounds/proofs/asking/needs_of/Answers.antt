@@ -1,8 +1,8 @@
 use Rattle.std.proofs.Common.{◌≡◌, ◌∙◌, ◌+◌, ◌-◌, ℕ, pos, List, length, drop, sym, ap, subst, arith, replicate, None}
 use Rattle.std.proofs.Math.Seq.{drop-length}
-use Rattle.tilt_types.specs.Core.{IsDefinition}
-use Rattle.tilt_types.specs.CoreTree.{Definition}
-use Rattle.tilt_types.specs.Needs.{needs}
+use Rattle.tilt_core.specs.Core.{IsDefinition}
+use Rattle.tilt_core.specs.CoreTree.{Definition}
+use Rattle.tilt_core.specs.Needs.{needs}
 use Rattle.tilt_bounds.specs.Margins.{evenly}
 use Rattle.tilt_bounds.proofs.Steps.{definition-at, unasked-needs, unasked-within}
 use Rattle.tilt_bounds.proofs.asking.needs_of.Goals as goal

@@ -1,5 +1,5 @@
 use Rattle.std.proofs.Common.{◌≡◌, ◌+◌, ◌-◌, ◌*◌, ◌^◌, drop, length, pos}
-use Rattle.tilt_types.specs.Needs.{needs}
+use Rattle.tilt_core.specs.Needs.{needs}
 use Rattle.tilt_bounds.specs.Margins.{AreWithin, evenly}
 use Rattle.tilt_bounds.proofs.asking.needs_of.Given as goal
 

@@ -2,7 +2,7 @@ use Rattle.std.proofs.Common.{arith, pos, to_z, of_z, ◌+ℤ◌, ◌-ℤ◌, �
 use Rattle.std.proofs.lemmas.Int.{ints, clamps}
 use Rattle.std.specs.Int.{w128, int_max}
 use Rattle.tilt_bounds.proofs.Needs.{same_need}
-use Rattle.tilt_types.specs.Needs.{Need, reaching}
+use Rattle.tilt_core.specs.Needs.{Need, reaching}
 use Rattle.tilt_bounds.proofs.asking.reaching.Goals as goal
 
 pub overflow_add-result-2 : goal.overflow_add-result-2

@@ -2,8 +2,8 @@ use Rattle.std.proofs.Common.{◌≡◌, ◌∙◌, ◌+◌, ap, sym, arith, len
 use Rattle.std.specs.Int.{w64}
 use Rattle.std.proofs.lemmas.Int.{ints}
 use Rattle.std.proofs.lemmas.List.{get_or_default}
-use Rattle.tilt_types.specs.CoreTree.{Definition}
-use Rattle.tilt_types.specs.Needs as needs
+use Rattle.tilt_core.specs.CoreTree.{Definition}
+use Rattle.tilt_core.specs.Needs as needs
 use Rattle.tilt_bounds.specs.Margins.{need_of, need_at}
 use Rattle.tilt_bounds.specs.Stretch.{cut_down}
 use Rattle.tilt_bounds.proofs.Spans.{same_some, need_at-map, cut_down-bounded}

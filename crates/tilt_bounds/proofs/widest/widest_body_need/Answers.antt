@@ -1,5 +1,5 @@
 use Rattle.std.proofs.Common.{◌∙◌, ap}
-use Rattle.tilt_types.specs.Needs.{Need, wider}
+use Rattle.tilt_core.specs.Needs.{Need, wider}
 use Rattle.tilt_bounds.proofs.Needs.{widest_body-some, widest_body-none}
 use Rattle.tilt_bounds.proofs.widest.widest_body_need.Goals as goal
 use Rattle.tilt_bounds.proofs.widest.widest_body_need.Goals.{in-Some, in_default}

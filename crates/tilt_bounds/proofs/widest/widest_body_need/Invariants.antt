@@ -1,5 +1,5 @@
 use Rattle.std.proofs.Common.{◌≡◌, take}
-use Rattle.tilt_types.specs.Needs.{body_needs, widest}
+use Rattle.tilt_core.specs.Needs.{body_needs, widest}
 use Rattle.tilt_bounds.proofs.widest.widest_body_need.Given as goal
 
 abbrev pub invariant-loop-place : goal.invariant-loop-place

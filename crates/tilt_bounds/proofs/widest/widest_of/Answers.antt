@@ -1,5 +1,5 @@
 use Rattle.std.proofs.Common.{◌≡◌, ◌∙◌, ap, sym, take, drop, arith}
-use Rattle.tilt_types.specs.Needs.{body_needs}
+use Rattle.tilt_core.specs.Needs.{body_needs}
 use Rattle.tilt_bounds.proofs.Needs.{widest-append}
 use Rattle.tilt_bounds.proofs.widest.widest_of.Goals as goal
 

@@ -11,7 +11,7 @@ use Rattle.tilt_chunk.specs.Cuts.{IsInRange}
 use Rattle.tilt_chunk.specs.Handed.{all_taken_up}
 use Rattle.tilt_chunk.specs.Later.{next_by}
 use Rattle.tilt_stream.specs.Snap.{Snapshot, AreRows}
-use Rattle.tilt_types.specs.Core.{CoreParts, IsCore}
+use Rattle.tilt_core.specs.Core.{CoreParts, IsCore}
 use Rattle.tilt_chunk.proofs.later_session.resume.Goals as goal
 use Rattle.tilt_chunk.proofs.later_session.resume.Goals.{in-Upto, in-End}
 

@@ -1,6 +1,6 @@
 use Rattle.std.proofs.Common.{◌≡◌, ◌+◌, suc, drop}
 use Rattle.tilt_fuse.specs.Plan.{is_windowed}
-use Rattle.tilt_types.specs.Needs.{needs_from}
+use Rattle.tilt_core.specs.Needs.{needs_from}
 use Rattle.tilt_fuse.proofs.merging.is_windowed.Given as goal
 
 -- those gone through have no window on the source

@@ -3,8 +3,8 @@ use Rattle.std.specs.Prelude.{◌&&◌, ◌||◌}
 use Rattle.tilt_bounds.proofs.Steps.{length-needs}
 use Rattle.tilt_fuse.proofs.Places.{windowed-from, used-at}
 use Rattle.tilt_fuse.specs.Plan.{has_window_on, is_windowed}
-use Rattle.tilt_types.specs.CoreTree.{CoreTree, Definition, tree_of}
-use Rattle.tilt_types.specs.Needs.{needs_from}
+use Rattle.tilt_core.specs.CoreTree.{CoreTree, Definition, tree_of}
+use Rattle.tilt_core.specs.Needs.{needs_from}
 use Rattle.tilt_fuse.proofs.merging.puts_window_on.Goals as goal
 
 pub bounds-query-query : goal.bounds-query-query

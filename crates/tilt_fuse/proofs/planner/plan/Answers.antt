@@ -5,7 +5,7 @@ use Rattle.tilt_fuse.specs.FusedTree.{PlannedLoop}
 use Rattle.tilt_fuse.specs.Plan.{plan_of}
 use Rattle.tilt_fuse.specs.Streams.{MeanTheirBodies}
 use Rattle.tilt_fuse.specs.Trees.{IsKnown}
-use Rattle.tilt_types.specs.CoreTree.{Definition}
+use Rattle.tilt_core.specs.CoreTree.{Definition}
 use Rattle.tilt_fuse.proofs.planner.plan.Goals as goal
 
 pub plan_definition-requires-clause-known : goal.plan_definition-requires-clause-known

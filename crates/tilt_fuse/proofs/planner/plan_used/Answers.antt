@@ -4,9 +4,9 @@ use Rattle.tilt_fuse.proofs.Used.{some_need}
 use Rattle.tilt_fuse.specs.FusedTree.{FusedTree, fused_tree_of}
 use Rattle.tilt_fuse.specs.Plan.{fused, nodes}
 use Rattle.tilt_fuse.specs.Trees.{AreNear, IsNearBody}
-use Rattle.tilt_types.specs.Core.{ReadsBelow}
-use Rattle.tilt_types.specs.CoreTree.{Definition, tree_of}
-use Rattle.tilt_types.specs.Needs.{needs_from}
+use Rattle.tilt_core.specs.Core.{ReadsBelow}
+use Rattle.tilt_core.specs.CoreTree.{Definition, tree_of}
+use Rattle.tilt_core.specs.Needs.{needs_from}
 use Rattle.tilt_fuse.proofs.planner.plan_used.Goals as goal
 
 pub fused-requires-clause-reads : goal.fused-requires-clause-reads

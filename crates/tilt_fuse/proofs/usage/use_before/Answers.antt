@@ -2,7 +2,7 @@ use Rattle.std.proofs.Common.{◌≡◌, length, true, false, set, ◌∙◌, sy
 use Rattle.std.proofs.lemmas.List.{length-set}
 use Rattle.std.specs.Prelude.{◌||◌, get_or}
 use Rattle.tilt_bounds.proofs.Steps.{reads-more}
-use Rattle.tilt_types.specs.CoreTree.{CoreTree, Definition, tree_of}
+use Rattle.tilt_core.specs.CoreTree.{CoreTree, Definition, tree_of}
 use Rattle.tilt_fuse.proofs.Used.{not_used, used_too}
 use Rattle.tilt_fuse.specs.Used.{names}
 use Rattle.tilt_fuse.proofs.usage.use_before.Goals as goal

@@ -1,6 +1,6 @@
 use Rattle.std.proofs.Common.{◌∙◌, ◌+◌, ◌-◌, length, drop, length-drop, sym, subst, arith}
-use Rattle.tilt_types.specs.Core.{IsDefinition}
-use Rattle.tilt_types.specs.CoreTree.{Definition}
+use Rattle.tilt_core.specs.Core.{IsDefinition}
+use Rattle.tilt_core.specs.CoreTree.{Definition}
 use Rattle.tilt_bounds.proofs.Steps.{definition-at, length-needs}
 use Rattle.tilt_fuse.proofs.Used.{at_last, behind_is, next_is}
 use Rattle.tilt_fuse.proofs.usage.used_of.Goals as goal

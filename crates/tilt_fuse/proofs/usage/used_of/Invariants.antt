@@ -1,5 +1,5 @@
 use Rattle.std.proofs.Common.{◌+◌, ◌-◌, length, drop}
-use Rattle.tilt_types.specs.Needs.{needs}
+use Rattle.tilt_core.specs.Needs.{needs}
 use Rattle.tilt_fuse.specs.Used.{AreUsed}
 use Rattle.tilt_fuse.proofs.usage.used_of.Given as goal
 

@@ -4,8 +4,8 @@ use Rattle.tilt_bounds.specs.Margins.{IsTold, MarginsParts}
 use Rattle.tilt_bounds.specs.declared.fault.ReachFault.{ReachFault}
 use Rattle.tilt_bounds.specs.declared.fault.ReachFault.TheVariants.{TooFar, OutOfMemory}
 use Rattle.tilt_report.specs.Report.{out_of_memory, report_of_check, report_of_reach}
-use Rattle.tilt_types.specs.Core.{CoreParts}
-use Rattle.tilt_types.specs.Needs.{Need}
+use Rattle.tilt_core.specs.Core.{CoreParts}
+use Rattle.tilt_core.specs.Needs.{Need}
 use Rattle.tilt_types.specs.declared.fault.CheckFault.{CheckFault}
 use Rattle.tilt_types.specs.declared.fault.CheckFault.TheVariants as check
 use Rattle.tilt_load.proofs.checkpoint_file.with_core.Goals as goal

@@ -6,7 +6,7 @@ use Rattle.tilt_lower.proofs.Planned.{margins-needs, output-of, all-pushed, plan
 use Rattle.tilt_lower.proofs.Whole.{whole-kept, whole-means}
 use Rattle.tilt_lower.specs.Constants.{ConstantsFit}
 use Rattle.tilt_lower.specs.Lowering.{buffer_of, loop_on, lowered}
-use Rattle.tilt_types.specs.CoreTree.{Definition}
+use Rattle.tilt_core.specs.CoreTree.{Definition}
 use Rattle.tilt_lower.proofs.query_code.lower.Goals as goal
 
 -- the loop of the plan whose turn it is

@@ -1,7 +1,7 @@
 use Rattle.std.proofs.Common.{◌∙◌, ℕ, List, FitsSigned, length, rules, ap, sym}
 use Rattle.std.proofs.lemmas.Int.{to_z-of_z}
 use Rattle.std.specs.Int.{w64}
-use Rattle.tilt_types.specs.Core.{CoreParts}
+use Rattle.tilt_core.specs.Core.{CoreParts}
 use Rattle.std.proofs.lemmas.Result.{err_from_is_err_and}
 use Rattle.tilt_words.specs.Binding.{bindings_of}
 use Rattle.tilt_report.specs.Report.{report_of}

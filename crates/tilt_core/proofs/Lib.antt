@@ -1,0 +1,5 @@
+pub mod Constancy
+pub mod Worked
+pub mod Last
+pub mod Sources
+pub mod Accepted

@@ -1,0 +1,4 @@
+pub mod Core
+pub mod CoreTree
+pub mod Meaning
+pub mod Needs
