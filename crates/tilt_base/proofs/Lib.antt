@@ -1,7 +1,10 @@
 pub mod Average
 pub mod Bits
+pub mod Booleans
+pub mod Comparisons
 pub mod Decimals
 pub mod GridPoints
 pub mod Last
+pub mod Lists
 pub mod Multiples
 pub mod Spelling
