@@ -13,6 +13,7 @@ use Rattle.std.proofs.lemmas.Fmt.{decimal_is_IsNumeral}
 use Rattle.std.proofs.lemmas.Int.{ints}
 use Rattle.std.proofs.lemmas.Option.{same_Some}
 use Rattle.std.proofs.lemmas.Str.Parse.{digit_from_value}
+use Rattle.tilt_base.proofs.Comparisons.{lt_true, true_lt}
 use Rattle.tilt_base.specs.Grid.{GridPoints, IsGrid}
 use Rattle.tilt_base.specs.declared.limits.TheConstants.{WIDE, PERIOD}
 use Rattle.tilt_base.specs.declared.operator.Op1.{Op1}
@@ -29,7 +30,7 @@ use Rattle.tilt_code.specs.declared.instr.Instr.{Instr}
 use Rattle.tilt_code.specs.declared.instr.Instr.TheVariants as instr
 use Rattle.tilt_code.specs.declared.line.Line.{Line}
 use Rattle.tilt_code.specs.declared.line.Line.TheVariants as line
-use Rattle.tilt_code.proofs.Instrs.{Words, choose, pair_is, number_takes, number_again, bounded_fits, offset_fits, lt_true, true_lt, instr_takes, instr_again}
+use Rattle.tilt_code.proofs.Instrs.{Words, choose, pair_is, number_takes, number_again, bounded_fits, offset_fits, instr_takes, instr_again}
 use Rattle.tilt_code.proofs.Names.{reserved_true, true_reserved}
 use Rattle.tilt_code.proofs.Pieces.{pieces_some}
 use Rattle.tilt_code.proofs.Numbers.{bind_some, guard_some, bytes_same, same_from, same_number, named-decimal, decimal-named}
