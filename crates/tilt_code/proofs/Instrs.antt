@@ -10,6 +10,7 @@ use Rattle.std.proofs.lemmas.Int.{ints}
 use Rattle.std.proofs.lemmas.Option.{none-some, same_Some, some_pair_parts}
 use Rattle.tilt_base.proofs.Comparisons.{lt_true, true_lt}
 use Rattle.tilt_base.specs.Offset.{IsOffset}
+use Rattle.tilt_base.specs.Reduce.{reducer_word}
 use Rattle.tilt_base.specs.declared.limits.TheConstants.{OFFSET}
 use Rattle.tilt_base.specs.declared.operator.Op1.{Op1}
 use Rattle.tilt_base.specs.declared.operator.Op1.TheVariants as op1
@@ -18,7 +19,7 @@ use Rattle.tilt_base.specs.declared.operator.Op2.TheVariants as op2
 use Rattle.tilt_base.specs.declared.reducer.Reducer.{Reducer}
 use Rattle.tilt_base.specs.declared.reducer.Reducer.TheVariants as reducer
 use Rattle.tilt_code.specs.Grammar.{IsInstr, IsNumber, IsWindow}
-use Rattle.tilt_code.specs.Line.{one_word, two_word, reducer_word, buffer_word, register_word, map_word, instr_words}
+use Rattle.tilt_code.specs.Line.{one_word, two_word, buffer_word, register_word, map_word, instr_words}
 use Rattle.tilt_code.specs.Reading.{◌>>=◌, shortest, named, number_at, named_at, is_offset, offset_at, reducer_at, map_at, const_at, port_at, win_at, if_at, two_at, one_at, form_at, instr_at}
 use Rattle.tilt_code.specs.declared.instr.Instr.{Instr}
 use Rattle.tilt_code.specs.declared.instr.Instr.TheVariants as instr
