@@ -1,7 +1,7 @@
 -- What pipes give of a query, and how their lines are put.
-use Rattle.std.proofs.Common.{◌≡◌, ◌≤◌, ◌<◌, ◌+◌, ℕ, ℤ, zero, suc, Bool, List, [], ◌∷◌, ◌++◌, length, max, take, drop, get_or, slice_get, Option, Some, None, Result, Ok, Err, IsErr, false, refl, sym, ap, ◌∙◌, subst, arith, append_assoc, length-append}
+use Rattle.std.proofs.Common.{◌≡◌, ◌≤◌, ◌+◌, ℕ, ℤ, zero, suc, Bool, List, [], ◌∷◌, ◌++◌, length, max, take, drop, slice_get, Option, Some, None, Result, Ok, Err, IsErr, false, refl, sym, ap, ◌∙◌, subst, arith, append_assoc, length-append}
 use Rattle.std.proofs.lemmas.List.{take-append-drop}
-use Rattle.std.proofs.lemmas.Option.{none-some, same_Some}
+use Rattle.tilt_base.proofs.Lists.{one-more}
 use Rattle.tilt_app.proofs.Printing.{prints-as, prints-none, prints-put, prints-short, prints-stopped, prints-then}
 use Rattle.tilt_app.specs.FileCommand.{done}
 use Rattle.tilt_app.specs.Prints.{Prints}
@@ -10,7 +10,7 @@ use Rattle.tilt_app.specs.declared.unput.Unput.TheVariants as variant
 use Rattle.tilt_outside.specs.Written.{Puts}
 use Rattle.tilt_outside.specs.declared.failed.Failed.{Failed}
 use Rattle.tilt_app.specs.Outcome.{Streams}
-use Rattle.tilt_app.specs.Pipe.{IsCodeOf, IsPipeOf, IsPipeOutcome, rings_text}
+use Rattle.tilt_app.specs.Pipe.{IsPipeOf, IsPipeOutcome, rings_text}
 use Rattle.tilt_app.specs.Run.{IsRunOutcome}
 use Rattle.tilt_bounds.specs.Margins.{MarginsParts, margins_of}
 use Rattle.tilt_code.specs.Code.{CodeParts}
@@ -55,12 +55,6 @@ module _ (files : List ℕ → List ℕ) (query : List ℕ) (binds : List Bindin
   pub pipe-rings : IsPipeOutcome files query binds fuse (printed (rings_text pipe.code pipe.inputs))
   pipe-rings = done is.core pipe.inputs is.taken is.inputs
       (record { list = run_of pipe.code pipe.inputs; code = pipe.code; means = is.means; code_is = is.code; is = refl })
-
--- one more of some snapshots
-one-more : (all : List Snapshot) (place : ℕ) (s : Snapshot) → slice_get all place ≡ Some s → take place all ++ s ∷ [] ≡ take (suc place) all
-one-more [] place s is = absurd (none-some s is)
-one-more (x ∷ xs) zero s is = ap (λ (n : Snapshot). n ∷ []) (sym (same_Some x s is))
-one-more (x ∷ xs) (suc place) s is = ap (λ (l : List Snapshot). x ∷ l) (one-more xs place s is)
 
 -- the lines of one more snapshot
 pub lines-more : (all : List Snapshot) (place : ℕ) (s : Snapshot) → slice_get all place ≡ Some s

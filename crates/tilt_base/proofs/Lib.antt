@@ -8,3 +8,4 @@ pub mod Last
 pub mod Lists
 pub mod Multiples
 pub mod Spelling
+pub mod Totals

@@ -1,5 +1,5 @@
 -- Laws of lists and options that std doesn't have.
-use Rattle.std.proofs.Common.{◌≡◌, ℕ, zero, suc, ◌<◌, ◌≤◌, ℤ, Bool, true, false, if◌then◌else◌, ◌⊎◌, inl, inr, List, [], ◌∷◌, ◌++◌, length, get_or, take, Contains, Option, Some, None, refl, sym, ap, subst, arith}
+use Rattle.std.proofs.Common.{◌≡◌, ℕ, zero, suc, ◌<◌, ◌≤◌, ℤ, Bool, true, false, if◌then◌else◌, ◌⊎◌, inl, inr, List, [], ◌∷◌, ◌++◌, length, get_or, take, Contains, Option, Some, None, refl, sym, ap, subst, arith, fold}
 use Rattle.std.specs.List.{AllByRecursion, slice_get}
 use Rattle.std.proofs.lemmas.Option.{none-some, same_Some}
 use Rattle.tilt_base.specs.Reduce.{numbers}
@@ -41,6 +41,11 @@ pub one-more : {X : Type 0} (all : List X) (place : ℕ) (x : X) → slice_get a
 one-more [] place x is = absurd (none-some x is)
 one-more (y ∷ ys) zero x is = ap (λ z. z ∷ []) (sym (same_Some y x is))
 one-more (y ∷ ys) (suc place) x is = ap (λ zs. y ∷ zs) (one-more ys place x is)
+
+-- where f associates, what it is begun with may be taken in at the end
+pub fold_join : (f : ℤ → ℤ → ℤ) → ((x y z : ℤ) → f (f x y) z ≡ f x (f y z)) → (a n : ℤ) (ns : List ℤ) → fold f (f a n) ns ≡ f a (fold f n ns)
+fold_join f associates a n [] = refl
+fold_join f associates a n (m ∷ ns) = rw (associates a n m) (fold_join f associates a (f n m) ns)
 
 -- the numbers among joined cells
 pub numbers-append : (cells more : List (Option ℤ)) → numbers (cells ++ more) ≡ numbers cells ++ numbers more

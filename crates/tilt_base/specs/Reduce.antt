@@ -1,5 +1,5 @@
 -- The reducers on a list of numbers (our own rule). Each is null on the empty list.
-use Rattle.std.specs.Prelude.{ℤ, pos, ◌+ℤ◌, List, [], ◌∷◌, length, Option, Some, None, int_div, fold}
+use Rattle.std.specs.Prelude.{ℤ, pos, ◌+ℤ◌, List, [], ◌∷◌, length, Option, Some, None, int_div, fold, codes, ℕ}
 use Rattle.std.specs.Int.{int_min, int_max}
 use Rattle.std.specs.List.{list_any, list_all}
 use Rattle.tilt_base.specs.declared.reducer.Reducer.{Reducer}
@@ -39,3 +39,15 @@ reduce_some All n ns = truth (list_all is_true (n ∷ ns))
 abbrev pub reduce : Reducer → List ℤ → Option ℤ
 reduce reducer [] = None
 reduce reducer (n ∷ ns) = reduce_some reducer n ns
+
+-- the word of a reducer, in queries and in listings
+abbrev pub reducer_word : Reducer → List ℕ
+reducer_word Sum = codes "sum"
+reducer_word Avg = codes "avg"
+reducer_word Min = codes "min"
+reducer_word Max = codes "max"
+reducer_word Count = codes "count"
+reducer_word First = codes "first"
+reducer_word Last = codes "last"
+reducer_word Any = codes "any"
+reducer_word All = codes "all"

@@ -2,7 +2,7 @@
 ghost use Rattle.std.specs.Prelude.{◌≡◌, ◌*◌, ◌<◌, ◌≤ℤ◌, fold, int_div, length, neg_ℤ, pos};
 ghost use Rattle.std.specs.Int.{int_max, int_min};
 ghost use Rattle.std.specs.List.{list_all, list_any};
-ghost use Rattle.tilt_base.specs.Reduce.{reduce, total};
+ghost use Rattle.tilt_base.specs.Reduce.{reduce, reducer_word, total};
 ghost use Rattle.tilt_base.specs.Scalar.{is_true};
 
 use crate::cell::Cell;
@@ -25,6 +25,25 @@ pub enum Reducer {
     Any,
     /// 1 where every member is true, else 0.
     All,
+}
+
+impl Reducer {
+    /// The word of the reducer, in queries and in listings.
+    pub fn word(self) -> &'static [u8]
+        ensures { result.now ≡ reducer_word self }
+    {
+        match self {
+            Reducer::Sum => b"sum",
+            Reducer::Avg => b"avg",
+            Reducer::Min => b"min",
+            Reducer::Max => b"max",
+            Reducer::Count => b"count",
+            Reducer::First => b"first",
+            Reducer::Last => b"last",
+            Reducer::Any => b"any",
+            Reducer::All => b"all",
+        }
+    }
 }
 
 /// What the reducer gives on the numbers, in one pass over them.

@@ -1,8 +1,7 @@
 -- What a source is asked for is all that matters of it.
-use Rattle.std.proofs.Common.{◌≡◌, ℕ, zero, suc, ◌+◌, ◌-◌, ◌<◌, ◌≤◌, ◌==◌, ℤ, pos, ◌+ℤ◌, ◌-ℤ◌, ◌≤ℤ◌, ◌<ℤ◌, true, false, List, [], ◌∷◌, ◌++◌, length, map, Option, Some, None, if◌then◌else◌, ◌⊎◌, inl, inr, refl, sym, ap, ◌∙◌, arith, subst, length-append, get_or}
-use Rattle.std.specs.Prelude.{neg_ℤ}
-use Rattle.std.specs.Int.{int_max}
+use Rattle.std.proofs.Common.{◌≡◌, ℕ, zero, suc, ◌+◌, ◌<◌, ◌==◌, ℤ, pos, ◌+ℤ◌, ◌-ℤ◌, List, [], ◌∷◌, ◌++◌, length, Option, Some, None, if◌then◌else◌, ◌⊎◌, inl, inr, sym, ap, ◌∙◌, arith, subst, length-append, get_or}
 use Rattle.std.proofs.lemmas.Int.{ints, clamps}
+use Rattle.tilt_base.proofs.Comparisons.{same_number}
 use Rattle.tilt_base.specs.Expression.{Leaf, One, Two, If}
 use Rattle.tilt_stream.proofs.Locality.{same-agrees, narrower-agrees, lifted1-agrees, lifted2-agrees, branched-agrees, shifted-agrees, windowed-agrees, on_grid-agrees, restricted-agrees}
 use Rattle.tilt_stream.specs.Agreement.{Agree}
@@ -14,12 +13,8 @@ use Rattle.tilt_core.proofs.Sources.{source_of-front, source_of-last, with_defin
 use Rattle.tilt_core.specs.Core.{ReadsBelow, IsDefinition, AreDefinitions}
 use Rattle.tilt_core.specs.CoreTree.{Const, Read, Reduce, CoreTree, Definition}
 use Rattle.tilt_core.specs.Meaning.{source_of, body_of, within, definition_of, with_definitions}
-use Rattle.tilt_core.specs.Needs.{Need, no_margin, wider, either, reaching, asked_by, body_need, asked_of, need_before, asked_from, needs_from}
+use Rattle.tilt_core.specs.Needs.{Need, wider, either, reaching, asked_by, body_need, asked_of, need_before, asked_from, needs_from}
 use Rattle.tilt_bounds.specs.Laws.{AgreeAsAsked}
-
--- a number is itself
-pub is_itself : (n : ℕ) → (n == n) ≡ true
-is_itself n = grind arith
 
 module _ (lo hi : ℤ) where
   -- streams that agree on what two have asked agree on what each of the two has
@@ -44,7 +39,7 @@ module _ (lo hi : ℤ) where
 
     asked : (read : ℕ) (n : Need) → read < bound → ((source : ℕ) → source < bound → AgreeAsAsked (if read == source then Some n else None) lo hi (source_of xs source) (source_of ys source))
         → Agree (source_of xs read) (source_of ys read) (lo -ℤ n.back) (hi +ℤ n.ahead)
-    asked read n low h = rw (is_itself read) at (h read low)
+    asked read n low h = rw (same_number read) at (h read low)
 
     body_of-agrees : (n : Need) (body : CoreTree) → ReadsBelow bound body → AgreeAsAskedBy n body → Agree (body_of xs body) (body_of ys body) (lo -ℤ n.back) (hi +ℤ n.ahead)
     body_of-agrees n (Leaf (Const number)) reads h = same-agrees (constant (Some number)) (lo -ℤ n.back) (hi +ℤ n.ahead)

@@ -1,28 +1,19 @@
 -- What one definition more asks of the sources before it.
-use Rattle.std.proofs.Common.{◌≡◌, ◌≢◌, ℕ, zero, suc, ◌+◌, ◌*◌, ◌^◌, ◌-◌, ◌<◌, ◌≤◌, ◌==◌, ℤ, pos, ◌+ℤ◌, ◌≤ℤ◌, Bool, true, false, List, [], ◌∷◌, ◌++◌, length, map, Option, Some, None, if◌then◌else◌, ◌⊎◌, inl, inr, refl, sym, ap, ◌∙◌, arith, subst, get_or, set, length-append, replicate}
+use Rattle.std.proofs.Common.{◌≡◌, ◌≢◌, ℕ, zero, suc, ◌+◌, ◌^◌, ◌<◌, ◌≤◌, ◌==◌, ℤ, pos, ◌≤ℤ◌, false, List, [], ◌∷◌, length, map, Option, Some, None, if◌then◌else◌, inl, inr, refl, sym, ap, ◌∙◌, arith, subst, get_or, set, length-append, replicate}
 use Rattle.std.specs.List.{range_with_len}
 use Rattle.std.specs.Prelude.{neg_ℤ}
-use Rattle.std.proofs.lemmas.Bool.{cases_Bool, eqb-true}
+use Rattle.std.proofs.lemmas.Bool.{ne_eqb, cases_eq}
 use Rattle.std.proofs.lemmas.Int.{ints, clamps}
-use Rattle.std.proofs.lemmas.List.{ext_get_or, length-set, append-nil, get_or-set_same, get_or-set_other, get_or_past}
+use Rattle.std.proofs.lemmas.List.{ext_get_or, append-nil, get_or-set_same, get_or-set_other}
 use Rattle.std.proofs.lemmas.List.FromFn.{length-map-range_with_len}
+use Rattle.tilt_base.proofs.Comparisons.{same_number}
 use Rattle.tilt_base.specs.Expression.{Leaf, One, Two, If}
 use Rattle.tilt_base.specs.Grid.{IsGrid}
 use Rattle.tilt_core.specs.Core.{ReadsBelow, IsDefinition, AreDefinitions}
 use Rattle.tilt_core.specs.CoreTree.{Const, Read, Reduce, CoreTree, Definition}
-use Rattle.tilt_core.specs.Needs.{Need, wider, either, reaching, asked_by, body_need, asked_of, need_before, asked_from, needs_from, needs}
+use Rattle.tilt_core.specs.Needs.{Need, either, reaching, asked_by, body_need, asked_of, need_before, asked_from, needs_from, needs}
 use Rattle.tilt_bounds.proofs.Needs.{below_or_behind, need_at-input, need_at-definition, wider-grows}
-use Rattle.tilt_bounds.proofs.Local.{is_itself}
 use Rattle.tilt_bounds.specs.Margins.{IsWithin, AreWithin, evenly, need_at}
-
-same_or_other : (i j : ℕ) → (i ≡ j) ⊎ (i ≢ j)
-same_or_other i j = elim (cases_Bool (i == j)) [
-  | inl is ↦ inl (eqb-true i j is)
-  | inr differs ↦ inr (λ same. absurd (let e = is_itself j in let d : (j == j) ≡ false = ap (λ (k : ℕ). k == j) (sym same) ∙ differs in cc))
-]
-
-differ : (i j : ℕ) → i ≢ j → (i == j) ≡ false
-differ i j other = elim (cases_Bool (i == j)) [ inl is ↦ absurd (other (eqb-true i j is)) | inr differs ↦ differs ]
 
 -- two needs and nothing
 pub either-none : (m : Option Need) → either m None ≡ m
@@ -54,9 +45,9 @@ asks_none bound n (If c a b) source reads high =
 pub asks-source : (asked : List (Option Need)) (read : ℕ) (n : Need) (source : ℕ) → read < length asked
     → need_at (set asked read (either (need_at asked read) (Some n))) source ≡ either (need_at asked source) (if read == source then Some n else None)
 asks-source asked read n source low =
-    elim (same_or_other source read) [
-      | inl same ↦ rw (same, is_itself read) (get_or-set_same asked read (either (need_at asked read) (Some n)) None low)
-      | inr other ↦ (let differs : (read == source) ≡ false = differ read source (λ e. other (sym e)) in
+    elim (cases_eq source read) [
+      | inl same ↦ rw (same, same_number read) (get_or-set_same asked read (either (need_at asked read) (Some n)) None low)
+      | inr other ↦ (let differs : (read == source) ≡ false = ne_eqb read source (λ e. other (sym e)) in
           rw differs (get_or-set_other asked read source (either (need_at asked read) (Some n)) None other ∙ sym (either-none (need_at asked source))))
     ]
 
@@ -135,7 +126,7 @@ all_within-greater low high ns less h = record { each = λ source. within-greate
 -- one need is put down
 pub all_within-set : (limit : Need) (ns : List (Option Need)) (i : ℕ) (n : Option Need) → i < length ns → AreWithin limit ns → IsWithin limit n → AreWithin limit (set ns i n)
 all_within-set limit ns i n low h is = record {
-  each = λ source. elim (same_or_other source i) [
+  each = λ source. elim (cases_eq source i) [
     | inl same ↦ rw (same, get_or-set_same ns i n None low) is
     | inr other ↦ rw (get_or-set_other ns i source n None other) (h.each source)
   ];

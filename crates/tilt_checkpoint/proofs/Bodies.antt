@@ -4,9 +4,10 @@ use Rattle.std.specs.Prelude.{codes, int_lt, int_le}
 use Rattle.std.specs.Fmt.{signed_decimal}
 use Rattle.std.specs.List.{AllByRecursion, flat_map}
 use Rattle.std.specs.Str.{bytes_eq}
-use Rattle.std.proofs.lemmas.Bool.{and_parts, false≢true}
+use Rattle.std.proofs.lemmas.Bool.{and_parts, false≢true, and_from}
 use Rattle.std.proofs.lemmas.Int.{ints}
-use Rattle.std.proofs.lemmas.Option.{same_Some}
+use Rattle.std.proofs.lemmas.Option.{same_Some, some_pair_parts}
+use Rattle.tilt_base.proofs.Comparisons.{lt_true, true_lt, le_true, true_le}
 use Rattle.tilt_base.specs.declared.limits.TheConstants.{T}
 use Rattle.tilt_checkpoint.specs.Checkpoint.{BodyParts, KeptParts}
 use Rattle.tilt_checkpoint.specs.Decided.{IsFrame, decided, first_kept}
@@ -17,8 +18,8 @@ use Rattle.tilt_checkpoint.specs.declared.frame.Frame.{Frame}
 use Rattle.tilt_checkpoint.proofs.Inputs.{series-again, series-were}
 use Rattle.tilt_checkpoint.proofs.Numbers.{bind_some, bytes_same, guard_some, same_bytes}
 use Rattle.tilt_checkpoint.proofs.Pieces.{text-behind}
-use Rattle.tilt_checkpoint.proofs.Rows.{both_true, le_true, lt_true, time_fits, true_le, true_lt}
-use Rattle.tilt_checkpoint.proofs.Words.{pair_is, number-again, number-was, maybe-again, maybe-was, none-apart}
+use Rattle.tilt_checkpoint.proofs.Rows.{time_fits}
+use Rattle.tilt_checkpoint.proofs.Words.{number-again, number-was, maybe-again, maybe-was, none-apart}
 
 -- tests
 
@@ -28,7 +29,7 @@ cut_true cut h =
     (le_true (neg_ℤ T) cut p.0, le_true cut T p.1)
 
 true_cut : (cut : ℤ) → IsCut cut → is_cut cut ≡ true
-true_cut cut h = both_true (int_le (neg_ℤ T) cut) (int_le cut T) (true_le (neg_ℤ T) cut h.0) (true_le cut T h.1)
+true_cut cut h = and_from (int_le (neg_ℤ T) cut) (int_le cut T) (true_le (neg_ℤ T) cut h.0) (true_le cut T h.1)
 
 amid_true : (frame : Frame) (done : ℤ) → is_amid frame done ≡ true → IsAmid frame done
 amid_true frame done h =
@@ -37,7 +38,7 @@ amid_true frame done h =
 
 true_amid : (frame : Frame) (done : ℤ) → IsAmid frame done → is_amid frame done ≡ true
 true_amid frame done h =
-    both_true (int_lt frame.start done) (int_lt done frame.end) (true_lt frame.start done h.0) (true_lt done frame.end h.1)
+    and_from (int_lt frame.start done) (int_lt done frame.end) (true_lt frame.start done h.0) (true_lt done frame.end h.1)
 
 not_amid : (t : Bool) → not t ≡ true → t ≡ true → ⊥
 not_amid true n h = false≢true n
@@ -57,8 +58,8 @@ open_true frame done (Some start) h =
 true_open : (frame : Frame) (done : ℤ) (start : Option ℤ) → IsOpen frame done start → is_open frame done start ≡ true
 true_open frame done None h = amid_not (is_amid frame done) (λ amid. h (amid_true frame done amid))
 true_open frame done (Some start) h =
-    both_true (is_amid frame done && int_le frame.start start) (int_lt start done)
-    (both_true (is_amid frame done) (int_le frame.start start) (true_amid frame done h.0) (true_le frame.start start h.1))
+    and_from (is_amid frame done && int_le frame.start start) (int_lt start done)
+    (and_from (is_amid frame done) (int_le frame.start start) (true_amid frame done h.0) (true_le frame.start start h.1))
     (true_lt start done h.2)
 
 cut_fits : (cut : ℤ) → IsCut cut → IsCell (Some cut)
@@ -97,7 +98,7 @@ body-again frame cut start series is within opened all small =
     let first = first_kept frame cut in
     let rest = flat_map series_lines series ++ codes "end\n" in
     let body : BodyParts = record { cut = cut; open_start = start; series = series } in
-    let tests = both_true (is_cut cut) (is_open frame (decided frame cut) start) (true_cut cut within) (true_open frame (decided frame cut) start opened) in
+    let tests = and_from (is_cut cut) (is_open frame (decided frame cut) start) (true_cut cut within) (true_open frame (decided frame cut) start opened) in
     let moment = moment-again cut start (cut_fits cut within) (open_fits frame is cut start opened) rest in
     ap (body_at frame (length series)) (body_shape cut start series)
     ∙ ap (λ o. o >>= behind_moment frame (length series)) moment
@@ -132,7 +133,7 @@ moment-was bytes cut start rest e =
     let n = bind_some (number_at 10 w.0) moment1 ((cut, start), rest) w.2 in
     let o = bind_some (behind (codes "open ") n.0.1) (moment2 n.0) ((cut, start), rest) n.2 in
     let s = bind_some (maybe_at (codes "none") 10 o.0) (moment3 n.0) ((cut, start), rest) o.2 in
-    let p = pair_is (n.0.0, s.0.0) (cut, start) s.0.1 rest s.2 in
+    let p = some_pair_parts (n.0.0, s.0.0) (cut, start) s.0.1 rest s.2 in
     let first_word = text-behind (codes "cut ") bytes w.0 w.1 in
     let first_number = (number-was 10 w.0 n.0.0 n.0.1 n.1).spelled in
     let second_word = text-behind (codes "open ") n.0.1 o.0 o.1 in

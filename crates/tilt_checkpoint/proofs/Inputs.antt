@@ -3,10 +3,11 @@ use Rattle.std.proofs.Common.{◌≡◌, ℕ, zero, suc, ◌^◌, ◌<◌, ◌�
 use Rattle.std.specs.Prelude.{codes, int_lt, int_le}
 use Rattle.std.specs.Fmt.{decimal, signed_decimal}
 use Rattle.std.specs.List.{AllByRecursion, flat_map}
-use Rattle.std.proofs.lemmas.Bool.{and_parts}
+use Rattle.std.proofs.lemmas.Bool.{and_parts, and_from}
 use Rattle.std.proofs.lemmas.Bool.Decides.{Decides-int_eq}
 use Rattle.std.proofs.lemmas.Int.{ints}
-use Rattle.std.proofs.lemmas.Option.{none-some, same_Some}
+use Rattle.std.proofs.lemmas.Option.{none-some, same_Some, some_pair_parts}
+use Rattle.tilt_base.proofs.Comparisons.{lt_true, true_lt, le_true, true_le}
 use Rattle.tilt_base.specs.declared.limits.TheConstants.{T}
 use Rattle.tilt_stream.proofs.Order.{last_end-low}
 use Rattle.tilt_stream.specs.Snap.{Snapshot, InOrder, last_end}
@@ -17,8 +18,8 @@ use Rattle.tilt_checkpoint.specs.Spelling.{row_lines, series_lines, time_text}
 use Rattle.tilt_checkpoint.specs.Valid.{IsCell, IsKept, IsLastEnd, IsSeries}
 use Rattle.tilt_checkpoint.proofs.Numbers.{bind_some, guard_some}
 use Rattle.tilt_checkpoint.proofs.Pieces.{text-behind}
-use Rattle.tilt_checkpoint.proofs.Rows.{both_true, le_true, lt_true, rows-again, rows-were, time_fits, true_le, true_lt}
-use Rattle.tilt_checkpoint.proofs.Words.{pair_is, count-again, count-was, maybe-again, maybe-was, none-apart}
+use Rattle.tilt_checkpoint.proofs.Rows.{rows-again, rows-were, time_fits}
+use Rattle.tilt_checkpoint.proofs.Words.{count-again, count-was, maybe-again, maybe-was, none-apart}
 
 -- last ends
 
@@ -37,9 +38,9 @@ true_last first cut (Some end) None h = absurd (none-some end h)
 true_last first cut (Some end) (Some last) h = (Decides-int_eq last end).1 (same_Some last end h)
 true_last first cut None None h = refl
 true_last first cut None (Some last) h =
-    both_true _ (int_lt (neg_ℤ T) cut)
-    (both_true _ (int_lt last first)
-    (both_true (int_lt (neg_ℤ T) last) (int_le last T) (true_lt (neg_ℤ T) last h.0) (true_le last T h.1))
+    and_from _ (int_lt (neg_ℤ T) cut)
+    (and_from _ (int_lt last first)
+    (and_from (int_lt (neg_ℤ T) last) (int_le last T) (true_lt (neg_ℤ T) last h.0) (true_le last T h.1))
     (true_lt last first h.2)) (true_lt (neg_ℤ T) cut h.3)
 
 last_high : (from limit : ℤ) (rows : List Snapshot) (end : ℤ) → InOrder from limit rows → last_end rows ≡ Some end → end ≤ℤ limit
@@ -122,7 +123,7 @@ module _ (first cut : ℤ) where
       let l = bind_some (maybe_at (codes "none") 32 w.0) head1 ((last, count), rest) w.2 in
       let r = bind_some (behind (codes "rows ") l.0.1) (head2 l.0) ((last, count), rest) l.2 in
       let n = bind_some (count_at 10 r.0) (head3 l.0) ((last, count), rest) r.2 in
-      let p = pair_is (l.0.0, n.0.0) (last, count) n.0.1 rest n.2 in
+      let p = some_pair_parts (l.0.0, n.0.0) (last, count) n.0.1 rest n.2 in
       let first_word = text-behind (codes "last ") bytes w.0 w.1 in
       let first_number = (maybe-was (codes "none") 32 w.0 l.0.0 l.0.1 l.1).spelled in
       let second_word = text-behind (codes "rows ") l.0.1 r.0 r.1 in
@@ -143,7 +144,7 @@ module _ (first cut : ℤ) where
       let r = bind_some (times (with_row first cut) count ([], h.0.1)) (kept_with first cut last) (kept, rest) h.2 in
       let made : KeptParts = record { last_end = last; rows = r.0.0 } in
       let g = guard_some (is_last_end first cut (last_end r.0.0) last) (Some (made, r.0.1)) (kept, rest) r.2 in
-      let p = pair_is made kept r.0.1 rest g.1 in
+      let p = some_pair_parts made kept r.0.1 rest g.1 in
       let rows = rows-were first cut count (neg_ℤ T) [] h.0.1 r.0.0 r.0.1 (λ s low h. low) r.1 in
       let head = (head-was bytes last count h.0.1 h.1).spelled in
       let counted : count ≡ length r.0.0 = rows.counted ∙ ap (λ (l : List Snapshot). length l) (sym rows.joined) in
@@ -171,7 +172,7 @@ module _ (first cut : ℤ) where
   pub series-were : (count : ℕ) (before : List KeptParts) (bytes : List ℕ) (all : List KeptParts) (rest : List ℕ)
       → times (with_kept first cut) count (before, bytes) ≡ Some (all, rest) → WereKept count before bytes all rest
   series-were zero before bytes all rest e =
-      let p = pair_is before all bytes rest e in
+      let p = some_pair_parts before all bytes rest e in
       record {
         series = [];
         joined = sym p.0 ∙ sym (append-nil before);
@@ -183,7 +184,7 @@ module _ (first cut : ℤ) where
       let b = bind_some (with_kept first cut (before, bytes)) (times (with_kept first cut) count) (all, rest) e in
       let k = bind_some (kept_at first cut bytes) (λ kept. Some (before ++ kept.0 ∷ [], kept.1)) b.0 b.1 in
       let kept = k.0.0 in
-      let p = pair_is (before ++ kept ∷ []) b.0.0 k.0.1 b.0.1 k.2 in
+      let p = some_pair_parts (before ++ kept ∷ []) b.0.0 k.0.1 b.0.1 k.2 in
       let was = kept-was bytes kept k.0.1 k.1 in
       let next = series-were count b.0.0 b.0.1 all rest b.2 in
       record {

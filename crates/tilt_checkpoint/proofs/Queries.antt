@@ -3,6 +3,7 @@ use Rattle.std.proofs.Common.{◌≡◌, ℕ, ◌-◌, List, ◌∷◌, ◌++◌
 use Rattle.std.specs.Prelude.{codes}
 use Rattle.std.specs.Fmt.{decimal}
 use Rattle.std.proofs.Math.Seq.{take-append_seam}
+use Rattle.std.proofs.lemmas.Option.{some_pair_parts}
 use Rattle.tilt_syntax.specs.Printing.{query_text}
 use Rattle.tilt_syntax.specs.Query.{IsQuery}
 use Rattle.tilt_syntax.specs.Tree.{StatementTree}
@@ -12,7 +13,7 @@ use Rattle.tilt_checkpoint.proofs.Lines.{left_is}
 use Rattle.tilt_checkpoint.proofs.Numbers.{bind_some}
 use Rattle.tilt_checkpoint.proofs.Pieces.{text-behind}
 use Rattle.tilt_checkpoint.proofs.QueryLines.{query-few, query-passed}
-use Rattle.tilt_checkpoint.proofs.Words.{pair_is, count-again, count-was}
+use Rattle.tilt_checkpoint.proofs.Words.{count-again, count-was}
 
 front-again : (front left : List ℕ) → front_of left (front ++ left) ≡ front
 front-again front left =
@@ -43,7 +44,7 @@ pub query-was : (bytes : List ℕ) (count : ℕ) (text left : List ℕ) → quer
 query-was bytes count text left e =
     let n = bind_some (statements_at bytes) (λ n. times behind_line n.0 n.1 >>= λ rest. Some ((n.0, front_of rest n.1), rest)) ((count, text), left) e in
     let l = bind_some (times behind_line n.0.0 n.0.1) (λ rest. Some ((n.0.0, front_of rest n.0.1), rest)) ((count, text), left) n.2 in
-    let p = pair_is (n.0.0, front_of l.0 n.0.1) (count, text) l.0 left l.2 in
+    let p = some_pair_parts (n.0.0, front_of l.0 n.0.1) (count, text) l.0 left l.2 in
     let t = bind_some (behind title bytes) (λ first. behind (codes "query ") first >>= count_at 10) n.0 n.1 in
     let w = bind_some (behind (codes "query ") t.0) (count_at 10) n.0 t.2 in
     let split = left_is n.0.0 n.0.1 l.0 l.1 in

@@ -1,11 +1,13 @@
 -- The rows that are read are those that are spelled.
-use Rattle.std.proofs.Common.{◌≡◌, ℕ, zero, suc, Bool, true, ◌&&◌, if◌then◌else◌, List, [], ◌∷◌, ◌++◌, length, Option, Some, None, ℤ, pos, negsuc, neg_ℤ, ◌≤ℤ◌, ◌<ℤ◌, FitsSigned, refl, sym, ap, ◌∙◌, subst, arith, append-nil, append_assoc}
+use Rattle.std.proofs.Common.{◌≡◌, ℕ, zero, suc, true, if◌then◌else◌, List, [], ◌∷◌, ◌++◌, length, Option, Some, None, ℤ, pos, negsuc, neg_ℤ, ◌≤ℤ◌, ◌<ℤ◌, FitsSigned, refl, sym, ap, ◌∙◌, subst, arith, append-nil, append_assoc}
 use Rattle.std.specs.Prelude.{codes, int_lt, int_le}
 use Rattle.std.specs.Fmt.{signed_decimal}
 use Rattle.std.specs.Int.{w64}
 use Rattle.std.specs.List.{AllByRecursion}
-use Rattle.std.proofs.lemmas.Bool.{and_parts}
+use Rattle.std.proofs.lemmas.Bool.{and_parts, and_from}
 use Rattle.std.proofs.lemmas.Int.{ints}
+use Rattle.std.proofs.lemmas.Option.{some_pair_parts}
+use Rattle.tilt_base.proofs.Comparisons.{lt_true, true_lt, le_true, true_le}
 use Rattle.tilt_base.specs.declared.limits.TheConstants.{T}
 use Rattle.tilt_stream.specs.Snap.{Snapshot, InOrder, last_end}
 use Rattle.tilt_stream.proofs.Order.{last_end-push}
@@ -14,7 +16,7 @@ use Rattle.tilt_checkpoint.specs.Reading.{◌>>=◌, follows, maybe_at, may_foll
 use Rattle.tilt_checkpoint.specs.Spelling.{or_word, row_lines}
 use Rattle.tilt_checkpoint.specs.Valid.{IsCell, IsKept}
 use Rattle.tilt_checkpoint.proofs.Numbers.{bind_some, guard_some}
-use Rattle.tilt_checkpoint.proofs.Words.{pair_is, number-again, number-was, maybe-again, maybe-was, nothing-apart}
+use Rattle.tilt_checkpoint.proofs.Words.{number-again, number-was, maybe-again, maybe-was, nothing-apart}
 
 cell_is : (o : Option ℤ) → cell_text o ≡ or_word [] o
 cell_is None = refl
@@ -26,21 +28,6 @@ row_shape : (r : Snapshot) (rest : List ℕ)
 row_shape r rest =
     ap (λ (c : List ℕ). (signed_decimal r.start ++ codes "," ++ signed_decimal r.end ++ codes "," ++ c ++ codes "\n") ++ rest) (cell_is r.value)
     ∙ simp append_assoc
-
-pub lt_true : (a b : ℤ) → int_lt a b ≡ true → a <ℤ b
-lt_true a b h = grind (arith, ints)
-
-pub true_lt : (a b : ℤ) → a <ℤ b → int_lt a b ≡ true
-true_lt a b h = grind (arith, ints)
-
-pub le_true : (a b : ℤ) → int_le a b ≡ true → a ≤ℤ b
-le_true a b h = grind (arith, ints)
-
-pub true_le : (a b : ℤ) → a ≤ℤ b → int_le a b ≡ true
-true_le a b h = grind (arith, ints)
-
-pub both_true : (a b : Bool) → a ≡ true → b ≡ true → (a && b) ≡ true
-both_true a b p q = rw (p, q) refl
 
 -- a time fits in 64 bits
 pub time_fits : (t : ℤ) → neg_ℤ T ≤ℤ t → t ≤ℤ T → FitsSigned w64 t
@@ -83,7 +70,7 @@ row-was bytes r rest e =
     let v = bind_some (maybe_at [] 10 n.0.1) (row3 s.0 n.0) (r, rest) n.2 in
     let made : Snapshot = record { start = s.0.0; end = n.0.0; value = v.0.0 } in
     let g = guard_some (int_lt s.0.0 n.0.0) (Some (made, v.0.1)) (r, rest) v.2 in
-    let p = pair_is made r v.0.1 rest g.1 in
+    let p = some_pair_parts made r v.0.1 rest g.1 in
     let start = number-was 44 bytes s.0.0 s.0.1 s.1 in
     let end = number-was 44 s.0.1 n.0.0 n.0.1 n.1 in
     let value = maybe-was [] 10 n.0.1 v.0.0 v.0.1 v.1 in
@@ -100,10 +87,10 @@ module _ (first cut : ℤ) where
   follow_true : (before : List Snapshot) (r : Snapshot) → follows (last_end before) r.start ≡ true → neg_ℤ T ≤ℤ r.start → r.end ≤ℤ T
       → IsKept first cut r → may_follow first cut before r ≡ true
   follow_true before r behind low high kept =
-      both_true _ (int_lt r.start cut)
-      (both_true _ (int_le first r.end)
-      (both_true _ (int_le r.end T)
-      (both_true (int_le (neg_ℤ T) r.start) (follows (last_end before) r.start) (true_le (neg_ℤ T) r.start low) behind)
+      and_from _ (int_lt r.start cut)
+      (and_from _ (int_le first r.end)
+      (and_from _ (int_le r.end T)
+      (and_from (int_le (neg_ℤ T) r.start) (follows (last_end before) r.start) (true_le (neg_ℤ T) r.start low) behind)
       (true_le r.end T high)) (true_le first r.end kept.reaches)) (true_lt r.start cut kept.before)
 
   step-again : (before : List Snapshot) (r : Snapshot) (rest : List ℕ) → follows (last_end before) r.start ≡ true → neg_ℤ T ≤ℤ r.start
@@ -154,7 +141,7 @@ module _ (first cut : ℤ) where
       let r = bind_some (row_at bytes) (λ row. if may_follow first cut before row.0 then Some (before ++ row.0 ∷ [], row.1) else None) (all, rest) e in
       let row = r.0.0 in
       let g = guard_some (may_follow first cut before row) (Some (before ++ row ∷ [], r.0.1)) (all, rest) r.2 in
-      let p = pair_is (before ++ row ∷ []) all r.0.1 rest g.1 in
+      let p = some_pair_parts (before ++ row ∷ []) all r.0.1 rest g.1 in
       let is = row-was bytes row r.0.1 r.1 in
       let a = and_parts _ (int_lt row.start cut) g.0 in
       let b = and_parts _ (int_le first row.end) a.0 in
@@ -174,7 +161,7 @@ module _ (first cut : ℤ) where
       → ((s : ℤ) → neg_ℤ T ≤ℤ s → follows (last_end before) s ≡ true → from ≤ℤ s)
       → times (with_row first cut) count (before, bytes) ≡ Some (all, rest) → AreRead count from before bytes all rest
   rows-were zero from before bytes all rest behind e =
-      let p = pair_is before all bytes rest e in
+      let p = some_pair_parts before all bytes rest e in
       record {
         rows = [];
         joined = sym p.0 ∙ sym (append-nil before);

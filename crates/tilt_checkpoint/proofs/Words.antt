@@ -8,18 +8,13 @@ use Rattle.std.specs.Str.Parse.{AllDigits}
 use Rattle.std.proofs.lemmas.Bool.{cases_Bool}
 use Rattle.std.proofs.lemmas.Bool.Decides.{nat_tests}
 use Rattle.std.proofs.lemmas.Fmt.{decimal_is_IsNumeral}
-use Rattle.std.proofs.lemmas.Option.{none-some, same_Some}
+use Rattle.std.proofs.lemmas.Option.{none-some, same_Some, some_pair_parts}
 use Rattle.std.proofs.lemmas.Str.Parse.{digit_from_value}
 use Rattle.tilt_checkpoint.specs.Reading.{◌>>=◌, count_at, maybe, maybe_at, natural, number_at, shortest, until_at}
 use Rattle.tilt_checkpoint.specs.Spelling.{or_word}
 use Rattle.tilt_checkpoint.specs.Valid.{IsCell}
 use Rattle.tilt_checkpoint.proofs.Numbers.{bind_some, bytes_same, same_bytes, shortest-signed, signed-shortest}
 use Rattle.tilt_checkpoint.proofs.Pieces.{Lacks, lacks-more, until-front, front-until}
-
-pub pair_is : {A B : Type 0} (a x : A) (b y : B) → ◌≡◌ {A = Option (A × B)} (Some (a, b)) (Some (x, y)) → (a ≡ x) × (b ≡ y)
-pair_is {A = A} {B = B} a x b y e =
-    let p = same_Some (a, b) (x, y) e in
-    (ap (λ (q : A × B). q.0) p, ap (λ (q : A × B). q.1) p)
 
 pub differs : (d m : ℕ) → m < d → (d == m) ≡ false
 differs d m h = grind (arith, nat_tests)
@@ -53,7 +48,7 @@ pub number-was : (mark : ℕ) (bytes : List ℕ) (z : ℤ) (rest : List ℕ) →
 number-was mark bytes z rest e =
     let w = bind_some (until_at mark bytes) (λ word. shortest word.0 >>= λ n. Some (n, word.1)) (z, rest) e in
     let n = bind_some (shortest w.0.0) (λ n. Some (n, w.0.1)) (z, rest) w.2 in
-    let p = pair_is n.0 z w.0.1 rest n.2 in
+    let p = some_pair_parts n.0 z w.0.1 rest n.2 in
     let s = signed-shortest w.0.0 n.0 n.1 in
     record {
       spelled = front-until mark bytes w.0.0 w.0.1 w.1 ∙ (λ i. s.0 i ++ mark ∷ w.0.1) ∙ (λ i. signed_decimal (p.0 i) ++ mark ∷ p.1 i);
@@ -75,7 +70,7 @@ pub count-was : (mark : ℕ) (bytes : List ℕ) (n : ℕ) (rest : List ℕ) → 
 count-was mark bytes n rest e =
     let z = bind_some (number_at mark bytes) (λ number. natural number.0 >>= λ count. Some (count, number.1)) (n, rest) e in
     let c = bind_some (natural z.0.0) (λ count. Some (count, z.0.1)) (n, rest) z.2 in
-    let p = pair_is c.0 n z.0.1 rest c.2 in
+    let p = some_pair_parts c.0 n z.0.1 rest c.2 in
     (number-was mark bytes z.0.0 z.0.1 z.1).spelled
     ∙ (λ i. signed_decimal (natural_is z.0.0 c.0 c.1 i) ++ mark ∷ z.0.1)
     ∙ (λ i. decimal (p.0 i) ++ mark ∷ p.1 i)
@@ -111,7 +106,7 @@ pub maybe-was : (nothing : List ℕ) (mark : ℕ) (bytes : List ℕ) (o : Option
 maybe-was nothing mark bytes o rest e =
     let w = bind_some (until_at mark bytes) (λ word. maybe nothing word.0 >>= λ n. Some (n, word.1)) (o, rest) e in
     let n = bind_some (maybe nothing w.0.0) (λ n. Some (n, w.0.1)) (o, rest) w.2 in
-    let p = pair_is n.0 o w.0.1 rest n.2 in
+    let p = some_pair_parts n.0 o w.0.1 rest n.2 in
     let s = maybe_is nothing w.0.0 n.0 (bytes_eq w.0.0 nothing) refl n.1 in
     record {
       spelled = front-until mark bytes w.0.0 w.0.1 w.1 ∙ (λ i. s.0 i ++ mark ∷ w.0.1) ∙ (λ i. or_word nothing (p.0 i) ++ mark ∷ p.1 i);

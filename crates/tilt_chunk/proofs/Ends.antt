@@ -20,11 +20,6 @@ pub InOrder-append : (from limit : ℤ) (xs ys : List Snapshot) → InOrder from
 InOrder-append from limit [] ys h g behind = g
 InOrder-append from limit (x ∷ xs) ys h g behind = behind_some from limit x xs ys h behind
 
-pub AllByRecursion-append : {A : Type 0} (P : A → Type 0) (xs ys : List A) → AllByRecursion P xs → AllByRecursion P ys
-    → AllByRecursion P (xs ++ ys)
-AllByRecursion-append P [] ys h g = g
-AllByRecursion-append P (x ∷ xs) ys h g = (h.0, AllByRecursion-append P xs ys h.1 g)
-
 module _ (first : ℤ) where
   -- those that are kept are in order
   pub InOrder-kept : (from limit : ℤ) (xs : List Snapshot) → InOrder from limit xs → InOrder from limit (kept first xs)

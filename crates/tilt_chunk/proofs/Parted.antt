@@ -4,12 +4,12 @@ use Rattle.std.specs.Prelude.{int_le}
 use Rattle.std.specs.List.{AllByRecursion}
 use Rattle.std.specs.Option.{ForSome}
 use Rattle.std.proofs.lemmas.Bool.{cases_Bool}
+use Rattle.tilt_base.proofs.Lists.{all-append}
 use Rattle.tilt_base.specs.declared.limits.TheConstants.{T, WIDE}
 use Rattle.tilt_checkpoint.specs.Checkpoint.{KeptParts}
 use Rattle.tilt_checkpoint.specs.Valid.{IsCell}
 use Rattle.tilt_stream.proofs.Order.{InOrder-rest, last_end-push}
 use Rattle.tilt_stream.specs.Snap.{Snapshot, AreSnapshots, InOrder, Touch, last_end}
-use Rattle.tilt_chunk.proofs.Ends.{AllByRecursion-append}
 use Rattle.tilt_chunk.specs.Handed.{AreBehind, AreCells, IsBehind, all_taken_up, kept_at, taken_up}
 use Rattle.tilt_chunk.specs.Pieces.{kept, last_start, without_last}
 
@@ -52,8 +52,8 @@ pub kept-cells : (first : ℤ) (rows : List Snapshot) (row : Snapshot) → AreCe
     → AreCells (rows ++ kept first (row ∷ []))
 kept-cells first rows row h cell =
     elim (cases_Bool (int_le first row.end)) [
-      | inl is ↦ rw is (AllByRecursion-append (λ (r : Snapshot). IsCell r.value) rows (row ∷ []) h (cell, tt))
-      | inr none ↦ rw none (AllByRecursion-append (λ (r : Snapshot). IsCell r.value) rows [] h tt)
+      | inl is ↦ rw is (all-append (λ (r : Snapshot). IsCell r.value) rows (row ∷ []) h (cell, tt))
+      | inr none ↦ rw none (all-append (λ (r : Snapshot). IsCell r.value) rows [] h tt)
     ]
 
 pub kept-behind : (first from : ℤ) (rows rest : List Snapshot) (row : Snapshot)

@@ -4,13 +4,11 @@ use Rattle.std.specs.Prelude.{int_le}
 use Rattle.std.specs.Ordering.{int_eq}
 use Rattle.std.proofs.lemmas.Bool.{cases_Bool}
 use Rattle.std.proofs.lemmas.Int.{ints}
+use Rattle.tilt_base.proofs.Comparisons.{le_false}
 use Rattle.tilt_stream.specs.Agreement.{Agree}
 use Rattle.tilt_stream.specs.Snap.{Snapshot, InOrder}
 use Rattle.tilt_stream.specs.Stream.{stream_of, covers, cell_at, mark_at}
 use Rattle.tilt_chunk.specs.Pieces.{kept}
-
-pub below : (first end : ℤ) → int_le first end ≡ false → end <ℤ first
-below first end none = grind (arith, ints)
 
 module _ (first : ℤ) (ys : List Snapshot) where
   cell_at-kept : (xs : List Snapshot) (tick : ℤ) → first ≤ℤ tick → cell_at (kept first xs ++ ys) tick ≡ cell_at (xs ++ ys) tick
@@ -19,7 +17,7 @@ module _ (first : ℤ) (ys : List Snapshot) where
       elim (cases_Bool (int_le first x.end)) [
         | inl is ↦ rw is (rw (cell_at-kept xs tick on) refl)
         | inr none ↦
-            let ends = below first x.end none in
+            let ends = le_false first x.end none in
             let out : covers x tick ≡ false = grind (arith, ints) in
             rw (none, out) (cell_at-kept xs tick on)
       ]
@@ -31,7 +29,7 @@ module _ (first : ℤ) (ys : List Snapshot) where
       elim (cases_Bool (int_le first x.end)) [
         | inl is ↦ rw is (rw (mark_at-kept x.end limit xs tick order.3 on) refl)
         | inr none ↦
-            let ends = below first x.end none in
+            let ends = le_false first x.end none in
             let width = order.1 in
             let start : int_eq tick (x.start +ℤ pos 1) ≡ false = grind (arith, ints) in
             let end : int_eq tick (x.end +ℤ pos 1) ≡ false = grind (arith, ints) in
@@ -52,7 +50,7 @@ module _ (first : ℤ) (ys : List Snapshot) where
       elim (cases_Bool (int_le first x.end)) [
         | inl is ↦ rw is (rw (kept-again later xs on) refl)
         | inr none ↦
-            let ends = below first x.end none in
+            let ends = le_false first x.end none in
             let out : int_le later x.end ≡ false = grind (arith, ints) in
             rw (none, out) (kept-again later xs on)
       ]

@@ -5,6 +5,7 @@ use Rattle.std.specs.List.{AllByRecursion}
 use Rattle.std.specs.Option.{ForSome}
 use Rattle.std.proofs.lemmas.Bool.{cases_Bool}
 use Rattle.std.proofs.lemmas.Int.{ints, by_lt_z}
+use Rattle.tilt_base.proofs.Lists.{all-append}
 use Rattle.tilt_base.specs.declared.limits.TheConstants.{T}
 use Rattle.tilt_checkpoint.specs.Checkpoint.{KeptParts}
 use Rattle.tilt_checkpoint.specs.Valid.{IsKept, IsLastEnd, IsOpen, IsSeries}
@@ -13,7 +14,7 @@ use Rattle.tilt_stream.proofs.Cut.{snapshots-none}
 use Rattle.tilt_stream.specs.Snap.{Snapshot, AreRows, InOrder, last_end, joined_open}
 use Rattle.tilt_stream.specs.Snapshots.{snapshots}
 use Rattle.tilt_stream.specs.Stream.{Stream}
-use Rattle.tilt_chunk.proofs.Ends.{AllByRecursion-append, InOrder-append, InOrder-kept, last-bounds, last-kept, no-last, none-kept}
+use Rattle.tilt_chunk.proofs.Ends.{InOrder-append, InOrder-kept, last-bounds, last-kept, no-last, none-kept}
 use Rattle.tilt_chunk.proofs.Joined.{LastStarts, snapshots-last}
 use Rattle.tilt_chunk.proofs.Lists.{last_end-append}
 use Rattle.tilt_chunk.specs.Emitted.{open_start}
@@ -91,7 +92,7 @@ module _ (first cut later upto : ℤ) (on : first ≤ℤ later) (late : cut ≤�
 
     all-early : AllByRecursion (λ row. row.start <ℤ upto) all
     all-early =
-        AllByRecursion-append (λ row. row.start <ℤ upto) k.rows new (early-old first cut upto k.rows late is.rows)
+        all-append (λ row. row.start <ℤ upto) k.rows new (early-old first cut upto k.rows late is.rows)
         (early-new cut upto k.last_end new are)
 
     last-by : (o : Option ℤ) → last_end all ≡ o → IsLastEnd later upto (last_end (kept later all)) (last_or (last_end new) k.last_end)

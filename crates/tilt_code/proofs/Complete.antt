@@ -4,6 +4,7 @@ use Rattle.std.specs.List.{flat_map, list_any, AllByRecursion}
 use Rattle.std.specs.Str.{bytes_eq}
 use Rattle.std.proofs.lemmas.Bool.{cases_Bool}
 use Rattle.std.proofs.lemmas.List.Elements.{Contains-append_right}
+use Rattle.tilt_base.proofs.Lists.{all-append}
 use Rattle.tilt_base.specs.Grid.{GridPoints}
 use Rattle.tilt_lexer.specs.Word.{AreDistinct}
 use Rattle.tilt_code.specs.Code.{Block, LoopParts, CodeParts}
@@ -19,7 +20,7 @@ use Rattle.tilt_code.specs.declared.stage.Stage.{Stage}
 use Rattle.tilt_code.specs.declared.stage.Stage.TheVariants as stage
 use Rattle.tilt_code.proofs.LineText.{IsLine, Lacks, both_true, text_again, text_lacks}
 use Rattle.tilt_code.proofs.Numbers.{bind_some, bytes_same, same_number}
-use Rattle.tilt_code.proofs.Partials.{All-append, take_text}
+use Rattle.tilt_code.proofs.Partials.{take_text}
 
 -- what lines make, one behind the other
 abbrev pub run : PartialCode → List Line → Option PartialCode
@@ -170,15 +171,15 @@ block-fits stands register (x ∷ xs) h all = ((omega arith, all.0.1), block-fit
 maps-fit : (maps : List Block) → AllByRecursion (IsBlock stands_in_map) maps → AreLines (flat_map map_lines maps)
 maps-fit [] all = tt
 maps-fit (m ∷ maps) all =
-    (tt, All-append IsLine (block_lines 0 m ++ line.End ∷ []) (flat_map map_lines maps) (All-append IsLine (block_lines 0 m) (line.End ∷ []) (block-fits stands_in_map 0 m (omega (arith, all.0.few)) all.0.instrs) (tt, tt)) (maps-fit maps all.1))
+    (tt, all-append IsLine (block_lines 0 m ++ line.End ∷ []) (flat_map map_lines maps) (all-append IsLine (block_lines 0 m) (line.End ∷ []) (block-fits stands_in_map 0 m (omega (arith, all.0.few)) all.0.instrs) (tt, tt)) (maps-fit maps all.1))
 
 loop-fits : (l : LoopParts) → IsLoop l → AreLines (loop_lines l)
 loop-fits l h =
-    ((h.stretch, h.grid), All-append IsLine (flat_map map_lines l.maps ++ block_lines 0 l.body) (line.End ∷ []) (All-append IsLine (flat_map map_lines l.maps) (block_lines 0 l.body) (maps-fit l.maps h.maps) (block-fits stands_in_body 0 l.body (omega (arith, h.body.few)) h.body.instrs)) (tt, tt))
+    ((h.stretch, h.grid), all-append IsLine (flat_map map_lines l.maps ++ block_lines 0 l.body) (line.End ∷ []) (all-append IsLine (flat_map map_lines l.maps) (block_lines 0 l.body) (maps-fit l.maps h.maps) (block-fits stands_in_body 0 l.body (omega (arith, h.body.few)) h.body.instrs)) (tt, tt))
 
 loops-fit : (loops : List LoopParts) → AllByRecursion IsLoop loops → AreLines (flat_map loop_lines loops)
 loops-fit [] all = tt
-loops-fit (l ∷ loops) all = All-append IsLine (loop_lines l) (flat_map loop_lines loops) (loop-fits l all.0) (loops-fit loops all.1)
+loops-fit (l ∷ loops) all = all-append IsLine (loop_lines l) (flat_map loop_lines loops) (loop-fits l all.0) (loops-fit loops all.1)
 
 inputs-fit : (names : List (List ℕ)) → AllByRecursion IsInputName names → AreLines (map line.Input names)
 inputs-fit [] all = tt
@@ -186,7 +187,7 @@ inputs-fit (name ∷ names) all = (all.0, inputs-fit names all.1)
 
 pub code-fits : (code : CodeParts) → IsGrammatical code → AreLines (code_lines code)
 code-fits code h =
-    (tt, All-append IsLine (map line.Input code.inputs) (flat_map loop_lines code.loops) (inputs-fit code.inputs h.named) (loops-fit code.loops h.loops))
+    (tt, all-append IsLine (map line.Input code.inputs) (flat_map loop_lines code.loops) (inputs-fit code.inputs h.named) (loops-fit code.loops h.loops))
 
 -- texts
 

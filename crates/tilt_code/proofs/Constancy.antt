@@ -1,6 +1,7 @@
 -- Over buffers that change only at marks, the body of a loop changes only at marks, and so does the loop.
-use Rattle.std.proofs.Common.{◌≡◌, ℕ, zero, suc, ℤ, pos, ◌-ℤ◌, Bool, true, false, ◌||◌, List, [], ◌∷◌, ◌++◌, get_or, Option, None, refl, ap, ◌∙◌}
+use Rattle.std.proofs.Common.{◌≡◌, ℕ, zero, suc, ℤ, pos, ◌-ℤ◌, false, List, [], ◌∷◌, ◌++◌, get_or, Option, None, refl, ap, ◌∙◌}
 use Rattle.std.specs.List.{AllByRecursion}
+use Rattle.std.proofs.lemmas.Bool.{or_parts}
 use Rattle.tilt_code.specs.Body.{instr_cell, with_registers, last_or, mapped, leaf_of, leaf_marked, body_of}
 use Rattle.tilt_code.specs.Code.{Block, LoopParts}
 use Rattle.tilt_code.specs.declared.instr.Instr.{Instr}
@@ -12,10 +13,6 @@ use Rattle.tilt_stream.specs.Agreement.{ChangesOnlyAtMarks}
 use Rattle.tilt_stream.specs.Domain.{on_grid}
 use Rattle.tilt_stream.specs.Pointwise.{nothing}
 use Rattle.tilt_stream.specs.Stream.{Stream}
-
-none_of_two : (a b : Bool) → (a || b) ≡ false → (a ≡ false) × (b ≡ false)
-none_of_two true b h = cc
-none_of_two false b h = (refl, h)
 
 -- each of the buffers changes only at marks, and so does what isn't there
 get_or-changes : (xs : List Stream) → AllByRecursion ChangesOnlyAtMarks xs → (buffer : ℕ) → ChangesOnlyAtMarks (get_or xs buffer nothing)
@@ -56,7 +53,7 @@ module _ (xs : List Stream) (maps : List Block) (h : AllByRecursion ChangesOnlyA
       → with_registers (leaves_at tick) cells block ≡ with_registers (leaves_at (tick -ℤ pos 1)) cells block
   with_registers-same cells [] clear = refl
   with_registers-same cells (instr ∷ block) clear =
-      let none = none_of_two ((leaf_of xs maps instr).mark tick) (leaf_marked xs maps tick block) clear in
+      let none = or_parts ((leaf_of xs maps instr).mark tick) (leaf_marked xs maps tick block) clear in
       let leaf = (leaf_of-changes xs maps h instr).unchanged tick none.0 in
       ap (λ (cell : Option ℤ). with_registers (leaves_at tick) (cells ++ cell ∷ []) block)
       (instr_cell-same (leaves_at tick) (leaves_at (tick -ℤ pos 1)) cells instr leaf)

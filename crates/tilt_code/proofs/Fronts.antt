@@ -5,6 +5,7 @@ use Rattle.std.proofs.lemmas.Grind.{flat_map-append}
 use Rattle.std.proofs.lemmas.Int.{ints}
 use Rattle.std.proofs.lemmas.List.{map-append}
 use Rattle.std.proofs.lemmas.Option.{same_Some}
+use Rattle.tilt_base.proofs.Lists.{all-append}
 use Rattle.tilt_code.specs.Code.{Block, LoopParts, CodeParts}
 use Rattle.tilt_code.specs.Fault.{IsFront}
 use Rattle.tilt_code.specs.Grammar.{IsBlock, IsLoop, IsGrammatical, stands_in_map, stands_in_body}
@@ -19,7 +20,7 @@ use Rattle.tilt_code.specs.declared.stage.Stage.{Stage}
 use Rattle.tilt_code.specs.declared.stage.Stage.TheVariants as stage
 use Rattle.tilt_code.proofs.Complete.{code-run, code-fits, run_texts, texts-run, texts-front}
 use Rattle.tilt_code.proofs.Numbers.{bind_some}
-use Rattle.tilt_code.proofs.Partials.{All-append, IsOpen, IsPartial, IsPartialAt, nothing-is, opened, written_in, written, take_text, text-sound}
+use Rattle.tilt_code.proofs.Partials.{IsOpen, IsPartial, IsPartialAt, nothing-is, opened, written_in, written, take_text, text-sound}
 
 -- an open block, filled where it is empty
 abbrev filled : Block → Block
@@ -67,7 +68,7 @@ with_loop-is s p l g h = record {
   named = g.named;
   distinct = g.distinct;
   some = omega (arith, length-append p.loops (l ∷ []));
-  loops = All-append IsLoop p.loops (l ∷ []) g.loops (h, tt);
+  loops = all-append IsLoop p.loops (l ∷ []) g.loops (h, tt);
 }
 
 with_loop-lines : (p : PartialCode) (l : LoopParts) → code_lines (with_loop p l) ≡ opened p ++ loop_lines l
@@ -105,7 +106,7 @@ ended stage.InBody p g =
     }
 ended stage.InMap p g =
     let l : LoopParts = record { lo = p.lo; hi = p.hi; grid = p.grid; maps = p.maps ++ filled p.block ∷ []; body = instr.Null ∷ [] } in
-    let mapped = All-append (IsBlock stands_in_map) p.maps (filled p.block ∷ []) g.inside.0.mapped (filled-is stands_in_map p.block refl g.inside.1, tt) in
+    let mapped = all-append (IsBlock stands_in_map) p.maps (filled p.block ∷ []) g.inside.0.mapped (filled-is stands_in_map p.block refl g.inside.1, tt) in
     let whole : IsLoop l = record { stretch = g.inside.0.stretch; grid = g.inside.0.on_grid; maps = mapped; body = least-is.body } in
     let head = line.Head p.lo p.hi p.grid in
     let step = line.Step 0 instr.Null in

@@ -1,5 +1,5 @@
 -- What is read of an instruction is its words, and its words are read.
-use Rattle.std.proofs.Common.{◌≡◌, ℕ, ◌^◌, ◌<◌, Bool, true, false, if◌then◌else◌, List, [], ◌∷◌, ◌++◌, Option, Some, None, ℤ, pos, negsuc, neg_ℤ, ◌<ℤ◌, ◌≤ℤ◌, FitsSigned, refl, sym, ap, ◌∙◌, subst, arith, inl, inr, ◌⊎◌}
+use Rattle.std.proofs.Common.{◌≡◌, ℕ, ◌^◌, ◌<◌, Bool, true, false, if◌then◌else◌, List, [], ◌∷◌, ◌++◌, Option, Some, None, ℤ, pos, negsuc, neg_ℤ, ◌≤ℤ◌, FitsSigned, refl, sym, ap, ◌∙◌, subst, arith, inl, inr, ◌⊎◌}
 use Rattle.std.specs.Prelude.{codes, int_lt, int_le}
 use Rattle.std.specs.Fmt.{decimal, signed_decimal}
 use Rattle.std.specs.Int.{w64}
@@ -8,6 +8,9 @@ use Rattle.std.specs.Str.{bytes_eq}
 use Rattle.std.proofs.lemmas.Bool.{cases_Bool, and_parts}
 use Rattle.std.proofs.lemmas.Int.{ints}
 use Rattle.std.proofs.lemmas.Option.{none-some, same_Some, some_pair_parts}
+use Rattle.tilt_base.proofs.Comparisons.{lt_true, true_lt}
+use Rattle.tilt_base.specs.Offset.{IsOffset}
+use Rattle.tilt_base.specs.Reduce.{reducer_word}
 use Rattle.tilt_base.specs.declared.limits.TheConstants.{OFFSET}
 use Rattle.tilt_base.specs.declared.operator.Op1.{Op1}
 use Rattle.tilt_base.specs.declared.operator.Op1.TheVariants as op1
@@ -15,8 +18,8 @@ use Rattle.tilt_base.specs.declared.operator.Op2.{Op2}
 use Rattle.tilt_base.specs.declared.operator.Op2.TheVariants as op2
 use Rattle.tilt_base.specs.declared.reducer.Reducer.{Reducer}
 use Rattle.tilt_base.specs.declared.reducer.Reducer.TheVariants as reducer
-use Rattle.tilt_code.specs.Grammar.{IsInstr, IsNumber, IsOffset, IsWindow}
-use Rattle.tilt_code.specs.Line.{one_word, two_word, reducer_word, buffer_word, register_word, map_word, instr_words}
+use Rattle.tilt_code.specs.Grammar.{IsInstr, IsNumber, IsWindow}
+use Rattle.tilt_code.specs.Line.{one_word, two_word, buffer_word, register_word, map_word, instr_words}
 use Rattle.tilt_code.specs.Reading.{◌>>=◌, shortest, named, number_at, named_at, is_offset, offset_at, reducer_at, map_at, const_at, port_at, win_at, if_at, two_at, one_at, form_at, instr_at}
 use Rattle.tilt_code.specs.declared.instr.Instr.{Instr}
 use Rattle.tilt_code.specs.declared.instr.Instr.TheVariants as instr
@@ -230,12 +233,6 @@ win_words r b f t (Some map) rest = refl
 win_within : (r : Reducer) (b : ℕ) (f t : ℤ) (m : Option ℕ) → IsWindow b f t → IsMap m → IsInstr (instr.Win r b f t m)
 win_within r b f t None w h = w
 win_within r b f t (Some map) w h = (w, h)
-
-pub lt_true : (a b : ℤ) → int_lt a b ≡ true → a <ℤ b
-lt_true a b h = grind (arith, ints)
-
-pub true_lt : (a b : ℤ) → a <ℤ b → int_lt a b ≡ true
-true_lt a b h = grind (arith, ints)
 
 win_takes : (words : Words) (i : Instr) (rest : Words) → win_at words ≡ Some (i, rest) → Spells (codes "win") words i rest
 win_takes words i rest e =

@@ -13,7 +13,9 @@ use Rattle.std.proofs.lemmas.Fmt.{decimal_is_IsNumeral}
 use Rattle.std.proofs.lemmas.Int.{ints}
 use Rattle.std.proofs.lemmas.Option.{same_Some}
 use Rattle.std.proofs.lemmas.Str.Parse.{digit_from_value}
+use Rattle.tilt_base.proofs.Comparisons.{lt_true, true_lt}
 use Rattle.tilt_base.specs.Grid.{GridPoints, IsGrid}
+use Rattle.tilt_base.specs.Reduce.{reducer_word}
 use Rattle.tilt_base.specs.declared.limits.TheConstants.{WIDE, PERIOD}
 use Rattle.tilt_base.specs.declared.operator.Op1.{Op1}
 use Rattle.tilt_base.specs.declared.operator.Op1.TheVariants as op1
@@ -23,13 +25,13 @@ use Rattle.tilt_base.specs.declared.reducer.Reducer.{Reducer}
 use Rattle.tilt_base.specs.declared.reducer.Reducer.TheVariants as reducer
 use Rattle.tilt_lexer.specs.Word.{begins_word, goes_on_word, is_word, IsWord}
 use Rattle.tilt_code.specs.Grammar.{IsInstr, IsInputName, IsNumber, IsStretch, IsWindow}
-use Rattle.tilt_code.specs.Line.{one_word, two_word, reducer_word, buffer_word, register_word, map_word, instr_words, line_words, line_text, spaced}
+use Rattle.tilt_code.specs.Line.{one_word, two_word, buffer_word, register_word, map_word, instr_words, line_words, line_text, spaced}
 use Rattle.tilt_code.specs.Reading.{◌>>=◌, named, word_at, number_at, only, pieces, onto, is_reserved, is_input_name, input_line, is_grid, is_stretch, grid_of, head_at, title_at, step_at, other_at, whole_line, last_word, line_of, instr_at}
 use Rattle.tilt_code.specs.declared.instr.Instr.{Instr}
 use Rattle.tilt_code.specs.declared.instr.Instr.TheVariants as instr
 use Rattle.tilt_code.specs.declared.line.Line.{Line}
 use Rattle.tilt_code.specs.declared.line.Line.TheVariants as line
-use Rattle.tilt_code.proofs.Instrs.{Words, choose, pair_is, number_takes, number_again, bounded_fits, offset_fits, lt_true, true_lt, instr_takes, instr_again}
+use Rattle.tilt_code.proofs.Instrs.{Words, choose, pair_is, number_takes, number_again, bounded_fits, offset_fits, instr_takes, instr_again}
 use Rattle.tilt_code.proofs.Names.{reserved_true, true_reserved}
 use Rattle.tilt_code.proofs.Pieces.{pieces_some}
 use Rattle.tilt_code.proofs.Numbers.{bind_some, guard_some, bytes_same, same_from, same_number, named-decimal, decimal-named}

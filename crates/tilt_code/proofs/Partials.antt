@@ -1,13 +1,13 @@
 -- The lines so far are those of the partial code that they make, and each front of a listing makes one.
-use Rattle.std.proofs.Common.{◌≡◌, ℕ, zero, suc, ◌^◌, ◌<◌, ◌≤◌, Bool, true, false, ◌&&◌, not, if◌then◌else◌, nat_eq, List, [], ◌∷◌, ◌++◌, length, map, Option, Some, None, ℤ, Contains, IsTrue, refl, sym, ap, ◌∙◌, subst, arith, inl, inr, append-nil, append_assoc, length-append, ◌⊎◌}
+use Rattle.std.proofs.Common.{◌≡◌, ℕ, ◌^◌, ◌<◌, ◌≤◌, Bool, true, false, ◌&&◌, not, if◌then◌else◌, nat_eq, List, [], ◌∷◌, ◌++◌, length, map, Option, Some, None, ℤ, IsTrue, refl, sym, ap, ◌∙◌, subst, arith, inl, inr, append-nil, append_assoc, length-append}
 use Rattle.std.specs.List.{flat_map, list_any, AllByRecursion}
 use Rattle.std.specs.Str.{bytes_eq}
-use Rattle.std.proofs.lemmas.Bool.{cases_Bool, and_parts}
-use Rattle.std.proofs.lemmas.Bool.Decides.{nat_tests}
+use Rattle.std.proofs.lemmas.Bool.{cases_Bool, and_parts, not-true, eqb-true}
 use Rattle.std.proofs.lemmas.Grind.{flat_map-append}
 use Rattle.std.proofs.lemmas.List.{map-append}
 use Rattle.std.proofs.lemmas.List.Elements.{Contains-append_cases}
 use Rattle.std.proofs.lemmas.Option.{none-some, same_Some}
+use Rattle.tilt_base.proofs.Lists.{all-append, Contains-cons_cases}
 use Rattle.tilt_base.specs.Grid.{GridPoints, IsGrid}
 use Rattle.tilt_lexer.specs.Word.{AreDistinct}
 use Rattle.tilt_code.specs.Code.{Block, LoopParts}
@@ -77,10 +77,6 @@ nothing-is = record { named = tt; distinct = tt; loops = tt; inside = (refl, ref
 
 -- lists
 
-pub All-append : {X : Type 0} (P : X → Type 0) (xs ys : List X) → AllByRecursion P xs → AllByRecursion P ys → AllByRecursion P (xs ++ ys)
-All-append P [] ys p q = q
-All-append P (x ∷ xs) ys p q = (p.0, All-append P xs ys p.1 q)
-
 pub nil_true : {X : Type 0} (xs : List X) → is_nil xs ≡ true → xs ≡ []
 nil_true [] e = refl
 nil_true (x ∷ xs) e = cc e
@@ -94,10 +90,6 @@ some_length (x ∷ xs) e = omega arith
 -- the name is none of these
 abbrev IsFresh : List ℕ → List (List ℕ) → Type 0
 IsFresh name names = list_any (λ other. bytes_eq other name) names ≡ false
-
-Contains-cons_cases : (x : List ℕ) (xs : List (List ℕ)) (y : List ℕ) → Contains (x ∷ xs) y → (x ≡ y) ⊎ Contains xs y
-Contains-cons_cases x xs y (zero, lt, is) = inl is
-Contains-cons_cases x xs y (suc k, lt, is) = inr (k, omega (arith, lt), is)
 
 -- a fresh name behind distinct ones leaves them distinct
 distinct-push : (names : List (List ℕ)) (name : List ℕ) → AreDistinct names → IsFresh name names → AreDistinct (names ++ name ∷ [])
@@ -140,18 +132,14 @@ input-lines : (inputs : List (List ℕ)) (name : List ℕ) (loops : List LoopPar
 input-lines inputs name loops e =
     rw e (append-nil (map line.Input (inputs ++ name ∷ [])) ∙ map-append line.Input inputs (name ∷ []) ∙ ap (λ (t : List Line). t ++ line.Input name ∷ []) (sym (append-nil (map line.Input inputs))))
 
-not_true : (b : Bool) → not b ≡ true → b ≡ false
-not_true true e = cc e
-not_true false e = refl
-
 input-sound : (at : Stage) (name : List ℕ) (p q : PartialCode) → IsInputName name → IsPartialAt at p → with_input at name p ≡ Some q → Step at p q (line.Input name)
 input-sound stage.Outside name p q n g e =
     let r : PartialCode = record p { stage = stage.Outside; inputs = p.inputs ++ name ∷ [] } in
     let kept = guard_some (is_new p.loops p.inputs name) (Some r) q e in
     let tests = and_parts (is_nil p.loops) (not (list_any (λ other. bytes_eq other name) p.inputs)) kept.0 in
-    let fresh = not_true (list_any (λ other. bytes_eq other name) p.inputs) tests.1 in
+    let fresh = not-true (list_any (λ other. bytes_eq other name) p.inputs) tests.1 in
     step_is stage.Outside p r q (line.Input name) kept.1 (ap (λ (ls : List Line). line.Title ∷ ls) (input-lines p.inputs name p.loops (nil_true p.loops tests.0))) (record {
-      named = All-append IsInputName p.inputs (name ∷ []) g.named (n, tt);
+      named = all-append IsInputName p.inputs (name ∷ []) g.named (n, tt);
       distinct = distinct-push p.inputs name g.distinct fresh;
       loops = g.loops;
       inside = g.inside;
@@ -198,14 +186,11 @@ map-sound stage.Before p q g e = absurd (none-some q e)
 map-sound stage.Outside p q g e = absurd (none-some q e)
 map-sound stage.InMap p q g e = absurd (none-some q e)
 
-same_number_from : (a b : ℕ) → nat_eq a b ≡ true → a ≡ b
-same_number_from a b h = grind (arith, nat_tests)
-
 -- an instruction more in an open block
 open-push : (stands : Instr → Bool) (block : Block) (register : ℕ) (i : Instr) → IsNumber register → IsInstr i → stands i ≡ true → register ≡ length block → IsOpen stands block → IsOpen stands (block ++ i ∷ [])
 open-push stands block register i n w s same h = record {
   few = omega (arith, n, same, length-append block (i ∷ []));
-  instrs = All-append (λ j. IsTrue (stands j) × IsInstr j) block (i ∷ []) h.instrs ((s, w), tt);
+  instrs = all-append (λ j. IsTrue (stands j) × IsInstr j) block (i ∷ []) h.instrs ((s, w), tt);
 }
 
 step-sound : (at : Stage) (register : ℕ) (i : Instr) (p q : PartialCode) → IsNumber register → IsInstr i → IsPartialAt at p → with_step at register i p ≡ Some q → Step at p q (line.Step register i)
@@ -213,7 +198,7 @@ step-sound stage.InMap register i p q n w g e =
     let r : PartialCode = record p { stage = stage.InMap; block = p.block ++ i ∷ [] } in
     let kept = guard_some (stands_in_map i && nat_eq register (length p.block)) (Some r) q e in
     let tests = and_parts (stands_in_map i) (nat_eq register (length p.block)) kept.0 in
-    let same = same_number_from register (length p.block) tests.1 in
+    let same = eqb-true register (length p.block) tests.1 in
     step_is stage.InMap p r q (line.Step register i) kept.1 (ap (λ (ls : List Line). headed p ++ line.Map ∷ ls) (block_lines-push 0 register p.block i (omega (arith, same))) ∙ sym (append_assoc (headed p) (line.Map ∷ block_lines 0 p.block) (line.Step register i ∷ []))) (record {
       named = g.named;
       distinct = g.distinct;
@@ -224,7 +209,7 @@ step-sound stage.InBody register i p q n w g e =
     let r : PartialCode = record p { stage = stage.InBody; block = p.block ++ i ∷ [] } in
     let kept = guard_some (stands_in_body i && nat_eq register (length p.block)) (Some r) q e in
     let tests = and_parts (stands_in_body i) (nat_eq register (length p.block)) kept.0 in
-    let same = same_number_from register (length p.block) tests.1 in
+    let same = eqb-true register (length p.block) tests.1 in
     step_is stage.InBody p r q (line.Step register i) kept.1 (ap (λ (ls : List Line). headed p ++ ls) (block_lines-push 0 register p.block i (omega (arith, same))) ∙ sym (append_assoc (headed p) (block_lines 0 p.block) (line.Step register i ∷ []))) (record {
       named = g.named;
       distinct = g.distinct;
@@ -262,7 +247,7 @@ end-sound stage.InMap p q g e =
         record {
           stretch = g.inside.0.stretch;
           on_grid = g.inside.0.on_grid;
-          mapped = All-append (IsBlock stands_in_map) p.maps (p.block ∷ []) g.inside.0.mapped (block, tt);
+          mapped = all-append (IsBlock stands_in_map) p.maps (p.block ∷ []) g.inside.0.mapped (block, tt);
         },
         record { few = omega arith; instrs = tt },
       );
@@ -276,7 +261,7 @@ end-sound stage.InBody p q g e =
     step_is stage.InBody p r q line.End kept.1 (ap (λ (ls : List Line). line.Title ∷ (map line.Input p.inputs ++ ls)) (flat_map-append loop_lines p.loops (open_loop p ∷ [])) ∙ loop-end-lines (line.Title ∷ map line.Input p.inputs) (flat_map loop_lines p.loops) (flat_map map_lines p.maps) (block_lines 0 p.block) head line.End) (record {
       named = g.named;
       distinct = g.distinct;
-      loops = All-append IsLoop p.loops (open_loop p ∷ []) g.loops (whole, tt);
+      loops = all-append IsLoop p.loops (open_loop p ∷ []) g.loops (whole, tt);
       inside = (refl, refl);
     })
 end-sound stage.Before p q g e = absurd (none-some q e)

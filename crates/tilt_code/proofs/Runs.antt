@@ -86,7 +86,8 @@ with_loops-last : (xs : List Stream) (front : List LoopParts) (l : LoopParts)
 with_loops-last xs [] l = refl
 with_loops-last xs (first ∷ front) l = with_loops-last (xs ++ loop_of xs first ∷ []) front l
 
-last_or-pushed : {A : Type 0} (given : A) (xs : List A) (x : A) → last_or given (xs ++ x ∷ []) ≡ x
+-- the last of a list to which one was added
+pub last_or-pushed : {A : Type 0} (given : A) (xs : List A) (x : A) → last_or given (xs ++ x ∷ []) ≡ x
 last_or-pushed given [] x = refl
 last_or-pushed given (y ∷ ys) x = last_or-pushed y ys x
 

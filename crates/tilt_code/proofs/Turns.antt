@@ -1,8 +1,11 @@
 -- The turns of a loop are the snapshots of its stream.
-use Rattle.std.proofs.Common.{◌≡◌, ℕ, zero, suc, ℤ, pos, ◌+ℤ◌, ◌-ℤ◌, ◌<ℤ◌, ◌≤ℤ◌, Bool, true, false, ◌&&◌, ◌||◌, List, [], ◌∷◌, Option, Some, None, if◌then◌else◌, int_lt, unsigned_abs, negsuc, refl, sym, ap, ◌∙◌, arith}
+use Rattle.std.proofs.Common.{◌≡◌, ℕ, zero, suc, ℤ, pos, ◌+ℤ◌, ◌-ℤ◌, ◌<ℤ◌, ◌≤ℤ◌, Bool, true, false, ◌&&◌, List, [], ◌∷◌, Option, Some, None, if◌then◌else◌, int_lt, unsigned_abs, refl, sym, ap, ◌∙◌, arith}
 use Rattle.std.proofs.lemmas.Int.{ints, clamps, by_lt_z}
 use Rattle.std.specs.Int.{int_gap, int_min}
 use Rattle.std.specs.Ordering.{int_eq}
+use Rattle.std.proofs.lemmas.Bool.{or_right, or_left}
+use Rattle.tilt_base.proofs.Booleans.{third_true}
+use Rattle.tilt_base.proofs.Comparisons.{unsigned_abs_is}
 use Rattle.tilt_base.proofs.GridPoints.{ceil-IsCeil, floor-IsFloor, ceil-low, ceil-high, floor-low, floor-high, ceil-point, is_point-Decides}
 use Rattle.tilt_base.specs.Grid.{GridPoints, IsGrid, IsPoint, is_point, ceil, floor}
 use Rattle.tilt_code.specs.Body.{body_of}
@@ -70,26 +73,15 @@ some_mark-clear x tick (suc n) clear =
     record { unmarked = λ t low high. clear.unmarked t (omega (arith, ints)) (omega (arith, ints)) } in
     rw first (some_mark-clear x (tick +ℤ pos 1) n rest)
 
-either_true : (a b : Bool) → a ≡ true → (a || b) ≡ true
-either_true a b h = rw h refl
-
-or_true : (a b : Bool) → b ≡ true → (a || b) ≡ true
-or_true true b h = refl
-or_true false b h = h
-
 some_mark-found : (x : Stream) (tick next : ℤ) (n : ℕ) → tick <ℤ next → next ≤ℤ (tick +ℤ pos n) → x.mark next ≡ true
     → some_mark x tick n ≡ true
 some_mark-found x tick next zero low high marked = absurd (omega (arith, ints))
 some_mark-found x tick next (suc n) low high marked =
     by_lt_z (tick +ℤ pos 1) next
-    (λ above. or_true (x.mark (tick +ℤ pos 1)) _ (some_mark-found x (tick +ℤ pos 1) next n above (omega (arith, ints)) marked))
+    (λ above. or_right (x.mark (tick +ℤ pos 1)) _ (some_mark-found x (tick +ℤ pos 1) next n above (omega (arith, ints)) marked))
     (λ below.
     let is : next ≡ tick +ℤ pos 1 = omega (arith, ints) in
-    either_true (x.mark (tick +ℤ pos 1)) _ (ap (λ (t : ℤ). x.mark t) (sym is) ∙ marked))
-
-unsigned_abs_is : (n : ℤ) → pos 1 ≤ℤ n → pos (unsigned_abs n) ≡ n
-unsigned_abs_is (pos n) h = refl
-unsigned_abs_is (negsuc n) h = absurd (omega (arith, ints))
+    or_left (x.mark (tick +ℤ pos 1)) _ (ap (λ (t : ℤ). x.mark t) (sym is) ∙ marked))
 
 -- of two grid points the greater one is a period above the lesser one at least
 apart : (grid : GridPoints) (point next : ℤ) → pos 1 ≤ℤ grid.period → is_point grid point ≡ true → IsPoint grid next → point <ℤ next
@@ -98,11 +90,6 @@ apart grid point next h at other above =
     let e = (ceil-point grid point h at).1 in
     let least = (ceil-IsCeil grid (point +ℤ pos 1) h).least next other (omega (arith, ints)) in
     omega (arith, ints)
-
-third_true : (a b c : Bool) → c ≡ true → (a || b || c) ≡ true
-third_true true b c h = refl
-third_true false true c h = refl
-third_true false false c h = h
 
 -- a turn's search for the next mark goes up to a period above `hi`
 turn-Searched : (body : Stream) (grid : GridPoints) → IsGrid grid → (hi start : ℤ) → start <ℤ hi

@@ -3,7 +3,8 @@ use Rattle.std.specs.Prelude.{ℕ, ◌^◌, ◌<◌, ◌≤◌, ℤ, neg_ℤ, �
 use Rattle.std.specs.Int.{w64}
 use Rattle.std.specs.List.{AllByRecursion}
 use Rattle.tilt_base.specs.Grid.{IsGrid}
-use Rattle.tilt_base.specs.declared.limits.TheConstants.{OFFSET, WIDE}
+use Rattle.tilt_base.specs.Offset.{IsOffset}
+use Rattle.tilt_base.specs.declared.limits.TheConstants.{WIDE}
 use Rattle.tilt_lexer.specs.Word.{IsWord, IsReserved, AreDistinct}
 use Rattle.tilt_code.specs.Code.{Block, LoopParts, CodeParts}
 use Rattle.tilt_code.specs.declared.instr.Instr.{Instr}
@@ -12,10 +13,6 @@ use Rattle.tilt_code.specs.declared.instr.Instr.TheVariants as instr
 -- a number that a buffer, a register or a map may have
 abbrev pub IsNumber : ℕ → Type 0
 IsNumber number = number < 2 ^ 32
-
--- the offset of a reading, and of an end of a window
-abbrev pub IsOffset : ℤ → Type 0
-IsOffset offset = (neg_ℤ OFFSET ≤ℤ offset) × (offset ≤ℤ OFFSET)
 
 -- a window reads a buffer between its ends, the first of which lies below the second
 pub record IsWindow (buffer : ℕ) (from to : ℤ) : Type 0 where

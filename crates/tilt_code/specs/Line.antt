@@ -1,12 +1,11 @@
 -- The lines of a listing, word by word (our own rule). A word is its ASCII codes, and a number its shortest decimal.
 use Rattle.std.specs.Prelude.{ℕ, List, [], ◌∷◌, ◌++◌, Some, None, codes}
 use Rattle.std.specs.Fmt.{decimal, signed_decimal}
+use Rattle.tilt_base.specs.Reduce.{reducer_word}
 use Rattle.tilt_base.specs.declared.operator.Op1.{Op1}
 use Rattle.tilt_base.specs.declared.operator.Op1.TheVariants as op1
 use Rattle.tilt_base.specs.declared.operator.Op2.{Op2}
 use Rattle.tilt_base.specs.declared.operator.Op2.TheVariants as op2
-use Rattle.tilt_base.specs.declared.reducer.Reducer.{Reducer}
-use Rattle.tilt_base.specs.declared.reducer.Reducer.TheVariants as reducer
 use Rattle.tilt_code.specs.declared.instr.Instr.{Instr}
 use Rattle.tilt_code.specs.declared.instr.Instr.TheVariants as instr
 use Rattle.tilt_code.specs.declared.line.Line.{Line}
@@ -35,18 +34,6 @@ two_word op2.And = codes "and"
 two_word op2.Or = codes "or"
 two_word op2.When = codes "when"
 two_word op2.IfNull = codes "ifnull"
-
--- the word of a reducer
-abbrev pub reducer_word : Reducer → List ℕ
-reducer_word reducer.Sum = codes "sum"
-reducer_word reducer.Avg = codes "avg"
-reducer_word reducer.Min = codes "min"
-reducer_word reducer.Max = codes "max"
-reducer_word reducer.Count = codes "count"
-reducer_word reducer.First = codes "first"
-reducer_word reducer.Last = codes "last"
-reducer_word reducer.Any = codes "any"
-reducer_word reducer.All = codes "all"
 
 -- a buffer, as `b0`
 abbrev pub buffer_word : ℕ → List ℕ

@@ -3,6 +3,7 @@ use Rattle.std.specs.Prelude.{ℕ, ◌^◌, ◌==◌, ℤ, pos, negsuc, neg_ℤ,
 use Rattle.std.specs.List.{find, list_any, slice_split}
 use Rattle.std.specs.Str.{bytes_eq}
 use Rattle.tilt_base.specs.Grid.{GridPoints}
+use Rattle.tilt_base.specs.Reduce.{reducer_word}
 use Rattle.tilt_base.specs.declared.limits.TheConstants.{OFFSET, PERIOD, WIDE}
 use Rattle.tilt_base.specs.declared.operator.Op1.{Op1}
 use Rattle.tilt_base.specs.declared.reducer.Reducer.{Reducer}
@@ -11,7 +12,7 @@ use Rattle.tilt_text.specs.Step.{◌>>=◌}
 use Rattle.tilt_lexer.specs.Word.{is_word, key_text}
 use Rattle.tilt_lexer.specs.declared.key.Key.{Key}
 use Rattle.tilt_lexer.specs.declared.key.Key.TheVariants as key
-use Rattle.tilt_code.specs.Line.{one_word, two_word, reducer_word}
+use Rattle.tilt_code.specs.Line.{one_word, two_word}
 use Rattle.tilt_code.specs.declared.instr.Instr.{Instr}
 use Rattle.tilt_code.specs.declared.instr.Instr.TheVariants as instr
 use Rattle.tilt_code.specs.declared.line.Line.{Line}

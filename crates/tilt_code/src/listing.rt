@@ -1,8 +1,9 @@
 // The listing of a code.
 ghost use Rattle.std.specs.Prelude.{◌≡◌, ◌++◌, [], ◌∷◌, map, flat_map, codes, IfOk, OnOk};
 ghost use Rattle.std.specs.Fmt.{decimal, signed_decimal};
+ghost use Rattle.tilt_base.specs.Reduce.{reducer_word};
 ghost use Rattle.tilt_code.specs.declared.line.Line.TheVariants.{Head, Input, Step};
-ghost use Rattle.tilt_code.specs.Line.{buffer_word, instr_words, line_text, one_word, reducer_word, register_word, spaced, two_word};
+ghost use Rattle.tilt_code.specs.Line.{buffer_word, instr_words, line_text, one_word, register_word, spaced, two_word};
 ghost use Rattle.tilt_code.specs.Listing.{block_lines, ended, listing, loop_lines, map_lines};
 
 use crate::code::Code;
@@ -188,7 +189,7 @@ fn put_window(
         ++ spaced (codes "win" ∷ reducer_word reducer ∷ buffer_word buffer ∷ signed_decimal from ∷ signed_decimal to ∷ [])) }
 {
     put(text, b"win ")?;
-    put(text, reducer_word(reducer))?;
+    put(text, reducer.word())?;
     put_named(text, b" b", buffer)?;
     put(text, b" ")?;
     put_numbers(text, from, to)
@@ -225,23 +226,6 @@ pub(crate) fn two_word(op: Op2) -> &'static [u8]
         Op2::Or => b"or",
         Op2::When => b"when",
         Op2::IfNull => b"ifnull",
-    }
-}
-
-// The word of a reducer.
-pub(crate) fn reducer_word(reducer: Reducer) -> &'static [u8]
-    ensures { result.now ≡ reducer_word reducer }
-{
-    match reducer {
-        Reducer::Sum => b"sum",
-        Reducer::Avg => b"avg",
-        Reducer::Min => b"min",
-        Reducer::Max => b"max",
-        Reducer::Count => b"count",
-        Reducer::First => b"first",
-        Reducer::Last => b"last",
-        Reducer::Any => b"any",
-        Reducer::All => b"all",
     }
 }
 

@@ -2,10 +2,11 @@
 ghost use Rattle.std.specs.Prelude.{◌≡◌, ◌↔◌, [], ◌∷◌, option_map, IsTrue, MatchOption};
 ghost use Rattle.std.specs.List.{find};
 ghost use Rattle.std.specs.Str.{bytes_eq};
-ghost use Rattle.tilt_code.specs.Line.{one_word, reducer_word, two_word};
+ghost use Rattle.tilt_base.specs.Reduce.{reducer_word};
+ghost use Rattle.tilt_code.specs.Line.{one_word, two_word};
 ghost use Rattle.tilt_code.specs.Reading.{map_at, named, named_at, number_at, offset_at, pieces, pieces_left, reducer_at, word_at, Reads};
 
-use crate::listing::{one_word, reducer_word, two_word};
+use crate::listing::{one_word, two_word};
 use std::marker::Model;
 use tilt_base::{OFFSET, Op1, Op2, Reducer};
 use tilt_text::{shortest, until};
@@ -166,5 +167,5 @@ fn find_reducer(word: &[u8]) -> Option<Reducer>
     REDUCERS
         .iter()
         .copied()
-        .find(|reducer| reducer_word(*reducer) == word)
+        .find(|reducer| reducer.word() == word)
 }

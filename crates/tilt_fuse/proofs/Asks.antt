@@ -3,11 +3,13 @@ use Rattle.std.proofs.Common.{◌≡◌, ℕ, ◌*◌, ◌<◌, ◌≤◌, ◌==
 use Rattle.std.specs.Prelude.{◌||◌, is_some, ⊤}
 use Rattle.std.specs.Option.{option_map_or, option_or}
 use Rattle.std.proofs.lemmas.Int.{ints, clamps}
+use Rattle.std.proofs.lemmas.Bool.{or_right, or_left}
+use Rattle.tilt_base.proofs.Comparisons.{same_number}
 use Rattle.tilt_base.specs.Expression.{Leaf}
 use Rattle.tilt_base.specs.Expression as expression
 use Rattle.tilt_base.specs.declared.limits.TheConstants.{REACH}
 use Rattle.tilt_base.specs.declared.reducer.Reducer.{Reducer}
-use Rattle.tilt_fuse.proofs.Law.{only-parts, or-first, or-second, is_itself}
+use Rattle.tilt_fuse.proofs.Law.{only-parts}
 use Rattle.tilt_fuse.specs.FusedTree.{FusedTree, Const, Port, Win, WinBy, Argument, One, Two, If}
 use Rattle.tilt_fuse.specs.Plan.{nodes, moved, first_port, reads_only, only_reading, as_map, is_port, window_over, window_on, reading_of, fused, has_window_on}
 use Rattle.tilt_fuse.specs.Trees.{IsMap, IsNear, IsNearBody, EachAsks}
@@ -184,7 +186,7 @@ module _ (P : ℕ → Need → Type 0) (narrow : (source : ℕ) (asked other : N
 
     module _ (bound : ℕ) (n : Need) where
       served : (read : ℕ) (asked : Need) → read < bound → ((source : ℕ) → source < bound → Serves source (if read == source then Some asked else None)) → ServesAs (get_or merged read None) read asked
-      served read asked low h = rw (is_itself read) at (h read low)
+      served read asked low h = rw (same_number read) at (h read low)
 
       read-asks : (source : ℕ) (offset : ℤ) (of : Option FusedTree) → ServesAs of source (reaching n offset offset) → EachAsks P n (reading_of of source offset)
       read-asks source offset None h = h
@@ -205,21 +207,21 @@ module _ (P : ℕ → Need → Type 0) (narrow : (source : ℕ) (asked other : N
       fused-asks (Leaf (core.Const number)) reads fits h = tt
       fused-asks (Leaf (core.Read source offset)) reads fits h = read-asks source offset (get_or merged source None) (served source (reaching n offset offset) reads h)
       fused-asks (Leaf (core.Reduce reducer source from to)) reads fits h =
-          reduce-asks reducer source from to (get_or merged source None) (λ tree is. fits source tree is (is_itself source)) reads.1
+          reduce-asks reducer source from to (get_or merged source None) (λ tree is. fits source tree is (same_number source)) reads.1
           (served source (reaching n (from +ℤ pos 1) to) reads.0 h)
       fused-asks (expression.One op a) reads fits h = fused-asks a reads fits h
       fused-asks (expression.Two op a b) reads fits h = (
-        fused-asks a reads.0 (λ s t is on. fits s t is (or-first (has_window_on a s) (has_window_on b s) on)) (λ s low. serves-first s (asked_by n a s) (asked_by n b s) (h s low)),
-        fused-asks b reads.1 (λ s t is on. fits s t is (or-second (has_window_on a s) (has_window_on b s) on)) (λ s low. serves-second s (asked_by n a s) (asked_by n b s) (h s low)),
+        fused-asks a reads.0 (λ s t is on. fits s t is (or_left (has_window_on a s) (has_window_on b s) on)) (λ s low. serves-first s (asked_by n a s) (asked_by n b s) (h s low)),
+        fused-asks b reads.1 (λ s t is on. fits s t is (or_right (has_window_on a s) (has_window_on b s) on)) (λ s low. serves-second s (asked_by n a s) (asked_by n b s) (h s low)),
       )
       fused-asks (expression.If c a b) reads fits h =
           let others : (s : ℕ) → s < bound → Serves s (either (asked_by n a s) (asked_by n b s)) =
           λ s low. serves-second s (asked_by n c s) (either (asked_by n a s) (asked_by n b s)) (h s low) in (
-            fused-asks c reads.0 (λ s t is on. fits s t is (or-first (has_window_on c s) (has_window_on a s || has_window_on b s) on))
+            fused-asks c reads.0 (λ s t is on. fits s t is (or_left (has_window_on c s) (has_window_on a s || has_window_on b s) on))
                 (λ s low. serves-first s (asked_by n c s) (either (asked_by n a s) (asked_by n b s)) (h s low)),
-            fused-asks a reads.1 (λ s t is on. fits s t is (or-second (has_window_on c s) (has_window_on a s || has_window_on b s) (or-first (has_window_on a s) (has_window_on b s) on)))
+            fused-asks a reads.1 (λ s t is on. fits s t is (or_right (has_window_on c s) (has_window_on a s || has_window_on b s) (or_left (has_window_on a s) (has_window_on b s) on)))
                 (λ s low. serves-first s (asked_by n a s) (asked_by n b s) (others s low)),
-            fused-asks b reads.2 (λ s t is on. fits s t is (or-second (has_window_on c s) (has_window_on a s || has_window_on b s) (or-second (has_window_on a s) (has_window_on b s) on)))
+            fused-asks b reads.2 (λ s t is on. fits s t is (or_right (has_window_on c s) (has_window_on a s || has_window_on b s) (or_right (has_window_on a s) (has_window_on b s) on)))
                 (λ s low. serves-second s (asked_by n a s) (asked_by n b s) (others s low)),
           )
 
@@ -293,7 +295,7 @@ module _ (n : Need) (back_low : pos 0 ≤ℤ n.back) (ahead_low : pos 0 ≤ℤ n
 
   module _ (bound : ℕ) where
     read-within : (read : ℕ) (asked : Need) → read < bound → ((source : ℕ) → source < bound → AskedWithin (if read == source then Some asked else None)) → WithinReach asked
-    read-within read asked low h = rw (is_itself read) at (h read low)
+    read-within read asked low h = rw (same_number read) at (h read low)
 
     pub body-near : (body : CoreTree) → ReadsBelow bound body → ((source : ℕ) → source < bound → AskedWithin (asked_by n body source)) → IsNearBody body
     body-near (Leaf (core.Const number)) reads h = tt

@@ -4,6 +4,8 @@ use Rattle.std.specs.Prelude.{◌||◌, ◌&&◌, is_some, option_and_then}
 use Rattle.std.specs.Option.{option_map_or, option_or}
 use Rattle.std.specs.Ordering.{int_eq}
 use Rattle.std.proofs.lemmas.Int.{ints}
+use Rattle.std.proofs.lemmas.Bool.{or_right, or_left, and_parts, eqb-true}
+use Rattle.tilt_base.proofs.Comparisons.{same_number}
 use Rattle.tilt_base.specs.Expression.{Leaf}
 use Rattle.tilt_base.specs.Expression as expression
 use Rattle.tilt_base.specs.Scalar.{apply1, apply2, choose}
@@ -23,20 +25,6 @@ use Rattle.tilt_core.specs.CoreTree as core
 use Rattle.tilt_core.specs.Meaning.{source_of, body_of}
 use Rattle.tilt_core.specs.Needs.{Need}
 
-pub both-true : (a b : Bool) → (a && b) ≡ true → (a ≡ true) × (b ≡ true)
-both-true true b h = (refl, h)
-both-true false b h = absurd (cc h)
-
-pub or-first : (a b : Bool) → a ≡ true → (a || b) ≡ true
-or-first a b is = rw is refl
-
-pub or-second : (a b : Bool) → b ≡ true → (a || b) ≡ true
-or-second true b is = refl
-or-second false b is = is
-
-pub is_itself : (source : ℕ) → (source == source) ≡ true
-is_itself source = grind arith
-
 is_some-or : (p q : Option Reading) → is_some (option_or p q) ≡ (is_some p || is_some q)
 is_some-or None q = refl
 is_some-or (Some p) q = refl
@@ -47,9 +35,6 @@ either-and true true false = refl
 either-and true false true = refl
 either-and true false false = refl
 either-and false b m = refl
-
-same_source : (source other : ℕ) → (source == other) ≡ true → source ≡ other
-same_source source other is = grind arith
 
 pub same_offset : (offset other : ℤ) → int_eq offset other ≡ true → offset ≡ other
 same_offset offset other is = grind (arith, ints)
@@ -69,39 +54,39 @@ module _ (P : ℕ → Need → Type 0) (n : Need) (xs : List Stream) (p : Readin
   only-cell : (tree : FusedTree) → EachAsks P n tree → reads_only p tree ≡ true → (tick : ℤ) → (fused_stream xs tree).cell tick ≡ map_cell (as_map tree) (x.cell (tick +ℤ p.offset))
   only-cell (Const number) asks only tick = refl
   only-cell (Port source offset) asks only tick =
-      let parts = both-true (source == p.source) (int_eq offset p.offset) only in
-      port-cell source offset tick (same_source source p.source parts.0) (same_offset offset p.offset parts.1)
+      let parts = and_parts (source == p.source) (int_eq offset p.offset) only in
+      port-cell source offset tick (eqb-true source p.source parts.0) (same_offset offset p.offset parts.1)
   only-cell (Win reducer source from to) asks only tick = absurd (cc only)
   only-cell (WinBy map reducer source from to) asks only tick = absurd (cc only)
   only-cell Argument asks only tick = absurd asks
   only-cell (One op a) asks only tick = ap (apply1 op) (only-cell a asks only tick)
   only-cell (Two op a b) asks only tick =
-      let parts = both-true (reads_only p a) (reads_only p b) only in
+      let parts = and_parts (reads_only p a) (reads_only p b) only in
       λ i. apply2 op (only-cell a asks.0 parts.0 tick i) (only-cell b asks.1 parts.1 tick i)
   only-cell (If c a b) asks only tick =
-      let parts = both-true (reads_only p c) (reads_only p a && reads_only p b) only in
-      let others = both-true (reads_only p a) (reads_only p b) parts.1 in
+      let parts = and_parts (reads_only p c) (reads_only p a && reads_only p b) only in
+      let others = and_parts (reads_only p a) (reads_only p b) parts.1 in
       λ i. choose (only-cell c asks.0 parts.0 tick i) (only-cell a asks.1 others.0 tick i) (only-cell b asks.2 others.1 tick i)
 
   -- and has the mark there, where it has a port
   only-mark : (tree : FusedTree) → EachAsks P n tree → reads_only p tree ≡ true → (tick : ℤ) → (fused_stream xs tree).mark tick ≡ (is_some (first_port tree) && x.mark (tick +ℤ p.offset))
   only-mark (Const number) asks only tick = refl
   only-mark (Port source offset) asks only tick =
-      let parts = both-true (source == p.source) (int_eq offset p.offset) only in
-      port-mark source offset tick (same_source source p.source parts.0) (same_offset offset p.offset parts.1)
+      let parts = and_parts (source == p.source) (int_eq offset p.offset) only in
+      port-mark source offset tick (eqb-true source p.source parts.0) (same_offset offset p.offset parts.1)
   only-mark (Win reducer source from to) asks only tick = absurd (cc only)
   only-mark (WinBy map reducer source from to) asks only tick = absurd (cc only)
   only-mark Argument asks only tick = absurd asks
   only-mark (One op a) asks only tick = only-mark a asks only tick
   only-mark (Two op a b) asks only tick =
-      let parts = both-true (reads_only p a) (reads_only p b) only in
+      let parts = and_parts (reads_only p a) (reads_only p b) only in
       let m = x.mark (tick +ℤ p.offset) in
       (λ i. only-mark a asks.0 parts.0 tick i || only-mark b asks.1 parts.1 tick i)
       ∙ either-and (is_some (first_port a)) (is_some (first_port b)) m
       ∙ ap (λ (some : Bool). some && m) (sym (is_some-or (first_port a) (first_port b)))
   only-mark (If c a b) asks only tick =
-      let parts = both-true (reads_only p c) (reads_only p a && reads_only p b) only in
-      let others = both-true (reads_only p a) (reads_only p b) parts.1 in
+      let parts = and_parts (reads_only p c) (reads_only p a && reads_only p b) only in
+      let others = and_parts (reads_only p a) (reads_only p b) parts.1 in
       let m = x.mark (tick +ℤ p.offset) in
       let ca = option_or (first_port c) (first_port a) in
       (λ i. (only-mark c asks.0 parts.0 tick i || only-mark a asks.1 others.0 tick i) || only-mark b asks.2 others.1 tick i)
@@ -196,16 +181,16 @@ module _ (P : ℕ → Need → Type 0) (xs : List Stream) (merged : List (Option
   fused-means (Leaf (core.Read source offset)) h = read-means source offset (get_or merged source None) (λ tree is. (h source tree is).same)
   fused-means (Leaf (core.Reduce reducer source from to)) h =
       window-means reducer source from to (get_or merged source None)
-      (λ tree is. let s = h source tree is in record { need = s.need; asks = s.asks; same = s.same; fits = λ on. s.fits (is_itself source) })
+      (λ tree is. let s = h source tree is in record { need = s.need; asks = s.asks; same = s.same; fits = λ on. s.fits (same_number source) })
   fused-means (expression.One op a) h = lifted1-same op (fused_stream xs (fused merged a)) (body_of xs a) (fused-means a h)
   fused-means (expression.Two op a b) h =
       lifted2-same op (fused_stream xs (fused merged a)) (body_of xs a) (fused_stream xs (fused merged b)) (body_of xs b)
-      (fused-means a (stand-fewer (has_window_on a) (has_window_on (expression.Two op a b)) (λ s is. or-first (has_window_on a s) (has_window_on b s) is) h))
-      (fused-means b (stand-fewer (has_window_on b) (has_window_on (expression.Two op a b)) (λ s is. or-second (has_window_on a s) (has_window_on b s) is) h))
+      (fused-means a (stand-fewer (has_window_on a) (has_window_on (expression.Two op a b)) (λ s is. or_left (has_window_on a s) (has_window_on b s) is) h))
+      (fused-means b (stand-fewer (has_window_on b) (has_window_on (expression.Two op a b)) (λ s is. or_right (has_window_on a s) (has_window_on b s) is) h))
   fused-means (expression.If c a b) h =
       branched-same (fused_stream xs (fused merged c)) (body_of xs c) (fused_stream xs (fused merged a)) (body_of xs a) (fused_stream xs (fused merged b)) (body_of xs b)
-      (fused-means c (stand-fewer (has_window_on c) (has_window_on (expression.If c a b)) (λ s is. or-first (has_window_on c s) (has_window_on a s || has_window_on b s) is) h))
+      (fused-means c (stand-fewer (has_window_on c) (has_window_on (expression.If c a b)) (λ s is. or_left (has_window_on c s) (has_window_on a s || has_window_on b s) is) h))
       (fused-means a (stand-fewer (has_window_on a) (has_window_on (expression.If c a b))
-      (λ s is. or-second (has_window_on c s) (has_window_on a s || has_window_on b s) (or-first (has_window_on a s) (has_window_on b s) is)) h))
+      (λ s is. or_right (has_window_on c s) (has_window_on a s || has_window_on b s) (or_left (has_window_on a s) (has_window_on b s) is)) h))
       (fused-means b (stand-fewer (has_window_on b) (has_window_on (expression.If c a b))
-      (λ s is. or-second (has_window_on c s) (has_window_on a s || has_window_on b s) (or-second (has_window_on a s) (has_window_on b s) is)) h))
+      (λ s is. or_right (has_window_on c s) (has_window_on a s || has_window_on b s) (or_right (has_window_on a s) (has_window_on b s) is)) h))

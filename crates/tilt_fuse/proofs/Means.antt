@@ -4,9 +4,10 @@ use Rattle.std.specs.Prelude.{◌&&◌, is_some}
 use Rattle.std.specs.List.{AllByRecursion}
 use Rattle.std.proofs.Math.Seq.{drop-length}
 use Rattle.std.proofs.lemmas.List.{append-nil, drop_all, length-map, length-replicate, get_or_default}
+use Rattle.std.proofs.lemmas.Bool.{or_left, and_parts}
 use Rattle.tilt_base.specs.Expression.{Leaf}
 use Rattle.tilt_base.specs.Expression as expression
-use Rattle.tilt_fuse.proofs.Law.{AllStand, fused-means, or-first, both-true}
+use Rattle.tilt_fuse.proofs.Law.{AllStand, fused-means}
 use Rattle.tilt_fuse.proofs.Planned.{Held, merged-is, is, windows, merged-more, trees-kept, trees-merged, rest-skip, rest-merge, rest-loop}
 use Rattle.tilt_fuse.proofs.Places.{defs-from}
 use Rattle.tilt_fuse.proofs.Same.{same-sym, same-trans, period-one}
@@ -113,7 +114,7 @@ module _ (fuse : Bool) (inputs : ℕ) (defs : List Definition) (used : List Bool
           fused-means (Held all) xs merged def.body
           (stands (is_windowed (drop place defs) (drop place (needs_from inputs defs))) (has_window_on def.body) merged trees
           (λ source on. windows inputs defs used known place low def def_is source
-          ∙ or-first (is_some (get_or (needs_from inputs defs) place None) && has_window_on def.body source)
+          ∙ or_left (is_some (get_or (needs_from inputs defs) place None) && has_window_on def.body source)
           (is_windowed (drop (suc place) defs) (drop (suc place) (needs_from inputs defs)) source)
           (ap (λ (m : Option Need). is_some m && has_window_on def.body source) n_is ∙ on))
           stand)
@@ -151,7 +152,7 @@ module _ (fuse : Bool) (inputs : ℕ) (defs : List Definition) (used : List Bool
           → AllByRecursion (MeansItsBody xs defs) (left place merged)
       by_test n n_is true test =
           let tree = fused merged def.body in
-          let merge = (both-true fuse (is_merged def (drop (suc place) defs) (drop (suc place) (needs_from inputs defs)) (inputs + place) tree) test).1 in
+          let merge = (and_parts fuse (is_merged def (drop (suc place) defs) (drop (suc place) (needs_from inputs defs)) (inputs + place) tree) test).1 in
           subst (λ (ls : List PlannedLoop). AllByRecursion (MeansItsBody xs defs) ls) (sym (rest-merge inputs defs used known place low def def_is merged many trees fuse n n_is test))
           (behind more more_are xs_next (merged ++ Some tree ∷ [])
           (omega (arith, many, length-append merged (Some tree ∷ [])))

@@ -6,12 +6,13 @@ use Rattle.std.proofs.Math.ListN.{get_or-append}
 use Rattle.std.proofs.Math.Seq.{get_or-append_seam}
 use Rattle.std.proofs.lemmas.Int.{ints, clamps}
 use Rattle.std.proofs.lemmas.List.{get_or_past}
+use Rattle.std.proofs.lemmas.Bool.{not-true, or_right, or_left, and_parts}
 use Rattle.tilt_base.specs.declared.limits.TheConstants.{REACH}
 use Rattle.tilt_bounds.proofs.Needs.{below_or_behind, need_at-input, need_at-definition, same_need}
 use Rattle.tilt_bounds.proofs.Steps.{definition-at}
 use Rattle.tilt_bounds.specs.Margins.{IsWithin, evenly, need_at}
 use Rattle.tilt_fuse.proofs.Asks.{NoWider, Serves, ServesAs, fused-asks, few-nodes, asks-weaker, WithinReach, asks-near, AskedWithin, body-near}
-use Rattle.tilt_fuse.proofs.Law.{or-first, or-second, same_offset, both-true}
+use Rattle.tilt_fuse.proofs.Law.{same_offset}
 use Rattle.tilt_fuse.proofs.Places.{defs-from, needs-from, windowed-from}
 use Rattle.tilt_fuse.proofs.Used.{no_need}
 use Rattle.tilt_fuse.specs.FusedTree.{FusedTree, PlannedLoop}
@@ -129,10 +130,6 @@ asked-near n back_low ahead_low m (Some asked) near h = held-within m asked near
 pub body_need-itself : (def : Definition) (n : Need) → def.grid.period ≡ pos 1 → body_need def n ≡ n
 body_need-itself def n is = same_need (body_need def n) n refl (omega (arith, ints))
 
-isnt : (some : Bool) → not some ≡ true → some ≡ false
-isnt true h = absurd (cc h)
-isnt false h = refl
-
 fits-so : (on some : Bool) → (not on || some) ≡ true → on ≡ true → some ≡ true
 fits-so true some h is = h
 fits-so false some h is = absurd (cc is)
@@ -147,14 +144,14 @@ pub record IsMerged (def : Definition) (behind : List Definition) (ns : List (Op
 
 pub merged-is : (def : Definition) (behind : List Definition) (ns : List (Option Need)) (number : ℕ) (tree : FusedTree) → is_merged def behind ns number tree ≡ true → IsMerged def behind ns number tree
 merged-is def behind ns number tree test =
-    let one = both-true (not (are_none behind) && not (is_some def.over) && int_eq def.grid.period (pos 1) && nat_le (nodes tree) 64)
+    let one = and_parts (not (are_none behind) && not (is_some def.over) && int_eq def.grid.period (pos 1) && nat_le (nodes tree) 64)
     (not (is_windowed behind ns number) || is_some (only_reading tree)) test in
-    let two = both-true (not (are_none behind) && not (is_some def.over) && int_eq def.grid.period (pos 1)) (nat_le (nodes tree) 64) one.0 in
-    let three = both-true (not (are_none behind) && not (is_some def.over)) (int_eq def.grid.period (pos 1)) two.0 in
-    let four = both-true (not (are_none behind)) (not (is_some def.over)) three.0 in
+    let two = and_parts (not (are_none behind) && not (is_some def.over) && int_eq def.grid.period (pos 1)) (nat_le (nodes tree) 64) one.0 in
+    let three = and_parts (not (are_none behind) && not (is_some def.over)) (int_eq def.grid.period (pos 1)) two.0 in
+    let four = and_parts (not (are_none behind)) (not (is_some def.over)) three.0 in
     record {
-      some_behind = isnt (are_none behind) four.0;
-      no_span = isnt (is_some def.over) four.1;
+      some_behind = not-true (are_none behind) four.0;
+      no_span = not-true (is_some def.over) four.1;
       period = same_offset def.grid.period (pos 1) three.1;
       small = (let few = two.1 in grind arith);
       fits = fits-so (is_windowed behind ns number) (is_some (only_reading tree)) one.1;
@@ -210,7 +207,7 @@ module _ (inputs : ℕ) (defs : List Definition) (used : List Bool) (known : IsK
   windows source = windowed-from inputs defs place low def source def_is
 
   windowed-later : (source : ℕ) → is_windowed behind behind_ns source ≡ true → windowed_on source ≡ true
-  windowed-later source on = windows source ∙ or-second (is_some this && has_window_on def.body source) (is_windowed behind behind_ns source) on
+  windowed-later source on = windows source ∙ or_right (is_some this && has_window_on def.body source) (is_windowed behind behind_ns source) on
 
   module _ (merged : List (Option FusedTree)) (many : length merged ≡ number) (trees : AreMergedTrees all windowed_on merged) where
     -- trees of merged sources have offsets that a loop may have
@@ -269,7 +266,7 @@ module _ (inputs : ℕ) (defs : List Definition) (used : List Bool) (known : IsK
       this_asks =
           fused-asks (Held all) (held-narrow all) merged number (body_need def n) def.body is.reads
           (λ source tree at on. (trees.each source tree at).fits
-          (windows source ∙ or-first (is_some this && has_window_on def.body source) (is_windowed behind behind_ns source)
+          (windows source ∙ or_left (is_some this && has_window_on def.body source) (is_windowed behind behind_ns source)
           (ap (λ (m : Option Need). is_some m && has_window_on def.body source) n_is ∙ on)))
           (λ s below. serves all windowed_on merged s (asked_by (body_need def n) def.body s) trees (held s below))
 
@@ -327,7 +324,7 @@ module _ (inputs : ℕ) (defs : List Definition) (used : List Bool) (known : IsK
               let merge = subst (λ (t : FusedTree). (fuse && is_merged def behind behind_ns number t) ≡ true) tree_is test in
               rw (more_is, same_is, tree_is) (record {
                 many = omega (arith, many, length-append merged (Some (fused merged def.body) ∷ []));
-                trees = trees-merged n n_is (both-true fuse (is_merged def behind behind_ns number (fused merged def.body)) merge).1;
+                trees = trees-merged n n_is (and_parts fuse (is_merged def behind behind_ns number (fused merged def.body)) merge).1;
                 so_far = ap (λ (ls : List PlannedLoop). loops ++ ls) (sym (rest-merge n n_is merge)) ∙ so_far;
               })
 

@@ -1,7 +1,8 @@
 -- What is known of the trees of loops and of merged sources.
-use Rattle.std.specs.Prelude.{◌≡◌, ℕ, ◌+◌, ◌≤◌, ℤ, pos, neg_ℤ, ◌+ℤ◌, ◌≤ℤ◌, ◌<ℤ◌, Bool, true, List, ◌++◌, length, drop, replicate, get_or, Option, Some, None, is_some, ⊤}
+use Rattle.std.specs.Prelude.{◌≡◌, ℕ, ◌+◌, ◌≤◌, pos, ◌+ℤ◌, ◌≤ℤ◌, ◌<ℤ◌, Bool, true, List, ◌++◌, length, drop, replicate, get_or, Option, Some, None, is_some, ⊤}
 use Rattle.tilt_base.specs.Expression as expression
-use Rattle.tilt_base.specs.declared.limits.TheConstants.{REACH, OFFSET}
+use Rattle.tilt_base.specs.Offset.{IsOffset}
+use Rattle.tilt_base.specs.declared.limits.TheConstants.{REACH}
 use Rattle.tilt_bounds.specs.Margins.{AreWithin, evenly, need_at}
 use Rattle.tilt_fuse.specs.FusedTree.{FusedTree, Const, Port, Win, WinBy, Argument, One, Two, If, PlannedLoop}
 use Rattle.tilt_fuse.specs.Plan.{nodes, only_reading, is_windowed, loops_from}
@@ -10,10 +11,6 @@ use Rattle.tilt_core.specs.Core.{AreDefinitions}
 use Rattle.tilt_core.specs.CoreTree as core
 use Rattle.tilt_core.specs.CoreTree.{CoreTree, Definition}
 use Rattle.tilt_core.specs.Needs.{Need, reaching, needs_from, needs}
-
--- an offset, or an end of a window, that a loop may have
-abbrev pub IsOffset : ℤ → Type 0
-IsOffset offset = (neg_ℤ OFFSET ≤ℤ offset) × (offset ≤ℤ OFFSET)
 
 -- the offsets of an expression are such
 abbrev pub IsNearBody : CoreTree → Type 0

@@ -1,8 +1,9 @@
 // An expression over sources, as one over those that have buffers.
 ghost use Rattle.std.specs.Prelude.{◌≡◌, length, IfOk, IfSome};
+ghost use Rattle.tilt_base.specs.Offset.{IsOffset};
 ghost use Rattle.tilt_fuse.specs.FusedTree.{fused_tree_of};
 ghost use Rattle.tilt_fuse.specs.Plan.{fused, reading_of};
-ghost use Rattle.tilt_fuse.specs.Trees.{AreNear, IsNear, IsNearBody, IsOffset};
+ghost use Rattle.tilt_fuse.specs.Trees.{AreNear, IsNear, IsNearBody};
 ghost use Rattle.tilt_core.specs.Core.{ReadsBelow};
 ghost use Rattle.tilt_core.specs.CoreTree.{tree_of};
 

@@ -1,8 +1,9 @@
 // What a tree reads, where that is one source at one offset.
 ghost use Rattle.std.specs.Prelude.{◌≡◌, IfSome};
+ghost use Rattle.tilt_base.specs.Offset.{IsOffset};
 ghost use Rattle.tilt_fuse.specs.FusedTree.{fused_tree_of};
 ghost use Rattle.tilt_fuse.specs.Plan.{first_port, only_reading, reads_only};
-ghost use Rattle.tilt_fuse.specs.Trees.{IsNear, IsOffset};
+ghost use Rattle.tilt_fuse.specs.Trees.{IsNear};
 
 use crate::fused::Fused;
 

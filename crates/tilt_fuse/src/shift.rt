@@ -1,8 +1,9 @@
 // Trees so many ticks later.
 ghost use Rattle.std.specs.Prelude.{◌≡◌, IfOk};
+ghost use Rattle.tilt_base.specs.Offset.{IsOffset};
 ghost use Rattle.tilt_fuse.specs.FusedTree.{fused_tree_of};
 ghost use Rattle.tilt_fuse.specs.Plan.{moved};
-ghost use Rattle.tilt_fuse.specs.Trees.{IsNear, IsOffset};
+ghost use Rattle.tilt_fuse.specs.Trees.{IsNear};
 
 use crate::fused::Fused;
 use std::alloc::{AllocError as OutOfMemory, Global};

@@ -1,8 +1,9 @@
 // Windows on merged sources.
 ghost use Rattle.std.specs.Prelude.{◌≡◌, ◌+ℤ◌, Some, IfOk, IfSome};
+ghost use Rattle.tilt_base.specs.Offset.{IsOffset};
 ghost use Rattle.tilt_fuse.specs.FusedTree.{Win, WinBy, fused_tree_of};
 ghost use Rattle.tilt_fuse.specs.Plan.{as_map, is_port, window_on, window_over};
-ghost use Rattle.tilt_fuse.specs.Trees.{IsNear, IsOffset};
+ghost use Rattle.tilt_fuse.specs.Trees.{IsNear};
 
 use crate::fused::Fused;
 use crate::merged::Merged;

@@ -1,7 +1,8 @@
 -- The names that the words bind, one after another.
-use Rattle.std.proofs.Common.{◌≡◌, inl, inr, ℕ, suc, true, List, [], ◌∷◌, ◌++◌, take, drop, refl, sym, ap, subst, ◌∙◌, arith, Option, Some, None, Contains, eqb}
+use Rattle.std.proofs.Common.{◌≡◌, inl, inr, ℕ, suc, true, List, [], ◌∷◌, ◌++◌, take, drop, refl, sym, ap, subst, ◌∙◌, arith, Option, Some, None, Contains}
 use Rattle.std.specs.Str.{bytes_eq}
-use Rattle.std.proofs.lemmas.Bool.{cases_Bool, and_parts, false≢true, eqb-true}
+use Rattle.std.proofs.lemmas.Bool.{cases_Bool, false≢true}
+use Rattle.tilt_base.proofs.Comparisons.{bytes_same}
 use Rattle.tilt_words.specs.Binding.{Binding, bindings_of}
 use Rattle.tilt_words.specs.declared.bind.Bind.{Bind}
 use Rattle.tilt_load.specs.Inputs.{is_among, bound_names, first_unexpected, first_unbound, first_of_two, file_of, faulty_name}
@@ -12,16 +13,6 @@ pub record IsBehind (declared : List (List ℕ)) (words : List Bind) (before : L
   pub among : (name : List ℕ) → is_among name before ≡ is_among name (bound_names (bindings_of (take place words)))
 
 -- where no name is faulty, a file is bound to each declared name
-bytes_same : (xs ys : List ℕ) → bytes_eq xs ys ≡ true → xs ≡ ys
-bytes_same [] [] h = refl
-bytes_same [] (y ∷ ys) h = absurd (false≢true h)
-bytes_same (x ∷ xs) [] h = absurd (false≢true h)
-bytes_same (x ∷ xs) (y ∷ ys) h =
-    let parts = and_parts (eqb x y) (bytes_eq xs ys) h in
-    let heads = eqb-true x y parts.0 in
-    let tails = bytes_same xs ys parts.1 in
-    λ i. heads i ∷ tails i
-
 file_among : (binds : List Binding) (name : List ℕ) → is_among name (bound_names binds) ≡ true → Contains binds (record { name = name; file = file_of binds name })
 file_among [] name h = absurd (false≢true h)
 file_among (bind ∷ binds) name h =

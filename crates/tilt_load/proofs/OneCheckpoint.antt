@@ -1,6 +1,6 @@
 -- A checkpoint file comes to one checkpoint, or to one reason why it is none.
 use Rattle.std.proofs.Common.{◌≡◌, ◌∙◌, ◌<◌, ◌^◌, List, ℕ, length, refl, sym, ap, subst, arith}
-use Rattle.std.proofs.lemmas.Option.{same_Some}
+use Rattle.std.proofs.lemmas.Option.{same_Some, some_pair_parts}
 use Rattle.tilt_checkpoint.specs.Checkpoint.{CheckpointParts, with_query}
 use Rattle.tilt_checkpoint.specs.Decided.{frame_of}
 use Rattle.tilt_checkpoint.specs.Reading.{query_at}
@@ -8,7 +8,6 @@ use Rattle.tilt_checkpoint.specs.Spelling.{body_lines, spelling}
 use Rattle.tilt_checkpoint.specs.Valid.{IsCheckpoint}
 use Rattle.tilt_checkpoint.proofs.Decoded.{body_of, valid-read}
 use Rattle.tilt_checkpoint.proofs.Queries.{query-again}
-use Rattle.tilt_checkpoint.proofs.Words.{pair_is}
 use Rattle.tilt_lexer.specs.Tokens.{AreTokens}
 use Rattle.tilt_syntax.proofs.Law.{reads_back}
 use Rattle.tilt_syntax.specs.Printing.{query_text}
@@ -36,7 +35,7 @@ spelled_once : (c d : CheckpointParts) (bytes : List ℕ) → IsCheckpoint c →
 spelled_once c d bytes is is' small e e' =
     let again = query-again c.query (rest_of c) is.query.parsed in
     let again' = query-again d.query (rest_of d) is'.query.parsed in
-    let both = pair_is (length c.query, query_text c.query) (length d.query, query_text d.query) (rest_of c) (rest_of d) (sym again ∙ ap query_at (sym e ∙ e') ∙ again') in
+    let both = some_pair_parts (length c.query, query_text c.query) (length d.query, query_text d.query) (rest_of c) (rest_of d) (sym again ∙ ap query_at (sym e ∙ e') ∙ again') in
     let text = ap (λ (p : ℕ × List ℕ). p.1) both.0 in
     let query = one_printed c.query d.query is.query.parsed is'.query.parsed text in
     let frame = frame_of (core_of c.query) in

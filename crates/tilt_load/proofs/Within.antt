@@ -6,6 +6,7 @@ use Rattle.std.specs.Option.{ForSome}
 use Rattle.std.proofs.lemmas.Int.{ints}
 use Rattle.std.proofs.lemmas.Option.{none-some, same_Some}
 use Rattle.csv.specs.Reading.{default_config, records, strip_bom}
+use Rattle.tilt_base.proofs.Comparisons.{le_false}
 use Rattle.tilt_series.specs.Series.{◌>>=◌, Bounds, byte_order_mark, fields_spelled, is_below, is_header, is_past, is_time, row_of, row_unless, rows_behind_header, rows_of, series_of, three_of, time_fault}
 use Rattle.tilt_series.specs.declared.fault.SeriesFault.{SeriesFault}
 use Rattle.tilt_series.specs.declared.fault.SeriesFault.TheVariants.{BadHeader, TimeRange, EmptyInterval, OutOfOrder, RowBeforeCut, RowPastCut}
@@ -31,9 +32,6 @@ not_past : (tick : ℤ) (bound : Option ℤ) → is_past tick bound ≡ false �
 not_past tick None h = λ b is. absurd (none-some b is)
 not_past tick (Some bound) h = λ b is. rw (← same_Some bound b is) (grind (arith, ints))
 
-not_empty : (start end : ℤ) → int_le end start ≡ false → start <ℤ end
-not_empty start end h = grind (arith, ints)
-
 -- times without a fault
 time_within : (bounds : Bounds) (row : ℕ) (s : Snapshot) → time_fault bounds row s.start s.end ≡ None → IsWithin bounds s × (s.start <ℤ s.end)
 time_within bounds row s e =
@@ -47,7 +45,7 @@ time_within bounds row s e =
         late = not_below s.start bounds.from before.0;
         early = not_past s.start bounds.upto past.0;
       },
-      not_empty s.start s.end ticks.0,
+      le_false s.end s.start ticks.0,
     )
 
 -- a row that is taken has no fault

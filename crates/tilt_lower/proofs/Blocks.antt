@@ -7,6 +7,7 @@ use Rattle.std.proofs.Math.ListN.{get_or-append}
 use Rattle.std.proofs.lemmas.List.{map-id, get_or-append-add}
 use Rattle.tilt_base.specs.Reduce.{numbers, reduce}
 use Rattle.tilt_base.specs.Scalar.{apply1, apply2, choose}
+use Rattle.tilt_code.proofs.Runs.{last_or-pushed}
 use Rattle.tilt_code.specs.Body as code
 use Rattle.tilt_code.specs.Body.{last_or, instr_cell, with_registers, block_cell, map_leaf, mapped, leaf_of, leaf_marked}
 use Rattle.tilt_code.specs.Code.{Block, LoopParts}
@@ -23,10 +24,6 @@ use Rattle.tilt_stream.specs.Window.{met}
 use Rattle.tilt_core.specs.Meaning.{source_of}
 use Rattle.tilt_core.specs.Needs.{Need}
 use mathlib.Core.Path.{fun_ext}
-
-pub last_or-pushed : {A : Type 0} (given : A) (xs : List A) (x : A) → last_or given (xs ++ x ∷ []) ≡ x
-last_or-pushed given [] x = refl
-last_or-pushed given (y ∷ ys) x = last_or-pushed y ys x
 
 with_registers-append : (leaf : Instr → Option ℤ) (cells : List (Option ℤ)) (first second : Block)
     → with_registers leaf cells (first ++ second) ≡ with_registers leaf (with_registers leaf cells first) second

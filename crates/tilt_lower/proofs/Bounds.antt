@@ -3,7 +3,7 @@ use Rattle.std.proofs.Common.{◌≡◌, ℕ, suc, ◌+◌, ◌<◌, ◌≤◌, 
 use Rattle.std.specs.Prelude.{◌&&◌, nat_lt}
 use Rattle.std.specs.List.{AllByRecursion}
 use Rattle.std.proofs.lemmas.Int.{ints, clamps}
-use Rattle.tilt_code.proofs.Partials.{All-append}
+use Rattle.tilt_base.proofs.Lists.{all-append}
 use Rattle.tilt_code.specs.Code.{Block}
 use Rattle.tilt_code.specs.Grammar.{IsInstr, IsWindow, stands_in_body, stands_in_map}
 use Rattle.tilt_code.specs.References.{RefersBack}
@@ -125,11 +125,11 @@ module _ (buffer : ℕ → ℕ) (count : ℕ) (few : count ≤ 256) (n : Need) (
   good (tree.WinBy map_tree reducer source from to) asks register map small fewer = ((refl, λ fits. (window-is source from to asks.0 asks.1, omega arith)), tt)
   good tree.Argument asks register map small fewer = absurd asks
   good (tree.One op a) asks register map small fewer =
-      All-append (IsGood stands_in_body) (block_of buffer register map a) (instr.One op (result_at register a) ∷ []) (good a asks register map (omega arith) (omega arith)) ((refl, λ fits. omega arith), tt)
+      all-append (IsGood stands_in_body) (block_of buffer register map a) (instr.One op (result_at register a) ∷ []) (good a asks register map (omega arith) (omega arith)) ((refl, λ fits. omega arith), tt)
   good (tree.Two op a b) asks register map small fewer =
       let second = register + registers a in
-      All-append (IsGood stands_in_body) (block_of buffer register map a ++ block_of buffer second (map + maps a) b) (instr.Two op (result_at register a) (result_at second b) ∷ [])
-      (All-append (IsGood stands_in_body) (block_of buffer register map a) (block_of buffer second (map + maps a) b)
+      all-append (IsGood stands_in_body) (block_of buffer register map a ++ block_of buffer second (map + maps a) b) (instr.Two op (result_at register a) (result_at second b) ∷ [])
+      (all-append (IsGood stands_in_body) (block_of buffer register map a) (block_of buffer second (map + maps a) b)
       (good a asks.0 register map (omega arith) (omega arith)) (good b asks.1 second (map + maps a) (omega arith) (omega arith)))
       ((refl, λ fits. (omega arith, omega arith)), tt)
   good (tree.If c a b) asks register map small fewer =
@@ -138,9 +138,9 @@ module _ (buffer : ℕ → ℕ) (count : ℕ) (few : count ≤ 256) (n : Need) (
       let one = block_of buffer register map c in
       let two = block_of buffer second (map + maps c) a in
       let three = block_of buffer third (map + maps c + maps a) b in
-      All-append (IsGood stands_in_body) (one ++ two ++ three) (instr.If (result_at register c) (result_at second a) (result_at third b) ∷ [])
-      (All-append (IsGood stands_in_body) (one ++ two) three
-      (All-append (IsGood stands_in_body) one two (good c asks.0 register map (omega arith) (omega arith)) (good a asks.1 second (map + maps c) (omega arith) (omega arith)))
+      all-append (IsGood stands_in_body) (one ++ two ++ three) (instr.If (result_at register c) (result_at second a) (result_at third b) ∷ [])
+      (all-append (IsGood stands_in_body) (one ++ two) three
+      (all-append (IsGood stands_in_body) one two (good c asks.0 register map (omega arith) (omega arith)) (good a asks.1 second (map + maps c) (omega arith) (omega arith)))
       (good b asks.2 third (map + maps c + maps a) (omega arith) (omega arith)))
       ((refl, λ fits. (omega arith, omega arith, omega arith)), tt)
 
@@ -203,11 +203,11 @@ module _ (buffer : ℕ → ℕ) where
   map_good (tree.WinBy map_tree reducer source from to) is register map small = absurd is
   map_good tree.Argument is register map small = ((refl, λ fits. tt), tt)
   map_good (tree.One op a) is register map small =
-      All-append (IsGood stands_in_map) (block_of buffer register map a) (instr.One op (result_at register a) ∷ []) (map_good a is register map (omega arith)) ((refl, λ fits. omega arith), tt)
+      all-append (IsGood stands_in_map) (block_of buffer register map a) (instr.One op (result_at register a) ∷ []) (map_good a is register map (omega arith)) ((refl, λ fits. omega arith), tt)
   map_good (tree.Two op a b) is register map small =
       let second = register + registers a in
-      All-append (IsGood stands_in_map) (block_of buffer register map a ++ block_of buffer second (map + maps a) b) (instr.Two op (result_at register a) (result_at second b) ∷ [])
-      (All-append (IsGood stands_in_map) (block_of buffer register map a) (block_of buffer second (map + maps a) b)
+      all-append (IsGood stands_in_map) (block_of buffer register map a ++ block_of buffer second (map + maps a) b) (instr.Two op (result_at register a) (result_at second b) ∷ [])
+      (all-append (IsGood stands_in_map) (block_of buffer register map a) (block_of buffer second (map + maps a) b)
       (map_good a is.0 register map (omega arith)) (map_good b is.1 second (map + maps a) (omega arith)))
       ((refl, λ fits. (omega arith, omega arith)), tt)
   map_good (tree.If c a b) is register map small =
@@ -216,9 +216,9 @@ module _ (buffer : ℕ → ℕ) where
       let one = block_of buffer register map c in
       let two = block_of buffer second (map + maps c) a in
       let three = block_of buffer third (map + maps c + maps a) b in
-      All-append (IsGood stands_in_map) (one ++ two ++ three) (instr.If (result_at register c) (result_at second a) (result_at third b) ∷ [])
-      (All-append (IsGood stands_in_map) (one ++ two) three
-      (All-append (IsGood stands_in_map) one two (map_good c is.0 register map (omega arith)) (map_good a is.1 second (map + maps c) (omega arith)))
+      all-append (IsGood stands_in_map) (one ++ two ++ three) (instr.If (result_at register c) (result_at second a) (result_at third b) ∷ [])
+      (all-append (IsGood stands_in_map) (one ++ two) three
+      (all-append (IsGood stands_in_map) one two (map_good c is.0 register map (omega arith)) (map_good a is.1 second (map + maps c) (omega arith)))
       (map_good b is.2 third (map + maps c + maps a) (omega arith)))
       ((refl, λ fits. (omega arith, omega arith, omega arith)), tt)
 
@@ -299,7 +299,7 @@ maps-good P n (tree.WinBy map reducer source from to) asks small = (map_is map a
 maps-good P n tree.Argument asks small = tt
 maps-good P n (tree.One op a) asks small = maps-good P n a asks (omega arith)
 maps-good P n (tree.Two op a b) asks small =
-    All-append IsGoodMap (maps_of a) (maps_of b) (maps-good P n a asks.0 (omega arith)) (maps-good P n b asks.1 (omega arith))
+    all-append IsGoodMap (maps_of a) (maps_of b) (maps-good P n a asks.0 (omega arith)) (maps-good P n b asks.1 (omega arith))
 maps-good P n (tree.If c a b) asks small =
-    All-append IsGoodMap (maps_of c ++ maps_of a) (maps_of b)
-    (All-append IsGoodMap (maps_of c) (maps_of a) (maps-good P n c asks.0 (omega arith)) (maps-good P n a asks.1 (omega arith))) (maps-good P n b asks.2 (omega arith))
+    all-append IsGoodMap (maps_of c ++ maps_of a) (maps_of b)
+    (all-append IsGoodMap (maps_of c) (maps_of a) (maps-good P n c asks.0 (omega arith)) (maps-good P n a asks.1 (omega arith))) (maps-good P n b asks.2 (omega arith))

@@ -5,6 +5,7 @@ use Rattle.std.specs.List.{AllByRecursion, slice_index_or}
 use Rattle.std.specs.Option.{IsSome, unwrap_or}
 use Rattle.std.proofs.lemmas.Int.{ints}
 use Rattle.std.proofs.lemmas.List.{take_more, map-append, length-map, length-replicate, get_or_default}
+use Rattle.tilt_base.proofs.Lists.{all-push}
 use Rattle.tilt_base.specs.declared.limits.TheConstants.{T}
 use Rattle.tilt_bounds.proofs.Needs.{need_at-definition}
 use Rattle.tilt_bounds.specs.Margins.{MarginsParts, need_at, margins_of, is_too_far}
@@ -51,10 +52,6 @@ output-bounds (Some span) lo hi is within =
 
 pub output-of : (query : CoreParts) (lo hi : ℤ) → IsCore query → LiesWithin (domain_of query.defs) lo hi → (neg_ℤ T ≤ℤ lo) × (lo <ℤ hi) × (hi ≤ℤ T)
 output-of query lo hi is within = output-bounds (domain_of query.defs) lo hi (domain_of-stretch (length query.inputs) query.defs is.definitions) within
-
-all-push : {A : Type 0} (P : A → Type 0) (xs : List A) (x : A) → AllByRecursion P xs → P x → AllByRecursion P (xs ++ x ∷ [])
-all-push P [] x all one = (one, tt)
-all-push P (y ∷ xs) x all one = (all.0, all-push P xs x all.1 one)
 
 pub all-pushed : {A : Type 0} (P : A → Type 0) (xs ys : List A) (x : A) → AllByRecursion P xs → P x → ys ≡ xs ++ x ∷ [] → AllByRecursion P ys
 all-pushed {A = A} P xs ys x all one is = subst (λ (zs : List A). AllByRecursion P zs) (sym is) (all-push P xs x all one)

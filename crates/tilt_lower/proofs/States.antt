@@ -6,7 +6,7 @@ use Rattle.std.specs.Option.{unwrap_or}
 use Rattle.std.proofs.Math.ListN.{get_or-append}
 use Rattle.std.proofs.Math.Seq.{get_or-append_seam}
 use Rattle.std.proofs.lemmas.Int.{ints}
-use Rattle.std.proofs.lemmas.Bool.{cases_Bool}
+use Rattle.std.proofs.lemmas.Bool.{cases_Bool, or_left, and_parts}
 use Rattle.std.proofs.lemmas.List.{length-map, length-replicate, map-append, get_or_past, get_or_default}
 use Rattle.tilt_bounds.proofs.Needs.{below_or_behind, need_at-definition}
 use Rattle.tilt_bounds.specs.Laws.{AgreeAsAsked}
@@ -16,7 +16,7 @@ use Rattle.tilt_code.specs.Body as code
 use Rattle.tilt_code.specs.Code.{LoopParts}
 use Rattle.tilt_code.specs.Meaning.{loop_of, with_loops}
 use Rattle.tilt_fuse.proofs.Asks.{NoWider, Serves, ServesAs, fused-asks, asks-weaker}
-use Rattle.tilt_fuse.proofs.Law.{fused-means, or-first, both-true}
+use Rattle.tilt_fuse.proofs.Law.{fused-means}
 use Rattle.tilt_fuse.proofs.Means.{definition-there, merged-definition}
 use Rattle.tilt_fuse.proofs.Planned.{HoldsAll, holds-narrow, asked-within, body_need-itself, merged-is, is, windows, few, merged-more, trees-kept, trees-merged, rest-skip, rest-merge, rest-loop}
 use Rattle.tilt_fuse.proofs.Places.{defs-from}
@@ -342,7 +342,7 @@ module _ (query : CoreParts) (margins : MarginsParts) (lo hi : ℤ) (used : List
         fits source u at on =
             (s.trees.each source u at).fits
             (windows inputs defs used known place low def def_is source
-            ∙ or-first (is_some this && has_window_on def.body source) (is_windowed behind behind_ns source)
+            ∙ or_left (is_some this && has_window_on def.body source) (is_windowed behind behind_ns source)
             (ap (λ (m : Option Need). is_some m && has_window_on def.body source) n_is ∙ on))
 
         this_asks : EachAsks P w t
@@ -363,7 +363,7 @@ module _ (query : CoreParts) (margins : MarginsParts) (lo hi : ℤ) (used : List
         -- one that is merged
         pub next-merge : (fuse && is_merged def behind behind_ns number t) ≡ true → State (suc place)
         next-merge test =
-            let merge = (both-true fuse (is_merged def behind behind_ns number t) test).1 in
+            let merge = (and_parts fuse (is_merged def behind behind_ns number t) test).1 in
             let isdef = is inputs defs used known place low def def_is in
             let y = fused_stream s.ys t in
             let same : SameStream y (definition_of s.ys def) =

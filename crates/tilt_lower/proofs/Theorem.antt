@@ -7,23 +7,22 @@ use Rattle.std.specs.Option.{unwrap_or}
 use Rattle.std.proofs.Math.Seq.{get_or-append_seam, drop-length}
 use Rattle.std.proofs.lemmas.Int.{ints, clamps}
 use Rattle.std.proofs.lemmas.List.{length-map, map-append, append-nil, get_or_past, get_or_default}
+use Rattle.std.proofs.lemmas.Bool.{or_right}
 use Rattle.tilt_bounds.proofs.Needs.{below_or_behind, need_at-definition}
 use Rattle.tilt_bounds.proofs.Steps.{length-needs}
 use Rattle.tilt_bounds.specs.Laws.{AgreeAsAsked}
 use Rattle.tilt_bounds.specs.Margins.{MarginsParts, need_at}
 use Rattle.tilt_bounds.specs.Stretch.{cut_down, stretch_of}
 use Rattle.tilt_bounds.specs.declared.loop_span.LoopSpan.{LoopSpan}
-use Rattle.tilt_code.proofs.Runs.{with_buffers-streams, run-is}
+use Rattle.tilt_code.proofs.Runs.{with_buffers-streams, run-is, last_or-pushed}
 use Rattle.tilt_code.specs.Body.{last_or}
 use Rattle.tilt_code.specs.Code.{LoopParts, CodeParts}
 use Rattle.tilt_code.specs.Meaning.{IsTimed, loop_of, with_loops, meaning_of}
 use Rattle.tilt_code.specs.Run.{buffers_of, run_of}
-use Rattle.tilt_fuse.proofs.Law.{or-second}
 use Rattle.tilt_fuse.proofs.Planned.{rest-loop}
 use Rattle.tilt_fuse.specs.FusedTree.{FusedTree, PlannedLoop}
 use Rattle.tilt_fuse.specs.Plan.{fused, is_merged, loops_from, plan_of, has_loop}
 use Rattle.tilt_fuse.specs.Trees.{IsKnown}
-use Rattle.tilt_lower.proofs.Blocks.{last_or-pushed}
 use Rattle.tilt_lower.proofs.Numbers.{loops_from-behind, buffer_of-next}
 use Rattle.tilt_lower.proofs.States.{AreLowered, State, state, with_loops-grow, length-with_loops}
 use Rattle.tilt_lower.proofs.Snapped.{snapshots-agree}
@@ -83,7 +82,7 @@ has_loop-last : (front : List PlannedLoop) (l : PlannedLoop) (k : ℕ) → l.def
 has_loop-last [] l k is =
     let test : (l.def == k) ≡ true = grind arith in
     rw test refl
-has_loop-last (m ∷ front) l k is = or-second (m.def == k) (has_loop (front ++ l ∷ []) k) (has_loop-last front l k is)
+has_loop-last (m ∷ front) l k is = or_right (m.def == k) (has_loop (front ++ l ∷ []) k) (has_loop-last front l k is)
 
 -- a definition without a loop has no buffer
 no_buffer : (inputs k : ℕ) (loops : List PlannedLoop) → has_loop loops k ≡ false → has_buffer inputs loops (inputs + k) ≡ false

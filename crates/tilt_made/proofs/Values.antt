@@ -1,5 +1,6 @@
 -- The values of snapshots that aren't null.
 use Rattle.std.proofs.Common.{◌≡◌, suc, ◌≤◌, ℤ, List, [], ◌∷◌, ◌++◌, Option, Some, None, length, map, refl, ap, arith}
+use Rattle.tilt_base.proofs.Lists.{length-numbers}
 use Rattle.tilt_stream.specs.Snap.{Snapshot}
 use Rattle.tilt_base.specs.Reduce.{numbers}
 use Rattle.tilt_made.specs.Summary.{values}
@@ -26,15 +27,10 @@ values_some list s value is = rw (cells_push list s, is) (push_some (map (λ (x 
 pub values_none : (list : List Snapshot) (s : Snapshot) → s.value ≡ None → values (list ++ s ∷ []) ≡ values list
 values_none list s is = rw (cells_push list s, is) (push_none (map (λ (x : Snapshot). x.value) list))
 
-numbers_few : (cells : List (Option ℤ)) → length (numbers cells) ≤ length cells
-numbers_few [] = omega arith
-numbers_few (None ∷ cells) = omega (arith, numbers_few cells)
-numbers_few (Some n ∷ cells) = omega (arith, numbers_few cells)
-
 same_length : (list : List Snapshot) → length (map (λ (x : Snapshot). x.value) list) ≡ length list
 same_length [] = refl
 same_length (x ∷ list) = ap suc (same_length list)
 
 -- no more values than snapshots
 pub values_few : (list : List Snapshot) → length (values list) ≤ length list
-values_few list = omega (arith, numbers_few (map (λ (x : Snapshot). x.value) list), same_length list)
+values_few list = omega (arith, length-numbers (map (λ (x : Snapshot). x.value) list), same_length list)

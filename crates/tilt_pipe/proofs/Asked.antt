@@ -2,12 +2,13 @@
 use Rattle.std.proofs.Common.{◌≡◌, ◌<◌, ◌≤◌, ℕ, zero, suc, ◌==◌, ℤ, ◌+ℤ◌, ◌≤ℤ◌, Bool, true, false, if◌then◌else◌, List, [], ◌∷◌, length, take, slice_get, Option, Some, None, refl, ap, ◌∙◌, subst, arith, Contains}
 use Rattle.std.proofs.lemmas.Int.{ints, clamps, by_lt_z}
 use Rattle.std.specs.Bool.{⊤}
+use Rattle.std.proofs.lemmas.Bool.{eq-eqb}
 use Rattle.tilt_base.specs.Grid.{IsGrid}
 use Rattle.tilt_code.specs.Code.{LoopParts}
 use Rattle.tilt_code.specs.Turn.{Fill}
 use Rattle.tilt_pipe.proofs.Begun.{begun-rises}
 use Rattle.tilt_pipe.proofs.Standing.{made-passed, made-stopped}
-use Rattle.tilt_pipe.proofs.Wanted.{turn_point-rises, same_number}
+use Rattle.tilt_pipe.proofs.Wanted.{turn_point-rises}
 use Rattle.tilt_pipe.specs.Made.{Stage, last_start, read_by_turn, asked, begun_below}
 use Rattle.tilt_pipe.specs.Positions.{made_by}
 use Rattle.tilt_pipe.specs.Reads.{body_reads, later, last_tick, turn_point}
@@ -46,7 +47,7 @@ pub last_tick-found : (buffer : ℕ) (point : ℤ) (reads : List Read) (r : Read
 last_tick-found buffer point [] r among is = absurd (omega (arith, among.1))
 last_tick-found buffer point (x ∷ reads) r (zero, within, at) is =
     let same : x ≡ r = at in
-    let test : (x.buffer == buffer) ≡ true = same_number x.buffer buffer (ap (λ (y : Read). y.buffer) same ∙ is) in
+    let test : (x.buffer == buffer) ≡ true = eq-eqb x.buffer buffer (ap (λ (y : Read). y.buffer) same ∙ is) in
     let far : IsAsFar (Some (point +ℤ r.last)) (Some (point +ℤ x.last)) =
     subst (λ (y : Read). IsAsFar (Some (point +ℤ y.last)) (Some (point +ℤ x.last))) same (omega (arith, ints)) in
     rw test (later-left (Some (point +ℤ r.last)) (Some (point +ℤ x.last)) (last_tick buffer point reads) far)

@@ -3,6 +3,7 @@ use Rattle.std.proofs.Common.{◌≡◌, ◌<◌, ℕ, zero, suc, neg_ℤ, ◌�
 use Rattle.std.proofs.lemmas.Option.{same_Some, none-some}
 use Rattle.std.specs.List.{AllByRecursion}
 use Rattle.std.specs.Option.{ForSome}
+use Rattle.tilt_base.proofs.Lists.{one-more}
 use Rattle.tilt_base.specs.declared.limits.TheConstants.{WIDE}
 use Rattle.tilt_code.proofs.Filling.{Fill-AreSnapshots}
 use Rattle.tilt_code.proofs.Runs.{run-Fill, loops-timed}
@@ -48,12 +49,6 @@ touches-at (x ∷ []) (suc place) s touch is = absurd (none-some s is)
 touches-at (x ∷ y ∷ xs) (suc zero) s touch is =
     λ end last. sym (same_Some x.end end last) ∙ touch.0 ∙ ap (λ (n : Snapshot). n.start) (same_Some y s is)
 touches-at (x ∷ y ∷ xs) (suc (suc place)) s touch is = touches-at (y ∷ xs) (suc place) s touch.1 is
-
--- one more of them
-one-more : (all : List Snapshot) (place : ℕ) (s : Snapshot) → slice_get all place ≡ Some s → take place all ++ s ∷ [] ≡ take (suc place) all
-one-more [] place s is = absurd (none-some s is)
-one-more (x ∷ xs) zero s is = ap (λ n. n ∷ []) (sym (same_Some x s is))
-one-more (x ∷ xs) (suc place) s is = ap (λ l. x ∷ l) (one-more xs place s is)
 
 -- there is one at the place
 pub placed : (all : List Snapshot) (place : ℕ) (s : Snapshot) → slice_get all place ≡ Some s → place < length all

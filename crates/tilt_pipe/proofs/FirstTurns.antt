@@ -5,6 +5,7 @@ use Rattle.std.proofs.lemmas.List.{take_at}
 use Rattle.std.proofs.lemmas.Option.{slice_get_within}
 use Rattle.std.specs.List.{AllByRecursion}
 use Rattle.tilt_base.proofs.GridPoints.{ceil-IsCeil}
+use Rattle.tilt_base.proofs.Lists.{all-append}
 use Rattle.tilt_base.specs.declared.limits.TheConstants.{WIDE}
 use Rattle.tilt_code.specs.Code.{Block, LoopParts}
 use Rattle.tilt_code.specs.Grammar.{IsLoop}
@@ -12,7 +13,7 @@ use Rattle.tilt_code.specs.Meaning.{IsTimed}
 use Rattle.tilt_code.specs.References.{IsCode}
 use Rattle.tilt_code.specs.Run.{buffers_of}
 use Rattle.tilt_code.specs.Turn.{turns}
-use Rattle.tilt_pipe.proofs.Nears.{all-both, loop-sound, ready-more, work-sound}
+use Rattle.tilt_pipe.proofs.Nears.{loop-sound, ready-more, work-sound}
 use Rattle.tilt_pipe.proofs.Placed.{works-filled}
 use Rattle.tilt_pipe.proofs.Standing.{none-made}
 use Rattle.tilt_pipe.proofs.Starts.{AreBelow, ReadEarlier, gathered-all, loops_of, states-length}
@@ -62,7 +63,7 @@ near-below buffers (r ∷ reads) h = (h.0.there, near-below buffers reads h.1)
 body-below : (buffers : ℕ) (body : Block) → AllByRecursion (ReadsNear buffers) body → AreBelow buffers (body_reads body)
 body-below buffers [] h = tt
 body-below buffers (i ∷ body) h =
-    all-both (λ (r : Read). r.buffer < buffers) (reads_of i) (body_reads body) (near-below buffers (reads_of i) h.0.near)
+    all-append (λ (r : Read). r.buffer < buffers) (reads_of i) (body_reads body) (near-below buffers (reads_of i) h.0.near)
     (body-below buffers body h.1)
 
 earlier-each : (buffer : ℕ) (loops : List LoopParts)

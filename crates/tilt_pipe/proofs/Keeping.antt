@@ -5,6 +5,7 @@ use Rattle.std.proofs.lemmas.Int.{ints}
 use Rattle.std.proofs.lemmas.List.{get_or-append-add, get_or-take, length-map}
 use Rattle.std.proofs.lemmas.Option.{same_Some, slice_get_within}
 use Rattle.std.specs.List.{AllByRecursion}
+use Rattle.tilt_base.proofs.Lists.{all-contains}
 use Rattle.tilt_base.specs.Grid.{ceil}
 use Rattle.tilt_code.specs.Body.{body_of}
 use Rattle.tilt_code.specs.Code.{Block, LoopParts}
@@ -25,7 +26,7 @@ use Rattle.tilt_pipe.proofs.Nears.{loops-there, reads-near, ready-more, work-sou
 use Rattle.tilt_pipe.proofs.OpenLists.{input-forgotten, open-at}
 use Rattle.tilt_pipe.proofs.RingsKept.{ring-of}
 use Rattle.tilt_pipe.proofs.Standing.{Fill-up, next-made}
-use Rattle.tilt_pipe.proofs.Telling.{all-contained, all-first, none_held, same-body, there}
+use Rattle.tilt_pipe.proofs.Telling.{all-first, none_held, same-body, there}
 use Rattle.tilt_pipe.proofs.Trimming.{ended-front, stage-behind}
 use Rattle.tilt_pipe.proofs.Wanted.{stage_at, wanted-within}
 use Rattle.tilt_pipe.proofs.Wanting.{stands-there}
@@ -135,7 +136,7 @@ keeps-body p place w code are trimmed is_open used =
     keeps-block p (turn_point w.loop (start_at p place)) w.loop.body
     (all-by_each (KeepsRead p (turn_point w.loop (start_at p place))) (body_reads w.loop.body)
     (λ r among. keeps-read p place w r code are trimmed is_open used among
-    (all-contained (IsNear (length p.inputs + place)) (body_reads w.loop.body) r near among).there))
+    (all-contains (IsNear (length p.inputs + place)) (body_reads w.loop.body) r near among).there))
 
 -- how many lists there are
 open-long : (works : List Work) (starts : List ℤ) → length works ≡ length starts → length (open_lists works starts) ≡ length works

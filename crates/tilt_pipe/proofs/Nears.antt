@@ -3,6 +3,8 @@ use Rattle.std.proofs.Common.{◌≡◌, ◌≤◌, ◌<◌, ◌+◌, ℕ, zero,
 use Rattle.std.proofs.lemmas.Int.{ints}
 use Rattle.std.proofs.lemmas.Option.{same_Some}
 use Rattle.std.specs.List.{AllByRecursion}
+use Rattle.tilt_base.proofs.Booleans.{or_step}
+use Rattle.tilt_base.proofs.Lists.{all-append}
 use Rattle.tilt_code.specs.Code.{Block, LoopParts}
 use Rattle.tilt_code.specs.Grammar.{IsInstr, IsLoop, stands_in_body}
 use Rattle.tilt_code.specs.References.{IsCode, refers_below, RefersBack, ReadsBefore}
@@ -142,10 +144,6 @@ near-either : (buffers here buffer : ℕ) (rest : Bool) → here < buffers → (
 near-either buffers here buffer true there more is = more refl
 near-either buffers here buffer false there more is = grind arith
 
-either-of : (a b c d : Bool) → b ≡ (c || d) → (a || b) ≡ ((a || c) || d)
-either-of true b c d is = refl
-either-of false b c d is = is
-
 -- there is a ring for each loop
 pub loops-there : (p : RingsParts) → AreRings p → length p.rings ≡ length p.code.loops
 loops-there p are = rings-length (works_in p) p.rings are.rings ∙ works-length p.code p.inputs
@@ -162,11 +160,7 @@ near-there buffers buffer (r ∷ reads) near is =
 -- the reads of some instructions, and of one more before them
 pub reads-of-both : (buffer : ℕ) (xs ys : List Read) → reads_buffer buffer (xs ++ ys) ≡ (reads_buffer buffer xs || reads_buffer buffer ys)
 reads-of-both buffer [] ys = refl
-reads-of-both buffer (r ∷ xs) ys = either-of (r.buffer == buffer) (reads_buffer buffer (xs ++ ys)) (reads_buffer buffer xs) (reads_buffer buffer ys) (reads-of-both buffer xs ys)
-
-pub all-both : {X : Type 0} (P : X → Type 0) (xs ys : List X) → AllByRecursion P xs → AllByRecursion P ys → AllByRecursion P (xs ++ ys)
-all-both P [] ys h k = k
-all-both P (x ∷ xs) ys h k = (h.0, all-both P xs ys h.1 k)
+reads-of-both buffer (r ∷ xs) ys = or_step (r.buffer == buffer) (reads_buffer buffer (xs ++ ys)) (reads_buffer buffer xs) (reads_buffer buffer ys) (reads-of-both buffer xs ys)
 
 -- the grid point of a loop's next turn
 pub turn-near : (p : RingsParts) (place : ℕ) (w : Work) → IsCode p.code → AreRings p → IsOpen p place w
@@ -182,7 +176,7 @@ turn-near p place w code are is_open =
 pub reads-near : (buffers : ℕ) (block : Block) → AllByRecursion (ReadsNear buffers) block → AllByRecursion (IsNear buffers) (body_reads block)
 reads-near buffers [] near = tt
 reads-near buffers (i ∷ block) near =
-    all-both (IsNear buffers) (reads_of i) (body_reads block) near.0.near (reads-near buffers block near.1)
+    all-append (IsNear buffers) (reads_of i) (body_reads block) near.0.near (reads-near buffers block near.1)
 
 pub all-of_one : {X : Type 0} (P : X → Type 0) (xs : List X) (x : X) → xs ≡ x ∷ [] → AllByRecursion P xs → P x
 all-of_one P xs x is all = (subst (AllByRecursion P) is all).0

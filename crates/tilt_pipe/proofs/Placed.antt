@@ -1,5 +1,5 @@
 -- Loops that stand, place by place, and how many snapshots each has made.
-use Rattle.std.proofs.Common.{◌≡◌, ◌≢◌, ◌<◌, ◌≤◌, ℕ, zero, suc, ℤ, List, [], ◌∷◌, length, slice_get, slice_set, Some, refl, ap, ◌∙◌, subst, arith, Contains}
+use Rattle.std.proofs.Common.{◌≡◌, ◌≢◌, ◌<◌, ◌≤◌, ℕ, zero, suc, ℤ, List, [], ◌∷◌, length, slice_get, slice_set, Some, refl, ap, ◌∙◌, subst, arith}
 use Rattle.std.proofs.lemmas.List.{length_push}
 use Rattle.tilt_pipe.proofs.Standing.{IsNextMade, end-made}
 use Rattle.tilt_pipe.proofs.Wanted.{stage_at}
@@ -156,9 +156,3 @@ works-filled code inputs timed =
     (λ place w is.
     let fills = work-fills code inputs place w timed is in
     record { whole = fills.0; grid = fills.1.grid })
-
--- what holds of all of a list holds of each
-pub all-contains : {A : Type 0} (P : A → Type 0) (xs : List A) (x : A) → AllByRecursion P xs → Contains xs x → P x
-all-contains P [] x all among = absurd (omega (arith, among.1))
-all-contains P (y ∷ ys) x all (zero, within, at) = subst P at all.0
-all-contains P (y ∷ ys) x all (suc k, within, at) = all-contains P ys x all.1 (k, omega arith, at)

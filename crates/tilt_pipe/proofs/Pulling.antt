@@ -5,6 +5,7 @@ use Rattle.std.proofs.lemmas.Bool.{false≢true}
 use Rattle.std.proofs.lemmas.Int.{ints, by_lt_z}
 use Rattle.std.proofs.lemmas.List.{length-map, length-take}
 use Rattle.std.proofs.lemmas.Option.{same_Some, slice_get_within, slice_get-get_or, slice_get_past}
+use Rattle.tilt_base.proofs.Lists.{all-contains}
 use Rattle.tilt_code.specs.Body.{last_or}
 use Rattle.tilt_code.specs.Code.{CodeParts, LoopParts}
 use Rattle.tilt_code.specs.References.{IsCode}
@@ -17,7 +18,7 @@ use Rattle.tilt_pipe.proofs.Begun.{begun-more, begun-within, made-front}
 use Rattle.tilt_pipe.proofs.Enough.{IsAllTold, enough-kept}
 use Rattle.tilt_pipe.proofs.Exact.{exact, asked-none, none-yet, star-enough, within-next, star-asks, last-less}
 use Rattle.tilt_pipe.proofs.Falling.{falling-last, falling-lower, falling-map, falling-pop, last_or-push}
-use Rattle.tilt_pipe.proofs.Placed.{all-contains, left-falls, made_in-at, made_in-turned, made_in-other, next-standing, rings-standing, standing-at, standing-length, standing-set, within-kept, works-filled}
+use Rattle.tilt_pipe.proofs.Placed.{left-falls, made_in-at, made_in-turned, made_in-other, next-standing, rings-standing, standing-at, standing-length, standing-set, within-kept, works-filled}
 use Rattle.tilt_pipe.proofs.Standing.{all-made, next-is}
 use Rattle.tilt_pipe.proofs.Wanted.{used-source}
 use Rattle.tilt_pipe.proofs.Works.{run-last, works-length}
@@ -376,10 +377,6 @@ one-is-some xs x one none =
     let long : length xs ≡ 1 = ap (λ (ys : List ℕ). length ys) one in
     let short : length xs ≡ 0 = ap (λ (ys : List ℕ). length ys) none in
     omega arith
-
-pub none-is-empty : (xs : List ℕ) → length xs ≡ 0 → xs ≡ []
-none-is-empty [] none = refl
-none-is-empty (x ∷ xs) none = absurd (omega arith)
 
 -- the last of the loops that are asked for may make its turn
 pub record MayBeMade (p : RingsParts) (place : ℕ) : Type 0 where

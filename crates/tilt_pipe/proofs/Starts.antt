@@ -3,6 +3,7 @@ use Rattle.std.proofs.Common.{◌≡◌, ◌<◌, ◌≤◌, ℕ, zero, suc, ◌
 use Rattle.std.proofs.lemmas.List.{append-nil, drop-set, drop_all, drop_more, get_or-map, length-map, map_push, map_more, take_more}
 use Rattle.std.specs.Bool.{⊤}
 use Rattle.std.specs.List.{AllByRecursion}
+use Rattle.tilt_base.proofs.Booleans.{or_step}
 use Rattle.tilt_code.specs.Code.{Block, LoopParts}
 use Rattle.tilt_code.specs.declared.instr.Instr.{Instr}
 use Rattle.tilt_pipe.specs.Chain.{readers_in, readers_from}
@@ -157,15 +158,11 @@ gathered-all buffer place (w ∷ works) h =
     ∙ ap (λ (rest : List (List Reader)). readers_from buffer (suc place) works ∷ rest)
     (gathered-all (suc buffer) (suc place) works h.1)
 
--- whether one of some readers is used, or one of others behind them
-either-more : (a b c d : Bool) → b ≡ (c || d) → (a || b) ≡ ((a || c) || d)
-either-more true b c d is = refl
-either-more false b c d is = is
-
+-- whether one of some readers is used, or one of others after them
 has_used-both : (used : List Bool) (xs ys : List Reader) → has_used used (xs ++ ys) ≡ (has_used used xs || has_used used ys)
 has_used-both used [] ys = refl
 has_used-both used (x ∷ xs) ys =
-    either-more (get_or used x.place false) (has_used used (xs ++ ys)) (has_used used xs) (has_used used ys) (has_used-both used xs ys)
+    or_step (get_or used x.place false) (has_used used (xs ++ ys)) (has_used used xs) (has_used used ys) (has_used-both used xs ys)
 
 -- of the readers in one loop: whether that loop is used and reads the buffer
 has_used-more : (used : List Bool) (place : ℕ) (first : ℤ) (readers : List Reader) (mark test found : Bool)

@@ -5,6 +5,7 @@ use Rattle.std.proofs.lemmas.List.{get_or-append-add, get_or_append_left}
 use Rattle.std.proofs.lemmas.Option.{get_or_from_slice_get}
 use Rattle.circular_buffer.proofs.Places.{slice_get-some}
 use Rattle.std.specs.List.{AllByRecursion}
+use Rattle.tilt_base.proofs.Lists.{all-contains}
 use Rattle.tilt_code.specs.Code.{Block}
 use Rattle.tilt_code.specs.References.{IsCode}
 use Rattle.tilt_code.specs.Run.{buffers_of}
@@ -141,17 +142,12 @@ among-body (x ∷ body) zero d r within among = among-first (reads_of x) (body_r
 among-body (x ∷ body) (suc i) d r within among =
     among-later (reads_of x) (body_reads body) r (among-body body i d r (omega arith) among)
 
-pub all-contained : {X : Type 0} (P : X → Type 0) (xs : List X) (x : X) → AllByRecursion P xs → Contains xs x → P x
-all-contained P [] x all among = absurd (omega (arith, among.1))
-all-contained P (y ∷ xs) x all (zero, within, at) = subst P at all.0
-all-contained P (y ∷ xs) x all (suc k, within, at) = all-contained P xs x all.1 (k, omega arith, at)
-
 -- a loop that has made less than an instruction of a body reads
 pub short-behind : (p : RingsParts) (place : ℕ) (w : Work) (body : Block) (i : ℕ) (d : Instr) (source : ℕ) → i < length body → body ≡ w.loop.body
     → AllByRecursion (IsNear (length p.inputs + place)) (reads_of (get_or body i d))
     → IsShort p (turn_point w.loop (start_at p place)) (reads_of (get_or body i d)) source → IsBehind p place w source
 short-behind p place w body i d source within is near short =
-    let there_ = (all-contained (IsNear (length p.inputs + place)) (reads_of (get_or body i d)) short.read near short.among).there in
+    let there_ = (all-contains (IsNear (length p.inputs + place)) (reads_of (get_or body i d)) short.read near short.among).there in
     let at = short.of in
     record {
       read = short.read;

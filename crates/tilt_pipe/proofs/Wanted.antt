@@ -4,6 +4,7 @@ use Rattle.std.proofs.lemmas.Int.{ints, clamps}
 use Rattle.std.proofs.lemmas.List.{drop-set-lt}
 use Rattle.std.proofs.lemmas.Option.{same_Some}
 use Rattle.std.specs.Bool.{⊤}
+use Rattle.std.proofs.lemmas.Bool.{eq-eqb}
 use Rattle.tilt_base.specs.Grid.{IsGrid, ceil}
 use Rattle.tilt_base.proofs.GridPoints.{ceil-IsCeil}
 use Rattle.tilt_code.specs.Code.{LoopParts, CodeParts}
@@ -54,17 +55,13 @@ earlier-rises None (Some b) c (Some d) h k = absurd h
 earlier-rises (Some a) (Some b) None (Some d) h k = absurd k
 earlier-rises (Some a) (Some b) (Some c) (Some d) h k = omega (arith, ints, clamps)
 
--- a buffer has its own number
-pub same_number : (a b : ℕ) → a ≡ b → (a == b) ≡ true
-same_number a b is = grind arith
-
 -- the first tick that some reads want isn't behind that of any of them
 pub first_tick-within : (buffer : ℕ) (point : ℤ) (reads : List Read) (r : Read) → Contains reads r → r.buffer ≡ buffer
     → IsNotLater (first_tick buffer point reads) (Some (point +ℤ r.first))
 first_tick-within buffer point [] r among is = absurd (omega (arith, among.1))
 first_tick-within buffer point (x ∷ reads) r (zero, within, at) is =
     let same : x ≡ r = at in
-    let test : (x.buffer == buffer) ≡ true = same_number x.buffer buffer (ap (λ (y : Read). y.buffer) same ∙ is) in
+    let test : (x.buffer == buffer) ≡ true = eq-eqb x.buffer buffer (ap (λ (y : Read). y.buffer) same ∙ is) in
     let low : IsNotLater (Some (point +ℤ x.first)) (Some (point +ℤ r.first)) =
     subst (λ (y : Read). IsNotLater (Some (point +ℤ x.first)) (Some (point +ℤ y.first))) same (omega (arith, ints)) in
     rw test (earlier-left (Some (point +ℤ x.first)) (first_tick buffer point reads) (point +ℤ r.first) low)
@@ -268,7 +265,7 @@ pub reads_buffer-found : (buffer : ℕ) (reads : List Read) (r : Read) → Conta
 reads_buffer-found buffer [] r among is = absurd (omega (arith, among.1))
 reads_buffer-found buffer (x ∷ reads) r (zero, within, at) is =
     let same : x ≡ r = at in
-    let test : (x.buffer == buffer) ≡ true = same_number x.buffer buffer (ap (λ (y : Read). y.buffer) same ∙ is) in
+    let test : (x.buffer == buffer) ≡ true = eq-eqb x.buffer buffer (ap (λ (y : Read). y.buffer) same ∙ is) in
     rw test refl
 reads_buffer-found buffer (x ∷ reads) r (suc k, within, at) is =
     either_of (x.buffer == buffer) (reads_buffer buffer reads) (reads_buffer-found buffer reads r (k, omega arith, at) is)

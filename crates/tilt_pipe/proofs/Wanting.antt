@@ -5,8 +5,10 @@ use Rattle.std.proofs.lemmas.List.{drop-map}
 use Rattle.circular_buffer.proofs.Places.{slice_get-drop}
 use Rattle.std.specs.Int.{int_min}
 use Rattle.std.specs.List.{AllByRecursion}
+use Rattle.tilt_base.proofs.Booleans.{by_test}
+use Rattle.tilt_base.proofs.Lists.{all-append}
 use Rattle.tilt_code.specs.References.{IsCode}
-use Rattle.tilt_pipe.proofs.Nears.{reads-near, all-both, work-sound}
+use Rattle.tilt_pipe.proofs.Nears.{reads-near, work-sound}
 use Rattle.tilt_pipe.proofs.RingsKept.{start-is}
 use Rattle.tilt_pipe.proofs.Standing.{end-made}
 use Rattle.tilt_pipe.proofs.Wanted.{stages_at-drop}
@@ -74,10 +76,6 @@ idle p buffer place w (r ∷ reads) is test =
     (ap (read_next p (record { place = place; first = r.first })) is
     ∙ ap (λ (b : Bool). if b then Some (point +ℤ r.first) else None) test)
     (idle p buffer place w reads is test)
-
-by_test : (b : Bool) (P : Type 0) → (b ≡ true → P) → (b ≡ false → P) → P
-by_test true P h k = h refl
-by_test false P h k = k refl
 
 own-readers : (p : RingsParts) (buffer place : ℕ) (w : Work) (reads : List Read) → slice_get (works_in p) place ≡ Some w
     → wanted_by p (readers_in buffer place reads)
@@ -207,7 +205,7 @@ readers-from-there p buffer place (w ∷ works) code are of =
     let here : place + 0 ≡ place = omega arith in
     let is : slice_get (works_in p) place ≡ Some w = subst (λ (n : ℕ). slice_get (works_in p) n ≡ Some w) here (of 0 w refl) in
     let near = reads-near (length p.inputs + place) w.loop.body (work-sound p place w code are is).near in
-    all-both (IsReader p) (readers_in buffer place (body_reads w.loop.body)) (readers_from buffer (suc place) works)
+    all-append (IsReader p) (readers_in buffer place (body_reads w.loop.body)) (readers_from buffer (suc place) works)
     (readers-in-there p buffer place (length p.inputs + place) w (body_reads w.loop.body) is near)
     (readers-from-there p buffer (suc place) works code are
     (λ k v at. let next : place + suc k ≡ suc place + k = omega arith in

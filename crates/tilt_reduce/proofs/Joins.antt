@@ -4,13 +4,9 @@ use Rattle.std.specs.Int.{int_min, int_max}
 use Rattle.std.specs.Option.{option_or}
 use Rattle.std.proofs.lemmas.Int.{ints, clamps}
 use Rattle.std.proofs.lemmas.List.Sums.{fold-append}
+use Rattle.tilt_base.proofs.Lists.{fold_join}
 use Rattle.tilt_base.specs.Reduce.{last_of, reduce}
 use Rattle.tilt_base.specs.declared.reducer.Reducer.TheVariants.{Last, Min, Max}
-
--- where f associates, what it is begun with may be taken in at the end
-pub fold_join : (f : ℤ → ℤ → ℤ) → ((x y z : ℤ) → f (f x y) z ≡ f x (f y z)) → (a n : ℤ) (ns : List ℤ) → fold f (f a n) ns ≡ f a (fold f n ns)
-fold_join f associates a n [] = refl
-fold_join f associates a n (m ∷ ns) = rw (associates a n m) (fold_join f associates a (f n m) ns)
 
 -- f of both numbers, or the one number that there is
 abbrev pub either_or : (ℤ → ℤ → ℤ) → Option ℤ → Option ℤ → Option ℤ

@@ -1,9 +1,12 @@
 -- What makes a stream that changes only at marks: rows do, and each operator, window, grid and restriction of such streams.
-use Rattle.std.proofs.Common.{◌≡◌, ℕ, zero, suc, ℤ, pos, negsuc, ◌+ℤ◌, ◌-ℤ◌, ◌≤ℤ◌, Bool, true, false, ◌&&◌, ◌||◌, List, [], ◌∷◌, Option, None, if◌then◌else◌, refl, sym, ap, ◌∙◌, arith, subst}
+use Rattle.std.proofs.Common.{◌≡◌, ℕ, zero, suc, ℤ, pos, ◌+ℤ◌, ◌-ℤ◌, Bool, true, false, ◌&&◌, ◌||◌, List, [], ◌∷◌, Option, None, if◌then◌else◌, refl, sym, ap, ◌∙◌, arith, subst}
 use Rattle.std.specs.Int.{int_gap}
 use Rattle.std.specs.Ordering.{int_eq}
 use Rattle.std.specs.Prelude.{unsigned_abs}
 use Rattle.std.proofs.lemmas.Int.{ints, by_lt_z}
+use Rattle.std.proofs.lemmas.Bool.{or_parts}
+use Rattle.tilt_base.proofs.Booleans.{none_of_three}
+use Rattle.tilt_base.proofs.Comparisons.{unsigned_abs_is}
 use Rattle.tilt_base.specs.Grid.{GridPoints, IsGrid, is_point, ceil}
 use Rattle.tilt_base.proofs.GridPoints.{ceil-point, ceil-between}
 use Rattle.tilt_base.specs.Reduce.{numbers, reduce}
@@ -18,16 +21,6 @@ use Rattle.tilt_stream.specs.Pointwise.{constant, shifted, lifted1, lifted2, bra
 use Rattle.tilt_stream.specs.Snap.{Snapshot}
 use Rattle.tilt_stream.specs.Stream.{Stream, stream_of, cell_at, mark_at, covers}
 use Rattle.tilt_stream.specs.Window.{met_behind, met, windowed}
-
--- none of two, or of three, is true
-none_of_two : (a b : Bool) → (a || b) ≡ false → (a ≡ false) × (b ≡ false)
-none_of_two true b h = cc
-none_of_two false b h = (refl, h)
-
-none_of_three : (a b c : Bool) → (a || b || c) ≡ false → (a ≡ false) × (b ≡ false) × (c ≡ false)
-none_of_three true b c h = cc
-none_of_three false true c h = cc
-none_of_three false false c h = (refl, refl, h)
 
 -- a snapshot covers both or none of two ticks of which the second is no beginning and no end
 covers-unmarked : (s : Snapshot) (tick : ℤ) → int_eq tick (s.start +ℤ pos 1) ≡ false → int_eq tick (s.end +ℤ pos 1) ≡ false → covers s tick ≡ covers s (tick -ℤ pos 1)
@@ -59,7 +52,7 @@ lifted1-changes op x h = record { unchanged = λ tick clear. ap (λ a. apply1 op
 pub lifted2-changes : (op : Op2) (x y : Stream) → ChangesOnlyAtMarks x → ChangesOnlyAtMarks y → ChangesOnlyAtMarks (lifted2 op x y)
 lifted2-changes op x y g h = record {
   unchanged = λ tick clear.
-      let none = none_of_two (x.mark tick) (y.mark tick) clear in
+      let none = or_parts (x.mark tick) (y.mark tick) clear in
       rw (g.unchanged tick none.0, h.unchanged tick none.1) refl;
 }
 
@@ -113,7 +106,7 @@ met-moved x h lo hi lo' hi' lo_is hi_is first last =
 pub windowed-changes : (reducer : Reducer) (from to : ℤ) (x : Stream) → ChangesOnlyAtMarks x → ChangesOnlyAtMarks (windowed reducer from to x)
 windowed-changes reducer from to x h = record {
   unchanged = λ tick clear.
-      let none = none_of_two (x.mark (tick +ℤ to)) (x.mark (tick +ℤ from +ℤ pos 1)) clear in
+      let none = or_parts (x.mark (tick +ℤ to)) (x.mark (tick +ℤ from +ℤ pos 1)) clear in
       ap (λ (cells : List (Option ℤ)). reduce reducer (numbers cells))
       (met-moved x h (tick -ℤ pos 1 +ℤ from) (tick -ℤ pos 1 +ℤ to) (tick +ℤ from) (tick +ℤ to) (omega (arith, ints)) (omega (arith, ints)) none.1 none.0);
 }
@@ -124,15 +117,10 @@ some_mark-none x h tick zero clear =
     let same : tick +ℤ pos 0 ≡ tick = omega (arith, ints) in
     ap (λ (t : ℤ). x.cell t) same
 some_mark-none x h tick (suc n) clear =
-    let none = none_of_two (x.mark (tick +ℤ pos 1)) (some_mark x (tick +ℤ pos 1) n) clear in
+    let none = or_parts (x.mark (tick +ℤ pos 1)) (some_mark x (tick +ℤ pos 1) n) clear in
     let at : tick +ℤ pos (suc n) ≡ tick +ℤ pos 1 +ℤ pos n = omega (arith, ints) in
     let back : tick +ℤ pos 1 -ℤ pos 1 ≡ tick = omega (arith, ints) in
     ap (λ (t : ℤ). x.cell t) at ∙ some_mark-none x h (tick +ℤ pos 1) n none.1 ∙ h.unchanged (tick +ℤ pos 1) none.0 ∙ ap (λ (t : ℤ). x.cell t) back
-
--- a positive number is its absolute value
-pub unsigned_abs_is : (n : ℤ) → pos 1 ≤ℤ n → pos (unsigned_abs n) ≡ n
-unsigned_abs_is (pos n) h = refl
-unsigned_abs_is (negsuc n) h = absurd (omega (arith, ints))
 
 module _ (grid : GridPoints) (x : Stream) (valid : IsGrid grid) (h : ChangesOnlyAtMarks x) (tick before : ℤ) (is : before +ℤ pos 1 ≡ tick) where
   on_grid_by : (point : Bool) → is_point grid before ≡ point → (point && some_mark x before (unsigned_abs grid.period)) ≡ false → x.cell (ceil grid tick) ≡ x.cell (ceil grid before)

@@ -3,6 +3,7 @@ use Rattle.std.proofs.Common.{◌≡◌, ℕ, zero, suc, ℤ, pos, ◌+ℤ◌, �
 use Rattle.std.specs.Int.{int_gap}
 use Rattle.std.specs.Prelude.{unsigned_abs}
 use Rattle.std.proofs.lemmas.Int.{ints, by_lt_z}
+use Rattle.tilt_base.proofs.Comparisons.{unsigned_abs_is}
 use Rattle.tilt_base.specs.Grid.{GridPoints, ceil}
 use Rattle.tilt_base.proofs.GridPoints.{ceil-low, ceil-high}
 use Rattle.tilt_base.specs.Reduce.{numbers, reduce}
@@ -10,7 +11,6 @@ use Rattle.tilt_base.specs.Scalar.{apply1}
 use Rattle.tilt_base.specs.declared.operator.Op1.{Op1}
 use Rattle.tilt_base.specs.declared.operator.Op2.{Op2}
 use Rattle.tilt_base.specs.declared.reducer.Reducer.{Reducer}
-use Rattle.tilt_stream.proofs.Constancy.{unsigned_abs_is}
 use Rattle.tilt_stream.proofs.Cut.{int_gap_is, int_gap_none}
 use Rattle.tilt_stream.specs.Agreement.{Agree}
 use Rattle.tilt_stream.specs.Domain.{some_mark, on_grid, restricted}

@@ -1,8 +1,9 @@
 -- Laws of the stream of a list in the order of time.
-use Rattle.std.proofs.Common.{◌≡◌, ℤ, pos, ◌+ℤ◌, ◌-ℤ◌, ◌<ℤ◌, ◌≤ℤ◌, Bool, true, false, ◌||◌, List, [], ◌∷◌, ◌++◌, None, refl, arith}
+use Rattle.std.proofs.Common.{◌≡◌, ℤ, pos, ◌+ℤ◌, ◌-ℤ◌, ◌<ℤ◌, ◌≤ℤ◌, true, false, List, [], ◌∷◌, ◌++◌, None, refl, arith}
 use Rattle.std.specs.Option.{ForSome}
 use Rattle.std.specs.Ordering.{int_eq}
 use Rattle.std.proofs.lemmas.Int.{ints}
+use Rattle.tilt_base.proofs.Booleans.{third_true, first_true, second_true}
 use Rattle.tilt_stream.specs.Snap.{Snapshot, InOrder, last_end}
 use Rattle.tilt_stream.specs.Stream.{cell_at, mark_at, covers}
 
@@ -50,23 +51,11 @@ mark_at-within from limit (f ∷ front) s back tick h low high =
     let end : int_eq tick (f.end +ℤ pos 1) ≡ false = grind (arith, ints) in
     rw (start, end) (mark_at-within f.end limit front s back tick h.3 low high)
 
-last_true : (a b c : Bool) → c ≡ true → (a || b || c) ≡ true
-last_true true b c h = refl
-last_true false true c h = refl
-last_true false false c h = h
-
-first_true : (a b c : Bool) → a ≡ true → (a || b || c) ≡ true
-first_true a b c h = rw h refl
-
-second_true : (a b c : Bool) → b ≡ true → (a || b || c) ≡ true
-second_true true b c h = refl
-second_true false b c h = rw h refl
-
 -- marks of the front and of what follows
 mark_at-append : (front back : List Snapshot) (tick : ℤ) → mark_at back tick ≡ true → mark_at (front ++ back) tick ≡ true
 mark_at-append [] back tick h = h
 mark_at-append (f ∷ front) back tick h =
-    last_true (int_eq tick (f.start +ℤ pos 1)) (int_eq tick (f.end +ℤ pos 1)) _ (mark_at-append front back tick h)
+    third_true (int_eq tick (f.start +ℤ pos 1)) (int_eq tick (f.end +ℤ pos 1)) _ (mark_at-append front back tick h)
 
 -- a mark stands at its first tick
 pub mark_at-start : (front : List Snapshot) (s : Snapshot) (back : List Snapshot) → mark_at (front ++ s ∷ back) (s.start +ℤ pos 1) ≡ true

@@ -5,6 +5,7 @@ pub mod Descending
 pub mod Law
 pub mod Operators
 pub mod Parsing
+pub mod Reducers
 pub mod Refused
 pub mod Shortest
 pub mod Sound

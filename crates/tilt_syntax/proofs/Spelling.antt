@@ -6,7 +6,7 @@ use Rattle.std.specs.Char.{is_ascii_digit}
 use Rattle.std.specs.Fmt.{decimal}
 use Rattle.std.specs.List.{AllByRecursion, list_all, prefix_len}
 use Rattle.std.specs.Str.Parse.{digits_value}
-use Rattle.std.proofs.lemmas.Bool.{and_parts, false≢true}
+use Rattle.std.proofs.lemmas.Bool.{and_parts, false≢true, not-true, or_parts}
 use Rattle.std.proofs.lemmas.Fmt.{decimal_nonempty, digits_decimal, digits_value-decimal}
 use Rattle.std.proofs.lemmas.Int.{ints}
 use Rattle.std.proofs.lemmas.List.{get_or_append_left, take_at, drop_at}
@@ -67,21 +67,13 @@ front_length p (b ∷ text) rest h s =
     rw parts.0 (omega (arith, more))
 
 -- what closes a token doesn't go on a word, nor digits, and is no `=`
-not_true : (b : Bool) → not b ≡ true → b ≡ false
-not_true true h = absurd (false≢true h)
-not_true false h = refl
-
-or_false : (a b : Bool) → (a || b) ≡ false → (a ≡ false) × (b ≡ false)
-or_false true b h = absurd (false≢true (sym h))
-or_false false b h = (refl, h)
-
 stops_word : (rest : List ℕ) → IsTrue (closes rest) → Stops goes_on_word rest
 stops_word [] h = tt
-stops_word (b ∷ rest) h = not_true (goes_on_word b) (and_parts (not (goes_on_word b)) (not (b == 61)) h).0
+stops_word (b ∷ rest) h = not-true (goes_on_word b) (and_parts (not (goes_on_word b)) (not (b == 61)) h).0
 
 stops_digits : (rest : List ℕ) → IsTrue (closes rest) → Stops is_ascii_digit rest
 stops_digits [] h = tt
-stops_digits (b ∷ rest) h = (or_false (begins_word b) (is_ascii_digit b) (stops_word (b ∷ rest) h)).1
+stops_digits (b ∷ rest) h = (or_parts (begins_word b) (is_ascii_digit b) (stops_word (b ∷ rest) h)).1
 
 -- what stands at the front begins the bytes
 front_begins : (k : Tok) (text rest : List ℕ) (n : ℕ) → length text ≡ n → IsFront k n (text ++ rest) → Begins k (text ++ rest) text rest

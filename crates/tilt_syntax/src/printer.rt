@@ -262,17 +262,7 @@ fn put_window(
 fn reducer_name(reducer: Reducer) -> &'static [u8]
     ensures { result.now ≡ key_text (reducer_key reducer) }
 {
-    match reducer {
-        Reducer::Sum => b"sum",
-        Reducer::Avg => b"avg",
-        Reducer::Min => b"min",
-        Reducer::Max => b"max",
-        Reducer::Count => b"count",
-        Reducer::First => b"first",
-        Reducer::Last => b"last",
-        Reducer::Any => b"any",
-        Reducer::All => b"all",
-    }
+    reducer.word()
 }
 
 // Puts `x`, or `x[t-3]`.

@@ -2,10 +2,10 @@
 use Rattle.std.proofs.Common.{◌≡◌, ℤ, ◌<ℤ◌, ◌≤ℤ◌, List, [], ◌∷◌, Option, Some, None, slice_get, sym, ◌∙◌, arith}
 use Rattle.std.proofs.lemmas.Int.{ints, clamps, by_lt_z}
 use Rattle.std.specs.Int.{int_max}
+use Rattle.std.proofs.lemmas.Option.{same_Some}
 use Rattle.tilt_stream.specs.Marks.{IsNextMark, NamesNextMark}
 use Rattle.tilt_stream.specs.Stream.{Stream}
 use Rattle.tilt_turn.proofs.MarkedTicks.{marked-first, marked-empty}
-use Rattle.tilt_turn.proofs.Moves.{some_is}
 use Rattle.tilt_turn.specs.Marked.{marked}
 
 -- the first mark that a window holds is the next one
@@ -15,7 +15,7 @@ pub held-next : (x : Stream) (first last mark : ℤ) (marks : List ℤ) → firs
 held-next x first last mark [] some is found = absurd (cc found)
 held-next x first last mark (m ∷ marks) some is found =
     let held = marked-first x first last m marks some (sym is) in
-    let same = some_is m mark found in
+    let same = same_Some m mark found in
     rw (← same) (held.next, held.within)
 
 empty-list : (marks : List ℤ) → slice_get marks 0 ≡ None → marks ≡ []

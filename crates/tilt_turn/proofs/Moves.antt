@@ -2,6 +2,7 @@
 use Rattle.std.proofs.Common.{◌≡◌, ℤ, pos, ◌-ℤ◌, ◌<ℤ◌, ◌≤ℤ◌, false, List, [], ◌∷◌, ◌++◌, map, drop, Option, Some, None, slice_get, refl, sym, ap, ◌∙◌, arith}
 use Rattle.std.proofs.lemmas.Int.{ints, by_lt_z}
 use Rattle.std.proofs.lemmas.List.{map-append, append-nil}
+use Rattle.std.proofs.lemmas.Option.{same_Some}
 use Rattle.tilt_stream.specs.Agreement.{ChangesOnlyAtMarks}
 use Rattle.tilt_stream.specs.Marks.{IsNextMark}
 use Rattle.tilt_stream.specs.Stream.{Stream}
@@ -28,9 +29,6 @@ rest-taken : (cell : Option ℤ) (cells rest left : List (Option ℤ)) (taken : 
 rest-taken cell cells rest left None is took = absurd (cc (sym is ∙ took.0))
 rest-taken cell cells rest left (Some first) is took = let e : first ∷ left ≡ cell ∷ rest = sym took ∙ is in cc
 
-pub some_is : (a b : ℤ) → Some a ≡ Some b → a ≡ b
-some_is a b is = cc
-
 -- one mark and the cell before it less
 pub dropped : (x : Stream) (f : Option ℤ → Option ℤ) (begin mark last : ℤ) (cells left : List (Option ℤ)) (marks others : List ℤ) (taken : Option (Option ℤ))
     → begin ≤ℤ last → IsMet x f begin last cells marks → slice_get marks 0 ≡ Some mark → IsFirstTaken cells taken left
@@ -38,7 +36,7 @@ pub dropped : (x : Stream) (f : Option ℤ → Option ℤ) (begin mark last : �
     → IsMet x f mark last left others
 dropped x f begin mark last cells left [] others taken some held first took rest = absurd (cc first)
 dropped x f begin mark last cells left (m ∷ marks) others taken some held first took rest =
-    let same : m ≡ mark = some_is m mark first in
+    let same : m ≡ mark = same_Some m mark first in
     let found = marked-first x begin last m marks some (sym held.marks_met) in
     let behind : met x (m -ℤ pos 1) last ≡ x.cell m ∷ map x.cell marks =
     met-marked x m last found.within ∙ ap (λ (ts : List ℤ). x.cell m ∷ map x.cell ts) (sym found.others) in

@@ -3,6 +3,8 @@ use Rattle.std.proofs.Common.{◌≡◌, ◌<◌, ◌+◌, ℕ, ℤ, pos, ◌+�
 use Rattle.std.proofs.lemmas.Int.{ints, clamps, by_lt_z}
 use Rattle.std.specs.Int.{int_min}
 use Rattle.std.proofs.lemmas.List.{take_more}
+use Rattle.std.proofs.lemmas.Bool.{or_right, or_left, or_from}
+use Rattle.tilt_base.proofs.Booleans.{or_step}
 use Rattle.tilt_base.specs.declared.reducer.Reducer.{Reducer}
 use Rattle.tilt_code.specs.Body.{leaf_of, leaf_marked, body_of}
 use Rattle.tilt_code.specs.Code.{Block, LoopParts}
@@ -23,16 +25,6 @@ names-same x y tick same (Some next) names = record {
   least = λ other above below. same other ∙ names.least other above below;
 }
 
-first_true : (a b : Bool) → a ≡ true → (a || b) ≡ true
-first_true a b h = rw h refl
-
-second_true : (a b : Bool) → b ≡ true → (a || b) ≡ true
-second_true true b h = refl
-second_true false b h = h
-
-neither : (a b : Bool) → a ≡ false → b ≡ false → (a || b) ≡ false
-neither a b g h = rw (g, h) refl
-
 -- of two streams that are joined, the next mark is the lesser of theirs
 pub joined-both : (x y : Stream) (tick a b : ℤ) → IsNextMark x tick a → IsNextMark y tick b → IsNextMark (joined x y) tick (int_min a b)
 joined-both x y tick a b f g =
@@ -43,17 +35,17 @@ joined-both x y tick a b f g =
     let is : int_min a b ≡ b = omega (arith, ints, clamps) in
     subst (IsNextMark (joined x y) tick) (sym is) (record {
       above = g.above;
-      marked = second_true (x.mark b) (y.mark b) g.marked;
+      marked = or_right (x.mark b) (y.mark b) g.marked;
       least = λ other above below.
-          neither (x.mark other) (y.mark other) (f.least other above (omega (arith, ints))) (g.least other above below);
+          or_from (x.mark other) (y.mark other) (f.least other above (omega (arith, ints))) (g.least other above below);
     }))
     (λ more.
     let is : int_min a b ≡ a = omega (arith, ints, clamps) in
     subst (IsNextMark (joined x y) tick) (sym is) (record {
       above = f.above;
-      marked = first_true (x.mark a) (y.mark a) f.marked;
+      marked = or_left (x.mark a) (y.mark a) f.marked;
       least = λ other above below.
-          neither (x.mark other) (y.mark other) (f.least other above below) (g.least other above (omega (arith, ints)));
+          or_from (x.mark other) (y.mark other) (f.least other above below) (g.least other above (omega (arith, ints)));
     }))
 
 -- a stream that is shifted has its next mark so many ticks earlier
@@ -84,10 +76,6 @@ window-next xs maps reducer buffer from to number y tick answer is names =
 or_false : (a : Bool) → (a || false) ≡ a
 or_false true = refl
 or_false false = refl
-
-or_step : (m a b c : Bool) → a ≡ (b || c) → (m || a) ≡ ((m || b) || c)
-or_step true a b c is = refl
-or_step false a b c is = is
 
 marked_push : (xs : List Stream) (maps : List Block) (tick : ℤ) (block : Block) (instr : Instr)
     → leaf_marked xs maps tick (block ++ instr ∷ []) ≡ (leaf_marked xs maps tick block || (leaf_of xs maps instr).mark tick)

@@ -1,6 +1,7 @@
 -- Streams and lists whose next marks above a tick are the same.
 use Rattle.std.proofs.Common.{◌≡◌, ℕ, zero, suc, ℤ, pos, ◌+ℤ◌, ◌-ℤ◌, ◌<ℤ◌, Bool, true, false, ◌||◌, List, Option, Some, if◌then◌else◌, refl, ap, ◌∙◌, sym, arith}
 use Rattle.std.proofs.lemmas.Int.{ints, by_lt_z}
+use Rattle.std.proofs.lemmas.Bool.{or_parts}
 use Rattle.tilt_base.specs.declared.reducer.Reducer.{Reducer}
 use Rattle.tilt_code.specs.Turn.{next_mark}
 use Rattle.tilt_stream.specs.Pointwise.{shifted}
@@ -33,14 +34,6 @@ next_mark-same x y tick (suc n) same =
     (λ later. none other later high)
     (λ first. let is : other ≡ tick +ℤ pos 1 = omega (arith, ints) in ap x.mark is ∙ clear))))
 
-first_false : (a b : Bool) → (a || b) ≡ false → a ≡ false
-first_false true b is = absurd (cc is)
-first_false false b is = refl
-
-second_false : (a b : Bool) → (a || b) ≡ false → b ≡ false
-second_false true b is = absurd (cc is)
-second_false false b is = is
-
 or_same : (a b c d : Bool) → a ≡ c → b ≡ d → (a || b) ≡ (c || d)
 or_same a b c d left right = rw (left, right) refl
 
@@ -49,8 +42,8 @@ pub either-same : (m n k o : ℤ → Bool) (tick : ℤ) → SameNext m k tick �
     → SameNext (λ at. m at || n at) (λ at. k at || o at) tick
 either-same m n k o tick f g = λ at above none.
     or_same (m at) (n at) (k at) (o at)
-    (f at above (λ other low high. first_false (m other) (n other) (none other low high)))
-    (g at above (λ other low high. second_false (m other) (n other) (none other low high)))
+    (f at above (λ other low high. (or_parts (m other) (n other) (none other low high)).0))
+    (g at above (λ other low high. (or_parts (m other) (n other) (none other low high)).1))
 
 -- a port reads so many ticks behind
 pub port-same : (a b : List Snapshot) (offset point : ℤ) → IsSameUpTo (point +ℤ offset) a b
@@ -68,8 +61,8 @@ window-same f reducer from to a b point some s = λ at above none.
     let clear : (other : ℤ) → (point +ℤ to) <ℤ other → other <ℤ (at +ℤ to) → mark_at a other ≡ false = λ other low high.
     let back : other -ℤ to +ℤ to ≡ other = omega (arith, ints) in
     ap (mark_at a) (sym back)
-    ∙ first_false (mark_at a (other -ℤ to +ℤ to)) (mark_at a (other -ℤ to +ℤ from +ℤ pos 1))
-    (none (other -ℤ to) (omega (arith, ints)) (omega (arith, ints))) in
+    ∙ (or_parts (mark_at a (other -ℤ to +ℤ to)) (mark_at a (other -ℤ to +ℤ from +ℤ pos 1))
+    (none (other -ℤ to) (omega (arith, ints)) (omega (arith, ints)))).0 in
     or_same (mark_at a (at +ℤ to)) (mark_at a (at +ℤ from +ℤ pos 1)) (mark_at b (at +ℤ to)) (mark_at b (at +ℤ from +ℤ pos 1))
     (s.next (at +ℤ to) (omega (arith, ints)) clear)
     (by_lt_z (point +ℤ to) (at +ℤ from +ℤ pos 1)

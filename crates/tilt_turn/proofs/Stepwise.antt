@@ -1,5 +1,5 @@
 -- Lists whose items are changed one after the other.
-use Rattle.std.proofs.Common.{◌≡◌, ◌<◌, ◌≤◌, ◌+◌, ℕ, zero, suc, List, [], ◌∷◌, ◌++◌, map, length, take, get_or, refl, sym, ap, subst, arith}
+use Rattle.std.proofs.Common.{◌≡◌, ◌<◌, ◌≤◌, ◌+◌, ℕ, zero, suc, List, [], ◌∷◌, ◌++◌, map, length, get_or, ap, subst, arith}
 use Rattle.std.proofs.Math.ListN.{set}
 use Rattle.std.specs.Bool.{⊤}
 use Rattle.std.specs.List.{AllByRecursion}
@@ -42,27 +42,10 @@ said-step f i [] d new within same = absurd (omega arith)
 said-step f zero (y ∷ ys) d new within same = ap (λ z. z ∷ map f ys) same
 said-step f (suc i) (y ∷ ys) d new within same = ap (λ zs. f y ∷ zs) (said-step f i ys d new (omega arith) same)
 
--- one of them
-pub all-at : {X : Type 0} (P : X → Type 0) (xs : List X) (i : ℕ) (x : X) → AllByRecursion P xs → i < length xs → x ≡ get_or xs i x → P x
-all-at P [] i x h within is = absurd (omega arith)
-all-at P (y ∷ ys) zero x h within is = subst P (sym is) h.0
-all-at P (y ∷ ys) (suc i) x h within is = all-at P ys i x h.1 (omega arith) is
-
 pub all-weaker : {X : Type 0} (P Q : X → Type 0) (xs : List X) → ((x : X) → P x → Q x) → AllByRecursion P xs → AllByRecursion Q xs
 all-weaker P Q [] f h = tt
 all-weaker P Q (x ∷ xs) f h = (f x h.0, all-weaker P Q xs f h.1)
 
-pub all-push : {X : Type 0} (P : X → Type 0) (xs : List X) (x : X) → AllByRecursion P xs → P x → AllByRecursion P (xs ++ x ∷ [])
-all-push P [] x h new = (new, tt)
-all-push P (y ∷ ys) x h new = (h.0, all-push P ys x h.1 new)
-
 pub all-pushed : {X : Type 0} (P : X → Type 0) (xs : List X) (x : X) → AllByRecursion P (xs ++ x ∷ []) → AllByRecursion P xs × P x
 all-pushed P [] x h = (tt, h.0)
 all-pushed P (y ∷ ys) x h = let rest = all-pushed P ys x h.1 in ((h.0, rest.0), rest.1)
-
--- a list that fills its room
-pub whole : {X : Type 0} (xs rest : List X) (n : ℕ) → length xs ≡ n → take n (xs ++ rest) ≡ xs
-whole [] rest zero is = refl
-whole [] rest (suc n) is = absurd (omega arith)
-whole (x ∷ xs) rest zero is = absurd (omega arith)
-whole (x ∷ xs) rest (suc n) is = ap (λ ys. x ∷ ys) (whole xs rest n (omega arith))

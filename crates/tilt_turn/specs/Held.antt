@@ -1,9 +1,9 @@
 -- What cursors, windows and leaves hold between the turns of a loop.
 use Rattle.std.specs.Prelude.{◌≡◌, ◌≤◌, ℕ, ℤ, pos, ◌+ℤ◌, ◌-ℤ◌, ◌≤ℤ◌, List, [], map, get_or, length, Option, ⊤}
 use Rattle.std.specs.List.{AllByRecursion}
+use Rattle.tilt_base.specs.Offset.{IsOffset}
 use Rattle.tilt_code.specs.Body.{mapped}
 use Rattle.tilt_code.specs.Code.{Block, LoopParts}
-use Rattle.tilt_code.specs.Grammar.{IsOffset}
 use Rattle.tilt_code.specs.declared.instr.Instr.{Instr}
 use Rattle.tilt_code.specs.declared.instr.Instr.TheVariants as instr
 use Rattle.tilt_stream.specs.Snap.{Snapshot, ended_below}

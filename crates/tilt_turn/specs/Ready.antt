@@ -3,9 +3,10 @@ use Rattle.std.specs.Prelude.{ℕ, suc, ◌<◌, ◌≤◌, ℤ, pos, neg_ℤ, �
 use Rattle.std.specs.List.{AllByRecursion}
 use Rattle.std.specs.Option.{ForSome}
 use Rattle.tilt_base.specs.Grid.{IsGrid}
+use Rattle.tilt_base.specs.Offset.{IsOffset}
 use Rattle.tilt_base.specs.declared.limits.TheConstants.{OFFSET, PERIOD, WIDE}
 use Rattle.tilt_code.specs.Code.{Block, LoopParts}
-use Rattle.tilt_code.specs.Grammar.{IsOffset, IsStretch}
+use Rattle.tilt_code.specs.Grammar.{IsStretch}
 use Rattle.tilt_code.specs.declared.instr.Instr.{Instr}
 use Rattle.tilt_code.specs.declared.instr.Instr.TheVariants.{Port, Win, One, Two, If}
 use Rattle.tilt_stream.specs.Snap.{Snapshot, ended_below}

@@ -2,6 +2,7 @@
 use Rattle.std.proofs.Common.{◌≡◌, ℕ, zero, suc, ◌+◌, ◌<◌, ℤ, Bool, true, false, not, ◌&&◌, if◌then◌else◌, List, [], ◌∷◌, ◌++◌, length, map, get_or, Option, Some, None, refl, arith}
 use Rattle.std.specs.Option.{option_or}
 use Rattle.std.proofs.lemmas.Int.{ints}
+use Rattle.std.proofs.lemmas.Bool.{and_parts}
 use Rattle.tilt_base.specs.Grid.{IsGrid}
 use Rattle.tilt_syntax.specs.Tree.{ExprTree, StatementTree, Input, Let, Emit, statement_tree}
 use Rattle.tilt_base.specs.declared.span.Span.{Span}
@@ -11,11 +12,6 @@ use Rattle.tilt_types.specs.Types.{type_of}
 use Rattle.tilt_types.specs.WellFormed.{declared_by, domain_fault, expr_fault, fault_of, first_fault, has_bounds_on, has_windows, is_declared, is_domain, is_fitting, is_period, is_stretch, knows_names, multiples, name_fault, period_of, statement_period}
 use Rattle.tilt_types.specs.declared.declared.Declared.{Declared}
 use Rattle.tilt_types.specs.declared.fault.CheckFault.{CheckFault}
-
--- two facts of two tests
-pub both_true : (a b : Bool) → (a && b) ≡ true → (a ≡ true) × (b ≡ true)
-both_true true b h = (refl, h)
-both_true false b h = cc
 
 -- no fault of two is none of each
 pub neither : (f g : Option CheckFault) → option_or f g ≡ None → (f ≡ None) × (g ≡ None)
@@ -65,11 +61,11 @@ stretch-IsStretch (Some span) h = (grind (arith, ints), grind (arith, ints), gri
 -- the parts of a domain
 pub domain-period : (over : Option Span) (every : Option ℤ) → is_domain over every ≡ true → is_period (period_of every) ≡ true
 domain-period over every h =
-    (both_true (is_period (period_of every)) (is_stretch over) (both_true (is_period (period_of every) && is_stretch over) (has_bounds_on over (period_of every)) h).0).0
+    (and_parts (is_period (period_of every)) (is_stretch over) (and_parts (is_period (period_of every) && is_stretch over) (has_bounds_on over (period_of every)) h).0).0
 
 pub domain-stretch : (over : Option Span) (every : Option ℤ) → is_domain over every ≡ true → is_stretch over ≡ true
 domain-stretch over every h =
-    (both_true (is_period (period_of every)) (is_stretch over) (both_true (is_period (period_of every) && is_stretch over) (has_bounds_on over (period_of every)) h).0).1
+    (and_parts (is_period (period_of every)) (is_stretch over) (and_parts (is_period (period_of every) && is_stretch over) (has_bounds_on over (period_of every)) h).0).1
 
 -- the period of a statement without a fault is one
 period-clear : (n : ℕ) (declared : List Declared) (s : StatementTree) → fault_of n declared s ≡ None → is_period (statement_period s) ≡ true

@@ -1,9 +1,11 @@
 -- No name of a well-formed query stands twice.
-use Rattle.std.proofs.Common.{◌≡◌, ℕ, zero, suc, ◌+◌, Bool, true, false, ◌||◌, if◌then◌else◌, ◌⊎◌, inl, inr, ⊎_elim, List, [], ◌∷◌, ◌++◌, Option, Some, None, is_some, Contains, refl, sym, ◌∙◌, arith, subst, append-nil}
+use Rattle.std.proofs.Common.{◌≡◌, ℕ, zero, suc, ◌+◌, true, false, ◌||◌, if◌then◌else◌, ◌⊎◌, inl, inr, ⊎_elim, List, [], ◌∷◌, ◌++◌, Option, Some, None, is_some, Contains, refl, sym, ◌∙◌, arith, subst, append-nil}
 use Rattle.std.specs.Option.{option_or}
 use Rattle.std.specs.Str.{bytes_eq}
 use Rattle.std.proofs.lemmas.List.Elements.{Contains-append_cases, Contains-append_left, Contains-append_right}
-use Rattle.std.proofs.lemmas.Slice.Eq.{bytes_eq-Decides}
+use Rattle.std.proofs.lemmas.Bool.{or_parts, or_right}
+use Rattle.tilt_base.proofs.Comparisons.{same_bytes}
+use Rattle.tilt_base.proofs.Lists.{Contains-cons_cases}
 use Rattle.tilt_lexer.specs.Word.{AreDistinct}
 use Rattle.tilt_syntax.specs.Tree.{StatementTree, Input, Let, Emit}
 use Rattle.tilt_types.proofs.Clear.{neither, name-clear, expr-clear}
@@ -24,36 +26,21 @@ is_declared-push (x ∷ xs) d name =
       | false ↦ is_declared-push xs d name
     ]
 
-pub bytes_eq-same : (x : List ℕ) → bytes_eq x x ≡ true
-bytes_eq-same x = (bytes_eq-Decides x x).1 refl
-
 -- one of these is declared by none of those
 pub record AreFresh (declared : List Declared) (names : List (List ℕ)) : Type 0 where
   pub none : (name : List ℕ) → Contains names name → is_declared declared name ≡ false
-
-neither_true : (a b : Bool) → (a || b) ≡ false → (a ≡ false) × (b ≡ false)
-neither_true true b h = cc
-neither_true false b h = (refl, h)
-
-or_true : (a b : Bool) → b ≡ true → (a || b) ≡ true
-or_true true b h = refl
-or_true false b h = h
 
 module _ (declared : List Declared) (x : List ℕ) (a : ValueType) (names : List (List ℕ)) (fresh : AreFresh (declared ++ record { name = x; value_type = a } ∷ []) names) where
   fresh-before : AreFresh declared names
   fresh-before = record {
     none = λ name among.
-        (neither_true (is_declared declared name) (bytes_eq x name) (sym (is_declared-push declared (record { name = x; value_type = a }) name) ∙ fresh.none name among)).0;
+        (or_parts (is_declared declared name) (bytes_eq x name) (sym (is_declared-push declared (record { name = x; value_type = a }) name) ∙ fresh.none name among)).0;
   }
 
   not_among : ¬ (Contains names x)
   not_among among =
-      let wrong : true ≡ false = sym (or_true (is_declared declared x) (bytes_eq x x) (bytes_eq-same x)) ∙ sym (is_declared-push declared (record { name = x; value_type = a }) x) ∙ fresh.none x among in
+      let wrong : true ≡ false = sym (or_right (is_declared declared x) (bytes_eq x x) (same_bytes x)) ∙ sym (is_declared-push declared (record { name = x; value_type = a }) x) ∙ fresh.none x among in
       cc
-
-Contains-cons_cases : (x : List ℕ) (xs : List (List ℕ)) (y : List ℕ) → Contains (x ∷ xs) y → (x ≡ y) ⊎ Contains xs y
-Contains-cons_cases x xs y (zero, lt, is) = inl is
-Contains-cons_cases x xs y (suc k, lt, is) = inr (k, omega (arith, lt), is)
 
 Contains-insert_cases : (xs ys : List (List ℕ)) (x y : List ℕ) → Contains (xs ++ x ∷ ys) y → (x ≡ y) ⊎ Contains (xs ++ ys) y
 Contains-insert_cases xs ys x y among =

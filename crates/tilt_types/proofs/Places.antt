@@ -7,11 +7,13 @@ use Rattle.std.proofs.lemmas.Int.{ints}
 use Rattle.std.proofs.lemmas.List.Elements.{All-contains_itself, recursion_from_All}
 use Rattle.std.proofs.lemmas.Slice.Eq.{bytes_eq-Decides}
 use Rattle.std.specs.Prelude.{Contains, ℤ}
+use Rattle.std.proofs.lemmas.Bool.{and_parts}
+use Rattle.tilt_base.proofs.Comparisons.{same_bytes}
 use Rattle.tilt_base.specs.Expression.{Leaf, One, Two, If}
 use Rattle.tilt_syntax.specs.Tree.{Num, Truth, Read, Reduce, ExprTree, StatementTree, Input, Let, Emit}
 use Rattle.tilt_base.specs.declared.span.Span.{Span}
-use Rattle.tilt_types.proofs.Clear.{IsClear, both_true, neither, expr-clear, domain-clear, domain-period, domain-stretch, multiples-IsGrid, stretch-IsStretch}
-use Rattle.tilt_types.proofs.Distinct.{bytes_eq-same, is_declared-push}
+use Rattle.tilt_types.proofs.Clear.{IsClear, neither, expr-clear, domain-clear, domain-period, domain-stretch, multiples-IsGrid, stretch-IsStretch}
+use Rattle.tilt_types.proofs.Distinct.{is_declared-push}
 use Rattle.tilt_types.proofs.Texts.{IsOfText}
 use Rattle.tilt_types.specs.Checked.{definition, definitions, input_names, let_names, numbered, place_of, source_names}
 use Rattle.tilt_core.specs.Core.{AreDefinitions, IsDefinition, ReadsBelow}
@@ -44,7 +46,7 @@ place_of-front xs ys = by xs (recursion_from_All (Contains xs) xs (All-contains_
 
 -- a name behind others has at most the place that it stands at
 place_of-behind : (front back : List (List ℕ)) (x : List ℕ) → place_of (front ++ x ∷ back) x ≤ length front
-place_of-behind [] back x = rw (bytes_eq-same x) (omega arith)
+place_of-behind [] back x = rw (same_bytes x) (omega arith)
 place_of-behind (y ∷ front) back x =
     elim (bytes_eq y x) as (λ same. (if same then zero else suc (place_of (front ++ x ∷ back) x)) ≤ suc (length front)) [
       | true ↦ omega arith
@@ -86,14 +88,14 @@ numbered-reads names declared bound below (Leaf (Reduce r x from to)) known wind
     window_open from to h = grind (arith, ints)
 numbered-reads names declared bound below (One op a) known windows = numbered-reads names declared bound below a known windows
 numbered-reads names declared bound below (Two op a b) known windows =
-    let k = both_true (knows_names declared a) (knows_names declared b) known in
-    let w = both_true (has_windows a) (has_windows b) windows in
+    let k = and_parts (knows_names declared a) (knows_names declared b) known in
+    let w = and_parts (has_windows a) (has_windows b) windows in
     (numbered-reads names declared bound below a k.0 w.0, numbered-reads names declared bound below b k.1 w.1)
 numbered-reads names declared bound below (If c a b) known windows =
-    let k = both_true (knows_names declared c && knows_names declared a) (knows_names declared b) known in
-    let w = both_true (has_windows c && has_windows a) (has_windows b) windows in
-    let k' = both_true (knows_names declared c) (knows_names declared a) k.0 in
-    let w' = both_true (has_windows c) (has_windows a) w.0 in
+    let k = and_parts (knows_names declared c && knows_names declared a) (knows_names declared b) known in
+    let w = and_parts (has_windows c && has_windows a) (has_windows b) windows in
+    let k' = and_parts (knows_names declared c) (knows_names declared a) k.0 in
+    let w' = and_parts (has_windows c) (has_windows a) w.0 in
     (numbered-reads names declared bound below c k'.0 w'.0, numbered-reads names declared bound below a k'.1 w'.1, numbered-reads names declared bound below b k.1 w.1)
 
 numbered-nodes : (names : List (List ℕ)) (e : ExprTree) → nodes (numbered names e) ≡ nodes e

@@ -1,8 +1,8 @@
 -- Laws of two stacks.
 use Rattle.std.proofs.Common.{◌≡◌, ◌<◌, ◌≤◌, ℤ, List, [], ◌∷◌, ◌++◌, Option, length, get_or, arith}
+use Rattle.tilt_base.proofs.Lists.{numbers-append, length-numbers}
 use Rattle.tilt_base.specs.Reduce.{numbers}
 use Rattle.tilt_window.specs.Stacked.{AreStatesFromEach}
-use Rattle.tilt_window.proofs.Numbers.{numbers-append, length-numbers}
 
 -- the first state is that of all the cells
 pub first_state : {S : Type 0} (Holds : S → List ℤ → Type 0) (states : List S) (state : S) (cells : List (Option ℤ)) →

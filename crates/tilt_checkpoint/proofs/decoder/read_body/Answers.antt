@@ -1,10 +1,10 @@
 use Rattle.std.proofs.Common.{◌≡◌, ◌∙◌, sym, ap, subst, Bool, true, if◌then◌else◌, None, Option, ℤ, FitsSigned, rules}
 use Rattle.std.proofs.lemmas.Int.{to_z-of_z}
 use Rattle.std.specs.Int.{w64}
+use Rattle.std.proofs.lemmas.Bool.{and_from}
 use Rattle.tilt_checkpoint.specs.Checkpoint.{BodyParts}
 use Rattle.tilt_checkpoint.specs.Decided.{decided, first_kept}
 use Rattle.tilt_checkpoint.specs.Reading.{◌>>=◌, Gives, behind_moment, body_at, is_cut, is_open, rest_at}
-use Rattle.tilt_checkpoint.proofs.Rows.{both_true}
 use Rattle.tilt_checkpoint.proofs.decoder.read_body.Goals as goal
 
 pub returns-then-is_open : goal.returns-then-is_open
@@ -24,7 +24,7 @@ returns-then-is_open c =
     let rest = rest_at c.args.inputs (first_kept frame c.in-Some.cut) c.in-Some.cut start c.moment.new.self in
     let read : body_at frame c.args.inputs c.args.reader ≡ rest =
     ap (λ o. o >>= behind_moment frame c.args.inputs) c.in-Some.ensures
-    ∙ ap (λ (t : Bool). if t then rest else None) (both_true (is_cut c.in-Some.cut) (is_open frame (decided frame c.in-Some.cut) start) test_cut test_open) in
+    ∙ ap (λ (t : Bool). if t then rest else None) (and_from (is_cut c.in-Some.cut) (is_open frame (decided frame c.in-Some.cut) start) test_cut test_open) in
     let kept = first ∙ c.first_kept.ensures ∙ ap (first_kept frame) cut in
     subst (λ (o : Option BodyParts). Gives o (λ body. body) c.read_rest.result)
     (sym (read ∙ sym (λ i. rest_at c.args.inputs (kept i) (cut i) start c.moment.new.self))) c.read_rest.ensures

@@ -1,11 +1,10 @@
 use Rattle.std.proofs.Common.{◌≡◌, ◌∙◌, sym, ap, List, ℕ, length, Result, Ok, Err}
 use Rattle.std.specs.Prelude.{MatchResult}
-use Rattle.std.proofs.lemmas.Option.{none-some}
+use Rattle.std.proofs.lemmas.Option.{none-some, some_pair_parts}
 use Rattle.std.proofs.lemmas.Result.{IfOk-weaker}
 use Rattle.tilt_syntax.specs.Printing.{query_text}
 use Rattle.tilt_checkpoint.specs.Reading.{query_at}
 use Rattle.tilt_checkpoint.proofs.Queries.{lines-spelled, query-again}
-use Rattle.tilt_checkpoint.proofs.Words.{pair_is}
 use Rattle.tilt_checkpoint.proofs.query.read_query.Goals as goal
 
 and_more : {A E : Type 0} (P : A → Type 0) (Q : E → Type 0) (X : Type 0) (r : Result A E) → MatchResult r P Q → X
@@ -23,7 +22,7 @@ pub returns-in-Some-clause-only : goal.returns-in-Some-clause-only
 returns-in-Some-clause-only c =
     λ query more is e.
     let same = sym c.in-Some.ensures ∙ ap query_at e ∙ query-again query more is.parsed in
-    let p = pair_is (c.in-Some.count, c.in-Some.text.now) (length query, query_text query) c.query_lines.new.self more same in
+    let p = some_pair_parts (c.in-Some.count, c.in-Some.text.now) (length query, query_text query) c.query_lines.new.self more same in
     let counted : length query ≡ c.in-Some.count = sym (ap (λ (q : ℕ × List ℕ). q.0) p.0) in
     let text : c.in-Some.text.now ≡ query_text query = ap (λ (q : ℕ × List ℕ). q.1) p.0 in
     and_more _ _ _ c.asked_of.result (c.asked_of.ensures.only query is counted text) p.1

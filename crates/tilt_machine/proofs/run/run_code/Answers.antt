@@ -1,9 +1,9 @@
 use Rattle.std.proofs.Common.{◌∙◌, [], ◌∷◌, ◌+◌, ◌++◌, append_assoc, sym, ap, length, drop, List}
 use Rattle.std.proofs.lemmas.List.{drop_all}
+use Rattle.tilt_code.proofs.Runs.{last_or-pushed}
 use Rattle.tilt_code.specs.Body.{last_or}
 use Rattle.tilt_code.specs.Code.{LoopParts}
 use Rattle.tilt_code.specs.Run.{with_buffers}
-use Rattle.tilt_machine.proofs.Buffers.{last_or-pushed}
 use Rattle.tilt_machine.proofs.TurnSteps.{drop-first}
 use Rattle.tilt_stream.specs.Snap.{Snapshot}
 use Rattle.tilt_turn.proofs.Readies.{loop-ready}

@@ -1,6 +1,7 @@
 use Rattle.std.proofs.Common.{◌∙◌, sym, refl}
+use Rattle.std.proofs.lemmas.List.{nil_from_length}
 use Rattle.tilt_code.specs.References.{IsCode}
-use Rattle.tilt_pipe.proofs.Pulling.{TellsOpen, none-is-empty, one-is-some, last-within, pull-ends, pull-first, pull-gives, pull-none}
+use Rattle.tilt_pipe.proofs.Pulling.{TellsOpen, one-is-some, last-within, pull-ends, pull-first, pull-gives, pull-none}
 use Rattle.tilt_pipe.specs.Pulled.{given_in}
 use Rattle.tilt_pipe.proofs.pipe.pull.Goals as goal
 
@@ -66,11 +67,11 @@ loop-place-preserved c =
     }
 
 pub returns-clause-given : goal.returns-clause-given
-returns-clause-given c = c.loop-place.invariant.made (none-is-empty c.loop-place.asked.items (sym c.loop-place.asked.ok.0 ∙ c.in_default.ensures.cases.0))
+returns-clause-given c = c.loop-place.invariant.made (nil_from_length c.loop-place.asked.items (sym c.loop-place.asked.ok.0 ∙ c.in_default.ensures.cases.0))
 
 pub returns-clause-after : goal.returns-clause-after
 returns-clause-after c =
-    let none = none-is-empty c.loop-place.asked.items (sym c.loop-place.asked.ok.0 ∙ c.in_default.ensures.cases.0) in
+    let none = nil_from_length c.loop-place.asked.items (sym c.loop-place.asked.ok.0 ∙ c.in_default.ensures.cases.0) in
     let i = c.loop-place.invariant in
     let before = c.args.chain.now.rings in
     let gives = pull-gives (given_in before) c.loop-place.chain.rings before c.loop-place.made c.loops.ensures.code i.code i.inputs
@@ -79,7 +80,7 @@ returns-clause-after c =
 
 pub returns-clause-exact : goal.returns-clause-exact
 returns-clause-exact c =
-    let none = none-is-empty c.loop-place.asked.items (sym c.loop-place.asked.ok.0 ∙ c.in_default.ensures.cases.0) in
+    let none = nil_from_length c.loop-place.asked.items (sym c.loop-place.asked.ok.0 ∙ c.in_default.ensures.cases.0) in
     let i = c.loop-place.invariant in
     let given = given_in c.args.chain.now.rings in
     let code : IsCode c.loop-place.chain.rings.code = rw i.code c.loops.ensures.code in

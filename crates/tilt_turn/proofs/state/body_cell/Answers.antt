@@ -1,5 +1,6 @@
 use Rattle.std.proofs.Common.{◌∙◌, ◌<◌, ◌≤◌, ◌+◌, sym, ap, ℤ, pos, [], ◌∷◌, ◌++◌, map, drop, length, get_or, Option, None, arith}
 use Rattle.std.proofs.lemmas.List.{drop_more, drop_all}
+use Rattle.tilt_base.proofs.Lists.{all-at}
 use Rattle.tilt_code.specs.Body.{last_or, leaf_of, with_registers}
 use Rattle.tilt_code.specs.Code.{LoopParts}
 use Rattle.tilt_code.specs.declared.instr.Instr.{Instr}
@@ -7,7 +8,6 @@ use Rattle.tilt_code.specs.declared.instr.Instr.TheVariants.{Const}
 use Rattle.tilt_stream.specs.Stream.{Stream, stream_of}
 use Rattle.tilt_turn.proofs.Origins.{leaf-stream, same-length}
 use Rattle.tilt_turn.proofs.Registers.{registers-step, names-step}
-use Rattle.tilt_turn.proofs.Stepwise.{all-at}
 use Rattle.tilt_turn.specs.Held.{IsLeafAt, StandsAt}
 use Rattle.tilt_turn.proofs.state.body_cell.Goals as goal
 

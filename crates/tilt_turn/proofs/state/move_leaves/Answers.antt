@@ -2,9 +2,10 @@ use Rattle.std.proofs.Common.{◌∙◌, ◌<◌, ◌≤◌, sym, subst, map, le
 use Rattle.std.proofs.lemmas.Int.{to_z-of_z}
 use Rattle.std.proofs.lemmas.List.{length-map}
 use Rattle.std.specs.List.{AllByRecursion}
+use Rattle.tilt_base.proofs.Lists.{all-at}
 use Rattle.tilt_code.specs.Code.{Block}
 use Rattle.tilt_turn.proofs.Numbered.{read-map}
-use Rattle.tilt_turn.proofs.Stepwise.{all-at, changed-at, changed-step, changed-all, said-step}
+use Rattle.tilt_turn.proofs.Stepwise.{changed-at, changed-step, changed-all, said-step}
 use Rattle.tilt_turn.specs.Held.{origin}
 use Rattle.tilt_turn.specs.Ready.{IsKept}
 use Rattle.tilt_turn.specs.declared.leaf.Leaf.{Leaf}

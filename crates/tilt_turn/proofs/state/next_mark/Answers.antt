@@ -1,5 +1,6 @@
 use Rattle.std.proofs.Common.{◌≤◌, ◌<◌, map, take, length, get_or, subst, arith}
 use Rattle.std.proofs.lemmas.List.{length-map, take_all}
+use Rattle.tilt_base.proofs.Lists.{all-at}
 use Rattle.tilt_code.specs.Body.{body_of, leaf_of}
 use Rattle.tilt_code.specs.Code.{Block}
 use Rattle.tilt_code.specs.declared.instr.Instr.TheVariants.{Null}
@@ -8,7 +9,6 @@ use Rattle.tilt_stream.specs.Stream.{stream_of}
 use Rattle.tilt_turn.proofs.NextMarks.{body-next}
 use Rattle.tilt_turn.proofs.Numbered.{read-map}
 use Rattle.tilt_turn.proofs.Origins.{body-only}
-use Rattle.tilt_turn.proofs.Stepwise.{all-at}
 use Rattle.tilt_turn.specs.Held.{IsLeafAt, StandsAt, origin}
 use Rattle.tilt_turn.proofs.state.next_mark.Goals as goal
 

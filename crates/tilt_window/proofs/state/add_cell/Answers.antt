@@ -2,8 +2,8 @@ use Rattle.std.proofs.Common.{◌<◌, ℤ, List, [], ◌∷◌, ◌++◌, Optio
 use Rattle.std.specs.Int.{w64}
 use Rattle.std.proofs.lemmas.Int.{to_z-of_z}
 use Rattle.std.proofs.lemmas.List.{append-nil}
+use Rattle.tilt_base.proofs.Lists.{numbers-append, length-numbers}
 use Rattle.tilt_base.specs.Reduce.{numbers}
-use Rattle.tilt_window.proofs.Numbers.{numbers-append, length-numbers}
 use Rattle.tilt_window.proofs.state.add_cell.Goals as goal
 
 few_numbers : (cells : List (Option ℤ)) → length cells < 9223372036854775807 → length (numbers cells) < 9223372036854775807

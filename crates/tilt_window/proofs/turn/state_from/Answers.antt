@@ -1,6 +1,6 @@
 use Rattle.std.proofs.Common.{◌<◌, ℤ, List, [], ◌∷◌, ◌++◌, Option, length, subst, sym, arith, rules}
+use Rattle.tilt_base.proofs.Lists.{numbers-append}
 use Rattle.tilt_base.specs.Reduce.{numbers}
-use Rattle.tilt_window.proofs.Numbers.{numbers-append}
 use Rattle.tilt_window.proofs.Stacked.{first_state, few_joined}
 use Rattle.tilt_window.proofs.turn.state_from.Goals as goal
 

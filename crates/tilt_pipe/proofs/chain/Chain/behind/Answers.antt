@@ -3,9 +3,10 @@ use Rattle.std.proofs.Common.{◌≡◌, ◌<◌, ◌∙◌, ◌+◌, ℕ, ℤ, 
 use Rattle.std.proofs.lemmas.Int.{to_z-of_z}
 use Rattle.std.proofs.lemmas.List.{drop_all, drop_more}
 use Rattle.std.specs.List.{AllByRecursion}
+use Rattle.tilt_base.proofs.Lists.{all-append}
 use Rattle.tilt_code.specs.Code.{Block}
 use Rattle.tilt_code.specs.declared.instr.Instr.TheVariants as instr
-use Rattle.tilt_pipe.proofs.Nears.{all-both, turn-near}
+use Rattle.tilt_pipe.proofs.Nears.{turn-near}
 use Rattle.tilt_pipe.proofs.RingsKept.{placed}
 use Rattle.tilt_pipe.proofs.Telling.{short-behind}
 use Rattle.tilt_pipe.proofs.Wanting.{all-get}
@@ -48,7 +49,7 @@ step : (p : RingsParts) (point : ℤ) (body : Block) (i : ℕ) → i < length bo
 step p point body i within so_far told rest =
     let here = get_or body i (instr.Const (pos 0)) in
     so_far (subst (λ (block : Block). AllByRecursion (IsTold p point) (body_reads block)) (sym (drop_more body i (instr.Const (pos 0)) within))
-    (all-both (IsTold p point) (reads_of here) (body_reads (drop (i + 1) body)) told rest))
+    (all-append (IsTold p point) (reads_of here) (body_reads (drop (i + 1) body)) told rest))
 
 pub returns-in-Some-clause-behind : goal.returns-in-Some-clause-behind
 returns-in-Some-clause-behind c = λ w open_.

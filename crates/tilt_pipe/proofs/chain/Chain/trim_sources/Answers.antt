@@ -1,6 +1,7 @@
 -- One buffer after the other is trimmed.
-use Rattle.std.proofs.Common.{◌≡◌, ◌<◌, ◌∙◌, ◌+◌, ◌||◌, Bool, ℕ, pos, true, false, Some, List, [], drop, get_or, length, slice_get, refl, sym, ap, subst, arith}
+use Rattle.std.proofs.Common.{◌≡◌, ◌<◌, ◌∙◌, ◌+◌, ◌||◌, Bool, ℕ, pos, true, false, Some, List, [], drop, get_or, length, slice_get, sym, ap, subst, arith}
 use Rattle.std.proofs.lemmas.List.{drop_all, drop_more}
+use Rattle.tilt_base.proofs.Booleans.{by_test}
 use Rattle.tilt_code.specs.Code.{Block}
 use Rattle.tilt_code.specs.declared.instr.Instr.{Instr}
 use Rattle.tilt_code.specs.declared.instr.Instr.TheVariants as instr
@@ -24,10 +25,6 @@ bounds-body-number c =
     let now = ap length (c.body.ensures.body it.work of) in
     let before = c.loop-number-test.true in
     omega arith
-
-by_test : (b : Bool) (P : Type 0) → (b ≡ true → P) → (b ≡ false → P) → P
-by_test true P h k = h refl
-by_test false P h k = k refl
 
 -- what was trimmed stays so, and what the instruction reads is
 one-more : (p q : RingsParts) (body : Block) (n k : ℕ) (d : Instr) → StandAlike p q → n < length body

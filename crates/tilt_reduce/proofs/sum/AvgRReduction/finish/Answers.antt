@@ -6,7 +6,7 @@ use Rattle.std.proofs.lemmas.Result.{Ok-from_Ok_iff}
 use Rattle.tilt_base.specs.Reduce.{total}
 use Rattle.tilt_base.specs.declared.reducer.Reducer.TheVariants.{Avg}
 use Rattle.tilt_reduce.proofs.Reduced.{reduce_on_some}
-use Rattle.tilt_reduce.proofs.Totals.{average_within}
+use Rattle.tilt_base.proofs.Totals.{average_within}
 use Rattle.tilt_reduce.proofs.sum.AvgRReduction.finish.Goals as goal
 
 pub returns : goal.returns

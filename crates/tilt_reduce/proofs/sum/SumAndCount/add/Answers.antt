@@ -4,7 +4,7 @@ use Rattle.std.proofs.lemmas.Int.{to_z-of_z}
 use Rattle.std.proofs.lemmas.List.{length_push}
 use Rattle.std.proofs.lemmas.List.Elements.{All-push}
 use Rattle.tilt_base.specs.Reduce.{total}
-use Rattle.tilt_reduce.proofs.Totals.{total_push, push_fits}
+use Rattle.tilt_base.proofs.Totals.{total_push, push_fits}
 use Rattle.tilt_reduce.proofs.sum.SumAndCount.add.Goals as goal
 
 -- the sum that the code takes in 128 bits

@@ -4,7 +4,7 @@ use Rattle.std.proofs.lemmas.Int.{to_z-of_z}
 use Rattle.std.proofs.lemmas.List.{length-append}
 use Rattle.std.proofs.lemmas.List.Elements.{All-append}
 use Rattle.tilt_base.specs.Reduce.{total}
-use Rattle.tilt_reduce.proofs.Totals.{total_append, total_fits}
+use Rattle.tilt_base.proofs.Totals.{total_append, total_fits}
 use Rattle.tilt_reduce.proofs.sum.SumAndCount.merge.Goals as goal
 
 -- the sum that the code takes in 128 bits

@@ -3,7 +3,7 @@ use Rattle.std.specs.Int.{w64, w128}
 use Rattle.std.proofs.lemmas.Int.{to_z-of_z}
 use Rattle.std.proofs.lemmas.List.Elements.{All-tail}
 use Rattle.tilt_base.specs.Reduce.{total}
-use Rattle.tilt_reduce.proofs.Totals.{total_rest, total_fits}
+use Rattle.tilt_base.proofs.Totals.{total_rest, total_fits}
 use Rattle.tilt_reduce.proofs.sum.SumAndCount.remove_first.Goals as goal
 
 -- the sum that the code takes in 128 bits

@@ -1,8 +1,9 @@
 use Rattle.std.proofs.Common.{◌≡◌, ◌∙◌, sym, ap, pos, [], ◌∷◌, ◌++◌, map, take, length, get_or, refl}
 use Rattle.std.proofs.lemmas.List.{map-append, take_more, take_all}
+use Rattle.tilt_base.proofs.Lists.{all-push}
 use Rattle.tilt_code.specs.Code.{LoopParts}
 use Rattle.tilt_code.specs.declared.instr.Instr.TheVariants.{Const}
-use Rattle.tilt_turn.proofs.Stepwise.{all-push, all-pushed}
+use Rattle.tilt_turn.proofs.Stepwise.{all-pushed}
 use Rattle.tilt_turn.specs.Held.{IsLeafAt, MayGo, leaf_only, origin}
 use Rattle.tilt_turn.specs.Ready.{IsReadable}
 use Rattle.tilt_turn.proofs.state.LoopState.new.Goals as goal

@@ -1,7 +1,7 @@
 use Rattle.std.proofs.Common.{◌≡◌, ◌∙◌, ap, sym, subst, ℤ, FitsSigned, w64, to_z, of_z, pos, ◌+ℤ◌, List, [], map, drop, length, rules, arith}
 use Rattle.std.specs.List.{AllByRecursion}
 use Rattle.std.proofs.lemmas.Int.{to_z-of_z}
-use Rattle.std.proofs.lemmas.List.{length-map}
+use Rattle.std.proofs.lemmas.List.{length-map, take_at}
 use Rattle.tilt_base.specs.Grid.{ceil}
 use Rattle.tilt_code.proofs.Turns.{turn-ends}
 use Rattle.tilt_code.specs.Body.{body_of}
@@ -9,7 +9,7 @@ use Rattle.tilt_code.specs.Code.{Block}
 use Rattle.tilt_code.specs.Turn.{turn}
 use Rattle.tilt_stream.specs.Stream.{stream_of}
 use Rattle.tilt_turn.proofs.Origins.{all-only, leaf-may}
-use Rattle.tilt_turn.proofs.Stepwise.{all-weaker, whole}
+use Rattle.tilt_turn.proofs.Stepwise.{all-weaker}
 use Rattle.tilt_turn.specs.Held.{IsLeafAt, MayGo, StandsAt, leaf_only, origin}
 use Rattle.tilt_turn.specs.Ready.{IsKept}
 use Rattle.tilt_turn.specs.declared.leaf.Leaf.{Leaf}
@@ -40,7 +40,7 @@ body_cell-requires-clause-at g c =
     let a = length-map new origin in
     let b = length-map old origin in
     let len : length new ≡ c.args.self.now.leaves.len = omega arith in
-    let leaves = c.deref.ensures.value ∙ whole new _ c.args.self.now.leaves.len len in
+    let leaves = c.deref.ensures.value ∙ take_at new _ c.args.self.now.leaves.len len in
     let point = c.point_of-point.result in
     let fits : FitsSigned w64 point = search rules in
     let at = rw (to_z-of_z w64 point fits) at c.in_ok-move_leaves.ensures.at in
@@ -54,7 +54,7 @@ next_mark-requires g c =
     let a = length-map new origin in
     let b = length-map old origin in
     let len : length new ≡ c.args.self.now.leaves.len = omega arith in
-    let leaves = c.deref-2.ensures.value ∙ whole new _ c.args.self.now.leaves.len len in
+    let leaves = c.deref-2.ensures.value ∙ take_at new _ c.args.self.now.leaves.len len in
     let point = c.point_of-point.result in
     let fits : FitsSigned w64 point = search rules in
     let at = rw (to_z-of_z w64 point fits) at c.in_ok-move_leaves.ensures.at in
@@ -72,7 +72,7 @@ end_is g c =
     let a = length-map new origin in
     let b = length-map old origin in
     let len : length new ≡ c.args.self.now.leaves.len = omega arith in
-    let leaves = c.deref-2.ensures.value ∙ whole new _ c.args.self.now.leaves.len len in
+    let leaves = c.deref-2.ensures.value ∙ take_at new _ c.args.self.now.leaves.len len in
     let point = c.point_of-point.result in
     let fits : FitsSigned w64 point = search rules in
     let end_fits : FitsSigned w64 c.turn_end-end.result = search rules in
@@ -101,7 +101,7 @@ returns-clause-snap g c =
     let a = length-map new origin in
     let b = length-map old origin in
     let len : length new ≡ c.args.self.now.leaves.len = omega arith in
-    let leaves = c.deref.ensures.value ∙ whole new _ c.args.self.now.leaves.len len in
+    let leaves = c.deref.ensures.value ∙ take_at new _ c.args.self.now.leaves.len len in
     let point = c.point_of-point.result in
     let fits : FitsSigned w64 point = search rules in
     let at = rw (to_z-of_z w64 point fits) at c.in_ok-move_leaves.ensures.at in
@@ -122,7 +122,7 @@ returns-clause-fit g c =
     let a = length-map new origin in
     let b = length-map old origin in
     let len : length new ≡ c.args.self.now.leaves.len = omega arith in
-    let leaves = whole new (drop (length new) c.args.self.now.leaves.items) c.args.self.now.leaves.len len in
+    let leaves = take_at new (drop (length new) c.args.self.now.leaves.items) c.args.self.now.leaves.len len in
     let point = c.point_of-point.result in
     let fits : FitsSigned w64 point = search rules in
     let at = rw (to_z-of_z w64 point fits) at c.in_ok-move_leaves.ensures.at in

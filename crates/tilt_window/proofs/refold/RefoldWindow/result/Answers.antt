@@ -3,8 +3,8 @@ use Rattle.std.specs.Int.{w64}
 use Rattle.std.proofs.lemmas.Int.{to_z-of_z}
 use Rattle.std.proofs.lemmas.List.{append-nil, length-map, map_push}
 use Rattle.std.proofs.lemmas.Iterator.Consumers.{YieldsList-from_deque, YieldsList-turn}
+use Rattle.tilt_base.proofs.Lists.{numbers-append, length-numbers}
 use Rattle.tilt_base.specs.Reduce.{numbers}
-use Rattle.tilt_window.proofs.Numbers.{numbers-append, length-numbers}
 use Rattle.tilt_window.proofs.refold.RefoldWindow.result.Goals as goal
 
 -- the numbers among the cells that were read

@@ -1,6 +1,6 @@
 use Rattle.std.proofs.Common.{◌≤◌, ◌<◌, ◌∙◌, ◌++◌, length, subst, sym, ap, rules}
+use Rattle.tilt_base.proofs.Lists.{numbers-append}
 use Rattle.tilt_base.specs.Reduce.{numbers, reduce}
-use Rattle.tilt_window.proofs.Numbers.{numbers-append}
 use Rattle.tilt_window.proofs.Stacked.{first_state, few_joined}
 use Rattle.tilt_window.proofs.two_stack.TwoStackWindow.result.Goals as goal
 

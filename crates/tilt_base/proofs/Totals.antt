@@ -7,7 +7,7 @@ use Rattle.std.proofs.lemmas.List.Elements.{All-head, All-tail, All-push}
 use Rattle.std.proofs.lemmas.List.Sums.{fold-append, fold_push}
 use Rattle.tilt_base.specs.Reduce.{total}
 use Rattle.tilt_base.proofs.Average.{average_fits}
-use Rattle.tilt_reduce.proofs.Joins.{fold_join}
+use Rattle.tilt_base.proofs.Lists.{fold_join}
 
 fold_low : (s : ℤ) (ns : List ℤ) → All (FitsSigned w64) ns →
     (s +ℤ neg_ℤ (pos (9223372036854775808 * length ns))) ≤ℤ fold ◌+ℤ◌ s ns
