@@ -1,23 +1,18 @@
 -- How a checkpoint is read, piece by piece. What is read is said by `Spelling` and `Valid` alone.
 use Rattle.std.specs.Prelude.{◌≡◌, ℕ, zero, suc, ◌==◌, ℤ, pos, negsuc, neg_ℤ, int_lt, int_le, Bool, true, false, not, ◌&&◌, if◌then◌else◌, List, [], ◌∷◌, ◌++◌, Option, Some, None, Result, Ok, Err, MatchOption, codes, take, length, ◌-◌}
-use Rattle.std.specs.Fmt.{signed_decimal}
 use Rattle.std.specs.Ordering.{int_eq}
 use Rattle.std.specs.Str.{bytes_eq}
-use Rattle.tilt_base.specs.Number.{number_spelled}
 use Rattle.tilt_base.specs.declared.limits.TheConstants.{T}
 use Rattle.tilt_stream.specs.Snap.{Snapshot, last_end}
+use Rattle.tilt_text.specs.Cut.{until_at}
+use Rattle.tilt_text.specs.Spelled.{shortest}
+use Rattle.tilt_text.specs.Step.{◌>>=◌}
 use Rattle.tilt_checkpoint.specs.Checkpoint.{KeptParts, BodyParts}
 use Rattle.tilt_checkpoint.specs.Decided.{decided, first_kept}
 use Rattle.tilt_checkpoint.specs.Spelling.{title}
 use Rattle.tilt_checkpoint.specs.declared.fault.CheckpointFault.{CheckpointFault}
 use Rattle.tilt_checkpoint.specs.declared.fault.CheckpointFault.TheVariants.{BadCheckpoint, OutOfMemory}
 use Rattle.tilt_checkpoint.specs.declared.frame.Frame.{Frame}
-
-infixl 10 ◌>>=◌
--- the next step, unless nothing was read
-abbrev pub ◌>>=◌ : {A B : Type 0} → Option A → (A → Option B) → Option B
-(Some x) >>= next = next x
-None >>= next = None
 
 -- a step, so many times
 abbrev pub times : {A : Type 0} → (A → Option A) → ℕ → A → Option A
@@ -34,26 +29,9 @@ behind [] bytes = Some bytes
 behind (c ∷ text) [] = None
 behind (c ∷ text) (b ∷ bytes) = if b == c then behind text bytes else None
 
--- one byte more in front
-abbrev pub onto : ℕ → List ℕ × List ℕ → Read (List ℕ)
-onto byte parts = Some (byte ∷ parts.0, parts.1)
-
--- the bytes up to the first mark
-abbrev pub until_at : ℕ → List ℕ → Read (List ℕ)
-until_at mark [] = None
-until_at mark (b ∷ bytes) = if b == mark then Some ([], bytes) else (until_at mark bytes >>= onto b)
-
 -- the bytes behind a line
 abbrev pub behind_line : List ℕ → Option (List ℕ)
 behind_line bytes = until_at 10 bytes >>= λ line. Some line.1
-
--- the number, where its shortest decimal is the word
-abbrev pub where_shortest : List ℕ → ℤ → Option ℤ
-where_shortest word z = if bytes_eq (signed_decimal z) word then Some z else None
-
--- the number of 64 bits whose shortest decimal the word is
-abbrev pub shortest : List ℕ → Option ℤ
-shortest word = number_spelled word >>= where_shortest word
 
 -- the number up to the mark
 abbrev pub number_at : ℕ → List ℕ → Read ℤ

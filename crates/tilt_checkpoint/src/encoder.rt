@@ -1,16 +1,15 @@
 // The spelling of a checkpoint.
 ghost use Rattle.std.specs.Prelude.{◌≡◌, ◌++◌, flat_map, IfOk, OnOk};
-ghost use Rattle.std.specs.Fmt.{decimal, signed_decimal};
 ghost use Rattle.tilt_checkpoint.specs.Spelling.{cut_line, open_line, query_lines, row_lines, series_lines, spelling, time_text};
 ghost use Rattle.tilt_stream.specs.Text.{cell_text, row_text};
 
 use crate::checkpoint::Checkpoint;
 use crate::kept::Kept;
-use itoa::Buffer;
 use std::alloc::{AllocError as OutOfMemory, Global};
 use tilt_base::Cell;
 use tilt_stream::Row;
 use tilt_syntax::{Query, print};
+use tilt_text::{put, put_number};
 
 // The first line, with the version.
 pub(crate) const TITLE: &[u8] = b"tilt checkpoint 1\n";
@@ -35,7 +34,7 @@ fn put_query(alloc: Global, text: &mut Vec<u8>, query: &Query) -> Result<(), Out
 {
     let lines = print(alloc, query)?;
     put(text, b"query ")?;
-    put_count(text, query.statements().len())?;
+    put_number(text, query.statements().len())?;
     put(text, b"\n")?;
     put(text, &lines)
 }
@@ -75,7 +74,7 @@ fn put_series(text: &mut Vec<u8>, kept: &Kept) -> Result<(), OutOfMemory>
     put(text, b"last ")?;
     put_time(text, kept.last_end)?;
     put(text, b" rows ")?;
-    put_count(text, kept.rows.len())?;
+    put_number(text, kept.rows.len())?;
     put(text, b"\n")?;
     put_rows(text, kept.rows.as_slice())
 }
@@ -120,27 +119,4 @@ fn put_time(text: &mut Vec<u8>, time: Option<i64>) -> Result<(), OutOfMemory>
         Some(time) => put_number(text, time),
         None => put(text, b"none"),
     }
-}
-
-// Puts a count in shortest decimal.
-fn put_count(text: &mut Vec<u8>, count: usize) -> Result<(), OutOfMemory>
-    ensures { OnOk result (text.new.items ≡ text.old.items ++ decimal count) }
-{
-    let mut buffer = Buffer::new();
-    put(text, buffer.format(count).as_bytes())
-}
-
-// Puts a number in shortest decimal.
-fn put_number(text: &mut Vec<u8>, number: i64) -> Result<(), OutOfMemory>
-    ensures { OnOk result (text.new.items ≡ text.old.items ++ signed_decimal number) }
-{
-    let mut buffer = Buffer::new();
-    put(text, buffer.format(number).as_bytes())
-}
-
-// Puts a piece of text.
-fn put(text: &mut Vec<u8>, piece: &[u8]) -> Result<(), OutOfMemory>
-    ensures { OnOk result (text.new.items ≡ text.old.items ++ piece.now) }
-{
-    text.extend_from_slice(piece)
 }

@@ -1,12 +1,12 @@
 // The bytes of a checkpoint, from a place on, and the pieces that they begin with.
-ghost use Rattle.std.specs.Prelude.{◌≡◌, ◌↔◌, ◌==◌, [], ◌∷◌, option_map, IsTrue, MatchOption};
-ghost use Rattle.std.specs.List.{position};
-ghost use Rattle.tilt_checkpoint.specs.Reading.{behind, behind_line, count_at, maybe, maybe_at, moment_at, number_at, query_at, row_at, series_head, shortest, times, until_at, Reads};
+ghost use Rattle.std.specs.Prelude.{◌≡◌, MatchOption};
+ghost use Rattle.tilt_checkpoint.specs.Reading.{behind, behind_line, count_at, maybe, maybe_at, moment_at, number_at, query_at, row_at, series_head, times, Reads};
+ghost use Rattle.tilt_text.specs.Cut.{until_at};
 
 use crate::encoder::TITLE;
 use std::marker::Model;
-use tilt_base::read_shortest;
 use tilt_stream::{Row, Snap};
+use tilt_text::{shortest, until};
 
 // The bytes that are left. A clause sees them as a list.
 #[derive(Drop)]
@@ -49,9 +49,8 @@ impl<'a> Reader<'a> {
     pub(crate) fn until(&mut self, mark: u8) -> Option<&'a [u8]>
         ensures { MatchOption result (until_at mark self.old ≡ None) (λ word. until_at mark self.old ≡ Some (word.now, self.new)) }
     {
-        let at = place_of(self.left, mark)?;
-        let word = &self.left[..at];
-        self.left = &self.left[at + 1..];
+        let (word, left) = until(self.left, mark)?;
+        self.left = left;
         Some(word)
     }
 
@@ -134,21 +133,6 @@ impl<'a> Reader<'a> {
         let open_start = self.maybe(b"none", b'\n')?;
         Some((cut, open_start))
     }
-}
-
-// The first place of the mark.
-fn place_of(bytes: &[u8], mark: u8) -> Option<usize>
-    ensures { result ≡ position (λ byte. byte == mark) bytes.now }
-{
-    bytes.iter().position(|byte| *byte == mark)
-}
-
-// The number whose shortest decimal the word is.
-fn shortest(word: &[u8]) -> Option<i64>
-    ensures { result ≡ shortest word.now }
-{
-    let number = read_shortest(word)?;
-    Some(number)
 }
 
 // The number whose shortest decimal the word is, or `None` where it is the word for nothing.

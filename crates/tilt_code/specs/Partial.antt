@@ -3,10 +3,11 @@ use Rattle.std.specs.Prelude.{ℕ, ℤ, pos, Bool, true, false, not, ◌&&◌, n
 use Rattle.std.specs.List.{list_any}
 use Rattle.std.specs.Str.{bytes_eq}
 use Rattle.tilt_base.specs.Grid.{GridPoints}
+use Rattle.tilt_text.specs.Step.{◌>>=◌}
 use Rattle.tilt_code.specs.Code.{Block, CodeParts, LoopParts}
 use Rattle.tilt_code.specs.Grammar.{stands_in_body, stands_in_map}
 use Rattle.tilt_code.specs.References.{refers_below}
-use Rattle.tilt_code.specs.Reading.{◌>>=◌, line_of, pieces}
+use Rattle.tilt_code.specs.Reading.{line_of, pieces}
 use Rattle.tilt_code.specs.declared.fault.CodeFault.{CodeFault}
 use Rattle.tilt_code.specs.declared.fault.CodeFault.TheVariants as fault
 use Rattle.tilt_code.specs.declared.instr.Instr.{Instr}

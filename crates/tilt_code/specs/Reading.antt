@@ -1,14 +1,14 @@
 -- How a line is read, word by word. What it comes to is said by the lines' words alone: `Line`.
 use Rattle.std.specs.Prelude.{ℕ, ◌^◌, ◌==◌, ℤ, pos, negsuc, neg_ℤ, int_lt, int_le, nat_lt, Bool, not, ◌&&◌, if◌then◌else◌, List, [], ◌∷◌, Option, Some, None, MatchOption, codes, ◌≡◌}
-use Rattle.std.specs.Fmt.{signed_decimal}
-use Rattle.std.specs.List.{find, list_any}
+use Rattle.std.specs.List.{find, list_any, slice_split}
 use Rattle.std.specs.Str.{bytes_eq}
 use Rattle.tilt_base.specs.Grid.{GridPoints}
-use Rattle.tilt_base.specs.Number.{number_spelled}
 use Rattle.tilt_base.specs.Reduce.{reducer_word}
 use Rattle.tilt_base.specs.declared.limits.TheConstants.{OFFSET, PERIOD, WIDE}
 use Rattle.tilt_base.specs.declared.operator.Op1.{Op1}
 use Rattle.tilt_base.specs.declared.reducer.Reducer.{Reducer}
+use Rattle.tilt_text.specs.Spelled.{shortest}
+use Rattle.tilt_text.specs.Step.{◌>>=◌}
 use Rattle.tilt_lexer.specs.Word.{is_word, key_text}
 use Rattle.tilt_lexer.specs.declared.key.Key.{Key}
 use Rattle.tilt_lexer.specs.declared.key.Key.TheVariants as key
@@ -19,34 +19,14 @@ use Rattle.tilt_code.specs.declared.line.Line.{Line}
 use Rattle.tilt_code.specs.declared.line.Line.TheVariants as line
 use Rattle.tilt_code.specs.declared.word.TheConstants.{ONES, TWOS, REDUCERS}
 
-infixl 10 ◌>>=◌
--- the next step, unless nothing was read
-abbrev pub ◌>>=◌ : {A B : Type 0} → Option A → (A → Option B) → Option B
-(Some x) >>= next = next x
-None >>= next = None
-
--- one byte more in front of the first piece
-abbrev pub onto : ℕ → List (List ℕ) → List (List ℕ)
-onto byte [] = (byte ∷ []) ∷ []
-onto byte (piece ∷ pieces) = (byte ∷ piece) ∷ pieces
-
 -- the pieces of bytes between those that are the mark, of which there is at least one
 abbrev pub pieces : ℕ → List ℕ → List (List ℕ)
-pieces mark [] = [] ∷ []
-pieces mark (byte ∷ bytes) = if byte == mark then [] ∷ pieces mark bytes else onto byte (pieces mark bytes)
+pieces mark = slice_split (λ byte. byte == mark)
 
 -- the pieces of what is left, where anything is
 abbrev pub pieces_left : ℕ → Option (List ℕ) → List (List ℕ)
 pieces_left mark None = []
 pieces_left mark (Some bytes) = pieces mark bytes
-
--- the number, where its shortest decimal is the word
-abbrev pub where_shortest : List ℕ → ℤ → Option ℤ
-where_shortest word z = if bytes_eq (signed_decimal z) word then Some z else None
-
--- the number of 64 bits whose shortest decimal the word is
-abbrev pub shortest : List ℕ → Option ℤ
-shortest word = number_spelled word >>= where_shortest word
 
 -- the number, where 32 bits without a sign hold it
 abbrev pub within_u32 : ℤ → Option ℕ

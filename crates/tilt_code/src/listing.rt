@@ -9,10 +9,10 @@ ghost use Rattle.tilt_code.specs.Listing.{block_lines, ended, listing, loop_line
 use crate::code::Code;
 use crate::instr::Instr;
 use crate::loops::Loop;
-use itoa::Buffer;
 use std::alloc::{AllocError as OutOfMemory, Global};
 use tilt_base::{Grid, Op1, Op2, Reducer};
 use tilt_lexer::Name;
+use tilt_text::{put, put_number};
 
 /// The listing of the code: a line for each input, and for each loop the lines of its maps and of its body.
 pub fn list(alloc: Global, code: &Code) -> Result<Vec<u8>, OutOfMemory>
@@ -123,7 +123,7 @@ fn put_step(text: &mut Vec<u8>, register: usize, instr: Instr) -> Result<(), Out
     ensures { OnOk result (text.new.items ≡ text.old.items ++ ended (line_text (Step register instr) ∷ [])) }
 {
     put(text, b"r")?;
-    put_count(text, register)?;
+    put_number(text, register)?;
     put(text, b" = ")?;
     put_instr(text, instr)?;
     put(text, b"\n")
@@ -234,29 +234,5 @@ fn put_named(text: &mut Vec<u8>, letter: &[u8], number: u32) -> Result<(), OutOf
     ensures { OnOk result (text.new.items ≡ text.old.items ++ letter.now ++ decimal number) }
 {
     put(text, letter)?;
-    let mut buffer = Buffer::new();
-    put(text, buffer.format(number).as_bytes())
-}
-
-// Puts a count in shortest decimal.
-fn put_count(text: &mut Vec<u8>, count: usize) -> Result<(), OutOfMemory>
-    ensures { OnOk result (text.new.items ≡ text.old.items ++ decimal count) }
-{
-    let mut buffer = Buffer::new();
-    put(text, buffer.format(count).as_bytes())
-}
-
-// Puts a number in shortest decimal.
-fn put_number(text: &mut Vec<u8>, number: i64) -> Result<(), OutOfMemory>
-    ensures { OnOk result (text.new.items ≡ text.old.items ++ signed_decimal number) }
-{
-    let mut buffer = Buffer::new();
-    put(text, buffer.format(number).as_bytes())
-}
-
-// Puts a piece of text.
-fn put(text: &mut Vec<u8>, piece: &[u8]) -> Result<(), OutOfMemory>
-    ensures { OnOk result (text.new.items ≡ text.old.items ++ piece.now) }
-{
-    text.extend_from_slice(piece)
+    put_number(text, number)
 }

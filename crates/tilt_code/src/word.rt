@@ -1,14 +1,15 @@
 // The words of a line.
-ghost use Rattle.std.specs.Prelude.{◌≡◌, ◌==◌, ◌↔◌, [], ◌∷◌, option_map, IsTrue, MatchOption};
-ghost use Rattle.std.specs.List.{find, position};
+ghost use Rattle.std.specs.Prelude.{◌≡◌, ◌↔◌, [], ◌∷◌, option_map, IsTrue, MatchOption};
+ghost use Rattle.std.specs.List.{find};
 ghost use Rattle.std.specs.Str.{bytes_eq};
 ghost use Rattle.tilt_base.specs.Reduce.{reducer_word};
 ghost use Rattle.tilt_code.specs.Line.{one_word, two_word};
-ghost use Rattle.tilt_code.specs.Reading.{map_at, named, named_at, number_at, offset_at, pieces, pieces_left, reducer_at, shortest, word_at, Reads};
+ghost use Rattle.tilt_code.specs.Reading.{map_at, named, named_at, number_at, offset_at, pieces, pieces_left, reducer_at, word_at, Reads};
 
 use crate::listing::{one_word, two_word};
 use std::marker::Model;
-use tilt_base::{OFFSET, Op1, Op2, Reducer, read_shortest};
+use tilt_base::{OFFSET, Op1, Op2, Reducer};
+use tilt_text::{shortest, until};
 
 // Each operator on one register.
 const ONES: [Op1; 3] = [Op1::Neg, Op1::Not, Op1::IsNull];
@@ -129,25 +130,10 @@ impl<'a> Words<'a> {
 pub(crate) fn cut(bytes: &[u8], mark: u8) -> (&[u8], Option<&[u8]>)
     ensures { pieces mark bytes.now ≡ result.0.now ∷ pieces_left mark (option_map (λ left. left.now) result.1) }
 {
-    match place_of(bytes, mark) {
-        Some(at) => (&bytes[..at], Some(&bytes[at + 1..])),
+    match until(bytes, mark) {
+        Some((word, left)) => (word, Some(left)),
         None => (bytes, None),
     }
-}
-
-// The first place of the mark.
-fn place_of(bytes: &[u8], mark: u8) -> Option<usize>
-    ensures { result ≡ position (λ byte. byte == mark) bytes.now }
-{
-    bytes.iter().position(|byte| *byte == mark)
-}
-
-// The number whose shortest decimal the word is.
-fn shortest(word: &[u8]) -> Option<i64>
-    ensures { result ≡ shortest word.now }
-{
-    let number = read_shortest(word)?;
-    Some(number)
 }
 
 // The number behind a letter.

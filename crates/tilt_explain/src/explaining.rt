@@ -2,14 +2,14 @@
 ghost use Rattle.std.specs.Prelude.{◌≡◌, ◌++◌, ◌+◌, ◌≤◌, [], ℕ, List, Ok, IfOk, OnOk, codes, length, map, if◌then◌else◌};
 ghost use Rattle.tilt_bounds.specs.Margins.{margins_of, need_at, need_of};
 ghost use Rattle.tilt_fuse.specs.Plan.{has_loop};
-ghost use Rattle.tilt_explain.specs.Explain.{explained, input_lines, let_lines, loops_line, reach_line, source_line};
+ghost use Rattle.tilt_explain.specs.Explain.{explained, input_lines, let_lines, loops_line, reach_line, source_line, spaced};
 
-use crate::text::{put, put_count, put_spaced};
 use std::alloc::{AllocError as OutOfMemory, Global};
 use tilt_bounds::{Margins, Need};
 use tilt_core::Core;
 use tilt_fuse::{PlanLoop, plan};
 use tilt_lexer::Name;
+use tilt_text::{put, put_number};
 
 /// How far the query looks back and ahead; how far each input and each named definition is looked at, or that it isn't used;
 /// whether a definition has a loop or is merged into those that read it; and how many loops there are with fusion and
@@ -44,6 +44,14 @@ fn put_reach(text: &mut Vec<u8>, front: &[u8], back: i64, ahead: i64) -> Result<
     put_spaced(text, back)?;
     put_spaced(text, ahead)?;
     put(text, b"\n")
+}
+
+// Puts a blank and a number in shortest decimal.
+fn put_spaced(text: &mut Vec<u8>, number: i64) -> Result<(), OutOfMemory>
+    ensures { OnOk result (text.new.items ≡ text.old.items ++ spaced number) }
+{
+    put(text, b" ")?;
+    put_number(text, number)
 }
 
 // Puts the line of a source, behind the word for what it is and its name.
@@ -136,8 +144,8 @@ fn put_loops(text: &mut Vec<u8>, fused: &[PlanLoop], plain: &[PlanLoop]) -> Resu
     ensures { OnOk result (text.new.items ≡ text.old.items ++ loops_line (length fused.now) (length plain.now)) }
 {
     put(text, b"loops ")?;
-    put_count(text, fused.len())?;
+    put_number(text, fused.len())?;
     put(text, b" ")?;
-    put_count(text, plain.len())?;
+    put_number(text, plain.len())?;
     put(text, b"\n")
 }

@@ -8,6 +8,5 @@
 mod explaining;
 #[cfg(test)]
 mod tests;
-mod text;
 
 pub use explaining::explain_text;

@@ -9,7 +9,6 @@ mod series;
 mod sums;
 #[cfg(test)]
 mod tests;
-mod text;
 
 pub use query::query_text;
 pub use series::made_rows;

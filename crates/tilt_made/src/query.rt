@@ -2,8 +2,8 @@
 ghost use Rattle.std.specs.Prelude.{◌≡◌, IfOk};
 ghost use Rattle.tilt_made.specs.TryQuery.{query_text};
 
-use crate::text::{put, put_count};
 use std::alloc::{AllocError as OutOfMemory, Global};
+use tilt_text::{put, put_number};
 
 /// The text of the query over two made series of so many rows.
 pub fn query_text(alloc: Global, count: u32) -> Result<Vec<u8>, OutOfMemory>
@@ -14,7 +14,7 @@ pub fn query_text(alloc: Global, count: u32) -> Result<Vec<u8>, OutOfMemory>
         &mut text,
         b"input a;\ninput b;\nlet m = avg(a[t-10:t]) every 10;\nlet d = a - m;\nemit ifnull(d, 0) + ifnull(b, 0) over (0, ",
     )?;
-    put_count(&mut text, 10 * u64::from(count) + 10)?;
+    put_number(&mut text, 10 * u64::from(count) + 10)?;
     put(&mut text, b"];\n")?;
     Ok(text)
 }

@@ -4,10 +4,10 @@ ghost use Rattle.tilt_made.specs.Summary.{summary_text, values};
 ghost use Rattle.tilt_reduce.specs.States.{IsSumAndCount};
 ghost use Rattle.tilt_stream.specs.Snap.{Snapshot};
 
-use crate::text::{put, put_count, put_signed};
 use std::alloc::{AllocError as OutOfMemory, Global};
 use tilt_reduce::{Reduction, SumR};
 use tilt_stream::{Snap, SnapList};
+use tilt_text::{put, put_number};
 
 /// The summary of a run over two made series of so many rows, of which these are the snapshots: how many aren't null, and
 /// the exact sum of their values.
@@ -17,13 +17,13 @@ pub fn summary(alloc: Global, count: u32, list: &SnapList) -> Result<Vec<u8>, Ou
     let sums = sums_of(list);
     let mut text = Vec::new(alloc);
     put(&mut text, b"rows ")?;
-    put_count(&mut text, u64::from(count))?;
+    put_number(&mut text, count)?;
     put(&mut text, b" ")?;
-    put_count(&mut text, u64::from(count))?;
+    put_number(&mut text, count)?;
     put(&mut text, b"\nprinted ")?;
-    put_count(&mut text, sums.count)?;
+    put_number(&mut text, sums.count)?;
     put(&mut text, b"\nsum ")?;
-    put_signed(&mut text, sums.sum)?;
+    put_number(&mut text, sums.sum)?;
     put(&mut text, b"\n")?;
     Ok(text)
 }

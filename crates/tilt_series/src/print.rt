@@ -1,12 +1,11 @@
 // The text of snapshots, put line by line.
-ghost use Rattle.std.specs.Prelude.{◌≡◌, ◌≤◌, ◌+◌, [], ◌∷◌, ◌++◌, ℕ, ℤ, length, take, codes, OnOk, OnErr};
-ghost use Rattle.std.specs.Fmt.{signed_decimal};
+ghost use Rattle.std.specs.Prelude.{◌≡◌, ◌≤◌, [], ◌∷◌, length, take, codes};
 ghost use Rattle.tilt_stream.specs.Text.{row_text, lines_of};
 ghost use Rattle.tilt_outside.specs.Written.{Puts};
 
-use itoa::Buffer;
 use tilt_outside::{Failed, Sink};
 use tilt_stream::{Row, Snap, SnapList};
+use tilt_text::{append, append_number};
 
 /// Puts the header line by one put.
 pub fn put_header<O: Sink>(sink: &mut O) -> Result<(), Failed>
@@ -65,26 +64,4 @@ pub fn row_text(row: &Row, room: &mut [u8; 64]) -> usize
         None => at,
     };
     append(room, at, b"\n")
-}
-
-// Writes a number in shortest decimal behind what stands in front of `at`, and answers where it ends.
-fn append_number(room: &mut [u8; 64], at: usize, number: i64) -> usize
-    requires { at + 20 ≤ 64 }
-    ensures end { result ≡ at + length (signed_decimal number) }
-    ensures text { take result room.new ≡ take at room.old ++ signed_decimal number }
-    ensures short { result ≤ at + 20 }
-{
-    let mut buffer = Buffer::new();
-    append(room, at, buffer.format(number).as_bytes())
-}
-
-// Writes a piece behind what stands in front of `at`, and answers where it ends.
-fn append(room: &mut [u8; 64], at: usize, piece: &[u8]) -> usize
-    requires { at + length piece.now ≤ 64 }
-    ensures end { result ≡ at + length piece.now }
-    ensures text { take result room.new ≡ take at room.old ++ piece.now }
-{
-    let end = at + piece.len();
-    room[at..end].copy_from_slice(piece);
-    end
 }

@@ -1,6 +1,5 @@
 // The text of a query.
 ghost use Rattle.std.specs.Prelude.{◌≡◌, [], ◌∷◌, ◌++◌, IfOk, OnOk, MatchOption};
-ghost use Rattle.std.specs.Fmt.{signed_decimal};
 ghost use Rattle.tilt_base.specs.Expression.{One, Two};
 ghost use Rattle.tilt_lexer.specs.Word.{key_text};
 ghost use Rattle.tilt_syntax.specs.Grammar.{infix_of, reducer_key};
@@ -12,10 +11,10 @@ ghost use Rattle.tilt_syntax.specs.Tree.{Reduce, expr_tree, statement_tree};
 use crate::expr::Expr;
 use crate::query::Query;
 use crate::statement::Statement;
-use itoa::Buffer;
 use std::alloc::{AllocError as OutOfMemory, Global};
 use tilt_base::{Op1, Op2, Reducer, Span};
 use tilt_lexer::Name;
+use tilt_text::{put, put_number};
 
 /// The text of the query: one line for each statement, with parentheses only where they are needed. It reads as this query
 /// and as no other.
@@ -292,21 +291,6 @@ fn put_offset(text: &mut Vec<u8>, offset: i64) -> Result<(), OutOfMemory>
         put(text, b"t")?;
         put_number(text, offset)
     }
-}
-
-// Puts a number in shortest decimal.
-fn put_number(text: &mut Vec<u8>, number: i64) -> Result<(), OutOfMemory>
-    ensures { OnOk result (text.new.items ≡ text.old.items ++ signed_decimal number) }
-{
-    let mut buffer = Buffer::new();
-    put(text, buffer.format(number).as_bytes())
-}
-
-// Puts a piece of text.
-fn put(text: &mut Vec<u8>, piece: &[u8]) -> Result<(), OutOfMemory>
-    ensures { OnOk result (text.new.items ≡ text.old.items ++ piece.now) }
-{
-    text.extend_from_slice(piece)
 }
 
 #[cfg(test)]

@@ -1,12 +1,11 @@
 // The text of figures, put line by line.
-ghost use Rattle.std.specs.Prelude.{◌≡◌, ◌≤◌, ◌+◌, ◌++◌, ◌∷◌, [], length, take};
-ghost use Rattle.std.specs.Fmt.{signed_decimal};
+ghost use Rattle.std.specs.Prelude.{◌≡◌, ◌≤◌, length, take};
 ghost use Rattle.tilt_outside.specs.Written.{Puts};
 ghost use Rattle.tilt_watch.specs.Watch.{figures_line, figures_text, pairs_of, watches};
 
 use crate::watcher::Watcher;
-use itoa::Buffer;
 use tilt_outside::{Failed, Sink};
+use tilt_text::{append, append_number};
 
 /// Puts the line `figures A B` of each watcher's pair, in order, by one put a line. Takes no memory.
 pub fn put_figures<O: Sink>(out: &mut O, list: &[Box<dyn Watcher>]) -> Result<(), Failed>
@@ -50,26 +49,4 @@ fn figures_text(pair: (i64, i64), room: &mut [u8; 64]) -> usize
     let at = append(room, at, b" ");
     let at = append_number(room, at, second);
     append(room, at, b"\n")
-}
-
-// Writes a number in shortest decimal behind what stands in front of `at`, and answers where it ends.
-fn append_number(room: &mut [u8; 64], at: usize, number: i64) -> usize
-    requires { at + 20 ≤ 64 }
-    ensures end { result ≡ at + length (signed_decimal number) }
-    ensures text { take result room.new ≡ take at room.old ++ signed_decimal number }
-    ensures short { result ≤ at + 20 }
-{
-    let mut buffer = Buffer::new();
-    append(room, at, buffer.format(number).as_bytes())
-}
-
-// Writes a piece behind what stands in front of `at`, and answers where it ends.
-fn append(room: &mut [u8; 64], at: usize, piece: &[u8]) -> usize
-    requires { at + length piece.now ≤ 64 }
-    ensures end { result ≡ at + length piece.now }
-    ensures text { take result room.new ≡ take at room.old ++ piece.now }
-{
-    let end = at + piece.len();
-    room[at..end].copy_from_slice(piece);
-    end
 }

@@ -1,8 +1,8 @@
 use Rattle.std.proofs.Common.{FitsSigned, rules}
 use Rattle.std.specs.Int.{w64}
 use Rattle.std.proofs.lemmas.Int.{to_z-of_z}
-use Rattle.tilt_checkpoint.proofs.Numbers.{shortest_some, shortest_none}
-use Rattle.tilt_checkpoint.proofs.reader.shortest.Goals as goal
+use Rattle.tilt_text.proofs.Numbers.{shortest_some, shortest_none}
+use Rattle.tilt_text.proofs.spelled.shortest.Goals as goal
 
 pub returns-in_err-number : goal.returns-in_err-number
 returns-in_err-number c = rw c.from_residual.ensures (shortest_none c.args.word.now c.in_err-number.ensures)

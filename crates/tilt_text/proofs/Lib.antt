@@ -1,0 +1,4 @@
+pub mod Lacks
+pub mod Numbers
+pub mod Step
+pub mod Words

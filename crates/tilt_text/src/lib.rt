@@ -1,0 +1,17 @@
+//! Texts as bytes: pieces and numbers put one after another, and words cut off and read as numbers.
+//!
+//! What comes in is bytes and numbers; what goes out is longer texts, words and numbers. `put` and `put_number` say that the
+//! text is the old one with the piece after it, `append` and `append_number` the same in a room of fixed size, without
+//! memory. The clause of `until` says that it gives the word before the first mark and the bytes after it, as `specs/Cut`
+//! defines them; that of `shortest`, that it gives the number whose shortest decimal the word is, and no other.
+#![tactic(auto)]
+
+mod cut;
+mod puts;
+mod room;
+mod spelled;
+
+pub use cut::until;
+pub use puts::{put, put_number};
+pub use room::{append, append_number};
+pub use spelled::shortest;

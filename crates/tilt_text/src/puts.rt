@@ -1,0 +1,20 @@
+// Pieces and numbers, put to the end of a text.
+ghost use Rattle.std.specs.Prelude.{◌≡◌, ◌++◌, OnOk};
+
+use itoa::{Buffer, Integer};
+use std::alloc::AllocError as OutOfMemory;
+
+/// Puts a piece of text.
+pub fn put(text: &mut Vec<u8>, piece: &[u8]) -> Result<(), OutOfMemory>
+    ensures { OnOk result (text.new.items ≡ text.old.items ++ piece.now) }
+{
+    text.extend_from_slice(piece)
+}
+
+/// Puts a number in shortest decimal.
+pub fn put_number<I: Integer>(text: &mut Vec<u8>, number: I) -> Result<(), OutOfMemory>
+    ensures { OnOk result (text.new.items ≡ text.old.items ++ I.text number) }
+{
+    let mut buffer = Buffer::new();
+    put(text, buffer.format(number).as_bytes())
+}

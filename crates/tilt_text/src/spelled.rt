@@ -1,0 +1,13 @@
+// Words that spell numbers.
+ghost use Rattle.std.specs.Prelude.{◌≡◌};
+ghost use Rattle.tilt_text.specs.Spelled.{shortest};
+
+use tilt_base::read_shortest;
+
+/// The number whose shortest decimal the word is; `None` where it is that of no number within 64 bits.
+pub fn shortest(word: &[u8]) -> Option<i64>
+    ensures { result ≡ shortest word.now }
+{
+    let number = read_shortest(word)?;
+    Some(number)
+}
