@@ -1,10 +1,8 @@
 -- The printing of a query has a line for each statement.
-use Rattle.std.proofs.Common.{◌≡◌, ℕ, zero, suc, ◌≤◌, nat_lt, Bool, true, false, if◌then◌else◌, List, [], ◌∷◌, ◌++◌, length, Option, Some, None, ℤ, pos, negsuc, ◌≤ℤ◌, FitsSigned, refl, sym, ap, ◌∙◌, arith, inl, inr, append_assoc}
-use Rattle.std.specs.Prelude.{codes, ◌==◌, ⊤}
+use Rattle.std.proofs.Common.{◌≡◌, ℕ, zero, suc, ◌≤◌, nat_lt, Bool, true, false, if◌then◌else◌, List, [], ◌∷◌, ◌++◌, length, Option, Some, None, ℤ, pos, negsuc, ◌≤ℤ◌, FitsSigned, refl, sym, ap, ◌∙◌, arith, append_assoc}
+use Rattle.std.specs.Prelude.{codes, ⊤}
 use Rattle.std.specs.Fmt.{signed_decimal}
 use Rattle.std.specs.Int.{w64}
-use Rattle.std.specs.List.{list_all}
-use Rattle.std.proofs.lemmas.Bool.{cases_Bool, and_parts, false≢true}
 use Rattle.std.proofs.lemmas.Int.{ints}
 use Rattle.tilt_base.specs.Expression.{Leaf, One, Two, If}
 use Rattle.tilt_base.specs.declared.operator.Op1.TheVariants as op1
@@ -12,8 +10,12 @@ use Rattle.tilt_base.specs.declared.operator.Op2.{Op2}
 use Rattle.tilt_base.specs.declared.operator.Op2.TheVariants as op2
 use Rattle.tilt_base.specs.declared.reducer.Reducer.{Reducer}
 use Rattle.tilt_base.specs.declared.reducer.Reducer.TheVariants as reducer
+use Rattle.tilt_text.specs.Step.{◌>>=◌}
+use Rattle.tilt_text.proofs.Lacks.{Lacks, all_lack, lacks-append, signed_lacks}
+use Rattle.tilt_text.proofs.Words.{until-front}
+use Rattle.tilt_lexer.proofs.Fronts.{word_goes_on}
 use Rattle.tilt_lexer.specs.Tokens.{IsSound, greatest_number}
-use Rattle.tilt_lexer.specs.Word.{IsWord, begins_word, goes_on_word, key_text}
+use Rattle.tilt_lexer.specs.Word.{IsWord, goes_on_word, key_text}
 use Rattle.tilt_lexer.specs.declared.mark.Mark.TheVariants as mark
 use Rattle.tilt_lexer.specs.declared.token.Tok.{Tok}
 use Rattle.tilt_lexer.specs.declared.token.Tok.TheVariants.{Mark as Sign}
@@ -26,9 +28,7 @@ use Rattle.tilt_syntax.specs.Query.{AreGood, IsQuery, statements}
 use Rattle.tilt_syntax.specs.Rest.{AreSound}
 use Rattle.tilt_syntax.specs.Tree.{Num, Truth, Read, Reduce, ExprTree, StatementTree, Input, Let, Emit}
 use Rattle.tilt_base.specs.declared.span.Span.{Span}
-use Rattle.tilt_checkpoint.specs.Reading.{◌>>=◌, behind_line, times}
-use Rattle.tilt_checkpoint.proofs.Pieces.{Lacks, lacks-append, lacks-more, same_from, until-front}
-use Rattle.tilt_checkpoint.proofs.Words.{signed_lacks}
+use Rattle.tilt_checkpoint.specs.Reading.{behind_line, times}
 
 -- text without LF
 abbrev Plain : List ℕ → Type 0
@@ -39,27 +39,8 @@ join xs ys p q = lacks-append 10 xs ys p q
 
 -- names and numbers
 
-name_byte : (b : ℕ) → goes_on_word b ≡ true → (b == 10) ≡ false
-name_byte b h =
-    elim (cases_Bool (b == 10)) [
-      | inl same ↦ absurd (false≢true (ap goes_on_word (sym (same_from b 10 same)) ∙ h))
-      | inr other ↦ other
-    ]
-
-begins_goes : (b : ℕ) → begins_word b ≡ true → goes_on_word b ≡ true
-begins_goes b h = rw h refl
-
-rest_plain : (bs : List ℕ) → list_all goes_on_word bs ≡ true → Plain bs
-rest_plain [] h = refl
-rest_plain (b ∷ bs) h =
-    let p = and_parts (goes_on_word b) (list_all goes_on_word bs) h in
-    lacks-more 10 b bs (name_byte b p.0) (rest_plain bs p.1)
-
 name_plain : (x : List ℕ) → IsWord x → Plain x
-name_plain [] h = absurd (false≢true h)
-name_plain (b ∷ bs) h =
-    let p = and_parts (begins_word b) (list_all goes_on_word bs) h in
-    lacks-more 10 b bs (name_byte b (begins_goes b p.0)) (rest_plain bs p.1)
+name_plain x h = all_lack 10 goes_on_word refl x (word_goes_on x h)
 
 number_plain : (z : ℤ) → FitsSigned w64 z → Plain (signed_decimal z)
 number_plain z fits = signed_lacks 10 (omega arith) z fits
