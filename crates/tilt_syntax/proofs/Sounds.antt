@@ -7,7 +7,7 @@ use Rattle.tilt_lexer.specs.declared.mark.Mark.TheVariants as mark
 use Rattle.tilt_lexer.specs.declared.token.Tok.{Tok}
 use Rattle.tilt_lexer.specs.declared.token.Tok.TheVariants.{Word, Mark as Sign}
 use Rattle.tilt_lexer.specs.Tokens.{IsSound}
-use Rattle.tilt_syntax.specs.Grammar.{Infix, infix_of, IsOffset, now, later, earlier, IsExpr, tighter, choice, between, negation, minus, number, true_word, false_word, name, reading, window, is_null, if_null, enclosed, IsBound, from_zero, below_zero, IsSpan, over, MayBeSpan, no_span, some_span, MayBePeriod, no_period, some_period, IsStatement, input, definition, emission}
+use Rattle.tilt_syntax.specs.Grammar.{Infix, infix_of, SpellsOffset, now, later, earlier, IsExpr, tighter, choice, between, negation, minus, number, true_word, false_word, name, reading, window, is_null, if_null, enclosed, IsBound, from_zero, below_zero, IsSpan, over, MayBeSpan, no_span, some_span, MayBePeriod, no_period, some_period, IsStatement, input, definition, emission}
 use Rattle.tilt_syntax.specs.Printing.{level_of}
 use Rattle.tilt_syntax.specs.Query.{with_first, statements}
 use Rattle.tilt_syntax.specs.Tree.{ExprTree, StatementTree}
@@ -44,7 +44,7 @@ place_sound place level ts h =
       | inr not_lower ↦ rw not_lower h
     ]
 
-offset_sound : {ts : List Tok} {d : ℤ} → IsOffset ts d → AreSound ts → AreSound (offset_tokens d)
+offset_sound : {ts : List Tok} {d : ℤ} → SpellsOffset ts d → AreSound ts → AreSound (offset_tokens d)
 offset_sound now s = s
 offset_sound (later {n = pos zero}) s = (tt, tt)
 offset_sound (later {n = pos (suc n)}) s = s
