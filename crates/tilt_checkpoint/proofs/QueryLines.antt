@@ -12,18 +12,16 @@ use Rattle.tilt_base.specs.declared.operator.Op2.{Op2}
 use Rattle.tilt_base.specs.declared.operator.Op2.TheVariants as op2
 use Rattle.tilt_base.specs.declared.reducer.Reducer.{Reducer}
 use Rattle.tilt_base.specs.declared.reducer.Reducer.TheVariants as reducer
-use Rattle.tilt_lexer.specs.Tokens.{IsSound, greatest_number}
+use Rattle.tilt_lexer.specs.Tokens.{greatest_number}
 use Rattle.tilt_lexer.specs.Word.{IsWord, begins_word, goes_on_word, key_text}
 use Rattle.tilt_lexer.specs.declared.mark.Mark.TheVariants as mark
 use Rattle.tilt_lexer.specs.declared.token.Tok.{Tok}
 use Rattle.tilt_lexer.specs.declared.token.Tok.TheVariants.{Mark as Sign}
-use Rattle.std.proofs.lemmas.List.Elements.{recursion_from_All}
 use Rattle.tilt_syntax.proofs.Sounds.{EachSound, sound_parts, statement_sound, statements_sound}
 use Rattle.tilt_syntax.proofs.Written.{bound_tokens, domain_tokens, expr_tokens, offset_tokens, operands_tokens, period_tokens, place_tokens, span_tokens, statement_tokens}
 use Rattle.tilt_syntax.specs.Grammar.{Infix, infix_of, reducer_key}
 use Rattle.tilt_syntax.specs.Printing.{domain_text, expr_text, in_place, level_of, offset_text, operands_text, period_text, query_text, sign_text, span_text, statement_text}
-use Rattle.tilt_syntax.specs.Query.{AreGood, IsQuery, statements}
-use Rattle.tilt_syntax.specs.Rest.{AreSound}
+use Rattle.tilt_syntax.specs.Query.{AreGood, AreSound, IsQuery, statements}
 use Rattle.tilt_syntax.specs.Tree.{Num, Truth, Read, Reduce, ExprTree, StatementTree, Input, Let, Emit}
 use Rattle.tilt_base.specs.declared.span.Span.{Span}
 use Rattle.tilt_checkpoint.specs.Reading.{◌>>=◌, behind_line, times}
@@ -250,7 +248,7 @@ passed (ts ∷ rest) (s ∷ query) each good more =
 pub query-passed : (query : List StatementTree) → IsQuery query → (more : List ℕ)
     → times behind_line (length query) (query_text query ++ more) ≡ Some more
 query-passed query is more =
-    passed (statements is.tokens) query (statements_sound is.tokens (recursion_from_All IsSound is.tokens is.sound)) is.parsed.good more
+    passed (statements is.tokens) query (statements_sound is.tokens is.sound) is.parsed.good more
 
 same_count : (ss : List (List Tok)) (query : List StatementTree) → AreGood ss query → length query ≡ length ss
 same_count [] [] good = refl
