@@ -19,11 +19,11 @@ use Rattle.tilt_load.proofs.OneQuery.{refused_or_taken, taken_once}
 use Rattle.tilt_report.specs.Report.{Report, usage, refusal, read_fault, write_fault, save_fault, out_of_memory}
 use Rattle.tilt_syntax.specs.Printing as printing
 use Rattle.tilt_made.specs.TryQuery.{query_text}
-use Rattle.tilt_syntax.specs.Query.{kinds, statements, AreGood}
+use Rattle.tilt_syntax.specs.Query.{kinds, AreSound, statements, AreGood}
 use Rattle.tilt_syntax.specs.Tree.{Num, Read, Reduce, StatementTree, Input, Let, Emit}
 use Rattle.tilt_base.specs.declared.span.Span.{Span}
 use Rattle.tilt_syntax.proofs.Cuts.{query_cut}
-use Rattle.tilt_syntax.proofs.Spelling.{AreSound, lexed}
+use Rattle.tilt_syntax.proofs.Spelling.{lexed}
 use Rattle.tilt_syntax.proofs.Spelt.{query_spells}
 use Rattle.tilt_syntax.proofs.Written.{statement_tokens, statement_is}
 use Rattle.tilt_types.specs.Checked.{checked, core_of}

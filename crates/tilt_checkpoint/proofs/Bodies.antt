@@ -7,16 +7,18 @@ use Rattle.std.specs.Str.{bytes_eq}
 use Rattle.std.proofs.lemmas.Bool.{and_parts, false≢true, and_from}
 use Rattle.std.proofs.lemmas.Int.{ints}
 use Rattle.std.proofs.lemmas.Option.{same_Some, some_pair_parts}
-use Rattle.tilt_base.proofs.Comparisons.{lt_true, true_lt, le_true, true_le}
+use Rattle.tilt_base.proofs.Comparisons.{lt_true, true_lt, le_true, true_le, bytes_same, same_bytes}
 use Rattle.tilt_base.specs.declared.limits.TheConstants.{T}
+use Rattle.tilt_base.proofs.Lists.{guard_some}
+use Rattle.tilt_text.specs.Step.{◌>>=◌}
+use Rattle.tilt_text.proofs.Step.{bind_some}
 use Rattle.tilt_checkpoint.specs.Checkpoint.{BodyParts, KeptParts}
 use Rattle.tilt_checkpoint.specs.Decided.{IsFrame, decided, first_kept}
-use Rattle.tilt_checkpoint.specs.Reading.{◌>>=◌, behind, behind_moment, body_at, end_at, is_amid, is_cut, is_open, maybe_at, moment_at, number_at, rest_at, times, with_kept}
+use Rattle.tilt_checkpoint.specs.Reading.{behind, behind_moment, body_at, end_at, is_amid, is_cut, is_open, maybe_at, moment_at, number_at, rest_at, times, with_kept}
 use Rattle.tilt_checkpoint.specs.Spelling.{body_lines, series_lines, time_text}
 use Rattle.tilt_checkpoint.specs.Valid.{IsAmid, IsCell, IsCut, IsOpen, IsSeries}
 use Rattle.tilt_checkpoint.specs.declared.frame.Frame.{Frame}
 use Rattle.tilt_checkpoint.proofs.Inputs.{series-again, series-were}
-use Rattle.tilt_checkpoint.proofs.Numbers.{bind_some, bytes_same, guard_some, same_bytes}
 use Rattle.tilt_checkpoint.proofs.Pieces.{text-behind}
 use Rattle.tilt_checkpoint.proofs.Rows.{time_fits}
 use Rattle.tilt_checkpoint.proofs.Words.{number-again, number-was, maybe-again, maybe-was, none-apart}

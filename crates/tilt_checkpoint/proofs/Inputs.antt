@@ -9,14 +9,16 @@ use Rattle.std.proofs.lemmas.Int.{ints}
 use Rattle.std.proofs.lemmas.Option.{none-some, same_Some, some_pair_parts}
 use Rattle.tilt_base.proofs.Comparisons.{lt_true, true_lt, le_true, true_le}
 use Rattle.tilt_base.specs.declared.limits.TheConstants.{T}
+use Rattle.tilt_base.proofs.Lists.{guard_some}
 use Rattle.tilt_stream.proofs.Order.{last_end-low}
 use Rattle.tilt_stream.specs.Snap.{Snapshot, InOrder, last_end}
 use Rattle.tilt_stream.specs.Text.{cell_text, row_text}
+use Rattle.tilt_text.specs.Step.{◌>>=◌}
+use Rattle.tilt_text.proofs.Step.{bind_some}
 use Rattle.tilt_checkpoint.specs.Checkpoint.{KeptParts}
-use Rattle.tilt_checkpoint.specs.Reading.{◌>>=◌, behind, count_at, is_last_end, kept_at, kept_with, maybe_at, series_head, times, with_kept, with_row}
+use Rattle.tilt_checkpoint.specs.Reading.{behind, count_at, is_last_end, kept_at, kept_with, maybe_at, series_head, times, with_kept, with_row}
 use Rattle.tilt_checkpoint.specs.Spelling.{row_lines, series_lines, time_text}
 use Rattle.tilt_checkpoint.specs.Valid.{IsCell, IsKept, IsLastEnd, IsSeries}
-use Rattle.tilt_checkpoint.proofs.Numbers.{bind_some, guard_some}
 use Rattle.tilt_checkpoint.proofs.Pieces.{text-behind}
 use Rattle.tilt_checkpoint.proofs.Rows.{rows-again, rows-were, time_fits}
 use Rattle.tilt_checkpoint.proofs.Words.{count-again, count-was, maybe-again, maybe-was, none-apart}

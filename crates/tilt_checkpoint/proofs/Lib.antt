@@ -3,7 +3,6 @@ pub mod Decoded
 pub mod Frames
 pub mod Inputs
 pub mod Lines
-pub mod Numbers
 pub mod Pieces
 pub mod Queries
 pub mod QueryLines

@@ -1,9 +1,11 @@
 -- Lines that are passed.
 use Rattle.std.proofs.Common.{◌≡◌, ℕ, zero, suc, ◌≤◌, List, [], ◌∷◌, ◌++◌, length, Some, sym, ap, ◌∙◌, arith, append_assoc, length-append}
 use Rattle.std.proofs.lemmas.Option.{same_Some}
-use Rattle.tilt_checkpoint.specs.Reading.{◌>>=◌, behind_line, times, until_at}
-use Rattle.tilt_checkpoint.proofs.Numbers.{bind_some}
-use Rattle.tilt_checkpoint.proofs.Pieces.{front-until}
+use Rattle.tilt_text.specs.Step.{◌>>=◌}
+use Rattle.tilt_text.specs.Cut.{until_at}
+use Rattle.tilt_text.proofs.Step.{bind_some}
+use Rattle.tilt_text.proofs.Words.{front-until}
+use Rattle.tilt_checkpoint.specs.Reading.{behind_line, times}
 
 -- the bytes behind a line
 pub line_passed : (bytes line left : List ℕ) → until_at 10 bytes ≡ Some (line, left) → behind_line bytes ≡ Some left

@@ -1,10 +1,8 @@
 -- The printing of a query has a line for each statement.
-use Rattle.std.proofs.Common.{◌≡◌, ℕ, zero, suc, ◌≤◌, nat_lt, Bool, true, false, if◌then◌else◌, List, [], ◌∷◌, ◌++◌, length, Option, Some, None, ℤ, pos, negsuc, ◌≤ℤ◌, FitsSigned, refl, sym, ap, ◌∙◌, arith, inl, inr, append_assoc}
-use Rattle.std.specs.Prelude.{codes, ◌==◌, ⊤}
+use Rattle.std.proofs.Common.{◌≡◌, ℕ, zero, suc, nat_lt, Bool, true, false, if◌then◌else◌, List, [], ◌∷◌, ◌++◌, length, Option, Some, None, ℤ, pos, negsuc, ◌≤ℤ◌, FitsSigned, refl, sym, ap, ◌∙◌, arith, append_assoc}
+use Rattle.std.specs.Prelude.{codes, ⊤}
 use Rattle.std.specs.Fmt.{signed_decimal}
 use Rattle.std.specs.Int.{w64}
-use Rattle.std.specs.List.{list_all}
-use Rattle.std.proofs.lemmas.Bool.{cases_Bool, and_parts, false≢true}
 use Rattle.std.proofs.lemmas.Int.{ints}
 use Rattle.tilt_base.specs.Expression.{Leaf, One, Two, If}
 use Rattle.tilt_base.specs.declared.operator.Op1.TheVariants as op1
@@ -12,56 +10,37 @@ use Rattle.tilt_base.specs.declared.operator.Op2.{Op2}
 use Rattle.tilt_base.specs.declared.operator.Op2.TheVariants as op2
 use Rattle.tilt_base.specs.declared.reducer.Reducer.{Reducer}
 use Rattle.tilt_base.specs.declared.reducer.Reducer.TheVariants as reducer
-use Rattle.tilt_lexer.specs.Tokens.{IsSound, greatest_number}
-use Rattle.tilt_lexer.specs.Word.{IsWord, begins_word, goes_on_word, key_text}
+use Rattle.tilt_text.specs.Step.{◌>>=◌}
+use Rattle.tilt_text.proofs.Lacks.{Lacks, all_lack, lacks-append, signed_lacks}
+use Rattle.tilt_text.proofs.Words.{until-front}
+use Rattle.tilt_lexer.proofs.Fronts.{word_goes_on}
+use Rattle.tilt_lexer.specs.Tokens.{greatest_number}
+use Rattle.tilt_lexer.specs.Word.{IsWord, goes_on_word, key_text}
 use Rattle.tilt_lexer.specs.declared.mark.Mark.TheVariants as mark
 use Rattle.tilt_lexer.specs.declared.token.Tok.{Tok}
 use Rattle.tilt_lexer.specs.declared.token.Tok.TheVariants.{Mark as Sign}
-use Rattle.std.proofs.lemmas.List.Elements.{recursion_from_All}
 use Rattle.tilt_syntax.proofs.Sounds.{EachSound, sound_parts, statement_sound, statements_sound}
 use Rattle.tilt_syntax.proofs.Written.{bound_tokens, domain_tokens, expr_tokens, offset_tokens, operands_tokens, period_tokens, place_tokens, span_tokens, statement_tokens}
 use Rattle.tilt_syntax.specs.Grammar.{Infix, infix_of, reducer_key}
 use Rattle.tilt_syntax.specs.Printing.{domain_text, expr_text, in_place, level_of, offset_text, operands_text, period_text, query_text, sign_text, span_text, statement_text}
-use Rattle.tilt_syntax.specs.Query.{AreGood, IsQuery, statements}
-use Rattle.tilt_syntax.specs.Rest.{AreSound}
+use Rattle.tilt_syntax.specs.Query.{AreGood, AreSound, IsQuery, statements}
 use Rattle.tilt_syntax.specs.Tree.{Num, Truth, Read, Reduce, ExprTree, StatementTree, Input, Let, Emit}
 use Rattle.tilt_base.specs.declared.span.Span.{Span}
-use Rattle.tilt_checkpoint.specs.Reading.{◌>>=◌, behind_line, times}
-use Rattle.tilt_checkpoint.proofs.Pieces.{Lacks, lacks-append, lacks-more, same_from, until-front}
-use Rattle.tilt_checkpoint.proofs.Words.{signed_lacks}
+use Rattle.tilt_checkpoint.specs.Reading.{behind_line, times}
 
 -- text without LF
-abbrev Plain : List ℕ → Type 0
-Plain text = Lacks 10 text
+abbrev OneLine : List ℕ → Type 0
+OneLine text = Lacks 10 text
 
-join : (xs ys : List ℕ) → Plain xs → Plain ys → Plain (xs ++ ys)
+join : (xs ys : List ℕ) → OneLine xs → OneLine ys → OneLine (xs ++ ys)
 join xs ys p q = lacks-append 10 xs ys p q
 
 -- names and numbers
 
-name_byte : (b : ℕ) → goes_on_word b ≡ true → (b == 10) ≡ false
-name_byte b h =
-    elim (cases_Bool (b == 10)) [
-      | inl same ↦ absurd (false≢true (ap goes_on_word (sym (same_from b 10 same)) ∙ h))
-      | inr other ↦ other
-    ]
+name_plain : (x : List ℕ) → IsWord x → OneLine x
+name_plain x h = all_lack 10 goes_on_word refl x (word_goes_on x h)
 
-begins_goes : (b : ℕ) → begins_word b ≡ true → goes_on_word b ≡ true
-begins_goes b h = rw h refl
-
-rest_plain : (bs : List ℕ) → list_all goes_on_word bs ≡ true → Plain bs
-rest_plain [] h = refl
-rest_plain (b ∷ bs) h =
-    let p = and_parts (goes_on_word b) (list_all goes_on_word bs) h in
-    lacks-more 10 b bs (name_byte b p.0) (rest_plain bs p.1)
-
-name_plain : (x : List ℕ) → IsWord x → Plain x
-name_plain [] h = absurd (false≢true h)
-name_plain (b ∷ bs) h =
-    let p = and_parts (begins_word b) (list_all goes_on_word bs) h in
-    lacks-more 10 b bs (name_byte b (begins_goes b p.0)) (rest_plain bs p.1)
-
-number_plain : (z : ℤ) → FitsSigned w64 z → Plain (signed_decimal z)
+number_plain : (z : ℤ) → FitsSigned w64 z → OneLine (signed_decimal z)
 number_plain z fits = signed_lacks 10 (omega arith) z fits
 
 sound_fits : (z : ℤ) → (pos 0 ≤ℤ z) × (z ≤ℤ greatest_number) → FitsSigned w64 z
@@ -73,12 +52,12 @@ below_fits n h = let high = h.1 in record { sfits = omega (arith, ints) }
 
 -- the parts of expressions
 
-offset_plain : (d : ℤ) → AreSound (offset_tokens d) → Plain (offset_text d)
+offset_plain : (d : ℤ) → AreSound (offset_tokens d) → OneLine (offset_text d)
 offset_plain (pos zero) s = refl
 offset_plain (pos (suc n)) s = join (codes "t+") (signed_decimal (pos (suc n))) refl (number_plain (pos (suc n)) (sound_fits (pos (suc n)) s.1.1.0))
 offset_plain (negsuc n) s = join (codes "t") (signed_decimal (negsuc n)) refl (number_plain (negsuc n) (below_fits n s.1.1.0))
 
-reducer_plain : (r : Reducer) → Plain (key_text (reducer_key r))
+reducer_plain : (r : Reducer) → OneLine (key_text (reducer_key r))
 reducer_plain reducer.Sum = refl
 reducer_plain reducer.Avg = refl
 reducer_plain reducer.Min = refl
@@ -91,17 +70,17 @@ reducer_plain reducer.All = refl
 
 -- a text in its place is plain where it is
 placed : (t : Bool) (ts : List Tok) (text : List ℕ) → AreSound (if t then Sign mark.OpenParen ∷ (ts ++ (Sign mark.CloseParen ∷ [])) else ts)
-    → (AreSound ts → Plain text) → Plain (if t then codes "(" ++ text ++ codes ")" else text)
+    → (AreSound ts → OneLine text) → OneLine (if t then codes "(" ++ text ++ codes ")" else text)
 placed true ts text s h = join (codes "(" ++ text) (codes ")") (join (codes "(") text refl (h (sound_parts ts (Sign mark.CloseParen ∷ []) s.1).0)) refl
 placed false ts text s h = h s
 
-place_plain : (place level : ℕ) (ts : List Tok) (text : List ℕ) → AreSound (place_tokens place level ts) → (AreSound ts → Plain text)
-    → Plain (in_place place level text)
+place_plain : (place level : ℕ) (ts : List Tok) (text : List ℕ) → AreSound (place_tokens place level ts) → (AreSound ts → OneLine text)
+    → OneLine (in_place place level text)
 place_plain place level ts text s h = placed (nat_lt level place) ts text s h
 
 abbrev SignPlain : Option Infix → Type 0
 SignPlain None = ⊤
-SignPlain (Some i) = Plain (sign_text i.sign)
+SignPlain (Some i) = OneLine (sign_text i.sign)
 
 sign_plain : (op : Op2) → SignPlain (infix_of op)
 sign_plain op2.Add = refl
@@ -121,7 +100,7 @@ sign_plain op2.When = refl
 sign_plain op2.IfNull = tt
 
 operands_plain : (o : Option Infix) → SignPlain o → (l m : ℕ) (ts us : List Tok) (a b : List ℕ) → AreSound (operands_tokens o l ts m us)
-    → (AreSound ts → Plain a) → (AreSound us → Plain b) → Plain (operands_text o l a m b)
+    → (AreSound ts → OneLine a) → (AreSound us → OneLine b) → OneLine (operands_text o l a m b)
 operands_plain None sign l m ts us a b s p q =
     let first = sound_parts ts _ s.1.1 in
     let second = sound_parts us _ first.1.1 in
@@ -138,12 +117,12 @@ operands_plain (Some i) sign l m ts us a b s p q =
 
 -- an offset behind a name
 at_offset : (x : List ℕ) (d : ℤ) → IsWord x → AreSound (offset_tokens d ++ (Sign mark.CloseBracket ∷ []))
-    → Plain (x ++ codes "[" ++ offset_text d ++ codes "]")
+    → OneLine (x ++ codes "[" ++ offset_text d ++ codes "]")
 at_offset x d name s =
     let offset = offset_plain d (sound_parts (offset_tokens d) (Sign mark.CloseBracket ∷ []) s).0 in
     join (x ++ codes "[" ++ offset_text d) (codes "]") (join (x ++ codes "[") (offset_text d) (join x (codes "[") (name_plain x name) refl) offset) refl
 
-expr_plain : (e : ExprTree) → AreSound (expr_tokens e) → Plain (expr_text e)
+expr_plain : (e : ExprTree) → AreSound (expr_tokens e) → OneLine (expr_text e)
 expr_plain (Leaf (Num n)) s = number_plain n (sound_fits n s.0)
 expr_plain (Leaf (Truth true)) s = refl
 expr_plain (Leaf (Truth false)) s = refl
@@ -179,11 +158,11 @@ expr_plain (If c a b) s =
 
 -- the parts of statements
 
-bound_plain : (z : ℤ) → AreSound (bound_tokens z) → Plain (signed_decimal z)
+bound_plain : (z : ℤ) → AreSound (bound_tokens z) → OneLine (signed_decimal z)
 bound_plain (pos n) s = number_plain (pos n) (sound_fits (pos n) s.0)
 bound_plain (negsuc n) s = number_plain (negsuc n) (below_fits n s.1.0)
 
-span_plain : (span : Span) → AreSound (span_tokens span) → Plain (span_text span)
+span_plain : (span : Span) → AreSound (span_tokens span) → OneLine (span_text span)
 span_plain span s =
     let first = sound_parts (bound_tokens span.start) _ s.1.1 in
     let second = sound_parts (bound_tokens span.end) _ first.1.1 in
@@ -192,21 +171,21 @@ span_plain span s =
     let end = join (codes " over (" ++ signed_decimal span.start ++ codes ", ") (signed_decimal span.end) comma (bound_plain span.end second.0) in
     join (codes " over (" ++ signed_decimal span.start ++ codes ", " ++ signed_decimal span.end) (codes "]") end refl
 
-domain_plain : (domain : Option Span) → AreSound (domain_tokens domain) → Plain (domain_text domain)
+domain_plain : (domain : Option Span) → AreSound (domain_tokens domain) → OneLine (domain_text domain)
 domain_plain None s = refl
 domain_plain (Some span) s = span_plain span s
 
-period_plain : (period : Option ℤ) → AreSound (period_tokens period) → Plain (period_text period)
+period_plain : (period : Option ℤ) → AreSound (period_tokens period) → OneLine (period_text period)
 period_plain None s = refl
 period_plain (Some p) s = join (codes " every ") (signed_decimal p) refl (number_plain p (sound_fits p s.1.0))
 
 -- a line of its own
 record IsLine (text : List ℕ) : Type 0 where
   line : List ℕ
-  plain : Plain line
+  plain : OneLine line
   is : text ≡ line ++ codes "\n"
 
-line_of : (front : List ℕ) → Plain front → IsLine (front ++ codes ";\n")
+line_of : (front : List ℕ) → OneLine front → IsLine (front ++ codes ";\n")
 line_of front h = record { line = front ++ codes ";"; plain = join front (codes ";") h refl; is = sym (append_assoc front (codes ";") (codes "\n")) }
 
 statement_line : (s : StatementTree) → AreSound (statement_tokens s) → IsLine (statement_text s)
@@ -250,14 +229,4 @@ passed (ts ∷ rest) (s ∷ query) each good more =
 pub query-passed : (query : List StatementTree) → IsQuery query → (more : List ℕ)
     → times behind_line (length query) (query_text query ++ more) ≡ Some more
 query-passed query is more =
-    passed (statements is.tokens) query (statements_sound is.tokens (recursion_from_All IsSound is.tokens is.sound)) is.parsed.good more
-
-same_count : (ss : List (List Tok)) (query : List StatementTree) → AreGood ss query → length query ≡ length ss
-same_count [] [] good = refl
-same_count [] (s ∷ query) good = absurd good
-same_count (ts ∷ rest) [] good = absurd good
-same_count (ts ∷ rest) (s ∷ query) good = ap (λ (n : ℕ). suc n) (same_count rest query good.1)
-
--- there are at most 256 statements
-pub query-few : (query : List StatementTree) → IsQuery query → length query ≤ 256
-query-few query is = omega (arith, same_count (statements is.tokens) query is.parsed.good, is.parsed.few)
+    passed (statements is.tokens) query (statements_sound is.tokens is.sound) is.parsed.good more

@@ -9,13 +9,15 @@ use Rattle.std.proofs.lemmas.Int.{ints}
 use Rattle.std.proofs.lemmas.Option.{some_pair_parts}
 use Rattle.tilt_base.proofs.Comparisons.{lt_true, true_lt, le_true, true_le}
 use Rattle.tilt_base.specs.declared.limits.TheConstants.{T}
+use Rattle.tilt_base.proofs.Lists.{guard_some}
 use Rattle.tilt_stream.specs.Snap.{Snapshot, InOrder, last_end}
 use Rattle.tilt_stream.proofs.Order.{last_end-push}
 use Rattle.tilt_stream.specs.Text.{cell_text, row_text}
-use Rattle.tilt_checkpoint.specs.Reading.{◌>>=◌, follows, maybe_at, may_follow, number_at, row_at, times, with_row}
+use Rattle.tilt_text.specs.Step.{◌>>=◌}
+use Rattle.tilt_text.proofs.Step.{bind_some}
+use Rattle.tilt_checkpoint.specs.Reading.{follows, maybe_at, may_follow, number_at, row_at, times, with_row}
 use Rattle.tilt_checkpoint.specs.Spelling.{or_word, row_lines}
 use Rattle.tilt_checkpoint.specs.Valid.{IsCell, IsKept}
-use Rattle.tilt_checkpoint.proofs.Numbers.{bind_some, guard_some}
 use Rattle.tilt_checkpoint.proofs.Words.{number-again, number-was, maybe-again, maybe-was, nothing-apart}
 
 cell_is : (o : Option ℤ) → cell_text o ≡ or_word [] o

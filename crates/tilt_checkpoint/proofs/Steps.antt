@@ -1,6 +1,7 @@
 -- A step taken many times.
 use Rattle.std.proofs.Common.{◌≡◌, ℕ, suc, ◌+◌, ◌-◌, ◌<◌, Option, Some, None, sym, ap, ◌∙◌, arith}
-use Rattle.tilt_checkpoint.specs.Reading.{◌>>=◌, IsBad, times}
+use Rattle.tilt_text.specs.Step.{◌>>=◌}
+use Rattle.tilt_checkpoint.specs.Reading.{IsBad, times}
 use Rattle.tilt_checkpoint.specs.declared.fault.CheckpointFault.{CheckpointFault}
 use Rattle.tilt_checkpoint.specs.declared.fault.CheckpointFault.TheVariants.{BadCheckpoint, OutOfMemory}
 

@@ -1,37 +1,22 @@
 -- What is read up to a mark is what is spelled there.
-use Rattle.std.proofs.Common.{◌≡◌, ℕ, suc, ◌^◌, ◌<◌, Bool, true, false, if◌then◌else◌, List, [], ◌∷◌, ◌++◌, Option, Some, None, ℤ, pos, negsuc, FitsSigned, refl, sym, ap, ◌∙◌, subst, arith, inl, inr}
-use Rattle.std.specs.Prelude.{◌==◌, codes}
+use Rattle.std.proofs.Common.{◌≡◌, ℕ, ◌^◌, ◌<◌, Bool, true, false, if◌then◌else◌, List, [], ◌∷◌, ◌++◌, Option, Some, None, ℤ, pos, negsuc, FitsSigned, refl, sym, ap, ◌∙◌, subst, arith, inl, inr}
+use Rattle.std.specs.Prelude.{codes}
 use Rattle.std.specs.Fmt.{decimal, signed_decimal}
 use Rattle.std.specs.Int.{w64}
 use Rattle.std.specs.Str.{bytes_eq}
-use Rattle.std.specs.Str.Parse.{AllDigits}
 use Rattle.std.proofs.lemmas.Bool.{cases_Bool}
-use Rattle.std.proofs.lemmas.Bool.Decides.{nat_tests}
-use Rattle.std.proofs.lemmas.Fmt.{decimal_is_IsNumeral}
 use Rattle.std.proofs.lemmas.Option.{none-some, same_Some, some_pair_parts}
-use Rattle.std.proofs.lemmas.Str.Parse.{digit_from_value}
-use Rattle.tilt_checkpoint.specs.Reading.{◌>>=◌, count_at, maybe, maybe_at, natural, number_at, shortest, until_at}
+use Rattle.tilt_base.proofs.Comparisons.{bytes_same, same_bytes}
+use Rattle.tilt_text.specs.Step.{◌>>=◌}
+use Rattle.tilt_text.specs.Spelled.{shortest}
+use Rattle.tilt_text.specs.Cut.{until_at}
+use Rattle.tilt_text.proofs.Step.{bind_some}
+use Rattle.tilt_text.proofs.Numbers.{shortest-signed, signed-shortest}
+use Rattle.tilt_text.proofs.Lacks.{Lacks, lacks-more, differs, signed_lacks}
+use Rattle.tilt_text.proofs.Words.{until-front, front-until}
+use Rattle.tilt_checkpoint.specs.Reading.{count_at, maybe, maybe_at, natural, number_at}
 use Rattle.tilt_checkpoint.specs.Spelling.{or_word}
 use Rattle.tilt_checkpoint.specs.Valid.{IsCell}
-use Rattle.tilt_checkpoint.proofs.Numbers.{bind_some, bytes_same, same_bytes, shortest-signed, signed-shortest}
-use Rattle.tilt_checkpoint.proofs.Pieces.{Lacks, lacks-more, until-front, front-until}
-
-pub differs : (d m : ℕ) → m < d → (d == m) ≡ false
-differs d m h = grind (arith, nat_tests)
-
-digits_lack : (mark : ℕ) → mark < 45 → (ds : List ℕ) → AllDigits 10 ds → Lacks mark ds
-digits_lack mark h [] all = refl
-digits_lack mark h (d ∷ ds) all =
-    let range = digit_from_value d all.0 in
-    lacks-more mark d ds (differs d mark (omega arith)) (digits_lack mark h ds all.1)
-
-pub signed_lacks : (mark : ℕ) → mark < 45 → (z : ℤ) → FitsSigned w64 z → Lacks mark (signed_decimal z)
-signed_lacks mark h (pos n) fits =
-    let small : n < 2 ^ 64 = omega (arith, fits.sfits) in
-    digits_lack mark h (decimal n) (decimal_is_IsNumeral n small).0.1
-signed_lacks mark h (negsuc n) fits =
-    let small : suc n < 2 ^ 64 = omega (arith, fits.sfits) in
-    lacks-more mark 45 (decimal (suc n)) (differs 45 mark h) (digits_lack mark h (decimal (suc n)) (decimal_is_IsNumeral (suc n) small).0.1)
 
 -- numbers
 

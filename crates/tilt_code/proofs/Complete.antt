@@ -2,24 +2,26 @@
 use Rattle.std.proofs.Common.{◌≡◌, ℕ, zero, suc, ◌+◌, ◌^◌, ◌<◌, ◌≤◌, Bool, true, false, not, if◌then◌else◌, nat_eq, List, [], ◌∷◌, ◌++◌, length, map, Option, Some, None, ℤ, pos, Contains, IsTrue, refl, sym, ap, ◌∙◌, subst, arith, inl, inr, append-nil, append_assoc, length-append}
 use Rattle.std.specs.List.{flat_map, list_any, AllByRecursion}
 use Rattle.std.specs.Str.{bytes_eq}
-use Rattle.std.proofs.lemmas.Bool.{cases_Bool}
+use Rattle.std.proofs.lemmas.Bool.{cases_Bool, and_from}
 use Rattle.std.proofs.lemmas.List.Elements.{Contains-append_right}
 use Rattle.tilt_base.proofs.Lists.{all-append}
 use Rattle.tilt_base.specs.Grid.{GridPoints}
+use Rattle.tilt_base.proofs.Comparisons.{bytes_same, same_number}
+use Rattle.tilt_text.specs.Step.{◌>>=◌}
+use Rattle.tilt_text.proofs.Lacks.{Lacks}
+use Rattle.tilt_text.proofs.Step.{bind_some}
 use Rattle.tilt_lexer.specs.Word.{AreDistinct}
 use Rattle.tilt_code.specs.Code.{Block, LoopParts, CodeParts}
 use Rattle.tilt_code.specs.Grammar.{IsInstr, IsInputName, IsBlock, IsLoop, IsGrammatical, stands_in_map, stands_in_body}
 use Rattle.tilt_code.specs.Line.{line_text}
 use Rattle.tilt_code.specs.Listing.{block_lines, map_lines, loop_lines, code_lines}
 use Rattle.tilt_code.specs.Partial.{PartialCode, nothing, is_nil, stands_in, with_line}
-use Rattle.tilt_code.specs.Reading.{◌>>=◌}
 use Rattle.tilt_code.specs.declared.instr.Instr.{Instr}
 use Rattle.tilt_code.specs.declared.line.Line.{Line}
 use Rattle.tilt_code.specs.declared.line.Line.TheVariants as line
 use Rattle.tilt_code.specs.declared.stage.Stage.{Stage}
 use Rattle.tilt_code.specs.declared.stage.Stage.TheVariants as stage
-use Rattle.tilt_code.proofs.LineText.{IsLine, Lacks, both_true, text_again, text_lacks}
-use Rattle.tilt_code.proofs.Numbers.{bind_some, bytes_same, same_number}
+use Rattle.tilt_code.proofs.LineText.{IsLine, text_again, text_lacks}
 use Rattle.tilt_code.proofs.Partials.{take_text}
 
 -- what lines make, one behind the other
@@ -60,7 +62,7 @@ module _ (s : Stage) (inputs : List (List ℕ)) (loops : List LoopParts) (lo hi 
   block-run register front (x ∷ xs) h all =
       let next : suc register ≡ length (front ++ x ∷ []) = omega (arith, length-append front (x ∷ [])) in
       let number : nat_eq register (length front) ≡ true = rw (← h) (same_number register) in
-      let tests = both_true (stands_in s x) (nat_eq register (length front)) all.0.0 number in
+      let tests = and_from (stands_in s x) (nat_eq register (length front)) all.0.0 number in
       ap (λ (t : Bool). (if t then Some (at s inputs loops lo hi grid maps (front ++ x ∷ [])) else None) >>= λ q. run q (block_lines (suc register) xs)) tests ∙ block-run (suc register) (front ++ x ∷ []) xs next all.1 ∙ ap (λ (b : Block). Some (at s inputs loops lo hi grid maps b)) (append_assoc front (x ∷ []) xs)
 
 pub length_some : {X : Type 0} (xs : List X) → 0 < length xs → is_nil xs ≡ false

@@ -6,6 +6,7 @@ use Rattle.std.proofs.lemmas.Int.{ints}
 use Rattle.std.proofs.lemmas.List.{map-append}
 use Rattle.std.proofs.lemmas.Option.{same_Some}
 use Rattle.tilt_base.proofs.Lists.{all-append}
+use Rattle.tilt_text.proofs.Step.{bind_some}
 use Rattle.tilt_code.specs.Code.{Block, LoopParts, CodeParts}
 use Rattle.tilt_code.specs.Fault.{IsFront}
 use Rattle.tilt_code.specs.Grammar.{IsBlock, IsLoop, IsGrammatical, stands_in_map, stands_in_body}
@@ -19,7 +20,6 @@ use Rattle.tilt_code.specs.declared.line.Line.TheVariants as line
 use Rattle.tilt_code.specs.declared.stage.Stage.{Stage}
 use Rattle.tilt_code.specs.declared.stage.Stage.TheVariants as stage
 use Rattle.tilt_code.proofs.Complete.{code-run, code-fits, run_texts, texts-run, texts-front}
-use Rattle.tilt_code.proofs.Numbers.{bind_some}
 use Rattle.tilt_code.proofs.Partials.{IsOpen, IsPartial, IsPartialAt, nothing-is, opened, written_in, written, take_text, text-sound}
 
 -- an open block, filled where it is empty

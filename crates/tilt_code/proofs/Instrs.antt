@@ -8,7 +8,7 @@ use Rattle.std.specs.Str.{bytes_eq}
 use Rattle.std.proofs.lemmas.Bool.{cases_Bool, and_parts}
 use Rattle.std.proofs.lemmas.Int.{ints}
 use Rattle.std.proofs.lemmas.Option.{none-some, same_Some, some_pair_parts}
-use Rattle.tilt_base.proofs.Comparisons.{lt_true, true_lt}
+use Rattle.tilt_base.proofs.Comparisons.{lt_true, true_lt, bytes_same}
 use Rattle.tilt_base.specs.Offset.{IsOffset}
 use Rattle.tilt_base.specs.Reduce.{reducer_word}
 use Rattle.tilt_base.specs.declared.limits.TheConstants.{OFFSET}
@@ -18,13 +18,18 @@ use Rattle.tilt_base.specs.declared.operator.Op2.{Op2}
 use Rattle.tilt_base.specs.declared.operator.Op2.TheVariants as op2
 use Rattle.tilt_base.specs.declared.reducer.Reducer.{Reducer}
 use Rattle.tilt_base.specs.declared.reducer.Reducer.TheVariants as reducer
+use Rattle.tilt_base.proofs.Lists.{guard_some}
+use Rattle.tilt_text.specs.Step.{◌>>=◌}
+use Rattle.tilt_text.specs.Spelled.{shortest}
+use Rattle.tilt_text.proofs.Step.{bind_some}
+use Rattle.tilt_text.proofs.Numbers.{shortest-signed, signed-shortest}
 use Rattle.tilt_code.specs.Grammar.{IsInstr, IsNumber, IsWindow}
 use Rattle.tilt_code.specs.Line.{one_word, two_word, buffer_word, register_word, map_word, instr_words}
-use Rattle.tilt_code.specs.Reading.{◌>>=◌, shortest, named, number_at, named_at, is_offset, offset_at, reducer_at, map_at, const_at, port_at, win_at, if_at, two_at, one_at, form_at, instr_at}
+use Rattle.tilt_code.specs.Reading.{named, number_at, named_at, is_offset, offset_at, reducer_at, map_at, const_at, port_at, win_at, if_at, two_at, one_at, form_at, instr_at}
 use Rattle.tilt_code.specs.declared.instr.Instr.{Instr}
 use Rattle.tilt_code.specs.declared.instr.Instr.TheVariants as instr
 use Rattle.tilt_code.specs.declared.word.TheConstants.{ONES, TWOS, REDUCERS}
-use Rattle.tilt_code.proofs.Numbers.{bind_some, guard_some, bytes_same, shortest-signed, signed-shortest, named-decimal, decimal-named}
+use Rattle.tilt_code.proofs.Numbers.{named-decimal, decimal-named}
 
 abbrev pub Words : Type 0
 Words = List (List ℕ)

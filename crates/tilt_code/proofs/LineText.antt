@@ -1,19 +1,15 @@
 -- What is read of a line is its text, and its text is read.
-use Rattle.std.proofs.Common.{◌≡◌, ℕ, suc, ◌^◌, ◌<◌, ◌≤◌, Bool, true, false, ◌&&◌, not, if◌then◌else◌, List, [], ◌∷◌, ◌++◌, Option, Some, None, ℤ, pos, negsuc, neg_ℤ, ◌≤ℤ◌, FitsSigned, refl, sym, ap, ◌∙◌, subst, arith, inl, inr, append-nil, append_assoc}
+use Rattle.std.proofs.Common.{◌≡◌, ℕ, ◌^◌, ◌<◌, Bool, true, false, ◌&&◌, not, if◌then◌else◌, List, [], ◌∷◌, ◌++◌, Option, Some, None, ℤ, pos, neg_ℤ, FitsSigned, refl, sym, ap, ◌∙◌, subst, arith, inl, inr, append-nil, append_assoc}
 use Rattle.std.specs.Prelude.{codes, ◌==◌, int_lt, int_le}
 use Rattle.std.specs.Fmt.{decimal, signed_decimal}
 use Rattle.std.specs.Int.{w64}
-use Rattle.std.specs.Char.{is_ascii_digit}
 use Rattle.std.specs.Str.{bytes_eq}
-use Rattle.std.specs.Str.Parse.{AllDigits}
-use Rattle.std.specs.List.{list_all}
-use Rattle.std.proofs.lemmas.Bool.{cases_Bool, and_parts, or_left, false≢true}
-use Rattle.std.proofs.lemmas.Bool.Decides.{nat_tests}
-use Rattle.std.proofs.lemmas.Fmt.{decimal_is_IsNumeral}
+use Rattle.std.specs.List.{join_with_byte, list_all}
+use Rattle.std.proofs.lemmas.Bool.{cases_Bool, and_parts, and_from, not-true}
 use Rattle.std.proofs.lemmas.Int.{ints}
+use Rattle.std.proofs.lemmas.List.Splits.{join_with_byte-slice_split}
 use Rattle.std.proofs.lemmas.Option.{same_Some}
-use Rattle.std.proofs.lemmas.Str.Parse.{digit_from_value}
-use Rattle.tilt_base.proofs.Comparisons.{lt_true, true_lt}
+use Rattle.tilt_base.proofs.Comparisons.{lt_true, true_lt, le_true, true_le, bytes_same}
 use Rattle.tilt_base.specs.Grid.{GridPoints, IsGrid}
 use Rattle.tilt_base.specs.Reduce.{reducer_word}
 use Rattle.tilt_base.specs.declared.limits.TheConstants.{WIDE, PERIOD}
@@ -23,18 +19,23 @@ use Rattle.tilt_base.specs.declared.operator.Op2.{Op2}
 use Rattle.tilt_base.specs.declared.operator.Op2.TheVariants as op2
 use Rattle.tilt_base.specs.declared.reducer.Reducer.{Reducer}
 use Rattle.tilt_base.specs.declared.reducer.Reducer.TheVariants as reducer
-use Rattle.tilt_lexer.specs.Word.{begins_word, goes_on_word, is_word, IsWord}
+use Rattle.tilt_base.proofs.Lists.{guard_some}
+use Rattle.tilt_text.specs.Step.{◌>>=◌}
+use Rattle.tilt_text.proofs.Lacks.{Lacks, lacks-more, lacks-parts, lacks-append, all_lack, decimal_lacks, signed_lacks}
+use Rattle.tilt_text.proofs.Step.{bind_some}
+use Rattle.tilt_lexer.specs.Word.{goes_on_word, is_word, IsWord}
+use Rattle.tilt_lexer.proofs.Fronts.{word_goes_on}
 use Rattle.tilt_code.specs.Grammar.{IsInstr, IsInputName, IsNumber, IsStretch, IsWindow}
 use Rattle.tilt_code.specs.Line.{one_word, two_word, buffer_word, register_word, map_word, instr_words, line_words, line_text, spaced}
-use Rattle.tilt_code.specs.Reading.{◌>>=◌, named, word_at, number_at, only, pieces, onto, is_reserved, is_input_name, input_line, is_grid, is_stretch, grid_of, head_at, title_at, step_at, other_at, whole_line, last_word, line_of, instr_at}
+use Rattle.tilt_code.specs.Reading.{named, word_at, number_at, only, pieces, is_reserved, is_input_name, input_line, is_grid, is_stretch, grid_of, head_at, title_at, step_at, other_at, whole_line, last_word, line_of, instr_at}
 use Rattle.tilt_code.specs.declared.instr.Instr.{Instr}
 use Rattle.tilt_code.specs.declared.instr.Instr.TheVariants as instr
 use Rattle.tilt_code.specs.declared.line.Line.{Line}
 use Rattle.tilt_code.specs.declared.line.Line.TheVariants as line
 use Rattle.tilt_code.proofs.Instrs.{Words, choose, pair_is, number_takes, number_again, bounded_fits, offset_fits, instr_takes, instr_again}
 use Rattle.tilt_code.proofs.Names.{reserved_true, true_reserved}
-use Rattle.tilt_code.proofs.Pieces.{pieces_some}
-use Rattle.tilt_code.proofs.Numbers.{bind_some, guard_some, bytes_same, same_from, same_number, named-decimal, decimal-named}
+use Rattle.tilt_code.proofs.Pieces.{pieces_front, pieces_lone}
+use Rattle.tilt_code.proofs.Numbers.{named-decimal, decimal-named}
 
 -- a line whose numbers lie within their bounds, and whose name may be an input's
 abbrev pub IsLine : Line → Type 0
@@ -59,15 +60,6 @@ true_input_name name h =
       | inr other ↦ rw (h.0, other) refl
     ]
 
-le_true : (a b : ℤ) → int_le a b ≡ true → a ≤ℤ b
-le_true a b h = grind (arith, ints)
-
-true_le : (a b : ℤ) → a ≤ℤ b → int_le a b ≡ true
-true_le a b h = grind (arith, ints)
-
-pub both_true : (a b : Bool) → a ≡ true → b ≡ true → (a && b) ≡ true
-both_true a b p q = rw (p, q) refl
-
 stretch_true : (lo hi : ℤ) → is_stretch lo hi ≡ true → IsStretch lo hi
 stretch_true lo hi h =
     let p = and_parts (int_le (neg_ℤ WIDE) lo && int_lt lo hi) (int_le hi WIDE) h in
@@ -76,7 +68,7 @@ stretch_true lo hi h =
 
 true_stretch : (lo hi : ℤ) → IsStretch lo hi → is_stretch lo hi ≡ true
 true_stretch lo hi h =
-    both_true (int_le (neg_ℤ WIDE) lo && int_lt lo hi) (int_le hi WIDE) (both_true (int_le (neg_ℤ WIDE) lo) (int_lt lo hi) (true_le (neg_ℤ WIDE) lo h.low) (true_lt lo hi h.some_ticks)) (true_le hi WIDE h.high)
+    and_from (int_le (neg_ℤ WIDE) lo && int_lt lo hi) (int_le hi WIDE) (and_from (int_le (neg_ℤ WIDE) lo) (int_lt lo hi) (true_le (neg_ℤ WIDE) lo h.low) (true_lt lo hi h.some_ticks)) (true_le hi WIDE h.high)
 
 grid_true : (grid : GridPoints) → is_grid grid.period grid.offset ≡ true → IsGrid grid
 grid_true grid h =
@@ -92,9 +84,9 @@ grid_true grid h =
 
 true_grid : (grid : GridPoints) → IsGrid grid → is_grid grid.period grid.offset ≡ true
 true_grid grid h =
-    let q = both_true (int_le (pos 1) grid.period) (int_le grid.period PERIOD) (true_le (pos 1) grid.period h.period_low) (true_le grid.period PERIOD h.period_high) in
-    let p = both_true (int_le (pos 1) grid.period && int_le grid.period PERIOD) (int_le (pos 0) grid.offset) q (true_le (pos 0) grid.offset h.offset_low) in
-    both_true (int_le (pos 1) grid.period && int_le grid.period PERIOD && int_le (pos 0) grid.offset) (int_lt grid.offset grid.period) p (true_lt grid.offset grid.period h.offset_high)
+    let q = and_from (int_le (pos 1) grid.period) (int_le grid.period PERIOD) (true_le (pos 1) grid.period h.period_low) (true_le grid.period PERIOD h.period_high) in
+    let p = and_from (int_le (pos 1) grid.period && int_le grid.period PERIOD) (int_le (pos 0) grid.offset) q (true_le (pos 0) grid.offset h.offset_low) in
+    and_from (int_le (pos 1) grid.period && int_le grid.period PERIOD && int_le (pos 0) grid.offset) (int_lt grid.offset grid.period) p (true_lt grid.offset grid.period h.offset_high)
 
 stretch_fits : (lo hi : ℤ) → IsStretch lo hi → FitsSigned w64 lo × FitsSigned w64 hi
 stretch_fits lo hi h =
@@ -268,43 +260,26 @@ Plain bytes = list_all is_plain bytes ≡ true
 abbrev AllPlain : Words → Type 0
 AllPlain words = list_all (list_all is_plain) words ≡ true
 
-plain_goes : (b : ℕ) → goes_on_word b ≡ true → is_plain b ≡ true
-plain_goes b h =
-    elim (cases_Bool (b == 32)) [
-      | inl same ↦ absurd (false≢true (sym (ap goes_on_word (same_from b 32 same)) ∙ h))
-      | inr other ↦ elim (cases_Bool (b == 10)) [
-        | inl same ↦ absurd (false≢true (sym (ap goes_on_word (same_from b 10 same)) ∙ h))
-        | inr behind ↦ rw (other, behind) refl
-      ]
-    ]
+plain_byte : (b : ℕ) → (b == 32) ≡ false → (b == 10) ≡ false → is_plain b ≡ true
+plain_byte b p q = rw (p, q) refl
 
-plain_all : (bs : List ℕ) → list_all goes_on_word bs ≡ true → Plain bs
-plain_all [] h = refl
-plain_all (b ∷ bs) h =
-    let p = and_parts (goes_on_word b) (list_all goes_on_word bs) h in
-    both_true (is_plain b) (list_all is_plain bs) (plain_goes b p.0) (plain_all bs p.1)
+plain_from : (bs : List ℕ) → Lacks 32 bs → Lacks 10 bs → Plain bs
+plain_from [] p q = refl
+plain_from (b ∷ bs) p q =
+    let blank = lacks-parts 32 b bs p in
+    let end = lacks-parts 10 b bs q in
+    and_from (is_plain b) (list_all is_plain bs) (plain_byte b blank.0 end.0) (plain_from bs blank.1 end.1)
 
 plain_word : (name : List ℕ) → IsWord name → Plain name
-plain_word [] h = refl
-plain_word (b ∷ bs) h =
-    let p = and_parts (begins_word b) (list_all goes_on_word bs) h in
-    both_true (is_plain b) (list_all is_plain bs) (plain_goes b (or_left (begins_word b) (is_ascii_digit b) p.0)) (plain_all bs p.1)
-
-plain_digit : (d : ℕ) → 48 ≤ d → d < 58 → is_plain d ≡ true
-plain_digit d low high = grind (arith, nat_tests)
-
-plain_digits : (ds : List ℕ) → AllDigits 10 ds → Plain ds
-plain_digits [] h = refl
-plain_digits (d ∷ ds) h =
-    let range = digit_from_value d h.0 in
-    both_true (is_plain d) (list_all is_plain ds) (plain_digit d (omega arith) (omega arith)) (plain_digits ds h.1)
+plain_word name h =
+    let all = word_goes_on name h in
+    plain_from name (all_lack 32 goes_on_word refl name all) (all_lack 10 goes_on_word refl name all)
 
 plain_decimal : (n : ℕ) → n < 2 ^ 64 → Plain (decimal n)
-plain_decimal n small = plain_digits (decimal n) (decimal_is_IsNumeral n small).0.1
+plain_decimal n small = plain_from (decimal n) (decimal_lacks 32 (omega arith) n small) (decimal_lacks 10 (omega arith) n small)
 
 plain_signed : (z : ℤ) → FitsSigned w64 z → Plain (signed_decimal z)
-plain_signed (pos n) h = plain_decimal n (omega (arith, h.sfits))
-plain_signed (negsuc n) h = plain_decimal (suc n) (omega (arith, h.sfits))
+plain_signed z h = plain_from (signed_decimal z) (signed_lacks 32 (omega arith) z h) (signed_lacks 10 (omega arith) z h)
 
 plain_reducer : (r : Reducer) → Plain (reducer_word r)
 plain_reducer reducer.Sum = refl
@@ -340,7 +315,7 @@ plain_two op2.When = refl
 plain_two op2.IfNull = refl
 
 plain_then : (w : List ℕ) (ws : Words) → Plain w → AllPlain ws → AllPlain (w ∷ ws)
-plain_then w ws p q = both_true (list_all is_plain w) (list_all (list_all is_plain) ws) p q
+plain_then w ws p q = and_from (list_all is_plain w) (list_all (list_all is_plain) ws) p q
 
 number_then : (n : ℕ) (ws : Words) → n < 2 ^ 32 → AllPlain ws → AllPlain (decimal n ∷ ws)
 number_then n ws small q = plain_then (decimal n) ws (plain_decimal n (omega arith)) q
@@ -373,54 +348,22 @@ line_plain line.End h = refl
 
 -- the text of a line
 
--- no byte is the mark
-abbrev pub Lacks : ℕ → List ℕ → Type 0
-Lacks mark [] = Unit {0}
-Lacks mark (b ∷ bs) = ((b == mark) ≡ false) × Lacks mark bs
-
-Lacks-append : (mark : ℕ) (xs ys : List ℕ) → Lacks mark xs → Lacks mark ys → Lacks mark (xs ++ ys)
-Lacks-append mark [] ys p q = q
-Lacks-append mark (x ∷ xs) ys p q = (p.0, Lacks-append mark xs ys p.1 q)
-
-not_true : (b : Bool) → not b ≡ true → b ≡ false
-not_true true e = cc e
-not_true false e = refl
-
 plain_lacks : (bs : List ℕ) → Plain bs → Lacks 32 bs × Lacks 10 bs
-plain_lacks [] h = (tt, tt)
+plain_lacks [] h = (refl, refl)
 plain_lacks (b ∷ bs) h =
     let p = and_parts (is_plain b) (list_all is_plain bs) h in
     let q = and_parts (not (b == 32)) (not (b == 10)) p.0 in
     let rest = plain_lacks bs p.1 in
-    ((not_true (b == 32) q.0, rest.0), (not_true (b == 10) q.1, rest.1))
+    (lacks-more 32 b bs (not-true (b == 32) q.0) rest.0, lacks-more 10 b bs (not-true (b == 10) q.1) rest.1)
 
--- the piece in front of a mark
-pub pieces_front : (mark : ℕ) (front rest : List ℕ) → Lacks mark front → pieces mark (front ++ mark ∷ rest) ≡ front ∷ pieces mark rest
-pieces_front mark [] rest h = rw (same_number mark) refl
-pieces_front mark (b ∷ bs) rest h = rw (h.0, pieces_front mark bs rest h.1) refl
-
--- the one piece where there is no mark
-pub pieces_lone : (mark : ℕ) (bytes : List ℕ) → Lacks mark bytes → pieces mark bytes ≡ bytes ∷ []
-pieces_lone mark [] h = refl
-pieces_lone mark (b ∷ bs) h = rw (h.0, pieces_lone mark bs h.1) refl
-
-spaced_then : (w : List ℕ) (ws : Words) → (ws ≡ [] → ⊥) → spaced (w ∷ ws) ≡ w ++ codes " " ++ spaced ws
-spaced_then w [] h = absurd (h refl)
-spaced_then w (v ∷ ws) h = refl
-
-spaced_onto : (b : ℕ) (ws : Words) → spaced (onto b ws) ≡ b ∷ spaced ws
-spaced_onto b [] = refl
-spaced_onto b (w ∷ []) = refl
-spaced_onto b (w ∷ v ∷ ws) = refl
+spaced_joined : (ws : Words) → spaced ws ≡ join_with_byte 32 ws
+spaced_joined [] = refl
+spaced_joined (w ∷ []) = refl
+spaced_joined (w ∷ v ∷ ws) = append_assoc w (codes " ") (spaced (v ∷ ws)) ∙ ap (λ (t : List ℕ). w ++ 32 ∷ t) (spaced_joined (v ∷ ws))
 
 -- pieces with blanks between them are the bytes
 spaced_pieces : (bytes : List ℕ) → spaced (pieces 32 bytes) ≡ bytes
-spaced_pieces [] = refl
-spaced_pieces (b ∷ bs) =
-    elim (cases_Bool (b == 32)) [
-      | inl same ↦ rw same (spaced_then [] (pieces 32 bs) (pieces_some 32 bs) ∙ (λ i. sym (same_from b 32 same) i ∷ spaced_pieces bs i))
-      | inr other ↦ rw other (spaced_onto b (pieces 32 bs) ∙ ap (λ (l : List ℕ). b ∷ l) (spaced_pieces bs))
-    ]
+spaced_pieces bytes = spaced_joined (pieces 32 bytes) ∙ join_with_byte-slice_split 32 bytes
 
 -- words with blanks between them are cut into the words
 pieces_spaced : (w : List ℕ) (ws : Words) → AllPlain (w ∷ ws) → pieces 32 (spaced (w ∷ ws)) ≡ w ∷ ws
@@ -430,11 +373,11 @@ pieces_spaced w (v ∷ ws) h =
     ap (pieces 32) (append_assoc w (codes " ") (spaced (v ∷ ws))) ∙ pieces_front 32 w (spaced (v ∷ ws)) (plain_lacks w p.0).0 ∙ ap (λ (l : Words). w ∷ l) (pieces_spaced v ws p.1)
 
 spaced_lacks : (ws : Words) → AllPlain ws → Lacks 10 (spaced ws)
-spaced_lacks [] h = tt
+spaced_lacks [] h = refl
 spaced_lacks (w ∷ []) h = (plain_lacks w (and_parts (list_all is_plain w) true h).0).1
 spaced_lacks (w ∷ v ∷ ws) h =
     let p = and_parts (list_all is_plain w) (list_all (list_all is_plain) (v ∷ ws)) h in
-    Lacks-append 10 (w ++ codes " ") (spaced (v ∷ ws)) (Lacks-append 10 w (codes " ") (plain_lacks w p.0).1 (refl, tt)) (spaced_lacks (v ∷ ws) p.1)
+    lacks-append 10 (w ++ codes " ") (spaced (v ∷ ws)) (lacks-append 10 w (codes " ") (plain_lacks w p.0).1 refl) (spaced_lacks (v ∷ ws) p.1)
 
 line_pieces : (l : Line) → AllPlain (line_words l) → pieces 32 (line_text l) ≡ line_words l
 line_pieces line.Title h = refl

@@ -3,11 +3,11 @@ use Rattle.std.proofs.Common.{◌≡◌, ℕ, Bool, true, false, List, [], ◌�
 use Rattle.std.specs.List.{list_any}
 use Rattle.std.specs.Str.{bytes_eq}
 use Rattle.std.proofs.lemmas.Bool.{cases_Bool}
+use Rattle.tilt_base.proofs.Comparisons.{bytes_same}
 use Rattle.tilt_lexer.specs.Word.{key_text, IsReserved}
 use Rattle.tilt_lexer.specs.declared.key.Key.{Key}
 use Rattle.tilt_lexer.specs.declared.key.Key.TheVariants as key
 use Rattle.tilt_code.specs.Reading.{is_reserved, keys}
-use Rattle.tilt_code.proofs.Numbers.{bytes_same}
 
 any_some : {X : Type 0} (test : X → Bool) (xs : List X) → list_any test xs ≡ true → (x : X) × (test x ≡ true)
 any_some test [] e = absurd (cc e)

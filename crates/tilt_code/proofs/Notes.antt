@@ -3,11 +3,13 @@ use Rattle.std.proofs.Common.{◌≡◌, ℕ, suc, ◌+◌, ◌-◌, Bool, true,
 use Rattle.std.proofs.lemmas.Bool.{cases_Bool, and_parts}
 use Rattle.std.proofs.lemmas.Option.{none-some, same_Some}
 use Rattle.tilt_base.specs.Grid.{GridPoints}
+use Rattle.tilt_base.proofs.Lists.{guard_some}
+use Rattle.tilt_text.specs.Step.{◌>>=◌}
+use Rattle.tilt_text.proofs.Step.{bind_some}
 use Rattle.tilt_code.specs.Fault.{Counted, count_line, count_lines, is_good, AreGood}
 use Rattle.tilt_code.specs.Grammar.{stands_in_map, stands_in_body}
 use Rattle.tilt_code.specs.Line.{line_text}
 use Rattle.tilt_code.specs.Partial.{PartialCode, Progress, is_nil, is_new, with_title, with_input, with_head, with_map, with_step, with_end, with_line, with_text, note, refers_back, open_loop}
-use Rattle.tilt_code.specs.Reading.{◌>>=◌}
 use Rattle.tilt_code.specs.References.{refers_below}
 use Rattle.tilt_code.specs.declared.instr.Instr.{Instr}
 use Rattle.tilt_code.specs.declared.line.Line.{Line}
@@ -18,7 +20,6 @@ use Rattle.tilt_code.specs.declared.stage.Stage.TheVariants as stage
 use Rattle.tilt_code.proofs.Complete.{AreLines}
 use Rattle.tilt_code.proofs.Counts.{map_refers}
 use Rattle.tilt_code.proofs.LineText.{IsLine, text_again}
-use Rattle.tilt_code.proofs.Numbers.{bind_some, guard_some}
 use Rattle.tilt_code.proofs.Partials.{IsPartial, IsPartialAt, guard_else, line-sound}
 use Rattle.tilt_code.proofs.Texts.{runs}
 

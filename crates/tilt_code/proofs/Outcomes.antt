@@ -4,13 +4,16 @@ use Rattle.std.specs.Prelude.{IfOk, IfErr, MatchResult}
 use Rattle.std.specs.List.{AllByRecursion}
 use Rattle.std.proofs.lemmas.Bool.{cases_Bool, and_parts}
 use Rattle.std.proofs.lemmas.Option.{none-some, same_Some}
+use Rattle.tilt_text.specs.Step.{◌>>=◌}
+use Rattle.tilt_text.proofs.Lacks.{Lacks}
+use Rattle.tilt_text.proofs.Step.{bind_some}
 use Rattle.tilt_code.specs.Code.{CodeParts}
 use Rattle.tilt_code.specs.Fault.{code_texts, IsFront, IsListing, IsBadLine, IsBadReference, AreGood, count_lines, is_good, none_counted}
 use Rattle.tilt_code.specs.Grammar.{IsGrammatical}
 use Rattle.tilt_code.specs.Line.{line_text}
 use Rattle.tilt_code.specs.Listing.{code_lines, ended, listing}
 use Rattle.tilt_code.specs.Partial.{PartialCode, Progress, nothing, is_nil, is_end, is_whole, with_text, or_line, read_from, read_text, code_of, Gives}
-use Rattle.tilt_code.specs.Reading.{◌>>=◌, pieces}
+use Rattle.tilt_code.specs.Reading.{pieces}
 use Rattle.tilt_code.specs.References.{IsCode}
 use Rattle.tilt_code.specs.declared.fault.CodeFault.{CodeFault}
 use Rattle.tilt_code.specs.declared.fault.CodeFault.TheVariants as fault
@@ -21,11 +24,10 @@ use Rattle.tilt_code.specs.declared.stage.Stage.TheVariants as stage
 use Rattle.tilt_code.proofs.Complete.{at, code-run, code-fits, run_texts, texts-run, texts-front, texts-lack, length_some}
 use Rattle.tilt_code.proofs.Counts.{code-good, good-code}
 use Rattle.tilt_code.proofs.Fronts.{texts-sound, taken-front, front-taken}
-use Rattle.tilt_code.proofs.LineText.{IsLine, Lacks, pieces_front, pieces_lone}
+use Rattle.tilt_code.proofs.LineText.{IsLine}
 use Rattle.tilt_code.proofs.Notes.{noted-none, noted-first, Verdict, all_good, first_bad, verdict}
-use Rattle.tilt_code.proofs.Numbers.{bind_some}
 use Rattle.tilt_code.proofs.Partials.{IsPartial, nothing-is, written, written_in, take_text, nil_true, some_length}
-use Rattle.tilt_code.proofs.Pieces.{pieces_some}
+use Rattle.tilt_code.proofs.Pieces.{pieces_some, pieces_front, pieces_lone}
 use Rattle.tilt_code.proofs.Texts.{joined, joined_pieces, joined_then, joined_append, pieces_ended, pieces_lack, lacks_within, within_lacks, runs, read_runs, read_from-then, Told, whole, early, refused, Stops, stops, runs-taken, taken-runs, refused-taken}
 
 abbrev start : Progress

@@ -7,15 +7,17 @@ use Rattle.std.proofs.lemmas.Grind.{flat_map-append}
 use Rattle.std.proofs.lemmas.List.{map-append}
 use Rattle.std.proofs.lemmas.List.Elements.{Contains-append_cases}
 use Rattle.std.proofs.lemmas.Option.{none-some, same_Some}
-use Rattle.tilt_base.proofs.Lists.{all-append, Contains-cons_cases}
+use Rattle.tilt_base.proofs.Lists.{all-append, Contains-cons_cases, guard_some}
 use Rattle.tilt_base.specs.Grid.{GridPoints, IsGrid}
+use Rattle.tilt_base.proofs.Comparisons.{same_bytes}
+use Rattle.tilt_text.specs.Step.{◌>>=◌}
+use Rattle.tilt_text.proofs.Step.{bind_some}
 use Rattle.tilt_lexer.specs.Word.{AreDistinct}
 use Rattle.tilt_code.specs.Code.{Block, LoopParts}
 use Rattle.tilt_code.specs.Grammar.{IsInstr, IsInputName, IsNumber, IsStretch, IsBlock, IsLoop, stands_in_map, stands_in_body}
 use Rattle.tilt_code.specs.Line.{line_text}
 use Rattle.tilt_code.specs.Listing.{block_lines, map_lines, loop_lines}
 use Rattle.tilt_code.specs.Partial.{PartialCode, nothing, is_nil, is_new, with_title, with_input, with_head, with_map, with_step, open_loop, with_end, with_line, line_read}
-use Rattle.tilt_code.specs.Reading.{◌>>=◌}
 use Rattle.tilt_code.specs.declared.instr.Instr.{Instr}
 use Rattle.tilt_code.specs.declared.line.Line.{Line}
 use Rattle.tilt_code.specs.declared.line.Line.TheVariants as line
@@ -23,7 +25,6 @@ use Rattle.tilt_code.specs.declared.stage.Stage.{Stage}
 use Rattle.tilt_code.specs.declared.stage.Stage.TheVariants as stage
 use Rattle.tilt_code.proofs.LineText.{IsLine, text_takes}
 use Rattle.tilt_code.proofs.Lines.{block_lines-push}
-use Rattle.tilt_code.proofs.Numbers.{bind_some, guard_some, same_bytes}
 
 -- the lines so far
 

@@ -1,55 +1,48 @@
 -- Bytes cut at each mark.
-use Rattle.std.proofs.Common.{◌≡◌, ℕ, zero, suc, ◌+◌, ◌-◌, ◌<◌, Bool, true, false, nat_lt, if◌then◌else◌, List, [], ◌∷◌, length, get_or, take, drop, Option, Some, None, refl, arith, inl, inr, ◌≤◌, not, is_some, option_map, IsTrue, add-one}
-use Rattle.std.specs.List.{position, position_or_len}
+use Rattle.std.proofs.Common.{◌≡◌, ℕ, Bool, true, false, not, List, [], ◌∷◌, ◌++◌, Option, Some, None, is_some, option_map, IsTrue, refl, sym, ap, ◌∙◌, inl, inr}
+use Rattle.std.specs.List.{onto_first}
 use Rattle.std.specs.Prelude.{◌==◌}
-use Rattle.std.proofs.lemmas.List.{take_rest}
-use Rattle.std.proofs.lemmas.List.Quantifiers.{position-Some}
 use Rattle.std.proofs.lemmas.Bool.{cases_Bool}
-use Rattle.std.proofs.lemmas.Bool.Decides.{nat_tests}
-use Rattle.tilt_code.specs.Reading.{onto, pieces, pieces_left}
+use Rattle.tilt_text.specs.Cut.{onto, until_at}
+use Rattle.tilt_text.specs.Step.{◌>>=◌}
+use Rattle.tilt_text.proofs.Lacks.{Lacks}
+use Rattle.tilt_text.proofs.Words.{until-front, until-lone}
+use Rattle.tilt_code.specs.Reading.{pieces, pieces_left}
 
--- the first piece, up to the mark at a place
-pieces_at : (mark : ℕ) (bytes : List ℕ) (i : ℕ) → i < length bytes → (get_or bytes i 0 == mark) ≡ true → ((k : ℕ) → k < i → (get_or bytes k 0 == mark) ≡ false) → pieces mark bytes ≡ take i bytes ∷ pieces mark (drop (suc i) bytes)
-pieces_at mark [] i h here before = absurd (omega arith)
-pieces_at mark (b ∷ bs) zero h here before = rw here refl
-pieces_at mark (b ∷ bs) (suc i) h here before =
-    let other : (b == mark) ≡ false = before 0 (omega arith) in
-    rw (other, pieces_at mark bs i (omega arith) here (λ k l. before (suc k) (omega (arith, l)))) refl
+-- the pieces of bytes, of which the first is cut off
+abbrev pub cut_pieces : ℕ → List ℕ → Option (List ℕ × List ℕ) → List (List ℕ)
+cut_pieces mark bytes None = bytes ∷ []
+cut_pieces mark bytes (Some parts) = parts.0 ∷ pieces mark parts.1
 
--- one piece, where there is no mark
-pieces_whole : (mark : ℕ) (bytes : List ℕ) → length bytes ≤ position_or_len (λ b. b == mark) bytes → pieces mark bytes ≡ bytes ∷ []
-pieces_whole mark [] none = refl
-pieces_whole mark (b ∷ bs) none =
+onto_cut : (mark b : ℕ) (bs : List ℕ) (o : Option (List ℕ × List ℕ)) → onto_first b (cut_pieces mark bs o) ≡ cut_pieces mark (b ∷ bs) (o >>= onto b)
+onto_cut mark b bs None = refl
+onto_cut mark b bs (Some parts) = refl
+
+-- the first piece ends at the first mark
+pub pieces-cut : (mark : ℕ) (bytes : List ℕ) → pieces mark bytes ≡ cut_pieces mark bytes (until_at mark bytes)
+pieces-cut mark [] = refl
+pieces-cut mark (b ∷ bs) =
     elim (cases_Bool (b == mark)) [
-      | inl same ↦ absurd (omega (arith, rw same at none))
-      | inr other ↦
-          let behind : length bs ≤ position_or_len (λ b. b == mark) bs = omega (arith, rw other at none) in
-          rw (other, pieces_whole mark bs behind) refl
+      | inl same ↦ rw same refl
+      | inr other ↦ rw other (ap (onto_first b) (pieces-cut mark bs) ∙ onto_cut mark b bs (until_at mark bs))
     ]
 
-pub cut_some : (mark : ℕ) (bytes : List ℕ) (i : ℕ) → position (λ b. b == mark) bytes ≡ Some i → pieces mark bytes ≡ take i bytes ∷ pieces mark (take (length bytes - (i + 1)) (drop (i + 1) bytes))
-cut_some mark bytes i is =
-    let found = position-Some (λ b. b == mark) bytes i 0 is in
-    rw (take_rest bytes (i + 1), add-one) (pieces_at mark bytes i found.0 found.1 found.2)
+-- the piece in front of a mark
+pub pieces_front : (mark : ℕ) (front rest : List ℕ) → Lacks mark front → pieces mark (front ++ mark ∷ rest) ≡ front ∷ pieces mark rest
+pieces_front mark front rest h =
+    pieces-cut mark (front ++ mark ∷ rest) ∙ ap (cut_pieces mark (front ++ mark ∷ rest)) (until-front mark front rest h)
 
-not_found : (at n : ℕ) → (if nat_lt at n then Some at else None) ≡ None → n ≤ at
-not_found at n e = grind (arith, nat_tests)
+-- the one piece where there is no mark
+pub pieces_lone : (mark : ℕ) (bytes : List ℕ) → Lacks mark bytes → pieces mark bytes ≡ bytes ∷ []
+pieces_lone mark bytes h = pieces-cut mark bytes ∙ ap (cut_pieces mark bytes) (until-lone mark bytes h)
 
-pub cut_none : (mark : ℕ) (bytes : List ℕ) → position (λ b. b == mark) bytes ≡ None → pieces mark bytes ≡ bytes ∷ []
-cut_none mark bytes none = pieces_whole mark bytes (not_found (position_or_len (λ b. b == mark) bytes) (length bytes) none)
-
-onto_some : (byte : ℕ) (ps : List (List ℕ)) → onto byte ps ≡ [] → ⊥
-onto_some byte [] e = cc e
-onto_some byte (p ∷ ps) e = cc e
+cut_some : (mark : ℕ) (bytes : List ℕ) (o : Option (List ℕ × List ℕ)) → cut_pieces mark bytes o ≡ [] → ⊥
+cut_some mark bytes None e = cc e
+cut_some mark bytes (Some parts) e = cc e
 
 -- there is a piece
 pub pieces_some : (mark : ℕ) (bytes : List ℕ) → pieces mark bytes ≡ [] → ⊥
-pieces_some mark [] e = cc e
-pieces_some mark (b ∷ bs) e =
-    elim (cases_Bool (b == mark)) [
-      | inl same ↦ let wrong = rw same at e in cc wrong
-      | inr other ↦ onto_some b (pieces mark bs) (rw other at e)
-    ]
+pieces_some mark bytes e = cut_some mark bytes (until_at mark bytes) (sym (pieces-cut mark bytes) ∙ e)
 
 -- whether pieces are left, by whether bytes are
 pub left_empty : (mark : ℕ) (left : Option (List ℕ)) (none : Bool) → is_some left ≡ not none → (IsTrue none → pieces_left mark left ≡ []) × (pieces_left mark left ≡ [] → IsTrue none)

@@ -1,55 +1,45 @@
 -- A text, cut at each LF, and what it comes to.
 use Rattle.std.proofs.Common.{◌≡◌, ℕ, zero, suc, ◌+◌, Bool, true, false, if◌then◌else◌, List, [], ◌∷◌, ◌++◌, length, Option, Some, None, Result, Ok, Err, refl, sym, ap, ◌∙◌, arith, inl, inr, append-nil, append_assoc, add-one}
 use Rattle.std.specs.Prelude.{codes, ◌==◌}
-use Rattle.std.specs.List.{AllByRecursion}
-use Rattle.std.proofs.lemmas.Bool.{cases_Bool}
+use Rattle.std.specs.List.{AllByRecursion, join_with_byte, onto_first}
+use Rattle.std.proofs.lemmas.Bool.{cases_Bool, eqb-true}
+use Rattle.std.proofs.lemmas.List.Splits.{join_with_byte-slice_split}
 use Rattle.std.proofs.lemmas.Option.{none-some, same_Some}
+use Rattle.tilt_text.specs.Step.{◌>>=◌}
+use Rattle.tilt_text.proofs.Lacks.{Lacks, lacks-more, lacks-parts}
+use Rattle.tilt_text.proofs.Step.{bind_some}
 use Rattle.tilt_code.specs.Fault.{HasNoLineEnd}
 use Rattle.tilt_code.specs.Listing.{ended}
 use Rattle.tilt_code.specs.Partial.{PartialCode, Progress, is_end, line_read, with_line, with_text, note, or_line, read_from}
-use Rattle.tilt_code.specs.Reading.{◌>>=◌, onto, pieces}
+use Rattle.tilt_code.specs.Reading.{pieces}
 use Rattle.tilt_code.specs.declared.line.Line.{Line}
 use Rattle.tilt_code.proofs.Complete.{run_texts}
-use Rattle.tilt_code.proofs.LineText.{Lacks, pieces_front}
-use Rattle.tilt_code.proofs.Numbers.{bind_some, same_from}
 use Rattle.tilt_code.proofs.Partials.{take_text}
-use Rattle.tilt_code.proofs.Pieces.{pieces_some}
+use Rattle.tilt_code.proofs.Pieces.{pieces_some, pieces_front}
 
 -- cutting
 
 -- pieces with LF between them
 abbrev pub joined : List (List ℕ) → List ℕ
-joined [] = []
-joined (piece ∷ []) = piece
-joined (piece ∷ next ∷ more) = piece ++ 10 ∷ joined (next ∷ more)
+joined = join_with_byte 10
 
 pub joined_then : (w : List ℕ) (ws : List (List ℕ)) → (ws ≡ [] → ⊥) → joined (w ∷ ws) ≡ w ++ 10 ∷ joined ws
 joined_then w [] h = absurd (h refl)
 joined_then w (v ∷ ws) h = refl
 
-joined_onto : (b : ℕ) (ws : List (List ℕ)) → joined (onto b ws) ≡ b ∷ joined ws
-joined_onto b [] = refl
-joined_onto b (w ∷ []) = refl
-joined_onto b (w ∷ v ∷ ws) = refl
-
 pub joined_pieces : (bytes : List ℕ) → joined (pieces 10 bytes) ≡ bytes
-joined_pieces [] = refl
-joined_pieces (b ∷ bs) =
-    elim (cases_Bool (b == 10)) [
-      | inl same ↦ rw same (joined_then [] (pieces 10 bs) (pieces_some 10 bs) ∙ (λ i. sym (same_from b 10 same) i ∷ joined_pieces bs i))
-      | inr other ↦ rw other (joined_onto b (pieces 10 bs) ∙ ap (λ (l : List ℕ). b ∷ l) (joined_pieces bs))
-    ]
+joined_pieces bytes = join_with_byte-slice_split 10 bytes
 
-onto_lacks : (b : ℕ) (ws : List (List ℕ)) → (b == 10) ≡ false → AllByRecursion (Lacks 10) ws → AllByRecursion (Lacks 10) (onto b ws)
-onto_lacks b [] h all = ((h, tt), tt)
-onto_lacks b (w ∷ ws) h all = ((h, all.0), all.1)
+onto_lacks : (b : ℕ) (ws : List (List ℕ)) → (b == 10) ≡ false → AllByRecursion (Lacks 10) ws → AllByRecursion (Lacks 10) (onto_first b ws)
+onto_lacks b [] h all = (lacks-more 10 b [] h refl, tt)
+onto_lacks b (w ∷ ws) h all = (lacks-more 10 b w h all.0, all.1)
 
 -- no LF stands in a piece
 pub pieces_lack : (bytes : List ℕ) → AllByRecursion (Lacks 10) (pieces 10 bytes)
-pieces_lack [] = (tt, tt)
+pieces_lack [] = (refl, tt)
 pieces_lack (b ∷ bs) =
     elim (cases_Bool (b == 10)) [
-      | inl same ↦ rw same (tt, pieces_lack bs)
+      | inl same ↦ rw same (refl, pieces_lack bs)
       | inr other ↦ rw other (onto_lacks b (pieces 10 bs) other (pieces_lack bs))
     ]
 
@@ -70,15 +60,15 @@ pieces_ended (t ∷ ts) rest all =
 
 pub lacks_within : (bs : List ℕ) → Lacks 10 bs → HasNoLineEnd bs
 lacks_within [] h c = absurd (omega (arith, c.1))
-lacks_within (b ∷ bs) h (zero, lt, is) = cc (sym h.0 ∙ ap (λ (n : ℕ). n == 10) is)
-lacks_within (b ∷ bs) h (suc k, lt, is) = lacks_within bs h.1 (k, omega (arith, lt), is)
+lacks_within (b ∷ bs) h (zero, lt, is) = cc (sym (lacks-parts 10 b bs h).0 ∙ ap (λ (n : ℕ). n == 10) is)
+lacks_within (b ∷ bs) h (suc k, lt, is) = lacks_within bs (lacks-parts 10 b bs h).1 (k, omega (arith, lt), is)
 
 pub within_lacks : (bs : List ℕ) → HasNoLineEnd bs → Lacks 10 bs
-within_lacks [] h = tt
+within_lacks [] h = refl
 within_lacks (b ∷ bs) h =
     elim (cases_Bool (b == 10)) [
-      | inl same ↦ absurd (h (zero, omega arith, same_from b 10 same))
-      | inr other ↦ (other, within_lacks bs (λ c. h (suc c.0, omega (arith, c.1), c.2)))
+      | inl same ↦ absurd (h (zero, omega arith, eqb-true b 10 same))
+      | inr other ↦ lacks-more 10 b bs other (within_lacks bs (λ c. h (suc c.0, omega (arith, c.1), c.2)))
     ]
 
 -- going on

@@ -9,7 +9,7 @@ use Rattle.tilt_lexer.specs.declared.mark.Mark.TheVariants as mark
 use Rattle.tilt_lexer.specs.declared.token.Tok.{Tok}
 use Rattle.tilt_lexer.specs.declared.token.Tok.TheVariants.{Word, Key as Reserved, Mark as Sign}
 use Rattle.tilt_syntax.specs.Descent.{Plan, Test, Found, Comes, done, met, missed, between, behind_all, found, Reading, GoingOn, plan_of, going_plan, behind_operand, offset_plan, window_plan, word_plan, give, answer}
-use Rattle.tilt_syntax.specs.Grammar.{Infix, reducer_key, IsOffset, now, later, earlier, IsExpr, tighter, choice, between as joined, negation, minus, number, true_word, false_word, name, reading, window, is_null, if_null, enclosed}
+use Rattle.tilt_syntax.specs.Grammar.{Infix, reducer_key, SpellsOffset, now, later, earlier, IsExpr, tighter, choice, between as joined, negation, minus, number, true_word, false_word, name, reading, window, is_null, if_null, enclosed}
 use Rattle.tilt_syntax.specs.Levels.{level_number, operator_of, tighter as next}
 use Rattle.tilt_syntax.specs.Tree.{Reduce, ExprTree}
 use Rattle.tilt_syntax.specs.declared.level.Level.{Level}
@@ -236,7 +236,7 @@ lower Minus front e le b h rest r s k =
 lower Atom front e le b h rest r s k = absurd (omega arith)
 
 -- an offset is asked for and found, where it isn't gone on with
-offset-comes : (ts : List Tok) (d : ℤ) → IsOffset ts d → (rest : List Tok) (behind : ℤ → List Tok → Plan) (r : Option Found)
+offset-comes : (ts : List Tok) (d : ℤ) → SpellsOffset ts d → (rest : List Tok) (behind : ℤ → List Tok → Plan) (r : Option Found)
     → ((us : List Tok) → rest ≢ Sign mark.Plus ∷ us) → ((us : List Tok) → rest ≢ Sign mark.Minus ∷ us)
     → Comes (behind d rest) r → Comes (offset_plan (ts ++ rest) behind) r
 offset-comes ts d now rest behind r no_plus no_minus k = met refl (missed no_plus (missed no_minus k))
@@ -244,7 +244,7 @@ offset-comes ts d later rest behind r no_plus no_minus k = met refl (met refl k)
 offset-comes ts d earlier rest behind r no_plus no_minus k = met refl (missed (λ us e. cc) (met refl k))
 
 -- a window is found
-window-comes : (reducer : Reducer) (x : List ℕ) (ts us : List Tok) (l h : ℤ) → IsOffset ts l → IsOffset us h
+window-comes : (reducer : Reducer) (x : List ℕ) (ts us : List Tok) (l h : ℤ) → SpellsOffset ts l → SpellsOffset us h
     → (rest : List Tok) (r : Option Found) → Comes (give (Leaf (Reduce reducer x l h)) rest) r
     → Comes (window_plan reducer ((Sign mark.OpenParen ∷ Word x ∷ Sign mark.OpenBracket
     ∷ (ts ++ (Sign mark.Colon ∷ (us ++ (Sign mark.CloseBracket ∷ Sign mark.CloseParen ∷ []))))) ++ rest)) r

@@ -6,8 +6,7 @@ use Rattle.tilt_lexer.specs.declared.token.Tok.{Tok}
 use Rattle.tilt_lexer.specs.declared.token.Tok.TheVariants.{Mark as Sign}
 use Rattle.tilt_lexer.specs.declared.token.Token.{Token}
 use Rattle.tilt_syntax.specs.Cut.{first_length}
-use Rattle.tilt_syntax.specs.Query.{kinds, statements, with_first}
-use Rattle.tilt_syntax.specs.Rest.{AreSound}
+use Rattle.tilt_syntax.specs.Query.{kinds, AreSound, statements, with_first}
 
 pub length-positive : (ts : List Tok) → 0 < length ts → 0 < first_length ts
 length-positive [] some = absurd (omega arith)

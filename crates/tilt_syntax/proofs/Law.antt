@@ -1,17 +1,15 @@
 -- The text of a query reads as the query and as no other, and is the shortest in tokens.
 use Rattle.std.proofs.Common.{◌≡◌, ◌≤◌, List, [], ◌∷◌, length, map, refl, sym, ap, ◌∙◌, subst, arith}
 use Rattle.std.specs.List.{flat_map}
-use Rattle.std.proofs.lemmas.List.Elements.{recursion_from_All}
 use Rattle.tilt_lexer.specs.declared.token.Tok.{Tok}
-use Rattle.tilt_lexer.specs.Tokens.{IsSound}
 use Rattle.tilt_lexer.proofs.Unique.{same_tokens}
 use Rattle.tilt_syntax.specs.Printing.{query_text, AreShortest, ReadsBack}
-use Rattle.tilt_syntax.specs.Query.{kinds, statements, IsInPlace, AreGood, IsQueryOf, IsQuery}
+use Rattle.tilt_syntax.specs.Query.{kinds, AreSound, statements, IsInPlace, AreGood, IsQueryOf, IsQuery}
 use Rattle.tilt_syntax.specs.Tree.{StatementTree, Input, Let, Emit}
 use Rattle.tilt_syntax.proofs.Cuts.{query_cut}
 use Rattle.tilt_syntax.proofs.Shortest.{statement_shortest}
 use Rattle.tilt_syntax.proofs.Sounds.{EachSound, statements_sound, both, statement_sound}
-use Rattle.tilt_syntax.proofs.Spelling.{AreSound, lexed}
+use Rattle.tilt_syntax.proofs.Spelling.{lexed}
 use Rattle.tilt_syntax.proofs.Spelt.{query_spells}
 use Rattle.tilt_syntax.proofs.Unique.{one_query}
 use Rattle.tilt_syntax.proofs.Written.{statement_tokens, statement_is}
@@ -53,11 +51,11 @@ query_sound (ts ∷ rest) (s ∷ query) each good =
 
 query_shortest : (query : List StatementTree) → AreShortest (map statement_tokens query) query
 query_shortest [] = tt
-query_shortest (s ∷ query) = (λ us sound is. statement_shortest is (recursion_from_All IsSound us sound), query_shortest query)
+query_shortest (s ∷ query) = (λ us sound is. statement_shortest is sound, query_shortest query)
 
 pub reads_back : (query : List StatementTree) → IsQuery query → ReadsBack (query_text query) query
 reads_back query is =
-    let each = statements_sound is.tokens (recursion_from_All IsSound is.tokens is.sound) in
+    let each = statements_sound is.tokens is.sound in
     let read = lexed (query_spells query) (query_sound (statements is.tokens) query each is.parsed.good) 0 in
     let same : statements (kinds read.tokens) ≡ map statement_tokens query = ap statements read.kinds_are ∙ query_cut query in
     let count = same_count (statements is.tokens) query is.parsed.good in

@@ -5,8 +5,7 @@ use Rattle.std.proofs.lemmas.List.Elements.{All-map, recursion_from_All}
 use Rattle.tilt_lexer.specs.Tokens.{IsSound}
 use Rattle.tilt_lexer.specs.declared.token.Tok.{Tok}
 use Rattle.tilt_lexer.specs.declared.token.Token.{Token}
-use Rattle.tilt_syntax.specs.Query.{kinds, statements, IsInPlace, IsGood, AreGood}
-use Rattle.tilt_syntax.specs.Rest.{AreSound}
+use Rattle.tilt_syntax.specs.Query.{kinds, AreSound, statements, IsInPlace, IsGood, AreGood}
 use Rattle.tilt_syntax.specs.Cut.{first_length}
 use Rattle.tilt_syntax.specs.Descent.{Comes, Reading, plan_of}
 use Rattle.tilt_syntax.specs.Grammar.{IsExpr}
@@ -19,11 +18,8 @@ use Rattle.tilt_syntax.proofs.Sound.{fits}
 use Rattle.tilt_syntax.proofs.Steady.{one_answer}
 use Rattle.tilt_syntax.proofs.Whole.{whole, same_rest}
 
-pub all-sound : (ts : List Token) → All (λ token. IsSound token.kind) ts → All IsSound (kinds ts)
-all-sound ts h = All-map IsSound (λ token. token.kind) ts h
-
 pub sound-kinds : (ts : List Token) → All (λ token. IsSound token.kind) ts → AreSound (kinds ts)
-sound-kinds ts h = recursion_from_All IsSound (kinds ts) (all-sound ts h)
+sound-kinds ts h = recursion_from_All IsSound (kinds ts) (All-map IsSound (λ token. token.kind) ts h)
 
 -- no tokens and some
 

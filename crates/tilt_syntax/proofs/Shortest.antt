@@ -7,11 +7,11 @@ use Rattle.tilt_lexer.specs.declared.key.Key.TheVariants as key
 use Rattle.tilt_lexer.specs.declared.mark.Mark.TheVariants as mark
 use Rattle.tilt_lexer.specs.declared.token.Tok.{Tok}
 use Rattle.tilt_lexer.specs.declared.token.Tok.TheVariants.{Key as Reserved, Mark as Sign}
-use Rattle.tilt_syntax.specs.Grammar.{Infix, infix_of, IsOffset, now, later, earlier, IsExpr, tighter, choice, between, negation, minus, number, true_word, false_word, name, reading, window, is_null, if_null, enclosed, IsBound, from_zero, below_zero, IsSpan, over, MayBeSpan, no_span, some_span, MayBePeriod, no_period, some_period, IsStatement, input, definition, emission}
+use Rattle.tilt_syntax.specs.Grammar.{Infix, infix_of, SpellsOffset, now, later, earlier, IsExpr, tighter, choice, between, negation, minus, number, true_word, false_word, name, reading, window, is_null, if_null, enclosed, IsBound, from_zero, below_zero, IsSpan, over, MayBeSpan, no_span, some_span, MayBePeriod, no_period, some_period, IsStatement, input, definition, emission}
 use Rattle.tilt_syntax.specs.Printing.{level_of, level2}
+use Rattle.tilt_syntax.specs.Query.{AreSound}
 use Rattle.tilt_syntax.specs.Tree.{ExprTree, StatementTree}
 use Rattle.tilt_base.specs.declared.span.Span.{Span}
-use Rattle.tilt_syntax.proofs.Spelling.{AreSound}
 use Rattle.tilt_syntax.proofs.Sounds.{sound_parts}
 use Rattle.tilt_syntax.proofs.Written.{place_tokens, offset_tokens, reading_tokens, operands_tokens, expr_tokens, bound_tokens, span_tokens, domain_tokens, period_tokens, statement_tokens}
 
@@ -62,7 +62,7 @@ offset_most (pos zero) = omega arith
 offset_most (pos (suc n)) = omega arith
 offset_most (negsuc n) = omega arith
 
-offset_shortest : {ts : List Tok} {d : ℤ} → IsOffset ts d → length (offset_tokens d) ≤ length ts
+offset_shortest : {ts : List Tok} {d : ℤ} → SpellsOffset ts d → length (offset_tokens d) ≤ length ts
 offset_shortest now = omega arith
 offset_shortest (later {n = n}) = offset_most n
 offset_shortest (earlier {n = n}) = offset_most (neg_ℤ n)

@@ -7,12 +7,11 @@ use Rattle.tilt_lexer.specs.declared.mark.Mark.TheVariants as mark
 use Rattle.tilt_lexer.specs.declared.token.Tok.{Tok}
 use Rattle.tilt_lexer.specs.declared.token.Tok.TheVariants.{Word, Mark as Sign}
 use Rattle.tilt_lexer.specs.Tokens.{IsSound}
-use Rattle.tilt_syntax.specs.Grammar.{Infix, infix_of, IsOffset, now, later, earlier, IsExpr, tighter, choice, between, negation, minus, number, true_word, false_word, name, reading, window, is_null, if_null, enclosed, IsBound, from_zero, below_zero, IsSpan, over, MayBeSpan, no_span, some_span, MayBePeriod, no_period, some_period, IsStatement, input, definition, emission}
+use Rattle.tilt_syntax.specs.Grammar.{Infix, infix_of, SpellsOffset, now, later, earlier, IsExpr, tighter, choice, between, negation, minus, number, true_word, false_word, name, reading, window, is_null, if_null, enclosed, IsBound, from_zero, below_zero, IsSpan, over, MayBeSpan, no_span, some_span, MayBePeriod, no_period, some_period, IsStatement, input, definition, emission}
 use Rattle.tilt_syntax.specs.Printing.{level_of}
-use Rattle.tilt_syntax.specs.Query.{with_first, statements}
+use Rattle.tilt_syntax.specs.Query.{AreSound, with_first, statements}
 use Rattle.tilt_syntax.specs.Tree.{ExprTree, StatementTree}
 use Rattle.tilt_base.specs.declared.span.Span.{Span}
-use Rattle.tilt_syntax.proofs.Spelling.{AreSound}
 use Rattle.tilt_syntax.proofs.Written.{place_tokens, offset_tokens, reading_tokens, operands_tokens, expr_tokens, bound_tokens, span_tokens, domain_tokens, period_tokens, statement_tokens}
 
 -- tokens one after another are sound where both are
@@ -44,7 +43,7 @@ place_sound place level ts h =
       | inr not_lower ↦ rw not_lower h
     ]
 
-offset_sound : {ts : List Tok} {d : ℤ} → IsOffset ts d → AreSound ts → AreSound (offset_tokens d)
+offset_sound : {ts : List Tok} {d : ℤ} → SpellsOffset ts d → AreSound ts → AreSound (offset_tokens d)
 offset_sound now s = s
 offset_sound (later {n = pos zero}) s = (tt, tt)
 offset_sound (later {n = pos (suc n)}) s = s

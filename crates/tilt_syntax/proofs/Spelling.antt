@@ -4,7 +4,7 @@ use Rattle.std.specs.Prelude.{⊤}
 use Rattle.std.specs.Bool.{IsFalse}
 use Rattle.std.specs.Char.{is_ascii_digit}
 use Rattle.std.specs.Fmt.{decimal}
-use Rattle.std.specs.List.{AllByRecursion, list_all, prefix_len}
+use Rattle.std.specs.List.{list_all, prefix_len}
 use Rattle.std.specs.Str.Parse.{digits_value}
 use Rattle.std.proofs.lemmas.Bool.{and_parts, false≢true, not-true, or_parts}
 use Rattle.std.proofs.lemmas.Fmt.{decimal_nonempty, digits_decimal, digits_value-decimal}
@@ -22,7 +22,7 @@ use Rattle.tilt_lexer.proofs.Fronts.{word_goes_on, word_is_front, number_is_fron
 use Rattle.tilt_lexer.proofs.Numbers.{numerals}
 use Rattle.tilt_lexer.proofs.Texts.{word_first, digits_first, mark_first, key_is_word}
 use Rattle.tilt_syntax.specs.Printing.{sign_text}
-use Rattle.tilt_syntax.specs.Query.{kinds}
+use Rattle.tilt_syntax.specs.Query.{kinds, AreSound}
 
 -- no token goes on with the first byte: it is none of a word, and no `=`
 abbrev pub closes : List ℕ → Bool
@@ -48,10 +48,6 @@ pub data Spells : List ℕ → List Tok → Type 0 where
   end : Spells [] []
   blank : {b : ℕ} {bytes : List ℕ} {ks : List Tok} → IsTrue (is_blank b) → Spells bytes ks → Spells (b ∷ bytes) ks
   token : {rest : List ℕ} {ks : List Tok} (k : Tok) → IsTrue (ends_before k rest) → Spells rest ks → Spells (sign_text k ++ rest) (k ∷ ks)
-
--- each of the tokens is sound
-abbrev pub AreSound : List Tok → Type 0
-AreSound ks = AllByRecursion IsSound ks
 
 -- the bytes don't go on with one that passes
 abbrev Stops : (ℕ → Bool) → List ℕ → Type 0

@@ -10,7 +10,7 @@ use Rattle.tilt_lexer.specs.declared.key.Key.TheVariants as key
 use Rattle.tilt_lexer.specs.declared.mark.Mark.TheVariants as mark
 use Rattle.tilt_lexer.specs.declared.token.Tok.{Tok}
 use Rattle.tilt_lexer.specs.declared.token.Tok.TheVariants.{Word, Number, Key as Reserved, Mark as Sign}
-use Rattle.tilt_syntax.specs.Grammar.{Infix, infix_of, reducer_key, IsOffset, now, later, earlier, IsExpr, tighter, choice, between, negation, minus, number, true_word, false_word, name, reading, window, is_null, if_null, enclosed, IsBound, from_zero, below_zero, IsSpan, over, MayBeSpan, no_span, some_span, MayBePeriod, no_period, some_period, IsStatement, input, definition, emission}
+use Rattle.tilt_syntax.specs.Grammar.{Infix, infix_of, reducer_key, SpellsOffset, now, later, earlier, IsExpr, tighter, choice, between, negation, minus, number, true_word, false_word, name, reading, window, is_null, if_null, enclosed, IsBound, from_zero, below_zero, IsSpan, over, MayBeSpan, no_span, some_span, MayBePeriod, no_period, some_period, IsStatement, input, definition, emission}
 use Rattle.tilt_syntax.specs.Printing.{level_of, level2}
 use Rattle.tilt_syntax.specs.Tree.{Atom, Num, Truth, Read, Reduce, ExprTree, StatementTree, Input, Let, Emit}
 use Rattle.tilt_base.specs.declared.span.Span.{Span}
@@ -121,7 +121,7 @@ two_is op (Some i) l m e ha hb =
     let fit = subst (PlacesFit op) e (places_fit op) in
     between e (in_place_is i.left l fit.0 ha) (in_place_is i.right m fit.1 hb)
 
-offset_is : (d : ℤ) → IsOffset (offset_tokens d) d
+offset_is : (d : ℤ) → SpellsOffset (offset_tokens d) d
 offset_is (pos zero) = now
 offset_is (pos (suc n)) = later
 offset_is (negsuc n) = earlier

@@ -51,11 +51,11 @@ reducer_key reducer.Last = key.Last
 reducer_key reducer.Any = key.Any
 reducer_key reducer.All = key.All
 
--- an offset from the tick: `t`, `t + n` or `t - n`
-pub data IsOffset : List Tok → ℤ → Type 0 where
-  now : IsOffset (Reserved key.Time ∷ []) (pos 0)
-  later : {n : ℤ} → IsOffset (Reserved key.Time ∷ Sign mark.Plus ∷ Number n ∷ []) n
-  earlier : {n : ℤ} → IsOffset (Reserved key.Time ∷ Sign mark.Minus ∷ Number n ∷ []) (neg_ℤ n)
+-- the tokens spell an offset from the tick: `t`, `t + n` or `t - n`
+pub data SpellsOffset : List Tok → ℤ → Type 0 where
+  now : SpellsOffset (Reserved key.Time ∷ []) (pos 0)
+  later : {n : ℤ} → SpellsOffset (Reserved key.Time ∷ Sign mark.Plus ∷ Number n ∷ []) n
+  earlier : {n : ℤ} → SpellsOffset (Reserved key.Time ∷ Sign mark.Minus ∷ Number n ∷ []) (neg_ℤ n)
 
 -- the tokens are the expression, at a level: 0 for `if`, then `when`, `or`, `and`, 4 for `not`, then comparisons, sums, products, 8 for the minus before an operand, and 9
 -- for what needs no parentheses anywhere
@@ -80,10 +80,10 @@ pub data IsExpr : ℕ → List Tok → ExprTree → Type 0 where
   -- `x`, which is `x[t]`
   name : {x : List ℕ} → IsExpr 9 (Word x ∷ []) (Leaf (Read x (pos 0)))
   -- `x[t+n]`
-  reading : {x : List ℕ} {ts : List Tok} {d : ℤ} → IsOffset ts d
+  reading : {x : List ℕ} {ts : List Tok} {d : ℤ} → SpellsOffset ts d
       → IsExpr 9 (Word x ∷ Sign mark.OpenBracket ∷ (ts ++ (Sign mark.CloseBracket ∷ []))) (Leaf (Read x d))
   -- `sum(x[t-m : t+n])`
-  window : {r : Reducer} {x : List ℕ} {ts us : List Tok} {l h : ℤ} → IsOffset ts l → IsOffset us h
+  window : {r : Reducer} {x : List ℕ} {ts us : List Tok} {l h : ℤ} → SpellsOffset ts l → SpellsOffset us h
       → IsExpr 9 (Reserved (reducer_key r) ∷ Sign mark.OpenParen ∷ Word x ∷ Sign mark.OpenBracket
       ∷ (ts ++ (Sign mark.Colon ∷ (us ++ (Sign mark.CloseBracket ∷ Sign mark.CloseParen ∷ []))))) (Leaf (Reduce r x l h))
   -- `isnull(a)`

@@ -1,15 +1,15 @@
 -- The text of a query (our own rule): one line for each statement, with parentheses only where they are needed.
-use Rattle.std.specs.Prelude.{◌≡◌, ◌≤◌, ℕ, ℤ, negsuc, pos, suc, zero, true, false, List, [], ◌∷◌, ◌++◌, length, Option, Some, None, All, codes, nat_lt, if◌then◌else◌, flat_map, ⊤}
+use Rattle.std.specs.Prelude.{◌≡◌, ◌≤◌, ℕ, ℤ, negsuc, pos, suc, zero, true, false, List, [], ◌∷◌, ◌++◌, length, Option, Some, None, codes, nat_lt, if◌then◌else◌, flat_map, ⊤}
 use Rattle.std.specs.Fmt.{signed_decimal}
 use Rattle.tilt_base.specs.Expression.{Leaf, One, Two, If}
 use Rattle.tilt_base.specs.declared.operator.Op1.TheVariants as op1
-use Rattle.tilt_lexer.specs.Tokens.{AreTokens, IsSound, mark_text}
+use Rattle.tilt_lexer.specs.Tokens.{AreTokens, mark_text}
 use Rattle.tilt_lexer.specs.Word.{key_text}
 use Rattle.tilt_lexer.specs.declared.token.Tok.{Tok}
 use Rattle.tilt_lexer.specs.declared.token.Tok.TheVariants as tok
 use Rattle.tilt_lexer.specs.declared.token.Token.{Token}
 use Rattle.tilt_syntax.specs.Grammar.{Infix, infix_of, reducer_key, IsStatement}
-use Rattle.tilt_syntax.specs.Query.{kinds, statements, IsQueryOf}
+use Rattle.tilt_syntax.specs.Query.{kinds, AreSound, statements, IsQueryOf}
 use Rattle.tilt_syntax.specs.Tree.{Atom, Num, Truth, Read, Reduce, ExprTree, StatementTree, Input, Let, Emit}
 use Rattle.tilt_base.specs.declared.span.Span.{Span}
 
@@ -101,7 +101,7 @@ abbrev pub AreShortest : List (List Tok) → List StatementTree → Type 0
 AreShortest [] [] = ⊤
 AreShortest [] (s ∷ query) = ⊥
 AreShortest (ts ∷ rest) [] = ⊥
-AreShortest (ts ∷ rest) (s ∷ query) = ((us : List Tok) → All IsSound us → IsStatement us s → length ts ≤ length us) × AreShortest rest query
+AreShortest (ts ∷ rest) (s ∷ query) = ((us : List Tok) → AreSound us → IsStatement us s → length ts ≤ length us) × AreShortest rest query
 
 -- the text reads as the query and as no other, and is the shortest in tokens
 pub record ReadsBack (text : List ℕ) (query : List StatementTree) : Type 0 where

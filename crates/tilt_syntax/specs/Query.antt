@@ -1,5 +1,6 @@
 -- How tokens are cut into statements, what a query is, and which statement is the first faulty one (our own rule).
-use Rattle.std.specs.Prelude.{ℕ, ◌+◌, ◌<◌, ◌≤◌, List, [], ◌∷◌, length, map, All, ⊤}
+use Rattle.std.specs.Prelude.{ℕ, ◌+◌, ◌<◌, ◌≤◌, List, [], ◌∷◌, length, map, ⊤}
+use Rattle.std.specs.List.{AllByRecursion}
 use Rattle.tilt_lexer.specs.declared.mark.Mark.TheVariants.{Semicolon}
 use Rattle.tilt_lexer.specs.declared.token.Tok.{Tok}
 use Rattle.tilt_lexer.specs.declared.token.Tok.TheVariants as tok
@@ -13,6 +14,10 @@ use Rattle.tilt_syntax.specs.declared.fault.SyntaxFault.TheVariants as fault
 -- what tokens are, without where they stand
 abbrev pub kinds : List Token → List Tok
 kinds tokens = map (λ token. token.kind) tokens
+
+-- no name is a reserved word, and each number is one that a text may have
+abbrev pub AreSound : List Tok → Type 0
+AreSound ts = AllByRecursion IsSound ts
 
 -- one more token at the front of the first statement
 abbrev pub with_first : Tok → List (List Tok) → List (List Tok)
@@ -78,5 +83,5 @@ pub data IsRefused : List Tok → SyntaxFault → Type 0 where
 -- the statements are those of some tokens of a text
 pub record IsQuery (query : List StatementTree) : Type 0 where
   pub tokens : List Tok
-  pub sound : All IsSound tokens
+  pub sound : AreSound tokens
   pub parsed : IsQueryOf tokens query

@@ -5,8 +5,8 @@ ghost use Rattle.tilt_base.specs.declared.reducer.Reducer.{Reducer};
 ghost use Rattle.tilt_lexer.specs.declared.token.Tok.{Tok};
 ghost use Rattle.tilt_syntax.specs.Descent.{Comes, Found, Plan, offset_plan, reading_plan, window_plan};
 ghost use Rattle.tilt_syntax.specs.Grammar.{reducer_key};
-ghost use Rattle.tilt_syntax.specs.Query.{kinds};
-ghost use Rattle.tilt_syntax.specs.Rest.{AreSound, IsRest};
+ghost use Rattle.tilt_syntax.specs.Query.{kinds, AreSound};
+ghost use Rattle.tilt_syntax.specs.Rest.{IsRest};
 ghost use Rattle.tilt_syntax.specs.Tree.{Reduce, expr_tree};
 
 use crate::expr::Expr;

@@ -2,8 +2,8 @@
 ghost use Rattle.std.specs.Prelude.{◌≡◌, ◌↔◌, ℤ, List, [], ◌∷◌, Option, IsTrue, IfSome, MatchOption};
 ghost use Rattle.tilt_lexer.specs.declared.token.Tok.{Tok};
 ghost use Rattle.tilt_syntax.specs.Descent.{Comes, Found, Plan};
-ghost use Rattle.tilt_syntax.specs.Query.{kinds};
-ghost use Rattle.tilt_syntax.specs.Rest.{AreSound, IsRest};
+ghost use Rattle.tilt_syntax.specs.Query.{kinds, AreSound};
+ghost use Rattle.tilt_syntax.specs.Rest.{IsRest};
 ghost use Rattle.tilt_syntax.specs.Statements.{bound_plan, domain_plan, period_plan, span_plan};
 ghost use Rattle.tilt_base.specs.declared.span.Span.{Span};
 

@@ -1,8 +1,7 @@
 // Tokens are cut into statements.
 ghost use Rattle.std.specs.Prelude.{◌≡◌, ◌<◌, ◌∷◌, length};
 ghost use Rattle.tilt_syntax.specs.Cut.{first_length};
-ghost use Rattle.tilt_syntax.specs.Query.{kinds, statements};
-ghost use Rattle.tilt_syntax.specs.Rest.{AreSound};
+ghost use Rattle.tilt_syntax.specs.Query.{kinds, AreSound, statements};
 
 use crate::front::is_mark;
 use tilt_lexer::{Mark, Token};

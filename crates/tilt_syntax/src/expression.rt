@@ -4,8 +4,8 @@ ghost use Rattle.std.specs.Prelude.{◌≡◌, ◌<◌, IfOk, IfSome, MatchOptio
 ghost use Rattle.tilt_base.specs.Expression.{One, Two};
 ghost use Rattle.tilt_syntax.specs.Descent.{Comes, Reading, GoingOn, plan_of, atom_plan, choice_plan, chain_plan, enclosed_plan, give, going_plan, minus_plan, negation_plan, pair_plan, word_plan};
 ghost use Rattle.tilt_syntax.specs.Levels.{level_number};
-ghost use Rattle.tilt_syntax.specs.Query.{kinds};
-ghost use Rattle.tilt_syntax.specs.Rest.{AreSound, IsRest};
+ghost use Rattle.tilt_syntax.specs.Query.{kinds, AreSound};
+ghost use Rattle.tilt_syntax.specs.Rest.{IsRest};
 ghost use Rattle.tilt_syntax.specs.Tree.{expr_tree};
 
 use crate::atom::{reading, reducer_of, reduction};

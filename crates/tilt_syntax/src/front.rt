@@ -2,8 +2,7 @@
 ghost use Rattle.std.specs.Prelude.{◌≡◌, ◌≢◌, ◌<◌, List, ◌∷◌, ℕ, ℤ, pos, ◌≤ℤ◌, length, IsTrue, ◌↔◌, MatchOption, IfSome};
 ghost use Rattle.tilt_lexer.specs.Tokens.{IsSound};
 ghost use Rattle.tilt_lexer.specs.declared.token.Tok.{Tok};
-ghost use Rattle.tilt_syntax.specs.Query.{kinds};
-ghost use Rattle.tilt_syntax.specs.Rest.{AreSound};
+ghost use Rattle.tilt_syntax.specs.Query.{kinds, AreSound};
 
 use tilt_lexer::{Key, Mark, Name, Tok, Token};
 

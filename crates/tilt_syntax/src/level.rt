@@ -3,8 +3,7 @@ ghost use Rattle.std.specs.Prelude.{◌≡◌, ◌≢◌, ◌<◌, List, ◌∷�
 ghost use Rattle.tilt_base.specs.declared.operator.Op2.{Op2};
 ghost use Rattle.tilt_lexer.specs.declared.token.Tok.{Tok};
 ghost use Rattle.tilt_syntax.specs.Levels.{operator_of, tighter};
-ghost use Rattle.tilt_syntax.specs.Query.{kinds};
-ghost use Rattle.tilt_syntax.specs.Rest.{AreSound};
+ghost use Rattle.tilt_syntax.specs.Query.{kinds, AreSound};
 
 use tilt_base::Op2;
 use tilt_lexer::{Key, Mark, Tok, Token};

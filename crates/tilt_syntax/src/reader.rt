@@ -1,8 +1,7 @@
 // Statements, read from left to right without going back.
 ghost use Rattle.std.specs.Prelude.{List, Option, IfOk, MatchOption};
 ghost use Rattle.tilt_syntax.specs.Descent.{Comes, Found, Plan};
-ghost use Rattle.tilt_syntax.specs.Query.{kinds};
-ghost use Rattle.tilt_syntax.specs.Rest.{AreSound};
+ghost use Rattle.tilt_syntax.specs.Query.{kinds, AreSound};
 ghost use Rattle.tilt_syntax.specs.Statements.{emit_plan, input_plan, let_plan, statement_plan};
 ghost use Rattle.tilt_syntax.specs.Tree.{StatementTree, statement_tree};
 

@@ -8,7 +8,6 @@ use Rattle.tilt_base.specs.Number.{number_spelled}
 use Rattle.tilt_base.proofs.Comparisons.{bytes_same, same_bytes}
 use Rattle.tilt_base.proofs.Decimals.{number_spelled-signed_decimal, number_spelled_fits}
 use Rattle.tilt_text.specs.Spelled.{shortest, where_shortest}
-use Rattle.tilt_text.specs.Step.{◌>>=◌}
 use Rattle.tilt_text.proofs.Step.{bind_some}
 
 -- a shortest decimal is read as its number

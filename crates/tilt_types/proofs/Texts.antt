@@ -1,13 +1,11 @@
 -- What the trees of a query keep because some text reads as it.
 use Rattle.std.proofs.Common.{◌≡◌, ℕ, suc, ◌+◌, ◌<◌, ◌≤◌, List, [], ◌∷◌, length, IsSome, refl, ap, arith, length-append}
 use Rattle.std.specs.List.{AllByRecursion}
-use Rattle.std.proofs.lemmas.List.Elements.{recursion_from_All}
-use Rattle.tilt_lexer.specs.Tokens.{IsSound}
 use Rattle.tilt_lexer.specs.Word.{IsReserved}
 use Rattle.tilt_lexer.specs.declared.token.Tok.{Tok}
 use Rattle.tilt_syntax.specs.Grammar.{IsExpr, tighter, choice, between, negation, minus, number, true_word, false_word, name, reading, window, is_null, if_null, enclosed, IsStatement, input, definition, emission}
-use Rattle.tilt_syntax.specs.Query.{AreGood, IsQuery, statements}
-use Rattle.tilt_syntax.proofs.Sounds.{statements_sound}
+use Rattle.tilt_syntax.specs.Query.{AreGood, AreSound, IsQuery, statements}
+use Rattle.tilt_syntax.proofs.Sounds.{EachSound, statements_sound}
 use Rattle.tilt_syntax.specs.Tree.{ExprTree, StatementTree, Input, Let, Emit}
 use Rattle.tilt_types.specs.Checked.{definition as core_definition, definitions, input_names, let_names, source_names}
 use Rattle.tilt_core.specs.Core.{domain_of}
@@ -36,12 +34,12 @@ IsOfText (Input x) = ¬ (IsReserved x)
 IsOfText (Let x e over every) = (nodes e ≤ 256) × ¬ (IsReserved x)
 IsOfText (Emit e over every) = nodes e ≤ 256
 
-statement-of_text : {ts : List Tok} {s : StatementTree} → IsStatement ts s → length ts ≤ 256 → AllByRecursion IsSound ts → IsOfText s
+statement-of_text : {ts : List Tok} {s : StatementTree} → IsStatement ts s → length ts ≤ 256 → AreSound ts → IsOfText s
 statement-of_text input short sound = sound.1.0.1
 statement-of_text (definition e span every) short sound = (omega (arith, length-append {A = Tok}, nodes-tokens e, short), sound.1.0.1)
 statement-of_text (emission e span every) short sound = omega (arith, length-append {A = Tok}, nodes-tokens e, short)
 
-good-of_text : (ss : List (List Tok)) (query : List StatementTree) → AreGood ss query → AllByRecursion (AllByRecursion IsSound) ss → AllByRecursion IsOfText query
+good-of_text : (ss : List (List Tok)) (query : List StatementTree) → AreGood ss query → EachSound ss → AllByRecursion IsOfText query
 good-of_text [] [] good sound = tt
 good-of_text [] (s ∷ query) good sound = absurd good
 good-of_text (ts ∷ ss) [] good sound = absurd good
@@ -49,7 +47,7 @@ good-of_text (ts ∷ ss) (s ∷ query) good sound = (statement-of_text good.0.pa
 
 -- each statement of a query is of a text
 pub query-of_text : (query : List StatementTree) → IsQuery query → AllByRecursion IsOfText query
-query-of_text query is = good-of_text (statements is.tokens) query is.parsed.good (statements_sound is.tokens (recursion_from_All IsSound is.tokens is.sound))
+query-of_text query is = good-of_text (statements is.tokens) query is.parsed.good (statements_sound is.tokens is.sound)
 
 good-length : (ss : List (List Tok)) (query : List StatementTree) → AreGood ss query → length query ≡ length ss
 good-length [] [] good = refl

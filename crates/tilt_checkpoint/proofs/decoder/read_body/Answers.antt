@@ -2,9 +2,10 @@ use Rattle.std.proofs.Common.{◌≡◌, ◌∙◌, sym, ap, subst, Bool, true, 
 use Rattle.std.proofs.lemmas.Int.{to_z-of_z}
 use Rattle.std.specs.Int.{w64}
 use Rattle.std.proofs.lemmas.Bool.{and_from}
+use Rattle.tilt_text.specs.Step.{◌>>=◌}
 use Rattle.tilt_checkpoint.specs.Checkpoint.{BodyParts}
 use Rattle.tilt_checkpoint.specs.Decided.{decided, first_kept}
-use Rattle.tilt_checkpoint.specs.Reading.{◌>>=◌, Gives, behind_moment, body_at, is_cut, is_open, rest_at}
+use Rattle.tilt_checkpoint.specs.Reading.{Gives, behind_moment, body_at, is_cut, is_open, rest_at}
 use Rattle.tilt_checkpoint.proofs.decoder.read_body.Goals as goal
 
 pub returns-then-is_open : goal.returns-then-is_open

@@ -1,9 +1,11 @@
-use Rattle.std.proofs.Common.{sym}
-use Rattle.tilt_code.proofs.Pieces.{cut_some, cut_none}
+use Rattle.std.proofs.Common.{ap, ◌∙◌}
+use Rattle.tilt_code.proofs.Pieces.{cut_pieces, pieces-cut}
 use Rattle.tilt_code.proofs.word.cut.Goals as goal
 
 pub returns-in-Some : goal.returns-in-Some
-returns-in-Some c = cut_some c.args.mark c.args.bytes.now c.in-Some.at (sym c.in-Some.ensures)
+returns-in-Some c =
+    pieces-cut c.args.mark c.args.bytes.now ∙ ap (cut_pieces c.args.mark c.args.bytes.now) c.in-Some.ensures
 
 pub returns-in-None : goal.returns-in-None
-returns-in-None c = cut_none c.args.mark c.args.bytes.now (sym c.in-None.ensures)
+returns-in-None c =
+    pieces-cut c.args.mark c.args.bytes.now ∙ ap (cut_pieces c.args.mark c.args.bytes.now) c.in-None.ensures

@@ -1,6 +1,5 @@
 use Rattle.std.proofs.Common.{◌≤◌, ◌+◌, List, ◌++◌, length, map, vec_len}
-use Rattle.tilt_syntax.specs.Query.{AreGood, FirstFault, kinds, statements}
-use Rattle.tilt_syntax.specs.Rest.{AreSound}
+use Rattle.tilt_syntax.specs.Query.{AreGood, AreSound, FirstFault, kinds, statements}
 use Rattle.tilt_syntax.specs.Tree.{StatementTree, statement_tree}
 use Rattle.tilt_syntax.specs.declared.fault.SyntaxFault.{SyntaxFault}
 use Rattle.tilt_syntax.proofs.parser.good_statements.Given as goal

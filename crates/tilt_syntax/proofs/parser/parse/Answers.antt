@@ -2,7 +2,7 @@ use Rattle.std.proofs.Common.{◌≤◌, length, map, ◌∙◌, arith}
 use Rattle.std.proofs.lemmas.Result.{err_from_is_err_and}
 use Rattle.tilt_syntax.specs.Query.{IsQueryOf, too_many, no_tokens, faulty, kinds, statements}
 use Rattle.tilt_syntax.specs.Tree.{statement_tree}
-use Rattle.tilt_syntax.proofs.Parsing.{all-sound, none-left, some-left, some-statement, sound-kinds}
+use Rattle.tilt_syntax.proofs.Parsing.{none-left, some-left, some-statement, sound-kinds}
 use Rattle.tilt_syntax.proofs.Refused.{only-fault, only-memory, query-or-refused}
 use Rattle.tilt_syntax.proofs.Unique.{one_query}
 use Rattle.tilt_syntax.proofs.parser.parse.Goals as goal
@@ -49,7 +49,7 @@ read c = record {
 }
 
 pub new-requires : goal.new-requires
-new-requires c = record { tokens = kinds c.args.tokens.now; sound = all-sound c.args.tokens.now c.requires.sound; parsed = read c }
+new-requires c = record { tokens = kinds c.args.tokens.now; sound = sound-kinds c.args.tokens.now c.requires.sound; parsed = read c }
 
 pub returns-clause-query : goal.returns-clause-query
 returns-clause-query c = rw c.new.ensures (read c.before)

@@ -1,7 +1,6 @@
 -- The statement is that of its printed tokens.
 use Rattle.std.proofs.Common.{◌≡◌, ℕ, ◌≤◌, pos, negsuc, List, [], ◌∷◌, ◌++◌, Some, sym, subst, arith}
 use Rattle.std.proofs.lemmas.Int.{ints}
-use Rattle.std.proofs.lemmas.List.Elements.{All-from_recursion}
 use Rattle.tilt_base.specs.Expression.{Leaf, One, Two}
 use Rattle.tilt_base.specs.declared.operator.Op1.TheVariants as op1
 use Rattle.tilt_base.specs.declared.operator.Op2.TheVariants as op2
@@ -9,9 +8,8 @@ use Rattle.tilt_lexer.specs.declared.token.Tok.{Tok}
 use Rattle.tilt_lexer.specs.declared.token.Tok.TheVariants.{Number, Mark}
 use Rattle.tilt_lexer.specs.declared.mark.Mark.TheVariants.{Semicolon}
 use Rattle.tilt_lexer.specs.Tokens.{IsSound}
-use Rattle.tilt_syntax.specs.Query.{IsQuery}
+use Rattle.tilt_syntax.specs.Query.{AreSound, IsQuery}
 use Rattle.tilt_syntax.specs.Tree.{Num, ExprTree, StatementTree, Emit, expr_tree}
-use Rattle.tilt_syntax.proofs.Spelling.{AreSound}
 use Rattle.tilt_syntax.proofs.Written.{span_tokens, period_tokens, statement_tokens, statement_is}
 use Rattle.tilt_syntax.proofs.printer.tests.emission.Goals as goal
 
@@ -38,7 +36,7 @@ is_query =
     let tokens = statement_tokens (emission difference) in
     record {
       tokens = tokens;
-      sound = All-from_recursion IsSound tokens sound;
+      sound = sound;
       parsed = record {
         some = omega arith;
         few = omega arith;
