@@ -2,6 +2,7 @@ pub mod Complete
 pub mod Cuts
 pub mod Cutting
 pub mod Descending
+pub mod Finding
 pub mod Law
 pub mod Operators
 pub mod Parsing

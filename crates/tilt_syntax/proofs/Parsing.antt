@@ -7,8 +7,9 @@ use Rattle.tilt_lexer.specs.declared.token.Tok.{Tok}
 use Rattle.tilt_lexer.specs.declared.token.Token.{Token}
 use Rattle.tilt_syntax.specs.Query.{kinds, AreSound, statements, IsInPlace, IsGood, AreGood}
 use Rattle.tilt_syntax.specs.Cut.{first_length}
-use Rattle.tilt_syntax.specs.Descent.{Comes, Reading, plan_of}
+use Rattle.tilt_syntax.specs.Descent.{Reading, plan_of}
 use Rattle.tilt_syntax.specs.Grammar.{IsExpr}
+use Rattle.tilt_syntax.specs.Rest.{Finds}
 use Rattle.tilt_syntax.specs.Tree.{ExprTree, StatementTree, Input, Let, Emit, statement_tree}
 use Rattle.tilt_syntax.specs.declared.level.Level.TheVariants.{Choice}
 use Rattle.tilt_base.specs.declared.span.Span.{Span}
@@ -77,18 +78,18 @@ good-step ss ts behind read new s e g h others k =
 
 -- reading exactly the tokens, or not
 
-pub no-expr : (ts : List Tok) → Comes (plan_of (Reading Choice ts)) None → (e : ExprTree) → IsExpr 0 ts e → ⊥
-no-expr ts h e is = let none = one_answer h (whole ts e is) in cc
+pub no-expr : (ts : List Tok) → Finds (plan_of (Reading Choice ts)) ts None → (e : ExprTree) → IsExpr 0 ts e → ⊥
+no-expr ts h e is = let none = one_answer h.comes (whole ts e is) in cc
 
-pub all-read : (ts rest : List Tok) (e : ExprTree) → Comes (plan_of (Reading Choice ts)) (Some (record { tree = e; rest = rest }))
+pub all-read : (ts rest : List Tok) (e : ExprTree) → Finds (plan_of (Reading Choice ts)) ts (Some (record { tree = e; rest = rest }))
     → rest ≡ []
     → IsExpr 0 ts e
 all-read ts rest e h none =
-    let front = fits (Reading Choice ts) (record { tree = e; rest = rest }) h in
+    let front = fits (Reading Choice ts) (record { tree = e; rest = rest }) h.comes in
     let empty : front.front ++ [] ≡ front.front = rw append-nil refl in
     let same : ts ≡ front.front = front.split ∙ ap (λ (r : List Tok). front.front ++ r) none ∙ empty in
     rw same front.is
 
-pub some-rest : (ts rest : List Tok) (a b : ExprTree) → Comes (plan_of (Reading Choice ts)) (Some (record { tree = a; rest = rest }))
+pub some-rest : (ts rest : List Tok) (a b : ExprTree) → Finds (plan_of (Reading Choice ts)) ts (Some (record { tree = a; rest = rest }))
     → IsExpr 0 ts b → rest ≡ []
-some-rest ts rest a b h is = same_rest a b rest [] (one_answer h (whole ts b is))
+some-rest ts rest a b h is = same_rest a b rest [] (one_answer h.comes (whole ts b is))

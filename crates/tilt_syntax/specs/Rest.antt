@@ -1,9 +1,34 @@
--- What a reader leaves of the tokens that it was given.
-use Rattle.std.specs.Prelude.{◌≤◌, List, length}
+-- What a reader finds at the front of the tokens that it is given, and what it leaves of them.
+use Rattle.std.specs.Prelude.{◌≤◌, List, length, Option, Some, None, IfSome, MatchOption}
+use Rattle.std.specs.Borrow.{Bor}
 use Rattle.tilt_lexer.specs.declared.token.Tok.{Tok}
-use Rattle.tilt_syntax.specs.Query.{AreSound}
+use Rattle.tilt_lexer.specs.declared.token.Token.{Token}
+use Rattle.tilt_syntax.specs.Descent.{Plan, Found, Comes}
+use Rattle.tilt_syntax.specs.Query.{kinds, AreSound}
+use Rattle.tilt_syntax.specs.Tree.{expr_tree}
+use Rattle.tilt_syntax.specs.declared.expr.Expr.{Expr}
 
 -- no more tokens are left, and sound ones
 pub record IsRest (ts rest : List Tok) : Type 0 where
   pub fewer : length rest ≤ length ts
   pub sound : AreSound ts → AreSound rest
+
+-- the plan comes to this expression, or to none, and leaves a rest of the tokens
+pub record Finds (plan : Plan) (ts : List Tok) (found : Option Found) : Type 0 where
+  pub comes : Comes plan found
+  pub rest : IfSome found (λ f. IsRest ts f.rest)
+
+-- the same, where the expression stands in memory
+abbrev pub FindsExpr : Plan → List Tok → Option (Expr × Bor (List Token)) → Type 0
+FindsExpr plan ts found =
+    MatchOption found (Finds plan ts None) (λ x. Finds plan ts (Some (record { tree = expr_tree x.0; rest = kinds x.1.now })))
+
+-- a part of a statement is at the front: a plan with this part in it goes on behind it, with a rest of the tokens
+pub record HasPart {V : Type 0} (plan : (V → List Tok → Plan) → Plan) (ts : List Tok) (part : V) (left : List Tok) : Type 0 where
+  pub goes_on : (behind : V → List Tok → Plan) (found : Option Found) → Comes (behind part left) found → Comes (plan behind) found
+  pub rest : IsRest ts left
+
+-- the part is at the front, or none is, and a plan with it comes to nothing
+abbrev pub FindsPart : {V : Type 0} → ((V → List Tok → Plan) → Plan) → List Tok → Option (V × Bor (List Token)) → Type 0
+FindsPart {V = V} plan ts found =
+    MatchOption found ((behind : V → List Tok → Plan) → Comes (plan behind) None) (λ x. HasPart plan ts x.0 (kinds x.1.now))

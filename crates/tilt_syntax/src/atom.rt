@@ -1,13 +1,12 @@
 // What needs no parentheses and has no expression in it: readings and windows.
-ghost use Rattle.std.specs.Prelude.{◌≡◌, ◌≢◌, ℤ, List, Option, IfOk, IfSome, MatchOption};
+ghost use Rattle.std.specs.Prelude.{◌≡◌, ◌≢◌, IfOk, MatchOption};
 ghost use Rattle.tilt_base.specs.Expression.{Leaf};
 ghost use Rattle.tilt_base.specs.declared.reducer.Reducer.{Reducer};
-ghost use Rattle.tilt_lexer.specs.declared.token.Tok.{Tok};
-ghost use Rattle.tilt_syntax.specs.Descent.{Comes, Found, Plan, offset_plan, reading_plan, window_plan};
+ghost use Rattle.tilt_syntax.specs.Descent.{offset_plan, reading_plan, window_plan};
 ghost use Rattle.tilt_syntax.specs.Grammar.{reducer_key};
 ghost use Rattle.tilt_syntax.specs.Query.{kinds, AreSound};
-ghost use Rattle.tilt_syntax.specs.Rest.{IsRest};
-ghost use Rattle.tilt_syntax.specs.Tree.{Reduce, expr_tree};
+ghost use Rattle.tilt_syntax.specs.Rest.{Finds, FindsExpr, FindsPart};
+ghost use Rattle.tilt_syntax.specs.Tree.{Reduce};
 
 use crate::expr::Expr;
 use crate::front::{behind_key, behind_mark, front_name, front_number};
@@ -18,11 +17,7 @@ use tilt_lexer::{Key, Mark, Name, Token};
 // The offset at the front, and what stands behind it.
 fn offset(tokens: &[Token]) -> Option<(i64, &[Token])>
     requires { AreSound (kinds tokens.now) }
-    ensures comes { MatchOption result
-        ((behind : ℤ → List Tok → Plan) → Comes (offset_plan (kinds tokens.now) behind) None)
-        (λ found. (behind : ℤ → List Tok → Plan) (r : Option Found) → Comes (behind found.0 (kinds found.1.now)) r
-        → Comes (offset_plan (kinds tokens.now) behind) r) }
-    ensures rest { IfSome result (λ found. IsRest (kinds tokens.now) (kinds found.1.now)) }
+    ensures { FindsPart (offset_plan (kinds tokens.now)) (kinds tokens.now) result }
 {
     let rest = behind_key(tokens, Key::Time)?;
     if let Some(rest) = behind_mark(rest, Mark::Plus) {
@@ -41,10 +36,7 @@ pub(crate) fn reading<'a>(
     tokens: &'a [Token],
 ) -> Result<Option<(Expr, &'a [Token])>, OutOfMemory>
     requires { AreSound (kinds tokens.now) }
-    ensures comes { IfOk result (λ found. MatchOption found
-        (Comes (reading_plan name.now (kinds tokens.now)) None)
-        (λ found. Comes (reading_plan name.now (kinds tokens.now)) (Some (record { tree = expr_tree found.0; rest = kinds found.1.now })))) }
-    ensures rest { IfOk result (λ found. IfSome found (λ found. IsRest (kinds tokens.now) (kinds found.1.now))) }
+    ensures { IfOk result (λ found. FindsExpr (reading_plan name.now (kinds tokens.now)) (kinds tokens.now) found) }
 {
     let Some(inside) = behind_mark(tokens, Mark::OpenBracket) else {
         let name = name.copy()?;
@@ -83,11 +75,10 @@ pub(crate) fn reducer_of(key: Key) -> Option<Reducer>
 // The window in parentheses behind a reducer: its name and its two offsets, and what stands behind it.
 fn window(tokens: &[Token]) -> Option<(&Name, i64, i64, &[Token])>
     requires { AreSound (kinds tokens.now) }
-    ensures comes { MatchOption result
-        ((r : Reducer) → Comes (window_plan r (kinds tokens.now)) None)
-        (λ found. (r : Reducer) → Comes (window_plan r (kinds tokens.now))
+    ensures { MatchOption result
+        ((r : Reducer) → Finds (window_plan r (kinds tokens.now)) (kinds tokens.now) None)
+        (λ found. (r : Reducer) → Finds (window_plan r (kinds tokens.now)) (kinds tokens.now)
         (Some (record { tree = Leaf (Reduce r found.0.now found.1 found.2); rest = kinds found.3.now }))) }
-    ensures rest { IfSome result (λ found. IsRest (kinds tokens.now) (kinds found.3.now)) }
 {
     let opened = behind_mark(tokens, Mark::OpenParen)?;
     let (name, named) = front_name(opened)?;
@@ -106,10 +97,7 @@ pub(crate) fn reduction(
     tokens: &[Token],
 ) -> Result<Option<(Expr, &[Token])>, OutOfMemory>
     requires { AreSound (kinds tokens.now) }
-    ensures comes { IfOk result (λ found. MatchOption found
-        (Comes (window_plan reducer (kinds tokens.now)) None)
-        (λ found. Comes (window_plan reducer (kinds tokens.now)) (Some (record { tree = expr_tree found.0; rest = kinds found.1.now })))) }
-    ensures rest { IfOk result (λ found. IfSome found (λ found. IsRest (kinds tokens.now) (kinds found.1.now))) }
+    ensures { IfOk result (λ found. FindsExpr (window_plan reducer (kinds tokens.now)) (kinds tokens.now) found) }
 {
     let Some((name, from, to, rest)) = window(tokens) else {
         return Ok(None);

@@ -1,11 +1,9 @@
 // What stands in a statement behind its expression.
-ghost use Rattle.std.specs.Prelude.{◌≡◌, ◌↔◌, ℤ, List, [], ◌∷◌, Option, IsTrue, IfSome, MatchOption};
+ghost use Rattle.std.specs.Prelude.{◌≡◌, ◌↔◌, [], ◌∷◌, IsTrue};
 ghost use Rattle.tilt_lexer.specs.declared.token.Tok.{Tok};
-ghost use Rattle.tilt_syntax.specs.Descent.{Comes, Found, Plan};
 ghost use Rattle.tilt_syntax.specs.Query.{kinds, AreSound};
-ghost use Rattle.tilt_syntax.specs.Rest.{IsRest};
+ghost use Rattle.tilt_syntax.specs.Rest.{FindsPart};
 ghost use Rattle.tilt_syntax.specs.Statements.{bound_plan, domain_plan, period_plan, span_plan};
-ghost use Rattle.tilt_base.specs.declared.span.Span.{Span};
 
 use crate::front::{behind_key, behind_mark, front_number};
 use tilt_base::Span;
@@ -14,11 +12,7 @@ use tilt_lexer::{Key, Mark, Token};
 // The bound at the front, and what stands behind it.
 fn bound(tokens: &[Token]) -> Option<(i64, &[Token])>
     requires { AreSound (kinds tokens.now) }
-    ensures comes { MatchOption result
-        ((behind : ℤ → List Tok → Plan) → Comes (bound_plan (kinds tokens.now) behind) None)
-        (λ found. (behind : ℤ → List Tok → Plan) (r : Option Found) → Comes (behind found.0 (kinds found.1.now)) r
-        → Comes (bound_plan (kinds tokens.now) behind) r) }
-    ensures rest { IfSome result (λ found. IsRest (kinds tokens.now) (kinds found.1.now)) }
+    ensures { FindsPart (bound_plan (kinds tokens.now)) (kinds tokens.now) result }
 {
     let Some(behind) = behind_mark(tokens, Mark::Minus) else {
         return front_number(tokens);
@@ -30,11 +24,7 @@ fn bound(tokens: &[Token]) -> Option<(i64, &[Token])>
 // The span behind `over`, and what stands behind it.
 pub(crate) fn span(tokens: &[Token]) -> Option<(Span, &[Token])>
     requires { AreSound (kinds tokens.now) }
-    ensures comes { MatchOption result
-        ((behind : Span → List Tok → Plan) → Comes (span_plan (kinds tokens.now) behind) None)
-        (λ found. (behind : Span → List Tok → Plan) (r : Option Found) → Comes (behind found.0 (kinds found.1.now)) r
-        → Comes (span_plan (kinds tokens.now) behind) r) }
-    ensures rest { IfSome result (λ found. IsRest (kinds tokens.now) (kinds found.1.now)) }
+    ensures { FindsPart (span_plan (kinds tokens.now)) (kinds tokens.now) result }
 {
     let opened = behind_mark(tokens, Mark::OpenParen)?;
     let (start, left) = bound(opened)?;
@@ -47,11 +37,7 @@ pub(crate) fn span(tokens: &[Token]) -> Option<(Span, &[Token])>
 // The span at the front, where `over` stands there, and what stands behind it.
 pub(crate) fn domain(tokens: &[Token]) -> Option<(Option<Span>, &[Token])>
     requires { AreSound (kinds tokens.now) }
-    ensures comes { MatchOption result
-        ((behind : Option Span → List Tok → Plan) → Comes (domain_plan (kinds tokens.now) behind) None)
-        (λ found. (behind : Option Span → List Tok → Plan) (r : Option Found) → Comes (behind found.0 (kinds found.1.now)) r
-        → Comes (domain_plan (kinds tokens.now) behind) r) }
-    ensures rest { IfSome result (λ found. IsRest (kinds tokens.now) (kinds found.1.now)) }
+    ensures { FindsPart (domain_plan (kinds tokens.now)) (kinds tokens.now) result }
 {
     let Some(behind) = behind_key(tokens, Key::Over) else {
         return Some((None, tokens));
@@ -63,11 +49,7 @@ pub(crate) fn domain(tokens: &[Token]) -> Option<(Option<Span>, &[Token])>
 // The period at the front, where `every` stands there, and what stands behind it.
 pub(crate) fn period(tokens: &[Token]) -> Option<(Option<i64>, &[Token])>
     requires { AreSound (kinds tokens.now) }
-    ensures comes { MatchOption result
-        ((behind : Option ℤ → List Tok → Plan) → Comes (period_plan (kinds tokens.now) behind) None)
-        (λ found. (behind : Option ℤ → List Tok → Plan) (r : Option Found) → Comes (behind found.0 (kinds found.1.now)) r
-        → Comes (period_plan (kinds tokens.now) behind) r) }
-    ensures rest { IfSome result (λ found. IsRest (kinds tokens.now) (kinds found.1.now)) }
+    ensures { FindsPart (period_plan (kinds tokens.now)) (kinds tokens.now) result }
 {
     let Some(behind) = behind_key(tokens, Key::Every) else {
         return Some((None, tokens));

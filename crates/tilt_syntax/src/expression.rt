@@ -1,11 +1,11 @@
 // Expressions, read from left to right without going back: each function answers what is at the front of the tokens and
 // what stands behind it, or `None` where that can't be read.
-ghost use Rattle.std.specs.Prelude.{◌≡◌, ◌<◌, IfOk, IfSome, MatchOption};
-ghost use Rattle.tilt_base.specs.Expression.{One, Two};
-ghost use Rattle.tilt_syntax.specs.Descent.{Comes, Reading, GoingOn, plan_of, atom_plan, choice_plan, chain_plan, enclosed_plan, give, going_plan, minus_plan, negation_plan, pair_plan, word_plan};
+ghost use Rattle.std.specs.Prelude.{◌<◌, IfOk};
+ghost use Rattle.tilt_syntax.specs.Descent.{Reading, plan_of, atom_plan, choice_plan, chain_plan, enclosed_plan};
+ghost use Rattle.tilt_syntax.specs.Descent.{give, going_plan, minus_plan, negation_plan, word_plan};
 ghost use Rattle.tilt_syntax.specs.Levels.{level_number};
 ghost use Rattle.tilt_syntax.specs.Query.{kinds, AreSound};
-ghost use Rattle.tilt_syntax.specs.Rest.{IsRest};
+ghost use Rattle.tilt_syntax.specs.Rest.{FindsExpr};
 ghost use Rattle.tilt_syntax.specs.Tree.{expr_tree};
 
 use crate::atom::{reading, reducer_of, reduction};
@@ -24,10 +24,7 @@ type Found<'a> = Result<Option<(Expr, &'a [Token])>, OutOfMemory>;
 #[cycle(expressions)]
 pub(crate) fn expression(alloc: Global, level: Level, tokens: &[Token]) -> Found<'_>
     requires { AreSound (kinds tokens.now) }
-    ensures comes { IfOk result (λ found. MatchOption found
-        (Comes (plan_of (Reading level (kinds tokens.now))) None)
-        (λ found. Comes (plan_of (Reading level (kinds tokens.now))) (Some (record { tree = expr_tree found.0; rest = kinds found.1.now })))) }
-    ensures rest { IfOk result (λ found. IfSome found (λ found. IsRest (kinds tokens.now) (kinds found.1.now))) }
+    ensures { IfOk result (λ found. FindsExpr (plan_of (Reading level (kinds tokens.now))) (kinds tokens.now) found) }
 {
     match level {
         Level::Choice => choice(alloc, tokens),
@@ -43,10 +40,7 @@ pub(crate) fn expression(alloc: Global, level: Level, tokens: &[Token]) -> Found
 #[cycle(expressions)]
 fn choice(alloc: Global, tokens: &[Token]) -> Found<'_>
     requires { AreSound (kinds tokens.now) }
-    ensures comes { IfOk result (λ found. MatchOption found
-        (Comes (choice_plan (kinds tokens.now)) None)
-        (λ found. Comes (choice_plan (kinds tokens.now)) (Some (record { tree = expr_tree found.0; rest = kinds found.1.now })))) }
-    ensures rest { IfOk result (λ found. IfSome found (λ found. IsRest (kinds tokens.now) (kinds found.1.now))) }
+    ensures { IfOk result (λ found. FindsExpr (choice_plan (kinds tokens.now)) (kinds tokens.now) found) }
 {
     let Some(first) = behind_key(tokens, Key::If) else {
         return expression(alloc, Level::When, tokens);
@@ -75,10 +69,7 @@ fn choice(alloc: Global, tokens: &[Token]) -> Found<'_>
 fn chain(alloc: Global, level: Level, tokens: &[Token]) -> Found<'_>
     requires sound { AreSound (kinds tokens.now) }
     requires loose { level_number level < 9 }
-    ensures comes { IfOk result (λ found. MatchOption found
-        (Comes (chain_plan level (kinds tokens.now)) None)
-        (λ found. Comes (chain_plan level (kinds tokens.now)) (Some (record { tree = expr_tree found.0; rest = kinds found.1.now })))) }
-    ensures rest { IfOk result (λ found. IfSome found (λ found. IsRest (kinds tokens.now) (kinds found.1.now))) }
+    ensures { IfOk result (λ found. FindsExpr (chain_plan level (kinds tokens.now)) (kinds tokens.now) found) }
 {
     let Some((first, behind)) = expression(alloc, level.tighter(), tokens)? else {
         return Ok(None);
@@ -90,10 +81,7 @@ fn chain(alloc: Global, level: Level, tokens: &[Token]) -> Found<'_>
 #[cycle(expressions)]
 fn going_on(alloc: Global, level: Level, left: Expr, tokens: &[Token]) -> Found<'_>
     requires { AreSound (kinds tokens.now) }
-    ensures comes { IfOk result (λ found. MatchOption found
-        (Comes (going_plan level (expr_tree left) (kinds tokens.now)) None)
-        (λ found. Comes (going_plan level (expr_tree left) (kinds tokens.now)) (Some (record { tree = expr_tree found.0; rest = kinds found.1.now })))) }
-    ensures rest { IfOk result (λ found. IfSome found (λ found. IsRest (kinds tokens.now) (kinds found.1.now))) }
+    ensures { IfOk result (λ found. FindsExpr (going_plan level (expr_tree left) (kinds tokens.now)) (kinds tokens.now) found) }
 {
     let Some((op, behind)) = front_operator(level, tokens) else {
         return Ok(Some((left, tokens)));
@@ -113,10 +101,7 @@ fn going_on(alloc: Global, level: Level, left: Expr, tokens: &[Token]) -> Found<
 #[cycle(expressions)]
 fn negation(alloc: Global, tokens: &[Token]) -> Found<'_>
     requires { AreSound (kinds tokens.now) }
-    ensures comes { IfOk result (λ found. MatchOption found
-        (Comes (negation_plan (kinds tokens.now)) None)
-        (λ found. Comes (negation_plan (kinds tokens.now)) (Some (record { tree = expr_tree found.0; rest = kinds found.1.now })))) }
-    ensures rest { IfOk result (λ found. IfSome found (λ found. IsRest (kinds tokens.now) (kinds found.1.now))) }
+    ensures { IfOk result (λ found. FindsExpr (negation_plan (kinds tokens.now)) (kinds tokens.now) found) }
 {
     let Some(behind) = behind_key(tokens, Key::Not) else {
         return expression(alloc, Level::Comparison, tokens);
@@ -132,10 +117,7 @@ fn negation(alloc: Global, tokens: &[Token]) -> Found<'_>
 #[cycle(expressions)]
 fn minus(alloc: Global, tokens: &[Token]) -> Found<'_>
     requires { AreSound (kinds tokens.now) }
-    ensures comes { IfOk result (λ found. MatchOption found
-        (Comes (minus_plan (kinds tokens.now)) None)
-        (λ found. Comes (minus_plan (kinds tokens.now)) (Some (record { tree = expr_tree found.0; rest = kinds found.1.now })))) }
-    ensures rest { IfOk result (λ found. IfSome found (λ found. IsRest (kinds tokens.now) (kinds found.1.now))) }
+    ensures { IfOk result (λ found. FindsExpr (minus_plan (kinds tokens.now)) (kinds tokens.now) found) }
 {
     let Some(behind) = behind_mark(tokens, Mark::Minus) else {
         return expression(alloc, Level::Atom, tokens);
@@ -151,10 +133,7 @@ fn minus(alloc: Global, tokens: &[Token]) -> Found<'_>
 #[cycle(expressions)]
 fn atom(alloc: Global, tokens: &[Token]) -> Found<'_>
     requires { AreSound (kinds tokens.now) }
-    ensures comes { IfOk result (λ found. MatchOption found
-        (Comes (atom_plan (kinds tokens.now)) None)
-        (λ found. Comes (atom_plan (kinds tokens.now)) (Some (record { tree = expr_tree found.0; rest = kinds found.1.now })))) }
-    ensures rest { IfOk result (λ found. IfSome found (λ found. IsRest (kinds tokens.now) (kinds found.1.now))) }
+    ensures { IfOk result (λ found. FindsExpr (atom_plan (kinds tokens.now)) (kinds tokens.now) found) }
 {
     let [first, rest @ ..] = tokens else {
         return Ok(None);
@@ -171,10 +150,7 @@ fn atom(alloc: Global, tokens: &[Token]) -> Found<'_>
 #[cycle(expressions)]
 fn word(alloc: Global, key: Key, tokens: &[Token]) -> Found<'_>
     requires { AreSound (kinds tokens.now) }
-    ensures comes { IfOk result (λ found. MatchOption found
-        (Comes (word_plan key (kinds tokens.now)) None)
-        (λ found. Comes (word_plan key (kinds tokens.now)) (Some (record { tree = expr_tree found.0; rest = kinds found.1.now })))) }
-    ensures rest { IfOk result (λ found. IfSome found (λ found. IsRest (kinds tokens.now) (kinds found.1.now))) }
+    ensures { IfOk result (λ found. FindsExpr (word_plan key (kinds tokens.now)) (kinds tokens.now) found) }
 {
     if let Some(reducer) = reducer_of(key) {
         return reduction(reducer, tokens);
@@ -192,10 +168,7 @@ fn word(alloc: Global, key: Key, tokens: &[Token]) -> Found<'_>
 #[cycle(expressions)]
 fn enclosed(alloc: Global, tokens: &[Token]) -> Found<'_>
     requires { AreSound (kinds tokens.now) }
-    ensures comes { IfOk result (λ found. MatchOption found
-        (Comes (enclosed_plan (kinds tokens.now) give) None)
-        (λ found. Comes (enclosed_plan (kinds tokens.now) give) (Some (record { tree = expr_tree found.0; rest = kinds found.1.now })))) }
-    ensures rest { IfOk result (λ found. IfSome found (λ found. IsRest (kinds tokens.now) (kinds found.1.now))) }
+    ensures { IfOk result (λ found. FindsExpr (enclosed_plan (kinds tokens.now) give) (kinds tokens.now) found) }
 {
     let Some(opened) = behind_mark(tokens, Mark::OpenParen) else {
         return Ok(None);
@@ -213,10 +186,7 @@ fn enclosed(alloc: Global, tokens: &[Token]) -> Found<'_>
 #[cycle(expressions)]
 fn is_null(alloc: Global, tokens: &[Token]) -> Found<'_>
     requires { AreSound (kinds tokens.now) }
-    ensures comes { IfOk result (λ found. MatchOption found
-        (Comes (word_plan Key.IsNull (kinds tokens.now)) None)
-        (λ found. Comes (word_plan Key.IsNull (kinds tokens.now)) (Some (record { tree = expr_tree found.0; rest = kinds found.1.now })))) }
-    ensures rest { IfOk result (λ found. IfSome found (λ found. IsRest (kinds tokens.now) (kinds found.1.now))) }
+    ensures { IfOk result (λ found. FindsExpr (word_plan Key.IsNull (kinds tokens.now)) (kinds tokens.now) found) }
 {
     let Some(opened) = behind_mark(tokens, Mark::OpenParen) else {
         return Ok(None);
@@ -235,10 +205,7 @@ fn is_null(alloc: Global, tokens: &[Token]) -> Found<'_>
 #[cycle(expressions)]
 fn if_null(alloc: Global, tokens: &[Token]) -> Found<'_>
     requires { AreSound (kinds tokens.now) }
-    ensures comes { IfOk result (λ found. MatchOption found
-        (Comes (word_plan Key.IfNull (kinds tokens.now)) None)
-        (λ found. Comes (word_plan Key.IfNull (kinds tokens.now)) (Some (record { tree = expr_tree found.0; rest = kinds found.1.now })))) }
-    ensures rest { IfOk result (λ found. IfSome found (λ found. IsRest (kinds tokens.now) (kinds found.1.now))) }
+    ensures { IfOk result (λ found. FindsExpr (word_plan Key.IfNull (kinds tokens.now)) (kinds tokens.now) found) }
 {
     let Some(opened) = behind_mark(tokens, Mark::OpenParen) else {
         return Ok(None);
