@@ -1,5 +1,5 @@
 // What a command comes to.
-ghost use Rattle.std.specs.Prelude.{◌≡◌, ◌≤◌, ⊤, List, ℕ, None, IfOk, IfErr, MatchOption};
+ghost use Rattle.std.specs.Prelude.{◌≡◌, ⊤, List, ℕ, None, IfOk, IfErr, MatchOption};
 ghost use Rattle.tilt_app.specs.Answer.{comes_to, name_of, IsFresh, IsStreamed};
 ghost use Rattle.tilt_app.specs.Cause.{IsUnanswered};
 ghost use Rattle.tilt_app.specs.Continues.{Continues};
@@ -68,8 +68,7 @@ pub fn answer<'a, S: Shelf>(
         (IsCommandOutcome (S.files shelf.old) watchers (command_of command.now))
         (HasCommandTurn S.tells (S.files shelf.old) (command_of command.now)) S.tells
         (S.read_faults shelf.old) (S.read_faults shelf.new) (report_of fault)) }
-    ensures kept { S.read_faults shelf.old ≤ S.read_faults shelf.new }
-    ensures rest { OnlyReads S.files S.save_faults S.takes shelf.old shelf.new }
+    ensures rest { OnlyReads S.files S.read_faults S.save_faults S.takes shelf.old shelf.new }
 {
     match command {
         Command::Run {

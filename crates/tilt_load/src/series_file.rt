@@ -1,5 +1,5 @@
 // The series file of an input, from the shelf to its rows.
-ghost use Rattle.std.specs.Prelude.{◌≡◌, ◌≤◌, List, ℕ, Ok, Err, IfOk, IfErr};
+ghost use Rattle.std.specs.Prelude.{◌≡◌, List, ℕ, Ok, Err, IfOk, IfErr};
 ghost use Rattle.tilt_load.specs.Load.{IsLoadFault};
 ghost use Rattle.std.specs.List.{AllByRecursion};
 ghost use Rattle.tilt_load.specs.SeriesFiles.{IsWithin, input_read};
@@ -30,8 +30,7 @@ pub(crate) fn load_input<'a, S: Shelf>(
     ensures fault { IfErr result (λ fault. IsLoadFault S.tells
         (λ why. input_read (S.files shelf.old) (as_bounds bounds) file.now input.now ≡ Err why)
         (λ which. which ≡ file.now) (S.read_faults shelf.old) (S.read_faults shelf.new) (report_of fault)) }
-    ensures kept { S.read_faults shelf.old ≤ S.read_faults shelf.new }
-    ensures rest { OnlyReads S.files S.save_faults S.takes shelf.old shelf.new }
+    ensures rest { OnlyReads S.files S.read_faults S.save_faults S.takes shelf.old shelf.new }
 {
     let bytes = load(alloc, shelf, file)?;
     match read_rows(alloc, &bytes, bounds.last_end, bounds.from, bounds.upto) {
