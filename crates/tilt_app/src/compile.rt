@@ -13,7 +13,7 @@ use tilt_outside::Shelf;
 use tilt_report::Fault;
 
 /// The listing of the query's code on its output domain, with fusion or without.
-pub fn compile<'a, S: Shelf>(
+pub(crate) fn compile<'a, S: Shelf>(
     alloc: Global,
     shelf: &mut S,
     query: &'a str,

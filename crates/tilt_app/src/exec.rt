@@ -16,7 +16,7 @@ use tilt_stream::SnapList;
 use tilt_words::Bind;
 
 /// The snapshots of the run of the code on the files that are bound.
-pub fn exec<'a, S: Shelf>(
+pub(crate) fn exec<'a, S: Shelf>(
     alloc: Global,
     shelf: &mut S,
     code: &'a str,

@@ -12,7 +12,7 @@ use tilt_outside::Shelf;
 use tilt_report::Fault;
 
 /// What is told of the query: how far it looks, which definitions are used and merged, and how many loops it has.
-pub fn explain<'a, S: Shelf>(
+pub(crate) fn explain<'a, S: Shelf>(
     alloc: Global,
     shelf: &mut S,
     query: &'a str,

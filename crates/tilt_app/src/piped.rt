@@ -17,7 +17,7 @@ use tilt_report::Fault;
 use tilt_words::Bind;
 
 /// The pipe of what the query means on the files that are bound, with fusion or without.
-pub fn pipe_of<'a, S: Shelf>(
+pub(crate) fn pipe_of<'a, S: Shelf>(
     alloc: Global,
     shelf: &mut S,
     query: &'a str,

@@ -18,7 +18,7 @@ use tilt_stream::SnapList;
 use tilt_words::Bind;
 
 /// The snapshots of what the query means on the files that are bound.
-pub fn run<'a, S: Shelf>(
+pub(crate) fn run<'a, S: Shelf>(
     alloc: Global,
     shelf: &mut S,
     query: &'a str,

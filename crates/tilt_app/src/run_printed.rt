@@ -23,7 +23,7 @@ use tilt_words::Bind;
 
 /// What `run` prints of the query on the files that are bound: each snapshot as soon as it is made, but where the run is cut into
 /// sessions, all of them when the last session ends.
-pub fn run_printed<'a, S: Shelf>(
+pub(crate) fn run_printed<'a, S: Shelf>(
     alloc: Global,
     shelf: &mut S,
     query: &'a str,
