@@ -1,5 +1,5 @@
 // What a command comes to.
-ghost use Rattle.std.specs.Prelude.{◌≡◌, ◌≤◌, ⊤, List, ℕ, None, IfOk, IfErr, MatchOption};
+ghost use Rattle.std.specs.Prelude.{◌≡◌, ⊤, List, ℕ, None, IfOk, IfErr, MatchOption};
 ghost use Rattle.tilt_app.specs.Answer.{comes_to, name_of, IsFresh, IsStreamed};
 ghost use Rattle.tilt_app.specs.Cause.{IsUnanswered};
 ghost use Rattle.tilt_app.specs.Continues.{Continues};
@@ -29,11 +29,11 @@ use tilt_words::Command;
 
 /// What a command comes to.
 #[derive(Drop)]
-pub struct Answered {
+pub(crate) struct Answered {
     /// What is printed.
-    pub printed: Printed,
+    pub(crate) printed: Printed,
     /// The bytes that are saved behind it, under the name that the command gives.
-    pub bytes: Option<Vec<u8>>,
+    pub(crate) bytes: Option<Vec<u8>>,
 }
 
 impl Answered {
@@ -50,7 +50,7 @@ impl Answered {
 
 /// What the command prints and saves. All files are read here, and all memory is taken but that of snapshots which are put as they
 /// are made.
-pub fn answer<'a, S: Shelf>(
+pub(crate) fn answer<'a, S: Shelf>(
     alloc: Global,
     command: &'a Command,
     shelf: &mut S,
@@ -68,8 +68,7 @@ pub fn answer<'a, S: Shelf>(
         (IsCommandOutcome (S.files shelf.old) watchers (command_of command.now))
         (HasCommandTurn S.tells (S.files shelf.old) (command_of command.now)) S.tells
         (S.read_faults shelf.old) (S.read_faults shelf.new) (report_of fault)) }
-    ensures kept { S.read_faults shelf.old ≤ S.read_faults shelf.new }
-    ensures rest { OnlyReads S.files S.save_faults S.takes shelf.old shelf.new }
+    ensures rest { OnlyReads S.files S.read_faults S.save_faults S.takes shelf.old shelf.new }
 {
     match command {
         Command::Run {
@@ -166,7 +165,7 @@ pub fn answer<'a, S: Shelf>(
 }
 
 /// The name under which a command saves; it is empty where it doesn't save.
-pub fn save_name(command: &Command) -> &str
+pub(crate) fn save_name(command: &Command) -> &str
     ensures { result.now ≡ name_of (command_of command.now) }
 {
     match command {

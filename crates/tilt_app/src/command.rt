@@ -54,8 +54,9 @@ fn done<'a, S: Shelf, O: Sink>(
         × SeeAll O.tells (O.written out.old) (O.written out.new) (watchers.new ≡ watchers.old) (watches pair step watchers.old.items) (watches pair step watchers.new.items) shown)
         (λ fault. SeeOfFault O.tells (O.written out.old) (O.written out.new) (watchers.new ≡ watchers.old) (watches pair step watchers.old.items) (watches pair step watchers.new.items)
         (IsShow S.tells (S.files shelf.old) (command_of command.now)) (report_of fault)) }
-    ensures rest { MatchResult result (λ _. (Saves (command_of command.now) → ⊥) → OnlyReads S.files S.save_faults S.takes shelf.old shelf.new)
-        (λ fault. (IsSaveFault (report_of fault) → ⊥) → OnlyReads S.files S.save_faults S.takes shelf.old shelf.new) }
+    ensures rest { MatchResult result
+        (λ _. (Saves (command_of command.now) → ⊥) → OnlyReads S.files S.read_faults S.save_faults S.takes shelf.old shelf.new)
+        (λ fault. (IsSaveFault (report_of fault) → ⊥) → OnlyReads S.files S.read_faults S.save_faults S.takes shelf.old shelf.new) }
     ensures saving { IfErr result (λ fault. IsSaveFault (report_of fault) → Saves (command_of command.now)) }
     ensures unwritten { IfErr result (λ fault. (report_of fault ≡ write_fault → ⊥) → (IsSaveFault (report_of fault) → ⊥)
         → ((report_of fault ≡ out_of_memory) × Streams (command_of command.now) → ⊥) → out.new ≡ out.old) }
@@ -175,9 +176,9 @@ pub fn tilt<S: Shelf, O: Sink, E: Sink>(
         → (list : List Snapshot) × (S.tells → IsRunOutcome (S.files shelf.old) query binds (printed (text_of list)))
         × HaveSeenInPart O.tells (O.written out.old) (O.written out.new) (watchers.new ≡ watchers.old) (watches pair step watchers.old.items) (watches pair step watchers.new.items) list }
 
-    // The files and the count of failed saves are as before, but where bytes were saved.
-    ensures rest { (result ≡ 0 → ⊥) → (result ≡ 6 → ⊥) → OnlyReads S.files S.save_faults S.takes shelf.old shelf.new }
-    ensures unsaved { ¬ (IsSaving (texts words.now)) → OnlyReads S.files S.save_faults S.takes shelf.old shelf.new }
+    // The files and the count of failed saves are as before, and the count of failed reads is no lower, but where bytes were saved.
+    ensures rest { (result ≡ 0 → ⊥) → (result ≡ 6 → ⊥) → OnlyReads S.files S.read_faults S.save_faults S.takes shelf.old shelf.new }
+    ensures unsaved { ¬ (IsSaving (texts words.now)) → OnlyReads S.files S.read_faults S.save_faults S.takes shelf.old shelf.new }
 {
     match read_words(alloc, words) {
         Ok(command) => match done(alloc, &command, shelf, out, watchers) {

@@ -1,5 +1,5 @@
 // What `compile` prints.
-ghost use Rattle.std.specs.Prelude.{◌≡◌, ◌≤◌, IfOk, IfErr};
+ghost use Rattle.std.specs.Prelude.{◌≡◌, IfOk, IfErr};
 ghost use Rattle.tilt_app.specs.Compile.{IsCompileOutcome};
 ghost use Rattle.tilt_load.specs.Load.{IsLoadFault};
 ghost use Rattle.tilt_outside.specs.Reads.{OnlyReads};
@@ -13,7 +13,7 @@ use tilt_outside::Shelf;
 use tilt_report::Fault;
 
 /// The listing of the query's code on its output domain, with fusion or without.
-pub fn compile<'a, S: Shelf>(
+pub(crate) fn compile<'a, S: Shelf>(
     alloc: Global,
     shelf: &mut S,
     query: &'a str,
@@ -24,8 +24,7 @@ pub fn compile<'a, S: Shelf>(
     ensures fault { IfErr result (λ fault. IsLoadFault S.tells
         (λ why. IsCompileOutcome (S.files shelf.old) query.now fuse (refused (refusal why)))
         (λ which. which ≡ query.now) (S.read_faults shelf.old) (S.read_faults shelf.new) (report_of fault)) }
-    ensures kept { S.read_faults shelf.old ≤ S.read_faults shelf.new }
-    ensures rest { OnlyReads S.files S.save_faults S.takes shelf.old shelf.new }
+    ensures rest { OnlyReads S.files S.read_faults S.save_faults S.takes shelf.old shelf.new }
 {
     let query = load_query(alloc, shelf, query)?;
     let code = query_code(alloc, &query, fuse)?;

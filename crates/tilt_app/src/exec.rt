@@ -1,5 +1,5 @@
 // What `exec` prints.
-ghost use Rattle.std.specs.Prelude.{◌≤◌, List, ℕ, IfOk, IfErr};
+ghost use Rattle.std.specs.Prelude.{List, ℕ, IfOk, IfErr};
 ghost use Rattle.tilt_app.specs.Exec.{IsExecOutcome, HasExecTurn};
 ghost use Rattle.tilt_load.specs.Load.{IsLoadFault};
 ghost use Rattle.tilt_outside.specs.Reads.{OnlyReads};
@@ -16,7 +16,7 @@ use tilt_stream::SnapList;
 use tilt_words::Bind;
 
 /// The snapshots of the run of the code on the files that are bound.
-pub fn exec<'a, S: Shelf>(
+pub(crate) fn exec<'a, S: Shelf>(
     alloc: Global,
     shelf: &mut S,
     code: &'a str,
@@ -28,8 +28,7 @@ pub fn exec<'a, S: Shelf>(
         (λ why. IsExecOutcome (S.files shelf.old) code.now (bindings_of binds.now) (refused (refusal why)))
         (HasExecTurn S.tells (S.files shelf.old) code.now (bindings_of binds.now))
         (S.read_faults shelf.old) (S.read_faults shelf.new) (report_of fault)) }
-    ensures kept { S.read_faults shelf.old ≤ S.read_faults shelf.new }
-    ensures rest { OnlyReads S.files S.save_faults S.takes shelf.old shelf.new }
+    ensures rest { OnlyReads S.files S.read_faults S.save_faults S.takes shelf.old shelf.new }
 {
     let code = load_code(alloc, shelf, code)?;
     let rows = load_inputs(alloc, shelf, code.inputs(), binds)?;

@@ -15,7 +15,7 @@ use tilt_report::Fault;
 use tilt_stream::Rows;
 
 /// The summary of a made run: of what its query gives, with fusion, on so many rows from the seed for each input.
-pub fn made_run<'a>(alloc: Global, seed: u32, count: u32) -> Result<Vec<u8>, Fault<'a>>
+pub(crate) fn made_run<'a>(alloc: Global, seed: u32, count: u32) -> Result<Vec<u8>, Fault<'a>>
     requires { count ≤ 1000000 }
     ensures printed { IfOk result (λ text. IsTryOutcome seed count (printed text.items)) }
     ensures fault { IfErr result (λ fault. report_of fault ≡ out_of_memory) }

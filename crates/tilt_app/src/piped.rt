@@ -1,5 +1,5 @@
 // The pipe of what a query means.
-ghost use Rattle.std.specs.Prelude.{◌≡◌, ◌≤◌, List, ℕ, IfOk, IfErr};
+ghost use Rattle.std.specs.Prelude.{◌≡◌, List, ℕ, IfOk, IfErr};
 ghost use Rattle.tilt_app.specs.Pipe.{IsPipeOf, IsPipeOutcome};
 ghost use Rattle.tilt_app.specs.Run.{IsRunOutcome, HasRunTurn};
 ghost use Rattle.tilt_load.specs.Load.{IsLoadFault};
@@ -17,7 +17,7 @@ use tilt_report::Fault;
 use tilt_words::Bind;
 
 /// The pipe of what the query means on the files that are bound, with fusion or without.
-pub fn pipe_of<'a, S: Shelf>(
+pub(crate) fn pipe_of<'a, S: Shelf>(
     alloc: Global,
     shelf: &mut S,
     query: &'a str,
@@ -35,8 +35,7 @@ pub fn pipe_of<'a, S: Shelf>(
         (λ why. IsPipeOutcome (S.files shelf.old) query.now (bindings_of binds.now) fuse (refused (refusal why)))
         (HasRunTurn S.tells (S.files shelf.old) query.now (bindings_of binds.now))
         (S.read_faults shelf.old) (S.read_faults shelf.new) (report_of fault)) }
-    ensures kept { S.read_faults shelf.old ≤ S.read_faults shelf.new }
-    ensures rest { OnlyReads S.files S.save_faults S.takes shelf.old shelf.new }
+    ensures rest { OnlyReads S.files S.read_faults S.save_faults S.takes shelf.old shelf.new }
 {
     let query = load_query(alloc, shelf, query)?;
     let rows = load_inputs(alloc, shelf, query.core.inputs(), binds)?;

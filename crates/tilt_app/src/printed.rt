@@ -15,7 +15,7 @@ use tilt_watch::Watcher;
 
 /// What a command prints.
 #[derive(Drop)]
-pub enum Printed {
+pub(crate) enum Printed {
     /// This text.
     Whole(WholeText),
     /// The text of the snapshots that a pipe gives out, each of which is put as soon as it is made.
@@ -26,7 +26,7 @@ pub enum Printed {
 
 impl Printed {
     /// Puts the text, and hands all of it on. `OutOfMemory` comes only where a pipe gives it out.
-    pub fn put<O: Sink>(
+    pub(crate) fn put<O: Sink>(
         self,
         out: &mut O,
         watchers: &mut Vec<Box<dyn Watcher>>,

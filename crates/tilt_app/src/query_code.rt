@@ -16,7 +16,11 @@ use tilt_load::LoadedQuery;
 use tilt_lower::lower;
 
 /// The code of a query on its output domain, with fusion or without. Its run is what the query gives, whatever the rows are.
-pub fn query_code(alloc: Global, query: &LoadedQuery, fuse: bool) -> Result<Code, OutOfMemory>
+pub(crate) fn query_code(
+    alloc: Global,
+    query: &LoadedQuery,
+    fuse: bool,
+) -> Result<Code, OutOfMemory>
     requires { margins_of query.now.core ≡ Ok query.now.margins }
     ensures code { IfOk result (λ code. (domain : Span) × (domain_of query.now.core.defs ≡ Some domain)
         × (code ≡ code_of (plan_of query.now.core fuse) query.now.core query.now.margins domain.start domain.end)) }

@@ -15,15 +15,15 @@ use tilt_stream::{Rows, SnapList};
 
 /// How a query is run.
 #[derive(Clone, Copy)]
-pub struct Manner<'a> {
+pub(crate) struct Manner<'a> {
     /// Whether its definitions are fused.
-    pub fuse: bool,
+    pub(crate) fuse: bool,
     /// Where the run is cut into sessions, in ticks; none of the cuts lies before the one in front of it.
-    pub cuts: &'a [i64],
+    pub(crate) cuts: &'a [i64],
 }
 
 /// The snapshots of what the query means on its rows: by one run of its code, or by sessions where there are cuts.
-pub fn run_query(
+pub(crate) fn run_query(
     alloc: Global,
     query: LoadedQuery,
     rows: &[Rows],

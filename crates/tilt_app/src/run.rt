@@ -1,5 +1,5 @@
 // The snapshots of what a query means.
-ghost use Rattle.std.specs.Prelude.{◌≤◌, neg_ℤ, List, ℕ, IfOk, IfErr};
+ghost use Rattle.std.specs.Prelude.{neg_ℤ, List, ℕ, IfOk, IfErr};
 ghost use Rattle.tilt_app.specs.Run.{IsQueryOutcome, HasRunTurn};
 ghost use Rattle.tilt_base.specs.declared.limits.TheConstants.{T};
 ghost use Rattle.tilt_load.specs.Load.{IsLoadFault};
@@ -18,7 +18,7 @@ use tilt_stream::SnapList;
 use tilt_words::Bind;
 
 /// The snapshots of what the query means on the files that are bound.
-pub fn run<'a, S: Shelf>(
+pub(crate) fn run<'a, S: Shelf>(
     alloc: Global,
     shelf: &mut S,
     query: &'a str,
@@ -33,8 +33,7 @@ pub fn run<'a, S: Shelf>(
         (λ why. IsQueryOutcome makes (S.files shelf.old) query.now (bindings_of binds.now) (refused (refusal why)))
         (HasRunTurn S.tells (S.files shelf.old) query.now (bindings_of binds.now))
         (S.read_faults shelf.old) (S.read_faults shelf.new) (report_of fault)) }
-    ensures kept { S.read_faults shelf.old ≤ S.read_faults shelf.new }
-    ensures rest { OnlyReads S.files S.save_faults S.takes shelf.old shelf.new }
+    ensures rest { OnlyReads S.files S.read_faults S.save_faults S.takes shelf.old shelf.new }
 {
     let query = load_query(alloc, shelf, query)?;
     let rows = load_inputs(alloc, shelf, query.core.inputs(), binds)?;

@@ -1,5 +1,5 @@
 // What `run` prints.
-ghost use Rattle.std.specs.Prelude.{◌≡◌, ◌≤◌, [], neg_ℤ, None, List, ℕ, IfOk, IfErr};
+ghost use Rattle.std.specs.Prelude.{◌≡◌, [], neg_ℤ, None, List, ℕ, IfOk, IfErr};
 ghost use Rattle.tilt_app.specs.Answer.{IsFresh, IsStreamed, printed_text};
 ghost use Rattle.tilt_app.specs.Run.{IsRunOutcome, HasRunTurn};
 ghost use Rattle.tilt_app.specs.Show.{shown_of};
@@ -23,7 +23,7 @@ use tilt_words::Bind;
 
 /// What `run` prints of the query on the files that are bound: each snapshot as soon as it is made, but where the run is cut into
 /// sessions, all of them when the last session ends.
-pub fn run_printed<'a, S: Shelf>(
+pub(crate) fn run_printed<'a, S: Shelf>(
     alloc: Global,
     shelf: &mut S,
     query: &'a str,
@@ -41,8 +41,7 @@ pub fn run_printed<'a, S: Shelf>(
         (λ why. IsRunOutcome (S.files shelf.old) query.now (bindings_of binds.now) (refused (refusal why)))
         (HasRunTurn S.tells (S.files shelf.old) query.now (bindings_of binds.now))
         (S.read_faults shelf.old) (S.read_faults shelf.new) (report_of fault)) }
-    ensures kept { S.read_faults shelf.old ≤ S.read_faults shelf.new }
-    ensures rest { OnlyReads S.files S.save_faults S.takes shelf.old shelf.new }
+    ensures rest { OnlyReads S.files S.read_faults S.save_faults S.takes shelf.old shelf.new }
 {
     if manner.cuts.is_empty() {
         let pipe = pipe_of(alloc, shelf, query, binds, manner.fuse)?;

@@ -15,7 +15,7 @@ use tilt_pipe::Pipe;
 use tilt_series::{put_header, put_snap};
 
 /// Puts the text of the snapshots that the pipe gives out.
-pub fn put_run<O: Sink>(out: &mut O, pipe: Pipe) -> Result<(), Unput>
+pub(crate) fn put_run<O: Sink>(out: &mut O, pipe: Pipe) -> Result<(), Unput>
     requires fresh { pipe ≡ pipe_after pipe.code pipe.inputs 0 }
     requires room { O.takes out.old (length (text_of (run_of pipe.code pipe.inputs))) }
     ensures { Prints O.tells O.written O.faults O.takes out.old out.new (text_of (run_of pipe.code pipe.inputs)) result }
@@ -38,7 +38,7 @@ fn put_lines<O: Sink>(out: &mut O, pipe: Pipe) -> Result<(), Unput>
 }
 
 /// Puts the text of the snapshots that the pipe gives out, and then the line of the most that its rings held.
-pub fn put_rings<O: Sink>(out: &mut O, pipe: Pipe) -> Result<(), Unput>
+pub(crate) fn put_rings<O: Sink>(out: &mut O, pipe: Pipe) -> Result<(), Unput>
     requires fresh { pipe ≡ pipe_after pipe.code pipe.inputs 0 }
     requires room { O.takes out.old (length (rings_text pipe.code pipe.inputs)) }
     ensures { Prints O.tells O.written O.faults O.takes out.old out.new (rings_text pipe.code pipe.inputs) result }

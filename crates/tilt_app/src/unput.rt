@@ -10,7 +10,7 @@ use tilt_report::Fault;
 
 /// Why a text isn't put whole.
 #[derive(Clone, Copy, Debug, Drop, PartialEq, Eq, Error)]
-pub enum Unput {
+pub(crate) enum Unput {
     /// A put or the flush failed.
     #[error("the output can't be written")]
     Failed,
@@ -37,7 +37,7 @@ impl From<AllocError> for Unput {
 
 impl Unput {
     /// Why the command isn't done.
-    pub fn fault<'a>(self) -> Fault<'a>
+    pub(crate) fn fault<'a>(self) -> Fault<'a>
         ensures { report_of result ≡ report_of_unput self }
     {
         match self {

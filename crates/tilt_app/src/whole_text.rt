@@ -14,7 +14,7 @@ use tilt_watch::{Watcher, put_figures, show};
 
 /// What a command prints that is made whole before the first put.
 #[derive(Drop)]
-pub enum WholeText {
+pub(crate) enum WholeText {
     /// The text of these snapshots.
     Snapshots(SnapList),
     /// The text of these snapshots, and then the figures of the watchers, which are shown them in between.
@@ -27,7 +27,7 @@ pub enum WholeText {
 
 impl WholeText {
     /// Puts the text.
-    pub fn put<O: Sink>(
+    pub(crate) fn put<O: Sink>(
         &self,
         out: &mut O,
         watchers: &mut Vec<Box<dyn Watcher>>,

@@ -1,13 +1,8 @@
 -- Which rows a session is handed.
 use Rattle.std.specs.Prelude.{ℕ}
 use Rattle.tilt_load.specs.SeriesFiles.{session_bounds}
-use Rattle.tilt_load.specs.declared.session.InputBounds.{InputBounds}
 use Rattle.tilt_load.specs.declared.session.Session.{Session}
 use Rattle.tilt_series.specs.Series.{Bounds}
-
--- the bounds of an input as plain data
-abbrev pub as_bounds : InputBounds → Bounds
-as_bounds b = record { last_end = b.last_end; from = b.from; upto = b.upto }
 
 -- where the rows of the input at a place may start
 abbrev pub bounds_of : Session → ℕ → Bounds

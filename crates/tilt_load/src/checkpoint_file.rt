@@ -1,5 +1,5 @@
 // A checkpoint file, from the shelf to the checkpoint whose spelling it is.
-ghost use Rattle.std.specs.Prelude.{◌≡◌, ◌≤◌, List, ℕ, Ok, IfOk, IfErr};
+ghost use Rattle.std.specs.Prelude.{◌≡◌, List, ℕ, Ok, IfOk, IfErr};
 ghost use Rattle.tilt_bounds.specs.Margins.{margins_of};
 ghost use Rattle.tilt_checkpoint.specs.Valid.{IsCheckpoint};
 ghost use Rattle.tilt_load.specs.CheckpointFile.{TakesCheckpoint, RefusesCheckpoint};
@@ -38,8 +38,7 @@ pub fn load_checkpoint<'a, S: Shelf>(
     ensures margins { IfOk result (λ loaded. margins_of loaded.core ≡ Ok loaded.margins) }
     ensures fault { IfErr result (λ fault. IsLoadFault S.tells (RefusesCheckpoint name.now (S.files shelf.old name.now))
         (λ which. which ≡ name.now) (S.read_faults shelf.old) (S.read_faults shelf.new) (report_of fault)) }
-    ensures kept { S.read_faults shelf.old ≤ S.read_faults shelf.new }
-    ensures rest { OnlyReads S.files S.save_faults S.takes shelf.old shelf.new }
+    ensures rest { OnlyReads S.files S.read_faults S.save_faults S.takes shelf.old shelf.new }
 {
     let bytes = load(alloc, shelf, name)?;
     match decode(alloc, &bytes) {

@@ -1,5 +1,5 @@
 // A code file, from the shelf to the loop code whose listing it is.
-ghost use Rattle.std.specs.Prelude.{◌≡◌, ◌≤◌, List, ℕ, IfOk, IfErr};
+ghost use Rattle.std.specs.Prelude.{◌≡◌, List, ℕ, IfOk, IfErr};
 ghost use Rattle.tilt_load.specs.CodeFile.{TakesCode, RefusesCode};
 ghost use Rattle.tilt_load.specs.Load.{IsLoadFault};
 ghost use Rattle.tilt_outside.specs.Reads.{OnlyReads};
@@ -21,8 +21,7 @@ pub fn load_code<'a, S: Shelf>(
     ensures taken { S.tells → IfOk result (λ code. TakesCode (S.files shelf.old name.now) code) }
     ensures fault { IfErr result (λ fault. IsLoadFault S.tells (RefusesCode name.now (S.files shelf.old name.now))
         (λ which. which ≡ name.now) (S.read_faults shelf.old) (S.read_faults shelf.new) (report_of fault)) }
-    ensures kept { S.read_faults shelf.old ≤ S.read_faults shelf.new }
-    ensures rest { OnlyReads S.files S.save_faults S.takes shelf.old shelf.new }
+    ensures rest { OnlyReads S.files S.read_faults S.save_faults S.takes shelf.old shelf.new }
 {
     let bytes = load(alloc, shelf, name)?;
     Ok(read_code(alloc, &bytes)?)

@@ -21,8 +21,7 @@ pub(crate) fn load<'a, S: Shelf>(
     ensures short { IfOk result (λ bytes. length bytes.items ≤ FILE) }
     ensures fault { IfErr result (λ fault. IsLoadFault S.tells (IsTooLong name.now (S.files shelf.old name.now))
         (λ which. which ≡ name.now) (S.read_faults shelf.old) (S.read_faults shelf.new) (report_of fault)) }
-    ensures kept { S.read_faults shelf.old ≤ S.read_faults shelf.new }
-    ensures rest { OnlyReads S.files S.save_faults S.takes shelf.old shelf.new }
+    ensures rest { OnlyReads S.files S.read_faults S.save_faults S.takes shelf.old shelf.new }
 {
     match read_all(alloc, shelf, name, FILE) {
         Ok(bytes) => Ok(bytes),

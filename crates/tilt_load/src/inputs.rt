@@ -1,5 +1,5 @@
 // The inputs of a query or of a code, each from the file that is bound to it.
-ghost use Rattle.std.specs.Prelude.{◌≡◌, ◌≤◌, List, [], ◌∷◌, ◌++◌, ℕ, Ok, Err, None, length, IfOk, IfErr, OnOk, MatchResult};
+ghost use Rattle.std.specs.Prelude.{◌≡◌, List, [], ◌∷◌, ◌++◌, ℕ, Ok, Err, None, length, IfOk, IfErr, OnOk, MatchResult};
 ghost use Rattle.tilt_outside.specs.Reads.{OnlyReads};
 ghost use Rattle.tilt_load.specs.Inputs.{faulty_name};
 ghost use Rattle.tilt_load.specs.Load.{HasInputTurn, HasSessionTurn, IsLoadFault, IsNameFault};
@@ -34,8 +34,7 @@ pub fn load_inputs<'a, S: Shelf>(
         (RefusesInputs (S.files shelf.old) (bindings_of binds.now) inputs.now)
         (HasInputTurn S.tells (S.files shelf.old) (bindings_of binds.now) inputs.now)
         (S.read_faults shelf.old) (S.read_faults shelf.new) (report_of fault)) }
-    ensures kept { S.read_faults shelf.old ≤ S.read_faults shelf.new }
-    ensures rest { OnlyReads S.files S.save_faults S.takes shelf.old shelf.new }
+    ensures rest { OnlyReads S.files S.read_faults S.save_faults S.takes shelf.old shelf.new }
 {
     let session = Session {
         kept: &[],
@@ -64,8 +63,7 @@ pub fn load_session_inputs<'a, S: Shelf>(
         (RefusesSession (S.files shelf.old) (bindings_of binds.now) (bounds_of session.now) inputs.now)
         (HasSessionTurn S.tells (S.files shelf.old) (bindings_of binds.now) (bounds_of session.now) inputs.now)
         (S.read_faults shelf.old) (S.read_faults shelf.new) (report_of fault)) }
-    ensures kept { S.read_faults shelf.old ≤ S.read_faults shelf.new }
-    ensures rest { OnlyReads S.files S.save_faults S.takes shelf.old shelf.new }
+    ensures rest { OnlyReads S.files S.read_faults S.save_faults S.takes shelf.old shelf.new }
 {
     check_names(inputs, binds)?;
     read_inputs(alloc, shelf, inputs, binds, session)
@@ -106,8 +104,7 @@ fn read_inputs<'a, S: Shelf>(
         (λ why. inputs_read (S.files shelf.old) (bindings_of binds.now) (bounds_of session.now) inputs.now ≡ Err why)
         (HasSessionTurn S.tells (S.files shelf.old) (bindings_of binds.now) (bounds_of session.now) inputs.now)
         (S.read_faults shelf.old) (S.read_faults shelf.new) (report_of fault)) }
-    ensures kept { S.read_faults shelf.old ≤ S.read_faults shelf.new }
-    ensures rest { OnlyReads S.files S.save_faults S.takes shelf.old shelf.new }
+    ensures rest { OnlyReads S.files S.read_faults S.save_faults S.takes shelf.old shelf.new }
 {
     let mut all = Vec::new(alloc);
     for input in inputs {

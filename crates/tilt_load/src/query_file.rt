@@ -41,8 +41,7 @@ pub fn load_query<'a, S: Shelf>(
     ensures margins { IfOk result (λ query. margins_of query.core ≡ Ok query.margins) }
     ensures fault { IfErr result (λ fault. IsLoadFault S.tells (RefusesQuery name.now (S.files shelf.old name.now))
         (λ which. which ≡ name.now) (S.read_faults shelf.old) (S.read_faults shelf.new) (report_of fault)) }
-    ensures kept { S.read_faults shelf.old ≤ S.read_faults shelf.new }
-    ensures rest { OnlyReads S.files S.save_faults S.takes shelf.old shelf.new }
+    ensures rest { OnlyReads S.files S.read_faults S.save_faults S.takes shelf.old shelf.new }
 {
     let bytes = load(alloc, shelf, name)?;
     read_query(alloc, &bytes)

@@ -1,9 +1,10 @@
 // Which rows a session is handed.
 ghost use Rattle.std.specs.Prelude.{◌≡◌};
 ghost use Rattle.tilt_load.specs.SeriesFiles.{kept_end};
-ghost use Rattle.tilt_load.specs.Sessions.{as_bounds, bounds_of};
+ghost use Rattle.tilt_load.specs.Sessions.{bounds_of};
 
 use tilt_checkpoint::Kept;
+use tilt_series::Bounds;
 
 /// Which rows a session is handed, each bound where it is given. Times are in ticks.
 #[derive(Clone, Copy)]
@@ -16,22 +17,11 @@ pub struct Session<'a> {
     pub upto: Option<i64>,
 }
 
-/// Where the rows of one input may start, each bound where it is given. Times are in ticks.
-#[derive(Clone, Copy)]
-pub(crate) struct InputBounds {
-    /// Not before this tick, where the last row before them ended.
-    pub(crate) last_end: Option<i64>,
-    /// Not before this tick.
-    pub(crate) from: Option<i64>,
-    /// Before this tick.
-    pub(crate) upto: Option<i64>,
-}
-
 /// Where the rows of the input at a place may start, counted from 0.
-pub(crate) fn bounds_at(session: &Session<'_>, place: usize) -> InputBounds
-    ensures { as_bounds result ≡ bounds_of session.now place }
+pub(crate) fn bounds_at(session: &Session<'_>, place: usize) -> Bounds
+    ensures { result ≡ bounds_of session.now place }
 {
-    InputBounds {
+    Bounds {
         last_end: kept_end(session.kept, place),
         from: session.from,
         upto: session.upto,

@@ -1,3 +1,4 @@
 pub mod Fronts
 pub mod HeldFiles
+pub mod MoreReads
 pub mod Puts

@@ -7,7 +7,7 @@ use std::marker::Model;
 
 /// A named file in memory. Memory for all the bytes that it may have is set aside.
 #[derive(Drop)]
-pub struct HeldFile {
+pub(crate) struct HeldFile {
     name: String,
     bytes: Vec<u8>,
     room: usize,
@@ -26,7 +26,7 @@ impl Model for HeldFile {
 
 impl HeldFile {
     /// A file of these bytes, with room for the greater of `room` and their number.
-    pub fn new(
+    pub(crate) fn new(
         alloc: Global,
         name: &str,
         bytes: &[u8],
@@ -49,28 +49,28 @@ impl HeldFile {
     }
 
     /// Whether the file has that name.
-    pub fn is_named(&self, name: &str) -> bool
+    pub(crate) fn is_named(&self, name: &str) -> bool
         ensures { result ≡ bytes_eq self.now.name name.now }
     {
         self.name.as_str() == name
     }
 
     /// What the file holds.
-    pub fn bytes(&self) -> &[u8]
+    pub(crate) fn bytes(&self) -> &[u8]
         ensures { result.now ≡ self.now.bytes }
     {
         self.bytes.as_slice()
     }
 
     /// How many bytes the file may have.
-    pub fn room(&self) -> usize
+    pub(crate) fn room(&self) -> usize
         ensures { result ≡ self.now.room }
     {
         self.room
     }
 
     /// Puts these bytes in the place of those that are there.
-    pub fn replace(&mut self, bytes: &[u8])
+    pub(crate) fn replace(&mut self, bytes: &[u8])
         requires { length bytes.now ≤ self.old.room }
         ensures { self.new ≡ record self.old { bytes = bytes.now } }
     {

@@ -170,7 +170,8 @@ impl Shelf for MemShelf {
         ensures piece { ⊤ → IfOk result (λ n. IsNextPiece (content_of self.old.files name.now) at room.new n) }
         ensures given { MatchResult result (λ n. self.new.given ≡ self.old.given + n) (λ _. self.new.given ≡ self.old.given) }
         ensures cause { HasCause self.old.read_faults self.new.read_faults result }
-        ensures rest { OnlyReads (λ shelf. content_of shelf.files) (λ shelf. shelf.save_faults) (λ _ _ _. ⊤) self.old self.new }
+        ensures rest { OnlyReads (λ shelf. content_of shelf.files) (λ shelf. shelf.read_faults) (λ shelf. shelf.save_faults)
+            (λ _ _ _. ⊤) self.old self.new }
 
         ensures fails { IsErr result ↔ ReadFails self.old name.now (count_from self.old name.now at (length room.old)) }
         ensures exact { IfOk result (λ n. n ≡ count_from self.old name.now at (length room.old)) }

@@ -38,7 +38,7 @@ pub trait Shelf {
         ensures piece { tells → IfOk result (λ n. IsNextPiece (files self.old name.now) at room.new n) }
         ensures given { MatchResult result (λ n. given self.new ≡ given self.old + n) (λ _. given self.new ≡ given self.old) }
         ensures cause { HasCause (read_faults self.old) (read_faults self.new) result }
-        ensures rest { OnlyReads files save_faults takes self.old self.new };
+        ensures rest { OnlyReads files read_faults save_faults takes self.old self.new };
 
     /// Makes the name hold exactly these bytes. After `Failed` it holds the old or the new ones.
     fn save(&mut self, name: &str, bytes: &[u8]) -> Result<(), Failed>

@@ -66,8 +66,7 @@ pub fn read_all<S: Shelf>(
     ensures most { S.given shelf.new ≤ S.given shelf.old + (limit + 1) }
 
     // What stands after it, whatever the answer.
-    ensures kept { S.read_faults shelf.old ≤ S.read_faults shelf.new }
-    ensures rest { OnlyReads S.files S.save_faults S.takes shelf.old shelf.new }
+    ensures rest { OnlyReads S.files S.read_faults S.save_faults S.takes shelf.old shelf.new }
 {
     let mut room = make_room(alloc, PIECE)?;
     let bytes = take_up_to(alloc, shelf, name, limit + 1, &mut room)?;
@@ -102,8 +101,7 @@ fn take_up_to<S: Shelf>(
     ensures taken { IfOk result (λ bytes. S.given shelf.new ≡ S.given shelf.old + length bytes.items) }
     ensures unfinished { IsErrOf result ReadAllFault.ReadFault → S.given shelf.new < S.given shelf.old + most }
     ensures most { S.given shelf.new ≤ S.given shelf.old + most }
-    ensures kept { S.read_faults shelf.old ≤ S.read_faults shelf.new }
-    ensures rest { OnlyReads S.files S.save_faults S.takes shelf.old shelf.new }
+    ensures rest { OnlyReads S.files S.read_faults S.save_faults S.takes shelf.old shelf.new }
 {
     let mut bytes = Vec::new(alloc);
     while (bytes.len() as u64) < most {
@@ -136,8 +134,7 @@ fn take_piece<S: Shelf>(
     ensures taken { IfOk result (λ n. S.given shelf.new ≡ S.given shelf.old + n) }
     ensures nothing { IsErrOf result ReadAllFault.ReadFault → S.given shelf.new ≡ S.given shelf.old }
     ensures most { S.given shelf.new ≤ S.given shelf.old + length room.old }
-    ensures kept { S.read_faults shelf.old ≤ S.read_faults shelf.new }
-    ensures rest { OnlyReads S.files S.save_faults S.takes shelf.old shelf.new }
+    ensures rest { OnlyReads S.files S.read_faults S.save_faults S.takes shelf.old shelf.new }
 {
     let taken = shelf.read_at(name, bytes.len() as u64, room)?;
     bytes.extend_from_slice(&room[..taken])?;

@@ -7,7 +7,7 @@ use itoa::Buffer;
 use tilt_outside::{Failed, Sink};
 
 /// Puts a text.
-pub fn put_text<E: Sink>(err: &mut E, text: &[u8]) -> Result<(), Failed>
+pub(crate) fn put_text<E: Sink>(err: &mut E, text: &[u8]) -> Result<(), Failed>
     requires { (n : ℕ) → E.takes err.old n }
     ensures { Puts E.tells E.written E.faults E.takes err.old err.new
         text.now result }
@@ -16,7 +16,7 @@ pub fn put_text<E: Sink>(err: &mut E, text: &[u8]) -> Result<(), Failed>
 }
 
 /// Puts a text, and another behind it.
-pub fn put_named<E: Sink>(err: &mut E, text: &[u8], name: &[u8]) -> Result<(), Failed>
+pub(crate) fn put_named<E: Sink>(err: &mut E, text: &[u8], name: &[u8]) -> Result<(), Failed>
     requires { (n : ℕ) → E.takes err.old n }
     ensures { Puts E.tells E.written E.faults E.takes err.old err.new
         (text.now ++ name.now) result }
@@ -26,7 +26,7 @@ pub fn put_named<E: Sink>(err: &mut E, text: &[u8], name: &[u8]) -> Result<(), F
 }
 
 /// Puts a text, and a number behind it.
-pub fn put_counted<E: Sink>(err: &mut E, text: &[u8], number: u64) -> Result<(), Failed>
+pub(crate) fn put_counted<E: Sink>(err: &mut E, text: &[u8], number: u64) -> Result<(), Failed>
     requires { (n : ℕ) → E.takes err.old n }
     ensures { Puts E.tells E.written E.faults E.takes err.old err.new
         (text.now ++ decimal number) result }
@@ -36,7 +36,7 @@ pub fn put_counted<E: Sink>(err: &mut E, text: &[u8], number: u64) -> Result<(),
 }
 
 /// Puts a text, and a number behind it that may have a sign.
-pub fn put_signed<E: Sink>(err: &mut E, text: &[u8], number: i128) -> Result<(), Failed>
+pub(crate) fn put_signed<E: Sink>(err: &mut E, text: &[u8], number: i128) -> Result<(), Failed>
     requires { (n : ℕ) → E.takes err.old n }
     ensures { Puts E.tells E.written E.faults E.takes err.old err.new
         (text.now ++ signed_decimal number) result }

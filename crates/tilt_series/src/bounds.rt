@@ -30,7 +30,7 @@ impl Model for Bounds {
 }
 
 /// Whether the tick lies below the bound, which it doesn't where there is none.
-pub fn is_below(tick: i64, bound: Option<i64>) -> bool
+pub(crate) fn is_below(tick: i64, bound: Option<i64>) -> bool
     ensures value { result ≡ is_below tick bound }
     ensures not_below { OnFalse result (ForSome bound (λ b. b ≤ℤ tick)) }
 {
@@ -41,7 +41,7 @@ pub fn is_below(tick: i64, bound: Option<i64>) -> bool
 }
 
 /// Whether the tick lies at the bound or above it, which it doesn't where there is none.
-pub fn is_past(tick: i64, bound: Option<i64>) -> bool
+pub(crate) fn is_past(tick: i64, bound: Option<i64>) -> bool
     ensures { result ≡ is_past tick bound }
 {
     match bound {
@@ -51,7 +51,7 @@ pub fn is_past(tick: i64, bound: Option<i64>) -> bool
 }
 
 /// Whether the tick lies in `-T..=T`.
-pub fn is_time(tick: i64) -> bool
+pub(crate) fn is_time(tick: i64) -> bool
     ensures value { result ≡ is_time tick }
     ensures within { OnTrue result ((neg_ℤ T ≤ℤ tick) × (tick ≤ℤ T)) }
 {

@@ -14,6 +14,7 @@ mod series;
 #[cfg(test)]
 mod tests;
 
+pub use bounds::Bounds;
 pub use fault::{ReadRowsFault, SeriesFault};
 pub use print::{put_header, put_rows, put_snap, row_text};
 pub use series::read_rows;

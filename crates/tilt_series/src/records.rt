@@ -9,7 +9,7 @@ use csv::{ByteRecord, Error, ErrorKind, Reader, ReaderBuilder};
 use std::alloc::{AllocError as OutOfMemory, Global};
 
 /// A reader of the records of the bytes, behind one byte order mark. A record may have any number of fields.
-pub fn open(alloc: Global, bytes: &[u8]) -> Reader<&[u8]>
+pub(crate) fn open(alloc: Global, bytes: &[u8]) -> Reader<&[u8]>
     ensures between { IsBetween result }
     ensures left { records_left result ≡ records default_config (strip_bom bytes.now) }
 {
@@ -20,7 +20,10 @@ pub fn open(alloc: Global, bytes: &[u8]) -> Reader<&[u8]>
 }
 
 /// Reads the next record, and answers whether there was one.
-pub fn next_record(reader: &mut Reader<&[u8]>, fields: &mut ByteRecord) -> Result<bool, OutOfMemory>
+pub(crate) fn next_record(
+    reader: &mut Reader<&[u8]>,
+    fields: &mut ByteRecord,
+) -> Result<bool, OutOfMemory>
     requires { IsBetween reader.old }
     ensures between { IfOk result (λ found. OnTrue found (IsBetween reader.new)) }
     ensures taken { IfOk result (λ found. TakesFirst found (records_left reader.old) (fields_of fields.new) (records_left reader.new)) }

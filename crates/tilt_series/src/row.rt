@@ -12,7 +12,7 @@ use tilt_base::{Cell, read_number};
 use tilt_stream::Row;
 
 /// Whether the fields are `start`, `end` and `value`.
-pub fn is_header(fields: &ByteRecord) -> bool
+pub(crate) fn is_header(fields: &ByteRecord) -> bool
     ensures { result ≡ is_header (three_of (fields_of fields.now)) }
 {
     match three_fields(fields) {
@@ -24,7 +24,7 @@ pub fn is_header(fields: &ByteRecord) -> bool
 }
 
 /// The row of a record, or its first fault.
-pub fn read_row(fields: &ByteRecord, row: u64, bounds: Bounds) -> Result<Row, SeriesFault>
+pub(crate) fn read_row(fields: &ByteRecord, row: u64, bounds: Bounds) -> Result<Row, SeriesFault>
     ensures read { result ≡ row_of bounds row (fields_of fields.now) }
     ensures low { IfOk result (λ s. neg_ℤ T ≤ℤ s.start) }
     ensures high { IfOk result (λ s. s.end ≤ℤ T) }

@@ -1,5 +1,5 @@
 // A session behind the checkpoint in a file.
-ghost use Rattle.std.specs.Prelude.{◌≡◌, ◌≤◌, ℕ, ℤ, List, None, Some, Ok, IfOk, IfErr, MatchOption};
+ghost use Rattle.std.specs.Prelude.{◌≡◌, ℕ, ℤ, List, None, Some, Ok, IfOk, IfErr, MatchOption};
 ghost use Rattle.tilt_bounds.specs.Margins.{margins_of};
 ghost use Rattle.tilt_checkpoint.specs.Checkpoint.{CheckpointParts};
 ghost use Rattle.tilt_checkpoint.specs.Spelling.{spelling};
@@ -53,8 +53,7 @@ pub fn resume_session<'a, S: Shelf>(
         (λ why. IsResumeOutcome (S.files shelf.old) checkpoint.now (bindings_of binds.now) cut save (refused (refusal why)))
         (HasResumeTurn S.tells (S.files shelf.old) checkpoint.now (bindings_of binds.now) cut)
         (S.read_faults shelf.old) (S.read_faults shelf.new) (report_of fault)) }
-    ensures kept { S.read_faults shelf.old ≤ S.read_faults shelf.new }
-    ensures rest { OnlyReads S.files S.save_faults S.takes shelf.old shelf.new }
+    ensures rest { OnlyReads S.files S.read_faults S.save_faults S.takes shelf.old shelf.new }
 {
     let loaded = load_onward(alloc, shelf, checkpoint, cut)?;
     let bounds = Session {
@@ -81,8 +80,7 @@ fn load_onward<'a, S: Shelf>(
     ensures onward { IfOk result (λ loaded. IsOnward loaded.checkpoint.cut cut) }
     ensures fault { IfErr result (λ fault. IsLoadFault S.tells (RefusesToGoOn name.now (S.files shelf.old name.now) cut)
         (λ which. which ≡ name.now) (S.read_faults shelf.old) (S.read_faults shelf.new) (report_of fault)) }
-    ensures kept { S.read_faults shelf.old ≤ S.read_faults shelf.new }
-    ensures rest { OnlyReads S.files S.save_faults S.takes shelf.old shelf.new }
+    ensures rest { OnlyReads S.files S.read_faults S.save_faults S.takes shelf.old shelf.new }
 {
     let loaded = load_checkpoint(alloc, shelf, name)?;
     match next_cut(&loaded.checkpoint, &cut) {

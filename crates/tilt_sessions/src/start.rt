@@ -1,5 +1,5 @@
 // The first session of the query in a file.
-ghost use Rattle.std.specs.Prelude.{◌≡◌, ◌≤◌, List, ℕ, Ok, IfOk, IfErr};
+ghost use Rattle.std.specs.Prelude.{◌≡◌, List, ℕ, Ok, IfOk, IfErr};
 ghost use Rattle.tilt_bounds.specs.Margins.{margins_of};
 ghost use Rattle.tilt_checkpoint.specs.Spelling.{spelling};
 ghost use Rattle.tilt_checkpoint.specs.Valid.{IsCut};
@@ -43,8 +43,7 @@ pub fn start_session<'a, S: Shelf>(
         (λ why. IsStartOutcome (S.files shelf.old) query.now (bindings_of binds.now) upto save (refused (refusal why)))
         (HasStartTurn S.tells (S.files shelf.old) query.now (bindings_of binds.now) upto)
         (S.read_faults shelf.old) (S.read_faults shelf.new) (report_of fault)) }
-    ensures kept { S.read_faults shelf.old ≤ S.read_faults shelf.new }
-    ensures rest { OnlyReads S.files S.save_faults S.takes shelf.old shelf.new }
+    ensures rest { OnlyReads S.files S.read_faults S.save_faults S.takes shelf.old shelf.new }
 {
     let query = load_query(alloc, shelf, query)?;
     let bounds = Session {

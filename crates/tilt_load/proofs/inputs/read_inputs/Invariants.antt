@@ -1,4 +1,4 @@
-use Rattle.std.proofs.Common.{◌≡◌, ◌≤◌, length, take, Ok}
+use Rattle.std.proofs.Common.{◌≡◌, length, take, Ok}
 use Rattle.tilt_outside.specs.Reads.{OnlyReads}
 use Rattle.tilt_load.specs.SeriesFiles.{AreWithin, inputs_read}
 use Rattle.tilt_load.specs.Sessions.{bounds_of}
@@ -10,6 +10,5 @@ invariant-loop-input g l = record {
   read : g.S.Shelf.tells → inputs_read (g.S.Shelf.files l.initial.shelf) (bindings_of l.binds) (bounds_of l.session) (take l.input-index l.inputs) ≡ Ok l.all.items;
   within : AreWithin (bounds_of l.session) l.all.items;
   many : length l.all.items ≡ l.input-index;
-  kept : g.S.Shelf.read_faults l.initial.shelf ≤ g.S.Shelf.read_faults l.shelf;
-  rest : OnlyReads g.S.Shelf.files g.S.Shelf.save_faults g.S.Shelf.takes l.initial.shelf l.shelf;
+  rest : OnlyReads g.S.Shelf.files g.S.Shelf.read_faults g.S.Shelf.save_faults g.S.Shelf.takes l.initial.shelf l.shelf;
 }

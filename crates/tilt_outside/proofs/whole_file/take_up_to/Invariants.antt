@@ -7,8 +7,7 @@ invariant-loop-bytes g l = record {
   bound : length l.bytes.items ≤ l.most;
   front : g.S.Shelf.tells → l.bytes.items ≡ take (length l.bytes.items) (g.S.Shelf.files l.initial.shelf l.name);
   taken : g.S.Shelf.given l.shelf ≡ g.S.Shelf.given l.initial.shelf + length l.bytes.items;
-  kept : g.S.Shelf.read_faults l.initial.shelf ≤ g.S.Shelf.read_faults l.shelf;
-  rest : OnlyReads g.S.Shelf.files g.S.Shelf.save_faults g.S.Shelf.takes l.initial.shelf l.shelf;
+  rest : OnlyReads g.S.Shelf.files g.S.Shelf.read_faults g.S.Shelf.save_faults g.S.Shelf.takes l.initial.shelf l.shelf;
 }
 
 abbrev pub decreases-loop-bytes : goal.decreases-loop-bytes

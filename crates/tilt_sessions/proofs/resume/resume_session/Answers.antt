@@ -5,6 +5,7 @@ use Rattle.tilt_core.specs.Core.{CoreParts}
 use Rattle.std.proofs.lemmas.Result.{err_from_is_err_and}
 use Rattle.tilt_words.specs.Binding.{bindings_of}
 use Rattle.tilt_report.specs.Report.{report_of}
+use Rattle.tilt_outside.proofs.MoreReads.{reads-then}
 use Rattle.tilt_sessions.specs.SessionFile.{own_turn}
 use Rattle.tilt_sessions.proofs.Handed.{later_handed}
 use Rattle.tilt_sessions.proofs.Once.{law_of_files}
@@ -42,7 +43,7 @@ returns-in_err-rows-clause-fault g c =
     let bounds = same_bounds c.args.cut c0 c.series.result.now _ c.limit_of.result c.series.ensures.value (to_z-of_z w64 c.cut.result fits ∙ c.cut.ensures.value)
     c.limit_of.ensures in
     rw (p.1, p.2) (resume_undone g.S.Shelf.tells (g.S.Shelf.files c.args.shelf.now) _ c.args.checkpoint.now (bindings_of c.args.binds.now) c.args.cut c0 _ _
-    c.load_onward.ensures.rest.same_files bounds names c.in_ok-loaded.ensures.taken save _ _ _ c.load_onward.ensures.kept
+    c.load_onward.ensures.rest.same_files bounds names c.in_ok-loaded.ensures.taken save _ _ _ c.load_onward.ensures.rest.no_fewer_read_faults
     (report_of c.in_err-rows.field-0.0) c.in_err-rows.ensures.fault)
 
 pub later_session-requires-clause-rows : goal.later_session-requires-clause-rows
@@ -89,21 +90,7 @@ returns-clause-next g c =
     c.in_ok-later_session.ensures.saved
 
 pub returns-in_err-rows-clause-rest : goal.returns-in_err-rows-clause-rest
-returns-in_err-rows-clause-rest g c = record {
-  same_files = c.load_session_inputs.ensures.rest.same_files ∙ c.load_onward.ensures.rest.same_files;
-  same_save_faults = c.load_session_inputs.ensures.rest.same_save_faults ∙ c.load_onward.ensures.rest.same_save_faults;
-  same_takes = λ name n.
-      let first = c.load_onward.ensures.rest.same_takes name n in
-      let second = c.load_session_inputs.ensures.rest.same_takes name n in
-      (λ t. second.0 (first.0 t), λ t. first.1 (second.1 t));
-}
+returns-in_err-rows-clause-rest g c = reads-then c.load_onward.ensures.rest c.load_session_inputs.ensures.rest
 
 pub returns-clause-rest : goal.returns-clause-rest
-returns-clause-rest g c = record {
-  same_files = c.load_session_inputs.ensures.rest.same_files ∙ c.load_onward.ensures.rest.same_files;
-  same_save_faults = c.load_session_inputs.ensures.rest.same_save_faults ∙ c.load_onward.ensures.rest.same_save_faults;
-  same_takes = λ name n.
-      let first = c.load_onward.ensures.rest.same_takes name n in
-      let second = c.load_session_inputs.ensures.rest.same_takes name n in
-      (λ t. second.0 (first.0 t), λ t. first.1 (second.1 t));
-}
+returns-clause-rest g c = reads-then c.load_onward.ensures.rest c.load_session_inputs.ensures.rest

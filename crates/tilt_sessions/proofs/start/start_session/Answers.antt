@@ -1,9 +1,9 @@
-use Rattle.std.proofs.Common.{◌∙◌}
 use Rattle.std.proofs.lemmas.Int.{to_z-of_z}
 use Rattle.std.proofs.lemmas.Result.{err_from_is_err_and}
 use Rattle.std.specs.Int.{w64}
 use Rattle.tilt_words.specs.Binding.{bindings_of}
 use Rattle.tilt_report.specs.Report.{report_of}
+use Rattle.tilt_outside.proofs.MoreReads.{reads-then}
 use Rattle.tilt_sessions.specs.SessionFile.{own_turn}
 use Rattle.tilt_sessions.proofs.Handed.{first_handed}
 use Rattle.tilt_sessions.proofs.Started.{query_undone, starts_from, start_turn, start_undone, is_started}
@@ -38,7 +38,7 @@ returns-in_err-rows-clause-fault g c =
     let accepted = c.in_ok-query.ensures.accepted in
     let starts = λ (told : g.S.Shelf.tells). starts_from query.query query.core accepted (files c.args.query.now) query.margins (c.in_ok-query.ensures.query told) c.in_ok-query.ensures.margins in
     rw (p.1, p.2) (start_undone query.query query.core accepted g.S.Shelf.tells files _ c.args.query.now (bindings_of c.args.binds.now) c.args.upto _ _
-    c.load_query.ensures.rest.same_files (to_z-of_z w64 c.args.upto c.ranges.upto) c.inputs.ensures.names starts save _ _ _ c.load_query.ensures.kept
+    c.load_query.ensures.rest.same_files (to_z-of_z w64 c.args.upto c.ranges.upto) c.inputs.ensures.names starts save _ _ _ c.load_query.ensures.rest.no_fewer_read_faults
     (report_of c.in_err-rows.field-0.0) c.in_err-rows.ensures.fault)
 
 pub first_session-requires-clause-rows : goal.first_session-requires-clause-rows
@@ -60,11 +60,4 @@ returns-clause-made g c =
     (rw upto at c.in_ok-first_session.ensures.printed) (rw upto at c.in_ok-first_session.ensures.saved)
 
 pub returns-clause-rest : goal.returns-clause-rest
-returns-clause-rest g c = record {
-  same_files = c.load_session_inputs.ensures.rest.same_files ∙ c.load_query.ensures.rest.same_files;
-  same_save_faults = c.load_session_inputs.ensures.rest.same_save_faults ∙ c.load_query.ensures.rest.same_save_faults;
-  same_takes = λ name n.
-      let first = c.load_query.ensures.rest.same_takes name n in
-      let second = c.load_session_inputs.ensures.rest.same_takes name n in
-      (λ t. second.0 (first.0 t), λ t. first.1 (second.1 t));
-}
+returns-clause-rest g c = reads-then c.load_query.ensures.rest c.load_session_inputs.ensures.rest
