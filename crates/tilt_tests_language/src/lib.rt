@@ -9,3 +9,7 @@
 mod base;
 #[cfg(test)]
 mod lexer;
+#[cfg(test)]
+mod parsing;
+#[cfg(test)]
+mod printing;
