@@ -8,8 +8,14 @@
 #[cfg(test)]
 mod base;
 #[cfg(test)]
+mod checking;
+#[cfg(test)]
+mod evaluator;
+#[cfg(test)]
 mod lexer;
 #[cfg(test)]
 mod parsing;
 #[cfg(test)]
 mod printing;
+#[cfg(test)]
+mod worked_queries;
