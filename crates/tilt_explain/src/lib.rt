@@ -6,8 +6,6 @@
 #![tactic(auto)]
 
 mod explaining;
-#[cfg(test)]
-mod tests;
 mod text;
 
 pub use explaining::explain_text;

@@ -8,9 +8,15 @@
 #[cfg(test)]
 mod base;
 #[cfg(test)]
+mod bounds;
+#[cfg(test)]
 mod checking;
 #[cfg(test)]
 mod evaluator;
+#[cfg(test)]
+mod explain;
+#[cfg(test)]
+mod fuse;
 #[cfg(test)]
 mod lexer;
 #[cfg(test)]
