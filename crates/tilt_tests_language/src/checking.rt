@@ -1,20 +1,15 @@
-use crate::{Core, check, evaluate_query};
+// Queries, and their cores or their faults.
 use std::alloc::Global;
 use std::test::Fail;
-use tilt_lexer::lex;
-use tilt_stream::{Row, Rows};
-use tilt_syntax::{Query, parse};
-
-fn query_of(alloc: Global, text: &str) -> Result<Query, Fail> {
-    let tokens = lex(alloc, text.as_bytes())?;
-    Ok(parse(alloc, &tokens)?)
-}
+use tilt_core::Core;
+use tilt_testing::{name_text, query_of};
+use tilt_types::check;
 
 // The names of the inputs, and then each definition: its expression, and its period where that isn't 1.
 fn show(alloc: Global, core: &Core) -> Result<String, Fail> {
     let mut shown = String::new(alloc);
     for name in core.inputs() {
-        shown.push_str(std::str::from_utf8(name.bytes())?)?;
+        shown.push_str(name_text(name)?)?;
         shown.push_str("; ")?;
     }
     for def in core.defs() {
@@ -219,47 +214,5 @@ fn queries_are_checked(rt: HostRuntime) -> Result<(), Fail> {
         let shown = outcome(rt.alloc(), text)?;
         assert_eq!(rt; shown.as_str(), *want, "at {text}");
     }
-    Ok(())
-}
-
-#[test]
-fn a_checked_query_gives_its_output(rt: HostRuntime) -> Result<(), Fail> {
-    let alloc = rt.alloc();
-    let query = query_of(alloc, "input x; emit sum(x[t-5:t]) over (0, 10] every 5;")?;
-    let core = check(alloc, &query)?;
-    assert!(rt; core.names().is_empty());
-    let mut rows = Rows::new(alloc);
-    rows.push(Row {
-        start: 0,
-        end: 5,
-        value: Some(1),
-    })?;
-    rows.push(Row {
-        start: 5,
-        end: 8,
-        value: Some(2),
-    })?;
-    let mut inputs = Vec::new(alloc);
-    inputs.push(rows)?;
-    if inputs.len() != core.inputs().len() {
-        return Err("another number of inputs".into());
-    }
-    let list = evaluate_query(alloc, &core, &inputs)?;
-    assert_eq!(rt;
-        list.as_slice(),
-        [
-            Row {
-                start: 0,
-                end: 5,
-                value: Some(1)
-            },
-            Row {
-                start: 5,
-                end: 10,
-                value: Some(2)
-            },
-        ]
-        .as_slice()
-    );
     Ok(())
 }

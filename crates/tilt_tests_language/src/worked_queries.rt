@@ -1,13 +1,11 @@
-use crate::{Source, evaluate};
-use std::alloc::{AllocError, Global};
-use std::test::Fail;
-use tilt_base::{Cell, Grid, Op1, Op2, Reducer, Span, T};
-use tilt_core::{Def, Tree};
-use tilt_stream::{Row, Rows, SnapList};
+// Small queries that were worked out from the rules, with what they mean.
+use crate::worked_queries::Word::{Const, If, One, Read, Reduce, Two};
+use tilt_base::{Op1, Op2, Reducer};
+use tilt_testing::Piece;
 
 // An expression, written with each operator behind its operands.
 #[derive(Clone, Copy)]
-enum Word {
+pub enum Word {
     Const(i64),
     Read(u32, i64),
     Reduce(Reducer, u32, i64, i64),
@@ -16,124 +14,17 @@ enum Word {
     If,
 }
 
-use Word::{Const, If, One, Read, Reduce, Two};
-
 // A definition: its words, its span, and the period and the offset of its grid.
-type DefWords<'a> = (&'a [Word], Option<(i64, i64)>, i64, i64);
-
-type Piece = (i64, i64, Cell);
+pub type DefWords<'a> = (&'a [Word], Option<(i64, i64)>, i64, i64);
 
 // The last definition is taken on the domain.
 #[derive(Clone, Copy)]
-struct Case<'a> {
-    name: &'a str,
-    inputs: &'a [&'a [Piece]],
-    defs: &'a [DefWords<'a>],
-    domain: (i64, i64),
-    want: &'a [Piece],
-}
-
-fn pop(trees: &mut Vec<Tree>) -> Result<Tree, Fail> {
-    Ok(trees.pop().ok_or("an operand is missing")?)
-}
-
-fn boxed(alloc: Global, tree: Tree) -> Result<Box<Tree>, AllocError> {
-    Ok(Box::new(alloc, tree)?)
-}
-
-fn push_word(alloc: Global, trees: &mut Vec<Tree>, word: Word) -> Result<(), Fail> {
-    let tree = match word {
-        Const(number) => Tree::Const(number),
-        Read(source, offset) => Tree::Read { source, offset },
-        Reduce(reducer, source, from, to) => Tree::Reduce {
-            reducer,
-            source,
-            from,
-            to,
-        },
-        One(op) => Tree::One(op, boxed(alloc, pop(trees)?)?),
-        Two(op) => {
-            let b = boxed(alloc, pop(trees)?)?;
-            let a = boxed(alloc, pop(trees)?)?;
-            Tree::Two(op, a, b)
-        }
-        If => {
-            let b = boxed(alloc, pop(trees)?)?;
-            let a = boxed(alloc, pop(trees)?)?;
-            let c = boxed(alloc, pop(trees)?)?;
-            Tree::If(c, a, b)
-        }
-    };
-    trees.push(tree)?;
-    Ok(())
-}
-
-fn tree_of(alloc: Global, words: &[Word]) -> Result<Tree, Fail> {
-    let mut trees = Vec::new(alloc);
-    for word in words {
-        push_word(alloc, &mut trees, *word)?;
-    }
-    pop(&mut trees)
-}
-
-fn defs_of(alloc: Global, defs: &[DefWords]) -> Result<Vec<Def>, Fail> {
-    let mut all = Vec::new(alloc);
-    for (words, over, period, offset) in defs {
-        let body = tree_of(alloc, words)?;
-        let over = over.map(|(start, end)| Span { start, end });
-        let grid = Grid::new(*period, *offset).ok_or("no grid")?;
-        all.push(Def { body, over, grid })?;
-    }
-    Ok(all)
-}
-
-fn rows_of(alloc: Global, pieces: &[Piece]) -> Result<Rows, Fail> {
-    let mut rows = Rows::new(alloc);
-    for (start, end, value) in pieces {
-        let (start, end, value) = (*start, *end, *value);
-        let from = rows.last_end().unwrap_or(-T);
-        if start < from || end <= start || T < end {
-            return Err("no rows".into());
-        }
-        rows.push(Row { start, end, value })?;
-    }
-    Ok(rows)
-}
-
-fn inputs_of(alloc: Global, inputs: &[&[Piece]]) -> Result<Vec<Rows>, Fail> {
-    let mut all = Vec::new(alloc);
-    for pieces in inputs {
-        all.push(rows_of(alloc, pieces)?)?;
-    }
-    Ok(all)
-}
-
-fn numbered(alloc: Global, list: &SnapList) -> Result<Vec<Piece>, Fail> {
-    let mut pieces = Vec::new(alloc);
-    for snap in list.as_slice() {
-        if snap.value.is_some() {
-            pieces.push((snap.start, snap.end, snap.value))?;
-        }
-    }
-    Ok(pieces)
-}
-
-// The snapshots of the last definition on the domain that aren't null.
-fn output_of(alloc: Global, case: &Case) -> Result<Vec<Piece>, Fail> {
-    let inputs = inputs_of(alloc, case.inputs)?;
-    let defs = defs_of(alloc, case.defs)?;
-    let (lo, hi) = case.domain;
-    if lo < -T || T < hi || 256 < inputs.len() || 256 < defs.len() || defs.is_empty() {
-        return Err("no case".into());
-    }
-    let last = (inputs.len() + defs.len() - 1) as u32;
-    let source = Source {
-        inputs: &inputs,
-        defs: &defs,
-        number: last,
-    };
-    let list = evaluate(alloc, &source, lo, hi)?;
-    numbered(alloc, &list)
+pub struct Case<'a> {
+    pub name: &'a str,
+    pub inputs: &'a [&'a [Piece]],
+    pub defs: &'a [DefWords<'a>],
+    pub domain: (i64, i64),
+    pub want: &'a [Piece],
 }
 
 const NEIGHBOURS: &[Piece] = &[(0, 5, Some(7)), (5, 8, Some(7))];
@@ -163,7 +54,7 @@ const X: Word = Read(0, 0);
 
 const Y: Word = Read(1, 0);
 
-const CASES: &[Case] = &[
+pub const CASES: &[Case] = &[
     Case {
         name: "equal neighbours stay two",
         inputs: &[NEIGHBOURS],
@@ -492,12 +383,3 @@ const CASES: &[Case] = &[
         want: &[(0, 2, Some(4)), (2, 5, Some(5))],
     },
 ];
-
-#[test]
-fn small_queries_mean_what_the_rules_say(rt: HostRuntime) -> Result<(), Fail> {
-    for case in CASES {
-        let output = output_of(rt.alloc(), case)?;
-        assert_eq!(rt; output.as_slice(), case.want, "{}", case.name);
-    }
-    Ok(())
-}

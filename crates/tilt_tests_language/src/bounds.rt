@@ -1,16 +1,8 @@
-use crate::{Margins, Need, ReachFault, reach, stretch};
+// How far queries look, and the stretches of their definitions.
 use std::alloc::Global;
 use std::test::Fail;
-use tilt_core::Core;
-use tilt_lexer::lex;
-use tilt_syntax::parse;
-use tilt_types::check;
-
-fn core_of(alloc: Global, text: &str) -> Result<Core, Fail> {
-    let tokens = lex(alloc, text.as_bytes())?;
-    let query = parse(alloc, &tokens)?;
-    Ok(check(alloc, &query)?)
-}
+use tilt_bounds::{Margins, Need, reach, stretch};
+use tilt_testing::core_of;
 
 // The look-back and the look-ahead, and then the need of each source.
 fn show(alloc: Global, margins: &Margins) -> Result<String, Fail> {

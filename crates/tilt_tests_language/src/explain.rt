@@ -1,16 +1,13 @@
-use crate::explain_text;
+// What is told of queries.
 use std::alloc::Global;
 use std::test::Fail;
 use tilt_bounds::reach;
-use tilt_lexer::lex;
-use tilt_syntax::parse;
-use tilt_types::check;
+use tilt_explain::explain_text;
+use tilt_testing::core_of;
 
 // What is told of a query.
 fn told(alloc: Global, query: &str) -> Result<Vec<u8>, Fail> {
-    let tokens = lex(alloc, query.as_bytes())?;
-    let query = parse(alloc, &tokens)?;
-    let core = check(alloc, &query)?;
+    let core = core_of(alloc, query)?;
     let margins = reach(alloc, &core)?;
     Ok(explain_text(alloc, &core, &margins)?)
 }

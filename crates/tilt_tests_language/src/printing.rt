@@ -1,8 +1,8 @@
 // Queries that are read and printed.
-use crate::{parse, print};
 use std::alloc::Global;
 use std::test::Fail;
-use tilt_lexer::lex;
+use tilt_syntax::print;
+use tilt_testing::query_of;
 
 // A query, and its text as it is printed.
 const QUERIES: &[(&str, &str)] = &[
@@ -13,6 +13,10 @@ const QUERIES: &[(&str, &str)] = &[
     (
         "let a=1 over(0,9];let b=2 every 3;let c=3 over(-9,-4]every 007;emit a over(0,9];",
         "let a = 1 over (0, 9];\nlet b = 2 every 3;\nlet c = 3 over (-9, -4] every 7;\nemit a over (0, 9];\n",
+    ),
+    (
+        "emit --5-(3-2)over(-5,0]every 5;",
+        "emit --5 - (3 - 2) over (-5, 0] every 5;\n",
     ),
     ("emit(a-b)-c over(0,5];", "emit a - b - c over (0, 5];\n"),
     ("emit a%(b/c) over(0,5];", "emit a % (b / c) over (0, 5];\n"),
@@ -74,8 +78,7 @@ const QUERIES: &[(&str, &str)] = &[
 ];
 
 fn reprinted(alloc: Global, text: &str) -> Result<Vec<u8>, Fail> {
-    let tokens = lex(alloc, text.as_bytes())?;
-    let query = parse(alloc, &tokens)?;
+    let query = query_of(alloc, text)?;
     Ok(print(alloc, &query)?)
 }
 

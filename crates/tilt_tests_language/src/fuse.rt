@@ -1,17 +1,8 @@
-use crate::plan;
-use std::alloc::Global;
+// The loops of queries.
 use std::test::Fail;
 use tilt_bounds::reach;
-use tilt_core::Core;
-use tilt_lexer::lex;
-use tilt_syntax::parse;
-use tilt_types::check;
-
-fn core_of(alloc: Global, text: &str) -> Result<Core, Fail> {
-    let tokens = lex(alloc, text.as_bytes())?;
-    let query = parse(alloc, &tokens)?;
-    Ok(check(alloc, &query)?)
-}
+use tilt_fuse::plan;
+use tilt_testing::core_of;
 
 // A query, whether definitions are merged, and its loops.
 const QUERIES: &[(&str, bool, &str)] = &[

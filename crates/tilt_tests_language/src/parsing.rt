@@ -1,7 +1,10 @@
-use crate::{Expr, Query, Span, Statement, SyntaxFault, parse, parse_expression};
+// Texts, and the trees that they are read as.
 use std::alloc::Global;
 use std::test::Fail;
-use tilt_lexer::{Name, lex};
+use tilt_base::Span;
+use tilt_lexer::lex;
+use tilt_syntax::{Expr, Query, Statement, SyntaxFault, parse, parse_expression};
+use tilt_testing::{name_text, query_of};
 
 // Expressions, and their trees with each operator before its operands; nothing where the text is none.
 const EXPRESSIONS: &[(&str, &str)] = &[
@@ -60,18 +63,13 @@ const EXPRESSIONS: &[(&str, &str)] = &[
     ("ifnull(a)", ""),
 ];
 
-fn show_name(alloc: Global, name: &Name) -> Result<String, Fail> {
-    let name = std::str::from_utf8(name.bytes())?;
-    Ok(format!(in alloc; "{name}")?)
-}
-
 fn show(alloc: Global, expr: &Expr) -> Result<String, Fail> {
     Ok(match expr {
         Expr::Num(number) => format!(in alloc; "{number}")?,
         Expr::Truth(truth) => format!(in alloc; "{truth}")?,
-        Expr::Read { name, offset: 0 } => show_name(alloc, name)?,
+        Expr::Read { name, offset: 0 } => String::from_str(alloc, name_text(name)?)?,
         Expr::Read { name, offset } => {
-            let name = show_name(alloc, name)?;
+            let name = name_text(name)?;
             format!(in alloc; "{name}@{offset}")?
         }
         Expr::Reduce {
@@ -80,7 +78,7 @@ fn show(alloc: Global, expr: &Expr) -> Result<String, Fail> {
             from,
             to,
         } => {
-            let name = show_name(alloc, name)?;
+            let name = name_text(name)?;
             format!(in alloc; "({reducer:?} {name} {from} {to})")?
         }
         Expr::One(op, a) => {
@@ -139,7 +137,7 @@ fn show_every(alloc: Global, every: Option<i64>) -> Result<String, Fail> {
 fn show_statement(alloc: Global, statement: &Statement) -> Result<String, Fail> {
     Ok(match statement {
         Statement::Input { name } => {
-            let name = show_name(alloc, name)?;
+            let name = name_text(name)?;
             format!(in alloc; "input {name};")?
         }
         Statement::Let {
@@ -148,7 +146,7 @@ fn show_statement(alloc: Global, statement: &Statement) -> Result<String, Fail> 
             over,
             every,
         } => {
-            let name = show_name(alloc, name)?;
+            let name = name_text(name)?;
             let expr = show(alloc, expr)?;
             let over = show_over(alloc, *over)?;
             let every = show_every(alloc, *every)?;
@@ -185,8 +183,7 @@ fn statements_are_read_in_order(rt: HostRuntime) -> Result<(), Fail> {
             "let a 1;input b;let c (When a b);emit c over 0 1;",
         ),
     ] {
-        let tokens = lex(rt.alloc(), text.as_bytes())?;
-        let query = parse(rt.alloc(), &tokens)?;
+        let query = query_of(rt.alloc(), text)?;
         let shown = show_query(rt.alloc(), &query)?;
         assert_eq!(rt; shown.as_str(), want, "at {text}");
     }

@@ -1,11 +1,11 @@
 // What windows answer while they move over some cells.
 ghost use Rattle.std.specs.Prelude.{◌≡◌, ◌<◌, ◌≤◌, ◌+◌, [], ◌++◌, length, OnOk};
 
-use crate::{Refold, TwoStack, Undoing, Window};
 use std::alloc::{AllocError as OutOfMemory, Global};
 use std::test::Fail;
 use tilt_base::Cell;
 use tilt_reduce::{AllR, AnyR, AvgR, CountR, FirstR, LastR, MaxR, Merge, MinR, SumR};
+use tilt_window::{Refold, TwoStack, Undoing, Window};
 
 // Stands for null in the tables: no answer here is that number.
 const NULL: i64 = -99;
