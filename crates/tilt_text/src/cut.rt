@@ -1,5 +1,6 @@
 // Bytes cut at a mark.
-ghost use Rattle.std.specs.Prelude.{◌≡◌, None, Some, MatchOption};
+ghost use Rattle.std.specs.Prelude.{◌≡◌, ◌==◌, MatchOption};
+ghost use Rattle.std.specs.List.{position};
 ghost use Rattle.tilt_text.specs.Cut.{until_at};
 
 /// The word before the first byte that is the mark, and the bytes after that byte; `None` where no byte is the mark.
@@ -7,6 +8,13 @@ pub fn until(bytes: &[u8], mark: u8) -> Option<(&[u8], &[u8])>
     ensures { MatchOption result (until_at mark bytes.now ≡ None)
         (λ parts. until_at mark bytes.now ≡ Some (parts.0.now, parts.1.now)) }
 {
-    let at = bytes.iter().position(|byte| *byte == mark)?;
+    let at = place_of(bytes, mark)?;
     Some((&bytes[..at], &bytes[at + 1..]))
+}
+
+// The first place of the mark.
+fn place_of(bytes: &[u8], mark: u8) -> Option<usize>
+    ensures { result ≡ position (λ byte. byte == mark) bytes.now }
+{
+    bytes.iter().position(|byte| *byte == mark)
 }
