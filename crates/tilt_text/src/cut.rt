@@ -1,5 +1,5 @@
 // Bytes cut at a mark.
-ghost use Rattle.std.specs.Prelude.{◌≡◌, ◌==◌, None, Some, MatchOption};
+ghost use Rattle.std.specs.Prelude.{◌≡◌, ◌==◌, MatchOption};
 ghost use Rattle.std.specs.List.{position};
 ghost use Rattle.tilt_text.specs.Cut.{until_at};
 

@@ -1,1 +1,0 @@
-use Rattle.tilt_checkpoint.proofs.reader.Reader.until.Goals as goal
