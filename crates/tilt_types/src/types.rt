@@ -10,8 +10,8 @@ use tilt_base::{Op1, Op2, Reducer};
 use tilt_lexer::Name;
 use tilt_syntax::Expr;
 
-/// The type of the expression over the names that were declared, where it has one.
-pub fn type_of(declared: &[Declared], expr: &Expr) -> Option<ValueType>
+// The type of the expression over the names that were declared, where it has one.
+pub(crate) fn type_of(declared: &[Declared], expr: &Expr) -> Option<ValueType>
     ensures { result ≡ type_of declared.now (expr_tree expr.now) }
 {
     match expr {
@@ -31,8 +31,8 @@ pub fn type_of(declared: &[Declared], expr: &Expr) -> Option<ValueType>
     }
 }
 
-/// The type of the name, where it was declared.
-pub fn type_declared(declared: &[Declared], name: &Name) -> Option<ValueType>
+// The type of the name, where it was declared.
+pub(crate) fn type_declared(declared: &[Declared], name: &Name) -> Option<ValueType>
     ensures { result ≡ type_declared declared.now name.now }
 {
     for one in declared {
@@ -43,8 +43,8 @@ pub fn type_declared(declared: &[Declared], name: &Name) -> Option<ValueType>
     None
 }
 
-/// Whether the two types are one.
-pub fn same_type(a: ValueType, b: ValueType) -> bool
+// Whether the two types are one.
+pub(crate) fn same_type(a: ValueType, b: ValueType) -> bool
     ensures { result ≡ same_type a b }
 {
     a == b

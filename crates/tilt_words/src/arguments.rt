@@ -16,13 +16,13 @@ use tilt_base::T;
 // What words behind a command's file give it.
 #[derive(Drop)]
 pub(crate) struct Arguments {
-    pub binds: Vec<Bind>,
-    pub plain: bool,
-    pub end: bool,
+    pub(crate) binds: Vec<Bind>,
+    pub(crate) plain: bool,
+    pub(crate) end: bool,
     // Empty where `--cut` doesn't stand.
-    pub cuts: Vec<i64>,
-    pub upto: Option<i64>,
-    pub save: Option<String>,
+    pub(crate) cuts: Vec<i64>,
+    pub(crate) upto: Option<i64>,
+    pub(crate) save: Option<String>,
 }
 
 impl Arguments {
