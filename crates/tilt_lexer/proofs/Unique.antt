@@ -10,7 +10,8 @@ use Rattle.tilt_lexer.specs.declared.mark.Mark.{Mark}
 use Rattle.tilt_lexer.specs.declared.token.Tok.{Tok}
 use Rattle.tilt_lexer.specs.declared.token.Tok.TheVariants as tok
 use Rattle.tilt_lexer.specs.declared.token.Token.{Token}
-use Rattle.tilt_lexer.specs.Tokens.{is_blank, mark_text, IsDigits, IsTextOf, Begins, BeginsBig, IsWithin, AreTokens, nothing, blank, token, IsFaultyAt, bad_byte, big_number, behind_blank, behind_token}
+use Rattle.tilt_lexer.specs.Tokens.{is_blank, mark_text, IsDigits, IsTextOf, Begins, BeginsBig, IsWithin}
+use Rattle.tilt_lexer.specs.Tokens.{AreTokens, nothing, blank, token, IsFaultyAt, bad_byte, big_number, behind_blank, behind_token}
 use Rattle.tilt_lexer.specs.Word.{is_word, IsWord, begins_word}
 use Rattle.tilt_lexer.proofs.Differ.{same_key, same_sign}
 use Rattle.tilt_lexer.proofs.Texts.{digit_no_word, word_first, digits_first, sign_first, key_is_word, token_first, first_same}

@@ -1,7 +1,8 @@
 // The types of expressions.
 ghost use Rattle.std.specs.Prelude.{◌≡◌};
 ghost use Rattle.tilt_syntax.specs.Tree.{expr_tree};
-ghost use Rattle.tilt_types.specs.Types.{same_type, of_asked, type_of_one, type_of_two, type_of_if, type_of_reducer, type_declared, type_of};
+ghost use Rattle.tilt_types.specs.Types.{same_type, of_asked, type_of_one, type_of_two, type_of_if, type_of_reducer};
+ghost use Rattle.tilt_types.specs.Types.{type_declared, type_of};
 
 use crate::declared::Declared;
 use crate::value_type::ValueType;

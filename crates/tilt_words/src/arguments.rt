@@ -1,5 +1,6 @@
 // The words behind a command's file.
-ghost use Rattle.std.specs.Prelude.{◌≡◌, ◌≢◌, ◌<◌, ◌≤◌, ◌++◌, ◌∷◌, ℕ, ℤ, List, [], true, false, None, Some, neg_ℤ, length, drop, string_bytes, MatchResult};
+ghost use Rattle.std.specs.Prelude.{◌≡◌, ◌≢◌, ◌<◌, ◌≤◌, ◌++◌, ◌∷◌, ℕ, ℤ};
+ghost use Rattle.std.specs.Prelude.{List, [], true, false, None, Some, neg_ℤ, length, drop, string_bytes, MatchResult};
 ghost use Rattle.tilt_base.specs.declared.limits.TheConstants.{T};
 ghost use Rattle.tilt_words.specs.Arguments.{AreArguments, Begins, Settings, no_settings};
 ghost use Rattle.tilt_words.specs.Binding.{IsBinding, binding_spelled};
