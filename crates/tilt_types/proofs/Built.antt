@@ -13,8 +13,7 @@ use Rattle.tilt_core.specs.Core.{IsCore, IsSourceName}
 use Rattle.tilt_core.specs.CoreTree.{Definition}
 use Rattle.tilt_types.specs.WellFormed.{first_fault}
 
-names-append : (xs ys : List (List ℕ)) → AllByRecursion IsWord (xs ++ ys)
-    → AllByRecursion (λ x. ¬ (IsReserved x)) xs → AllByRecursion (λ x. ¬ (IsReserved x)) ys → AllByRecursion IsSourceName (xs ++ ys)
+names-append : (xs ys : List (List ℕ)) → AllByRecursion IsWord (xs ++ ys) → AllByRecursion (λ x. ¬ (IsReserved x)) xs → AllByRecursion (λ x. ¬ (IsReserved x)) ys → AllByRecursion IsSourceName (xs ++ ys)
 names-append [] [] words f g = tt
 names-append [] (y ∷ ys) words f g = ((words.0, g.0), names-append [] ys words.1 f g.1)
 names-append (x ∷ xs) ys words f g = ((words.0, f.0), names-append xs ys words.1 f.1 g)
