@@ -1,4 +1,4 @@
--- What a reader finds where the tokens begin that it is given, and what it leaves of them.
+-- What a function of the parser finds at the beginning of its tokens, and what it leaves of them.
 use Rattle.std.specs.Prelude.{◌≤◌, List, length, Option, Some, None, IfSome, MatchOption}
 use Rattle.std.specs.Borrow.{Bor}
 use Rattle.tilt_lexer.specs.declared.token.Tok.{Tok}
