@@ -7,7 +7,8 @@ use Rattle.tilt_lexer.specs.declared.fault.LexFault.TheVariants as fault
 use Rattle.tilt_lexer.specs.Tokens.{is_blank, BeginsNone, IsFaultyAt, bad_byte}
 
 -- what is said of nothing is said of the fault in its place
-pub at_fault : {X : Type 0} (o : Option X) (r : Result X LexFault) (f : LexFault) (none : Type 0) (some : X → Type 0) (is : LexFault → Type 0) → r ≡ ok_or o f → MatchOption o none some → (none → is f) → IfErr r (λ e. e ≢ fault.OutOfMemory → is e)
+pub at_fault : {X : Type 0} (o : Option X) (r : Result X LexFault) (f : LexFault) (none : Type 0) (some : X → Type 0) (is : LexFault → Type 0)
+    → r ≡ ok_or o f → MatchOption o none some → (none → is f) → IfErr r (λ e. e ≢ fault.OutOfMemory → is e)
 at_fault None r f none some is e m h = rw e (λ _. h m)
 at_fault (Some x) r f none some is e m h = rw e tt
 

@@ -1,5 +1,6 @@
 -- The longest token at the front: a word as far as letters, digits and `_` go, a number as far as digits go, a sign where none is longer.
-use Rattle.std.proofs.Common.{◌≡◌, inl, inr, ℕ, ◌^◌, ◌<◌, ◌≤◌, ℤ, pos, Bool, true, List, [], ◌∷◌, ◌++◌, length, get_or, take, drop, refl, sym, ap, ◌∙◌, arith, IsTrue, one-add, take-append-drop, length-append}
+use Rattle.std.proofs.Common.{◌≡◌, inl, inr, ℕ, ◌^◌, ◌<◌, ◌≤◌, ℤ, pos, Bool, true}
+use Rattle.std.proofs.Common.{List, [], ◌∷◌, ◌++◌, length, get_or, take, drop, refl, sym, ap, ◌∙◌, arith, IsTrue, one-add, take-append-drop, length-append}
 use Rattle.std.specs.Bool.{IsFalse}
 use Rattle.std.specs.Char.{is_ascii_digit}
 use Rattle.std.specs.List.{list_all, prefix_len}
@@ -56,7 +57,8 @@ front_is_digits (b ∷ bs) h = (rw (h, one-add) (omega arith), all_front is_asci
 
 module _ (bytes : List ℕ) where
   -- the word at the front
-  pub word_is_front : (kind : Tok) → IsTrue (begins_word (get_or bytes 0 0)) → IsTextOf kind (take (prefix_len goes_on_word bytes) bytes) → IsWithin kind → IsFront kind (prefix_len goes_on_word bytes) bytes
+  pub word_is_front : (kind : Tok) → IsTrue (begins_word (get_or bytes 0 0)) → IsTextOf kind (take (prefix_len goes_on_word bytes) bytes)
+      → IsWithin kind → IsFront kind (prefix_len goes_on_word bytes) bytes
   word_is_front kind first is_text within =
       let n = prefix_len goes_on_word bytes in
       record {
@@ -72,7 +74,8 @@ module _ (bytes : List ℕ) where
       }
 
   -- the number at the front
-  pub number_begins : IsTrue (is_ascii_digit (get_or bytes 0 0)) → let n = prefix_len is_ascii_digit bytes in Begins (tok.Number (pos (digits_value 10 (take n bytes)))) bytes (take n bytes) (drop n bytes)
+  pub number_begins : IsTrue (is_ascii_digit (get_or bytes 0 0))
+      → let n = prefix_len is_ascii_digit bytes in Begins (tok.Number (pos (digits_value 10 (take n bytes)))) bytes (take n bytes) (drop n bytes)
   number_begins first =
       let n = prefix_len is_ascii_digit bytes in
       record {
@@ -83,7 +86,8 @@ module _ (bytes : List ℕ) where
             rw length-prefix_len (rw e fits);
       }
 
-  pub number_is_front : (v : ℤ) → IsTrue (is_ascii_digit (get_or bytes 0 0)) → let n = prefix_len is_ascii_digit bytes in digits_value 10 (take n bytes) < 2 ^ 63 → v ≡ pos (digits_value 10 (take n bytes)) → IsFront (tok.Number v) n bytes
+  pub number_is_front : (v : ℤ) → IsTrue (is_ascii_digit (get_or bytes 0 0))
+      → let n = prefix_len is_ascii_digit bytes in digits_value 10 (take n bytes) < 2 ^ 63 → v ≡ pos (digits_value 10 (take n bytes)) → IsFront (tok.Number v) n bytes
   number_is_front v first below is =
       let n = prefix_len is_ascii_digit bytes in
       rw is (record { fits = prefix_fits is_ascii_digit bytes; begins = number_begins first; within = omega (arith, ints) })

@@ -1,5 +1,6 @@
 -- What the loop over the bytes keeps: the tokens so far, and then those of the rest, are those of the bytes; the fault of the rest is that of the bytes.
-use Rattle.std.proofs.Common.{◌≡◌, ◌≢◌, ◌⊎◌, inl, inr, ℕ, ◌+◌, ◌<◌, ◌≤◌, List, [], ◌∷◌, ◌++◌, length, get_or, take, drop, refl, sym, ap, ◌∙◌, subst, arith, append_assoc, length-drop, length-take-le, IsTrue}
+use Rattle.std.proofs.Common.{◌≡◌, ◌≢◌, ◌⊎◌, inl, inr, ℕ, ◌+◌, ◌<◌, ◌≤◌}
+use Rattle.std.proofs.Common.{List, [], ◌∷◌, ◌++◌, length, get_or, take, drop, refl, sym, ap, ◌∙◌, subst, arith, append_assoc, length-drop, length-take-le, IsTrue}
 use Rattle.std.proofs.lemmas.List.{append-nil, drop_more, drop_all, drop-drop}
 use Rattle.tilt_lexer.specs.declared.fault.LexFault.{LexFault}
 use Rattle.tilt_lexer.specs.declared.fault.LexFault.TheVariants as fault
@@ -34,9 +35,6 @@ module _ (at n : ℕ) (kind : Tok) (bytes after : List ℕ) (front : IsFront kin
       subst (λ m. At m after) (length-take-le n bytes front.fits) (subst (At (length (take n bytes))) behind (λ is. behind_token front.begins front.within is))
 
 module _ (bytes : List ℕ) where
-  pub before_all : TokensBefore bytes 0 []
-  before_all = record { within = omega arith; go_on = λ more are. are; faults = λ f is. is }
-
   pub before_blank : (at : ℕ) (tokens : List Token) → TokensBefore bytes at tokens → at < length bytes → IsTrue (is_blank (get_or bytes at 0)) → TokensBefore bytes (at + 1) tokens
   before_blank at tokens before more_bytes is =
       let step = drop_more bytes at 0 more_bytes in
@@ -46,7 +44,8 @@ module _ (bytes : List ℕ) where
         faults = λ f faulty. before.faults f (subst (λ l. IsFaultyAt at l f) (sym step) (behind_blank is faulty));
       }
 
-  pub before_token : (at n : ℕ) (kind : Tok) (tokens next : List Token) → TokensBefore bytes at tokens → IsFront kind n (drop at bytes) → next ≡ tokens ++ record { kind = kind; start = at; end = at + n } ∷ [] → TokensBefore bytes (at + n) next
+  pub before_token : (at n : ℕ) (kind : Tok) (tokens next : List Token) → TokensBefore bytes at tokens → IsFront kind n (drop at bytes)
+      → next ≡ tokens ++ record { kind = kind; start = at; end = at + n } ∷ [] → TokensBefore bytes (at + n) next
   before_token at n kind tokens next before front pushed =
       record {
         within = omega (arith, front.fits, length-drop at bytes, before.within);

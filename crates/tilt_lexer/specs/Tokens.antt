@@ -1,4 +1,5 @@
--- The tokens of a query's text (our own rule): which text a token has, that the longest is taken at each place, and which place is the first faulty one.
+-- The tokens of a query's text (our own rule): which text a token has, that the longest is taken at each place, and which place
+-- is the first faulty one.
 use Rattle.std.specs.Prelude.{◌≡◌, ℕ, ◌+◌, ◌<◌, ◌≤◌, ℤ, pos, ◌<ℤ◌, ◌≤ℤ◌, Bool, ◌||◌, ◌==◌, List, [], ◌∷◌, ◌++◌, length, codes, IsTrue, ⊤}
 use Rattle.std.specs.Bool.{IsFalse}
 use Rattle.std.specs.Char.{is_ascii_digit}
@@ -95,9 +96,12 @@ pub data AreTokens : ℕ → List ℕ → List Token → Type 0 where
   -- nothing is left
   nothing : {at : ℕ} → AreTokens at [] []
   -- a blank, and then the rest
-  blank : {at b : ℕ} {bytes : List ℕ} {tokens : List Token} → IsTrue (is_blank b) → AreTokens (at + 1) bytes tokens → AreTokens at (b ∷ bytes) tokens
+  blank : {at b : ℕ} {bytes : List ℕ} {tokens : List Token} → IsTrue (is_blank b) → AreTokens (at + 1) bytes tokens
+      → AreTokens at (b ∷ bytes) tokens
   -- the longest token, and then the rest
-  token : {at : ℕ} {kind : Tok} {bytes text rest : List ℕ} {tokens : List Token} → Begins kind bytes text rest → IsWithin kind → AreTokens (at + length text) rest tokens → AreTokens at bytes (record { kind = kind; start = at; end = at + length text } ∷ tokens)
+  token : {at : ℕ} {kind : Tok} {bytes text rest : List ℕ} {tokens : List Token}
+      → Begins kind bytes text rest → IsWithin kind → AreTokens (at + length text) rest tokens
+      → AreTokens at bytes (record { kind = kind; start = at; end = at + length text } ∷ tokens)
 
 -- this is the fault of the first faulty place of the bytes, the first of which is at the place `at`
 pub data IsFaultyAt : ℕ → List ℕ → LexFault → Type 0 where
@@ -106,6 +110,8 @@ pub data IsFaultyAt : ℕ → List ℕ → LexFault → Type 0 where
   -- the longest token there has a number above the greatest
   big_number : {at : ℕ} {bytes : List ℕ} → BeginsBig bytes → IsFaultyAt at bytes (fault.BigNumber at)
   -- a blank, and the place is behind it
-  behind_blank : {at b : ℕ} {bytes : List ℕ} {f : LexFault} → IsTrue (is_blank b) → IsFaultyAt (at + 1) bytes f → IsFaultyAt at (b ∷ bytes) f
+  behind_blank : {at b : ℕ} {bytes : List ℕ} {f : LexFault} → IsTrue (is_blank b) → IsFaultyAt (at + 1) bytes f
+      → IsFaultyAt at (b ∷ bytes) f
   -- the longest token, and the place is behind it
-  behind_token : {at : ℕ} {kind : Tok} {bytes text rest : List ℕ} {f : LexFault} → Begins kind bytes text rest → IsWithin kind → IsFaultyAt (at + length text) rest f → IsFaultyAt at bytes f
+  behind_token : {at : ℕ} {kind : Tok} {bytes text rest : List ℕ} {f : LexFault}
+      → Begins kind bytes text rest → IsWithin kind → IsFaultyAt (at + length text) rest f → IsFaultyAt at bytes f

@@ -8,8 +8,10 @@ use Rattle.tilt_lexer.specs.declared.key.Key.TheVariants as key
 use Rattle.tilt_lexer.specs.declared.mark.Mark.TheVariants as mark
 use Rattle.tilt_lexer.specs.declared.token.Tok.{Tok}
 use Rattle.tilt_lexer.specs.declared.token.Tok.TheVariants.{Word, Key as Reserved, Mark as Sign}
-use Rattle.tilt_syntax.specs.Descent.{Plan, Test, Found, Comes, done, met, missed, between, behind_all, found, Reading, GoingOn, plan_of, going_plan, behind_operand, offset_plan, window_plan, word_plan, give, answer}
-use Rattle.tilt_syntax.specs.Grammar.{Infix, reducer_key, SpellsOffset, now, later, earlier, IsExpr, tighter, choice, between as joined, negation, minus, number, true_word, false_word, name, reading, window, is_null, if_null, enclosed}
+use Rattle.tilt_syntax.specs.Descent.{Plan, Test, Found, Comes, done, met, missed, between, behind_all, found}
+use Rattle.tilt_syntax.specs.Descent.{Reading, GoingOn, plan_of, going_plan, behind_operand, offset_plan, window_plan, word_plan, give, answer}
+use Rattle.tilt_syntax.specs.Grammar.{Infix, reducer_key, SpellsOffset, now, later, earlier, IsExpr, tighter, choice, between as joined, negation, minus}
+use Rattle.tilt_syntax.specs.Grammar.{number, true_word, false_word, name, reading, window, is_null, if_null, enclosed}
 use Rattle.tilt_syntax.specs.Levels.{level_number, operator_of, tighter as next}
 use Rattle.tilt_syntax.specs.Tree.{Reduce, ExprTree}
 use Rattle.tilt_syntax.specs.declared.level.Level.{Level}

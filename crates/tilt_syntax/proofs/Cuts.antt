@@ -16,7 +16,8 @@ use Rattle.tilt_syntax.specs.Printing.{level_of}
 use Rattle.tilt_syntax.specs.Query.{with_first, statements}
 use Rattle.tilt_syntax.specs.Tree.{Atom, Num, Truth, Read, Reduce, ExprTree, StatementTree, Input, Let, Emit}
 use Rattle.tilt_base.specs.declared.span.Span.{Span}
-use Rattle.tilt_syntax.proofs.Written.{place_tokens, offset_tokens, reading_tokens, atom_tokens, operands_tokens, expr_tokens, bound_tokens, span_tokens, domain_tokens, period_tokens, body_tokens, statement_tokens}
+use Rattle.tilt_syntax.proofs.Written.{place_tokens, offset_tokens, reading_tokens, atom_tokens, operands_tokens, expr_tokens}
+use Rattle.tilt_syntax.proofs.Written.{bound_tokens, span_tokens, domain_tokens, period_tokens, body_tokens, statement_tokens}
 
 -- whether a token is no `;`
 abbrev goes_on : Tok → Bool

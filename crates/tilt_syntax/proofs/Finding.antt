@@ -52,7 +52,7 @@ finds_none h = record { comes = h; rest = tt }
 pub gives_nothing : {ts : List Tok} → Finds nothing ts None
 gives_nothing = finds_none done
 
--- a token, a name or an operator at the front
+-- a token, a name or an operator with which the tokens begin
 
 pub meets : {t : Tok} {ts us : List Tok} {behind : List Tok → Plan} {other : Plan} {r : Option Found} → ts ≡ t ∷ us
     → Finds (behind us) us r → Finds (Test t ts behind other) ts r
@@ -80,12 +80,12 @@ pub misses_operators : {level : Level} {ts : List Tok} {behind : Op2 → List To
     → Finds (Between level ts behind other) ts r
 misses_operators fails h = stays (λ k. behind_all fails k) h
 
--- a part at the front
+-- a part with which they begin
 pub meets_part : {V : Type 0} {plan : (V → List Tok → Plan) → Plan} {ts us : List Tok} {part : V} {r : Option Found}
     (behind : V → List Tok → Plan) → HasPart plan ts part us → Finds (behind part us) us r → Finds (plan behind) ts r
 meets_part behind h k = after h.rest (λ g. h.goes_on behind _ g) k
 
--- a task, and the plan behind what it finds
+-- a task, and the plan after what it finds
 
 pub asks : {task : Task} {ts : List Tok} {f : Found} {behind : Found → Plan} {r : Option Found} → Finds (plan_of task) ts (Some f)
     → Finds (behind f) f.rest r → Finds (Ask task behind) ts r
@@ -115,19 +115,19 @@ carried (Ok None) p q us ts same h = same None h
 carried (Ok (Some x)) p q us ts same h = same (Some (record { tree = expr_tree x.0; rest = kinds x.1.now })) h
 carried (Err e) p q us ts same h = h
 
--- the first token of an atom, and those behind it
+-- the first token of an atom, and those after it
 
-pub front-split : (ts : List Token) (first : Token) (t : Tok) → 1 ≤ length ts → first ≡ get_or ts 0 first → first.kind ≡ t
+pub first-split : (ts : List Token) (first : Token) (t : Tok) → 1 ≤ length ts → first ≡ get_or ts 0 first → first.kind ≡ t
     → kinds ts ≡ t ∷ kinds (take (length ts - 1) (drop 1 ts))
-front-split [] first t some at kind = absurd (omega arith)
-front-split (u ∷ us) first t some at kind =
+first-split [] first t some at kind = absurd (omega arith)
+first-split (u ∷ us) first t some at kind =
     let rest : take (length (u ∷ us) - 1) (drop 1 (u ∷ us)) ≡ us = grind (arith, common_steps) in
     let is : u.kind ≡ t = ap (λ (v : Token). v.kind) (sym at) ∙ kind in
     rw (rest, is) refl
 
-pub atom-behind : {ts us : List Tok} {r : Option Found} (t : Tok) → ts ≡ t ∷ us → Finds (atom_plan (t ∷ us)) us r
+pub atom-after : {ts us : List Tok} {r : Option Found} (t : Tok) → ts ≡ t ∷ us → Finds (atom_plan (t ∷ us)) us r
     → Finds (atom_plan ts) ts r
-atom-behind t e h = after (first-rest e) (λ k. rw e k) h
+atom-after t e h = after (first-rest e) (λ k. rw e k) h
 
 pub no-atom : (ts : List Token) → length ts < 1 → Finds (atom_plan (kinds ts)) (kinds ts) None
 no-atom [] h = gives_nothing

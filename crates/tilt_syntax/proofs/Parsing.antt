@@ -1,5 +1,6 @@
 -- The steps of the parser over plain tokens.
-use Rattle.std.proofs.Common.{◌≡◌, ◌≢◌, ◌<◌, ℕ, suc, List, [], ◌∷◌, ◌++◌, length, take, drop, map, All, Bool, true, false, not, IsTrue, ◌==◌, Option, Some, None, ℤ, refl, ap, ◌∙◌, ◌↔◌, append_assoc, append-nil, arith}
+use Rattle.std.proofs.Common.{◌≡◌, ◌≢◌, ◌<◌, ℕ, suc, List, [], ◌∷◌, ◌++◌, length, take, drop, map, All}
+use Rattle.std.proofs.Common.{Bool, true, false, not, IsTrue, ◌==◌, Option, Some, None, ℤ, refl, ap, ◌∙◌, ◌↔◌, append_assoc, append-nil, arith}
 use Rattle.std.proofs.lemmas.List.{length-map, map-append}
 use Rattle.std.proofs.lemmas.List.Elements.{All-map, recursion_from_All}
 use Rattle.tilt_lexer.specs.Tokens.{IsSound}

@@ -10,8 +10,11 @@ use Rattle.tilt_lexer.specs.declared.key.Key.TheVariants as key
 use Rattle.tilt_lexer.specs.declared.mark.Mark.TheVariants as mark
 use Rattle.tilt_lexer.specs.declared.token.Tok.{Tok}
 use Rattle.tilt_lexer.specs.declared.token.Tok.TheVariants.{Word, Number, Key as Reserved, Mark as Sign}
-use Rattle.tilt_syntax.specs.Descent.{Plan, Done, Test, Between, Ask, Found, Task, Comes, done, met, missed, between, behind_all, found, none, Reading, GoingOn, plan_of, going_plan, chain_plan, behind_operand, offset_plan, number_plan, name_plan, window_plan, reading_plan, enclosed_plan, word_plan, atom_plan, give}
-use Rattle.tilt_syntax.specs.Grammar.{Infix, infix_of, reducer_key, SpellsOffset, now, later, earlier, IsExpr, tighter, choice, between as joined, negation, minus, number, true_word, false_word, name, reading, window, is_null, if_null, enclosed}
+use Rattle.tilt_syntax.specs.Descent.{Plan, Done, Test, Between, Ask, Found, Task, Comes, done, met, missed, between, behind_all, found, none}
+use Rattle.tilt_syntax.specs.Descent.{Reading, GoingOn, plan_of, going_plan, chain_plan, behind_operand}
+use Rattle.tilt_syntax.specs.Descent.{offset_plan, number_plan, name_plan, window_plan, reading_plan, enclosed_plan, word_plan, atom_plan, give}
+use Rattle.tilt_syntax.specs.Grammar.{Infix, infix_of, reducer_key, SpellsOffset, now, later, earlier, IsExpr, tighter, choice, between as joined, negation, minus}
+use Rattle.tilt_syntax.specs.Grammar.{number, true_word, false_word, name, reading, window, is_null, if_null, enclosed}
 use Rattle.tilt_syntax.specs.Levels.{level_number, operator_of, tighter as next}
 use Rattle.tilt_syntax.specs.Tree.{ExprTree}
 use Rattle.tilt_syntax.specs.declared.level.Level.{Level}

@@ -7,7 +7,9 @@ use Rattle.tilt_lexer.specs.declared.mark.Mark.TheVariants as mark
 use Rattle.tilt_lexer.specs.declared.token.Tok.{Tok}
 use Rattle.tilt_lexer.specs.declared.token.Tok.TheVariants.{Word, Mark as Sign}
 use Rattle.tilt_lexer.specs.Tokens.{IsSound}
-use Rattle.tilt_syntax.specs.Grammar.{Infix, infix_of, SpellsOffset, now, later, earlier, IsExpr, tighter, choice, between, negation, minus, number, true_word, false_word, name, reading, window, is_null, if_null, enclosed, IsBound, from_zero, below_zero, IsSpan, over, MayBeSpan, no_span, some_span, MayBePeriod, no_period, some_period, IsStatement, input, definition, emission}
+use Rattle.tilt_syntax.specs.Grammar.{Infix, infix_of, SpellsOffset, now, later, earlier, IsExpr, tighter, choice, between, negation, minus}
+use Rattle.tilt_syntax.specs.Grammar.{number, true_word, false_word, name, reading, window, is_null, if_null, enclosed}
+use Rattle.tilt_syntax.specs.Grammar.{IsBound, from_zero, below_zero, IsSpan, over, MayBeSpan, no_span, some_span, MayBePeriod, no_period, some_period, IsStatement, input, definition, emission}
 use Rattle.tilt_syntax.specs.Printing.{level_of}
 use Rattle.tilt_syntax.specs.Query.{AreSound, with_first, statements}
 use Rattle.tilt_syntax.specs.Tree.{ExprTree, StatementTree}

@@ -1,5 +1,6 @@
 -- Texts that spell tokens, with blanks between them or none, and that they are read as these tokens.
-use Rattle.std.proofs.Common.{◌≡◌, ◌⊎◌, inl, inr, ℕ, ◌+◌, ◌^◌, ◌<◌, ◌≤◌, pos, negsuc, Bool, true, false, ◌&&◌, ◌||◌, ◌==◌, not, IsTrue, List, [], ◌∷◌, ◌++◌, length, get_or, take, drop, refl, sym, ap, ◌∙◌, subst, arith}
+use Rattle.std.proofs.Common.{◌≡◌, ◌⊎◌, inl, inr, ℕ, ◌+◌, ◌^◌, ◌<◌, ◌≤◌, pos, negsuc}
+use Rattle.std.proofs.Common.{Bool, true, false, ◌&&◌, ◌||◌, ◌==◌, not, IsTrue, List, [], ◌∷◌, ◌++◌, length, get_or, take, drop, refl, sym, ap, ◌∙◌, subst, arith}
 use Rattle.std.specs.Prelude.{⊤}
 use Rattle.std.specs.Bool.{IsFalse}
 use Rattle.std.specs.Char.{is_ascii_digit}
@@ -20,7 +21,7 @@ use Rattle.tilt_lexer.specs.Tokens.{is_blank, mark_text, IsTextOf, IsWithin, Beg
 use Rattle.tilt_lexer.specs.Word.{begins_word, goes_on_word, IsWord, key_text}
 use Rattle.tilt_lexer.proofs.Fronts.{word_goes_on, word_is_front, number_is_front, sign_is_front}
 use Rattle.tilt_lexer.proofs.Numbers.{numerals}
-use Rattle.tilt_lexer.proofs.Texts.{word_first, digits_first, mark_first, key_is_word}
+use Rattle.tilt_lexer.proofs.Texts.{word_first, digits_first, sign_first, key_is_word}
 use Rattle.tilt_syntax.specs.Printing.{sign_text}
 use Rattle.tilt_syntax.specs.Query.{kinds, AreSound}
 
@@ -121,7 +122,7 @@ no_equals rest more h e = false≢true (ap closes (sym e) ∙ h)
 no_longer_pair : (m : Mark) (rest more : List ℕ) (a : ℕ) → IsTrue (ends_before (tok.Mark m) rest) → IsTrue (begins_pair a)
     → length (mark_text m) ≡ 1 → mark_text m ++ rest ≡ a ∷ 61 ∷ more → ⊥
 no_longer_pair m rest more a ends pair one e =
-    let first : get_or (mark_text m) 0 0 ≡ a = sym (get_or_append_left (mark_text m) rest 0 0 (mark_first m).some) ∙ ap (λ l. get_or l 0 0) e in
+    let first : get_or (mark_text m) 0 0 ≡ a = sym (get_or_append_left (mark_text m) rest 0 0 (sign_first m).some) ∙ ap (λ l. get_or l 0 0) e in
     let behind : rest ≡ 61 ∷ more = sym (drop_at (mark_text m) rest 1 one) ∙ ap (drop 1) e in
     let not_alone : is_alone (tok.Mark m) ≡ false = ap (λ b. not (begins_pair b)) first ∙ ap not pair in
     let closed : IsTrue (closes rest) = ap (λ b. b || closes rest) (sym not_alone) ∙ ends in
@@ -136,7 +137,7 @@ same_length m other b a e f =
 longest_sign : (m other : Mark) (rest more : List ℕ) → IsTrue (ends_before (tok.Mark m) rest)
     → mark_text m ++ rest ≡ mark_text other ++ more → length (mark_text other) ≤ length (mark_text m)
 longest_sign m other rest more ends e =
-    let some = (mark_first m).some in
+    let some = (sign_first m).some in
     elim (one_or_two other) [
       | inl short ↦ omega arith
       | inr (a, (pair, is)) ↦ elim (one_or_two m) [
@@ -145,10 +146,10 @@ longest_sign m other rest more ends e =
       ]
     ]
 
-mark_begins : (m : Mark) (rest : List ℕ) → IsTrue (ends_before (tok.Mark m) rest)
+sign_begins : (m : Mark) (rest : List ℕ) → IsTrue (ends_before (tok.Mark m) rest)
     → Begins (tok.Mark m) (mark_text m ++ rest) (mark_text m) rest
-mark_begins m rest ends =
-    let first = mark_first m in
+sign_begins m rest ends =
+    let first = sign_first m in
     let bytes = mark_text m ++ rest in
     let same : get_or bytes 0 0 ≡ get_or (mark_text m) 0 0 = get_or_append_left (mark_text m) rest 0 0 first.some in
     let sign : BeginsWithSign m bytes = record { begins = (rest, refl); longest = λ other more e. longest_sign m other rest more ends e } in
@@ -161,7 +162,7 @@ token_begins (tok.Word x) rest s ends = word_begins (tok.Word x) x rest s.0 (s.0
 token_begins (tok.Number (pos n)) rest s ends = number_begins n rest (omega (arith, ints, s.1)) (stops_digits rest ends)
 token_begins (tok.Number (negsuc n)) rest s ends = absurd (omega (arith, ints, s.0))
 token_begins (tok.Key k) rest s ends = word_begins (tok.Key k) (key_text k) rest (key_is_word k) refl tt (stops_word rest ends)
-token_begins (tok.Mark m) rest s ends = mark_begins m rest ends
+token_begins (tok.Mark m) rest s ends = sign_begins m rest ends
 
 within : (k : Tok) → IsSound k → IsWithin k
 within (tok.Word x) s = tt

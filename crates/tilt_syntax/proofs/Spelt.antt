@@ -14,7 +14,8 @@ use Rattle.tilt_syntax.specs.Printing.{level_of, in_place, offset_text, reading_
 use Rattle.tilt_syntax.specs.Tree.{Atom, Num, Truth, Read, Reduce, ExprTree, StatementTree, Input, Let, Emit}
 use Rattle.tilt_base.specs.declared.span.Span.{Span}
 use Rattle.tilt_syntax.proofs.Spelling.{closes, is_alone, ends_before, Spells, end, blank, token}
-use Rattle.tilt_syntax.proofs.Written.{place_tokens, offset_tokens, reading_tokens, atom_tokens, operands_tokens, expr_tokens, bound_tokens, span_tokens, domain_tokens, period_tokens, statement_tokens}
+use Rattle.tilt_syntax.proofs.Written.{place_tokens, offset_tokens, reading_tokens, atom_tokens, operands_tokens, expr_tokens}
+use Rattle.tilt_syntax.proofs.Written.{bound_tokens, span_tokens, domain_tokens, period_tokens, statement_tokens}
 
 -- bytes that spell the tokens, and before which any token ends
 record Tail (rest : List ℕ) (ks : List Tok) : Type 0 where

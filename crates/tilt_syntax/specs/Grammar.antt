@@ -1,4 +1,5 @@
--- The grammar of a query (our own rule): with which tokens each tree may be written, one case for each rule. How they are read is no part of it.
+-- The grammar of a query (our own rule): with which tokens each tree may be written, one case for each rule.
+-- How they are read is no part of it.
 use Rattle.std.specs.Prelude.{◌≡◌, ℕ, suc, ℤ, pos, neg_ℤ, true, false, List, [], ◌∷◌, ◌++◌, Option, Some, None}
 use Rattle.tilt_base.specs.Expression.{Leaf, One, Two, If}
 use Rattle.tilt_base.specs.declared.operator.Op1.TheVariants as op1
@@ -57,8 +58,8 @@ pub data SpellsOffset : List Tok → ℤ → Type 0 where
   later : {n : ℤ} → SpellsOffset (Reserved key.Time ∷ Sign mark.Plus ∷ Number n ∷ []) n
   earlier : {n : ℤ} → SpellsOffset (Reserved key.Time ∷ Sign mark.Minus ∷ Number n ∷ []) (neg_ℤ n)
 
--- the tokens are the expression, at a level: 0 for `if`, then `when`, `or`, `and`, 4 for `not`, then comparisons, sums, products, 8 for the minus before an operand, and 9
--- for what needs no parentheses anywhere
+-- the tokens are the expression, at a level: 0 for `if`, then `when`, `or`, `and`, 4 for `not`, then comparisons, sums, products,
+-- 8 for the minus before an operand, and 9 for what needs no parentheses anywhere
 pub data IsExpr : ℕ → List Tok → ExprTree → Type 0 where
   -- an expression of a tighter level may stand in the place of a looser one
   tighter : {level : ℕ} {ts : List Tok} {e : ExprTree} → IsExpr (suc level) ts e → IsExpr level ts e
@@ -91,7 +92,8 @@ pub data IsExpr : ℕ → List Tok → ExprTree → Type 0 where
       → IsExpr 9 (Reserved key.IsNull ∷ Sign mark.OpenParen ∷ (ts ++ (Sign mark.CloseParen ∷ []))) (One op1.IsNull a)
   -- `ifnull(a, b)`
   if_null : {ts us : List Tok} {a b : ExprTree} → IsExpr 0 ts a → IsExpr 0 us b
-      → IsExpr 9 (Reserved key.IfNull ∷ Sign mark.OpenParen ∷ (ts ++ (Sign mark.Comma ∷ (us ++ (Sign mark.CloseParen ∷ []))))) (Two op2.IfNull a b)
+      → IsExpr 9 (Reserved key.IfNull ∷ Sign mark.OpenParen ∷ (ts ++ (Sign mark.Comma ∷ (us ++ (Sign mark.CloseParen ∷ [])))))
+      (Two op2.IfNull a b)
   -- `(e)`
   enclosed : {ts : List Tok} {e : ExprTree} → IsExpr 0 ts e → IsExpr 9 (Sign mark.OpenParen ∷ (ts ++ (Sign mark.CloseParen ∷ []))) e
 
@@ -103,7 +105,8 @@ pub data IsBound : List Tok → ℤ → Type 0 where
 -- `over (s, e]`
 pub data IsSpan : List Tok → Span → Type 0 where
   over : {ts us : List Tok} {s e : ℤ} → IsBound ts s → IsBound us e
-      → IsSpan (Reserved key.Over ∷ Sign mark.OpenParen ∷ (ts ++ (Sign mark.Comma ∷ (us ++ (Sign mark.CloseBracket ∷ []))))) (record { start = s; end = e })
+      → IsSpan (Reserved key.Over ∷ Sign mark.OpenParen ∷ (ts ++ (Sign mark.Comma ∷ (us ++ (Sign mark.CloseBracket ∷ [])))))
+      (record { start = s; end = e })
 
 -- the same, or nothing
 pub data MayBeSpan : List Tok → Option Span → Type 0 where
@@ -120,7 +123,8 @@ pub data IsStatement : List Tok → StatementTree → Type 0 where
   input : {x : List ℕ} → IsStatement (Reserved key.Input ∷ Word x ∷ Sign mark.Semicolon ∷ []) (Input x)
   definition : {x : List ℕ} {ts us vs : List Tok} {e : ExprTree} {over : Option Span} {every : Option ℤ}
       → IsExpr 0 ts e → MayBeSpan us over → MayBePeriod vs every
-      → IsStatement (Reserved key.Let ∷ Word x ∷ Sign mark.Assign ∷ (ts ++ (us ++ (vs ++ (Sign mark.Semicolon ∷ []))))) (Let x e over every)
+      → IsStatement (Reserved key.Let ∷ Word x ∷ Sign mark.Assign ∷ (ts ++ (us ++ (vs ++ (Sign mark.Semicolon ∷ [])))))
+      (Let x e over every)
   emission : {ts us vs : List Tok} {e : ExprTree} {over : Span} {every : Option ℤ}
       → IsExpr 0 ts e → IsSpan us over → MayBePeriod vs every
       → IsStatement (Reserved key.Emit ∷ (ts ++ (us ++ (vs ++ (Sign mark.Semicolon ∷ []))))) (Emit e over every)

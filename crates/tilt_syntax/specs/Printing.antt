@@ -1,5 +1,6 @@
 -- The text of a query (our own rule): one line for each statement, with parentheses only where they are needed.
-use Rattle.std.specs.Prelude.{◌≡◌, ◌≤◌, ℕ, ℤ, negsuc, pos, suc, zero, true, false, List, [], ◌∷◌, ◌++◌, length, Option, Some, None, codes, nat_lt, if◌then◌else◌, flat_map, ⊤}
+use Rattle.std.specs.Prelude.{◌≡◌, ◌≤◌, ℕ, ℤ, negsuc, pos, suc, zero, true, false, List, [], ◌∷◌, ◌++◌, length}
+use Rattle.std.specs.Prelude.{Option, Some, None, codes, nat_lt, if◌then◌else◌, flat_map, ⊤}
 use Rattle.std.specs.Fmt.{signed_decimal}
 use Rattle.tilt_base.specs.Expression.{Leaf, One, Two, If}
 use Rattle.tilt_base.specs.declared.operator.Op1.TheVariants as op1
@@ -89,7 +90,8 @@ period_text (Some p) = codes " every " ++ signed_decimal p
 -- a line
 abbrev pub statement_text : StatementTree → List ℕ
 statement_text (Input x) = codes "input " ++ x ++ codes ";\n"
-statement_text (Let x e over every) = codes "let " ++ x ++ codes " = " ++ expr_text e ++ domain_text over ++ period_text every ++ codes ";\n"
+statement_text (Let x e over every) =
+    codes "let " ++ x ++ codes " = " ++ expr_text e ++ domain_text over ++ period_text every ++ codes ";\n"
 statement_text (Emit e over every) = codes "emit " ++ expr_text e ++ span_text over ++ period_text every ++ codes ";\n"
 
 -- the text of a query

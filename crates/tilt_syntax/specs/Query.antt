@@ -65,14 +65,16 @@ pub record IsQueryOf (ts : List Tok) (query : List StatementTree) : Type 0 where
 -- the statement with that number, behind which these stand, has the fault; of several the first one counts, in this order
 pub data HasFault : ℕ → List Tok → List (List Tok) → SyntaxFault → Type 0 where
   too_long : {n : ℕ} {ts : List Tok} {behind : List (List Tok)} → 256 < length ts → HasFault n ts behind (fault.StatementTooLong n)
-  no_statement : {n : ℕ} {ts : List Tok} {behind : List (List Tok)} → IsShort ts → ((s : StatementTree) → ¬ (IsStatement ts s)) → HasFault n ts behind (fault.Syntax n)
-  misplaced : {n : ℕ} {ts : List Tok} {behind : List (List Tok)} (s : StatementTree) → IsShort ts → IsStatement ts s → ¬ (IsInPlace behind s)
-      → HasFault n ts behind (fault.EmitPlace n)
+  no_statement : {n : ℕ} {ts : List Tok} {behind : List (List Tok)} → IsShort ts → ((s : StatementTree) → ¬ (IsStatement ts s))
+      → HasFault n ts behind (fault.Syntax n)
+  misplaced : {n : ℕ} {ts : List Tok} {behind : List (List Tok)} (s : StatementTree) → IsShort ts → IsStatement ts s
+      → ¬ (IsInPlace behind s) → HasFault n ts behind (fault.EmitPlace n)
 
 -- the first faulty one of statements, of which the first has the number `n`, has the fault
 pub data FirstFault : ℕ → List (List Tok) → SyntaxFault → Type 0 where
   here : {n : ℕ} {ts : List Tok} {rest : List (List Tok)} {f : SyntaxFault} → HasFault n ts rest f → FirstFault n (ts ∷ rest) f
-  later : {n : ℕ} {ts : List Tok} {rest : List (List Tok)} {f : SyntaxFault} (s : StatementTree) → IsGood ts rest s → FirstFault (n + 1) rest f → FirstFault n (ts ∷ rest) f
+  later : {n : ℕ} {ts : List Tok} {rest : List (List Tok)} {f : SyntaxFault} (s : StatementTree) → IsGood ts rest s
+      → FirstFault (n + 1) rest f → FirstFault n (ts ∷ rest) f
 
 -- the tokens are refused for the fault
 pub data IsRefused : List Tok → SyntaxFault → Type 0 where

@@ -1,4 +1,4 @@
--- What a reader finds at the front of the tokens that it is given, and what it leaves of them.
+-- What a function of the parser finds at the beginning of its tokens, and what it leaves of them.
 use Rattle.std.specs.Prelude.{◌≤◌, List, length, Option, Some, None, IfSome, MatchOption}
 use Rattle.std.specs.Borrow.{Bor}
 use Rattle.tilt_lexer.specs.declared.token.Tok.{Tok}
@@ -23,12 +23,12 @@ abbrev pub FindsExpr : Plan → List Tok → Option (Expr × Bor (List Token)) �
 FindsExpr plan ts found =
     MatchOption found (Finds plan ts None) (λ x. Finds plan ts (Some (record { tree = expr_tree x.0; rest = kinds x.1.now })))
 
--- a part of a statement is at the front: a plan with this part in it goes on behind it, with a rest of the tokens
+-- the tokens begin with the part: a plan that asks for it goes on after it, where a rest of the tokens is left
 pub record HasPart {V : Type 0} (plan : (V → List Tok → Plan) → Plan) (ts : List Tok) (part : V) (left : List Tok) : Type 0 where
   pub goes_on : (behind : V → List Tok → Plan) (found : Option Found) → Comes (behind part left) found → Comes (plan behind) found
   pub rest : IsRest ts left
 
--- the part is at the front, or none is, and a plan with it comes to nothing
+-- the tokens begin with the part, or with none, and then a plan that asks for one comes to nothing
 abbrev pub FindsPart : {V : Type 0} → ((V → List Tok → Plan) → Plan) → List Tok → Option (V × Bor (List Token)) → Type 0
 FindsPart {V = V} plan ts found =
     MatchOption found ((behind : V → List Tok → Plan) → Comes (plan behind) None) (λ x. HasPart plan ts x.0 (kinds x.1.now))

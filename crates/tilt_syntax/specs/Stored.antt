@@ -13,7 +13,9 @@ abbrev pub stored_atom : Atom → Gv
 stored_atom (Num n) = gcons gnil (coded_ℤ.code n)
 stored_atom (Truth b) = gcons (gnum 1) (coded_bool.code b)
 stored_atom (Read name offset) = gcons (gcons gnil gnil) (gcons ((coded_list coded_ℕ).code name) (coded_ℤ.code offset))
-stored_atom (Reduce r name from to) = gcons (gcons gnil (gnum 1)) (gcons (reducer.the_row.coded.code r) (gcons ((coded_list coded_ℕ).code name) (gcons (coded_ℤ.code from) (coded_ℤ.code to))))
+stored_atom (Reduce r name from to) =
+    gcons (gcons gnil (gnum 1)) (gcons (reducer.the_row.coded.code r) (gcons ((coded_list coded_ℕ).code name)
+    (gcons (coded_ℤ.code from) (coded_ℤ.code to))))
 
 pub stored_atom_inj : (x y : Atom) → stored_atom x ≡ stored_atom y → x ≡ y
 stored_atom_inj (Num m) (Num n) p = let e = coded_ℤ.inj m n (cc p) in cc
@@ -41,8 +43,11 @@ coded_span = span.the_row.coded
 
 abbrev pub stored_statement : StatementTree → Gv
 stored_statement (Input name) = gcons gnil (coded_name.code name)
-stored_statement (Let name e over every) = gcons (gnum 1) (gcons (coded_name.code name) (gcons (coded_expr.code e) (gcons ((coded_option coded_span).code over) ((coded_option coded_ℤ).code every))))
-stored_statement (Emit e over every) = gcons (gcons gnil gnil) (gcons (coded_expr.code e) (gcons (coded_span.code over) ((coded_option coded_ℤ).code every)))
+stored_statement (Let name e over every) =
+    gcons (gnum 1) (gcons (coded_name.code name) (gcons (coded_expr.code e)
+    (gcons ((coded_option coded_span).code over) ((coded_option coded_ℤ).code every))))
+stored_statement (Emit e over every) =
+    gcons (gcons gnil gnil) (gcons (coded_expr.code e) (gcons (coded_span.code over) ((coded_option coded_ℤ).code every)))
 
 pub stored_statement_inj : (x y : StatementTree) → stored_statement x ≡ stored_statement y → x ≡ y
 stored_statement_inj (Input m) (Input n) p = let e = coded_name.inj m n (cc p) in cc

@@ -1,8 +1,10 @@
 // From tokens to the query that they are.
-ghost use Rattle.std.specs.Prelude.{◌≡◌, ◌≢◌, ◌↔◌, ◌≤◌, ◌<◌, ◌+◌, ◌^◌, ◌⊎◌, List, [], ◌∷◌, ◌++◌, length, map, All, IsTrue, IfOk, IfErr, OnOk, MatchOption, MatchResult, vec_len};
+ghost use Rattle.std.specs.Prelude.{◌≡◌, ◌≢◌, ◌↔◌, ◌≤◌, ◌<◌, ◌+◌, ◌^◌, ◌⊎◌, List, [], ◌∷◌, ◌++◌};
+ghost use Rattle.std.specs.Prelude.{length, map, All, IsTrue, IfOk, IfErr, OnOk, MatchOption, MatchResult, vec_len};
 ghost use Rattle.tilt_lexer.specs.Tokens.{IsSound};
 ghost use Rattle.tilt_syntax.specs.Grammar.{IsExpr};
-ghost use Rattle.tilt_syntax.specs.Query.{AreGood, AreSound, FirstFault, HasFault, IsGood, IsInPlace, IsQueryOf, IsRefused, kinds, statements};
+ghost use Rattle.tilt_syntax.specs.Query.{AreGood, AreSound, FirstFault, HasFault, IsGood, IsInPlace, IsQueryOf, IsRefused};
+ghost use Rattle.tilt_syntax.specs.Query.{kinds, statements};
 ghost use Rattle.tilt_syntax.specs.Tree.{ExprTree, StatementTree, expr_tree, statement_tree};
 ghost use Rattle.tilt_syntax.specs.declared.fault.SyntaxFault.{SyntaxFault};
 

@@ -4,7 +4,8 @@ ghost use Rattle.tilt_base.specs.Expression.{One, Two};
 ghost use Rattle.tilt_lexer.specs.Word.{key_text};
 ghost use Rattle.tilt_syntax.specs.Grammar.{infix_of, reducer_key};
 ghost use Rattle.tilt_syntax.specs.Sign.{IsWritten};
-ghost use Rattle.tilt_syntax.specs.Printing.{atom_text, level_of, in_place, offset_text, reading_text, expr_text, span_text, domain_text, period_text, statement_text, query_text, ReadsBack};
+ghost use Rattle.tilt_syntax.specs.Printing.{atom_text, level_of, in_place, offset_text, reading_text, expr_text};
+ghost use Rattle.tilt_syntax.specs.Printing.{span_text, domain_text, period_text, statement_text, query_text, ReadsBack};
 ghost use Rattle.tilt_syntax.specs.Tree.{Reduce, expr_tree, statement_tree};
 
 use crate::expr::Expr;

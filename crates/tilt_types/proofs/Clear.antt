@@ -9,7 +9,8 @@ use Rattle.tilt_base.specs.declared.span.Span.{Span}
 use Rattle.tilt_syntax.specs.declared.statement.Statement.{Statement}
 use Rattle.tilt_core.specs.Core.{IsStretch}
 use Rattle.tilt_types.specs.Types.{type_of}
-use Rattle.tilt_types.specs.WellFormed.{declared_by, domain_fault, expr_fault, fault_of, first_fault, has_bounds_on, has_windows, is_declared, is_domain, is_fitting, is_period, is_stretch, knows_names, multiples, name_fault, period_of, statement_period}
+use Rattle.tilt_types.specs.WellFormed.{declared_by, domain_fault, expr_fault, fault_of, first_fault, has_bounds_on, has_windows}
+use Rattle.tilt_types.specs.WellFormed.{is_declared, is_domain, is_fitting, is_period, is_stretch, knows_names, multiples, name_fault, period_of, statement_period}
 use Rattle.tilt_types.specs.declared.declared.Declared.{Declared}
 use Rattle.tilt_types.specs.declared.fault.CheckFault.{CheckFault}
 

@@ -21,7 +21,8 @@ pub is_declared-push : (declared : List Declared) (d : Declared) (name : List �
 is_declared-push [] d name =
     elim (bytes_eq d.name name) as (λ same. is_some (if same then Some d.value_type else None) ≡ same) [ true ↦ refl | false ↦ refl ]
 is_declared-push (x ∷ xs) d name =
-    elim (bytes_eq x.name name) as (λ same. is_some (if same then Some x.value_type else type_declared (xs ++ d ∷ []) name) ≡ (is_some (if same then Some x.value_type else type_declared xs name) || bytes_eq d.name name)) [
+    elim (bytes_eq x.name name) as (λ same. is_some (if same then Some x.value_type else type_declared (xs ++ d ∷ []) name)
+    ≡ (is_some (if same then Some x.value_type else type_declared xs name) || bytes_eq d.name name)) [
       | true ↦ refl
       | false ↦ is_declared-push xs d name
     ]

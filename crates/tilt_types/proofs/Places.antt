@@ -1,5 +1,6 @@
 -- Which numbers the names of a query become.
-use Rattle.std.proofs.Common.{◌≡◌, ℕ, zero, suc, ◌+◌, ◌<◌, ◌≤◌, ◌<ℤ◌, int_lt, Bool, true, false, ◌&&◌, ◌||◌, if◌then◌else◌, List, [], ◌∷◌, ◌++◌, length, get_or, Option, Some, None, refl, sym, ◌∙◌, arith, subst, append_assoc, append-nil, length-append}
+use Rattle.std.proofs.Common.{◌≡◌, ℕ, zero, suc, ◌+◌, ◌<◌, ◌≤◌, ◌<ℤ◌, int_lt, Bool, true, false, ◌&&◌, ◌||◌, if◌then◌else◌}
+use Rattle.std.proofs.Common.{List, [], ◌∷◌, ◌++◌, length, get_or, Option, Some, None, refl, sym, ◌∙◌, arith, subst, append_assoc, append-nil, length-append}
 use Rattle.std.specs.List.{AllByRecursion}
 use Rattle.std.specs.Option.{option_or}
 use Rattle.std.specs.Str.{bytes_eq}
@@ -73,12 +74,14 @@ below-push names declared bound d here below = record {
     by x false true was is h = subst (λ (n : List ℕ). place_of names n < bound) ((bytes_eq-Decides d.name x).0 is) here
     by x false false was is h = absurd (cc h)
 
-below-typed : (names : List (List ℕ)) (declared : List Declared) (bound : ℕ) (x : List ℕ) (o : Option ValueType) → place_of names x < bound → AreBelow names declared bound → AreBelow names (declared ++ declared_as x o) bound
+below-typed : (names : List (List ℕ)) (declared : List Declared) (bound : ℕ) (x : List ℕ) (o : Option ValueType)
+    → place_of names x < bound → AreBelow names declared bound → AreBelow names (declared ++ declared_as x o) bound
 below-typed names declared bound x None here below = subst (λ (ds : List Declared). AreBelow names ds bound) (sym (append-nil declared)) below
 below-typed names declared bound x (Some a) here below = below-push names declared bound (record { name = x; value_type = a }) here below
 
 -- an expression of declared names reads only below their places
-numbered-reads : (names : List (List ℕ)) (declared : List Declared) (bound : ℕ) → AreBelow names declared bound → (e : ExprTree) → knows_names declared e ≡ true → has_windows e ≡ true → ReadsBelow bound (numbered names e)
+numbered-reads : (names : List (List ℕ)) (declared : List Declared) (bound : ℕ) → AreBelow names declared bound
+    → (e : ExprTree) → knows_names declared e ≡ true → has_windows e ≡ true → ReadsBelow bound (numbered names e)
 numbered-reads names declared bound below (Leaf (Num n)) known windows = tt
 numbered-reads names declared bound below (Leaf (Truth b)) known windows = tt
 numbered-reads names declared bound below (Leaf (Read x offset)) known windows = below.each x known
@@ -108,7 +111,8 @@ numbered-nodes names (Two op a b) = omega (arith, numbered-nodes names a, number
 numbered-nodes names (If c a b) = omega (arith, numbered-nodes names c, numbered-nodes names a, numbered-nodes names b)
 
 module _ (names : List (List ℕ)) (declared : List Declared) (bound : ℕ) (below : AreBelow names declared bound) where
-  definition-IsDefinition : (emitted : Bool) (e : ExprTree) (over : Option Span) (every : Option ℤ) → IsClear declared emitted e → is_domain over every ≡ true → nodes e ≤ 256 → IsDefinition bound (definition names e over every)
+  definition-IsDefinition : (emitted : Bool) (e : ExprTree) (over : Option Span) (every : Option ℤ) → IsClear declared emitted e
+      → is_domain over every ≡ true → nodes e ≤ 256 → IsDefinition bound (definition names e over every)
   definition-IsDefinition emitted e over every clear domain small = record {
     reads = numbered-reads names declared bound below e clear.known clear.windows;
     small = omega (arith, numbered-nodes names e, small);
@@ -119,7 +123,10 @@ module _ (names : List (List ℕ)) (declared : List Declared) (bound : ℕ) (bel
 
 -- the definitions of statements, behind which these names have been met, each over what stands before it; `low` is the number of the inputs
 module _ (names : List (List ℕ)) (low : ℕ) where
-  definitions-are : (query : List StatementTree) (n : ℕ) (declared : List Declared) (bound : ℕ) (front : List (List ℕ)) → first_fault n declared query ≡ None → AllByRecursion IsOfText query → names ≡ front ++ let_names query → length front ≤ bound → low ≤ bound → AllByRecursion (λ x. place_of names x < low) (input_names query) → AreBelow names declared bound → AreDefinitions bound (definitions names query)
+  definitions-are : (query : List StatementTree) (n : ℕ) (declared : List Declared) (bound : ℕ) (front : List (List ℕ))
+      → first_fault n declared query ≡ None → AllByRecursion IsOfText query → names ≡ front ++ let_names query
+      → length front ≤ bound → low ≤ bound → AllByRecursion (λ x. place_of names x < low) (input_names query)
+      → AreBelow names declared bound → AreDefinitions bound (definitions names query)
   definitions-are [] n declared bound front h text is behind from inputs below = tt
   definitions-are (Input x ∷ query) n declared bound front h text is behind from inputs below =
       let more : List Declared = declared ++ declared_by declared (Input x) in
@@ -147,7 +154,8 @@ module _ (names : List (List ℕ)) (low : ℕ) where
       )
 
 -- the definitions of a well-formed query, each over what stands before it
-pub query-definitions : (query : List StatementTree) → first_fault 1 [] query ≡ None → AllByRecursion IsOfText query → AreDefinitions (length (input_names query)) (definitions (source_names query) query)
+pub query-definitions : (query : List StatementTree) → first_fault 1 [] query ≡ None → AllByRecursion IsOfText query
+    → AreDefinitions (length (input_names query)) (definitions (source_names query) query)
 query-definitions query h text =
     let inputs = input_names query in
     definitions-are (source_names query) (length inputs) query 1 [] (length inputs) inputs h text refl (omega arith) (omega arith)

@@ -3,7 +3,8 @@ use Rattle.std.proofs.Common.{◌≡◌, ℕ, suc, ◌+◌, ◌<◌, ◌≤◌, 
 use Rattle.std.specs.List.{AllByRecursion}
 use Rattle.tilt_lexer.specs.Word.{IsReserved}
 use Rattle.tilt_lexer.specs.declared.token.Tok.{Tok}
-use Rattle.tilt_syntax.specs.Grammar.{IsExpr, tighter, choice, between, negation, minus, number, true_word, false_word, name, reading, window, is_null, if_null, enclosed, IsStatement, input, definition, emission}
+use Rattle.tilt_syntax.specs.Grammar.{IsExpr, tighter, choice, between, negation, minus, number, true_word, false_word, name, reading, window, is_null, if_null, enclosed}
+use Rattle.tilt_syntax.specs.Grammar.{IsStatement, input, definition, emission}
 use Rattle.tilt_syntax.specs.Query.{AreGood, AreSound, IsQuery, statements}
 use Rattle.tilt_syntax.proofs.Sounds.{EachSound, statements_sound}
 use Rattle.tilt_syntax.specs.Tree.{ExprTree, StatementTree, Input, Let, Emit}

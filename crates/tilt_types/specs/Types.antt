@@ -79,4 +79,5 @@ type_of declared (One op a) = option_and_then (λ x. type_of_one op x) (type_of 
 type_of declared (Two op a b) =
     option_and_then (λ x. option_and_then (λ y. type_of_two op x y) (type_of declared b)) (type_of declared a)
 type_of declared (If c a b) =
-    option_and_then (λ x. option_and_then (λ y. option_and_then (λ z. type_of_if x y z) (type_of declared b)) (type_of declared a)) (type_of declared c)
+    option_and_then (λ x. option_and_then (λ y. option_and_then (λ z. type_of_if x y z) (type_of declared b)) (type_of declared a))
+    (type_of declared c)

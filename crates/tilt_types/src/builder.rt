@@ -13,8 +13,8 @@ use tilt_core::{Core, Def, Tree};
 use tilt_lexer::{Name, is_word};
 use tilt_syntax::{Expr, Query, Statement};
 
-/// The core of the query, which is well formed.
-pub fn build(alloc: Global, query: &Query) -> Result<Core, OutOfMemory>
+// The core of the query, which is well formed.
+pub(crate) fn build(alloc: Global, query: &Query) -> Result<Core, OutOfMemory>
     requires { IsWellFormed query.now }
     ensures { IfOk result (λ core. core ≡ core_of query.now) }
 {

@@ -3,7 +3,8 @@ ghost use Rattle.std.specs.Prelude.{◌≡◌, ◌≤◌, ◌++◌, ◌&&◌, []
 ghost use Rattle.tilt_base.specs.Grid.{is_point};
 ghost use Rattle.tilt_syntax.specs.Tree.{expr_tree, statement_tree};
 ghost use Rattle.tilt_types.specs.Checked.{Gives, checked};
-ghost use Rattle.tilt_types.specs.WellFormed.{declared_as, declared_by, domain_fault, expr_fault, fault_of, first_fault, has_windows, is_declared, is_domain, is_fitting, is_stretch, knows_names, name_fault};
+ghost use Rattle.tilt_types.specs.WellFormed.{declared_as, declared_by, domain_fault, expr_fault, fault_of, first_fault};
+ghost use Rattle.tilt_types.specs.WellFormed.{has_windows, is_declared, is_domain, is_fitting, is_stretch, knows_names, name_fault};
 
 use crate::builder::build;
 use crate::declared::Declared;

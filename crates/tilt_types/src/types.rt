@@ -1,7 +1,8 @@
 // The types of expressions.
 ghost use Rattle.std.specs.Prelude.{◌≡◌};
 ghost use Rattle.tilt_syntax.specs.Tree.{expr_tree};
-ghost use Rattle.tilt_types.specs.Types.{same_type, of_asked, type_of_one, type_of_two, type_of_if, type_of_reducer, type_declared, type_of};
+ghost use Rattle.tilt_types.specs.Types.{same_type, of_asked, type_of_one, type_of_two, type_of_if, type_of_reducer};
+ghost use Rattle.tilt_types.specs.Types.{type_declared, type_of};
 
 use crate::declared::Declared;
 use crate::value_type::ValueType;
@@ -10,8 +11,8 @@ use tilt_base::{Op1, Op2, Reducer};
 use tilt_lexer::Name;
 use tilt_syntax::Expr;
 
-/// The type of the expression over the names that were declared, where it has one.
-pub fn type_of(declared: &[Declared], expr: &Expr) -> Option<ValueType>
+// The type of the expression over the names that were declared, where it has one.
+pub(crate) fn type_of(declared: &[Declared], expr: &Expr) -> Option<ValueType>
     ensures { result ≡ type_of declared.now (expr_tree expr.now) }
 {
     match expr {
@@ -31,8 +32,8 @@ pub fn type_of(declared: &[Declared], expr: &Expr) -> Option<ValueType>
     }
 }
 
-/// The type of the name, where it was declared.
-pub fn type_declared(declared: &[Declared], name: &Name) -> Option<ValueType>
+// The type of the name, where it was declared.
+pub(crate) fn type_declared(declared: &[Declared], name: &Name) -> Option<ValueType>
     ensures { result ≡ type_declared declared.now name.now }
 {
     for one in declared {
@@ -43,8 +44,8 @@ pub fn type_declared(declared: &[Declared], name: &Name) -> Option<ValueType>
     None
 }
 
-/// Whether the two types are one.
-pub fn same_type(a: ValueType, b: ValueType) -> bool
+// Whether the two types are one.
+pub(crate) fn same_type(a: ValueType, b: ValueType) -> bool
     ensures { result ≡ same_type a b }
 {
     a == b

@@ -1,5 +1,6 @@
 -- What an answer says that is a command of the words, or that they are none.
-use Rattle.std.proofs.Common.{◌≡◌, ◌≢◌, ℕ, ◌-◌, ◌≤◌, List, [], ◌∷◌, length, get_or, take, drop, Option, Some, None, Result, Ok, Err, IfOk, IfErr, IsErr, MatchOption, MatchResult, codes, String, string_bytes, refl, sym, ap, ◌∙◌, subst, arith}
+use Rattle.std.proofs.Common.{◌≡◌, ◌≢◌, ℕ, ◌-◌, ◌≤◌, List, [], ◌∷◌, length, get_or, take, drop}
+use Rattle.std.proofs.Common.{Option, Some, None, Result, Ok, Err, IfOk, IfErr, IsErr, MatchOption, MatchResult, codes, String, string_bytes, refl, sym, ap, ◌∙◌, subst, arith}
 use Rattle.std.specs.declared.alloc.Global.{Global}
 use Rattle.std.specs.Option.{ok_or}
 use Rattle.std.proofs.lemmas.List.{take_rest}
@@ -28,7 +29,8 @@ two_texts (w ∷ v ∷ ws) a b x y some p q e f =
 -- a call of the words answers the command of the words that has a file
 pub called : (name file : List ℕ) (rest : List (List ℕ)) (settings : Settings) (result : Option Command) → IsFile file →
     AreArguments no_settings rest settings → IsCalled (record { name = name; file = file; settings = settings }) result →
-    MatchResult (ok_or result Usage) (λ command. IsFileCommand (name ∷ file ∷ rest) (command_of command)) (λ fault. fault ≡ Usage → (command : CommandValue) → ¬ (IsFileCommand (name ∷ file ∷ rest) command))
+    MatchResult (ok_or result Usage) (λ command. IsFileCommand (name ∷ file ∷ rest) (command_of command))
+    (λ fault. fault ≡ Usage → (command : CommandValue) → ¬ (IsFileCommand (name ∷ file ∷ rest) command))
 called name file rest settings (Some command) is_file are answer =
     record { call = record { name = name; file = file; settings = settings }; rest = rest; call_is = answer; words_are = refl; is_file = is_file; are_arguments = are }
 called name file rest settings None is_file are answer = λ usage command is.

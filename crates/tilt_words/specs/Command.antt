@@ -1,5 +1,6 @@
 -- The words of a command line, as they stand behind the program's name, and the command that they are (our own rule).
-use Rattle.std.specs.Prelude.{◌≡◌, ◌≢◌, ℕ, ◌≤◌, ℤ, pos, neg_ℤ, ◌≤ℤ◌, Bool, true, List, [], ◌∷◌, ◌++◌, Option, None, Some, codes, map, String, string_bytes, ⊤}
+use Rattle.std.specs.Prelude.{◌≡◌, ◌≢◌, ℕ, ◌≤◌, ℤ, pos, neg_ℤ, ◌≤ℤ◌, Bool, true}
+use Rattle.std.specs.Prelude.{List, [], ◌∷◌, ◌++◌, Option, None, Some, codes, map, String, string_bytes, ⊤}
 use Rattle.std.specs.declared.alloc.Global.{Global}
 use Rattle.tilt_base.specs.declared.limits.TheConstants.{T}
 use Rattle.tilt_words.specs.declared.command.Command.{Command}
@@ -106,7 +107,8 @@ command_of (variant.Run query binds plain cuts) = run (string_bytes query) (bind
 command_of (variant.Compile query plain) = compile (string_bytes query) plain
 command_of (variant.Exec code binds) = exec (string_bytes code) (bindings_of binds.items)
 command_of (variant.Explain query) = explain (string_bytes query)
-command_of (variant.Start query binds plain upto save) = start (string_bytes query) (bindings_of binds.items) plain upto (string_bytes save)
+command_of (variant.Start query binds plain upto save) =
+    start (string_bytes query) (bindings_of binds.items) plain upto (string_bytes save)
 command_of (variant.ResumeUpto file binds plain upto save) =
     resume_upto (string_bytes file) (bindings_of binds.items) plain upto (string_bytes save)
 command_of (variant.ResumeEnd file binds plain) = resume_end (string_bytes file) (bindings_of binds.items) plain

@@ -1,5 +1,6 @@
 // The words behind a command's file.
-ghost use Rattle.std.specs.Prelude.{◌≡◌, ◌≢◌, ◌<◌, ◌≤◌, ◌++◌, ◌∷◌, ℕ, ℤ, List, [], true, false, None, Some, neg_ℤ, length, drop, string_bytes, MatchResult};
+ghost use Rattle.std.specs.Prelude.{◌≡◌, ◌≢◌, ◌<◌, ◌≤◌, ◌++◌, ◌∷◌, ℕ, ℤ};
+ghost use Rattle.std.specs.Prelude.{List, [], true, false, None, Some, neg_ℤ, length, drop, string_bytes, MatchResult};
 ghost use Rattle.tilt_base.specs.declared.limits.TheConstants.{T};
 ghost use Rattle.tilt_words.specs.Arguments.{AreArguments, Begins, Settings, no_settings};
 ghost use Rattle.tilt_words.specs.Binding.{IsBinding, binding_spelled};
@@ -16,13 +17,13 @@ use tilt_base::T;
 // What words behind a command's file give it.
 #[derive(Drop)]
 pub(crate) struct Arguments {
-    pub binds: Vec<Bind>,
-    pub plain: bool,
-    pub end: bool,
+    pub(crate) binds: Vec<Bind>,
+    pub(crate) plain: bool,
+    pub(crate) end: bool,
     // Empty where `--cut` doesn't stand.
-    pub cuts: Vec<i64>,
-    pub upto: Option<i64>,
-    pub save: Option<String>,
+    pub(crate) cuts: Vec<i64>,
+    pub(crate) upto: Option<i64>,
+    pub(crate) save: Option<String>,
 }
 
 impl Arguments {

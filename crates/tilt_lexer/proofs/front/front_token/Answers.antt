@@ -8,4 +8,5 @@ returns-then-is_ascii_digit-clause-err c =
 
 pub returns-else-is_ascii_digit-clause-err : goal.returns-else-is_ascii_digit-clause-err
 returns-else-is_ascii_digit-clause-err c =
-    at_fault c.front_mark.result c.ok_or-else-is_ascii_digit.result _ _ _ (IsFaultyAt c.args.at c.args.bytes.now) c.ok_or-else-is_ascii_digit.ensures.value c.front_mark.ensures (λ none. bad_first c.args.at c.args.bytes.now c.requires.some c.requires.no_blank none)
+    at_fault c.front_mark.result c.ok_or-else-is_ascii_digit.result _ _ _ (IsFaultyAt c.args.at c.args.bytes.now)
+    c.ok_or-else-is_ascii_digit.ensures.value c.front_mark.ensures (λ none. bad_first c.args.at c.args.bytes.now c.requires.some c.requires.no_blank none)

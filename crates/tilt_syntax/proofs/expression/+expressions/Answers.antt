@@ -5,7 +5,7 @@ use Rattle.tilt_syntax.specs.Query.{kinds}
 use Rattle.tilt_syntax.specs.Tree.{expr_tree}
 use Rattle.tilt_syntax.specs.declared.level.Level.TheVariants.{When, Comparison, Atom}
 use Rattle.tilt_syntax.proofs.Finding.{asked, asks, asks_nothing, gives, gives_nothing, meets, meets_operator, misses, misses_operators}
-use Rattle.tilt_syntax.proofs.Finding.{atom-behind, carried, front-split, gone_on, no-atom, no-word, stopped}
+use Rattle.tilt_syntax.proofs.Finding.{atom-after, carried, first-split, gone_on, no-atom, no-word, stopped}
 use Rattle.tilt_syntax.proofs.expression.+expressions.Goals as goal
 
 pub atom-returns-in_default : goal.atom-returns-in_default
@@ -15,17 +15,17 @@ atom-returns-in_default t c =
 pub atom-returns-in-Number : goal.atom-returns-in-Number
 atom-returns-in-Number t c =
     let fits : to_z w64 (of_z w64 c.in-Number.number) ≡ c.in-Number.number = omega (arith, ints) in
-    rw fits (atom-behind _ (front-split c.args.tokens.now _ _ c.in-len1-up.len_at_least c.first-item.is c.in-Number.is) (gives _ _))
+    rw fits (atom-after _ (first-split c.args.tokens.now _ _ c.in-len1-up.len_at_least c.first-item.is c.in-Number.is) (gives _ _))
 
 pub atom-returns-in-Word : goal.atom-returns-in-Word
 atom-returns-in-Word t c =
     carried c.reading.result _ (atom_plan (kinds c.args.tokens.now)) _ _
-    (λ r h. atom-behind _ (front-split c.args.tokens.now _ _ c.in-len1-up.len_at_least c.first-item.is c.in-Word.is) h) c.reading.ensures
+    (λ r h. atom-after _ (first-split c.args.tokens.now _ _ c.in-len1-up.len_at_least c.first-item.is c.in-Word.is) h) c.reading.ensures
 
 pub atom-returns-in-Key : goal.atom-returns-in-Key
 atom-returns-in-Key t c =
     carried c.word.result _ (atom_plan (kinds c.args.tokens.now)) _ _
-    (λ r h. atom-behind _ (front-split c.args.tokens.now _ _ c.in-len1-up.len_at_least c.first-item.is c.in-Key.is) h) c.word.ensures
+    (λ r h. atom-after _ (first-split c.args.tokens.now _ _ c.in-len1-up.len_at_least c.first-item.is c.in-Key.is) h) c.word.ensures
 
 pub chain-returns-in_default : goal.chain-returns-in_default
 chain-returns-in_default t c =

@@ -24,8 +24,11 @@ loop-piece-preserved c =
     let piece : c.in-Some.piece.now ≡ before_comma c.loop-piece.rest.now = search rules in
     let behind : c.in-Some.behind.now ≡ after_comma c.loop-piece.rest.now = search rules in
     let number = rw piece at c.in_ok-least.ensures.0 in
-    let fits : FitsSigned w64 c.in_ok-least.least = omega (arith, ints, number.low, number.high, c.loop-piece.auto.least-fits) in
-    (search rules, rw (to_z-of_z w64 c.in_ok-least.least fits, behind, c.in_ok-least.ensures.1) (before_next (neg_ℤ T) T c.args.word.now _ _ _ c.loop-piece.invariant.1 c.in_ok-least.least has number))
+    let fits : FitsSigned w64 c.in_ok-least.least = omega (arith, ints, number.low, number.high, c.loop-piece.auto.least-fits) in (
+      search rules,
+      rw (to_z-of_z w64 c.in_ok-least.least fits, behind, c.in_ok-least.ensures.1)
+          (before_next (neg_ℤ T) T c.args.word.now _ _ _ c.loop-piece.invariant.1 c.in_ok-least.least has number),
+    )
 
 pub returns-in_err-push_time : goal.returns-in_err-push_time
 returns-in_err-push_time c =
