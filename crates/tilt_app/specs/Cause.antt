@@ -20,9 +20,10 @@ module _ (is_outcome : Outcome → Type 0) (has_turn : List ℕ → Type 0) wher
     IsUnanswered (save_fault name) = ⊥
     IsUnanswered out_of_memory = ⊤
 
-    -- Of the shelf: what each name held and what it holds, and its count of save faults before and after. Of the output: whether it tells what was written,
-    -- what was written before and after, and its count of faults.
-    module _ (held holds : List ℕ → List ℕ) (saves_before saves_after : ℕ) (out_tells : Type 0) (old new : List ℕ) (puts_before puts_after : ℕ) where
+    -- Of the shelf: what each name held and what it holds, and its count of save faults before and after. Of the output: whether it tells
+    -- what was written, what was written before and after, and its count of faults.
+    module _ (held holds : List ℕ → List ℕ) (saves_before saves_after : ℕ) (out_tells : Type 0) (old new : List ℕ)
+        (puts_before puts_after : ℕ) where
       -- a text is what is printed, where the shelf tells it, and a front of the text was written
       pub record IsCutShort (text : List ℕ) (save : Option Save) : Type 0 where
         pub outcome : shelf_tells → is_outcome (outcome_of text save)
@@ -38,11 +39,12 @@ module _ (is_outcome : Outcome → Type 0) (has_turn : List ℕ → Type 0) wher
       abbrev pub IsShortOfMemory : Type 0
       IsShortOfMemory = (out_tells → new ≡ old) ⊎ ((text : List ℕ) × (save : Option Save) × IsCutShort text save)
 
-      -- why this is reported: the same, a write fault only where the count of the output rose, a save fault only where that of the shelf rose, and want of
-      -- memory with what was written by then
+      -- why this is reported: the same, a write fault only where the count of the output rose, a save fault only where that of the shelf
+      -- rose, and want of memory with what was written by then
       abbrev pub IsCause : Report → Type 0
       IsCause write_fault = Rose puts_before puts_after × ((text : List ℕ) × (save : Option Save) × IsCutShort text save)
-      IsCause (save_fault name) = Rose saves_before saves_after × ((text : List ℕ) × (bytes : List ℕ) × IsUnfinished text (record { name = name; bytes = bytes }))
+      IsCause (save_fault name) =
+          Rose saves_before saves_after × ((text : List ℕ) × (bytes : List ℕ) × IsUnfinished text (record { name = name; bytes = bytes }))
       IsCause out_of_memory = IsShortOfMemory
       IsCause report = IsUnanswered report
 

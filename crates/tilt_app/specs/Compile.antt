@@ -12,5 +12,6 @@ use Rattle.tilt_core.specs.Core.{CoreParts, domain_of}
 -- what `compile` does, with fusion or without, a case for each end
 pub data IsCompileOutcome (files : List ℕ → List ℕ) (query : List ℕ) (fuse : Bool) : Outcome → Type 0 where
   no_query : (why : Reason) → RefusesQuery query (files query) why → IsCompileOutcome files query fuse (refused (refusal why))
-  listed : (core : CoreParts) (margins : MarginsParts) (domain : Span) → TakesQuery (files query) core → margins_of core ≡ Ok margins → domain_of core.defs ≡ Some domain
+  listed : (core : CoreParts) (margins : MarginsParts) (domain : Span) → TakesQuery (files query) core → margins_of core ≡ Ok margins
+      → domain_of core.defs ≡ Some domain
       → IsCompileOutcome files query fuse (printed (listing (code_of (plan_of core fuse) core margins domain.start domain.end)))

@@ -11,8 +11,8 @@ use Rattle.tilt_types.specs.Checked.{core_of}
 use Rattle.tilt_words.specs.Binding.{Binding}
 use Rattle.tilt_words.specs.Command.{CommandValue, resume_upto, resume_end}
 
--- of the checkpoint in a file and the rows behind it: whichever rows the checkpoint is of, what was printed by then and what is printed newly is what
--- one session prints on all rows, and both leave the same checkpoint
+-- of the checkpoint in a file and the rows after it: whichever rows the checkpoint is of, what was printed by then and what is printed
+-- newly is what one session prints on all rows, and both leave the same checkpoint
 abbrev pub AreOneCut : (List ℕ → List ℕ) → List ℕ → List Binding → Cut → Type 0
 AreOneCut files checkpoint binds cut =
     (c : CheckpointParts) (rows : List (List Snapshot)) → GoesOn (files checkpoint) cut c

@@ -10,7 +10,8 @@ use Rattle.tilt_words.specs.Binding.{Binding}
 -- what `exec` does
 abbrev pub IsExecOutcome : (List ℕ → List ℕ) → List ℕ → List Binding → Outcome → Type 0
 IsExecOutcome files code binds outcome =
-    IsFileOutcome (TakesCode (files code)) (RefusesCode code (files code)) (λ c. c.inputs) (λ c rows o. o ≡ printed (text_of (run_of c rows))) files binds outcome
+    IsFileOutcome (TakesCode (files code)) (RefusesCode code (files code)) (λ c. c.inputs)
+    (λ c rows o. o ≡ printed (text_of (run_of c rows))) files binds outcome
 
 -- it is a file's turn to be read: the code's, or that of an input
 abbrev pub HasExecTurn : Type 0 → (List ℕ → List ℕ) → List ℕ → List Binding → List ℕ → Type 0

@@ -9,4 +9,5 @@ use Rattle.tilt_core.specs.Core.{CoreParts}
 -- what `explain` does, a case for each end
 pub data IsExplainOutcome (files : List ℕ → List ℕ) (query : List ℕ) : Outcome → Type 0 where
   no_query : (why : Reason) → RefusesQuery query (files query) why → IsExplainOutcome files query (refused (refusal why))
-  told : (core : CoreParts) (margins : MarginsParts) → TakesQuery (files query) core → margins_of core ≡ Ok margins → IsExplainOutcome files query (printed (explained core margins))
+  told : (core : CoreParts) (margins : MarginsParts) → TakesQuery (files query) core → margins_of core ≡ Ok margins
+      → IsExplainOutcome files query (printed (explained core margins))

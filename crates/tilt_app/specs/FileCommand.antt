@@ -7,12 +7,15 @@ use Rattle.tilt_stream.specs.Snap.{Snapshot}
 use Rattle.tilt_words.specs.Binding.{Binding}
 
 -- What a file is, where it is taken; why it is refused; the inputs that it declares; and what it comes to on their rows.
-module _ {A : Type 0} (takes : A → Type 0) (refuses : Reason → Type 0) (inputs_of : A → List (List ℕ)) (gives : A → List (List Snapshot) → Outcome → Type 0) where
+module _ {A : Type 0} (takes : A → Type 0) (refuses : Reason → Type 0) (inputs_of : A → List (List ℕ))
+    (gives : A → List (List Snapshot) → Outcome → Type 0) where
   -- what the command does, a case for each end
   pub data IsFileOutcome (files : List ℕ → List ℕ) (binds : List Binding) : Outcome → Type 0 where
     no_file : (why : Reason) → refuses why → IsFileOutcome files binds (refused (refusal why))
-    no_inputs : (a : A) (why : Reason) → takes a → RefusesInputs files binds (inputs_of a) why → IsFileOutcome files binds (refused (refusal why))
-    done : {outcome : Outcome} (a : A) (rows : List (List Snapshot)) → takes a → TakesInputs files binds (inputs_of a) rows → gives a rows outcome → IsFileOutcome files binds outcome
+    no_inputs : (a : A) (why : Reason) → takes a → RefusesInputs files binds (inputs_of a) why
+        → IsFileOutcome files binds (refused (refusal why))
+    done : {outcome : Outcome} (a : A) (rows : List (List Snapshot)) → takes a → TakesInputs files binds (inputs_of a) rows
+        → gives a rows outcome → IsFileOutcome files binds outcome
 
 -- What a file is, where it is taken, and the inputs that it declares.
 module _ {A : Type 0} (takes : A → Type 0) (inputs_of : A → List (List ℕ)) where

@@ -1,7 +1,8 @@
 -- What a command does, given its words, what each name holds and who watches: the text that it prints, or why it is refused.
 -- That of each command stands in a file of its own.
 use Rattle.std.specs.Prelude.{◌≡◌, not, List, [], ℕ, ⊤}
-use Rattle.tilt_words.specs.Command.{CommandValue, run, compile, exec, explain, start, resume_upto, resume_end, pipe, watch, try, IsCommand}
+use Rattle.tilt_words.specs.Command.{CommandValue, IsCommand}
+use Rattle.tilt_words.specs.Command.{run, compile, exec, explain, start, resume_upto, resume_end, pipe, watch, try}
 use Rattle.tilt_report.specs.Report.{Outcome, refused, usage}
 use Rattle.tilt_app.specs.Compile.{IsCompileOutcome}
 use Rattle.tilt_app.specs.Exec.{IsExecOutcome, HasExecTurn}
@@ -25,13 +26,15 @@ IsCommandOutcome files watchers (pipe query binds plain) outcome = IsPipeOutcome
 IsCommandOutcome files watchers (watch query binds plain) outcome = IsWatchOutcome files query binds watchers outcome
 IsCommandOutcome files watchers (try seed count) outcome = IsTryOutcome seed count outcome
 IsCommandOutcome files watchers (start query binds plain upto save) outcome = IsStartOutcome files query binds upto save outcome
-IsCommandOutcome files watchers (resume_upto checkpoint binds plain upto save) outcome = IsResumeOutcome files checkpoint binds (Upto upto) save outcome
+IsCommandOutcome files watchers (resume_upto checkpoint binds plain upto save) outcome =
+    IsResumeOutcome files checkpoint binds (Upto upto) save outcome
 IsCommandOutcome files watchers (resume_end checkpoint binds plain) outcome = IsResumeOutcome files checkpoint binds End [] outcome
 
 -- what the words do
 pub data IsOutcome (words : List (List ℕ)) (files : List ℕ → List ℕ) (watchers : List Watch) : Outcome → Type 0 where
   no_command : ((command : CommandValue) → ¬ (IsCommand words command)) → IsOutcome words files watchers (refused usage)
-  does : {outcome : Outcome} (command : CommandValue) → IsCommand words command → IsCommandOutcome files watchers command outcome → IsOutcome words files watchers outcome
+  does : {outcome : Outcome} (command : CommandValue) → IsCommand words command → IsCommandOutcome files watchers command outcome
+      → IsOutcome words files watchers outcome
 
 -- it is a file's turn to be read, for a command
 abbrev pub HasCommandTurn : Type 0 → (List ℕ → List ℕ) → CommandValue → List ℕ → Type 0
@@ -42,7 +45,8 @@ HasCommandTurn tells files (explain query) name = name ≡ query
 HasCommandTurn tells files (pipe query binds plain) name = HasRunTurn tells files query binds name
 HasCommandTurn tells files (watch query binds plain) name = HasRunTurn tells files query binds name
 HasCommandTurn tells files (start query binds plain upto save) name = HasStartTurn tells files query binds upto name
-HasCommandTurn tells files (resume_upto checkpoint binds plain upto save) name = HasResumeTurn tells files checkpoint binds (Upto upto) name
+HasCommandTurn tells files (resume_upto checkpoint binds plain upto save) name =
+    HasResumeTurn tells files checkpoint binds (Upto upto) name
 HasCommandTurn tells files (resume_end checkpoint binds plain) name = HasResumeTurn tells files checkpoint binds End name
 HasCommandTurn tells files (try seed count) name = ⊥
 

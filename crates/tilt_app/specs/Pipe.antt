@@ -1,5 +1,5 @@
--- What `pipe` does, given its query, its binds and what each name holds: it prints what `run` prints, and then the most snapshots that the rings of the
--- query's code ever hold.
+-- What `pipe` does, given its query, its binds and what each name holds: it prints what `run` prints, and then the most snapshots that
+-- the rings of the query's code ever hold.
 use Rattle.std.specs.Prelude.{◌≡◌, ◌++◌, ℕ, Bool, List, Some, Ok, codes}
 use Rattle.std.specs.Fmt.{decimal}
 use Rattle.tilt_app.specs.FileCommand.{IsFileOutcome}
@@ -36,7 +36,8 @@ pub record IsCodeOf (core : CoreParts) (fuse : Bool) (code : CodeParts) : Type 0
   pub stretch : domain_of core.defs ≡ Some domain
   pub is : code ≡ code_of (plan_of core fuse) core margins domain.start domain.end
 
--- the outcome is the text of the snapshots of the query's meaning on its output domain, and then the line of the most that the rings of its code ever hold
+-- the outcome is the text of the snapshots of the query's meaning on its output domain, and then the line of the most that the rings of
+-- its code ever hold
 pub record IsPiped (fuse : Bool) (core : CoreParts) (rows : List (List Snapshot)) (outcome : Outcome) : Type 0 where
   pub list : List Snapshot
   pub code : CodeParts

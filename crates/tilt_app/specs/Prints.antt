@@ -5,10 +5,10 @@ use Rattle.tilt_app.specs.declared.unput.Unput.TheVariants.{Failed}
 use Rattle.tilt_outside.specs.Faults.{Rose}
 use Rattle.tilt_outside.specs.Written.{AppendsFront}
 
--- bytes were put: all of them, or a front of them where a put failed or memory was wanting; a put failed only where the count of faults rose. What was
--- taken beyond the bytes still is. The first four are a sink's meanings
-pub record Prints {K T : Type 0} (tells : Type 0) (written : K → List ℕ) (faults : K → ℕ) (takes : K → ℕ → Type 0) (old new : K) (bytes : List ℕ)
-    (result : Result T Unput) : Type 0 where
+-- bytes were put: all of them, or a front of them where a put failed or memory was wanting; a put failed only where the count of faults
+-- rose. What was taken beyond the bytes still is. The first four are a sink's meanings
+pub record Prints {K T : Type 0} (tells : Type 0) (written : K → List ℕ) (faults : K → ℕ) (takes : K → ℕ → Type 0)
+    (old new : K) (bytes : List ℕ) (result : Result T Unput) : Type 0 where
   pub whole : tells → OnOk result (written new ≡ written old ++ bytes)
   pub front : tells → OnErr result (AppendsFront (written old) (written new) bytes)
   pub kept : faults old ≤ faults new

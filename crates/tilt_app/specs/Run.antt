@@ -1,4 +1,5 @@
--- What `run` does, given its query, its binds and what each name holds: the text of the snapshots of the query's meaning on its output domain.
+-- What `run` does, given its query, its binds and what each name holds: the text of the snapshots of the query's meaning on its output
+-- domain.
 use Rattle.std.specs.Prelude.{◌≡◌, List, ℕ, Some}
 use Rattle.tilt_app.specs.FileCommand.{IsFileOutcome, HasFileTurn}
 use Rattle.tilt_load.specs.QueryFile.{TakesQuery, RefusesQuery}
@@ -16,7 +17,8 @@ IsMadeOfQuery makes core rows outcome = (list : List Snapshot) × (output_of cor
 -- what a command does that makes something of them
 abbrev pub IsQueryOutcome : (List Snapshot → Outcome) → (List ℕ → List ℕ) → List ℕ → List Binding → Outcome → Type 0
 IsQueryOutcome makes files query binds outcome =
-    IsFileOutcome (TakesQuery (files query)) (RefusesQuery query (files query)) (λ core. core.inputs) (IsMadeOfQuery makes) files binds outcome
+    IsFileOutcome (TakesQuery (files query)) (RefusesQuery query (files query)) (λ core. core.inputs) (IsMadeOfQuery makes)
+    files binds outcome
 
 -- what `run` does: it prints their text
 abbrev pub IsRunOutcome : (List ℕ → List ℕ) → List ℕ → List Binding → Outcome → Type 0

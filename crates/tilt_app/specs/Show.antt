@@ -41,8 +41,8 @@ IsShow tells files (watch query binds plain) shown =
     (list : List Snapshot) × (shown ≡ Some list) × (tells → IsRunOutcome files query binds (printed (text_of list)))
 IsShow tells files command shown = shown ≡ None
 
--- Of the output: whether it tells what was written, and what was written before and after. Of the watchers: whether they are as they were, and what
--- they were before and are now.
+-- Of the output: whether it tells what was written, and what was written before and after. Of the watchers: whether they are as they
+-- were, and what they were before and are now.
 module _ (out_tells : Type 0) (old new : List ℕ) (kept : Type 0) (before now : List Watch) where
   -- they were shown these snapshots, and the text and the figures were written
   pub record HaveSeen (list : List Snapshot) : Type 0 where
@@ -52,7 +52,8 @@ module _ (out_tells : Type 0) (old new : List ℕ) (kept : Type 0) (before now :
   -- a put or the flush failed: in the text, or behind it, where they were shown these snapshots
   pub data HaveSeenInPart (list : List Snapshot) : Type 0 where
     in_text : kept → (out_tells → AppendsFront old new (text_of list)) → HaveSeenInPart list
-    in_figures : now ≡ after_show before list → (out_tells → AppendsFront (old ++ text_of list) new (figures_after before list)) → HaveSeenInPart list
+    in_figures : now ≡ after_show before list → (out_tells → AppendsFront (old ++ text_of list) new (figures_after before list))
+        → HaveSeenInPart list
 
   -- all was put: they saw what they were shown
   abbrev pub SeeAll : Option (List Snapshot) → Type 0

@@ -15,5 +15,5 @@ made_inputs seed count = first_rows seed count ∷ second_rows seed count ∷ []
 
 -- what `try` does: its query is taken, and the summary is that of the snapshots of the query's meaning on its output domain
 pub data IsTryOutcome (seed count : ℕ) : Outcome → Type 0 where
-  summed : (core : CoreParts) (list : List Snapshot) → TakesQuery (query_text count) core → output_of core (made_inputs seed count) ≡ Some list
-      → IsTryOutcome seed count (printed (summary_text count list))
+  summed : (core : CoreParts) (list : List Snapshot) → TakesQuery (query_text count) core
+      → output_of core (made_inputs seed count) ≡ Some list → IsTryOutcome seed count (printed (summary_text count list))

@@ -58,7 +58,8 @@ pub(crate) fn answer<'a, S: Shelf>(
     requires lent { (name : List ℕ) → HasCommandTurn S.tells (S.files shelf.old) (command_of command.now) name → S.lends name }
     requires within { IsWithin (command_of command.now) }
     ensures made { S.tells → IfOk result (λ answer. (watchers : List Watch)
-        → IsCommandOutcome (S.files shelf.old) watchers (command_of command.now) (comes_to watchers (name_of (command_of command.now)) answer)) }
+        → IsCommandOutcome (S.files shelf.old) watchers (command_of command.now)
+        (comes_to watchers (name_of (command_of command.now)) answer)) }
     ensures shown { IfOk result (λ answer. IsShow S.tells (S.files shelf.old) (command_of command.now) (shown_of answer.printed)) }
     ensures fresh { IfOk result (λ answer. IsFresh answer.printed) }
     ensures streams { IfOk result (λ answer. IsStreamed answer.printed → Streams (command_of command.now)) }

@@ -4,11 +4,13 @@ ghost use Rattle.tilt_outside.specs.Faults.{Rose};
 ghost use Rattle.tilt_outside.specs.Reads.{OnlyReads};
 ghost use Rattle.tilt_app.specs.Cause.{IsCause, IsLineWritten, IsSaveFault};
 ghost use Rattle.tilt_app.specs.Continues.{Continues};
-ghost use Rattle.tilt_app.specs.Outcome.{IsCommandOutcome, HasCommandTurn, IsOutcome, IsRunnable, IsSaving, IsStreaming, HasTurn, Saves, Streams};
+ghost use Rattle.tilt_app.specs.Outcome.{IsCommandOutcome, HasCommandTurn, IsOutcome, HasTurn};
+ghost use Rattle.tilt_app.specs.Outcome.{IsRunnable, IsSaving, IsStreaming, Saves, Streams};
 ghost use Rattle.tilt_app.specs.Run.{IsRunOutcome};
 ghost use Rattle.tilt_app.specs.Saving.{IsSaved, IsUnsaved, Save, outcome_of};
 ghost use Rattle.tilt_app.specs.Show.{HaveSeen, HaveSeenInPart, IsShow, IsWatch, IsWatchOf, SeeAll, SeeOfFault};
-ghost use Rattle.tilt_report.specs.Report.{printed, refused, Report, report_of, status_of, line_of, write_fault, save_fault, out_of_memory};
+ghost use Rattle.tilt_report.specs.Report.{Report, printed, refused, report_of, status_of, line_of};
+ghost use Rattle.tilt_report.specs.Report.{write_fault, save_fault, out_of_memory};
 ghost use Rattle.tilt_stream.specs.Snap.{Snapshot};
 ghost use Rattle.tilt_stream.specs.Text.{text_of};
 ghost use Rattle.tilt_watch.specs.Watch.{watches};
@@ -33,26 +35,32 @@ fn done<'a, S: Shelf, O: Sink>(
     requires lent { (name : List ℕ) → HasCommandTurn S.tells (S.files shelf.old) (command_of command.now) name → S.lends name }
     requires within { IsWithin (command_of command.now) }
     requires room { (text : List ℕ) (save : Option Save)
-        → (S.tells → IsCommandOutcome (S.files shelf.old) (watches pair step watchers.old.items) (command_of command.now) (outcome_of text save))
+        → (S.tells → IsCommandOutcome (S.files shelf.old) (watches pair step watchers.old.items) (command_of command.now)
+        (outcome_of text save))
         → O.takes out.old (length text) }
     requires saves { (text : List ℕ) (save : Save)
-        → (S.tells → IsCommandOutcome (S.files shelf.old) (watches pair step watchers.old.items) (command_of command.now) (outcome_of text (Some save)))
+        → (S.tells → IsCommandOutcome (S.files shelf.old) (watches pair step watchers.old.items) (command_of command.now)
+        (outcome_of text (Some save)))
         → S.takes shelf.old save.name (length save.bytes) }
     ensures done { OnOk result ((text : List ℕ) × (save : Option Save)
-        × (S.tells → IsCommandOutcome (S.files shelf.old) (watches pair step watchers.old.items) (command_of command.now) (outcome_of text save))
+        × (S.tells → IsCommandOutcome (S.files shelf.old) (watches pair step watchers.old.items) (command_of command.now)
+        (outcome_of text save))
         × (O.tells → O.written out.new ≡ O.written out.old ++ text)
         × IsSaved S.tells (S.files shelf.old) (S.files shelf.new) save) }
     ensures cause { IfErr result (λ fault. IsCause
         (IsCommandOutcome (S.files shelf.old) (watches pair step watchers.old.items) (command_of command.now))
         (HasCommandTurn S.tells (S.files shelf.old) (command_of command.now)) S.tells
         (S.read_faults shelf.old) (S.read_faults shelf.new) (S.files shelf.old) (S.files shelf.new) (S.save_faults shelf.old)
-        (S.save_faults shelf.new) O.tells (O.written out.old) (O.written out.new) (O.faults out.old) (O.faults out.new) (report_of fault)) }
+        (S.save_faults shelf.new) O.tells (O.written out.old) (O.written out.new) (O.faults out.old) (O.faults out.new)
+        (report_of fault)) }
     ensures law { S.tells → OnOk result (Continues (S.files shelf.old) (command_of command.now)) }
     ensures handed_on { OnOk result (O.held_back out.new ≡ 0) }
     ensures seen { MatchResult result
         (λ _. (shown : Option (List Snapshot)) × IsShow S.tells (S.files shelf.old) (command_of command.now) shown
-        × SeeAll O.tells (O.written out.old) (O.written out.new) (watchers.new ≡ watchers.old) (watches pair step watchers.old.items) (watches pair step watchers.new.items) shown)
-        (λ fault. SeeOfFault O.tells (O.written out.old) (O.written out.new) (watchers.new ≡ watchers.old) (watches pair step watchers.old.items) (watches pair step watchers.new.items)
+        × SeeAll O.tells (O.written out.old) (O.written out.new) (watchers.new ≡ watchers.old)
+        (watches pair step watchers.old.items) (watches pair step watchers.new.items) shown)
+        (λ fault. SeeOfFault O.tells (O.written out.old) (O.written out.new) (watchers.new ≡ watchers.old)
+        (watches pair step watchers.old.items) (watches pair step watchers.new.items)
         (IsShow S.tells (S.files shelf.old) (command_of command.now)) (report_of fault)) }
     ensures rest { MatchResult result
         (λ _. (Saves (command_of command.now) → ⊥) → OnlyReads S.files S.read_faults S.save_faults S.takes shelf.old shelf.new)
@@ -75,8 +83,10 @@ fn done<'a, S: Shelf, O: Sink>(
 // Saves bytes under a name.
 fn save<'a, S: Shelf>(shelf: &mut S, name: &'a str, bytes: &[u8]) -> Result<(), Fault<'a>>
     requires { S.takes shelf.old name.now (length bytes.now) }
-    ensures saved { OnOk result (IsSaved S.tells (S.files shelf.old) (S.files shelf.new) (Some (record { name = name.now; bytes = bytes.now }))) }
-    ensures fault { IfErr result (λ fault. (report_of fault ≡ save_fault name.now) × Rose (S.save_faults shelf.old) (S.save_faults shelf.new)
+    ensures saved { OnOk result (IsSaved S.tells (S.files shelf.old) (S.files shelf.new)
+        (Some (record { name = name.now; bytes = bytes.now }))) }
+    ensures fault { IfErr result (λ fault. (report_of fault ≡ save_fault name.now)
+        × Rose (S.save_faults shelf.old) (S.save_faults shelf.new)
         × IsUnsaved S.tells (S.files shelf.old) (S.files shelf.new) (record { name = name.now; bytes = bytes.now })) }
     ensures read_faults { S.read_faults shelf.new ≡ S.read_faults shelf.old }
 {
@@ -90,7 +100,8 @@ fn save<'a, S: Shelf>(shelf: &mut S, name: &'a str, bytes: &[u8]) -> Result<(), 
 fn tell<E: Sink>(err: &mut E, fault: &Fault<'_>) -> u8
     requires { (n : ℕ) → E.takes err.old n }
     ensures status { result ≡ status_of (report_of fault.now) }
-    ensures line { E.tells → IsLineWritten (E.written err.old) (E.written err.new) (line_of (report_of fault.now)) (E.faults err.old) (E.faults err.new) }
+    ensures line { E.tells → IsLineWritten (E.written err.old) (E.written err.new) (line_of (report_of fault.now))
+        (E.faults err.old) (E.faults err.new) }
 {
     let _ = fault.put(err);
     fault.status()
@@ -145,7 +156,8 @@ pub fn tilt<S: Shelf, O: Sink, E: Sink>(
 
     // Every other status has its cause and its line.
     ensures reported { (result ≡ 0 → ⊥) → (report : Report) × (result ≡ status_of report)
-        × IsCause (IsOutcome (texts words.now) (S.files shelf.old) (watches pair step watchers.old.items)) (HasTurn S.tells (texts words.now) (S.files shelf.old)) S.tells
+        × IsCause (IsOutcome (texts words.now) (S.files shelf.old) (watches pair step watchers.old.items))
+        (HasTurn S.tells (texts words.now) (S.files shelf.old)) S.tells
         (S.read_faults shelf.old) (S.read_faults shelf.new) (S.files shelf.old) (S.files shelf.new) (S.save_faults shelf.old)
         (S.save_faults shelf.new) O.tells (O.written out.old) (O.written out.new) (O.faults out.old) (O.faults out.new) report
         × (E.tells → IsLineWritten (E.written err.old) (E.written err.new) (line_of report) (E.faults err.old) (E.faults err.new)) }
@@ -171,10 +183,12 @@ pub fn tilt<S: Shelf, O: Sink, E: Sink>(
     ensures unseen { (result ≡ 0 → ⊥) → (result ≡ 4 → ⊥) → watchers.new ≡ watchers.old }
     ensures seen { result ≡ 0 → (query : List ℕ) (binds : List Binding) → IsWatchOf (texts words.now) query binds
         → (list : List Snapshot) × (S.tells → IsRunOutcome (S.files shelf.old) query binds (printed (text_of list)))
-        × HaveSeen O.tells (O.written out.old) (O.written out.new) (watchers.new ≡ watchers.old) (watches pair step watchers.old.items) (watches pair step watchers.new.items) list }
+        × HaveSeen O.tells (O.written out.old) (O.written out.new) (watchers.new ≡ watchers.old)
+        (watches pair step watchers.old.items) (watches pair step watchers.new.items) list }
     ensures seen_in_part { result ≡ 4 → (query : List ℕ) (binds : List Binding) → IsWatchOf (texts words.now) query binds
         → (list : List Snapshot) × (S.tells → IsRunOutcome (S.files shelf.old) query binds (printed (text_of list)))
-        × HaveSeenInPart O.tells (O.written out.old) (O.written out.new) (watchers.new ≡ watchers.old) (watches pair step watchers.old.items) (watches pair step watchers.new.items) list }
+        × HaveSeenInPart O.tells (O.written out.old) (O.written out.new) (watchers.new ≡ watchers.old)
+        (watches pair step watchers.old.items) (watches pair step watchers.new.items) list }
 
     // The files and the count of failed saves are as before, and the count of failed reads is no lower, but where bytes were saved.
     ensures rest { (result ≡ 0 → ⊥) → (result ≡ 6 → ⊥) → OnlyReads S.files S.read_faults S.save_faults S.takes shelf.old shelf.new }

@@ -23,7 +23,8 @@ pub(crate) fn exec<'a, S: Shelf>(
     binds: &'a [Bind],
 ) -> Result<SnapList, Fault<'a>>
     requires { (name : List ℕ) → HasExecTurn S.tells (S.files shelf.old) code.now (bindings_of binds.now) name → S.lends name }
-    ensures printed { S.tells → IfOk result (λ list. IsExecOutcome (S.files shelf.old) code.now (bindings_of binds.now) (printed (text_of list))) }
+    ensures printed { S.tells → IfOk result (λ list. IsExecOutcome (S.files shelf.old) code.now (bindings_of binds.now)
+        (printed (text_of list))) }
     ensures fault { IfErr result (λ fault. IsLoadFault S.tells
         (λ why. IsExecOutcome (S.files shelf.old) code.now (bindings_of binds.now) (refused (refusal why)))
         (HasExecTurn S.tells (S.files shelf.old) code.now (bindings_of binds.now))

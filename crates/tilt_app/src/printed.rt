@@ -33,12 +33,15 @@ impl Printed {
     ) -> Result<(), Unput>
         requires fresh { IsFresh self }
         requires room { O.takes out.old (length (printed_text (watches pair step watchers.old.items) self)) }
-        ensures prints { Prints O.tells O.written O.faults O.takes out.old out.new (printed_text (watches pair step watchers.old.items) self) result }
+        ensures prints { Prints O.tells O.written O.faults O.takes out.old out.new
+            (printed_text (watches pair step watchers.old.items) self) result }
         ensures handed_on { OnOk result (O.held_back out.new ≡ 0) }
         ensures streamed { IfErr result (λ unput. unput ≡ OutOfMemory → IsStreamed self) }
         ensures seen { MatchResult result
-            (λ _. SeeAll O.tells (O.written out.old) (O.written out.new) (watchers.new ≡ watchers.old) (watches pair step watchers.old.items) (watches pair step watchers.new.items) (shown_of self))
-            (λ _. SeePart O.tells (O.written out.old) (O.written out.new) (watchers.new ≡ watchers.old) (watches pair step watchers.old.items) (watches pair step watchers.new.items) (shown_of self)) }
+            (λ _. SeeAll O.tells (O.written out.old) (O.written out.new) (watchers.new ≡ watchers.old)
+            (watches pair step watchers.old.items) (watches pair step watchers.new.items) (shown_of self))
+            (λ _. SeePart O.tells (O.written out.old) (O.written out.new) (watchers.new ≡ watchers.old)
+            (watches pair step watchers.old.items) (watches pair step watchers.new.items) (shown_of self)) }
     {
         self.put_all(out, watchers)?;
         out.flush()?;
@@ -53,11 +56,14 @@ impl Printed {
     ) -> Result<(), Unput>
         requires fresh { IsFresh self }
         requires room { O.takes out.old (length (printed_text (watches pair step watchers.old.items) self)) }
-        ensures prints { Prints O.tells O.written O.faults O.takes out.old out.new (printed_text (watches pair step watchers.old.items) self) result }
+        ensures prints { Prints O.tells O.written O.faults O.takes out.old out.new
+            (printed_text (watches pair step watchers.old.items) self) result }
         ensures streamed { IfErr result (λ unput. unput ≡ OutOfMemory → IsStreamed self) }
         ensures seen { MatchResult result
-            (λ _. SeeAll O.tells (O.written out.old) (O.written out.new) (watchers.new ≡ watchers.old) (watches pair step watchers.old.items) (watches pair step watchers.new.items) (shown_of self))
-            (λ _. SeePart O.tells (O.written out.old) (O.written out.new) (watchers.new ≡ watchers.old) (watches pair step watchers.old.items) (watches pair step watchers.new.items) (shown_of self)) }
+            (λ _. SeeAll O.tells (O.written out.old) (O.written out.new) (watchers.new ≡ watchers.old)
+            (watches pair step watchers.old.items) (watches pair step watchers.new.items) (shown_of self))
+            (λ _. SeePart O.tells (O.written out.old) (O.written out.new) (watchers.new ≡ watchers.old)
+            (watches pair step watchers.old.items) (watches pair step watchers.new.items) (shown_of self)) }
     {
         match self {
             Printed::Whole(text) => put_whole(out, &text, watchers),
@@ -74,11 +80,14 @@ fn put_whole<O: Sink>(
     watchers: &mut Vec<Box<dyn Watcher>>,
 ) -> Result<(), Unput>
     requires { O.takes out.old (length (whole_text (watches pair step watchers.old.items) text.now)) }
-    ensures prints { Prints O.tells O.written O.faults O.takes out.old out.new (whole_text (watches pair step watchers.old.items) text.now) result }
+    ensures prints { Prints O.tells O.written O.faults O.takes out.old out.new
+        (whole_text (watches pair step watchers.old.items) text.now) result }
     ensures no_stream { IfErr result (λ unput. unput ≡ Unput.Failed) }
     ensures seen { MatchResult result
-        (λ _. SeeAll O.tells (O.written out.old) (O.written out.new) (watchers.new ≡ watchers.old) (watches pair step watchers.old.items) (watches pair step watchers.new.items) (shown_whole text.now))
-        (λ _. SeePart O.tells (O.written out.old) (O.written out.new) (watchers.new ≡ watchers.old) (watches pair step watchers.old.items) (watches pair step watchers.new.items) (shown_whole text.now)) }
+        (λ _. SeeAll O.tells (O.written out.old) (O.written out.new) (watchers.new ≡ watchers.old)
+        (watches pair step watchers.old.items) (watches pair step watchers.new.items) (shown_whole text.now))
+        (λ _. SeePart O.tells (O.written out.old) (O.written out.new) (watchers.new ≡ watchers.old)
+        (watches pair step watchers.old.items) (watches pair step watchers.new.items) (shown_whole text.now)) }
 {
     text.put(out, watchers)?;
     Ok(())

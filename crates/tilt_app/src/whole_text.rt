@@ -33,10 +33,13 @@ impl WholeText {
         watchers: &mut Vec<Box<dyn Watcher>>,
     ) -> Result<(), Failed>
         requires { O.takes out.old (length (whole_text (watches pair step watchers.old.items) self.now)) }
-        ensures puts { Puts O.tells O.written O.faults O.takes out.old out.new (whole_text (watches pair step watchers.old.items) self.now) result }
+        ensures puts { Puts O.tells O.written O.faults O.takes out.old out.new
+            (whole_text (watches pair step watchers.old.items) self.now) result }
         ensures seen { MatchResult result
-            (λ _. SeeAll O.tells (O.written out.old) (O.written out.new) (watchers.new ≡ watchers.old) (watches pair step watchers.old.items) (watches pair step watchers.new.items) (shown_whole self.now))
-            (λ _. SeePart O.tells (O.written out.old) (O.written out.new) (watchers.new ≡ watchers.old) (watches pair step watchers.old.items) (watches pair step watchers.new.items) (shown_whole self.now)) }
+            (λ _. SeeAll O.tells (O.written out.old) (O.written out.new) (watchers.new ≡ watchers.old)
+            (watches pair step watchers.old.items) (watches pair step watchers.new.items) (shown_whole self.now))
+            (λ _. SeePart O.tells (O.written out.old) (O.written out.new) (watchers.new ≡ watchers.old)
+            (watches pair step watchers.old.items) (watches pair step watchers.new.items) (shown_whole self.now)) }
     {
         match self {
             WholeText::Snapshots(list) => put_text(out, list),
@@ -63,10 +66,13 @@ fn put_watched<O: Sink>(
     watchers: &mut Vec<Box<dyn Watcher>>,
 ) -> Result<(), Failed>
     requires { O.takes out.old (length (watched_text (watches pair step watchers.old.items) list.now)) }
-    ensures puts { Puts O.tells O.written O.faults O.takes out.old out.new (watched_text (watches pair step watchers.old.items) list.now) result }
+    ensures puts { Puts O.tells O.written O.faults O.takes out.old out.new
+        (watched_text (watches pair step watchers.old.items) list.now) result }
     ensures seen { MatchResult result
-        (λ _. HaveSeen O.tells (O.written out.old) (O.written out.new) (watchers.new ≡ watchers.old) (watches pair step watchers.old.items) (watches pair step watchers.new.items) list.now)
-        (λ _. HaveSeenInPart O.tells (O.written out.old) (O.written out.new) (watchers.new ≡ watchers.old) (watches pair step watchers.old.items) (watches pair step watchers.new.items) list.now) }
+        (λ _. HaveSeen O.tells (O.written out.old) (O.written out.new) (watchers.new ≡ watchers.old)
+        (watches pair step watchers.old.items) (watches pair step watchers.new.items) list.now)
+        (λ _. HaveSeenInPart O.tells (O.written out.old) (O.written out.new) (watchers.new ≡ watchers.old)
+        (watches pair step watchers.old.items) (watches pair step watchers.new.items) list.now) }
 {
     put_text(out, list)?;
     show(watchers, list);

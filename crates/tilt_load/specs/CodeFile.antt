@@ -17,4 +17,5 @@ pub record TakesCode (bytes : List ℕ) (code : CodeParts) : Type 0 where
 pub data RefusesCode (name bytes : List ℕ) : Reason → Type 0 where
   long : FILE < length bytes → RefusesCode name bytes (file_too_long name)
   line : (number : ℕ) → length bytes ≤ FILE → IsBadLine bytes number → RefusesCode name bytes (bad_code number)
-  reference : (in_loop number : ℕ) → length bytes ≤ FILE → IsBadReference bytes in_loop number → RefusesCode name bytes (bad_reference in_loop number)
+  reference : (in_loop number : ℕ) → length bytes ≤ FILE → IsBadReference bytes in_loop number
+      → RefusesCode name bytes (bad_reference in_loop number)

@@ -4,7 +4,8 @@ use Rattle.tilt_base.specs.declared.limits.TheConstants.{FILE}
 use Rattle.tilt_outside.specs.Faults.{Rose}
 use Rattle.tilt_load.specs.Inputs.{faulty_name}
 use Rattle.tilt_words.specs.Binding.{Binding}
-use Rattle.tilt_report.specs.Report.{Reason, Report, usage, refusal, input_names, file_too_long, read_fault, write_fault, save_fault, out_of_memory}
+use Rattle.tilt_report.specs.Report.{Reason, input_names, file_too_long}
+use Rattle.tilt_report.specs.Report.{Report, usage, refusal, read_fault, write_fault, save_fault, out_of_memory}
 use Rattle.tilt_load.specs.SeriesFiles.{IsNextOfSession, no_bounds}
 use Rattle.tilt_series.specs.Series.{Bounds}
 
@@ -23,8 +24,8 @@ abbrev pub IsTooLong : List ℕ → List ℕ → Reason → Type 0
 IsTooLong name file why = (why ≡ file_too_long name) × (FILE < length file)
 
 -- it is a file's turn: that of an input among these, each of which is read within the bounds of its place
-pub record HasSessionTurn (tells : Type 0) (files : List ℕ → List ℕ) (binds : List Binding) (bounds : ℕ → Bounds) (inputs : List (List ℕ)) (file : List ℕ)
-    : Type 0 where
+pub record HasSessionTurn (tells : Type 0) (files : List ℕ → List ℕ) (binds : List Binding) (bounds : ℕ → Bounds)
+    (inputs : List (List ℕ)) (file : List ℕ) : Type 0 where
   pub bind : Binding
   pub among : Contains binds bind
   pub is : bind.file ≡ file

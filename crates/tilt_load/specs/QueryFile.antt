@@ -41,13 +41,16 @@ pub record TakesQuery (bytes : List ℕ) (core : CoreParts) : Type 0 where
 -- why the query file of a name has no core: it is too long, has a faulty place, its tokens are no query, or the query isn't well formed
 pub data HasNoCore (name bytes : List ℕ) : Reason → Type 0 where
   long : FILE < length bytes → HasNoCore name bytes (file_too_long name)
-  no_tokens : {why : Reason} (fault : LexFault) → length bytes ≤ FILE → IsFaultyAt 0 bytes fault → report_of_place fault ≡ refusal why → HasNoCore name bytes why
-  no_statements : {why : Reason} (tokens : List Token) (fault : SyntaxFault) → length bytes ≤ FILE → AreTokens 0 bytes tokens → IsRefused (kinds tokens) fault → report_of_syntax fault ≡ refusal why
+  no_tokens : {why : Reason} (fault : LexFault) → length bytes ≤ FILE → IsFaultyAt 0 bytes fault → report_of_place fault ≡ refusal why
       → HasNoCore name bytes why
-  ill_formed : {why : Reason} (tokens : List Token) (query : List StatementTree) (fault : CheckFault) → length bytes ≤ FILE → AreTokens 0 bytes tokens → IsQueryOf (kinds tokens) query
-      → checked query ≡ Err fault → report_of_check fault ≡ refusal why → HasNoCore name bytes why
+  no_statements : {why : Reason} (tokens : List Token) (fault : SyntaxFault) → length bytes ≤ FILE → AreTokens 0 bytes tokens
+      → IsRefused (kinds tokens) fault → report_of_syntax fault ≡ refusal why → HasNoCore name bytes why
+  ill_formed : {why : Reason} (tokens : List Token) (query : List StatementTree) (fault : CheckFault) → length bytes ≤ FILE
+      → AreTokens 0 bytes tokens → IsQueryOf (kinds tokens) query → checked query ≡ Err fault
+      → report_of_check fault ≡ refusal why → HasNoCore name bytes why
 
 -- why the query file of a name is refused: it has no core, or the query looks too far
 pub data RefusesQuery (name bytes : List ℕ) : Reason → Type 0 where
   no_core : {why : Reason} → HasNoCore name bytes why → RefusesQuery name bytes why
-  far : (core : CoreParts) (widest : Need) → HasCore bytes core → margins_of core ≡ Err widest → RefusesQuery name bytes (too_far widest.back widest.ahead)
+  far : (core : CoreParts) (widest : Need) → HasCore bytes core → margins_of core ≡ Err widest
+      → RefusesQuery name bytes (too_far widest.back widest.ahead)

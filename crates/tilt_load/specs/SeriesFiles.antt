@@ -1,5 +1,6 @@
 -- What the series files of inputs come to: their rows, or the first reason why an input has none.
-use Rattle.std.specs.Prelude.{◌≡◌, ◌≤ℤ◌, ◌<ℤ◌, ⊤, List, [], ◌∷◌, ◌++◌, ℕ, zero, suc, ℤ, length, nat_lt, if◌then◌else◌, Option, Some, None, Result, Ok, Err}
+use Rattle.std.specs.Prelude.{◌≡◌, ◌≤ℤ◌, ◌<ℤ◌, ⊤, List, [], ◌∷◌, ◌++◌, ℕ, zero, suc, ℤ, length, nat_lt, if◌then◌else◌}
+use Rattle.std.specs.Prelude.{Option, Some, None, Result, Ok, Err}
 use Rattle.std.specs.List.{AllByRecursion}
 use Rattle.std.specs.Option.{ForSome}
 use Rattle.tilt_base.specs.declared.limits.TheConstants.{FILE}
@@ -59,8 +60,8 @@ inputs_read files binds bounds (name ∷ names) =
     with_rows (input_read files (bounds 0) (file_of binds name) name) (inputs_read files binds (λ place. bounds (suc place)) names)
 
 -- the words bind each input once and nothing else, and these are the rows of the inputs within the bounds
-pub record TakesSession (files : List ℕ → List ℕ) (binds : List Binding) (bounds : ℕ → Bounds) (inputs : List (List ℕ)) (rows : List (List Snapshot))
-    : Type 0 where
+pub record TakesSession (files : List ℕ → List ℕ) (binds : List Binding) (bounds : ℕ → Bounds) (inputs : List (List ℕ))
+    (rows : List (List Snapshot)) : Type 0 where
   pub names : faulty_name inputs binds ≡ None
   pub read : inputs_read files binds bounds inputs ≡ Ok rows
 

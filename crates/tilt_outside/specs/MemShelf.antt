@@ -1,5 +1,6 @@
 -- A shelf in memory.
-use Rattle.std.specs.Prelude.{◌≡◌, ◌≢◌, ◌+◌, ◌-◌, ◌^◌, ◌<◌, ◌≤◌, ◌⊎◌, ℕ, min, List, [], Option, None, Some, length, find, unwrap_or, Contains}
+use Rattle.std.specs.Prelude.{◌≡◌, ◌≢◌, ◌+◌, ◌-◌, ◌^◌, ◌<◌, ◌≤◌, ◌⊎◌, ℕ, List, [], Option, None, Some}
+use Rattle.std.specs.Prelude.{min, length, find, unwrap_or, Contains}
 use Rattle.std.specs.Option.{option_map, option_map_or}
 use Rattle.std.specs.Str.{bytes_eq}
 use Rattle.tilt_outside.specs.Counts.{next_count}
@@ -46,9 +47,11 @@ pub record HoldsInstead (old new : List HeldFile) (name bytes : List ℕ) (room 
 abbrev pub count_from : ShelfState → List ℕ → ℕ → ℕ → ℕ
 count_from shelf name at room = min room (length (content_of shelf.files name) - at)
 
--- the next call fails if it reads so many bytes of that name: it isn't held, the number of the call is listed, or 64 bits don't hold the count of bytes given
+-- the next call fails if it reads so many bytes of that name: it isn't held, the number of the call is listed, or 64 bits don't hold the
+-- count of bytes given
 abbrev pub ReadFails : ShelfState → List ℕ → ℕ → Type 0
-ReadFails shelf name count = (bytes_held shelf.files name ≡ None) ⊎ Contains shelf.failing (next_count shelf.calls) ⊎ (2 ^ 64 ≤ shelf.given + count)
+ReadFails shelf name count =
+    (bytes_held shelf.files name ≡ None) ⊎ Contains shelf.failing (next_count shelf.calls) ⊎ (2 ^ 64 ≤ shelf.given + count)
 
 -- the name isn't held, or may hold fewer bytes than that
 abbrev pub HasNoRoom : List HeldFile → List ℕ → ℕ → Type 0

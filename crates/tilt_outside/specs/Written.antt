@@ -10,8 +10,10 @@ pub record AppendsFront (old new piece : List ℕ) : Type 0 where
   pub parts : piece ≡ front ++ rest
   pub appended : new ≡ old ++ front
 
--- bytes were put: all of them, or a front of them where a put failed; what was taken beyond them still is. The first four are a sink's meanings
-pub record Puts {K : Type 0} (tells : Type 0) (written : K → List ℕ) (faults : K → ℕ) (takes : K → ℕ → Type 0) (old new : K) (bytes : List ℕ) (result : Result (Unit {0}) Failed) : Type 0 where
+-- bytes were put: all of them, or a front of them where a put failed; what was taken beyond them still is. The first four are a
+-- sink's meanings
+pub record Puts {K : Type 0} (tells : Type 0) (written : K → List ℕ) (faults : K → ℕ) (takes : K → ℕ → Type 0)
+    (old new : K) (bytes : List ℕ) (result : Result (Unit {0}) Failed) : Type 0 where
   pub whole : tells → OnOk result (written new ≡ written old ++ bytes)
   pub front : tells → OnErr result (AppendsFront (written old) (written new) bytes)
   pub cause : HasCause (faults old) (faults new) result

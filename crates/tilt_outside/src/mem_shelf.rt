@@ -1,11 +1,13 @@
 // A shelf in memory.
-ghost use Rattle.std.specs.Prelude.{◌≡◌, ◌≢◌, ◌⊎◌, ◌<◌, ◌≤◌, ◌+◌, ◌-◌, ◌^◌, ◌++◌, ◌↔◌, ◌∷◌, [], ⊤, List, ℕ, length, take, drop, min, max, position, option_copied, nat_lt, IfOk, IsErr, OnOk, OnErr, MatchResult};
+ghost use Rattle.std.specs.Prelude.{◌≡◌, ◌≢◌, ◌⊎◌, ◌<◌, ◌≤◌, ◌+◌, ◌-◌, ◌^◌, ◌++◌, ◌↔◌, ◌∷◌, [], ⊤, List, ℕ};
+ghost use Rattle.std.specs.Prelude.{length, take, drop, min, max, position, option_copied, nat_lt, IfOk, IsErr, OnOk, OnErr, MatchResult};
 ghost use Rattle.std.specs.Bool.{IsFalse, OnTrue, OnFalse};
 ghost use Rattle.std.specs.Str.{bytes_eq};
 ghost use Rattle.tilt_outside.specs.Faults.{HasCause};
 ghost use Rattle.tilt_outside.specs.Files.{IsNextPiece};
 ghost use Rattle.tilt_outside.specs.Reads.{OnlyReads};
-ghost use Rattle.tilt_outside.specs.MemShelf.{bytes_held, content_of, count_from, HasNoRoom, room_of, HoldsInstead, ReadFails, SaveFails, after_call, after_read, after_read_fault, after_save_fault};
+ghost use Rattle.tilt_outside.specs.MemShelf.{bytes_held, content_of, count_from, HasNoRoom, room_of, HoldsInstead, ReadFails, SaveFails};
+ghost use Rattle.tilt_outside.specs.MemShelf.{after_call, after_read, after_read_fault, after_save_fault};
 
 use crate::failed::Failed;
 use crate::held_file::HeldFile;

@@ -22,8 +22,8 @@ use Rattle.tilt_report.specs.declared.refusal.StatementFault.TheVariants as stat
 use Rattle.tilt_report.specs.declared.fault.Fault.{Fault}
 use Rattle.tilt_report.specs.declared.fault.Fault.TheVariants.{Usage, Refused, ReadFault, WriteFault, SaveFault, OutOfMemory}
 
--- why words that are a command are refused, with the name of the file or of the input that it is about, the place, the statement, how far the query
--- looks back and ahead, the line of the code and its loop, or the old cut and the new one
+-- why words that are a command are refused, with the name of the file or of the input that it is about, the place, the statement, how far
+-- the query looks back and ahead, the line of the code and its loop, or the old cut and the new one
 pub data Reason : Type 0 where
   input_names : List ℕ → Reason
   file_too_long : List ℕ → Reason

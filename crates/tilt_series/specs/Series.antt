@@ -1,5 +1,6 @@
 -- The rows of a series file, or its first fault (our own rule, over records as the crate `csv` defines them, after RFC 4180).
-use Rattle.std.specs.Prelude.{◌≡◌, ℕ, ◌+◌, ℤ, neg_ℤ, Bool, false, not, ◌&&◌, int_lt, int_le, nat_eq, if◌then◌else◌, List, [], ◌∷◌, ◌++◌, Option, Some, None, option_map, Result, Ok, Err, codes}
+use Rattle.std.specs.Prelude.{◌≡◌, ℕ, ◌+◌, ℤ, neg_ℤ, Bool, false, not, ◌&&◌, int_lt, int_le, nat_eq, if◌then◌else◌}
+use Rattle.std.specs.Prelude.{List, [], ◌∷◌, ◌++◌, Option, Some, None, option_map, Result, Ok, Err, codes}
 use Rattle.std.specs.List.{starts_with}
 use Rattle.std.specs.Option.{ok_or}
 use Rattle.std.specs.Str.{bytes_eq}
@@ -8,7 +9,8 @@ use Rattle.tilt_base.specs.Number.{number_spelled}
 use Rattle.tilt_base.specs.declared.limits.TheConstants.{T}
 use Rattle.tilt_stream.specs.Snap.{Snapshot}
 use Rattle.tilt_series.specs.declared.fault.SeriesFault.{SeriesFault}
-use Rattle.tilt_series.specs.declared.fault.SeriesFault.TheVariants.{BadHeader, BadFields, BadField, TimeRange, EmptyInterval, OutOfOrder, RowBeforeCut, RowPastCut}
+use Rattle.tilt_series.specs.declared.fault.SeriesFault.TheVariants.{BadHeader, BadFields, BadField, TimeRange, EmptyInterval}
+use Rattle.tilt_series.specs.declared.fault.SeriesFault.TheVariants.{OutOfOrder, RowBeforeCut, RowPastCut}
 use Rattle.tilt_series.specs.declared.fault.ReadRowsFault.{ReadRowsFault}
 use Rattle.tilt_series.specs.declared.fault.ReadRowsFault.TheVariants.{Refused, OutOfMemory}
 

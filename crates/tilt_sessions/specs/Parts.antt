@@ -45,7 +45,8 @@ pub record IsRun (query : List StatementTree) (core : CoreParts) (margins : Marg
   pub counted : length rows ≡ length core.inputs
 
 -- what sessions up to a cut have printed of a query, and the bytes that the last one handed on
-pub record AreJoined (query : List StatementTree) (core : CoreParts) (rows : List (List Snapshot)) (cut : ℤ) (printed : List Snapshot) (bytes : List ℕ) : Type 0 where
+pub record AreJoined (query : List StatementTree) (core : CoreParts) (rows : List (List Snapshot)) (cut : ℤ)
+    (printed : List Snapshot) (bytes : List ℕ) : Type 0 where
   pub is_printed : printed ≡ emitted core (map (early (Upto cut)) rows) (Upto cut)
   pub handed_on : bytes ≡ spelling (checkpoint_at query (map (early (Upto cut)) rows) cut)
   pub valid : IsCheckpoint (checkpoint_at query (map (early (Upto cut)) rows) cut)

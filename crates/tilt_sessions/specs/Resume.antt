@@ -21,7 +21,8 @@ pub record GoesOn (bytes : List ℕ) (cut : Cut) (c : CheckpointParts) : Type 0 
   pub taken : TakesCheckpoint bytes c
   pub onward : IsOnward c.cut cut
 
--- why a session doesn't go on behind the checkpoint file of a name: the file is refused, or the session would end before the checkpoint's cut
+-- why a session doesn't go on after the checkpoint file of a name: the file is refused, or the session would end before the checkpoint's
+-- cut
 pub data RefusesToGoOn (name bytes : List ℕ) (cut : Cut) : Reason → Type 0 where
   no_checkpoint : {why : Reason} → RefusesCheckpoint name bytes why → RefusesToGoOn name bytes cut why
   back : (c : CheckpointParts) (upto : ℤ) → TakesCheckpoint bytes c → cut ≡ Upto upto → upto <ℤ c.cut
@@ -44,8 +45,8 @@ resumed End save c rows = printed (lines_of (newly c rows End))
 -- what the session does
 abbrev pub IsResumeOutcome : (List ℕ → List ℕ) → List ℕ → List Binding → Cut → List ℕ → Outcome → Type 0
 IsResumeOutcome files checkpoint binds cut save outcome =
-    IsSessionOutcome (GoesOn (files checkpoint) cut) (RefusesToGoOn checkpoint (files checkpoint) cut) (λ c. (core_of c.query).inputs) (later_bounds cut)
-    (resumed cut save) files binds outcome
+    IsSessionOutcome (GoesOn (files checkpoint) cut) (RefusesToGoOn checkpoint (files checkpoint) cut) (λ c. (core_of c.query).inputs)
+    (later_bounds cut) (resumed cut save) files binds outcome
 
 -- it is a file's turn to be read: the checkpoint's, or that of an input
 abbrev pub HasResumeTurn : Type 0 → (List ℕ → List ℕ) → List ℕ → List Binding → Cut → List ℕ → Type 0

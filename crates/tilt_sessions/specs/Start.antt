@@ -34,8 +34,8 @@ started upto save query rows =
 -- what the first session does
 abbrev pub IsStartOutcome : (List ℕ → List ℕ) → List ℕ → List Binding → ℤ → List ℕ → Outcome → Type 0
 IsStartOutcome files query binds upto save outcome =
-    IsSessionOutcome (StartsFrom (files query)) (RefusesQuery query (files query)) (λ q. (core_of q).inputs) (λ q. first_bounds upto) (started upto save)
-    files binds outcome
+    IsSessionOutcome (StartsFrom (files query)) (RefusesQuery query (files query)) (λ q. (core_of q).inputs) (λ q. first_bounds upto)
+    (started upto save) files binds outcome
 
 -- it is a file's turn to be read: the query's, or that of an input
 abbrev pub HasStartTurn : Type 0 → (List ℕ → List ℕ) → List ℕ → List Binding → ℤ → List ℕ → Type 0

@@ -41,14 +41,17 @@ pub fn resume_session<'a, S: Shelf>(
     cut: Cut,
 ) -> Result<(SnapList, Option<Vec<u8>>), Fault<'a>>
     requires range { IsInRange cut }
-    requires lent { (name : List ℕ) → HasResumeTurn S.tells (S.files shelf.old) checkpoint.now (bindings_of binds.now) cut name → S.lends name }
+    requires lent { (name : List ℕ)
+        → HasResumeTurn S.tells (S.files shelf.old) checkpoint.now (bindings_of binds.now) cut name → S.lends name }
     ensures made { S.tells → (save : List ℕ) → IfOk result (λ session. MatchOption session.1
         (IsResumeOutcome (S.files shelf.old) checkpoint.now (bindings_of binds.now) cut save (printed (lines_of session.0)))
         (λ bytes. IsResumeOutcome (S.files shelf.old) checkpoint.now (bindings_of binds.now) cut save
         (printed_and_saved (lines_of session.0) save bytes.items))) }
     ensures next { IfOk result (λ session. MatchOption session.1 (cut ≡ End) (λ _. (upto : ℤ) × (cut ≡ Upto upto))) }
-    ensures law { S.tells → IfOk result (λ _. (c : CheckpointParts) (rows : List (List Snapshot)) → GoesOn (S.files shelf.old checkpoint.now) cut c
-        → TakesSession (S.files shelf.old) (bindings_of binds.now) (later_bounds cut c) (core_of c.query).inputs rows → IsOneCut c rows cut) }
+    ensures law { S.tells → IfOk result (λ _. (c : CheckpointParts) (rows : List (List Snapshot))
+        → GoesOn (S.files shelf.old checkpoint.now) cut c
+        → TakesSession (S.files shelf.old) (bindings_of binds.now) (later_bounds cut c) (core_of c.query).inputs rows
+        → IsOneCut c rows cut) }
     ensures fault { (save : List ℕ) → IfErr result (λ fault. IsLoadFault S.tells
         (λ why. IsResumeOutcome (S.files shelf.old) checkpoint.now (bindings_of binds.now) cut save (refused (refusal why)))
         (HasResumeTurn S.tells (S.files shelf.old) checkpoint.now (bindings_of binds.now) cut)

@@ -38,7 +38,8 @@ pub fn start_session<'a, S: Shelf>(
     requires cut { IsCut upto }
     requires lent { (name : List ℕ) → HasStartTurn S.tells (S.files shelf.old) query.now (bindings_of binds.now) upto name → S.lends name }
     ensures made { S.tells → (save : List ℕ) → IfOk result (λ session.
-        IsStartOutcome (S.files shelf.old) query.now (bindings_of binds.now) upto save (printed_and_saved (text_of session.0) save session.1.items)) }
+        IsStartOutcome (S.files shelf.old) query.now (bindings_of binds.now) upto save
+        (printed_and_saved (text_of session.0) save session.1.items)) }
     ensures fault { (save : List ℕ) → IfErr result (λ fault. IsLoadFault S.tells
         (λ why. IsStartOutcome (S.files shelf.old) query.now (bindings_of binds.now) upto save (refused (refusal why)))
         (HasStartTurn S.tells (S.files shelf.old) query.now (bindings_of binds.now) upto)

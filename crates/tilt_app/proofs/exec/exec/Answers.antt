@@ -25,7 +25,8 @@ load_inputs-requires g c =
 pub returns-in_err-rows-clause-fault : goal.returns-in_err-rows-clause-fault
 returns-in_err-rows-clause-fault g c =
     let p = err_from_is_err_and c.from_residual-in_err-rows.result c.from_residual-in_err-rows.ensures.1 in
-    rw (p.1, p.2) (inputs_undone _ _ _ _ g.S.Shelf.tells (g.S.Shelf.files c.args.shelf.now) c.args.code.now (bindings_of c.args.binds.now) _ _ _ _ c.in_ok-code.ensures.taken c.load_code.ensures.rest.no_fewer_read_faults
+    rw (p.1, p.2) (inputs_undone _ _ _ _ g.S.Shelf.tells (g.S.Shelf.files c.args.shelf.now) c.args.code.now (bindings_of c.args.binds.now) _ _ _ _
+    c.in_ok-code.ensures.taken c.load_code.ensures.rest.no_fewer_read_faults
     (report_of c.in_err-rows.field-0.0) (rw (c.load_code.ensures.rest.same_files, c.inputs.ensures.names) at c.in_err-rows.ensures.fault))
 
 pub returns-clause-printed : goal.returns-clause-printed

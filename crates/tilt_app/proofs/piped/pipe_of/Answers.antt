@@ -32,13 +32,15 @@ load_inputs-requires g c =
 pub returns-in_err-rows-clause-fault_of_run : goal.returns-in_err-rows-clause-fault_of_run
 returns-in_err-rows-clause-fault_of_run g c =
     let p = err_from_is_err_and c.from_residual-in_err-rows.result c.from_residual-in_err-rows.ensures.1 in
-    rw (p.1, p.2) (inputs_undone _ _ _ (IsMadeOfQuery (λ list. printed (text_of list))) g.S.Shelf.tells (g.S.Shelf.files c.args.shelf.now) c.args.query.now (bindings_of c.args.binds.now) _ _ _ _ c.in_ok-query.ensures.taken c.load_query.ensures.rest.no_fewer_read_faults
+    rw (p.1, p.2) (inputs_undone _ _ _ (IsMadeOfQuery (λ list. printed (text_of list))) g.S.Shelf.tells (g.S.Shelf.files c.args.shelf.now) c.args.query.now (bindings_of c.args.binds.now) _ _ _ _
+    c.in_ok-query.ensures.taken c.load_query.ensures.rest.no_fewer_read_faults
     (report_of c.in_err-rows.field-0.0) (rw (c.load_query.ensures.rest.same_files, c.inputs.ensures.names) at c.in_err-rows.ensures.fault))
 
 pub returns-in_err-rows-clause-fault_of_pipe : goal.returns-in_err-rows-clause-fault_of_pipe
 returns-in_err-rows-clause-fault_of_pipe g c =
     let p = err_from_is_err_and c.from_residual-in_err-rows.result c.from_residual-in_err-rows.ensures.1 in
-    rw (p.1, p.2) (inputs_undone _ _ _ (IsPiped c.args.fuse) g.S.Shelf.tells (g.S.Shelf.files c.args.shelf.now) c.args.query.now (bindings_of c.args.binds.now) _ _ _ _ c.in_ok-query.ensures.taken c.load_query.ensures.rest.no_fewer_read_faults
+    rw (p.1, p.2) (inputs_undone _ _ _ (IsPiped c.args.fuse) g.S.Shelf.tells (g.S.Shelf.files c.args.shelf.now) c.args.query.now (bindings_of c.args.binds.now) _ _ _ _
+    c.in_ok-query.ensures.taken c.load_query.ensures.rest.no_fewer_read_faults
     (report_of c.in_err-rows.field-0.0) (rw (c.load_query.ensures.rest.same_files, c.inputs.ensures.names) at c.in_err-rows.ensures.fault))
 
 pub new-requires : goal.new-requires

@@ -19,8 +19,13 @@ pub returns-in_err-rows-clause-fault : goal.returns-in_err-rows-clause-fault
 returns-in_err-rows-clause-fault g c =
     let p = err_from_is_err_and c.from_residual.result c.from_residual.ensures.1 in
     let stored : vec_len c.loop-input.all ≡ length c.loop-input.all.items = search rules in
-    let here : c.bounds_at-bounds.result ≡ bounds_of c.args.session.now c.loop-input.input-index = c.bounds_at-bounds.ensures ∙ ap (bounds_of c.args.session.now) (c.len.ensures ∙ stored ∙ c.loop-input.invariant.many) in
-    rw (p.1, p.2) (fault_at (g.S.Shelf.files c.args.shelf.now) (bindings_of c.args.binds.now) (bounds_of c.args.session.now) c.args.inputs.now c.input-item.result c.loop-input.input-index c.loop-input-test.true c.input-item.is c.bounds_at-bounds.result here g.S.Shelf.tells (g.S.Shelf.files c.loop-input.shelf) c.file_bound.result.now (g.S.Shelf.read_faults c.args.shelf.now) (g.S.Shelf.read_faults c.loop-input.shelf) (g.S.Shelf.read_faults c.load_input.new.shelf) c.requires.named c.file_bound.ensures (λ t. (c.loop-input.all.items, c.loop-input.invariant.read t)) c.loop-input.invariant.rest.same_files c.loop-input.invariant.rest.no_fewer_read_faults (report_of c.in_err-rows.field-0.0) c.in_err-rows.ensures.fault)
+    let here : c.bounds_at-bounds.result ≡ bounds_of c.args.session.now c.loop-input.input-index =
+    c.bounds_at-bounds.ensures ∙ ap (bounds_of c.args.session.now) (c.len.ensures ∙ stored ∙ c.loop-input.invariant.many) in
+    rw (p.1, p.2) (fault_at (g.S.Shelf.files c.args.shelf.now) (bindings_of c.args.binds.now) (bounds_of c.args.session.now) c.args.inputs.now
+    c.input-item.result c.loop-input.input-index c.loop-input-test.true c.input-item.is c.bounds_at-bounds.result here g.S.Shelf.tells
+    (g.S.Shelf.files c.loop-input.shelf) c.file_bound.result.now (g.S.Shelf.read_faults c.args.shelf.now) (g.S.Shelf.read_faults c.loop-input.shelf)
+    (g.S.Shelf.read_faults c.load_input.new.shelf) c.requires.named c.file_bound.ensures (λ t. (c.loop-input.all.items, c.loop-input.invariant.read t))
+    c.loop-input.invariant.rest.same_files c.loop-input.invariant.rest.no_fewer_read_faults (report_of c.in_err-rows.field-0.0) c.in_err-rows.ensures.fault)
 
 pub loop-input-preserved : goal.loop-input-preserved
 loop-input-preserved g c =
@@ -32,7 +37,8 @@ loop-input-preserved g c =
     record {
       read = λ t.
           let taken = rw (c.loop-input.invariant.rest.same_files, c.file_bound.ensures) at (c.in_ok-rows.ensures.taken t) in
-          rw c.in_ok-add.ensures (taken_at files binds bounds c.args.inputs.now c.input-item.result c.loop-input.input-index c.loop-input-test.true c.input-item.is c.bounds_at-bounds.result here c.loop-input.all.items c.in_ok-rows.rows (c.loop-input.invariant.read t) taken);
+          rw c.in_ok-add.ensures (taken_at files binds bounds c.args.inputs.now c.input-item.result c.loop-input.input-index c.loop-input-test.true c.input-item.is
+          c.bounds_at-bounds.result here c.loop-input.all.items c.in_ok-rows.rows (c.loop-input.invariant.read t) taken);
       within = rw c.in_ok-add.ensures (within_more bounds c.loop-input.all.items c.in_ok-rows.rows c.loop-input.invariant.within (subst (λ (b : Bounds). AllByRecursion (IsWithin b) c.in_ok-rows.rows) (c.bounds_at-bounds.ensures ∙ ap bounds (c.len.ensures ∙ stored)) c.in_ok-rows.ensures.within));
       many = rw c.in_ok-add.ensures (omega (arith, length-append c.loop-input.all.items (c.in_ok-rows.rows ∷ []), c.loop-input.invariant.many));
       rest = reads-then c.loop-input.invariant.rest c.load_input.ensures.rest;
