@@ -8,7 +8,7 @@ use Rattle.tilt_bounds.proofs.Needs.{need_at-definition}
 use Rattle.tilt_bounds.specs.Laws.{AgreeAsAsked, AreContinued, IsLocal, IsCausal, StaysAsAsked}
 use Rattle.tilt_bounds.specs.Margins.{AreMargins, IsWithin, MarginsParts, is_too_far, margins_of, need_at}
 use Rattle.tilt_lower.proofs.Planned.{margins-needs}
-use Rattle.tilt_lower.proofs.Snapped.{snapshots-agree}
+use Rattle.tilt_stream.proofs.Snapped.{snapshots-agree}
 use Rattle.tilt_stream.proofs.Cut.{snapshots-none}
 use Rattle.tilt_stream.proofs.Locality.{narrower-agrees}
 use Rattle.tilt_stream.specs.Agreement.{Agree}

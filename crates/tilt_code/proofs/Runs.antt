@@ -4,19 +4,19 @@ use Rattle.std.proofs.lemmas.List.{map-append}
 use Rattle.std.specs.Ordering.{int_eq}
 use Rattle.std.specs.List.{AllByRecursion}
 use Rattle.tilt_code.proofs.Constancy.{loop_of-changes}
-use Rattle.tilt_code.proofs.Filling.{snapshots-Fill}
-use Rattle.tilt_code.proofs.Cutting.{snapshots-stream}
+use Rattle.tilt_stream.proofs.Filling.{snapshots-Fill}
+use Rattle.tilt_stream.proofs.Cutting.{snapshots-stream}
 use Rattle.tilt_code.proofs.Turns.{turns-are}
 use Rattle.tilt_code.specs.Body.{last_or, body_of}
 use Rattle.tilt_code.specs.Code.{LoopParts, CodeParts}
 use Rattle.tilt_code.specs.Grammar.{IsLoop}
 use Rattle.tilt_code.specs.Meaning.{IsTimed, loop_of, with_loops, meaning_of}
 use Rattle.tilt_code.specs.Run.{with_buffers, run_of}
-use Rattle.tilt_code.specs.Turn.{Fill, turns}
+use Rattle.tilt_code.specs.Turn.{turns}
 use Rattle.tilt_stream.proofs.Constancy.{stream_of-changes}
 use Rattle.tilt_stream.specs.Agreement.{ChangesOnlyAtMarks}
 use Rattle.tilt_stream.specs.Domain.{on_grid, lies_in, restricted}
-use Rattle.tilt_stream.specs.Snap.{Snapshot}
+use Rattle.tilt_stream.specs.Snap.{Snapshot, Fill}
 use Rattle.tilt_stream.specs.Snapshots.{snapshots}
 use Rattle.tilt_stream.specs.Stream.{Stream, SameStream, stream_of}
 use Rattle.tilt_stream.specs.Pointwise.{nothing}

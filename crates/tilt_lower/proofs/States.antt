@@ -20,7 +20,7 @@ use Rattle.tilt_fuse.proofs.Law.{fused-means}
 use Rattle.tilt_fuse.proofs.Means.{definition-there, merged-definition}
 use Rattle.tilt_fuse.proofs.Planned.{HoldsAll, holds-narrow, asked-within, body_need-itself, merged-is, is, windows, few, merged-more, trees-kept, trees-merged, rest-skip, rest-merge, rest-loop}
 use Rattle.tilt_fuse.proofs.Places.{defs-from}
-use Rattle.tilt_fuse.proofs.Same.{same-refl, same-sym, same-trans}
+use Rattle.tilt_stream.proofs.Same.{same-refl, same-sym, same-trans}
 use Rattle.tilt_fuse.proofs.Used.{replicate-at}
 use Rattle.tilt_fuse.specs.FusedTree.{FusedTree, PlannedLoop}
 use Rattle.tilt_fuse.specs.FusedTree as tree

@@ -25,7 +25,7 @@ use Rattle.tilt_fuse.specs.Plan.{fused, is_merged, loops_from, plan_of, has_loop
 use Rattle.tilt_fuse.specs.Trees.{IsKnown}
 use Rattle.tilt_lower.proofs.Numbers.{loops_from-behind, buffer_of-next}
 use Rattle.tilt_lower.proofs.States.{AreLowered, State, state, with_loops-grow, length-with_loops}
-use Rattle.tilt_lower.proofs.Snapped.{snapshots-agree}
+use Rattle.tilt_stream.proofs.Snapped.{snapshots-agree}
 use Rattle.tilt_lower.specs.Law.{LiesWithin, MeansTheQuery, has_buffer}
 use Rattle.tilt_lower.specs.Lowering.{buffer_of, loop_on, no_definition, lowered, code_of}
 use Rattle.tilt_stream.proofs.Locality.{narrower-agrees}

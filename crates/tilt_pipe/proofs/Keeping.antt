@@ -7,15 +7,16 @@ use Rattle.std.proofs.lemmas.Option.{same_Some, slice_get_within}
 use Rattle.std.specs.List.{AllByRecursion}
 use Rattle.tilt_base.proofs.Lists.{all-contains}
 use Rattle.tilt_base.specs.Grid.{ceil}
+use Rattle.tilt_stream.proofs.Filling.{Fill-up}
 use Rattle.tilt_code.specs.Body.{body_of}
 use Rattle.tilt_code.specs.Code.{Block, LoopParts}
 use Rattle.tilt_code.specs.References.{IsCode}
 use Rattle.tilt_code.specs.Run.{buffers_of}
-use Rattle.tilt_code.specs.Turn.{Fill, turn, turns}
+use Rattle.tilt_code.specs.Turn.{turn, turns}
 use Rattle.tilt_code.specs.declared.instr.Instr.{Instr}
 use Rattle.tilt_code.specs.declared.instr.Instr.TheVariants.{Const, Null, Argument, Port, Win, One, Two, If}
 use Rattle.tilt_stream.proofs.Places.{ended-rises}
-use Rattle.tilt_stream.specs.Snap.{Snapshot, ended_below, gap_before}
+use Rattle.tilt_stream.specs.Snap.{Snapshot, ended_below, gap_before, Fill}
 use Rattle.tilt_stream.specs.Stream.{stream_of}
 use Rattle.tilt_turn.proofs.Elsewhere.{fit-back, fit-elsewhere, turn-elsewhere}
 use Rattle.tilt_turn.specs.Held.{IsFit}
@@ -25,7 +26,7 @@ use Rattle.tilt_turn.specs.declared.state.LoopState.{LoopState}
 use Rattle.tilt_pipe.proofs.Nears.{loops-there, reads-near, ready-more, work-sound}
 use Rattle.tilt_pipe.proofs.OpenLists.{input-forgotten, open-at}
 use Rattle.tilt_pipe.proofs.RingsKept.{ring-of}
-use Rattle.tilt_pipe.proofs.Standing.{Fill-up, next-made}
+use Rattle.tilt_pipe.proofs.Standing.{next-made}
 use Rattle.tilt_pipe.proofs.Telling.{all-first, none_held, same-body, there}
 use Rattle.tilt_pipe.proofs.Trimming.{ended-front, stage-behind}
 use Rattle.tilt_pipe.proofs.Wanted.{stage_at, wanted-within}

@@ -5,6 +5,7 @@ use Rattle.std.proofs.lemmas.Option.{same_Some}
 use Rattle.std.specs.List.{AllByRecursion}
 use Rattle.tilt_base.proofs.Booleans.{or_step}
 use Rattle.tilt_base.proofs.Lists.{all-append}
+use Rattle.tilt_stream.proofs.Filling.{Fill-up}
 use Rattle.tilt_code.specs.Code.{Block, LoopParts}
 use Rattle.tilt_code.specs.Grammar.{IsInstr, IsLoop, stands_in_body}
 use Rattle.tilt_code.specs.References.{IsCode, refers_below, RefersBack, ReadsBefore}
@@ -14,7 +15,6 @@ use Rattle.tilt_turn.proofs.Readies.{loop-ready}
 use Rattle.tilt_turn.proofs.TurnTicks.{point-near}
 use Rattle.tilt_turn.specs.Ready.{IsBodyTick, IsReadable, IsReady}
 use Rattle.tilt_pipe.proofs.RingsKept.{ring-of, rings-length}
-use Rattle.tilt_pipe.proofs.Standing.{Fill-up}
 use Rattle.tilt_pipe.proofs.Works.{work-is, works-length}
 use Rattle.tilt_pipe.specs.Made.{Work, reads_buffer}
 use Rattle.tilt_pipe.specs.Positions.{RingsParts, AreRings, IsOpen, made_by, start_at, works_in}

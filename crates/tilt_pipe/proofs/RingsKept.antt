@@ -7,17 +7,17 @@ use Rattle.std.specs.List.{AllByRecursion}
 use Rattle.std.specs.Option.{ForSome}
 use Rattle.circular_buffer.proofs.Places.{slice_get-some}
 use Rattle.tilt_base.specs.declared.limits.TheConstants.{WIDE}
-use Rattle.tilt_code.proofs.Filling.{Fill-AreSnapshots}
+use Rattle.tilt_stream.proofs.Filling.{Fill-AreSnapshots, Fill-up}
 use Rattle.tilt_code.proofs.Runs.{loops-timed, turns-Fill}
 use Rattle.tilt_code.specs.Code.{LoopParts}
 use Rattle.tilt_code.specs.Grammar.{IsLoop}
 use Rattle.tilt_code.specs.Meaning.{IsTimed}
 use Rattle.tilt_code.specs.References.{IsCode}
-use Rattle.tilt_code.specs.Turn.{Fill, turns}
-use Rattle.tilt_stream.specs.Snap.{Snapshot, AreSnapshots, last_end}
+use Rattle.tilt_code.specs.Turn.{turns}
+use Rattle.tilt_stream.specs.Snap.{Snapshot, AreSnapshots, last_end, Fill}
 use Rattle.tilt_stream.specs.Stream.{stream_of}
 use Rattle.tilt_pipe.proofs.Kept.{let_go-within}
-use Rattle.tilt_pipe.proofs.Standing.{Fill-up, IsNextMade, end-made, made-few, next-is, none-fills, none-made}
+use Rattle.tilt_pipe.proofs.Standing.{IsNextMade, end-made, made-few, next-is, none-fills, none-made}
 use Rattle.tilt_pipe.proofs.Works.{work-is, work-fills, works-length}
 use Rattle.tilt_pipe.specs.Made.{Work, is_used, works_from}
 use Rattle.tilt_pipe.specs.Positions.{RingParts, RingsParts, AreRings, AreRingsOf, IsOpen, IsRing, made_at, made_by, start_at, with_ring, works_in}

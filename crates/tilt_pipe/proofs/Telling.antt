@@ -6,13 +6,14 @@ use Rattle.std.proofs.lemmas.Option.{get_or_from_slice_get}
 use Rattle.circular_buffer.proofs.Places.{slice_get-some}
 use Rattle.std.specs.List.{AllByRecursion}
 use Rattle.tilt_base.proofs.Lists.{all-contains}
+use Rattle.tilt_stream.specs.Agreement.{IsSameUpTo}
 use Rattle.tilt_code.specs.Code.{Block}
 use Rattle.tilt_code.specs.References.{IsCode}
 use Rattle.tilt_code.specs.Run.{buffers_of}
 use Rattle.tilt_code.specs.declared.instr.Instr.{Instr}
 use Rattle.tilt_code.specs.declared.instr.Instr.TheVariants.{Const, Null, Argument, Port, Win, One, Two, If}
 use Rattle.tilt_stream.specs.Snap.{Snapshot}
-use Rattle.tilt_turn.specs.Same.{IsSameFor, IsSameUpTo}
+use Rattle.tilt_turn.specs.Same.{IsSameFor}
 use Rattle.tilt_pipe.proofs.MadeSame.{made-same, same-is}
 use Rattle.tilt_pipe.proofs.Nears.{loops-there}
 use Rattle.tilt_pipe.proofs.OpenLists.{open-at, open_at}

@@ -8,9 +8,9 @@ use Rattle.tilt_code.specs.Body.{last_or}
 use Rattle.tilt_code.specs.Code.{LoopParts, CodeParts}
 use Rattle.tilt_code.specs.Meaning.{IsTimed}
 use Rattle.tilt_code.specs.Run.{with_buffers, buffers_of, run_of}
-use Rattle.tilt_code.specs.Turn.{Fill, turns}
+use Rattle.tilt_code.specs.Turn.{turns}
 use Rattle.tilt_pipe.specs.Made.{Work, is_used, works_from, works_of}
-use Rattle.tilt_stream.specs.Snap.{Snapshot}
+use Rattle.tilt_stream.specs.Snap.{Snapshot, Fill}
 use Rattle.tilt_stream.specs.Stream.{stream_of}
 
 -- the whole buffers of loops

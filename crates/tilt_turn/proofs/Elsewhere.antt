@@ -18,10 +18,10 @@ use Rattle.tilt_stream.specs.Window.{met}
 use Rattle.tilt_stream.specs.declared.cursor.Cursor.{Cursor}
 use Rattle.tilt_turn.proofs.Numbered.{read-stream}
 use Rattle.tilt_turn.proofs.Origins.{all-only}
-use Rattle.tilt_turn.proofs.SameMarks.{SameNext, either-same, next_mark-same, port-same, window-same}
+use Rattle.tilt_stream.proofs.SameMarks.{SameNext, either-same, next_mark-same, port-same, window-same}
 use Rattle.tilt_turn.proofs.Stepwise.{all-weaker}
 use Rattle.tilt_turn.specs.Held.{Holds, IsFit, IsLeafAt, MayGo, MayMove, leaf_only, origin}
-use Rattle.tilt_turn.specs.Marked.{marked, marked_behind}
+use Rattle.tilt_stream.specs.Marked.{marked, marked_behind}
 use Rattle.tilt_turn.specs.Ready.{IsReadable, IsReady}
 use Rattle.tilt_turn.specs.Same.{IsSameFor}
 use Rattle.tilt_turn.specs.declared.leaf.Leaf.{Leaf}
