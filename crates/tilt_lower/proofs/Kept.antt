@@ -5,6 +5,7 @@ use Rattle.std.specs.List.{AllByRecursion}
 use Rattle.std.specs.Option.{unwrap_or}
 use Rattle.std.proofs.lemmas.Int.{ints}
 use Rattle.std.proofs.lemmas.List.Elements.{Contains-append_left}
+use Rattle.tilt_base.proofs.Lists.{all-parts}
 use Rattle.tilt_base.specs.declared.limits.TheConstants.{T, REACH}
 use Rattle.tilt_bounds.proofs.Needs.{need_at-definition}
 use Rattle.tilt_bounds.proofs.Spans.{IsBounded, cut_down-bounded}
@@ -113,10 +114,6 @@ some_last : (front : List LoopParts) (l : LoopParts) → 0 < length (front ++ l 
 some_last [] l = omega arith
 some_last (f ∷ front) l = omega arith
 
-front-names : (one two : List (List ℕ)) → AllByRecursion IsName (one ++ two) → AllByRecursion IsName one
-front-names [] two h = tt
-front-names (name ∷ one) two h = (h.0, front-names one two h.1)
-
 front-distinct : (one two : List (List ℕ)) → AreDistinct (one ++ two) → AreDistinct one
 front-distinct [] two h = tt
 front-distinct (name ∷ one) two h = (λ among. h.0 (Contains-append_left one two name among), front-distinct one two h.1)
@@ -167,7 +164,7 @@ module _ (query : CoreParts) (margins : MarginsParts) (lo hi : ℤ) (used : List
       let all = kept inputs loops few are fit in
       record {
         grammatical = record {
-          named = front-names query.inputs query.names is.named;
+          named = (all-parts IsName query.inputs query.names is.named).0;
           distinct = front-distinct query.inputs query.names is.distinct;
           some = some_loops;
           loops = kept-loops inputs (map lower loops) all;

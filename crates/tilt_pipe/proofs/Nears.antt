@@ -4,7 +4,7 @@ use Rattle.std.proofs.lemmas.Int.{ints}
 use Rattle.std.proofs.lemmas.Option.{same_Some}
 use Rattle.std.specs.List.{AllByRecursion}
 use Rattle.tilt_base.proofs.Booleans.{or_step}
-use Rattle.tilt_base.proofs.Lists.{all-append}
+use Rattle.tilt_base.proofs.Lists.{all-append, all-slice_get}
 use Rattle.tilt_stream.proofs.Filling.{Fill-up}
 use Rattle.tilt_code.specs.Code.{Block, LoopParts}
 use Rattle.tilt_code.specs.Grammar.{IsInstr, IsLoop, stands_in_body}
@@ -86,11 +86,6 @@ before-at buffers (suc place) (x ∷ loops) l h is =
     let at : suc buffers + place ≡ buffers + suc place = omega arith in
     subst (λ (n : ℕ). ReadsBefore n (l ∷ [])) at (before-at (suc buffers) place loops l h.2 is)
 
-loop-at : (loops : List LoopParts) (place : ℕ) (l : LoopParts) → AllByRecursion IsLoop loops → slice_get loops place ≡ Some l → IsLoop l
-loop-at [] place l all is = absurd (cc is)
-loop-at (x ∷ loops) zero l all is = subst IsLoop (same_Some x l is) all.0
-loop-at (x ∷ loops) (suc place) l all is = loop-at loops place l all.1 is
-
 -- what is known of a loop of a code
 pub record IsSound (p : RingsParts) (place : ℕ) (l : LoopParts) : Type 0 where
   pub bounds : IsLoop l
@@ -100,7 +95,7 @@ pub record IsSound (p : RingsParts) (place : ℕ) (l : LoopParts) : Type 0 where
 pub loop-sound : (p : RingsParts) (place : ℕ) (l : LoopParts) → IsCode p.code → AreRings p → slice_get p.code.loops place ≡ Some l
     → IsSound p place l
 loop-sound p place l code are is =
-    let bounds = loop-at p.code.loops place l code.grammatical.loops is in
+    let bounds = all-slice_get IsLoop p.code.loops place l code.grammatical.loops is in
     let before = subst (λ (n : ℕ). ReadsBefore (n + place) (l ∷ [])) (sym are.inputs)
     (before-at (length p.code.inputs) place p.code.loops l code.references is) in
     record {

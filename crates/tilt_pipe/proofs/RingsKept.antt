@@ -6,6 +6,7 @@ use Rattle.std.proofs.lemmas.Option.{same_Some, get_or_from_slice_get, slice_get
 use Rattle.std.specs.List.{AllByRecursion}
 use Rattle.std.specs.Option.{ForSome}
 use Rattle.circular_buffer.proofs.Places.{slice_get-some}
+use Rattle.tilt_base.proofs.Lists.{all-slice_get}
 use Rattle.tilt_base.specs.declared.limits.TheConstants.{WIDE}
 use Rattle.tilt_stream.proofs.Filling.{Fill-AreSnapshots, Fill-up}
 use Rattle.tilt_code.proofs.Runs.{loops-timed, turns-Fill}
@@ -71,12 +72,6 @@ empty-rings-are buffer lists (l ∷ loops) timed =
       empty-rings-are (suc buffer) (lists ++ whole ∷ []) loops timed.1,
     )
 
--- a loop of a code lies within the limits of time
-loop-at : (loops : List LoopParts) (place : ℕ) (l : LoopParts) → AllByRecursion IsLoop loops → slice_get loops place ≡ Some l → IsLoop l
-loop-at [] place l all is = absurd (cc is)
-loop-at (x ∷ loops) zero l all is = subst IsLoop (same_Some x l is) all.0
-loop-at (x ∷ loops) (suc place) l all is = loop-at loops place l all.1 is
-
 -- a loop of a code, and its ring
 pub record IsKept (w : Work) (r : RingParts) : Type 0 where
   pub low : neg_ℤ WIDE ≤ℤ w.loop.lo
@@ -88,7 +83,7 @@ pub kept-at : (p : RingsParts) (place : ℕ) (w : Work) (r : RingParts) → IsCo
     → slice_get p.rings place ≡ Some r → IsKept w r
 kept-at p place w r code are of is =
     let it = work-is p.code p.inputs place w of in
-    let loop = loop-at p.code.loops place w.loop code.grammatical.loops it.loop in
+    let loop = all-slice_get IsLoop p.code.loops place w.loop code.grammatical.loops it.loop in
     record {
       low = loop.stretch.low;
       high = loop.stretch.high;

@@ -5,6 +5,7 @@ use Rattle.std.proofs.lemmas.List.{take-append-drop}
 use Rattle.std.specs.Int.{int_max}
 use Rattle.std.specs.List.{AllByRecursion}
 use Rattle.std.specs.Option.{ForSome, unwrap_or}
+use Rattle.tilt_base.proofs.Lists.{drop-at}
 use Rattle.tilt_base.specs.declared.limits.TheConstants.{T}
 use Rattle.tilt_chunk.specs.Cuts.{IsOnward}
 use Rattle.tilt_chunk.specs.Kept.{kept_of}
@@ -12,7 +13,7 @@ use Rattle.tilt_chunk.specs.NewRows.{StartsBefore, IsNewRow, AreNewRows, added}
 use Rattle.tilt_chunk.specs.declared.cut.Cut.{Cut}
 use Rattle.tilt_chunk.specs.declared.cut.Cut.TheVariants.{Upto, End}
 use Rattle.tilt_sessions.specs.Parts.{is_early, early, behind, part_of}
-use Rattle.tilt_stream.proofs.Order.{InOrder-rest, InOrder-behind, drop-at, unwrap_last_end}
+use Rattle.tilt_stream.proofs.Order.{InOrder-rest, InOrder-behind, unwrap_last_end}
 use Rattle.tilt_stream.specs.Snap.{Snapshot, InOrder, AreRows, last_end}
 
 -- the rows in front are in order

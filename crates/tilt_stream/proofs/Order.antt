@@ -1,6 +1,5 @@
 -- Lists of snapshots in the order of time.
-use Rattle.std.proofs.Common.{IfSome, Option, None, unwrap_or, ◌≡◌, ℤ, ◌<ℤ◌, ◌≤ℤ◌, List, [], ◌∷◌, ◌++◌, Some, refl, arith, slice_get, option_map, sym, ◌∙◌, ap, length, get_or, ◌-◌, sub-one, neg_ℤ, ℕ, ◌<◌, ◌+◌, drop}
-use Rattle.std.proofs.lemmas.List.{drop_more}
+use Rattle.std.proofs.Common.{IfSome, Option, None, unwrap_or, ◌≡◌, ℤ, ◌<ℤ◌, ◌≤ℤ◌, List, [], ◌∷◌, ◌++◌, Some, refl, arith, slice_get, option_map, sym, ◌∙◌, ap, length, ◌-◌, sub-one, neg_ℤ}
 use Rattle.std.specs.List.{AllByRecursion}
 use Rattle.tilt_base.specs.declared.limits.TheConstants.{WIDE}
 use Rattle.std.specs.Option.{ForSome}
@@ -75,10 +74,6 @@ InOrder-rest from limit x [] h = tt
 InOrder-rest from limit x (y ∷ ys) h =
     let above : from ≤ℤ y.start = omega (arith, ints) in
     (above, h.3.1, h.3.2, h.3.3)
-
--- rows from a place on, split at the first
-pub drop-at : (xs : List Snapshot) (x : Snapshot) (i : ℕ) → i < length xs → x ≡ get_or xs i x → drop i xs ≡ x ∷ drop (i + 1) xs
-drop-at xs x i h is = drop_more xs i x h ∙ ap (λ (y : Snapshot). y ∷ drop (i + 1) xs) (sym is)
 
 -- the end of the last one, once it was added
 pub last_end-after_push : (xs ys : List Snapshot) (s : Snapshot) (end : ℤ) → ys ≡ xs ++ s ∷ [] → last_end ys ≡ Some end → end ≡ s.end
