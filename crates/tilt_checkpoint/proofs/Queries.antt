@@ -7,12 +7,13 @@ use Rattle.std.proofs.lemmas.Option.{some_pair_parts}
 use Rattle.tilt_syntax.specs.Printing.{query_text}
 use Rattle.tilt_syntax.specs.Query.{IsQuery}
 use Rattle.tilt_syntax.specs.Tree.{StatementTree}
+use Rattle.tilt_types.proofs.Texts.{query-few}
 use Rattle.tilt_checkpoint.specs.Reading.{◌>>=◌, behind, behind_line, count_at, front_of, query_at, statements_at, times}
 use Rattle.tilt_checkpoint.specs.Spelling.{query_lines, title}
 use Rattle.tilt_checkpoint.proofs.Lines.{left_is}
 use Rattle.tilt_checkpoint.proofs.Numbers.{bind_some}
 use Rattle.tilt_checkpoint.proofs.Pieces.{text-behind}
-use Rattle.tilt_checkpoint.proofs.QueryLines.{query-few, query-passed}
+use Rattle.tilt_checkpoint.proofs.QueryLines.{query-passed}
 use Rattle.tilt_checkpoint.proofs.Words.{count-again, count-was}
 
 front-again : (front left : List ℕ) → front_of left (front ++ left) ≡ front

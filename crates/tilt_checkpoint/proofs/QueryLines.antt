@@ -1,5 +1,5 @@
 -- The printing of a query has a line for each statement.
-use Rattle.std.proofs.Common.{◌≡◌, ℕ, zero, suc, ◌≤◌, nat_lt, Bool, true, false, if◌then◌else◌, List, [], ◌∷◌, ◌++◌, length, Option, Some, None, ℤ, pos, negsuc, ◌≤ℤ◌, FitsSigned, refl, sym, ap, ◌∙◌, arith, inl, inr, append_assoc}
+use Rattle.std.proofs.Common.{◌≡◌, ℕ, zero, suc, nat_lt, Bool, true, false, if◌then◌else◌, List, [], ◌∷◌, ◌++◌, length, Option, Some, None, ℤ, pos, negsuc, ◌≤ℤ◌, FitsSigned, refl, sym, ap, ◌∙◌, arith, inl, inr, append_assoc}
 use Rattle.std.specs.Prelude.{codes, ◌==◌, ⊤}
 use Rattle.std.specs.Fmt.{signed_decimal}
 use Rattle.std.specs.Int.{w64}
@@ -251,13 +251,3 @@ pub query-passed : (query : List StatementTree) → IsQuery query → (more : Li
     → times behind_line (length query) (query_text query ++ more) ≡ Some more
 query-passed query is more =
     passed (statements is.tokens) query (statements_sound is.tokens (recursion_from_All IsSound is.tokens is.sound)) is.parsed.good more
-
-same_count : (ss : List (List Tok)) (query : List StatementTree) → AreGood ss query → length query ≡ length ss
-same_count [] [] good = refl
-same_count [] (s ∷ query) good = absurd good
-same_count (ts ∷ rest) [] good = absurd good
-same_count (ts ∷ rest) (s ∷ query) good = ap (λ (n : ℕ). suc n) (same_count rest query good.1)
-
--- there are at most 256 statements
-pub query-few : (query : List StatementTree) → IsQuery query → length query ≤ 256
-query-few query is = omega (arith, same_count (statements is.tokens) query is.parsed.good, is.parsed.few)

@@ -82,7 +82,8 @@ with_buffers-last : (lists : List (List Snapshot)) (front : List LoopParts) (l :
 with_buffers-last lists [] l = refl
 with_buffers-last lists (first ∷ front) l = with_buffers-last (lists ++ turns (map stream_of lists) first ∷ []) front l
 
-with_loops-last : (xs : List Stream) (front : List LoopParts) (l : LoopParts)
+-- the same over streams
+pub with_loops-last : (xs : List Stream) (front : List LoopParts) (l : LoopParts)
     → with_loops xs (front ++ l ∷ []) ≡ with_loops xs front ++ loop_of (with_loops xs front) l ∷ []
 with_loops-last xs [] l = refl
 with_loops-last xs (first ∷ front) l = with_loops-last (xs ++ loop_of xs first ∷ []) front l

@@ -23,9 +23,9 @@ use Rattle.tilt_turn.specs.Held.{IsFit}
 use Rattle.tilt_turn.specs.Ready.{IsKept, IsReady}
 use Rattle.tilt_turn.specs.Same.{IsSameFor}
 use Rattle.tilt_turn.specs.declared.state.LoopState.{LoopState}
-use Rattle.tilt_pipe.proofs.Nears.{loops-there, reads-near, ready-more, work-sound}
+use Rattle.tilt_pipe.proofs.Nears.{reads-near, ready-more, work-sound}
 use Rattle.tilt_pipe.proofs.OpenLists.{input-forgotten, open-at}
-use Rattle.tilt_pipe.proofs.RingsKept.{ring-of}
+use Rattle.tilt_pipe.proofs.RingsKept.{ring-of, loops-there}
 use Rattle.tilt_pipe.proofs.Standing.{next-made}
 use Rattle.tilt_pipe.proofs.Telling.{none_held, same-body, there}
 use Rattle.tilt_pipe.proofs.Trimming.{ended-front, stage-behind}

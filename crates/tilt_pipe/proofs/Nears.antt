@@ -1,5 +1,5 @@
 -- What the instructions of a code's loops read, within bounds, and that its loops may be run.
-use Rattle.std.proofs.Common.{◌≡◌, ◌≤◌, ◌<◌, ◌+◌, ℕ, zero, suc, ◌==◌, ◌||◌, Bool, true, false, List, [], ◌∷◌, ◌++◌, length, slice_get, Some, None, IsTrue, Contains, refl, sym, ◌∙◌, subst, arith, rules, tests}
+use Rattle.std.proofs.Common.{◌≡◌, ◌≤◌, ◌<◌, ◌+◌, ℕ, zero, suc, ◌==◌, ◌||◌, Bool, true, false, List, [], ◌∷◌, ◌++◌, length, slice_get, Some, None, IsTrue, Contains, refl, sym, subst, arith, rules, tests}
 use Rattle.std.proofs.lemmas.Int.{ints}
 use Rattle.std.proofs.lemmas.Option.{same_Some}
 use Rattle.std.specs.List.{AllByRecursion}
@@ -14,8 +14,8 @@ use Rattle.tilt_code.specs.declared.instr.Instr.TheVariants.{Const, Null, Argume
 use Rattle.tilt_turn.proofs.Readies.{loop-ready}
 use Rattle.tilt_turn.proofs.TurnTicks.{point-near}
 use Rattle.tilt_turn.specs.Ready.{IsBodyTick, IsReadable, IsReady}
-use Rattle.tilt_pipe.proofs.RingsKept.{ring-of, rings-length}
-use Rattle.tilt_pipe.proofs.Works.{work-is, works-length}
+use Rattle.tilt_pipe.proofs.RingsKept.{ring-of}
+use Rattle.tilt_pipe.proofs.Works.{work-is}
 use Rattle.tilt_pipe.specs.Made.{Work, reads_buffer}
 use Rattle.tilt_pipe.specs.Positions.{RingsParts, AreRings, IsOpen, made_by, start_at, works_in}
 use Rattle.tilt_pipe.specs.Reads.{body_reads, reads_of, turn_point}
@@ -138,10 +138,6 @@ near-either : (buffers here buffer : ℕ) (rest : Bool) → here < buffers → (
     → ((here == buffer) || rest) ≡ true → buffer < buffers
 near-either buffers here buffer true there more is = more refl
 near-either buffers here buffer false there more is = grind arith
-
--- there is a ring for each loop
-pub loops-there : (p : RingsParts) → AreRings p → length p.rings ≡ length p.code.loops
-loops-there p are = rings-length (works_in p) p.rings are.rings ∙ works-length p.code p.inputs
 
 -- a buffer that is read near is there
 pub near-there : (buffers buffer : ℕ) (reads : List Read) → AllByRecursion (IsNear buffers) reads → reads_buffer buffer reads ≡ true

@@ -167,8 +167,8 @@ trimmed-is w r first k = record {
 }
 
 -- there are as many loops as rings
-pub loops-count : (p : RingsParts) → AreRings p → length p.rings ≡ length p.code.loops
-loops-count p are = rings-length (works_in p) p.rings are.rings ∙ works-length p.code p.inputs
+pub loops-there : (p : RingsParts) → AreRings p → length p.rings ≡ length p.code.loops
+loops-there p are = rings-length (works_in p) p.rings are.rings ∙ works-length p.code p.inputs
 
 -- the loop at a place
 pub loop-is : (p : RingsParts) (place : ℕ) (w : Work) (loops : List LoopParts) (l : LoopParts) → slice_get (works_in p) place ≡ Some w
@@ -242,7 +242,7 @@ pub record IsPlaced (p : RingsParts) (place : ℕ) (w : Work) : Type 0 where
 pub placed : (p : RingsParts) (place : ℕ) (w : Work) → IsCode p.code → AreRings p → IsOpen p place w → IsPlaced p place w
 placed p place w code are open_ =
     let it = ring-of p place w code are open_.is in
-    let count = loops-count p are in
+    let count = loops-there p are in
     let within = it.within in
     let start = it.start in
     let low = start-low w it.ring it.kept in

@@ -15,9 +15,8 @@ use Rattle.tilt_code.specs.declared.instr.Instr.TheVariants.{Const, Null, Argume
 use Rattle.tilt_stream.specs.Snap.{Snapshot}
 use Rattle.tilt_turn.specs.Same.{IsSameFor}
 use Rattle.tilt_pipe.proofs.MadeSame.{made-same, same-is}
-use Rattle.tilt_pipe.proofs.Nears.{loops-there}
 use Rattle.tilt_pipe.proofs.OpenLists.{open-at, open_at}
-use Rattle.tilt_pipe.proofs.RingsKept.{rings-length}
+use Rattle.tilt_pipe.proofs.RingsKept.{rings-length, loops-there}
 use Rattle.tilt_pipe.proofs.Works.{input-is, work-is}
 use Rattle.tilt_pipe.specs.Chain.{IsBehind, IsTold}
 use Rattle.tilt_pipe.specs.Made.{Work}
