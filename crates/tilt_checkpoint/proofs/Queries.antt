@@ -11,6 +11,7 @@ use Rattle.tilt_syntax.specs.Printing.{query_text}
 use Rattle.tilt_syntax.specs.Query.{IsQuery}
 use Rattle.tilt_syntax.specs.Tree.{StatementTree}
 use Rattle.tilt_checkpoint.specs.Reading.{behind, behind_line, count_at, front_of, query_at, statements_at, times}
+use Rattle.tilt_types.proofs.Texts.{query-few}
 use Rattle.tilt_checkpoint.specs.Spelling.{query_lines, title}
 use Rattle.tilt_checkpoint.proofs.Lines.{left_is}
 use Rattle.tilt_checkpoint.proofs.Pieces.{text-behind}

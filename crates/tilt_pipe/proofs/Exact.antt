@@ -3,11 +3,13 @@ use Rattle.std.proofs.Common.{◌≡◌, ◌⊎◌, inl, inr, ◌<◌, ◌≤◌
 use Rattle.std.proofs.lemmas.Int.{ints, by_lt_z}
 use Rattle.std.proofs.lemmas.List.{length-take, take_min}
 use Rattle.std.specs.Bool.{⊤}
+use Rattle.tilt_stream.proofs.Filling.{Fill-up}
+use Rattle.tilt_stream.specs.Pieces.{last_start}
 use Rattle.tilt_pipe.proofs.Begun.{made-front, begun-front, begun-more, begun-enough}
-use Rattle.tilt_pipe.proofs.Standing.{IsNextMade, none-made, none-fills, Fill-up}
+use Rattle.tilt_pipe.proofs.Standing.{IsNextMade, none-made, none-fills}
 use Rattle.tilt_pipe.proofs.Wanted.{stage_at, turn_point-rises}
 use Rattle.tilt_pipe.specs.Enough.{IsFilled, AreFilled, IsStanding, AreStanding, made_in, AreWithin, IsEnough, AreEnough}
-use Rattle.tilt_pipe.specs.Made.{Work, Stage, last_start, read_by_turn, asked, begun_below, stages_from}
+use Rattle.tilt_pipe.specs.Made.{Work, Stage, read_by_turn, asked, begun_below, stages_from}
 use Rattle.tilt_pipe.specs.Positions.{made_by, stages_at}
 use Rattle.tilt_pipe.specs.Reads.{body_reads, last_tick, turn_point}
 use Rattle.tilt_pipe.specs.declared.read.Read.{Read}

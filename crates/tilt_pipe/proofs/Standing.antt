@@ -3,27 +3,20 @@ use Rattle.std.proofs.Common.{◌≡◌, ◌<◌, ℕ, zero, suc, ℤ, pos, neg_
 use Rattle.std.proofs.lemmas.Int.{ints, by_lt_z}
 use Rattle.std.proofs.lemmas.Option.{same_Some}
 use Rattle.tilt_base.specs.declared.limits.TheConstants.{WIDE}
-use Rattle.tilt_code.proofs.Filling.{Fill-AreSnapshots}
+use Rattle.tilt_stream.proofs.Filling.{Fill-AreSnapshots, Fill-up}
+use Rattle.tilt_stream.specs.Pieces.{last_start}
 use Rattle.tilt_code.proofs.Turns.{turns_until-first, turns_until-none}
 use Rattle.tilt_code.proofs.Runs.{turns-Fill}
 use Rattle.tilt_code.specs.Body.{body_of}
 use Rattle.tilt_code.specs.Code.{LoopParts}
 use Rattle.tilt_base.specs.Grid.{GridPoints, IsGrid}
 use Rattle.tilt_code.specs.Meaning.{IsTimed}
-use Rattle.tilt_code.specs.Turn.{Fill, turn, turns_until, turns}
-use Rattle.tilt_pipe.specs.Made.{last_start}
+use Rattle.tilt_code.specs.Turn.{turn, turns_until, turns}
 use Rattle.tilt_pipe.specs.Positions.{made_by}
 use Rattle.tilt_pipe.specs.Rings.{end_or}
 use Rattle.tilt_stream.proofs.Order.{InOrder-rest}
-use Rattle.tilt_stream.specs.Snap.{Snapshot, InOrder, AreSnapshots, last_end, gap_before}
+use Rattle.tilt_stream.specs.Snap.{Snapshot, InOrder, AreSnapshots, last_end, gap_before, Fill}
 use Rattle.tilt_stream.specs.Stream.{Stream}
-
--- a stretch that is filled doesn't end before it begins
-pub Fill-up : (lo hi : ℤ) (list : List Snapshot) → Fill lo hi list → lo ≤ℤ hi
-Fill-up lo hi [] h = omega (arith, ints)
-Fill-up lo hi (s ∷ ss) h =
-    let above : s.end ≤ℤ hi = Fill-up s.end hi ss h.2 in
-    omega (arith, ints)
 
 -- the first one is made, or none is
 pub made-passed : (start : ℤ) (s : Snapshot) (ss : List Snapshot) → s.end ≤ℤ start → made_by start (s ∷ ss) ≡ s ∷ made_by start ss
@@ -222,12 +215,6 @@ pub made-few : (lo start : ℤ) (made : List Snapshot) → neg_ℤ WIDE ≤ℤ l
 made-few lo start made low high h =
     let count = made-count lo start made h in
     omega (arith, ints)
-
--- where the last of some snapshots starts
-pub last_start-push : (made : List Snapshot) (s : Snapshot) → last_start (made ++ s ∷ []) ≡ Some s.start
-last_start-push [] s = refl
-last_start-push (first ∷ []) s = refl
-last_start-push (first ∷ next ∷ made) s = last_start-push (next ∷ made) s
 
 pub last_start-none : (made : List Snapshot) → last_start made ≡ None → made ≡ []
 last_start-none [] is = refl

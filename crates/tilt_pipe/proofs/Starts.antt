@@ -4,6 +4,7 @@ use Rattle.std.proofs.lemmas.List.{append-nil, drop-set, drop_all, drop_more, ge
 use Rattle.std.specs.Bool.{⊤}
 use Rattle.std.specs.List.{AllByRecursion}
 use Rattle.tilt_base.proofs.Booleans.{or_step}
+use Rattle.tilt_base.proofs.Lists.{all-append}
 use Rattle.tilt_code.specs.Code.{Block, LoopParts}
 use Rattle.tilt_code.specs.declared.instr.Instr.{Instr}
 use Rattle.tilt_pipe.specs.Chain.{readers_in, readers_from}
@@ -303,16 +304,11 @@ in-there buffer place count (r ∷ reads) there = by (r.buffer == buffer) (in-th
     by true rest = (there, rest)
     by false rest = rest
 
-both-there : (count : ℕ) (xs ys : List Reader) → AllByRecursion (λ reader. reader.place < count) xs
-    → AllByRecursion (λ reader. reader.place < count) ys → AllByRecursion (λ reader. reader.place < count) (xs ++ ys)
-both-there count [] ys h k = k
-both-there count (x ∷ xs) ys h k = (h.0, both-there count xs ys h.1 k)
-
 from-there : (buffer place count : ℕ) (works : List Work) → place + length works ≤ count
     → AllByRecursion (λ reader. reader.place < count) (readers_from buffer place works)
 from-there buffer place count [] fit = tt
 from-there buffer place count (w ∷ works) fit =
-    both-there count (readers_in buffer place (body_reads w.loop.body)) (readers_from buffer (suc place) works)
+    all-append (λ (reader : Reader). reader.place < count) (readers_in buffer place (body_reads w.loop.body)) (readers_from buffer (suc place) works)
     (in-there buffer place count (body_reads w.loop.body) (omega arith)) (from-there buffer (suc place) count works (omega arith))
 
 behind-there : (buffer place count : ℕ) (works : List Work) (k : ℕ) → place + length works ≤ count

@@ -5,6 +5,7 @@ use Rattle.std.proofs.lemmas.List.{take-append-drop}
 use Rattle.std.specs.Int.{int_max}
 use Rattle.std.specs.List.{AllByRecursion}
 use Rattle.std.specs.Option.{ForSome, unwrap_or}
+use Rattle.tilt_base.proofs.Lists.{drop-at}
 use Rattle.tilt_base.specs.declared.limits.TheConstants.{T}
 use Rattle.tilt_chunk.specs.Cuts.{IsOnward}
 use Rattle.tilt_chunk.specs.Kept.{kept_of}
@@ -12,7 +13,7 @@ use Rattle.tilt_chunk.specs.NewRows.{StartsBefore, IsNewRow, AreNewRows, added}
 use Rattle.tilt_chunk.specs.declared.cut.Cut.{Cut}
 use Rattle.tilt_chunk.specs.declared.cut.Cut.TheVariants.{Upto, End}
 use Rattle.tilt_sessions.specs.Parts.{is_early, early, behind, part_of}
-use Rattle.tilt_stream.proofs.Order.{InOrder-rest, InOrder-behind, drop-at}
+use Rattle.tilt_stream.proofs.Order.{InOrder-rest, InOrder-behind, unwrap_last_end}
 use Rattle.tilt_stream.specs.Snap.{Snapshot, InOrder, AreRows, last_end}
 
 -- the rows in front are in order
@@ -38,14 +39,9 @@ early-starts cut (r ∷ rs) = by (is_early cut r) refl (early-starts cut rs)
     by true is rest = (starts cut is, rest)
     by false is rest = tt
 
--- the end of the last of some rows doesn't rest on what stands for it where there is none
-end-same : (next : Snapshot) (rs : List Snapshot) (a b : ℤ) → unwrap_or (last_end (next ∷ rs)) a ≡ unwrap_or (last_end (next ∷ rs)) b
-end-same next [] a b = refl
-end-same next (s ∷ rs) a b = end-same s rs a b
-
 end-behind : (r : Snapshot) (rs : List Snapshot) (from : ℤ) → unwrap_or (last_end (r ∷ rs)) from ≡ unwrap_or (last_end rs) r.end
 end-behind r [] from = refl
-end-behind r (next ∷ rs) from = end-same next rs from r.end
+end-behind r (next ∷ rs) from = unwrap_last_end next rs from r.end
 
 -- the rows behind others are in order from their end on, and from the cut on
 pub behind-order : (cut from limit : ℤ) (rows : List Snapshot) → InOrder from limit rows

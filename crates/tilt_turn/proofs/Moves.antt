@@ -7,9 +7,9 @@ use Rattle.tilt_stream.specs.Agreement.{ChangesOnlyAtMarks}
 use Rattle.tilt_stream.specs.Marks.{IsNextMark}
 use Rattle.tilt_stream.specs.Stream.{Stream}
 use Rattle.tilt_stream.specs.Window.{met}
-use Rattle.tilt_turn.proofs.MarkedTicks.{marked-none, marked-next, marked-first, marked-empty, marked-append, met-marked, met-no_ticks, marked-no_ticks, cell-kept}
+use Rattle.tilt_stream.proofs.MarkedTicks.{marked-none, marked-next, marked-first, marked-empty, marked-append, met-marked, met-no_ticks, marked-no_ticks, cell-kept}
 use Rattle.tilt_turn.specs.Held.{Holds}
-use Rattle.tilt_turn.specs.Marked.{marked}
+use Rattle.tilt_stream.specs.Marked.{marked}
 use Rattle.tilt_turn.specs.declared.moving.Moving.{Moving}
 use Rattle.tilt_window.specs.Taken.{IsFirstTaken}
 

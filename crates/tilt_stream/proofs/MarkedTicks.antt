@@ -8,7 +8,7 @@ use Rattle.tilt_stream.specs.Agreement.{ChangesOnlyAtMarks}
 use Rattle.tilt_stream.specs.Marks.{IsNextMark}
 use Rattle.tilt_stream.specs.Stream.{Stream}
 use Rattle.tilt_stream.specs.Window.{met_behind, met}
-use Rattle.tilt_turn.specs.Marked.{marked_behind, marked}
+use Rattle.tilt_stream.specs.Marked.{marked_behind, marked}
 
 -- where none of the ticks has a mark
 behind-none : (x : Stream) (tick : ℤ) (n : ℕ) → ((other : ℤ) → tick <ℤ other → other ≤ℤ (tick +ℤ pos n) → x.mark other ≡ false)
