@@ -6,7 +6,19 @@
 #![tactic(auto)]
 
 #[cfg(test)]
+mod code;
+#[cfg(test)]
+mod lower;
+#[cfg(test)]
+mod machine;
+#[cfg(test)]
+mod pipe;
+#[cfg(test)]
 mod reduce;
+#[cfg(test)]
+mod runs;
+#[cfg(test)]
+mod snap_ring;
 #[cfg(test)]
 mod stream;
 #[cfg(test)]

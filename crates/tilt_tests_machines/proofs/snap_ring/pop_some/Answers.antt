@@ -1,7 +1,7 @@
 use Rattle.std.proofs.Common.{◌≡◌, ℤ, List, [], ◌∷◌, Option, Some, None, MatchOption, sym}
 use Rattle.std.specs.Option.{ForSome}
 use Rattle.tilt_stream.specs.Snap.{Snapshot, last_end}
-use Rattle.tilt_pipe.proofs.snap_ring.tests.pop_some.Goals as goal
+use Rattle.tilt_tests_machines.proofs.snap_ring.pop_some.Goals as goal
 
 -- without its first one a list ends where it did, if it has others
 popped-end : (taken : Option Snapshot) (old new : List Snapshot) (limit : ℤ)

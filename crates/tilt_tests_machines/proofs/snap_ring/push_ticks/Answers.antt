@@ -1,7 +1,7 @@
 use Rattle.std.proofs.Common.{FitsSigned, to_z-of_z, w64, pos, ◌+ℤ◌, arith, rules}
 use Rattle.std.proofs.lemmas.Int.{ints}
 use Rattle.tilt_stream.proofs.Order.{last_end-after_push}
-use Rattle.tilt_pipe.proofs.snap_ring.tests.push_ticks.Goals as goal
+use Rattle.tilt_tests_machines.proofs.snap_ring.push_ticks.Goals as goal
 
 pub loop-start-preserved : goal.loop-start-preserved
 loop-start-preserved c = λ x is.

@@ -1,17 +1,15 @@
 // Sessions of queries that were worked out by hand.
 ghost use Rattle.std.specs.Prelude.{◌≡◌, ◌<ℤ◌, ◌≤ℤ◌, [], ◌∷◌, neg_ℤ, Some, IfOk};
 ghost use Rattle.tilt_base.specs.declared.limits.TheConstants.{T};
-ghost use Rattle.tilt_syntax.specs.Query.{IsQuery};
 
-use crate::{Accepted, Cut, CutBack, next_cut, resume, start};
 use std::alloc::Global;
 use std::process::Abort;
 use std::test::Fail;
 use tilt_bounds::reach;
 use tilt_checkpoint::{Checkpoint, encode};
-use tilt_lexer::lex;
+use tilt_chunk::{Accepted, Cut, CutBack, next_cut, resume, start};
 use tilt_stream::{Row, Rows, Snap, SnapList};
-use tilt_syntax::{Query, parse};
+use tilt_testing::query_of;
 use tilt_types::check;
 
 fn snap(start: i64, end: i64, value: i64) -> Snap
@@ -23,13 +21,6 @@ fn snap(start: i64, end: i64, value: i64) -> Snap
         end,
         value: Some(value),
     }
-}
-
-fn query_of(alloc: Global, text: &str) -> Result<Query, Fail>
-    ensures { IfOk result (λ query. IsQuery query) }
-{
-    let tokens = lex(alloc, text.as_bytes())?;
-    Ok(parse(alloc, &tokens)?)
 }
 
 // One input with one row.

@@ -1,7 +1,8 @@
-use crate::{CheckpointFault, decode, encode};
+// Texts of checkpoints, and bytes that are none.
 use std::alloc::Global;
 use std::process::Abort;
 use std::test::Fail;
+use tilt_checkpoint::{CheckpointFault, decode, encode};
 
 // A checkpoint whose output is decided up to tick 5 of 10, and which looks 2 ticks back: rows are kept from tick 3 on.
 const AMID: &str =
@@ -11,7 +12,7 @@ const AMID: &str =
 const BEFORE: &str =
     "tilt checkpoint 1\nquery 2\ninput x;\nemit sum(x[t-5:t]) over (0, 10] every 5;\ncut 0\nopen none\nlast 2 rows 1\n-3,2,9\nend\n";
 
-// What stands in place of the lines behind the query of `AMID`, and is taken.
+// What stands in place of the lines after the query of `AMID`, and is taken.
 const TAKEN: &[&str] = &[
     "cut 5\nopen 2\nlast 5 rows 1\n0,5,7\nend\n",
     // The open snapshot starts at the first tick, or at the last.
@@ -26,7 +27,7 @@ const TAKEN: &[&str] = &[
     "cut 5\nopen 2\nlast none rows 0\nend\n",
     "cut 5\nopen 2\nlast 2 rows 0\nend\n",
     "cut 5\nopen 2\nlast -3999999999999999999 rows 0\nend\n",
-    // A cut below, at the ends of, and behind the output; the least and the greatest cut.
+    // A cut below, at the ends of, and above the output; the least and the greatest cut.
     "cut -7\nopen none\nlast none rows 0\nend\n",
     "cut 0\nopen none\nlast -1 rows 1\n-2,-1,3\nend\n",
     "cut 1\nopen 0\nlast none rows 0\nend\n",
@@ -90,7 +91,9 @@ const OTHER_TAKEN: &[&str] = &[
     // No inputs.
     "tilt checkpoint 1\nquery 1\nemit 1 over (0, 5];\ncut 3\nopen 0\nend\n",
     // Two inputs, of which the query looks back 9 ticks and ahead 9.
-    "tilt checkpoint 1\nquery 4\ninput temp;\ninput limit;\nlet avg10 = avg(temp[t-10:t]) every 10;\nemit avg10 - limit when avg10 > limit over (0, 30];\ncut 20\nopen 10\nlast none rows 0\nlast 25 rows 2\n1,2,5\n19,25,4\nend\n",
+    "tilt checkpoint 1\nquery 4\ninput temp;\ninput limit;\nlet avg10 = avg(temp[t-10:t]) every 10;\n\
+     emit avg10 - limit when avg10 > limit over (0, 30];\ncut 20\nopen 10\nlast none rows 0\nlast 25 rows 2\n\
+     1,2,5\n19,25,4\nend\n",
 ];
 
 // Whole texts that are refused: another version, and queries that are spelled otherwise, counted wrong, faulty, or look too far.

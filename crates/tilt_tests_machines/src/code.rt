@@ -1,8 +1,7 @@
-use crate::fault::CodeFault;
-use crate::listing::list;
-use crate::reader::read_code;
+// Listings that are read and written again, and the faults of others.
 use std::alloc::Global;
 use std::test::Fail;
+use tilt_code::{CodeFault, list, read_code};
 
 // A code of one input and one loop.
 const SMALL: &str = "tilt 1\ninput x\nloop 0 6 2 0\nr0 = port b0 0\nend\n";

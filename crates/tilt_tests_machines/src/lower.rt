@@ -1,19 +1,11 @@
-use crate::lower;
+// The code of queries.
 use std::alloc::Global;
 use std::test::Fail;
 use tilt_bounds::reach;
 use tilt_code::list;
-use tilt_core::Core;
 use tilt_fuse::plan;
-use tilt_lexer::lex;
-use tilt_syntax::parse;
-use tilt_types::check;
-
-fn core_of(alloc: Global, text: &str) -> Result<Core, Fail> {
-    let tokens = lex(alloc, text.as_bytes())?;
-    let query = parse(alloc, &tokens)?;
-    Ok(check(alloc, &query)?)
-}
+use tilt_lower::lower;
+use tilt_testing::core_of;
 
 // The listing of the code of a query for its output domain.
 fn listing_of(alloc: Global, text: &str, fuse: bool) -> Result<Vec<u8>, Fail> {

@@ -1,58 +1,12 @@
-// Runs that were worked out by hand from the definitions, snapshot by snapshot.
-ghost use Rattle.std.specs.Prelude.{◌≡◌, false, IfOk, OnOk};
+// Runs that were worked out by hand from the definitions. Both machines give them.
+use tilt_testing::Piece;
 
-use crate::pipe::Pipe;
-use std::alloc::Global;
-use std::test::Fail;
-use tilt_base::{Cell, T};
-use tilt_code::read_code;
-use tilt_stream::{Row, Rows, Snap};
-
-// A snapshot or a row: its start, its end and its value.
-type Piece = (i64, i64, Cell);
-
+// A listing, the rows of its inputs, and the snapshots of its run.
 #[derive(Clone, Copy)]
-struct Case<'a> {
-    code: &'a str,
-    inputs: &'a [&'a [Piece]],
-    want: &'a [Piece],
-}
-
-fn rows_of(alloc: Global, pieces: &[Piece]) -> Result<Rows, Fail> {
-    let mut rows = Rows::new(alloc);
-    for (start, end, value) in pieces {
-        let (start, end, value) = (*start, *end, *value);
-        let from = rows.last_end().unwrap_or(-T);
-        if start < from || end <= start || T < end {
-            return Err("no rows".into());
-        }
-        rows.push(Row { start, end, value })?;
-    }
-    Ok(rows)
-}
-
-fn inputs_of(alloc: Global, inputs: &[&[Piece]]) -> Result<Vec<Rows>, Fail> {
-    let mut all = Vec::new(alloc);
-    for pieces in inputs {
-        all.push(rows_of(alloc, pieces)?)?;
-    }
-    Ok(all)
-}
-
-fn piece_of(snap: Snap) -> Piece {
-    (snap.start, snap.end, snap.value)
-}
-
-// The pipe of a listing.
-fn pipe_of(alloc: Global, text: &str, inputs: &[&[Piece]]) -> Result<Pipe, Fail>
-    ensures { IfOk result (λ pipe. pipe.refused ≡ false) }
-{
-    let code = read_code(alloc, text.as_bytes())?;
-    let inputs = inputs_of(alloc, inputs)?;
-    if inputs.len() != code.inputs().len() {
-        return Err("as many row lists as inputs are wanted".into());
-    }
-    Ok(Pipe::new(alloc, code, inputs)?)
+pub struct Case<'a> {
+    pub code: &'a str,
+    pub inputs: &'a [&'a [Piece]],
+    pub want: &'a [Piece],
 }
 
 // The greatest over the last four ticks of what is one more.
@@ -75,41 +29,45 @@ const FIRST_UNREAD: &str =
 // The stretch begins and ends off the grid of 3, 8, 13, 18, 23.
 const OFF_THE_GRID: &str = "tilt 1\ninput x\nloop 1 19 5 3\nr0 = port b0 0\nend\n";
 
-// The two ticks of a window lie behind all those that it met at the grid point before.
+// The two ticks of a window lie after all those that it met at the grid point before.
 const LEAPS: &str = "tilt 1\ninput x\nloop 0 10 5 0\nr0 = win sum b0 -2 0\nend\n";
 
 // The first branch is always chosen, and the other has its marks at 3 and 5.
 const ONE_BRANCH: &str =
     "tilt 1\ninput x\ninput y\nloop 0 6 1 0\nr0 = port b0 -1\nr1 = port b1 1\nr2 = const 1\nr3 = if r2 r0 r1\nend\n";
 
-// A loop up to the greatest time, and one that looks one tick behind it.
+// A loop up to the greatest time, and one that looks one tick past it.
 const AT_THE_END: &str =
-    "tilt 1\nloop 4499999999999999990 4500000000000000000 1 0\nr0 = const 7\nend\nloop 4499999999999999998 4500000000000000000 1 0\nr0 = port b0 1\nend\n";
+    "tilt 1\nloop 4499999999999999990 4500000000000000000 1 0\nr0 = const 7\nend\n\
+    loop 4499999999999999998 4500000000000000000 1 0\nr0 = port b0 1\nend\n";
 
 // Both loops go from the least time to the greatest, and the second looks as far as any may, on the widest grid.
 const ALL_TIME: &str =
-    "tilt 1\nloop -4500000000000000000 4500000000000000000 1 0\nr0 = const 7\nend\nloop -4500000000000000000 4500000000000000000 1000000000001 1000000000000\nr0 = port b0 -2000000000000\nr1 = port b0 2000000000000\nr2 = sub r0 r1\nend\n";
+    "tilt 1\nloop -4500000000000000000 4500000000000000000 1 0\nr0 = const 7\nend\n\
+    loop -4500000000000000000 4500000000000000000 1000000000001 1000000000000\n\
+    r0 = port b0 -2000000000000\nr1 = port b0 2000000000000\nr2 = sub r0 r1\nend\n";
 
 // A window over a shift: the first loop makes no more than the window reads, and the window's ticks reach back over two of its snapshots.
-const WINDOW_OVER_SHIFT: &str =
+pub const WINDOW_OVER_SHIFT: &str =
     "tilt 1\ninput x\nloop -2 7 1 0\nr0 = port b0 -2\nend\nloop 0 7 1 0\nr0 = win sum b1 -3 0\nend\n";
 
 // Three loops, of which the second is read by none.
 const SECOND_UNREAD: &str =
     "tilt 1\ninput x\nloop 0 4 1 0\nr0 = port b0 0\nend\nloop 0 4 1 0\nr0 = port b1 0\nend\nloop 0 4 1 0\nr0 = port b1 -1\nend\n";
 
-// The last loop reads the second, and the second the first, which goes on behind what the last one reads.
-const SHIFT_OF_SUM: &str =
-    "tilt 1\ninput x\ninput w\nloop -1 2 1 0\nr0 = port b0 0\nend\nloop -1 2 1 0\nr0 = port b2 0\nr1 = port b1 0\nr2 = add r0 r1\nend\nloop 0 2 1 0\nr0 = port b3 -1\nend\n";
+// The last loop reads the second, and the second the first, which goes on past what the last one reads.
+const SHIFT_OF_SUM: &str = "tilt 1\ninput x\ninput w\nloop -1 2 1 0\nr0 = port b0 0\nend\n\
+    loop -1 2 1 0\nr0 = port b2 0\nr1 = port b1 0\nr2 = add r0 r1\nend\n\
+    loop 0 2 1 0\nr0 = port b3 -1\nend\n";
 
-const FOUR_ROWS: &[Piece] = &[
+pub const FOUR_ROWS: &[Piece] = &[
     (0, 2, Some(1)),
     (2, 3, Some(5)),
     (3, 4, Some(2)),
     (4, 5, Some(7)),
 ];
 
-const CASES: &[Case<'_>] = &[
+pub const CASES: &[Case<'_>] = &[
     Case {
         code: ONE_MORE,
         inputs: &[&[(0, 4, Some(1)), (4, 8, Some(5))]],
@@ -237,47 +195,3 @@ const CASES: &[Case<'_>] = &[
         want: &[(0, 1, None), (1, 2, Some(6))],
     },
 ];
-
-#[test]
-fn listings_give_their_runs_and_then_none(rt: HostRuntime) -> Result<(), Fail> {
-    for case in CASES {
-        let mut pipe = pipe_of(rt.alloc(), case.code, case.inputs)?;
-        for piece in case.want {
-            assert_eq!(rt;
-                pipe.next()?.map(piece_of),
-                Some(*piece),
-                "at {}",
-                case.code
-            );
-        }
-        assert_eq!(rt; pipe.next()?, None, "at {}", case.code);
-        assert_eq!(rt; pipe.next()?, None, "at {}", case.code);
-    }
-    Ok(())
-}
-
-// The next snapshot, and how many the rings hold then.
-fn next_and_held(pipe: &mut Pipe) -> Result<(Option<Piece>, u128), Fail>
-    requires { pipe.old.refused ≡ false }
-    ensures { OnOk result (pipe.new.refused ≡ false) }
-{
-    let next = pipe.next()?;
-    Ok((next.map(piece_of), pipe.held()))
-}
-
-#[test]
-fn a_ring_holds_what_the_next_turn_of_a_window_reads(rt: HostRuntime) -> Result<(), Fail> {
-    let mut pipe = pipe_of(rt.alloc(), WINDOW_OVER_SHIFT, &[FOUR_ROWS])?;
-    assert_eq!(rt; pipe.held(), 0);
-    for (piece, held) in [
-        ((0, 2, None), 1),
-        ((2, 4, Some(1)), 1),
-        ((4, 5, Some(6)), 2),
-        ((5, 6, Some(8)), 2),
-        ((6, 7, Some(14)), 0),
-    ] {
-        assert_eq!(rt; next_and_held(&mut pipe)?, (Some(piece), held));
-    }
-    assert_eq!(rt; next_and_held(&mut pipe)?, (None, 0));
-    Ok(())
-}
