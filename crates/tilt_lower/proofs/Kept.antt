@@ -110,10 +110,6 @@ module _ (buffer : ℕ → ℕ) (number count : ℕ) (few : count ≤ 256) (def 
         body = back buffer count few w back_low ahead_low t asks 0 0 (length (maps_of t)) (omega (arith, length-maps_of t));
       }
 
-some_last : (front : List LoopParts) (l : LoopParts) → 0 < length (front ++ l ∷ [])
-some_last [] l = omega arith
-some_last (f ∷ front) l = omega arith
-
 front-distinct : (one two : List (List ℕ)) → AreDistinct (one ++ two) → AreDistinct one
 front-distinct [] two h = tt
 front-distinct (name ∷ one) two h = (λ among. h.0 (Contains-append_left one two name among), front-distinct one two h.1)

@@ -41,12 +41,6 @@ none-more loops i all turns l within before none =
     ∙ ap (λ (lists : List (List Reader)). lists ++ [] ∷ []) before
     ∙ sym (map_more (λ (each : LoopParts). []) loops i l within)
 
--- the reads of some instructions and of others behind them
-pub body_reads-both : (xs ys : Block) → body_reads (xs ++ ys) ≡ body_reads xs ++ body_reads ys
-body_reads-both [] ys = refl
-body_reads-both (x ∷ xs) ys =
-    ap (λ (rest : List Read). reads_of x ++ rest) (body_reads-both xs ys) ∙ sym (append_assoc (reads_of x) (body_reads xs) (body_reads ys))
-
 -- the readers among reads, and among others behind them
 readers_in-more : (r : Reader) (xs ys : List Reader) (test : Bool) (all : List Reader) → all ≡ xs ++ ys
     → (if test then r ∷ all else all) ≡ (if test then r ∷ xs else xs) ++ ys

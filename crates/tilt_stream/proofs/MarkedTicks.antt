@@ -194,10 +194,6 @@ met-marked x first last some =
     ∙ ap (λ (t : ℤ). x.cell t ∷ met_behind x false t (int_gap first last)) here
     ∙ ap (λ (cells : List (Option ℤ)). x.cell first ∷ cells) (sym (behind-cells x first (int_gap first last)))
 
--- nothing is met where there are no ticks
-pub met-no_ticks : (x : Stream) (lo hi : ℤ) → hi ≤ℤ lo → met x lo hi ≡ []
-met-no_ticks x lo hi none = rw (int_gap_none lo hi none) refl
-
 pub marked-no_ticks : (x : Stream) (lo hi : ℤ) → hi ≤ℤ lo → marked x lo hi ≡ []
 marked-no_ticks x lo hi none = rw (int_gap_none lo hi none) refl
 

@@ -86,13 +86,6 @@ pub unwrap_last_end : (y : Snapshot) (xs : List Snapshot) (a b : ℤ) → unwrap
 unwrap_last_end y [] a b = refl
 unwrap_last_end y (x ∷ xs) a b = unwrap_last_end x xs a b
 
--- what follows the last one doesn't start before it ends
-pub InOrder-behind : (from limit : ℤ) (xs : List Snapshot) (s : Snapshot) (ys : List Snapshot) → InOrder from limit (xs ++ s ∷ ys) → InOrder (unwrap_or (last_end xs) from) limit (s ∷ [])
-InOrder-behind from limit [] s ys h = (h.0, h.1, h.2, tt)
-InOrder-behind from limit (x ∷ []) s ys h = (h.3.0, h.3.1, h.3.2, tt)
-InOrder-behind from limit (x ∷ y ∷ xs) s ys h =
-    rw (unwrap_last_end y xs x.end from) at (InOrder-behind x.end limit (y ∷ xs) s ys h.3)
-
 -- the same, of an answer that is that end
 pub last_end-low_if : (low high : ℤ) (xs : List Snapshot) (found : Option ℤ) → InOrder low high xs → found ≡ last_end xs → IfSome found (λ end. low ≤ℤ end)
 last_end-low_if low high xs None h is = tt
