@@ -38,7 +38,7 @@ pub body-only : (xs : List Stream) (l : LoopParts) (block : Block) (tick : ℤ) 
     → NamesNextMark (body_of xs (record l { body = block })) tick answer → NamesNextMark (body_of xs l) tick answer
 body-only xs l block tick answer is names =
     names-same (body_of xs l) (body_of xs (record l { body = block })) tick
-    (λ other. sym (ap (leaf_marked xs l.maps other) is ∙ leaf_marked-only xs l.maps other l.body)) answer names
+    (λ other above. sym (ap (leaf_marked xs l.maps other) is ∙ leaf_marked-only xs l.maps other l.body)) answer names
 
 -- each leaf has the stream of its instruction
 pub leaf-stream : (xs : List Stream) (maps : List Block) (leaves : List Leaf) (body : Block) (i : ℕ) (own : Leaf) (d : Instr)
