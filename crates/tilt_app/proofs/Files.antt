@@ -2,6 +2,7 @@
 use Rattle.std.proofs.Common.{◌≡◌, ◌≤◌, List, ℕ, ℤ, Option, None, Some}
 use Rattle.std.specs.Prelude.{MatchOption, Vec}
 use Rattle.std.specs.declared.alloc.Global.{Global}
+use Rattle.tilt_outside.proofs.Puts.{rose_from}
 use Rattle.tilt_app.specs.Answer.{save_of}
 use Rattle.tilt_app.specs.Saving.{outcome_of}
 use Rattle.tilt_chunk.specs.declared.cut.Cut.TheVariants.{Upto, End}
@@ -11,7 +12,7 @@ use Rattle.tilt_app.specs.Cause.{IsUnanswered}
 use Rattle.tilt_app.specs.FileCommand.{IsFileOutcome, no_file, no_inputs, HasFileTurn, own_turn, input_turn}
 use Rattle.tilt_load.specs.Load.{IsLoadFault, HasInputTurn}
 use Rattle.tilt_load.specs.SeriesFiles.{RefusesInputs}
-use Rattle.tilt_load.proofs.Loads.{load_fault_weaker, rose_later}
+use Rattle.tilt_load.proofs.Loads.{load_fault_weaker}
 use Rattle.tilt_report.specs.Report.{Reason, Outcome, printed, printed_and_saved, refused, Report, usage, refusal, read_fault, write_fault, save_fault, out_of_memory}
 use Rattle.tilt_stream.specs.Snap.{Snapshot}
 use Rattle.tilt_words.specs.Binding.{Binding}
@@ -41,7 +42,7 @@ module _ {A : Type 0} (takes : A → Type 0) (refuses : Reason → Type 0) (inpu
   inputs_undone a mid taken low report fault =
       load_fault_weaker tells tells (RefusesInputs files binds (inputs_of a)) (λ why. IsFileOutcome takes refuses inputs_of gives files binds (refused (refusal why)))
       (HasInputTurn tells files binds (inputs_of a)) (HasFileTurn takes inputs_of tells files file binds) mid after before after (λ t. t) (λ why t r. no_inputs a why (taken t) r)
-      (λ name rose turn. (rose_later before mid after low rose, turn_of_input takes inputs_of tells files file binds a taken name turn)) report fault
+      (λ name rose turn. (rose_from before mid after low rose, turn_of_input takes inputs_of tells files file binds a taken name turn)) report fault
 
 -- a file that isn't taken is why nothing is answered
 pub load_unanswered : (is_outcome : Outcome → Type 0) (has_turn : List ℕ → Type 0) (tells : Type 0) (before after : ℕ) (report : Report)

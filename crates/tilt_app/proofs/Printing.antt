@@ -1,39 +1,16 @@
 -- Puts, one behind another, where memory may be wanting between them.
-use Rattle.std.proofs.Common.{IsErr, ◌≡◌, ◌≤◌, ◌+◌, ℕ, List, [], ◌++◌, length, Result, Ok, Err, sym, subst, inl, inr, refl, ◌∙◌, append_assoc, length-append, arith, add_assoc, zero-add}
+use Rattle.std.proofs.Common.{IsErr, ◌≡◌, ◌+◌, ℕ, List, [], ◌++◌, length, Result, Ok, Err, sym, refl, ◌∙◌, append_assoc, length-append, arith, add_assoc, zero-add}
 use Rattle.std.proofs.lemmas.List.{append-nil}
+use Rattle.tilt_outside.proofs.Puts.{rose_from, front_first, front_behind}
 use Rattle.tilt_app.specs.Prints.{Prints}
 use Rattle.tilt_app.specs.declared.unput.Unput.{Unput}
 use Rattle.tilt_app.specs.declared.unput.Unput.TheVariants as variant
-use Rattle.tilt_outside.specs.Faults.{Rose}
 use Rattle.tilt_outside.specs.Written.{AppendsFront, Puts}
 use Rattle.tilt_outside.specs.declared.failed.Failed.{Failed}
-
--- a front of one piece is one of both
-front_first : (old new piece more : List ℕ) → AppendsFront old new piece → AppendsFront old new (piece ++ more)
-front_first old new piece more cut = record {
-  front = cut.front;
-  rest = cut.rest ++ more;
-  parts = rw cut.parts (append_assoc cut.front cut.rest more);
-  appended = cut.appended;
-}
-
--- a front of a piece behind one that was put whole
-front_behind : (old mid new done piece : List ℕ) → mid ≡ old ++ done → AppendsFront mid new piece → AppendsFront old new (done ++ piece)
-front_behind old mid new done piece whole cut = record {
-  front = done ++ cut.front;
-  rest = cut.rest;
-  parts = rw cut.parts (sym (append_assoc done cut.front cut.rest));
-  appended = cut.appended ∙ rw whole (append_assoc old done cut.front);
-}
 
 -- nothing of a piece
 front_none : (old piece : List ℕ) → AppendsFront old old piece
 front_none old piece = record { front = []; rest = piece; parts = refl; appended = sym (append-nil old) }
-
--- a count that rose later has risen
-rose_from : (old mid new : ℕ) → old ≤ mid → Rose mid new → Rose old new
-rose_from old mid new kept (inl more) = inl (omega arith)
-rose_from old mid new kept (inr full) = inr full
 
 module _ {K : Type 0} (tells : Type 0) (written : K → List ℕ) (faults : K → ℕ) (takes : K → ℕ → Type 0) where
   -- nothing was put so far

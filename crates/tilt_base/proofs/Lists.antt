@@ -1,7 +1,8 @@
 -- Laws of lists and options that std doesn't have.
-use Rattle.std.proofs.Common.{◌≡◌, ℕ, zero, suc, ◌<◌, ◌≤◌, ℤ, Bool, true, false, if◌then◌else◌, ◌⊎◌, inl, inr, List, [], ◌∷◌, ◌++◌, length, get_or, take, Contains, Option, Some, None, refl, sym, ap, subst, arith, fold}
+use Rattle.std.proofs.Common.{◌≡◌, ℕ, zero, suc, ◌<◌, ◌≤◌, ℤ, Bool, true, false, if◌then◌else◌, ◌⊎◌, inl, inr, List, [], ◌∷◌, ◌++◌, length, get_or, take, Contains, Option, Some, None, refl, sym, ap, subst, arith, fold, drop, ◌+◌, ◌∙◌}
 use Rattle.std.specs.List.{AllByRecursion, slice_get}
 use Rattle.std.proofs.lemmas.Option.{none-some, same_Some}
+use Rattle.std.proofs.lemmas.List.{drop_more}
 use Rattle.tilt_base.specs.Reduce.{numbers}
 
 -- a value under a test that passed
@@ -14,7 +15,12 @@ pub all-append : {X : Type 0} (P : X → Type 0) (xs ys : List X) → AllByRecur
 all-append P [] ys h k = k
 all-append P (x ∷ xs) ys h k = (h.0, all-append P xs ys h.1 k)
 
--- and with one more of which it holds
+-- and what holds of all of both holds of all of each
+pub all-parts : {X : Type 0} (P : X → Type 0) (xs ys : List X) → AllByRecursion P (xs ++ ys) → AllByRecursion P xs × AllByRecursion P ys
+all-parts P [] ys h = (tt, h)
+all-parts P (x ∷ xs) ys h = let rest = all-parts P xs ys h.1 in ((h.0, rest.0), rest.1)
+
+-- what holds of all of a list, and of one more
 pub all-push : {X : Type 0} (P : X → Type 0) (xs : List X) (x : X) → AllByRecursion P xs → P x → AllByRecursion P (xs ++ x ∷ [])
 all-push P [] x h new = (new, tt)
 all-push P (y ∷ ys) x h new = (h.0, all-push P ys x h.1 new)
@@ -31,10 +37,20 @@ all-at P [] i x h within is = absurd (omega arith)
 all-at P (y ∷ ys) zero x h within is = subst P (sym is) h.0
 all-at P (y ∷ ys) (suc i) x h within is = all-at P ys i x h.1 (omega arith) is
 
+-- the same, of one that `slice_get` gives
+pub all-slice_get : {X : Type 0} (P : X → Type 0) (xs : List X) (place : ℕ) (x : X) → AllByRecursion P xs → slice_get xs place ≡ Some x → P x
+all-slice_get P [] place x all is = absurd (none-some x is)
+all-slice_get P (y ∷ ys) zero x all is = subst P (same_Some y x is) all.0
+all-slice_get P (y ∷ ys) (suc place) x all is = all-slice_get P ys place x all.1 is
+
 -- what is in a list is its first element or in the rest
 pub Contains-cons_cases : {X : Type 0} (x : X) (xs : List X) (y : X) → Contains (x ∷ xs) y → (x ≡ y) ⊎ Contains xs y
 Contains-cons_cases x xs y (zero, within, is) = inl is
 Contains-cons_cases x xs y (suc k, within, is) = inr (k, omega (arith, within), is)
+
+-- a list from a place on, split at its first element
+pub drop-at : {X : Type 0} (xs : List X) (x : X) (i : ℕ) → i < length xs → x ≡ get_or xs i x → drop i xs ≡ x ∷ drop (i + 1) xs
+drop-at xs x i within is = drop_more xs i x within ∙ ap (λ y. y ∷ drop (i + 1) xs) (sym is)
 
 -- the first elements of a list, with the next one
 pub one-more : {X : Type 0} (all : List X) (place : ℕ) (x : X) → slice_get all place ≡ Some x → take place all ++ x ∷ [] ≡ take (suc place) all

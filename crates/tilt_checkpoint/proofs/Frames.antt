@@ -10,7 +10,7 @@ use Rattle.tilt_bounds.proofs.Needs.{widest-low}
 use Rattle.tilt_checkpoint.specs.Decided.{IsFrame}
 
 -- margins are those of the widest need
-given_by : (far : Bool) (w : Need) (made m : MarginsParts) → ◌≡◌ {A = Result MarginsParts Need} (if far then Err w else Ok made) (Ok m)
+pub given_by : (far : Bool) (w : Need) (made m : MarginsParts) → ◌≡◌ {A = Result MarginsParts Need} (if far then Err w else Ok made) (Ok m)
     → made ≡ m
 given_by true w made m e = absurd (cc e)
 given_by false w made m e = cc e

@@ -2,20 +2,14 @@
 use Rattle.std.specs.Prelude.{ℤ, List, Option, refl}
 use Rattle.std.specs.Coded.{Coded, code_by, coded×, coded_ℤ, coded_list, coded_option}
 use Rattle.tilt_stream.specs.Snap.{Snapshot}
+use Rattle.tilt_stream.specs.Stored.{coded_snapshots}
 use Rattle.tilt_syntax.specs.Stored.{coded_query}
 use Rattle.tilt_syntax.specs.Tree.{StatementTree}
 use Rattle.tilt_checkpoint.specs.Checkpoint.{KeptParts, BodyParts, CheckpointParts}
 
-abbrev pub coded_row : Coded Snapshot
-coded_row =
-    code_by (ℤ × (ℤ × Option ℤ)) (coded× coded_ℤ (coded× coded_ℤ (coded_option coded_ℤ)))
-    (λ s. (s.start, (s.end, s.value)))
-    (λ p. record { start = p.0; end = p.1.0; value = p.1.1 })
-    (λ _. refl)
-
 abbrev pub coded_kept : Coded KeptParts
 coded_kept =
-    code_by (Option ℤ × List Snapshot) (coded× (coded_option coded_ℤ) (coded_list coded_row))
+    code_by (Option ℤ × List Snapshot) (coded× (coded_option coded_ℤ) coded_snapshots)
     (λ k. (k.last_end, k.rows))
     (λ p. record { last_end = p.0; rows = p.1 })
     (λ _. refl)

@@ -1,24 +1,12 @@
 -- Rows in order, behind others, and of those the ones that are kept.
-use Rattle.std.proofs.Common.{◌≡◌, ℤ, ◌<ℤ◌, ◌≤ℤ◌, true, false, List, [], ◌∷◌, ◌++◌, Some, None, inl, inr, refl, arith}
+use Rattle.std.proofs.Common.{◌≡◌, ℤ, ◌<ℤ◌, ◌≤ℤ◌, true, false, List, [], ◌∷◌, Some, None, inl, inr, refl, arith}
 use Rattle.std.specs.Prelude.{int_le}
 use Rattle.std.specs.List.{AllByRecursion}
-use Rattle.std.specs.Option.{ForSome}
 use Rattle.std.proofs.lemmas.Bool.{cases_Bool}
 use Rattle.std.proofs.lemmas.Int.{ints}
 use Rattle.tilt_stream.proofs.Order.{InOrder-rest, last_end-low}
 use Rattle.tilt_stream.specs.Snap.{Snapshot, InOrder, last_end}
-use Rattle.tilt_chunk.specs.Pieces.{kept}
-
--- rows behind the last one
-behind_some : (from limit : ℤ) (x : Snapshot) (xs ys : List Snapshot) → InOrder from limit (x ∷ xs)
-    → ForSome (last_end (x ∷ xs)) (λ end. InOrder end limit ys) → InOrder from limit (x ∷ xs ++ ys)
-behind_some from limit x [] ys h behind = (h.0, h.1, h.2, behind x.end refl)
-behind_some from limit x (y ∷ xs) ys h behind = (h.0, h.1, h.2, behind_some x.end limit y xs ys h.3 behind)
-
-pub InOrder-append : (from limit : ℤ) (xs ys : List Snapshot) → InOrder from limit xs → InOrder from limit ys
-    → ForSome (last_end xs) (λ end. InOrder end limit ys) → InOrder from limit (xs ++ ys)
-InOrder-append from limit [] ys h g behind = g
-InOrder-append from limit (x ∷ xs) ys h g behind = behind_some from limit x xs ys h behind
+use Rattle.tilt_stream.specs.Pieces.{kept}
 
 module _ (first : ℤ) where
   -- those that are kept are in order

@@ -1,14 +1,15 @@
 -- What a query means on a stretch of time, where later rows come, and where rows aren't there that needn't be.
-use Rattle.std.proofs.Common.{◌≡◌, ℕ, zero, suc, ◌<◌, ℤ, pos, ◌+ℤ◌, ◌-ℤ◌, ◌≤ℤ◌, List, [], ◌∷◌, length, map, get_or, Option, Some, None, Ok, Err, Result, Bool, true, false, if◌then◌else◌, refl, sym, ap, ◌∙◌, arith, subst}
+use Rattle.std.proofs.Common.{◌≡◌, ℕ, ◌<◌, ℤ, pos, ◌+ℤ◌, ◌-ℤ◌, ◌≤ℤ◌, List, length, map, Option, Some, None, Ok, sym, ap, ◌∙◌, arith, subst}
 use Rattle.std.specs.List.{AllByRecursion}
 use Rattle.std.proofs.lemmas.Int.{ints, by_lt_z}
 use Rattle.std.proofs.lemmas.List.{length-map}
+use Rattle.tilt_core.proofs.Last.{last-need}
 use Rattle.tilt_bounds.proofs.Laws.{core-IsLocal, core-IsCausal}
 use Rattle.tilt_bounds.proofs.Needs.{need_at-definition}
 use Rattle.tilt_bounds.specs.Laws.{AgreeAsAsked, AreContinued, IsLocal, IsCausal, StaysAsAsked}
 use Rattle.tilt_bounds.specs.Margins.{AreMargins, IsWithin, MarginsParts, is_too_far, margins_of, need_at}
 use Rattle.tilt_lower.proofs.Planned.{margins-needs}
-use Rattle.tilt_lower.proofs.Snapped.{snapshots-agree}
+use Rattle.tilt_stream.proofs.Snapped.{snapshots-agree}
 use Rattle.tilt_stream.proofs.Cut.{snapshots-none}
 use Rattle.tilt_stream.proofs.Locality.{narrower-agrees}
 use Rattle.tilt_stream.specs.Agreement.{Agree}
@@ -16,35 +17,21 @@ use Rattle.tilt_stream.specs.Snap.{Snapshot, AreRows}
 use Rattle.tilt_stream.specs.Stream.{Stream, stream_of}
 use Rattle.tilt_core.proofs.Sources.{with_definitions-front}
 use Rattle.tilt_core.specs.Core.{CoreParts, IsCore, emitted_number}
-use Rattle.tilt_core.specs.CoreTree.{Definition}
 use Rattle.tilt_core.specs.Meaning.{meaning, source_of}
-use Rattle.tilt_core.specs.Needs.{Need, needs_from, no_margin, reach}
+use Rattle.tilt_core.specs.Needs.{Need, no_margin, reach}
+use Rattle.tilt_checkpoint.proofs.Frames.{given_by}
 use Rattle.tilt_chunk.proofs.Lists.{length-added, rows_of, sources-kept}
 use Rattle.tilt_chunk.specs.Emitted.{given}
 use Rattle.tilt_chunk.specs.Kept.{kept_of}
 use Rattle.tilt_chunk.specs.NewRows.{added}
 
 -- margins have the look-back and the look-ahead of the core
-given_by : (far : Bool) (w : Need) (made m : MarginsParts)
-    → ◌≡◌ {A = Result MarginsParts Need} (if far then Err w else Ok made) (Ok m) → made ≡ m
-given_by true w made m e = absurd (cc e)
-given_by false w made m e = cc e
-
 pub margins-reach : (core : CoreParts) (m : MarginsParts) → margins_of core ≡ Ok m
     → (let w = reach (length core.inputs) core.defs in (w.back ≡ m.back) × (w.ahead ≡ m.ahead))
 margins-reach core m near =
     let w = reach (length core.inputs) core.defs in
     let made = given_by (is_too_far w) w _ m near in
     (ap (λ (p : MarginsParts). p.back) made, ap (λ (p : MarginsParts). p.ahead) made)
-
--- the last definition is asked for the tick itself
-last-need : (number place : ℕ) (defs : List Definition) → length defs ≡ suc place
-    → get_or (needs_from number defs) place None ≡ Some no_margin
-last-need number place [] is = absurd (omega arith)
-last-need number zero (def ∷ []) is = refl
-last-need number (suc place) (def ∷ []) is = absurd (omega arith)
-last-need number zero (def ∷ next ∷ defs) is = absurd (omega arith)
-last-need number (suc place) (def ∷ next ∷ defs) is = last-need (suc number) place (next ∷ defs) (omega arith)
 
 module _ (core : CoreParts) (margins : MarginsParts) (is : IsCore core) (near : margins_of core ≡ Ok margins) (kept : AreMargins margins) where
   local : IsLocal core margins

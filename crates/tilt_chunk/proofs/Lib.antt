@@ -1,10 +1,8 @@
 pub mod Ends
 pub mod Given
-pub mod Joined
 pub mod Lists
 pub mod OneCut
 pub mod Parted
-pub mod Pieces
 pub mod Printed
 pub mod Reach
 pub mod Sessions

@@ -13,7 +13,7 @@ use Rattle.tilt_chunk.specs.Handed.{all_taken_up, kept_at}
 use Rattle.tilt_chunk.specs.Kept.{kept_of}
 use Rattle.tilt_chunk.specs.Later.{kept_again, last_or}
 use Rattle.tilt_chunk.specs.NewRows.{AreNewRows, IsNewRow, added}
-use Rattle.tilt_chunk.specs.Pieces.{kept}
+use Rattle.tilt_stream.specs.Pieces.{kept}
 use Rattle.tilt_chunk.specs.declared.cut.Cut.{Cut}
 
 -- the rows that are kept of each input

@@ -22,16 +22,16 @@ use Rattle.tilt_core.specs.Core.{CoreParts, IsCore, domain_of, emitted_number}
 use Rattle.tilt_core.specs.Meaning.{meaning}
 use Rattle.tilt_core.specs.Needs.{Need, reach}
 use Rattle.tilt_chunk.proofs.Given.{given-continued, given-kept, margins-reach}
-use Rattle.tilt_chunk.proofs.Joined.{snapshots-parted, snapshots-some}
+use Rattle.tilt_stream.proofs.Joined.{snapshots-parted, snapshots-some}
 use Rattle.tilt_chunk.proofs.Lists.{continued, kept-all, new-counted}
-use Rattle.tilt_chunk.proofs.Pieces.{last_start-append, length-joined_from, without_last-append}
+use Rattle.tilt_stream.proofs.Pieces.{last_start-append, length-joined_from, without_last-append}
 use Rattle.tilt_chunk.specs.Cuts.{IsOnward, decided_by}
 use Rattle.tilt_chunk.specs.Emitted.{closed, emitted, given, open_at, open_start}
 use Rattle.tilt_chunk.specs.Kept.{checkpoint_at, kept_of}
 use Rattle.tilt_chunk.specs.Later.{both, going_on, newly, next, resumed_at}
 use Rattle.tilt_chunk.specs.Law.{IsOneCut}
 use Rattle.tilt_chunk.specs.NewRows.{AreNewRows, added}
-use Rattle.tilt_chunk.specs.Pieces.{joined_from, last_start, without_last}
+use Rattle.tilt_stream.specs.Pieces.{joined_from, last_start, without_last}
 use Rattle.tilt_chunk.specs.declared.cut.Cut.{Cut}
 use Rattle.tilt_chunk.specs.declared.cut.Cut.TheVariants.{Upto, End}
 

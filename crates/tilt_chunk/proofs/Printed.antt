@@ -2,15 +2,15 @@
 use Rattle.std.proofs.Common.{◌≡◌, ℤ, true, false, List, arith}
 use Rattle.std.specs.Prelude.{int_lt}
 use Rattle.std.proofs.lemmas.Int.{ints, by_lt_z}
+use Rattle.tilt_stream.proofs.Pieces.{AreSnapshots-without_last}
 use Rattle.tilt_checkpoint.specs.Decided.{IsFrame, frame_of}
 use Rattle.tilt_checkpoint.specs.declared.frame.Frame.{Frame}
-use Rattle.tilt_code.proofs.Filling.{snapshots-Fill, Fill-AreSnapshots}
+use Rattle.tilt_stream.proofs.Filling.{snapshots-Fill, Fill-AreSnapshots}
 use Rattle.tilt_stream.proofs.Cut.{snapshots-none}
 use Rattle.tilt_stream.specs.Snap.{Snapshot, AreSnapshots}
 use Rattle.tilt_core.specs.Core.{CoreParts, emitted_number}
 use Rattle.tilt_core.specs.Meaning.{meaning}
 use Rattle.tilt_chunk.proofs.OneCut.{decided-most}
-use Rattle.tilt_chunk.proofs.Parted.{AreSnapshots-front}
 use Rattle.tilt_chunk.specs.Cuts.{decided_by}
 use Rattle.tilt_chunk.specs.Emitted.{closed, emitted, given}
 use Rattle.tilt_chunk.specs.declared.cut.Cut.{Cut}
@@ -20,7 +20,7 @@ AreSnapshots-closed frame last list h =
     by_lt_z last frame.end
     (λ before.
     let test : int_lt last frame.end ≡ true = grind (arith, ints) in
-    rw test (AreSnapshots-front list h))
+    rw test (AreSnapshots-without_last list h))
     (λ done. let test : int_lt last frame.end ≡ false = grind (arith, ints) in rw test h)
 
 -- what is printed up to the end of a session is a list of snapshots, whatever the rows are

@@ -8,7 +8,7 @@ use Rattle.tilt_base.proofs.Comparisons.{le_false}
 use Rattle.tilt_stream.specs.Agreement.{Agree}
 use Rattle.tilt_stream.specs.Snap.{Snapshot, InOrder}
 use Rattle.tilt_stream.specs.Stream.{stream_of, covers, cell_at, mark_at}
-use Rattle.tilt_chunk.specs.Pieces.{kept}
+use Rattle.tilt_stream.specs.Pieces.{kept}
 
 module _ (first : ℤ) (ys : List Snapshot) where
   cell_at-kept : (xs : List Snapshot) (tick : ℤ) → first ≤ℤ tick → cell_at (kept first xs ++ ys) tick ≡ cell_at (xs ++ ys) tick

@@ -31,7 +31,7 @@ use Rattle.tilt_chunk.specs.Handed.{AreBehind, AreCells, all_taken_up, closed_be
 use Rattle.tilt_chunk.specs.Kept.{checkpoint_at, kept_of}
 use Rattle.tilt_chunk.specs.Later.{both, going_on, kept_again, newly, next, resumed_at}
 use Rattle.tilt_chunk.specs.NewRows.{AreFirstRows, AreNewRows, IsNewRow, StartsBefore}
-use Rattle.tilt_chunk.specs.Pieces.{joined_from, kept}
+use Rattle.tilt_stream.specs.Pieces.{joined_from, kept}
 use Rattle.tilt_chunk.specs.declared.cut.Cut.{Cut}
 use Rattle.tilt_chunk.specs.declared.cut.Cut.TheVariants.{Upto}
 

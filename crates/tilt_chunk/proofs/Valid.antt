@@ -7,6 +7,7 @@ use Rattle.std.proofs.lemmas.Bool.{cases_Bool}
 use Rattle.std.proofs.lemmas.Int.{ints, by_lt_z}
 use Rattle.tilt_base.proofs.Lists.{all-append}
 use Rattle.tilt_base.specs.declared.limits.TheConstants.{T}
+use Rattle.tilt_stream.proofs.Order.{InOrder-append}
 use Rattle.tilt_checkpoint.specs.Checkpoint.{KeptParts}
 use Rattle.tilt_checkpoint.specs.Valid.{IsKept, IsLastEnd, IsOpen, IsSeries}
 use Rattle.tilt_checkpoint.specs.declared.frame.Frame.{Frame}
@@ -14,14 +15,14 @@ use Rattle.tilt_stream.proofs.Cut.{snapshots-none}
 use Rattle.tilt_stream.specs.Snap.{Snapshot, AreRows, InOrder, last_end, joined_open}
 use Rattle.tilt_stream.specs.Snapshots.{snapshots}
 use Rattle.tilt_stream.specs.Stream.{Stream}
-use Rattle.tilt_chunk.proofs.Ends.{InOrder-append, InOrder-kept, last-bounds, last-kept, no-last, none-kept}
-use Rattle.tilt_chunk.proofs.Joined.{LastStarts, snapshots-last}
+use Rattle.tilt_chunk.proofs.Ends.{InOrder-kept, last-bounds, last-kept, no-last, none-kept}
+use Rattle.tilt_stream.proofs.Joined.{LastStarts, snapshots-last}
 use Rattle.tilt_chunk.proofs.Lists.{last_end-append}
 use Rattle.tilt_chunk.specs.Emitted.{open_start}
 use Rattle.tilt_chunk.specs.Handed.{AreCells}
 use Rattle.tilt_chunk.specs.Later.{kept_again, last_or}
 use Rattle.tilt_chunk.specs.NewRows.{AreNewRows, IsNewRow}
-use Rattle.tilt_chunk.specs.Pieces.{joined_from, kept}
+use Rattle.tilt_stream.specs.Pieces.{joined_from, kept}
 use Rattle.tilt_chunk.specs.declared.cut.Cut.{Cut}
 use Rattle.tilt_chunk.specs.declared.cut.Cut.TheVariants.{Upto}
 

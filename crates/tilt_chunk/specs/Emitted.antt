@@ -7,7 +7,7 @@ use Rattle.tilt_core.specs.Meaning.{meaning}
 use Rattle.tilt_checkpoint.specs.Decided.{frame_of}
 use Rattle.tilt_checkpoint.specs.declared.frame.Frame.{Frame}
 use Rattle.tilt_chunk.specs.Cuts.{decided_by}
-use Rattle.tilt_chunk.specs.Pieces.{without_last, last_start}
+use Rattle.tilt_stream.specs.Pieces.{without_last, last_start}
 use Rattle.tilt_chunk.specs.declared.cut.Cut.{Cut}
 
 -- the snapshots of what a query means on `(lo, hi]`

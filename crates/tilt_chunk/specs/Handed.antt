@@ -9,7 +9,7 @@ use Rattle.tilt_checkpoint.specs.Valid.{IsCell}
 use Rattle.tilt_checkpoint.specs.declared.frame.Frame.{Frame}
 use Rattle.tilt_chunk.specs.Emitted.{closed}
 use Rattle.tilt_chunk.specs.Later.{last_or}
-use Rattle.tilt_chunk.specs.Pieces.{kept}
+use Rattle.tilt_stream.specs.Pieces.{kept}
 
 -- rows start where others have ended, or behind that
 abbrev pub IsBehind : List Snapshot → List Snapshot → Type 0

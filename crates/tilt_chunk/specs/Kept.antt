@@ -6,7 +6,7 @@ use Rattle.tilt_types.specs.Checked.{core_of}
 use Rattle.tilt_checkpoint.specs.Checkpoint.{KeptParts, CheckpointParts}
 use Rattle.tilt_checkpoint.specs.Decided.{frame_of, first_kept}
 use Rattle.tilt_chunk.specs.Emitted.{open_at}
-use Rattle.tilt_chunk.specs.Pieces.{kept}
+use Rattle.tilt_stream.specs.Pieces.{kept}
 use Rattle.tilt_chunk.specs.declared.cut.Cut.TheVariants.{Upto}
 
 -- what is kept of all rows of an input

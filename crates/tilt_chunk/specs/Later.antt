@@ -9,7 +9,7 @@ use Rattle.tilt_checkpoint.specs.declared.frame.Frame.{Frame}
 use Rattle.tilt_chunk.specs.Cuts.{decided_by}
 use Rattle.tilt_chunk.specs.Emitted.{given, closed, open_start}
 use Rattle.tilt_chunk.specs.NewRows.{added}
-use Rattle.tilt_chunk.specs.Pieces.{joined_from, kept}
+use Rattle.tilt_stream.specs.Pieces.{joined_from, kept}
 use Rattle.tilt_chunk.specs.declared.cut.Cut.{Cut}
 use Rattle.tilt_chunk.specs.declared.cut.Cut.TheVariants.{Upto, End}
 

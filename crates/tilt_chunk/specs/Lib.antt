@@ -5,4 +5,3 @@ pub mod Kept
 pub mod Later
 pub mod Law
 pub mod NewRows
-pub mod Pieces

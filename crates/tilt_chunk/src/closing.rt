@@ -3,7 +3,7 @@ ghost use Rattle.std.specs.Prelude.{◌≡◌, ◌≤ℤ◌, neg_ℤ, slice_get}
 ghost use Rattle.std.specs.Option.{ForSome};
 ghost use Rattle.tilt_base.specs.declared.limits.TheConstants.{WIDE};
 ghost use Rattle.tilt_chunk.specs.Emitted.{closed, open_start};
-ghost use Rattle.tilt_chunk.specs.Pieces.{joined_from, last_start, without_last};
+ghost use Rattle.tilt_stream.specs.Pieces.{joined_from, last_start, without_last};
 
 use tilt_checkpoint::Frame;
 use tilt_stream::{SnapList, join_open};

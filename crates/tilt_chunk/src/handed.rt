@@ -4,7 +4,7 @@ ghost use Rattle.std.specs.List.{AllByRecursion};
 ghost use Rattle.std.specs.Option.{ForSome};
 ghost use Rattle.tilt_base.specs.declared.limits.TheConstants.{T};
 ghost use Rattle.tilt_chunk.specs.Handed.{AreBehind, AreCells, IsBehind, kept_at, taken_up, all_taken_up};
-ghost use Rattle.tilt_chunk.specs.Pieces.{kept};
+ghost use Rattle.tilt_stream.specs.Pieces.{kept};
 ghost use Rattle.tilt_checkpoint.specs.Valid.{IsCell};
 ghost use Rattle.tilt_stream.specs.Snap.{AreRows, last_end};
 
@@ -75,21 +75,9 @@ fn take_up(kept: &mut Kept, new: &Rows) -> Result<(), OutOfMemory>
     ensures all { OnOk result (kept.new ≡ taken_up kept.old new.now) }
     ensures in_order { AreRows new.now }
 {
-    append(&mut kept.rows, new)?;
+    kept.rows.append(new.as_slice())?;
     if let Some(end) = new.last_end() {
         kept.last_end = Some(end);
-    }
-    Ok(())
-}
-
-// Adds rows behind others.
-fn append(rows: &mut Rows, more: &Rows) -> Result<(), OutOfMemory>
-    requires { IsBehind rows.old more.now }
-    ensures all { OnOk result (rows.new ≡ rows.old ++ more.now) }
-    ensures in_order { AreRows more.now }
-{
-    for row in more.as_slice() {
-        rows.push(*row)?;
     }
     Ok(())
 }

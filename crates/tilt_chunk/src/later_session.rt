@@ -10,7 +10,7 @@ ghost use Rattle.tilt_chunk.specs.Handed.{AreCells, closed_behind, kept_at};
 ghost use Rattle.tilt_chunk.specs.Later.{newly, next_by, resumed_at};
 ghost use Rattle.tilt_chunk.specs.Law.{IsOneCut};
 ghost use Rattle.tilt_chunk.specs.NewRows.{AreNewRows};
-ghost use Rattle.tilt_chunk.specs.Pieces.{joined_from};
+ghost use Rattle.tilt_stream.specs.Pieces.{joined_from};
 ghost use Rattle.tilt_chunk.specs.declared.cut.Cut.TheVariants.{Upto};
 ghost use Rattle.tilt_types.specs.Checked.{core_of};
 

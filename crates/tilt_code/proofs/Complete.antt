@@ -10,9 +10,9 @@ use Rattle.tilt_base.proofs.Comparisons.{bytes_same, same_number}
 use Rattle.tilt_text.specs.Step.{◌>>=◌}
 use Rattle.tilt_text.proofs.Lacks.{Lacks}
 use Rattle.tilt_text.proofs.Step.{bind_some}
-use Rattle.tilt_lexer.specs.Word.{AreDistinct}
+use Rattle.tilt_lexer.specs.Word.{AreDistinct, IsName}
 use Rattle.tilt_code.specs.Code.{Block, LoopParts, CodeParts}
-use Rattle.tilt_code.specs.Grammar.{IsInstr, IsInputName, IsBlock, IsLoop, IsGrammatical, stands_in_map, stands_in_body}
+use Rattle.tilt_code.specs.Grammar.{IsInstr, IsBlock, IsLoop, IsGrammatical, stands_in_map, stands_in_body}
 use Rattle.tilt_code.specs.Line.{line_text}
 use Rattle.tilt_code.specs.Listing.{block_lines, map_lines, loop_lines, code_lines}
 use Rattle.tilt_code.specs.Partial.{PartialCode, nothing, is_nil, stands_in, with_line}
@@ -183,7 +183,7 @@ loops-fit : (loops : List LoopParts) → AllByRecursion IsLoop loops → AreLine
 loops-fit [] all = tt
 loops-fit (l ∷ loops) all = all-append IsLine (loop_lines l) (flat_map loop_lines loops) (loop-fits l all.0) (loops-fit loops all.1)
 
-inputs-fit : (names : List (List ℕ)) → AllByRecursion IsInputName names → AreLines (map line.Input names)
+inputs-fit : (names : List (List ℕ)) → AllByRecursion IsName names → AreLines (map line.Input names)
 inputs-fit [] all = tt
 inputs-fit (name ∷ names) all = (all.0, inputs-fit names all.1)
 

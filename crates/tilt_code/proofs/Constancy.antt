@@ -33,7 +33,7 @@ leaf_of-changes xs maps h (Two op a b) = constant-changes None
 leaf_of-changes xs maps h (If c a b) = constant-changes None
 
 -- an instruction gives the same by the same leaf
-instr_cell-same : (leaf other : Instr → Option ℤ) (cells : List (Option ℤ)) (instr : Instr) → leaf instr ≡ other instr
+pub instr_cell-same : (leaf other : Instr → Option ℤ) (cells : List (Option ℤ)) (instr : Instr) → leaf instr ≡ other instr
     → instr_cell leaf cells instr ≡ instr_cell other cells instr
 instr_cell-same leaf other cells (Port buffer offset) is = is
 instr_cell-same leaf other cells (Win reducer buffer from to number) is = is

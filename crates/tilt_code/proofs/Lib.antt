@@ -1,8 +1,6 @@
 pub mod Complete
 pub mod Constancy
 pub mod Counts
-pub mod Cutting
-pub mod Filling
 pub mod Fronts
 pub mod Instrs
 pub mod LineText

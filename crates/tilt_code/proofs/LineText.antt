@@ -23,9 +23,9 @@ use Rattle.tilt_base.proofs.Lists.{guard_some}
 use Rattle.tilt_text.specs.Step.{◌>>=◌}
 use Rattle.tilt_text.proofs.Lacks.{Lacks, lacks-more, lacks-parts, lacks-append, all_lack, decimal_lacks, signed_lacks}
 use Rattle.tilt_text.proofs.Step.{bind_some}
-use Rattle.tilt_lexer.specs.Word.{goes_on_word, is_word, IsWord}
+use Rattle.tilt_lexer.specs.Word.{goes_on_word, is_word, IsWord, IsName}
 use Rattle.tilt_lexer.proofs.Fronts.{word_goes_on}
-use Rattle.tilt_code.specs.Grammar.{IsInstr, IsInputName, IsNumber, IsStretch, IsWindow}
+use Rattle.tilt_code.specs.Grammar.{IsInstr, IsNumber, IsStretch, IsWindow}
 use Rattle.tilt_code.specs.Line.{one_word, two_word, buffer_word, register_word, map_word, instr_words, line_words, line_text, spaced}
 use Rattle.tilt_code.specs.Reading.{named, word_at, number_at, only, pieces, is_reserved, is_input_name, input_line, is_grid, is_stretch, grid_of, head_at, title_at, step_at, other_at, whole_line, last_word, line_of, instr_at}
 use Rattle.tilt_code.specs.declared.instr.Instr.{Instr}
@@ -40,7 +40,7 @@ use Rattle.tilt_code.proofs.Numbers.{named-decimal, decimal-named}
 -- a line whose numbers lie within their bounds, and whose name may be an input's
 abbrev pub IsLine : Line → Type 0
 IsLine line.Title = Unit {0}
-IsLine (line.Input name) = IsInputName name
+IsLine (line.Input name) = IsName name
 IsLine (line.Head lo hi grid) = IsStretch lo hi × IsGrid grid
 IsLine line.Map = Unit {0}
 IsLine (line.Step register i) = IsNumber register × IsInstr i
@@ -48,12 +48,12 @@ IsLine line.End = Unit {0}
 
 -- tests
 
-input_name_true : (name : List ℕ) → is_input_name name ≡ true → IsInputName name
+input_name_true : (name : List ℕ) → is_input_name name ≡ true → IsName name
 input_name_true name h =
     let p = and_parts (is_word name) (not (is_reserved name)) h in
     (p.0, λ r. let wrong = true_reserved name r in cc (p.1, wrong))
 
-true_input_name : (name : List ℕ) → IsInputName name → is_input_name name ≡ true
+true_input_name : (name : List ℕ) → IsName name → is_input_name name ≡ true
 true_input_name name h =
     elim (cases_Bool (is_reserved name)) [
       | inl holds ↦ absurd (h.1 (reserved_true name holds))

@@ -4,6 +4,7 @@ use Rattle.std.specs.Prelude.{IfOk, IfErr, MatchResult}
 use Rattle.std.specs.List.{AllByRecursion}
 use Rattle.std.proofs.lemmas.Bool.{cases_Bool, and_parts}
 use Rattle.std.proofs.lemmas.Option.{none-some, same_Some}
+use Rattle.tilt_base.proofs.Lists.{all-parts}
 use Rattle.tilt_text.specs.Step.{◌>>=◌}
 use Rattle.tilt_text.proofs.Lacks.{Lacks}
 use Rattle.tilt_text.proofs.Step.{bind_some}
@@ -122,16 +123,8 @@ code-reads code h =
 
 -- bad lines
 
-All-at : {X : Type 0} (P : X → Type 0) (xs : List X) (y : X) (ys : List X) → AllByRecursion P (xs ++ y ∷ ys) → P y
-All-at P [] y ys all = all.0
-All-at P (x ∷ xs) y ys all = All-at P xs y ys all.1
-
-All-front : {X : Type 0} (P : X → Type 0) (xs ys : List X) → AllByRecursion P (xs ++ ys) → AllByRecursion P xs
-All-front P [] ys all = tt
-All-front P (x ∷ xs) ys all = (all.0, All-front P xs ys all.1)
-
 here-lacks : (bytes : List ℕ) (r : Reading bytes) → Lacks 10 r.here
-here-lacks bytes r = All-at (Lacks 10) r.front r.here r.behind (subst (AllByRecursion (Lacks 10)) r.parts (pieces_lack bytes))
+here-lacks bytes r = (all-parts (Lacks 10) r.front (r.here ∷ r.behind) (subst (AllByRecursion (Lacks 10)) r.parts (pieces_lack bytes))).1.0
 
 -- a text that is a listing isn't refused
 listing-reads : (bytes : List ℕ) (n : ℕ) → read_text bytes ≡ Err n → IsListing bytes → ⊥
@@ -177,7 +170,7 @@ bad-line bytes n e = let r = reading bytes in told-bad bytes n r e r.told
 
 front-lacks : (texts : List (List ℕ)) → IsFront texts → AllByRecursion (Lacks 10) texts
 front-lacks texts (code, h, behind) =
-    All-front (Lacks 10) texts behind.0 (subst (AllByRecursion (Lacks 10)) behind.1 (texts-lack (code_lines code) (code-fits code h)))
+    (all-parts (Lacks 10) texts behind.0 (subst (AllByRecursion (Lacks 10)) behind.1 (texts-lack (code_lines code) (code-fits code h)))).0
 
 texts-join : (p q r : PartialCode) (xs ys : List (List ℕ)) → run_texts p xs ≡ Some q → run_texts q ys ≡ Some r → run_texts p (xs ++ ys) ≡ Some r
 texts-join p q r [] ys e f = ap (λ (x : PartialCode). run_texts x ys) (same_Some p q e) ∙ f

@@ -12,9 +12,9 @@ use Rattle.tilt_base.specs.Grid.{GridPoints, IsGrid}
 use Rattle.tilt_base.proofs.Comparisons.{same_bytes}
 use Rattle.tilt_text.specs.Step.{◌>>=◌}
 use Rattle.tilt_text.proofs.Step.{bind_some}
-use Rattle.tilt_lexer.specs.Word.{AreDistinct}
+use Rattle.tilt_lexer.specs.Word.{AreDistinct, IsName}
 use Rattle.tilt_code.specs.Code.{Block, LoopParts}
-use Rattle.tilt_code.specs.Grammar.{IsInstr, IsInputName, IsNumber, IsStretch, IsBlock, IsLoop, stands_in_map, stands_in_body}
+use Rattle.tilt_code.specs.Grammar.{IsInstr, IsNumber, IsStretch, IsBlock, IsLoop, stands_in_map, stands_in_body}
 use Rattle.tilt_code.specs.Line.{line_text}
 use Rattle.tilt_code.specs.Listing.{block_lines, map_lines, loop_lines}
 use Rattle.tilt_code.specs.Partial.{PartialCode, nothing, is_nil, is_new, with_title, with_input, with_head, with_map, with_step, open_loop, with_end, with_line, line_read}
@@ -65,7 +65,7 @@ IsIn stage.InMap p = IsHeaded p.lo p.hi p.grid p.maps × IsOpen stands_in_map p.
 IsIn stage.InBody p = IsHeaded p.lo p.hi p.grid p.maps × IsOpen stands_in_body p.block
 
 pub record IsPartialAt (at : Stage) (p : PartialCode) : Type 0 where
-  pub named : AllByRecursion IsInputName p.inputs
+  pub named : AllByRecursion IsName p.inputs
   pub distinct : AreDistinct p.inputs
   pub loops : AllByRecursion IsLoop p.loops
   pub inside : IsIn at p
@@ -133,14 +133,14 @@ input-lines : (inputs : List (List ℕ)) (name : List ℕ) (loops : List LoopPar
 input-lines inputs name loops e =
     rw e (append-nil (map line.Input (inputs ++ name ∷ [])) ∙ map-append line.Input inputs (name ∷ []) ∙ ap (λ (t : List Line). t ++ line.Input name ∷ []) (sym (append-nil (map line.Input inputs))))
 
-input-sound : (at : Stage) (name : List ℕ) (p q : PartialCode) → IsInputName name → IsPartialAt at p → with_input at name p ≡ Some q → Step at p q (line.Input name)
+input-sound : (at : Stage) (name : List ℕ) (p q : PartialCode) → IsName name → IsPartialAt at p → with_input at name p ≡ Some q → Step at p q (line.Input name)
 input-sound stage.Outside name p q n g e =
     let r : PartialCode = record p { stage = stage.Outside; inputs = p.inputs ++ name ∷ [] } in
     let kept = guard_some (is_new p.loops p.inputs name) (Some r) q e in
     let tests = and_parts (is_nil p.loops) (not (list_any (λ other. bytes_eq other name) p.inputs)) kept.0 in
     let fresh = not-true (list_any (λ other. bytes_eq other name) p.inputs) tests.1 in
     step_is stage.Outside p r q (line.Input name) kept.1 (ap (λ (ls : List Line). line.Title ∷ ls) (input-lines p.inputs name p.loops (nil_true p.loops tests.0))) (record {
-      named = all-append IsInputName p.inputs (name ∷ []) g.named (n, tt);
+      named = all-append IsName p.inputs (name ∷ []) g.named (n, tt);
       distinct = distinct-push p.inputs name g.distinct fresh;
       loops = g.loops;
       inside = g.inside;

@@ -3,20 +3,21 @@ use Rattle.std.proofs.Common.{◌≡◌, ℤ, pos, ◌+ℤ◌, Bool, true, false
 use Rattle.std.proofs.lemmas.List.{map-append}
 use Rattle.std.specs.Ordering.{int_eq}
 use Rattle.std.specs.List.{AllByRecursion}
+use Rattle.tilt_base.proofs.Lists.{all-parts}
 use Rattle.tilt_code.proofs.Constancy.{loop_of-changes}
-use Rattle.tilt_code.proofs.Filling.{snapshots-Fill}
-use Rattle.tilt_code.proofs.Cutting.{snapshots-stream}
+use Rattle.tilt_stream.proofs.Filling.{snapshots-Fill}
+use Rattle.tilt_stream.proofs.Cutting.{snapshots-stream}
 use Rattle.tilt_code.proofs.Turns.{turns-are}
 use Rattle.tilt_code.specs.Body.{last_or, body_of}
 use Rattle.tilt_code.specs.Code.{LoopParts, CodeParts}
 use Rattle.tilt_code.specs.Grammar.{IsLoop}
 use Rattle.tilt_code.specs.Meaning.{IsTimed, loop_of, with_loops, meaning_of}
 use Rattle.tilt_code.specs.Run.{with_buffers, run_of}
-use Rattle.tilt_code.specs.Turn.{Fill, turns}
+use Rattle.tilt_code.specs.Turn.{turns}
 use Rattle.tilt_stream.proofs.Constancy.{stream_of-changes}
 use Rattle.tilt_stream.specs.Agreement.{ChangesOnlyAtMarks}
 use Rattle.tilt_stream.specs.Domain.{on_grid, lies_in, restricted}
-use Rattle.tilt_stream.specs.Snap.{Snapshot}
+use Rattle.tilt_stream.specs.Snap.{Snapshot, Fill}
 use Rattle.tilt_stream.specs.Snapshots.{snapshots}
 use Rattle.tilt_stream.specs.Stream.{Stream, SameStream, stream_of}
 use Rattle.tilt_stream.specs.Pointwise.{nothing}
@@ -81,7 +82,8 @@ with_buffers-last : (lists : List (List Snapshot)) (front : List LoopParts) (l :
 with_buffers-last lists [] l = refl
 with_buffers-last lists (first ∷ front) l = with_buffers-last (lists ++ turns (map stream_of lists) first ∷ []) front l
 
-with_loops-last : (xs : List Stream) (front : List LoopParts) (l : LoopParts)
+-- the same over streams
+pub with_loops-last : (xs : List Stream) (front : List LoopParts) (l : LoopParts)
     → with_loops xs (front ++ l ∷ []) ≡ with_loops xs front ++ loop_of (with_loops xs front) l ∷ []
 with_loops-last xs [] l = refl
 with_loops-last xs (first ∷ front) l = with_loops-last (xs ++ loop_of xs first ∷ []) front l
@@ -90,15 +92,6 @@ with_loops-last xs (first ∷ front) l = with_loops-last (xs ++ loop_of xs first
 pub last_or-pushed : {A : Type 0} (given : A) (xs : List A) (x : A) → last_or given (xs ++ x ∷ []) ≡ x
 last_or-pushed given [] x = refl
 last_or-pushed given (y ∷ ys) x = last_or-pushed y ys x
-
--- a loop that stands among others, and those before it
-timed-front : (front rest : List LoopParts) → AllByRecursion IsTimed (front ++ rest) → AllByRecursion IsTimed front
-timed-front [] rest h = tt
-timed-front (first ∷ front) rest h = (h.0, timed-front front rest h.1)
-
-timed-last : (front : List LoopParts) (l : LoopParts) → AllByRecursion IsTimed (front ++ l ∷ []) → IsTimed l
-timed-last [] l h = h.0
-timed-last (first ∷ front) l h = timed-last front l h.1
 
 module _ (code : CodeParts) (inputs : List (List Snapshot)) (front : List LoopParts) (l : LoopParts)
     (ends : code.loops ≡ front ++ l ∷ []) (all : AllByRecursion IsTimed code.loops) where
@@ -111,7 +104,7 @@ module _ (code : CodeParts) (inputs : List (List Snapshot)) (front : List LoopPa
       ap (λ (loops : List LoopParts). last_or [] (with_buffers inputs loops)) ends
       ∙ ap (λ (lists : List (List Snapshot)). last_or [] lists) (with_buffers-last inputs front l)
       ∙ last_or-pushed [] (with_buffers inputs front) (turns (map stream_of (with_buffers inputs front)) l)
-      ∙ ap (λ (xs : List Stream). turns xs l) (with_buffers-streams inputs front (timed-front front (l ∷ []) timed))
+      ∙ ap (λ (xs : List Stream). turns xs l) (with_buffers-streams inputs front (all-parts IsTimed front (l ∷ []) timed).0)
 
   meaning-last : meaning_of code inputs ≡ loop_of (with_loops (map stream_of inputs) front) l
   meaning-last =
@@ -122,12 +115,12 @@ module _ (code : CodeParts) (inputs : List (List Snapshot)) (front : List LoopPa
   -- the run gives the snapshots of the meaning on the last loop's stretch
   pub run-is : run_of code inputs ≡ snapshots (meaning_of code inputs) l.lo l.hi
   run-is =
-      run-turns ∙ turns-are (with_loops (map stream_of inputs) front) l (timed-last front l timed)
+      run-turns ∙ turns-are (with_loops (map stream_of inputs) front) l (all-parts IsTimed front (l ∷ []) timed).1.0
       ∙ sym (ap (λ (x : Stream). snapshots x l.lo l.hi) meaning-last)
 
   -- and they fill that stretch
   pub run-Fill : Fill l.lo l.hi (run_of code inputs)
-  run-Fill = subst (Fill l.lo l.hi) (sym run-turns) (turns-Fill (with_loops (map stream_of inputs) front) l (timed-last front l timed))
+  run-Fill = subst (Fill l.lo l.hi) (sym run-turns) (turns-Fill (with_loops (map stream_of inputs) front) l (all-parts IsTimed front (l ∷ []) timed).1.0)
 
 -- the loops of a code have a stretch and a grid
 pub loops-timed : (loops : List LoopParts) → AllByRecursion IsLoop loops → AllByRecursion IsTimed loops

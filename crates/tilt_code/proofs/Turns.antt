@@ -11,8 +11,8 @@ use Rattle.tilt_base.specs.Grid.{GridPoints, IsGrid, IsPoint, is_point, ceil, fl
 use Rattle.tilt_code.specs.Body.{body_of}
 use Rattle.tilt_code.specs.Code.{LoopParts}
 use Rattle.tilt_code.specs.Meaning.{IsTimed, loop_of}
-use Rattle.tilt_code.specs.Turn.{next_mark, turn_end, turn, turns_from, turns_until, turns}
-use Rattle.tilt_stream.specs.Marks.{IsNextMark}
+use Rattle.tilt_code.specs.Turn.{turn_end, turn, turns_from, turns_until, turns}
+use Rattle.tilt_stream.specs.Marks.{IsNextMark, next_mark}
 use Rattle.tilt_stream.proofs.Cut.{IsUnmarked, int_gap_is, int_gap_none, snapshots-first, snapshots-none}
 use Rattle.tilt_stream.specs.Domain.{some_mark, on_grid, lies_in, restricted}
 use Rattle.tilt_stream.specs.Snap.{Snapshot}

@@ -1,11 +1,11 @@
 -- What the grammar of listings asks of a code (our own rule): all but where its references lead.
-use Rattle.std.specs.Prelude.{ℕ, ◌^◌, ◌<◌, ◌≤◌, ℤ, neg_ℤ, ◌<ℤ◌, ◌≤ℤ◌, Bool, true, false, List, length, Some, None, FitsSigned, IsTrue, ⊤}
+use Rattle.std.specs.Prelude.{ℕ, ◌^◌, ◌<◌, ◌≤◌, ℤ, neg_ℤ, ◌<ℤ◌, ◌≤ℤ◌, Bool, true, false, length, Some, None, FitsSigned, IsTrue, ⊤}
 use Rattle.std.specs.Int.{w64}
 use Rattle.std.specs.List.{AllByRecursion}
 use Rattle.tilt_base.specs.Grid.{IsGrid}
 use Rattle.tilt_base.specs.Offset.{IsOffset}
 use Rattle.tilt_base.specs.declared.limits.TheConstants.{WIDE}
-use Rattle.tilt_lexer.specs.Word.{IsWord, IsReserved, AreDistinct}
+use Rattle.tilt_lexer.specs.Word.{AreDistinct, IsName}
 use Rattle.tilt_code.specs.Code.{Block, LoopParts, CodeParts}
 use Rattle.tilt_code.specs.declared.instr.Instr.{Instr}
 use Rattle.tilt_code.specs.declared.instr.Instr.TheVariants as instr
@@ -63,13 +63,9 @@ pub record IsLoop (loop : LoopParts) : Type 0 where
   pub maps : AllByRecursion (IsBlock stands_in_map) loop.maps
   pub body : IsBlock stands_in_body loop.body
 
--- a name that an input may have
-abbrev pub IsInputName : List ℕ → Type 0
-IsInputName name = IsWord name × ¬ (IsReserved name)
-
 -- what the grammar asks of a code
 pub record IsGrammatical (code : CodeParts) : Type 0 where
-  pub named : AllByRecursion IsInputName code.inputs
+  pub named : AllByRecursion IsName code.inputs
   pub distinct : AreDistinct code.inputs
   pub some : 0 < length code.loops
   pub loops : AllByRecursion IsLoop code.loops

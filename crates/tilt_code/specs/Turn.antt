@@ -1,17 +1,13 @@
 -- The turns of a loop: its snapshots, made one after the other (the TiLT paper's loop from change to change; where a snapshot ends is our
 -- own rule). A turn looks at one cell of the body, and at the body's marks above it.
-use Rattle.std.specs.Prelude.{◌≡◌, ℕ, zero, suc, ℤ, pos, ◌+ℤ◌, ◌-ℤ◌, ◌<ℤ◌, if◌then◌else◌, List, [], ◌∷◌, Option, Some, None, int_lt}
+use Rattle.std.specs.Prelude.{ℕ, zero, suc, ℤ, pos, ◌+ℤ◌, ◌-ℤ◌, if◌then◌else◌, List, [], ◌∷◌, Option, Some, None, int_lt}
 use Rattle.std.specs.Int.{int_gap, int_min}
 use Rattle.tilt_base.specs.Grid.{GridPoints, ceil, floor}
+use Rattle.tilt_stream.specs.Marks.{next_mark}
 use Rattle.tilt_code.specs.Body.{body_of}
 use Rattle.tilt_code.specs.Code.{LoopParts}
 use Rattle.tilt_stream.specs.Snap.{Snapshot}
 use Rattle.tilt_stream.specs.Stream.{Stream}
-
--- the first of so many ticks behind `tick` that has a mark
-abbrev pub next_mark : Stream → ℤ → ℕ → Option ℤ
-next_mark x tick zero = None
-next_mark x tick (suc more) = if x.mark (tick +ℤ pos 1) then Some (tick +ℤ pos 1) else next_mark x (tick +ℤ pos 1) more
 
 -- where a snapshot ends whose body next has a mark at this tick: at the greatest grid point below it, and at `hi` at the latest
 abbrev pub turn_end : GridPoints → ℤ → Option ℤ → ℤ
@@ -43,8 +39,3 @@ turns_until body grid hi start = turns_from body grid hi start (int_gap start hi
 -- the turns of a loop over the streams of the buffers
 abbrev pub turns : List Stream → LoopParts → List Snapshot
 turns xs l = turns_until (body_of xs l) l.grid l.hi l.lo
-
--- snapshots that go from `lo` to `hi`: the first starts at `lo`, each of the others where the one before it ends, and the last ends at `hi`
-abbrev pub Fill : ℤ → ℤ → List Snapshot → Type 0
-Fill lo hi [] = lo ≡ hi
-Fill lo hi (s ∷ ss) = (s.start ≡ lo) × (lo <ℤ s.end) × Fill s.end hi ss

@@ -9,10 +9,10 @@ ghost use Rattle.tilt_code.specs.Code.{LoopParts, CodeParts};
 ghost use Rattle.tilt_code.specs.Meaning.{IsTimed, loop_of, with_loops, meaning_of};
 ghost use Rattle.tilt_code.specs.References.{IsCode};
 ghost use Rattle.tilt_code.specs.Run.{buffers_of, run_of};
-ghost use Rattle.tilt_code.specs.Turn.{Fill, turn, turns_until, turns};
+ghost use Rattle.tilt_code.specs.Turn.{turn, turns_until, turns};
 ghost use Rattle.tilt_stream.specs.Agreement.{ChangesOnlyAtMarks};
 ghost use Rattle.tilt_stream.specs.Marks.{IsNextMark, HasNoMarkAbove};
-ghost use Rattle.tilt_stream.specs.Snap.{Snapshot, AreSnapshots};
+ghost use Rattle.tilt_stream.specs.Snap.{Snapshot, AreSnapshots, Fill};
 ghost use Rattle.tilt_stream.specs.Snapshots.{snapshots};
 ghost use Rattle.tilt_stream.specs.Stream.{Stream, SameStream, stream_of};
 

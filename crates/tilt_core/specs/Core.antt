@@ -5,7 +5,7 @@ use Rattle.std.specs.List.{AllByRecursion}
 use Rattle.tilt_base.specs.Expression.{Leaf, One, Two, If}
 use Rattle.tilt_base.specs.Grid.{IsGrid}
 use Rattle.tilt_base.specs.declared.limits.TheConstants.{T}
-use Rattle.tilt_lexer.specs.Word.{IsWord, IsReserved, AreDistinct}
+use Rattle.tilt_lexer.specs.Word.{AreDistinct, IsName}
 use Rattle.tilt_base.specs.declared.span.Span.{Span}
 use Rattle.tilt_core.specs.CoreTree.{Const, Read, Reduce, CoreTree, Definition, nodes, coded_definition}
 
@@ -60,15 +60,11 @@ domain_of (def ∷ next ∷ defs) = domain_of (next ∷ defs)
 abbrev pub emitted_number : CoreParts → ℕ
 emitted_number core = length core.inputs + length core.names
 
--- a name that a source may have
-abbrev pub IsSourceName : List ℕ → Type 0
-IsSourceName name = IsWord name × ¬ (IsReserved name)
-
 -- what the core of an accepted query keeps
 pub record IsCore (core : CoreParts) : Type 0 where
   pub one_emitted : length core.defs ≡ suc (length core.names)
   pub few : length core.inputs + length core.defs ≤ 256
   pub distinct : AreDistinct (core.inputs ++ core.names)
-  pub named : AllByRecursion IsSourceName (core.inputs ++ core.names)
+  pub named : AllByRecursion IsName (core.inputs ++ core.names)
   pub definitions : AreDefinitions (length core.inputs) core.defs
   pub domain : IsSome (domain_of core.defs)

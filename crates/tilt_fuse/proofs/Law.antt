@@ -10,7 +10,7 @@ use Rattle.tilt_base.specs.Expression.{Leaf}
 use Rattle.tilt_base.specs.Expression as expression
 use Rattle.tilt_base.specs.Scalar.{apply1, apply2, choose}
 use Rattle.tilt_base.specs.declared.reducer.Reducer.{Reducer}
-use Rattle.tilt_fuse.proofs.Same.{same-refl, same-sym, same-trans, shifted-same, lifted1-same, lifted2-same, branched-same, window-moved, window-later}
+use Rattle.tilt_stream.proofs.Same.{same-refl, same-sym, same-trans, shifted-same, lifted1-same, lifted2-same, branched-same, window-moved, window-later}
 use Rattle.tilt_fuse.proofs.Shifted.{moved-stream}
 use Rattle.tilt_fuse.specs.FusedTree.{FusedTree, Const, Port, Win, WinBy, Argument, One, Two, If}
 use Rattle.tilt_fuse.specs.Plan.{moved, first_port, reads_only, only_reading, as_map, is_port, window_over, window_on, reading_of, fused, has_window_on}

@@ -4,7 +4,6 @@ pub mod Means
 pub mod Near
 pub mod Places
 pub mod Planned
-pub mod Same
 pub mod Shifted
 pub mod Used
 pub mod Worked

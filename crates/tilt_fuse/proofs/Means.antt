@@ -10,7 +10,7 @@ use Rattle.tilt_base.specs.Expression as expression
 use Rattle.tilt_fuse.proofs.Law.{AllStand, fused-means}
 use Rattle.tilt_fuse.proofs.Planned.{Held, merged-is, is, windows, merged-more, trees-kept, trees-merged, rest-skip, rest-merge, rest-loop}
 use Rattle.tilt_fuse.proofs.Places.{defs-from}
-use Rattle.tilt_fuse.proofs.Same.{same-sym, same-trans, period-one}
+use Rattle.tilt_stream.proofs.Same.{same-sym, same-trans, period-one}
 use Rattle.tilt_fuse.proofs.Used.{replicate-at}
 use Rattle.tilt_fuse.specs.FusedTree.{FusedTree, PlannedLoop}
 use Rattle.tilt_fuse.specs.Plan.{fused, has_window_on, is_windowed, is_merged, loops_from, plan_of}

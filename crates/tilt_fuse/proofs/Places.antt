@@ -1,5 +1,5 @@
 -- Lists of definitions and of their needs, from a place on.
-use Rattle.std.proofs.Common.{◌≡◌, ℕ, zero, suc, ◌+◌, ◌<◌, ◌≤◌, ◌==◌, Bool, false, List, [], ◌∷◌, ◌++◌, length, get_or, drop, drop-cons, replicate, Option, Some, None, refl, sym, ap, ◌∙◌, arith}
+use Rattle.std.proofs.Common.{◌≡◌, ℕ, zero, suc, ◌+◌, ◌<◌, ◌≤◌, ◌==◌, Bool, false, List, [], ◌∷◌, length, get_or, drop, drop-cons, Option, Some, None, refl, sym, ap, ◌∙◌, arith}
 use Rattle.std.specs.Prelude.{◌||◌, ◌&&◌, is_some}
 use Rattle.tilt_bounds.proofs.Needs.{need_at-definition}
 use Rattle.tilt_bounds.proofs.Steps.{length-needs, length-needs_from}
@@ -7,11 +7,6 @@ use Rattle.tilt_fuse.specs.Plan.{has_window_on, is_windowed, are_none}
 use Rattle.tilt_fuse.specs.Trees.{IsKnown}
 use Rattle.tilt_core.specs.CoreTree.{Definition}
 use Rattle.tilt_core.specs.Needs.{Need, needs_from}
-
--- one more of many that are the same
-pub replicate-more : {A : Type 0} (x : A) (count : ℕ) → replicate count x ++ x ∷ [] ≡ replicate (suc count) x
-replicate-more x zero = refl
-replicate-more x (suc count) = ap (λ (xs : List _). x ∷ xs) (replicate-more x count)
 
 -- behind the last definition there are none
 pub none-behind : (defs : List Definition) (place : ℕ) → place ≤ length defs → (place == length defs) ≡ are_none (drop place defs)

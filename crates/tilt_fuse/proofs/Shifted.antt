@@ -4,7 +4,7 @@ use Rattle.std.specs.Prelude.{◌||◌}
 use Rattle.std.proofs.lemmas.Int.{ints}
 use Rattle.tilt_base.specs.Reduce.{numbers, reduce}
 use Rattle.tilt_base.specs.declared.reducer.Reducer.{Reducer}
-use Rattle.tilt_fuse.proofs.Same.{same-refl, lifted1-same, lifted2-same, branched-same}
+use Rattle.tilt_stream.proofs.Same.{same-refl, lifted1-same, lifted2-same, branched-same}
 use Rattle.tilt_fuse.specs.FusedTree.{FusedTree, Const, Port, Win, WinBy, Argument, One, Two, If}
 use Rattle.tilt_fuse.specs.Plan.{moved}
 use Rattle.tilt_fuse.specs.Streams.{map_cell, fused_stream}

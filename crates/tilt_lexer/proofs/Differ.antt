@@ -49,29 +49,29 @@ pub same_key : (k j : Key) → key_text k ≡ key_text j → k ≡ j
 same_key k j e = same_Some k j (sym (key_with-text k) ∙ ap key_with e ∙ key_with-text j)
 
 -- the first sign of the table with this text
-abbrev mark_with : List ℕ → Option Mark
-mark_with bytes = find (λ m. bytes_eq (mark_text m) bytes) MARKS
+abbrev sign_with : List ℕ → Option Mark
+sign_with bytes = find (λ m. bytes_eq (mark_text m) bytes) MARKS
 
-mark_with-text : (m : Mark) → mark_with (mark_text m) ≡ Some m
-mark_with-text mark.Semicolon = refl
-mark_with-text mark.Assign = refl
-mark_with-text mark.Equal = refl
-mark_with-text mark.NotEqual = refl
-mark_with-text mark.Less = refl
-mark_with-text mark.AtMost = refl
-mark_with-text mark.Greater = refl
-mark_with-text mark.AtLeast = refl
-mark_with-text mark.Plus = refl
-mark_with-text mark.Minus = refl
-mark_with-text mark.Star = refl
-mark_with-text mark.Slash = refl
-mark_with-text mark.Percent = refl
-mark_with-text mark.OpenParen = refl
-mark_with-text mark.CloseParen = refl
-mark_with-text mark.OpenBracket = refl
-mark_with-text mark.CloseBracket = refl
-mark_with-text mark.Comma = refl
-mark_with-text mark.Colon = refl
+sign_with-text : (m : Mark) → sign_with (mark_text m) ≡ Some m
+sign_with-text mark.Semicolon = refl
+sign_with-text mark.Assign = refl
+sign_with-text mark.Equal = refl
+sign_with-text mark.NotEqual = refl
+sign_with-text mark.Less = refl
+sign_with-text mark.AtMost = refl
+sign_with-text mark.Greater = refl
+sign_with-text mark.AtLeast = refl
+sign_with-text mark.Plus = refl
+sign_with-text mark.Minus = refl
+sign_with-text mark.Star = refl
+sign_with-text mark.Slash = refl
+sign_with-text mark.Percent = refl
+sign_with-text mark.OpenParen = refl
+sign_with-text mark.CloseParen = refl
+sign_with-text mark.OpenBracket = refl
+sign_with-text mark.CloseBracket = refl
+sign_with-text mark.Comma = refl
+sign_with-text mark.Colon = refl
 
-pub same_mark : (m n : Mark) → mark_text m ≡ mark_text n → m ≡ n
-same_mark m n e = same_Some m n (sym (mark_with-text m) ∙ ap mark_with e ∙ mark_with-text n)
+pub same_sign : (m n : Mark) → mark_text m ≡ mark_text n → m ≡ n
+same_sign m n e = same_Some m n (sym (sign_with-text m) ∙ ap sign_with e ∙ sign_with-text n)

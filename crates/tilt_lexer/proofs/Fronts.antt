@@ -12,7 +12,7 @@ use Rattle.tilt_lexer.specs.declared.mark.Mark.{Mark}
 use Rattle.tilt_lexer.specs.declared.token.Tok.{Tok}
 use Rattle.tilt_lexer.specs.declared.token.Tok.TheVariants as tok
 use Rattle.tilt_lexer.specs.Front.{BeginsWithSign, IsFront}
-use Rattle.tilt_lexer.specs.Tokens.{mark_text, IsDigits, IsTextOf, Begins, BeginsNone, BeginsBig, IsWithin}
+use Rattle.tilt_lexer.specs.Tokens.{mark_text, IsDigits, IsTextOf, Begins, BeginsBig, IsWithin}
 use Rattle.tilt_lexer.specs.Word.{begins_word, goes_on_word, IsWord}
 use Rattle.tilt_lexer.proofs.Texts.{word_from_first, digits_from_first, sign_from_first}
 
@@ -112,9 +112,3 @@ module _ (bytes : List ℕ) where
           };
           within = tt;
         }
-
-    -- where no sign stands at the front, no token does
-    pub no_sign_begins : ((m : Mark) (more : List ℕ) → bytes ≡ mark_text m ++ more → ⊥) → BeginsNone bytes
-    no_sign_begins none = λ front more e h.
-        let is_sign = sign_from_first bytes front more e h no_word no_digit in
-        none is_sign.0 more (e ∙ ap (λ l. l ++ more) is_sign.1)

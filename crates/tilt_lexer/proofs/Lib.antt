@@ -1,9 +1,9 @@
 pub mod Differ
 pub mod Faults
 pub mod Fronts
-pub mod Marks
 pub mod Numbers
 pub mod Reading
+pub mod Signs
 pub mod Sound
 pub mod Texts
 pub mod Unique

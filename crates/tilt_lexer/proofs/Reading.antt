@@ -34,9 +34,6 @@ module _ (at n : ℕ) (kind : Tok) (bytes after : List ℕ) (front : IsFront kin
       subst (λ m. At m after) (length-take-le n bytes front.fits) (subst (At (length (take n bytes))) behind (λ is. behind_token front.begins front.within is))
 
 module _ (bytes : List ℕ) where
-  pub before_all : TokensBefore bytes 0 []
-  before_all = record { within = omega arith; go_on = λ more are. are; faults = λ f is. is }
-
   pub before_blank : (at : ℕ) (tokens : List Token) → TokensBefore bytes at tokens → at < length bytes → IsTrue (is_blank (get_or bytes at 0)) → TokensBefore bytes (at + 1) tokens
   before_blank at tokens before more_bytes is =
       let step = drop_more bytes at 0 more_bytes in

@@ -40,26 +40,26 @@ pub record FirstOfSign (m : Mark) : Type 0 where
   pub no_digit : IsFalse (is_ascii_digit (get_or (mark_text m) 0 0))
   pub no_blank : IsFalse (is_blank (get_or (mark_text m) 0 0))
 
-pub mark_first : (m : Mark) → FirstOfSign m
-mark_first mark.Semicolon = record { some = omega arith; no_word = refl; no_digit = refl; no_blank = refl }
-mark_first mark.Assign = record { some = omega arith; no_word = refl; no_digit = refl; no_blank = refl }
-mark_first mark.Equal = record { some = omega arith; no_word = refl; no_digit = refl; no_blank = refl }
-mark_first mark.NotEqual = record { some = omega arith; no_word = refl; no_digit = refl; no_blank = refl }
-mark_first mark.Less = record { some = omega arith; no_word = refl; no_digit = refl; no_blank = refl }
-mark_first mark.AtMost = record { some = omega arith; no_word = refl; no_digit = refl; no_blank = refl }
-mark_first mark.Greater = record { some = omega arith; no_word = refl; no_digit = refl; no_blank = refl }
-mark_first mark.AtLeast = record { some = omega arith; no_word = refl; no_digit = refl; no_blank = refl }
-mark_first mark.Plus = record { some = omega arith; no_word = refl; no_digit = refl; no_blank = refl }
-mark_first mark.Minus = record { some = omega arith; no_word = refl; no_digit = refl; no_blank = refl }
-mark_first mark.Star = record { some = omega arith; no_word = refl; no_digit = refl; no_blank = refl }
-mark_first mark.Slash = record { some = omega arith; no_word = refl; no_digit = refl; no_blank = refl }
-mark_first mark.Percent = record { some = omega arith; no_word = refl; no_digit = refl; no_blank = refl }
-mark_first mark.OpenParen = record { some = omega arith; no_word = refl; no_digit = refl; no_blank = refl }
-mark_first mark.CloseParen = record { some = omega arith; no_word = refl; no_digit = refl; no_blank = refl }
-mark_first mark.OpenBracket = record { some = omega arith; no_word = refl; no_digit = refl; no_blank = refl }
-mark_first mark.CloseBracket = record { some = omega arith; no_word = refl; no_digit = refl; no_blank = refl }
-mark_first mark.Comma = record { some = omega arith; no_word = refl; no_digit = refl; no_blank = refl }
-mark_first mark.Colon = record { some = omega arith; no_word = refl; no_digit = refl; no_blank = refl }
+pub sign_first : (m : Mark) → FirstOfSign m
+sign_first mark.Semicolon = record { some = omega arith; no_word = refl; no_digit = refl; no_blank = refl }
+sign_first mark.Assign = record { some = omega arith; no_word = refl; no_digit = refl; no_blank = refl }
+sign_first mark.Equal = record { some = omega arith; no_word = refl; no_digit = refl; no_blank = refl }
+sign_first mark.NotEqual = record { some = omega arith; no_word = refl; no_digit = refl; no_blank = refl }
+sign_first mark.Less = record { some = omega arith; no_word = refl; no_digit = refl; no_blank = refl }
+sign_first mark.AtMost = record { some = omega arith; no_word = refl; no_digit = refl; no_blank = refl }
+sign_first mark.Greater = record { some = omega arith; no_word = refl; no_digit = refl; no_blank = refl }
+sign_first mark.AtLeast = record { some = omega arith; no_word = refl; no_digit = refl; no_blank = refl }
+sign_first mark.Plus = record { some = omega arith; no_word = refl; no_digit = refl; no_blank = refl }
+sign_first mark.Minus = record { some = omega arith; no_word = refl; no_digit = refl; no_blank = refl }
+sign_first mark.Star = record { some = omega arith; no_word = refl; no_digit = refl; no_blank = refl }
+sign_first mark.Slash = record { some = omega arith; no_word = refl; no_digit = refl; no_blank = refl }
+sign_first mark.Percent = record { some = omega arith; no_word = refl; no_digit = refl; no_blank = refl }
+sign_first mark.OpenParen = record { some = omega arith; no_word = refl; no_digit = refl; no_blank = refl }
+sign_first mark.CloseParen = record { some = omega arith; no_word = refl; no_digit = refl; no_blank = refl }
+sign_first mark.OpenBracket = record { some = omega arith; no_word = refl; no_digit = refl; no_blank = refl }
+sign_first mark.CloseBracket = record { some = omega arith; no_word = refl; no_digit = refl; no_blank = refl }
+sign_first mark.Comma = record { some = omega arith; no_word = refl; no_digit = refl; no_blank = refl }
+sign_first mark.Colon = record { some = omega arith; no_word = refl; no_digit = refl; no_blank = refl }
 
 -- a reserved word is a word
 pub key_is_word : (k : Key) → IsWord (key_text k)
@@ -112,7 +112,7 @@ token_first text h =
     elim (token_text text h) [
       | inl w ↦ let first = word_first text w in record { some = first.0; no_blank = blank_no_word (get_or text 0 0) first.1 }
       | inr (inl d) ↦ record { some = d.0; no_blank = blank_no_digit (get_or text 0 0) (digits_first text d) }
-      | inr (inr (m, e)) ↦ let first = mark_first m in record { some = rw e first.some; no_blank = rw e first.no_blank }
+      | inr (inr (m, e)) ↦ let first = sign_first m in record { some = rw e first.some; no_blank = rw e first.no_blank }
     ]
 
 -- the first byte of bytes that begin with a token's text is that of the text
@@ -127,7 +127,7 @@ module _ (bytes text more : List ℕ) (e : bytes ≡ text ++ more) (h : IsTokenT
       elim (token_text text h) [
         | inl w ↦ w
         | inr (inl d) ↦ absurd (false≢true (sym (digit_no_word (get_or text 0 0) (digits_first text d)) ∙ ap begins_word (sym same) ∙ first))
-        | inr (inr (m, s)) ↦ absurd (false≢true (sym (mark_first m).no_word ∙ ap (λ l. begins_word (get_or l 0 0)) (sym s) ∙ ap begins_word (sym same) ∙ first))
+        | inr (inr (m, s)) ↦ absurd (false≢true (sym (sign_first m).no_word ∙ ap (λ l. begins_word (get_or l 0 0)) (sym s) ∙ ap begins_word (sym same) ∙ first))
       ]
 
   pub digits_from_first : IsTrue (is_ascii_digit (get_or bytes 0 0)) → IsDigits text
@@ -136,7 +136,7 @@ module _ (bytes text more : List ℕ) (e : bytes ≡ text ++ more) (h : IsTokenT
       elim (token_text text h) [
         | inl w ↦ absurd (false≢true (sym (digit_no_word (get_or bytes 0 0) first) ∙ ap begins_word same ∙ (word_first text w).1))
         | inr (inl d) ↦ d
-        | inr (inr (m, s)) ↦ absurd (false≢true (sym (mark_first m).no_digit ∙ ap (λ l. is_ascii_digit (get_or l 0 0)) (sym s) ∙ ap is_ascii_digit (sym same) ∙ first))
+        | inr (inr (m, s)) ↦ absurd (false≢true (sym (sign_first m).no_digit ∙ ap (λ l. is_ascii_digit (get_or l 0 0)) (sym s) ∙ ap is_ascii_digit (sym same) ∙ first))
       ]
 
   pub sign_from_first : IsFalse (begins_word (get_or bytes 0 0)) → IsFalse (is_ascii_digit (get_or bytes 0 0)) → IsSign text

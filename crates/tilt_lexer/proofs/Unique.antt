@@ -12,18 +12,18 @@ use Rattle.tilt_lexer.specs.declared.token.Tok.TheVariants as tok
 use Rattle.tilt_lexer.specs.declared.token.Token.{Token}
 use Rattle.tilt_lexer.specs.Tokens.{is_blank, mark_text, IsDigits, IsTextOf, Begins, BeginsBig, IsWithin, AreTokens, nothing, blank, token, IsFaultyAt, bad_byte, big_number, behind_blank, behind_token}
 use Rattle.tilt_lexer.specs.Word.{is_word, IsWord, begins_word}
-use Rattle.tilt_lexer.proofs.Differ.{same_key, same_mark}
-use Rattle.tilt_lexer.proofs.Texts.{digit_no_word, word_first, digits_first, mark_first, key_is_word, token_first, first_same}
+use Rattle.tilt_lexer.proofs.Differ.{same_key, same_sign}
+use Rattle.tilt_lexer.proofs.Texts.{digit_no_word, word_first, digits_first, sign_first, key_is_word, token_first, first_same}
 
 -- no text is of two of the three
 word_no_digits : (text : List ℕ) → IsWord text → IsDigits text → ⊥
 word_no_digits text w d = false≢true (sym (digit_no_word (get_or text 0 0) (digits_first text d)) ∙ (word_first text w).1)
 
 word_no_sign : (text : List ℕ) (m : Mark) → IsWord text → text ≡ mark_text m → ⊥
-word_no_sign text m w e = false≢true (sym (mark_first m).no_word ∙ ap (λ l. begins_word (get_or l 0 0)) (sym e) ∙ (word_first text w).1)
+word_no_sign text m w e = false≢true (sym (sign_first m).no_word ∙ ap (λ l. begins_word (get_or l 0 0)) (sym e) ∙ (word_first text w).1)
 
 digits_no_sign : (text : List ℕ) (m : Mark) → IsDigits text → text ≡ mark_text m → ⊥
-digits_no_sign text m d e = false≢true (sym (mark_first m).no_digit ∙ ap (λ l. is_ascii_digit (get_or l 0 0)) (sym e) ∙ digits_first text d)
+digits_no_sign text m d e = false≢true (sym (sign_first m).no_digit ∙ ap (λ l. is_ascii_digit (get_or l 0 0)) (sym e) ∙ digits_first text d)
 
 -- a text is that of one token
 same_kind : (k j : Tok) (text : List ℕ) → IsTextOf k text → IsTextOf j text → k ≡ j
@@ -42,7 +42,7 @@ same_kind (tok.Key k) (tok.Mark m) text g h = absurd (word_no_sign text m (ap is
 same_kind (tok.Mark m) (tok.Word b) text g h = absurd (word_no_sign text m h.0 g)
 same_kind (tok.Mark m) (tok.Number n) text g h = absurd (digits_no_sign text m h.0 g)
 same_kind (tok.Mark m) (tok.Key k) text g h = absurd (word_no_sign text m (ap is_word h ∙ key_is_word k) g)
-same_kind (tok.Mark m) (tok.Mark n) text g h = ap tok.Mark (same_mark m n (sym g ∙ h))
+same_kind (tok.Mark m) (tok.Mark n) text g h = ap tok.Mark (same_sign m n (sym g ∙ h))
 
 -- one token at the front, and one rest
 record Same (k j : Tok) (text other rest others : List ℕ) : Type 0 where

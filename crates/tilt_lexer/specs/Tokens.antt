@@ -4,7 +4,7 @@ use Rattle.std.specs.Bool.{IsFalse}
 use Rattle.std.specs.Char.{is_ascii_digit}
 use Rattle.std.specs.List.{list_all}
 use Rattle.std.specs.Str.Parse.{digits_value}
-use Rattle.tilt_lexer.specs.Word.{IsWord, IsReserved, key_text}
+use Rattle.tilt_lexer.specs.Word.{IsWord, IsReserved, key_text, IsName}
 use Rattle.tilt_lexer.specs.declared.mark.Mark.{Mark}
 use Rattle.tilt_lexer.specs.declared.mark.Mark.TheVariants as mark
 use Rattle.tilt_lexer.specs.declared.token.Tok.{Tok}
@@ -85,7 +85,7 @@ pub record BeginsBig (bytes : List ℕ) : Type 0 where
 
 -- a name is a word and no reserved one, and a number isn't negative and not above the greatest
 abbrev pub IsSound : Tok → Type 0
-IsSound (tok.Word name) = IsWord name × ¬ (IsReserved name)
+IsSound (tok.Word name) = IsName name
 IsSound (tok.Number n) = pos 0 ≤ℤ n × n ≤ℤ greatest_number
 IsSound (tok.Key k) = ⊤
 IsSound (tok.Mark m) = ⊤

@@ -56,6 +56,10 @@ key_text key.All = codes "all"
 abbrev pub IsReserved : List ℕ → Type 0
 IsReserved bytes = (k : Key) × (key_text k ≡ bytes)
 
+-- a name that an input, or another source, may have: a word that isn't reserved
+abbrev pub IsName : List ℕ → Type 0
+IsName bytes = IsWord bytes × ¬ (IsReserved bytes)
+
 -- no name stands twice
 abbrev pub AreDistinct : List (List ℕ) → Type 0
 AreDistinct [] = ⊤

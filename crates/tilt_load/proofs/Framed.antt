@@ -1,9 +1,9 @@
 -- The frame of an accepted query lies within its limits.
-use Rattle.std.proofs.Common.{◌≡◌, Bool, true, false, if◌then◌else◌, length, map, ◌++◌, [], List, Option, Some, None, Result, Ok, Err, refl, arith}
+use Rattle.std.proofs.Common.{◌≡◌, Bool, true, false, if◌then◌else◌, length, map, ◌++◌, [], List, Option, Some, None, Result, Ok, Err, refl}
 use Rattle.std.specs.Prelude.{pos, ◌≤ℤ◌, IsSome}
 use Rattle.std.specs.List.{range_with_len}
-use Rattle.std.proofs.lemmas.Int.{ints}
 use Rattle.tilt_base.specs.declared.limits.TheConstants.{REACH}
+use Rattle.tilt_bounds.proofs.Reached.{near}
 use Rattle.tilt_bounds.specs.Margins.{MarginsParts, is_too_far}
 use Rattle.tilt_bounds.proofs.Needs.{widest-low}
 use Rattle.tilt_checkpoint.specs.Decided.{IsFrame, frame_of, frame_with}
@@ -26,9 +26,6 @@ no_fault (Some fault) core given e = cc e
 not_far : (far : Bool) (w : Need) (made m : MarginsParts) → ◌≡◌ {A = Result MarginsParts Need} (if far then Err w else Ok made) (Ok m) → far ≡ false
 not_far true w made m e = cc e
 not_far false w made m e = refl
-
-near : (w : Need) → is_too_far w ≡ false → (w.back ≤ℤ REACH) × (w.ahead ≤ℤ REACH)
-near w e = (grind (arith, ints), grind (arith, ints))
 
 frame_within : (over : Option Span) (w : Need) → IsSome over → IsStretch over → (pos 0 ≤ℤ w.back) × (pos 0 ≤ℤ w.ahead)
     → (w.back ≤ℤ REACH) × (w.ahead ≤ℤ REACH) → IsFrame (frame_with over w)

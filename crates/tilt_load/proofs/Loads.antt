@@ -1,5 +1,5 @@
 -- Why files aren't taken: from one file to all.
-use Rattle.std.proofs.Common.{◌≡◌, ◌≢◌, ◌≤◌, ◌⊎◌, List, ℕ, length, inl, inr, arith, refl, ap, Err}
+use Rattle.std.proofs.Common.{◌≡◌, ◌≢◌, ◌≤◌, ◌⊎◌, List, ℕ, length, inl, inr, refl, ap, Err}
 use Rattle.std.specs.Prelude.{⊤}
 use Rattle.tilt_base.specs.declared.limits.TheConstants.{FILE}
 use Rattle.tilt_lexer.specs.Tokens.{AreTokens, IsFaultyAt}
@@ -24,11 +24,6 @@ use Rattle.tilt_load.specs.SeriesFiles.{RefusesSession, by_names}
 use Rattle.tilt_report.specs.Report.{Reason, Report, usage, refusal, read_fault, write_fault, save_fault, out_of_memory, report_of_place, report_of_syntax, report_of_check, report_of_reach}
 use Rattle.tilt_series.specs.Series.{Bounds}
 use Rattle.tilt_words.specs.Binding.{Binding}
-
--- a count that rose later rose
-pub rose_later : (before mid after : ℕ) → before ≤ mid → Rose mid after → Rose before after
-rose_later before mid after low (inl up) = inl (omega arith)
-rose_later before mid after low (inr end) = inr end
 
 -- a fault, where other refusals and other turns follow
 pub load_fault_weaker : (tells tells' : Type 0) (is is' : Reason → Type 0) (turn turn' : List ℕ → Type 0) (before after before' after' : ℕ) → (tells' → tells) → ((why : Reason) → tells' → is why → is' why) → ((name : List ℕ) → Rose before after → turn name → Rose before' after' × turn' name) → (report : Report) → IsLoadFault tells is turn before after report → IsLoadFault tells' is' turn' before' after' report

@@ -2,6 +2,7 @@
 use Rattle.std.proofs.Common.{arith, ◌≡◌, ◌<◌, ◌≤◌, ◌+◌, List, [], ◌∷◌, ◌++◌, ℕ, length, get_or, take, drop, Ok, Err, None, sym, ap, ◌∙◌, subst}
 use Rattle.std.proofs.lemmas.List.{drop_more, take-append-drop, take_more, take_all, length-take-le}
 use Rattle.tilt_stream.specs.Snap.{Snapshot}
+use Rattle.tilt_outside.proofs.Puts.{rose_from}
 use Rattle.tilt_load.specs.Inputs.{faulty_name, file_of}
 use Rattle.tilt_load.specs.Load.{IsLoadFault, HasSessionTurn}
 use Rattle.tilt_load.specs.SeriesFiles.{input_read, inputs_read}
@@ -10,7 +11,7 @@ use Rattle.tilt_series.specs.Series.{Bounds}
 use Rattle.tilt_words.specs.Binding.{Binding}
 use Rattle.tilt_load.proofs.InputNames.{bound_file}
 use Rattle.tilt_load.proofs.InputRows.{read_more, read_stops}
-use Rattle.tilt_load.proofs.Loads.{load_fault_weaker, rose_later}
+use Rattle.tilt_load.proofs.Loads.{load_fault_weaker}
 
 -- a list, parted at an item
 parted : (xs : List (List ℕ)) (x : List ℕ) (i : ℕ) → i < length xs → x ≡ get_or xs i x → xs ≡ take i xs ++ x ∷ drop (i + 1) xs
@@ -61,7 +62,7 @@ module _ (files : List ℕ → List ℕ) (binds : List Binding) (bounds : ℕ �
   -- why the inputs aren't taken, where the one at the place isn't
   pub fault_at : (here : Bounds) → here ≡ bounds i → (tells : Type 0) (now : List ℕ → List ℕ) (file : List ℕ) (before mid after : ℕ) → faulty_name inputs binds ≡ None → file ≡ file_of binds name → (tells → AreRead files binds bounds inputs i) → now ≡ files → before ≤ mid → (report : Report) → IsLoadFault tells (λ r. input_read now here file name ≡ Err r) (λ which. which ≡ file) mid after report → IsLoadFault tells (λ r. inputs_read files binds bounds inputs ≡ Err r) (HasSessionTurn tells files binds bounds inputs) before after report
   fault_at here own tells now file before mid after names bound read same kept report fault =
-      load_fault_weaker tells tells (λ r. input_read now here file name ≡ Err r) (λ r. inputs_read files binds bounds inputs ≡ Err r) (λ which. which ≡ file) (HasSessionTurn tells files binds bounds inputs) mid after before after (λ t. t) (λ r t refused. refused_at here own (read t).0 r (read t).1 (rw (same, bound) at refused)) (λ which rose at. (rose_later before mid after kept rose, rw at (turn_at tells file names bound read))) report fault
+      load_fault_weaker tells tells (λ r. input_read now here file name ≡ Err r) (λ r. inputs_read files binds bounds inputs ≡ Err r) (λ which. which ≡ file) (HasSessionTurn tells files binds bounds inputs) mid after before after (λ t. t) (λ r t refused. refused_at here own (read t).0 r (read t).1 (rw (same, bound) at refused)) (λ which rose at. (rose_from before mid after kept rose, rw at (turn_at tells file names bound read))) report fault
 
 -- all were taken
 pub all_taken : (files : List ℕ → List ℕ) (binds : List Binding) (bounds : ℕ → Bounds) (inputs : List (List ℕ)) (rows : List (List Snapshot)) (i : ℕ) → length inputs ≤ i → inputs_read files binds bounds (take i inputs) ≡ Ok rows → inputs_read files binds bounds inputs ≡ Ok rows

@@ -1,7 +1,7 @@
 -- What the block of an expression gives, register by register: its last register is the expression's cell, and its leaves have the expression's marks.
-use Rattle.std.proofs.Common.{◌≡◌, ℕ, ◌+◌, ◌<◌, ◌≤◌, ℤ, pos, ◌+ℤ◌, Bool, true, false, List, [], ◌∷◌, ◌++◌, length, map, get_or, Option, Some, None, refl, sym, ap, ◌∙◌, arith, subst, append_assoc, length-append}
+use Rattle.std.proofs.Common.{◌≡◌, ℕ, ◌+◌, ◌<◌, ◌≤◌, ℤ, pos, ◌+ℤ◌, Bool, List, [], ◌∷◌, ◌++◌, length, map, get_or, Option, Some, None, refl, sym, ap, ◌∙◌, arith, subst, append_assoc, length-append}
 use Rattle.std.specs.Prelude.{◌||◌}
-use Rattle.std.proofs.Math.Bool.{or-false}
+use Rattle.std.proofs.Math.Bool.{or-false, or_assoc}
 use Rattle.std.proofs.Math.Seq.{get_or-append_seam}
 use Rattle.std.proofs.Math.ListN.{get_or-append}
 use Rattle.std.proofs.lemmas.List.{map-id, get_or-append-add}
@@ -30,16 +30,12 @@ with_registers-append : (leaf : Instr → Option ℤ) (cells : List (Option ℤ)
 with_registers-append leaf cells [] second = refl
 with_registers-append leaf cells (i ∷ first) second = with_registers-append leaf (cells ++ instr_cell leaf cells i ∷ []) first second
 
-or-assoc : (a b c : Bool) → ((a || b) || c) ≡ (a || (b || c))
-or-assoc true b c = refl
-or-assoc false b c = refl
-
 leaf_marked-append : (bs : List Stream) (maps : List Block) (tick : ℤ) (first second : Block)
     → leaf_marked bs maps tick (first ++ second) ≡ (leaf_marked bs maps tick first || leaf_marked bs maps tick second)
 leaf_marked-append bs maps tick [] second = refl
 leaf_marked-append bs maps tick (i ∷ first) second =
     ap (λ (m : Bool). (leaf_of bs maps i).mark tick || m) (leaf_marked-append bs maps tick first second)
-    ∙ sym (or-assoc ((leaf_of bs maps i).mark tick) (leaf_marked bs maps tick first) (leaf_marked bs maps tick second))
+    ∙ sym (or_assoc ((leaf_of bs maps i).mark tick) (leaf_marked bs maps tick first) (leaf_marked bs maps tick second))
 
 -- a tree takes one register at least
 pub registers-some : (t : FusedTree) → 1 ≤ registers t

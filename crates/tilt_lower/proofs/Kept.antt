@@ -5,6 +5,7 @@ use Rattle.std.specs.List.{AllByRecursion}
 use Rattle.std.specs.Option.{unwrap_or}
 use Rattle.std.proofs.lemmas.Int.{ints}
 use Rattle.std.proofs.lemmas.List.Elements.{Contains-append_left}
+use Rattle.tilt_base.proofs.Lists.{all-parts}
 use Rattle.tilt_base.specs.declared.limits.TheConstants.{T, REACH}
 use Rattle.tilt_bounds.proofs.Needs.{need_at-definition}
 use Rattle.tilt_bounds.proofs.Spans.{IsBounded, cut_down-bounded}
@@ -12,7 +13,7 @@ use Rattle.tilt_bounds.proofs.Steps.{definition-at}
 use Rattle.tilt_bounds.specs.Margins.{MarginsParts, IsWithin, evenly, need_at}
 use Rattle.tilt_bounds.specs.Stretch.{stretch_of}
 use Rattle.tilt_code.specs.Code.{Block, LoopParts}
-use Rattle.tilt_code.specs.Grammar.{IsInstr, IsBlock, IsLoop, IsInputName, stands_in_body, stands_in_map}
+use Rattle.tilt_code.specs.Grammar.{IsInstr, IsBlock, IsLoop, stands_in_body, stands_in_map}
 use Rattle.tilt_code.specs.References.{RefersBack, ReadsBefore, IsCode}
 use Rattle.tilt_code.specs.declared.instr.Instr.{Instr}
 use Rattle.tilt_fuse.proofs.Asks.{asks-weaker}
@@ -20,13 +21,13 @@ use Rattle.tilt_fuse.proofs.Planned.{held-within}
 use Rattle.tilt_fuse.specs.FusedTree.{FusedTree, PlannedLoop}
 use Rattle.tilt_fuse.specs.Plan.{nodes, plan_of}
 use Rattle.tilt_fuse.specs.Trees.{EachAsks, Holds, IsKnown}
-use Rattle.tilt_lexer.specs.Word.{AreDistinct}
+use Rattle.tilt_lexer.specs.Word.{AreDistinct, IsName}
 use Rattle.tilt_lower.proofs.Blocks.{registers-some, length-block, length-maps_of}
 use Rattle.tilt_lower.proofs.Bounds.{IsGood, IsGoodMap, Bounded, good, back, maps-good, registers-few, maps-few}
 use Rattle.tilt_lower.proofs.States.{IsLowered, AreLowered}
 use Rattle.tilt_lower.specs.Constants.{BlockFits, ConstantsFit}
 use Rattle.tilt_lower.specs.Lowering.{maps_of, block_of, buffer_of, loop_on, no_definition, lowered, code_of}
-use Rattle.tilt_core.specs.Core.{CoreParts, IsCore, IsDefinition, IsSourceName}
+use Rattle.tilt_core.specs.Core.{CoreParts, IsCore, IsDefinition}
 use Rattle.tilt_core.specs.CoreTree.{Definition}
 use Rattle.tilt_core.specs.Needs.{Need, no_margin, body_need, needs}
 
@@ -109,14 +110,6 @@ module _ (buffer : ℕ → ℕ) (number count : ℕ) (few : count ≤ 256) (def 
         body = back buffer count few w back_low ahead_low t asks 0 0 (length (maps_of t)) (omega (arith, length-maps_of t));
       }
 
-some_last : (front : List LoopParts) (l : LoopParts) → 0 < length (front ++ l ∷ [])
-some_last [] l = omega arith
-some_last (f ∷ front) l = omega arith
-
-front-names : (one two : List (List ℕ)) → AllByRecursion IsSourceName (one ++ two) → AllByRecursion IsInputName one
-front-names [] two h = tt
-front-names (name ∷ one) two h = (h.0, front-names one two h.1)
-
 front-distinct : (one two : List (List ℕ)) → AreDistinct (one ++ two) → AreDistinct one
 front-distinct [] two h = tt
 front-distinct (name ∷ one) two h = (λ among. h.0 (Contains-append_left one two name among), front-distinct one two h.1)
@@ -167,7 +160,7 @@ module _ (query : CoreParts) (margins : MarginsParts) (lo hi : ℤ) (used : List
       let all = kept inputs loops few are fit in
       record {
         grammatical = record {
-          named = front-names query.inputs query.names is.named;
+          named = (all-parts IsName query.inputs query.names is.named).0;
           distinct = front-distinct query.inputs query.names is.distinct;
           some = some_loops;
           loops = kept-loops inputs (map lower loops) all;

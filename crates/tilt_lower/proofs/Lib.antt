@@ -1,11 +1,9 @@
 pub mod Blocks
 pub mod Bounds
-pub mod Cut
 pub mod Kept
 pub mod Numbers
 pub mod Planned
 pub mod Single
-pub mod Snapped
 pub mod States
 pub mod Theorem
 pub mod Whole

@@ -1,8 +1,9 @@
 -- One loop: it agrees with its definition as far as the definition is looked at, where its buffers agree with the sources as far as its body asks for them.
 use Rattle.std.proofs.Common.{◌≡◌, ℕ, zero, suc, ◌+◌, ◌<◌, ◌==◌, ℤ, pos, ◌+ℤ◌, ◌-ℤ◌, ◌<ℤ◌, Bool, true, false, List, [], ◌∷◌, ◌++◌, length, get_or, Option, Some, None, if◌then◌else◌, refl, sym, ap, ◌∙◌, arith, subst}
-use Rattle.std.specs.Prelude.{int_lt, option_map, ◌&&◌}
+use Rattle.std.specs.Prelude.{int_lt, option_map}
 use Rattle.std.specs.Int.{int_min, int_max}
 use Rattle.std.proofs.lemmas.Int.{ints, clamps}
+use Rattle.std.proofs.Math.Bool.{and-false}
 use Rattle.tilt_base.specs.Expression.{Leaf, One, Two, If}
 use Rattle.tilt_base.specs.Grid.{is_point}
 use Rattle.tilt_bounds.proofs.Local.{with_definitions-agrees}
@@ -14,7 +15,7 @@ use Rattle.tilt_code.specs.Code.{LoopParts}
 use Rattle.tilt_code.specs.Meaning.{loop_of}
 use Rattle.tilt_code.specs.declared.instr.Instr.TheVariants as instr
 use Rattle.tilt_fuse.specs.FusedTree.{FusedTree}
-use Rattle.tilt_lower.proofs.Cut.{uncut, cut, nothing_left}
+use Rattle.tilt_stream.proofs.Restricted.{uncut, cut, nothing_left}
 use Rattle.tilt_lower.specs.Lowering.{block_of, maps_of, each_tick, loop_on}
 use Rattle.tilt_stream.proofs.Locality.{narrower-agrees, on_grid-agrees}
 use Rattle.tilt_stream.specs.Agreement.{Agree}
@@ -85,10 +86,6 @@ agree-beside n (Some k) lo hi x y h =
 no_marks : (x : Stream) (tick : ℤ) (n : ℕ) → ((t : ℤ) → x.mark t ≡ false) → some_mark x tick n ≡ false
 no_marks x tick zero h = refl
 no_marks x tick (suc n) h = rw (h (tick +ℤ pos 1)) (no_marks x (tick +ℤ pos 1) n h)
-
-and-false : (b : Bool) → (b && false) ≡ false
-and-false true = refl
-and-false false = refl
 
 module _ (lo hi : ℤ) (number : ℕ) (n : Need) (ys xs : List Stream) (ys_is : length ys ≡ number) (xs_is : length xs ≡ number) where
   abbrev from : ℤ

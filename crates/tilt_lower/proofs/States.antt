@@ -8,6 +8,7 @@ use Rattle.std.proofs.Math.Seq.{get_or-append_seam}
 use Rattle.std.proofs.lemmas.Int.{ints}
 use Rattle.std.proofs.lemmas.Bool.{cases_Bool, or_left, and_parts}
 use Rattle.std.proofs.lemmas.List.{length-map, length-replicate, map-append, get_or_past, get_or_default}
+use Rattle.tilt_code.proofs.Runs.{with_loops-last}
 use Rattle.tilt_bounds.proofs.Needs.{below_or_behind, need_at-definition}
 use Rattle.tilt_bounds.specs.Laws.{AgreeAsAsked}
 use Rattle.tilt_bounds.specs.Margins.{MarginsParts, need_at}
@@ -20,7 +21,7 @@ use Rattle.tilt_fuse.proofs.Law.{fused-means}
 use Rattle.tilt_fuse.proofs.Means.{definition-there, merged-definition}
 use Rattle.tilt_fuse.proofs.Planned.{HoldsAll, holds-narrow, asked-within, body_need-itself, merged-is, is, windows, few, merged-more, trees-kept, trees-merged, rest-skip, rest-merge, rest-loop}
 use Rattle.tilt_fuse.proofs.Places.{defs-from}
-use Rattle.tilt_fuse.proofs.Same.{same-refl, same-sym, same-trans}
+use Rattle.tilt_stream.proofs.Same.{same-refl, same-sym, same-trans}
 use Rattle.tilt_fuse.proofs.Used.{replicate-at}
 use Rattle.tilt_fuse.specs.FusedTree.{FusedTree, PlannedLoop}
 use Rattle.tilt_fuse.specs.FusedTree as tree
@@ -53,11 +54,6 @@ fused_stream-same xs ys n (tree.One op a) asks = ap (lifted1 op) (fused_stream-s
 fused_stream-same xs ys n (tree.Two op a b) asks = λ i. lifted2 op (fused_stream-same xs ys n a asks.0 i) (fused_stream-same xs ys n b asks.1 i)
 fused_stream-same xs ys n (tree.If c a b) asks =
     λ i. branched (fused_stream-same xs ys n c asks.0 i) (fused_stream-same xs ys n a asks.1 i) (fused_stream-same xs ys n b asks.2 i)
-
--- loops over buffers are so many buffers more
-pub with_loops-grow : (bs : List Stream) (front : List LoopParts) (l : LoopParts) → with_loops bs (front ++ l ∷ []) ≡ with_loops bs front ++ loop_of (with_loops bs front) l ∷ []
-with_loops-grow bs [] l = refl
-with_loops-grow bs (first ∷ front) l = with_loops-grow (bs ++ loop_of bs first ∷ []) front l
 
 pub length-with_loops : (bs : List Stream) (loops : List LoopParts) → length (with_loops bs loops) ≡ length bs + length loops
 length-with_loops bs [] = omega arith
@@ -154,7 +150,7 @@ module _ (query : CoreParts) (margins : MarginsParts) (lo hi : ℤ) (used : List
     length-buffers front = length-with_loops inputs_bs (map lower front) ∙ omega (arith, many, length-map front lower)
 
     buffers-more : (front : List PlannedLoop) (l : PlannedLoop) → buffers (front ++ l ∷ []) ≡ buffers front ++ loop_of (buffers front) (lower l) ∷ []
-    buffers-more front l = ap (with_loops inputs_bs) (map-append lower front (l ∷ [])) ∙ with_loops-grow inputs_bs (map lower front) (lower l)
+    buffers-more front l = ap (with_loops inputs_bs) (map-append lower front (l ∷ [])) ∙ with_loops-last inputs_bs (map lower front) (lower l)
 
     -- a source is the stream of its buffer
     abbrev pub HasBuffer : List PlannedLoop → List Stream → ℕ → Type 0

@@ -8,13 +8,14 @@ use Rattle.std.proofs.Math.Seq.{get_or-append_seam, drop-length}
 use Rattle.std.proofs.lemmas.Int.{ints, clamps}
 use Rattle.std.proofs.lemmas.List.{length-map, map-append, append-nil, get_or_past, get_or_default}
 use Rattle.std.proofs.lemmas.Bool.{or_right}
+use Rattle.tilt_core.proofs.Last.{last-need}
 use Rattle.tilt_bounds.proofs.Needs.{below_or_behind, need_at-definition}
 use Rattle.tilt_bounds.proofs.Steps.{length-needs}
 use Rattle.tilt_bounds.specs.Laws.{AgreeAsAsked}
 use Rattle.tilt_bounds.specs.Margins.{MarginsParts, need_at}
 use Rattle.tilt_bounds.specs.Stretch.{cut_down, stretch_of}
 use Rattle.tilt_bounds.specs.declared.loop_span.LoopSpan.{LoopSpan}
-use Rattle.tilt_code.proofs.Runs.{with_buffers-streams, run-is, last_or-pushed}
+use Rattle.tilt_code.proofs.Runs.{with_buffers-streams, run-is, last_or-pushed, with_loops-last}
 use Rattle.tilt_code.specs.Body.{last_or}
 use Rattle.tilt_code.specs.Code.{LoopParts, CodeParts}
 use Rattle.tilt_code.specs.Meaning.{IsTimed, loop_of, with_loops, meaning_of}
@@ -24,8 +25,8 @@ use Rattle.tilt_fuse.specs.FusedTree.{FusedTree, PlannedLoop}
 use Rattle.tilt_fuse.specs.Plan.{fused, is_merged, loops_from, plan_of, has_loop}
 use Rattle.tilt_fuse.specs.Trees.{IsKnown}
 use Rattle.tilt_lower.proofs.Numbers.{loops_from-behind, buffer_of-next}
-use Rattle.tilt_lower.proofs.States.{AreLowered, State, state, with_loops-grow, length-with_loops}
-use Rattle.tilt_lower.proofs.Snapped.{snapshots-agree}
+use Rattle.tilt_lower.proofs.States.{AreLowered, State, state, length-with_loops}
+use Rattle.tilt_stream.proofs.Snapped.{snapshots-agree}
 use Rattle.tilt_lower.specs.Law.{LiesWithin, MeansTheQuery, has_buffer}
 use Rattle.tilt_lower.specs.Lowering.{buffer_of, loop_on, no_definition, lowered, code_of}
 use Rattle.tilt_stream.proofs.Locality.{narrower-agrees}
@@ -53,14 +54,6 @@ output_stretch (Some span) lo hi within =
     let test : int_lt lo hi ≡ true = grind (arith, ints) in
     rw (start, end, test) refl
 
--- the last definition is needed on the output alone, and its span is the output domain
-last-need : (number place : ℕ) (defs : List Definition) → length defs ≡ suc place → get_or (needs_from number defs) place None ≡ Some no_margin
-last-need number place [] is = absurd (omega arith)
-last-need number zero (def ∷ []) is = refl
-last-need number (suc place) (def ∷ []) is = absurd (omega arith)
-last-need number zero (def ∷ next ∷ defs) is = absurd (omega arith)
-last-need number (suc place) (def ∷ next ∷ defs) is = last-need (suc number) place (next ∷ defs) (omega arith)
-
 last-domain : (place : ℕ) (defs : List Definition) (other : Definition) → length defs ≡ suc place → domain_of defs ≡ (get_or defs place other).over
 last-domain place [] other is = absurd (omega arith)
 last-domain zero (def ∷ []) other is = refl
@@ -76,7 +69,7 @@ never-merged true def behind ns number t is = rw is refl
 last-is : (bs : List Stream) (front : List LoopParts) (l : LoopParts) → last_or nothing (with_loops bs (front ++ l ∷ [])) ≡ get_or (with_loops bs (front ++ l ∷ [])) (length bs + length front) nothing
 last-is bs front l =
     let made = with_loops bs front in
-    rw (with_loops-grow bs front l, ← length-with_loops bs front) (last_or-pushed nothing made (loop_of made l) ∙ sym (get_or-append_seam made (loop_of made l) [] nothing))
+    rw (with_loops-last bs front l, ← length-with_loops bs front) (last_or-pushed nothing made (loop_of made l) ∙ sym (get_or-append_seam made (loop_of made l) [] nothing))
 
 has_loop-last : (front : List PlannedLoop) (l : PlannedLoop) (k : ℕ) → l.def ≡ k → has_loop (front ++ l ∷ []) k ≡ true
 has_loop-last [] l k is =

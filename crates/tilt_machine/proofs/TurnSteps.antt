@@ -1,7 +1,6 @@
 -- One turn after the other.
-use Rattle.std.proofs.Common.{◌≡◌, ◌<◌, ◌+◌, ℕ, ℤ, pos, ◌+ℤ◌, ◌≤ℤ◌, ◌<ℤ◌, List, [], ◌∷◌, ◌++◌, append_assoc, drop, get_or, length, sym, ap, ◌∙◌, subst, arith}
+use Rattle.std.proofs.Common.{◌≡◌, ℤ, pos, ◌+ℤ◌, ◌≤ℤ◌, ◌<ℤ◌, List, [], ◌∷◌, ◌++◌, append_assoc, sym, ap, ◌∙◌, subst, arith}
 use Rattle.std.proofs.lemmas.Int.{ints}
-use Rattle.std.proofs.lemmas.List.{drop_more}
 use Rattle.std.specs.List.{AllByRecursion}
 use Rattle.tilt_base.proofs.GridPoints.{ceil-IsCeil}
 use Rattle.tilt_base.specs.Grid.{GridPoints, IsGrid, ceil}
@@ -56,7 +55,3 @@ leaf-kept lists point (If c a b) = tt
 pub all-kept : (lists : List (List Snapshot)) (point : ℤ) (block : Block) → AllByRecursion (IsKept lists [] point) block
 all-kept lists point [] = tt
 all-kept lists point (i ∷ block) = (leaf-kept lists point i, all-kept lists point block)
-
--- what is left from a place on, split at the first
-pub drop-first : {X : Type 0} (xs : List X) (i : ℕ) (x : X) → i < length xs → x ≡ get_or xs i x → drop i xs ≡ x ∷ drop (i + 1) xs
-drop-first xs i x h is = drop_more xs i x h ∙ ap (λ y. y ∷ drop (i + 1) xs) (sym is)

@@ -6,7 +6,7 @@ use Rattle.tilt_outside.specs.Written.{AppendsFront, Puts}
 use Rattle.tilt_outside.specs.declared.failed.Failed.{Failed}
 
 -- a front of one piece is one of both
-front_first : (old new piece more : List ℕ) → AppendsFront old new piece → AppendsFront old new (piece ++ more)
+pub front_first : (old new piece more : List ℕ) → AppendsFront old new piece → AppendsFront old new (piece ++ more)
 front_first old new piece more cut = record {
   front = cut.front;
   rest = cut.rest ++ more;
@@ -15,7 +15,7 @@ front_first old new piece more cut = record {
 }
 
 -- a front of a piece behind one that was put whole
-front_behind : (old mid new done piece : List ℕ) → mid ≡ old ++ done → AppendsFront mid new piece → AppendsFront old new (done ++ piece)
+pub front_behind : (old mid new done piece : List ℕ) → mid ≡ old ++ done → AppendsFront mid new piece → AppendsFront old new (done ++ piece)
 front_behind old mid new done piece whole cut = record {
   front = done ++ cut.front;
   rest = cut.rest;
@@ -24,7 +24,7 @@ front_behind old mid new done piece whole cut = record {
 }
 
 -- a count that rose later has risen
-rose_from : (old mid new : ℕ) → old ≤ mid → Rose mid new → Rose old new
+pub rose_from : (old mid new : ℕ) → old ≤ mid → Rose mid new → Rose old new
 rose_from old mid new kept (inl more) = inl (omega arith)
 rose_from old mid new kept (inr full) = inr full
 

@@ -4,16 +4,16 @@ use Rattle.std.proofs.lemmas.Int.{ints, clamps, by_lt_z}
 use Rattle.std.specs.Bool.{⊤}
 use Rattle.std.proofs.lemmas.Bool.{eq-eqb}
 use Rattle.tilt_base.specs.Grid.{IsGrid}
+use Rattle.tilt_stream.specs.Pieces.{last_start}
 use Rattle.tilt_code.specs.Code.{LoopParts}
-use Rattle.tilt_code.specs.Turn.{Fill}
 use Rattle.tilt_pipe.proofs.Begun.{begun-rises}
 use Rattle.tilt_pipe.proofs.Standing.{made-passed, made-stopped}
 use Rattle.tilt_pipe.proofs.Wanted.{turn_point-rises}
-use Rattle.tilt_pipe.specs.Made.{Stage, last_start, read_by_turn, asked, begun_below}
+use Rattle.tilt_pipe.specs.Made.{Stage, read_by_turn, asked, begun_below}
 use Rattle.tilt_pipe.specs.Positions.{made_by}
 use Rattle.tilt_pipe.specs.Reads.{body_reads, later, last_tick, turn_point}
 use Rattle.tilt_pipe.specs.declared.read.Read.{Read}
-use Rattle.tilt_stream.specs.Snap.{Snapshot}
+use Rattle.tilt_stream.specs.Snap.{Snapshot, Fill}
 
 -- of two ticks the second is as far on; no tick lies before all
 abbrev pub IsAsFar : Option ℤ → Option ℤ → Type 0

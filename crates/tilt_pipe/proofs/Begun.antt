@@ -1,11 +1,10 @@
 -- The fronts of a buffer: what is made up to a tick, and what begins below one.
 use Rattle.std.proofs.Common.{◌≡◌, ◌⊎◌, inl, inr, ◌<◌, ◌≤◌, suc, ℤ, ◌<ℤ◌, ◌≤ℤ◌, Bool, true, false, if◌then◌else◌, int_lt, int_le, List, [], ◌∷◌, length, take, Option, Some, None, refl, ap, arith}
 use Rattle.std.proofs.lemmas.Int.{ints, by_lt_z}
-use Rattle.tilt_code.specs.Turn.{Fill}
 use Rattle.tilt_pipe.proofs.Standing.{all-made, made-passed, made-stopped}
 use Rattle.tilt_pipe.specs.Made.{begun_below}
 use Rattle.tilt_pipe.specs.Positions.{made_by}
-use Rattle.tilt_stream.specs.Snap.{Snapshot}
+use Rattle.tilt_stream.specs.Snap.{Snapshot, Fill}
 
 -- the first one begins below a tick, or none does
 pub begun-passed : (tick : ℤ) (s : Snapshot) (ss : List Snapshot) → s.start <ℤ tick

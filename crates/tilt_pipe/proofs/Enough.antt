@@ -1,17 +1,18 @@
 -- Loops that have made what the last turns of those behind them read have still done so after a turn.
 use Rattle.std.proofs.Common.{◌≡◌, ◌⊎◌, inl, inr, ◌<◌, ℕ, zero, suc, ◌+◌, ◌==◌, ℤ, ◌+ℤ◌, ◌≤ℤ◌, Bool, true, false, if◌then◌else◌, List, [], ◌∷◌, slice_get, slice_set, Option, Some, None, refl, sym, ap, ◌∙◌, subst, arith, Contains}
 use Rattle.std.proofs.lemmas.Int.{ints, clamps}
+use Rattle.tilt_stream.proofs.Pieces.{last_start-push}
+use Rattle.tilt_stream.specs.Pieces.{last_start}
 use Rattle.tilt_pipe.proofs.Standing.{IsNextMade}
 use Rattle.tilt_pipe.proofs.Wanted.{stage_at}
 use Rattle.tilt_pipe.specs.Enough.{IsStanding, AreStanding, IsEnough, AreEnough}
-use Rattle.tilt_pipe.specs.Made.{Work, Stage, last_start, read_by_turn, asked}
+use Rattle.tilt_pipe.specs.Made.{Work, Stage, read_by_turn, asked}
 use Rattle.tilt_pipe.specs.Positions.{made_by, stages_at}
 use Rattle.tilt_pipe.specs.Reads.{body_reads, later, last_tick, turn_point}
 use Rattle.tilt_pipe.specs.declared.read.Read.{Read}
 use Rattle.tilt_stream.specs.Snap.{Snapshot}
 use Rattle.tilt_pipe.proofs.Placed.{stage-position, next-standing}
 use Rattle.tilt_pipe.proofs.Asked.{IsAsFar, later-left, later-right, far-same}
-use Rattle.tilt_pipe.proofs.Standing.{last_start-push}
 
 -- where enough is made up to each of two ticks, it is up to the later one
 enough-later : (s : Stage) (a b : Option ℤ) → IsEnough s a → IsEnough s b → IsEnough s (later a b)

@@ -3,16 +3,17 @@ use Rattle.std.proofs.Common.{◌≡◌, ◌⊎◌, inl, inr, ◌<◌, ◌≤◌
 use Rattle.std.proofs.lemmas.Int.{ints, by_lt_z}
 use Rattle.std.proofs.lemmas.List.{length-take, take_min}
 use Rattle.std.specs.Bool.{⊤}
+use Rattle.tilt_stream.specs.Pieces.{last_start}
 use Rattle.tilt_pipe.proofs.Begun.{made-front, begun-front, begun-more, begun-enough}
-use Rattle.tilt_pipe.proofs.Standing.{IsNextMade, none-made, none-fills, Fill-up}
+use Rattle.tilt_pipe.proofs.Standing.{none-made}
 use Rattle.tilt_pipe.proofs.Wanted.{stage_at, turn_point-rises}
 use Rattle.tilt_pipe.specs.Enough.{IsFilled, AreFilled, IsStanding, AreStanding, made_in, AreWithin, IsEnough, AreEnough}
-use Rattle.tilt_pipe.specs.Made.{Work, Stage, last_start, read_by_turn, asked, begun_below, stages_from}
+use Rattle.tilt_pipe.specs.Made.{Work, Stage, read_by_turn, asked, begun_below, stages_from}
 use Rattle.tilt_pipe.specs.Positions.{made_by, stages_at}
 use Rattle.tilt_pipe.specs.Reads.{body_reads, last_tick, turn_point}
 use Rattle.tilt_pipe.specs.declared.read.Read.{Read}
 use Rattle.tilt_stream.specs.Snap.{Snapshot}
-use Rattle.tilt_pipe.proofs.Placed.{standing-at, stage-position, made_in-at, next-count}
+use Rattle.tilt_pipe.proofs.Placed.{standing-at, stage-position, made_in-at}
 use Rattle.tilt_pipe.proofs.Asked.{IsAsFar, later-rises, last_tick-found, read_by_turn-rises, begun-as_far, starts-rise, begins-beyond, asked-found, far-trans}
 
 -- two fronts of a list that are as long are one
@@ -111,17 +112,6 @@ none-yet buffer (w ∷ next ∷ works) all =
     ap (λ (list : List Snapshot). record { work = w; made = list } ∷ rest) none
     ∙ ap (λ (stages : List Stage). record { work = w; made = begun_below (asked buffer behind) w.whole } ∷ stages)
     (none-yet (suc buffer) (next ∷ works) all.1)
-
-pub none-standing : (works : List Work) → AreFilled works → AreStanding works (map (λ (w : Work). w.loop.lo) works)
-none-standing [] all = tt
-none-standing (w ∷ works) all = (
-  record {
-    filled = all.0;
-    fill = none-fills w.loop.lo w.loop.hi w.whole all.0.whole;
-    within = Fill-up w.loop.lo w.loop.hi w.whole all.0.whole;
-  },
-  none-standing works all.1,
-)
 
 -- a loop that has made a front of its buffer, and there as much or more
 record HasMore (s t : Stage) : Type 0 where
@@ -305,13 +295,3 @@ last-less given buffer (x ∷ []) (suc last) w long is less = absurd (cc is)
 last-less given buffer (x ∷ next ∷ works) zero w long is less = absurd (omega arith)
 last-less given buffer (x ∷ next ∷ works) (suc last) w long is less =
     last-less given (suc buffer) (next ∷ works) last w (omega arith) is less
-
--- with its next snapshot it has made that many
-pub given-next : (given : ℕ) (lo hi start : ℤ) (whole : List Snapshot) (s : Snapshot) → given < length whole
-    → made_by start whole ≡ take given whole → IsNextMade lo hi start whole s → made_by s.end whole ≡ take (suc given) whole
-given-next given lo hi start whole s less is next =
-    let before = ap (λ (list : List Snapshot). length list) is in
-    let one = next-count lo hi start whole s next in
-    let a = length-take given whole in
-    let b = length-take (suc given) whole in
-    fronts-same whole (made_by s.end whole) (take (suc given) whole) (made-front s.end whole) (take-front (suc given) whole) (omega arith)

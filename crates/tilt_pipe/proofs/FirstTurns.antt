@@ -7,9 +7,8 @@ use Rattle.std.specs.List.{AllByRecursion}
 use Rattle.tilt_base.proofs.GridPoints.{ceil-IsCeil}
 use Rattle.tilt_base.proofs.Lists.{all-append}
 use Rattle.tilt_base.specs.declared.limits.TheConstants.{WIDE}
+use Rattle.tilt_code.proofs.Runs.{loops-timed}
 use Rattle.tilt_code.specs.Code.{Block, LoopParts}
-use Rattle.tilt_code.specs.Grammar.{IsLoop}
-use Rattle.tilt_code.specs.Meaning.{IsTimed}
 use Rattle.tilt_code.specs.References.{IsCode}
 use Rattle.tilt_code.specs.Run.{buffers_of}
 use Rattle.tilt_code.specs.Turn.{turns}
@@ -196,14 +195,10 @@ rings-none buffer (w ∷ works) filled =
     ap (λ (ring : List Snapshot). ring ∷ rings_of (suc buffer) (stages_at works (lows_of works))) none
     ∙ ap (λ (rest : List (List Snapshot)). [] ∷ rest) (rings-none (suc buffer) works filled.1)
 
-all-timed : (loops : List LoopParts) → AllByRecursion IsLoop loops → AllByRecursion IsTimed loops
-all-timed [] h = tt
-all-timed (l ∷ loops) h = (record { stretch = h.0.stretch.some_ticks; grid = h.0.grid }, all-timed loops h.1)
-
 pub first-exact : (p : RingsParts) (all : List LoopTurns) → AreFirst p all
     → map (λ (r : RingParts). r.held) p.rings ≡ rings_of (length p.inputs) (stages_at (works_in p) (starts_of p.rings))
 first-exact p all first =
-    let filled = works-filled p.code p.inputs (all-timed p.code.loops first.code.grammatical.loops) in
+    let filled = works-filled p.code p.inputs (loops-timed p.code.loops first.code.grammatical.loops) in
     ap (λ (rings : List RingParts). map (λ (r : RingParts). r.held) rings) first.rings ∙ rings-held p.code.loops
     ∙ ap (λ (loops : List LoopParts). map (λ (l : LoopParts). []) loops) (sym (works-loops p))
     ∙ sym (rings-none (length p.inputs) (works_in p) filled)

@@ -5,28 +5,29 @@ use Rattle.std.proofs.lemmas.Int.{ints}
 use Rattle.std.proofs.lemmas.List.{get_or-append-add, get_or-take, length-map}
 use Rattle.std.proofs.lemmas.Option.{same_Some, slice_get_within}
 use Rattle.std.specs.List.{AllByRecursion}
-use Rattle.tilt_base.proofs.Lists.{all-contains}
+use Rattle.tilt_base.proofs.Lists.{all-contains, all-parts}
 use Rattle.tilt_base.specs.Grid.{ceil}
+use Rattle.tilt_stream.proofs.Filling.{Fill-up}
 use Rattle.tilt_code.specs.Body.{body_of}
 use Rattle.tilt_code.specs.Code.{Block, LoopParts}
 use Rattle.tilt_code.specs.References.{IsCode}
 use Rattle.tilt_code.specs.Run.{buffers_of}
-use Rattle.tilt_code.specs.Turn.{Fill, turn, turns}
+use Rattle.tilt_code.specs.Turn.{turn, turns}
 use Rattle.tilt_code.specs.declared.instr.Instr.{Instr}
 use Rattle.tilt_code.specs.declared.instr.Instr.TheVariants.{Const, Null, Argument, Port, Win, One, Two, If}
 use Rattle.tilt_stream.proofs.Places.{ended-rises}
-use Rattle.tilt_stream.specs.Snap.{Snapshot, ended_below, gap_before}
+use Rattle.tilt_stream.specs.Snap.{Snapshot, ended_below, gap_before, Fill}
 use Rattle.tilt_stream.specs.Stream.{stream_of}
 use Rattle.tilt_turn.proofs.Elsewhere.{fit-back, fit-elsewhere, turn-elsewhere}
 use Rattle.tilt_turn.specs.Held.{IsFit}
 use Rattle.tilt_turn.specs.Ready.{IsKept, IsReady}
 use Rattle.tilt_turn.specs.Same.{IsSameFor}
 use Rattle.tilt_turn.specs.declared.state.LoopState.{LoopState}
-use Rattle.tilt_pipe.proofs.Nears.{loops-there, reads-near, ready-more, work-sound}
+use Rattle.tilt_pipe.proofs.Nears.{reads-near, ready-more, work-sound}
 use Rattle.tilt_pipe.proofs.OpenLists.{input-forgotten, open-at}
-use Rattle.tilt_pipe.proofs.RingsKept.{ring-of}
-use Rattle.tilt_pipe.proofs.Standing.{Fill-up, next-made}
-use Rattle.tilt_pipe.proofs.Telling.{all-first, none_held, same-body, there}
+use Rattle.tilt_pipe.proofs.RingsKept.{ring-of, loops-there}
+use Rattle.tilt_pipe.proofs.Standing.{next-made}
+use Rattle.tilt_pipe.proofs.Telling.{none_held, same-body, there}
 use Rattle.tilt_pipe.proofs.Trimming.{ended-front, stage-behind}
 use Rattle.tilt_pipe.proofs.Wanted.{stage_at, wanted-within}
 use Rattle.tilt_pipe.proofs.Wanting.{stands-there}
@@ -120,7 +121,7 @@ keeps-block : (p : RingsParts) (point : ℤ) (block : Block) → AllByRecursion 
     → AllByRecursion (IsKept (lists_of p) (forgotten_of p) point) block
 keeps-block p point [] keeps = tt
 keeps-block p point (i ∷ block) keeps =
-    let parts = all-first (KeepsRead p point) (reads_of i) (body_reads block) keeps in
+    let parts = all-parts (KeepsRead p point) (reads_of i) (body_reads block) keeps in
     (keeps-leaf p point i parts.0, keeps-block p point block parts.1)
 
 all-by_each : (P : Read → Type 0) (xs : List Read) → ((r : Read) → Contains xs r → P r) → AllByRecursion P xs

@@ -3,13 +3,13 @@ use Rattle.std.proofs.Common.{◌≡◌, ◌⊎◌, inl, inr, ℕ, suc, ℤ, pos
 use Rattle.std.proofs.lemmas.Int.{ints, by_lt_z}
 use Rattle.std.proofs.lemmas.List.{append-nil}
 use Rattle.std.specs.Ordering.{int_eq}
-use Rattle.tilt_code.specs.Turn.{Fill}
-use Rattle.tilt_pipe.proofs.Standing.{Fill-up, all-made, made-passed, made-stopped}
+use Rattle.tilt_stream.proofs.Filling.{Fill-up}
+use Rattle.tilt_stream.specs.Agreement.{IsSameUpTo}
+use Rattle.tilt_pipe.proofs.Standing.{all-made, made-passed, made-stopped}
 use Rattle.tilt_pipe.specs.Positions.{made_by}
-use Rattle.tilt_turn.specs.Same.{IsSameUpTo}
 use Rattle.tilt_stream.proofs.Ended.{none_ended}
 use Rattle.tilt_stream.proofs.Streams.{cell_at-before, mark_at-before, mark_at-start}
-use Rattle.tilt_stream.specs.Snap.{Snapshot, InOrder, ended_below, gap_before}
+use Rattle.tilt_stream.specs.Snap.{Snapshot, InOrder, ended_below, gap_before, Fill}
 use Rattle.tilt_stream.specs.Stream.{cell_at, mark_at, covers}
 
 -- what fills a stretch lies in order on it

@@ -1,10 +1,11 @@
 -- What the instructions of a code's loops read, within bounds, and that its loops may be run.
-use Rattle.std.proofs.Common.{◌≡◌, ◌≤◌, ◌<◌, ◌+◌, ℕ, zero, suc, ◌==◌, ◌||◌, Bool, true, false, List, [], ◌∷◌, ◌++◌, length, slice_get, Some, None, IsTrue, Contains, refl, sym, ◌∙◌, subst, arith, rules, tests}
+use Rattle.std.proofs.Common.{◌≡◌, ◌≤◌, ◌<◌, ◌+◌, ℕ, zero, suc, ◌==◌, ◌||◌, Bool, true, false, List, [], ◌∷◌, ◌++◌, length, slice_get, Some, None, IsTrue, Contains, refl, sym, subst, arith, rules, tests}
 use Rattle.std.proofs.lemmas.Int.{ints}
 use Rattle.std.proofs.lemmas.Option.{same_Some}
 use Rattle.std.specs.List.{AllByRecursion}
 use Rattle.tilt_base.proofs.Booleans.{or_step}
-use Rattle.tilt_base.proofs.Lists.{all-append}
+use Rattle.tilt_base.proofs.Lists.{all-append, all-slice_get}
+use Rattle.tilt_stream.proofs.Filling.{Fill-up}
 use Rattle.tilt_code.specs.Code.{Block, LoopParts}
 use Rattle.tilt_code.specs.Grammar.{IsInstr, IsLoop, stands_in_body}
 use Rattle.tilt_code.specs.References.{IsCode, refers_below, RefersBack, ReadsBefore}
@@ -13,9 +14,8 @@ use Rattle.tilt_code.specs.declared.instr.Instr.TheVariants.{Const, Null, Argume
 use Rattle.tilt_turn.proofs.Readies.{loop-ready}
 use Rattle.tilt_turn.proofs.TurnTicks.{point-near}
 use Rattle.tilt_turn.specs.Ready.{IsBodyTick, IsReadable, IsReady}
-use Rattle.tilt_pipe.proofs.RingsKept.{ring-of, rings-length}
-use Rattle.tilt_pipe.proofs.Standing.{Fill-up}
-use Rattle.tilt_pipe.proofs.Works.{work-is, works-length}
+use Rattle.tilt_pipe.proofs.RingsKept.{ring-of}
+use Rattle.tilt_pipe.proofs.Works.{work-is}
 use Rattle.tilt_pipe.specs.Made.{Work, reads_buffer}
 use Rattle.tilt_pipe.specs.Positions.{RingsParts, AreRings, IsOpen, made_by, start_at, works_in}
 use Rattle.tilt_pipe.specs.Reads.{body_reads, reads_of, turn_point}
@@ -86,11 +86,6 @@ before-at buffers (suc place) (x ∷ loops) l h is =
     let at : suc buffers + place ≡ buffers + suc place = omega arith in
     subst (λ (n : ℕ). ReadsBefore n (l ∷ [])) at (before-at (suc buffers) place loops l h.2 is)
 
-loop-at : (loops : List LoopParts) (place : ℕ) (l : LoopParts) → AllByRecursion IsLoop loops → slice_get loops place ≡ Some l → IsLoop l
-loop-at [] place l all is = absurd (cc is)
-loop-at (x ∷ loops) zero l all is = subst IsLoop (same_Some x l is) all.0
-loop-at (x ∷ loops) (suc place) l all is = loop-at loops place l all.1 is
-
 -- what is known of a loop of a code
 pub record IsSound (p : RingsParts) (place : ℕ) (l : LoopParts) : Type 0 where
   pub bounds : IsLoop l
@@ -100,7 +95,7 @@ pub record IsSound (p : RingsParts) (place : ℕ) (l : LoopParts) : Type 0 where
 pub loop-sound : (p : RingsParts) (place : ℕ) (l : LoopParts) → IsCode p.code → AreRings p → slice_get p.code.loops place ≡ Some l
     → IsSound p place l
 loop-sound p place l code are is =
-    let bounds = loop-at p.code.loops place l code.grammatical.loops is in
+    let bounds = all-slice_get IsLoop p.code.loops place l code.grammatical.loops is in
     let before = subst (λ (n : ℕ). ReadsBefore (n + place) (l ∷ [])) (sym are.inputs)
     (before-at (length p.code.inputs) place p.code.loops l code.references is) in
     record {
@@ -143,10 +138,6 @@ near-either : (buffers here buffer : ℕ) (rest : Bool) → here < buffers → (
     → ((here == buffer) || rest) ≡ true → buffer < buffers
 near-either buffers here buffer true there more is = more refl
 near-either buffers here buffer false there more is = grind arith
-
--- there is a ring for each loop
-pub loops-there : (p : RingsParts) → AreRings p → length p.rings ≡ length p.code.loops
-loops-there p are = rings-length (works_in p) p.rings are.rings ∙ works-length p.code p.inputs
 
 -- a buffer that is read near is there
 pub near-there : (buffers buffer : ℕ) (reads : List Read) → AllByRecursion (IsNear buffers) reads → reads_buffer buffer reads ≡ true

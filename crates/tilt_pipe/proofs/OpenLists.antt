@@ -145,11 +145,6 @@ open-rest p place number r o some above =
     let same = open-same p place r o end in
     absurd (omega arith))
 
--- the inputs stand first, and none of their rows is forgotten
-pub input-list : (inputs lists : List (List Snapshot)) (buffer : ℕ) → buffer < length inputs
-    → get_or (inputs ++ lists) buffer [] ≡ get_or inputs buffer []
-input-list inputs lists buffer within = get_or_append_left inputs lists [] buffer within
-
 pub input-forgotten : (inputs : List (List Snapshot)) (others : List ℕ) (buffer : ℕ) → buffer < length inputs
     → get_or (map (λ (rows : List Snapshot). 0) inputs ++ others) buffer 0 ≡ 0
 input-forgotten inputs others buffer within =

@@ -1,5 +1,5 @@
 -- Loops that stand, place by place, and how many snapshots each has made.
-use Rattle.std.proofs.Common.{◌≡◌, ◌≢◌, ◌<◌, ◌≤◌, ℕ, zero, suc, ℤ, List, [], ◌∷◌, length, slice_get, slice_set, Some, refl, ap, ◌∙◌, subst, arith}
+use Rattle.std.proofs.Common.{◌≡◌, ◌≢◌, ◌<◌, ℕ, zero, suc, ℤ, List, [], ◌∷◌, length, slice_get, slice_set, Some, refl, ap, ◌∙◌, subst, arith}
 use Rattle.std.proofs.lemmas.List.{length_push}
 use Rattle.tilt_pipe.proofs.Standing.{IsNextMade, end-made}
 use Rattle.tilt_pipe.proofs.Wanted.{stage_at}
@@ -23,15 +23,6 @@ standing-at (x ∷ works) (y ∷ starts) zero w start all is at =
     let stands : y ≡ start = cc in
     subst (λ (t : ℤ). IsStanding w t) stands (subst (λ (v : Work). IsStanding v y) same all.0)
 standing-at (x ∷ works) (y ∷ starts) (suc place) w start all is at = standing-at works starts place w start all.1 is at
-
-pub standing-each : (works : List Work) (starts : List ℤ) → length works ≡ length starts
-    → ((place : ℕ) (w : Work) (start : ℤ) → slice_get works place ≡ Some w → slice_get starts place ≡ Some start → IsStanding w start)
-    → AreStanding works starts
-standing-each [] [] long each = tt
-standing-each [] (y ∷ starts) long each = absurd (omega arith)
-standing-each (x ∷ works) [] long each = absurd (omega arith)
-standing-each (x ∷ works) (y ∷ starts) long each =
-    (each 0 x y refl refl, standing-each works starts (omega arith) (λ place w start is at. each (suc place) w start is at))
 
 pub standing-length : (works : List Work) (starts : List ℤ) → AreStanding works starts → length works ≡ length starts
 standing-length [] [] all = refl
@@ -67,13 +58,6 @@ made_in-at (x ∷ works) (y ∷ starts) zero w start is at =
     let stands : y ≡ start = cc in
     rw (same, stands) refl
 made_in-at (x ∷ works) (y ∷ starts) (suc place) w start is at = made_in-at works starts place w start is at
-
-pub within-at : (ss ts : List Stage) (place : ℕ) → AreWithin ss ts → made_in ss place ≤ made_in ts place
-within-at [] [] place h = omega arith
-within-at [] (t ∷ ts) place h = absurd h
-within-at (s ∷ ss) [] place h = absurd h
-within-at (s ∷ ss) (t ∷ ts) zero h = h.0
-within-at (s ∷ ss) (t ∷ ts) (suc place) h = within-at ss ts place h.1
 
 -- a loop that has made its next snapshot stands at its end
 pub next-standing : (w : Work) (start : ℤ) (s : Snapshot) → IsStanding w start → IsNextMade w.loop.lo w.loop.hi start w.whole s

@@ -6,18 +6,19 @@ use Rattle.std.proofs.lemmas.Option.{same_Some, get_or_from_slice_get, slice_get
 use Rattle.std.specs.List.{AllByRecursion}
 use Rattle.std.specs.Option.{ForSome}
 use Rattle.circular_buffer.proofs.Places.{slice_get-some}
+use Rattle.tilt_base.proofs.Lists.{all-slice_get}
 use Rattle.tilt_base.specs.declared.limits.TheConstants.{WIDE}
-use Rattle.tilt_code.proofs.Filling.{Fill-AreSnapshots}
+use Rattle.tilt_stream.proofs.Filling.{Fill-AreSnapshots, Fill-up}
 use Rattle.tilt_code.proofs.Runs.{loops-timed, turns-Fill}
 use Rattle.tilt_code.specs.Code.{LoopParts}
 use Rattle.tilt_code.specs.Grammar.{IsLoop}
 use Rattle.tilt_code.specs.Meaning.{IsTimed}
 use Rattle.tilt_code.specs.References.{IsCode}
-use Rattle.tilt_code.specs.Turn.{Fill, turns}
-use Rattle.tilt_stream.specs.Snap.{Snapshot, AreSnapshots, last_end}
+use Rattle.tilt_code.specs.Turn.{turns}
+use Rattle.tilt_stream.specs.Snap.{Snapshot, AreSnapshots, last_end, Fill}
 use Rattle.tilt_stream.specs.Stream.{stream_of}
 use Rattle.tilt_pipe.proofs.Kept.{let_go-within}
-use Rattle.tilt_pipe.proofs.Standing.{Fill-up, IsNextMade, end-made, made-few, next-is, none-fills, none-made}
+use Rattle.tilt_pipe.proofs.Standing.{IsNextMade, end-made, made-few, next-is, none-fills, none-made}
 use Rattle.tilt_pipe.proofs.Works.{work-is, work-fills, works-length}
 use Rattle.tilt_pipe.specs.Made.{Work, is_used, works_from}
 use Rattle.tilt_pipe.specs.Positions.{RingParts, RingsParts, AreRings, AreRingsOf, IsOpen, IsRing, made_at, made_by, start_at, with_ring, works_in}
@@ -71,12 +72,6 @@ empty-rings-are buffer lists (l ∷ loops) timed =
       empty-rings-are (suc buffer) (lists ++ whole ∷ []) loops timed.1,
     )
 
--- a loop of a code lies within the limits of time
-loop-at : (loops : List LoopParts) (place : ℕ) (l : LoopParts) → AllByRecursion IsLoop loops → slice_get loops place ≡ Some l → IsLoop l
-loop-at [] place l all is = absurd (cc is)
-loop-at (x ∷ loops) zero l all is = subst IsLoop (same_Some x l is) all.0
-loop-at (x ∷ loops) (suc place) l all is = loop-at loops place l all.1 is
-
 -- a loop of a code, and its ring
 pub record IsKept (w : Work) (r : RingParts) : Type 0 where
   pub low : neg_ℤ WIDE ≤ℤ w.loop.lo
@@ -88,7 +83,7 @@ pub kept-at : (p : RingsParts) (place : ℕ) (w : Work) (r : RingParts) → IsCo
     → slice_get p.rings place ≡ Some r → IsKept w r
 kept-at p place w r code are of is =
     let it = work-is p.code p.inputs place w of in
-    let loop = loop-at p.code.loops place w.loop code.grammatical.loops it.loop in
+    let loop = all-slice_get IsLoop p.code.loops place w.loop code.grammatical.loops it.loop in
     record {
       low = loop.stretch.low;
       high = loop.stretch.high;
@@ -172,8 +167,8 @@ trimmed-is w r first k = record {
 }
 
 -- there are as many loops as rings
-pub loops-count : (p : RingsParts) → AreRings p → length p.rings ≡ length p.code.loops
-loops-count p are = rings-length (works_in p) p.rings are.rings ∙ works-length p.code p.inputs
+pub loops-there : (p : RingsParts) → AreRings p → length p.rings ≡ length p.code.loops
+loops-there p are = rings-length (works_in p) p.rings are.rings ∙ works-length p.code p.inputs
 
 -- the loop at a place
 pub loop-is : (p : RingsParts) (place : ℕ) (w : Work) (loops : List LoopParts) (l : LoopParts) → slice_get (works_in p) place ≡ Some w
@@ -247,7 +242,7 @@ pub record IsPlaced (p : RingsParts) (place : ℕ) (w : Work) : Type 0 where
 pub placed : (p : RingsParts) (place : ℕ) (w : Work) → IsCode p.code → AreRings p → IsOpen p place w → IsPlaced p place w
 placed p place w code are open_ =
     let it = ring-of p place w code are open_.is in
-    let count = loops-count p are in
+    let count = loops-there p are in
     let within = it.within in
     let start = it.start in
     let low = start-low w it.ring it.kept in

@@ -1,29 +1,20 @@
 -- Where a loop stands, and what it has made there: that part of its whole buffer that ends there.
-use Rattle.std.proofs.Common.{◌≡◌, ◌<◌, ℕ, zero, suc, ℤ, pos, neg_ℤ, ◌+ℤ◌, ◌<ℤ◌, ◌≤ℤ◌, true, false, int_lt, int_le, List, [], ◌∷◌, ◌++◌, length, drop, slice_get, Some, None, refl, sym, ap, ◌∙◌, subst, arith}
+use Rattle.std.proofs.Common.{◌≡◌, ◌<◌, ℤ, pos, neg_ℤ, ◌+ℤ◌, ◌<ℤ◌, ◌≤ℤ◌, true, false, int_lt, int_le, List, [], ◌∷◌, ◌++◌, length, slice_get, Some, refl, sym, ap, ◌∙◌, subst, arith}
 use Rattle.std.proofs.lemmas.Int.{ints, by_lt_z}
 use Rattle.std.proofs.lemmas.Option.{same_Some}
 use Rattle.tilt_base.specs.declared.limits.TheConstants.{WIDE}
-use Rattle.tilt_code.proofs.Filling.{Fill-AreSnapshots}
+use Rattle.tilt_stream.proofs.Filling.{Fill-AreSnapshots, Fill-up}
 use Rattle.tilt_code.proofs.Turns.{turns_until-first, turns_until-none}
 use Rattle.tilt_code.proofs.Runs.{turns-Fill}
 use Rattle.tilt_code.specs.Body.{body_of}
 use Rattle.tilt_code.specs.Code.{LoopParts}
 use Rattle.tilt_base.specs.Grid.{GridPoints, IsGrid}
 use Rattle.tilt_code.specs.Meaning.{IsTimed}
-use Rattle.tilt_code.specs.Turn.{Fill, turn, turns_until, turns}
-use Rattle.tilt_pipe.specs.Made.{last_start}
+use Rattle.tilt_code.specs.Turn.{turn, turns_until, turns}
 use Rattle.tilt_pipe.specs.Positions.{made_by}
 use Rattle.tilt_pipe.specs.Rings.{end_or}
-use Rattle.tilt_stream.proofs.Order.{InOrder-rest}
-use Rattle.tilt_stream.specs.Snap.{Snapshot, InOrder, AreSnapshots, last_end, gap_before}
+use Rattle.tilt_stream.specs.Snap.{Snapshot, InOrder, AreSnapshots, last_end, gap_before, Fill}
 use Rattle.tilt_stream.specs.Stream.{Stream}
-
--- a stretch that is filled doesn't end before it begins
-pub Fill-up : (lo hi : ℤ) (list : List Snapshot) → Fill lo hi list → lo ≤ℤ hi
-Fill-up lo hi [] h = omega (arith, ints)
-Fill-up lo hi (s ∷ ss) h =
-    let above : s.end ≤ℤ hi = Fill-up s.end hi ss h.2 in
-    omega (arith, ints)
 
 -- the first one is made, or none is
 pub made-passed : (start : ℤ) (s : Snapshot) (ss : List Snapshot) → s.end ≤ℤ start → made_by start (s ∷ ss) ≡ s ∷ made_by start ss
@@ -195,21 +186,6 @@ pub open-in_order : (lo hi start : ℤ) (made : List Snapshot) → neg_ℤ WIDE 
     → InOrder (neg_ℤ WIDE) WIDE (made ++ gap_before (Some start) hi)
 open-in_order lo hi start made low high h within = (open-AreSnapshots lo hi start made low high h within).in_order
 
--- what is left of snapshots that touch touches too
-AreSnapshots-rest : (s : Snapshot) (ss : List Snapshot) → AreSnapshots (s ∷ ss) → AreSnapshots ss
-AreSnapshots-rest s [] h = record { in_order = tt; touch = tt }
-AreSnapshots-rest s (next ∷ ss) h = record { in_order = InOrder-rest (neg_ℤ WIDE) WIDE s (next ∷ ss) h.in_order; touch = h.touch.1 }
-
-pub AreSnapshots-drop : (n : ℕ) (list : List Snapshot) → AreSnapshots list → AreSnapshots (drop n list)
-AreSnapshots-drop zero list h = h
-AreSnapshots-drop (suc n) [] h = h
-AreSnapshots-drop (suc n) (s ∷ ss) h = AreSnapshots-drop n ss (AreSnapshots-rest s ss h)
-
--- what a ring holds
-pub held-AreSnapshots : (lo start : ℤ) (made : List Snapshot) (n : ℕ) → neg_ℤ WIDE ≤ℤ lo → start ≤ℤ WIDE → Fill lo start made
-    → AreSnapshots (drop n made)
-held-AreSnapshots lo start made n low high h = AreSnapshots-drop n made (Fill-AreSnapshots lo start made low high h)
-
 -- each takes a tick at least
 made-count : (lo start : ℤ) (made : List Snapshot) → Fill lo start made → (lo +ℤ pos (length made)) ≤ℤ start
 made-count lo start [] h = omega (arith, ints)
@@ -222,45 +198,3 @@ pub made-few : (lo start : ℤ) (made : List Snapshot) → neg_ℤ WIDE ≤ℤ l
 made-few lo start made low high h =
     let count = made-count lo start made h in
     omega (arith, ints)
-
--- where the last of some snapshots starts
-pub last_start-push : (made : List Snapshot) (s : Snapshot) → last_start (made ++ s ∷ []) ≡ Some s.start
-last_start-push [] s = refl
-last_start-push (first ∷ []) s = refl
-last_start-push (first ∷ next ∷ made) s = last_start-push (next ∷ made) s
-
-pub last_start-none : (made : List Snapshot) → last_start made ≡ None → made ≡ []
-last_start-none [] is = refl
-last_start-none (s ∷ []) is = absurd (cc is)
-last_start-none (s ∷ next ∷ made) is =
-    let empty = last_start-none (next ∷ made) is in
-    absurd (cc empty)
-
--- it lies below where the loop stands, and not below where its stretch begins
-pub last_start-below : (lo start : ℤ) (made : List Snapshot) (last : ℤ) → Fill lo start made → last_start made ≡ Some last
-    → (lo ≤ℤ last) × (last <ℤ start)
-last_start-below lo start [] last h is = absurd (cc is)
-last_start-below lo start (s ∷ []) last h is =
-    let at : s.start ≡ last = same_Some s.start last is in
-    let begins = h.0 in
-    let rises = h.1 in
-    let ends : s.end ≡ start = h.2 in
-    (omega (arith, ints), omega (arith, ints))
-last_start-below lo start (s ∷ next ∷ made) last h is =
-    let rest = last_start-below s.end start (next ∷ made) last h.2 is in
-    let low = rest.0 in
-    let rises = h.1 in
-    (omega (arith, ints), rest.1)
-
--- one that has made some has a last one
-pub last_start-some : (s : Snapshot) (made : List Snapshot) → (last : ℤ) × (last_start (s ∷ made) ≡ Some last)
-last_start-some s [] = (s.start, refl)
-last_start-some s (next ∷ made) = last_start-some next made
-
-pub last-made : (lo start : ℤ) (made : List Snapshot) → Fill lo start made → lo <ℤ start
-    → (last : ℤ) × (last_start made ≡ Some last) × (lo ≤ℤ last) × (last <ℤ start)
-last-made lo start [] h above = absurd (omega (arith, ints))
-last-made lo start (s ∷ made) h above =
-    let some = last_start-some s made in
-    let within = last_start-below lo start (s ∷ made) some.0 h some.1 in
-    (some.0, some.1, within.0, within.1)

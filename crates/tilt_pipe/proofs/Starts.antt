@@ -4,6 +4,7 @@ use Rattle.std.proofs.lemmas.List.{append-nil, drop-set, drop_all, drop_more, ge
 use Rattle.std.specs.Bool.{⊤}
 use Rattle.std.specs.List.{AllByRecursion}
 use Rattle.tilt_base.proofs.Booleans.{or_step}
+use Rattle.tilt_base.proofs.Lists.{all-append}
 use Rattle.tilt_code.specs.Code.{Block, LoopParts}
 use Rattle.tilt_code.specs.declared.instr.Instr.{Instr}
 use Rattle.tilt_pipe.specs.Chain.{readers_in, readers_from}
@@ -39,12 +40,6 @@ none-more loops i all turns l within before none =
     ∙ ap (λ (own : List Reader). readers_of all ++ own ∷ []) none
     ∙ ap (λ (lists : List (List Reader)). lists ++ [] ∷ []) before
     ∙ sym (map_more (λ (each : LoopParts). []) loops i l within)
-
--- the reads of some instructions and of others behind them
-pub body_reads-both : (xs ys : Block) → body_reads (xs ++ ys) ≡ body_reads xs ++ body_reads ys
-body_reads-both [] ys = refl
-body_reads-both (x ∷ xs) ys =
-    ap (λ (rest : List Read). reads_of x ++ rest) (body_reads-both xs ys) ∙ sym (append_assoc (reads_of x) (body_reads xs) (body_reads ys))
 
 -- the readers among reads, and among others behind them
 readers_in-more : (r : Reader) (xs ys : List Reader) (test : Bool) (all : List Reader) → all ≡ xs ++ ys
@@ -303,16 +298,11 @@ in-there buffer place count (r ∷ reads) there = by (r.buffer == buffer) (in-th
     by true rest = (there, rest)
     by false rest = rest
 
-both-there : (count : ℕ) (xs ys : List Reader) → AllByRecursion (λ reader. reader.place < count) xs
-    → AllByRecursion (λ reader. reader.place < count) ys → AllByRecursion (λ reader. reader.place < count) (xs ++ ys)
-both-there count [] ys h k = k
-both-there count (x ∷ xs) ys h k = (h.0, both-there count xs ys h.1 k)
-
 from-there : (buffer place count : ℕ) (works : List Work) → place + length works ≤ count
     → AllByRecursion (λ reader. reader.place < count) (readers_from buffer place works)
 from-there buffer place count [] fit = tt
 from-there buffer place count (w ∷ works) fit =
-    both-there count (readers_in buffer place (body_reads w.loop.body)) (readers_from buffer (suc place) works)
+    all-append (λ (reader : Reader). reader.place < count) (readers_in buffer place (body_reads w.loop.body)) (readers_from buffer (suc place) works)
     (in-there buffer place count (body_reads w.loop.body) (omega arith)) (from-there buffer (suc place) count works (omega arith))
 
 behind-there : (buffer place count : ℕ) (works : List Work) (k : ℕ) → place + length works ≤ count

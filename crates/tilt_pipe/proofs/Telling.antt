@@ -5,18 +5,18 @@ use Rattle.std.proofs.lemmas.List.{get_or-append-add, get_or_append_left}
 use Rattle.std.proofs.lemmas.Option.{get_or_from_slice_get}
 use Rattle.circular_buffer.proofs.Places.{slice_get-some}
 use Rattle.std.specs.List.{AllByRecursion}
-use Rattle.tilt_base.proofs.Lists.{all-contains}
+use Rattle.tilt_base.proofs.Lists.{all-contains, all-parts}
+use Rattle.tilt_stream.specs.Agreement.{IsSameUpTo}
 use Rattle.tilt_code.specs.Code.{Block}
 use Rattle.tilt_code.specs.References.{IsCode}
 use Rattle.tilt_code.specs.Run.{buffers_of}
 use Rattle.tilt_code.specs.declared.instr.Instr.{Instr}
 use Rattle.tilt_code.specs.declared.instr.Instr.TheVariants.{Const, Null, Argument, Port, Win, One, Two, If}
 use Rattle.tilt_stream.specs.Snap.{Snapshot}
-use Rattle.tilt_turn.specs.Same.{IsSameFor, IsSameUpTo}
+use Rattle.tilt_turn.specs.Same.{IsSameFor}
 use Rattle.tilt_pipe.proofs.MadeSame.{made-same, same-is}
-use Rattle.tilt_pipe.proofs.Nears.{loops-there}
 use Rattle.tilt_pipe.proofs.OpenLists.{open-at, open_at}
-use Rattle.tilt_pipe.proofs.RingsKept.{rings-length}
+use Rattle.tilt_pipe.proofs.RingsKept.{rings-length, loops-there}
 use Rattle.tilt_pipe.proofs.Works.{input-is, work-is}
 use Rattle.tilt_pipe.specs.Chain.{IsBehind, IsTold}
 use Rattle.tilt_pipe.specs.Made.{Work}
@@ -89,10 +89,6 @@ same-leaf p wholes buffers point (One op a) code are within hold near told = tt
 same-leaf p wholes buffers point (Two op a b) code are within hold near told = tt
 same-leaf p wholes buffers point (If c a b) code are within hold near told = tt
 
-pub all-first : (P : Read → Type 0) (xs ys : List Read) → AllByRecursion P (xs ++ ys) → AllByRecursion P xs × AllByRecursion P ys
-all-first P [] ys h = (tt, h)
-all-first P (x ∷ xs) ys h = let rest = all-first P xs ys h.1 in ((h.0, rest.0), rest.1)
-
 pub same-body : (p : RingsParts) (wholes : List (List Snapshot)) (buffers : ℕ) (point : ℤ) (block : Block) → IsCode p.code → AreRings p
     → buffers ≤ length p.inputs + length p.code.loops
     → ((n : ℕ) → n < buffers → get_or (buffers_of p.code p.inputs) n [] ≡ get_or wholes n [])
@@ -100,7 +96,7 @@ pub same-body : (p : RingsParts) (wholes : List (List Snapshot)) (buffers : ℕ)
     → AllByRecursion (IsSameFor (lists_of p) wholes point) block
 same-body p wholes buffers point [] code are within hold near told = tt
 same-body p wholes buffers point (i ∷ block) code are within hold near told =
-    let parts = all-first (IsTold p point) (reads_of i) (body_reads block) told in (
+    let parts = all-parts (IsTold p point) (reads_of i) (body_reads block) told in (
       same-leaf p wholes buffers point i code are within hold near.0 parts.0,
       same-body p wholes buffers point block code are within hold near.1 parts.1,
     )

@@ -23,10 +23,6 @@ use Rattle.tilt_pipe.specs.Rings.{kept_from, let_go, rings_of, wanted}
 use Rattle.tilt_pipe.specs.Trimmed.{IsTrimmed, KeepsWanted, StandAlike, wanted_at}
 use Rattle.tilt_pipe.specs.declared.chain.LoopTurns.{LoopTurns}
 
--- rings that stand alike
-pub alike-same : (p : RingsParts) → StandAlike p p
-alike-same p = record { code = refl; inputs = refl; starts = refl }
-
 pub alike-both : (p q r : RingsParts) → StandAlike p q → StandAlike q r → StandAlike p r
 alike-both p q r h k = record { code = k.code ∙ h.code; inputs = k.inputs ∙ h.inputs; starts = k.starts ∙ h.starts }
 
@@ -81,15 +77,6 @@ wanted-other p q place k a same h = λ w r of is.
 
 pub wanted-trimmed : (p : RingsParts) (k : ℕ) → IsTrimmed p k → KeepsWanted p k
 wanted-trimmed p k h = λ w r of is. let same = h w r of is in omega arith
-
--- where one is trimmed, and the others aren't touched
-pub trimmed-too : (p q : RingsParts) (place k : ℕ) → StandAlike p q → ((j : ℕ) → j ≢ place → slice_get q.rings j ≡ slice_get p.rings j)
-    → IsTrimmed q place → IsTrimmed p k → IsTrimmed q k
-trimmed-too p q place k a others new old =
-    elim (cases_eq k place) as (λ _. IsTrimmed q k) [
-      | inl same ↦ subst (λ (n : ℕ). IsTrimmed q n) (sym same) new
-      | inr other ↦ trimmed-other p q place k a (others k other) old
-    ]
 
 pub wanted-too : (p q : RingsParts) (place k : ℕ) → StandAlike p q → ((j : ℕ) → j ≢ place → slice_get q.rings j ≡ slice_get p.rings j)
     → IsTrimmed q place → KeepsWanted p k → KeepsWanted q k

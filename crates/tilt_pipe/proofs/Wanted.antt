@@ -1,7 +1,6 @@
 -- What the next turns of loops want of a buffer, what is let go of it, and what the rings hold, place by place.
 use Rattle.std.proofs.Common.{◌≡◌, ◌<◌, ◌≤◌, ℕ, zero, suc, ◌+◌, ◌==◌, ℤ, pos, ◌+ℤ◌, ◌<ℤ◌, ◌≤ℤ◌, int_lt, Bool, true, false, ◌&&◌, ◌||◌, if◌then◌else◌, List, [], ◌∷◌, ◌++◌, map, length, drop, slice_get, slice_set, Option, Some, None, refl, sym, ap, ◌∙◌, subst, arith, Contains}
 use Rattle.std.proofs.lemmas.Int.{ints, clamps}
-use Rattle.std.proofs.lemmas.List.{drop-set-lt}
 use Rattle.std.proofs.lemmas.Option.{same_Some}
 use Rattle.std.specs.Bool.{⊤}
 use Rattle.std.proofs.lemmas.Bool.{eq-eqb}
@@ -27,9 +26,6 @@ IsNotLater (Some a) (Some b) = a ≤ℤ b
 pub not_later-same : (a : Option ℤ) → IsNotLater a a
 not_later-same None = tt
 not_later-same (Some a) = omega (arith, ints)
-
-pub not_later-all : (a : Option ℤ) → IsNotLater a None
-not_later-all a = tt
 
 -- what isn't later than a tick is a tick
 pub not_later-tick : (a : Option ℤ) (b : ℤ) → IsNotLater a (Some b) → (tick : ℤ) × (a ≡ Some tick) × (tick ≤ℤ b)
@@ -134,26 +130,10 @@ pub record HasRisen (s later : Stage) : Type 0 where
   pub grid : IsGrid s.work.loop.grid
   pub rises : position s ≤ℤ position later
 
--- each of some loops has
-abbrev pub HaveRisen : List Stage → List Stage → Type 0
-HaveRisen [] [] = ⊤
-HaveRisen [] (t ∷ ts) = ⊥
-HaveRisen (s ∷ ss) [] = ⊥
-HaveRisen (s ∷ ss) (t ∷ ts) = HasRisen s t × HaveRisen ss ts
-
 next_read-rises : (buffer : ℕ) (s t : Stage) → HasRisen s t → IsNotLater (next_read buffer s) (next_read buffer t)
 next_read-rises buffer s t risen =
     subst (λ (w : Work). IsNotLater (next_read buffer s) (wanted_at buffer w (position t))) (sym risen.work)
     (wanted_at-rises buffer s.work (position s) (position t) risen.grid risen.rises)
-
--- what is wanted doesn't fall where loops go on
-pub wanted-risen : (buffer : ℕ) (ss ts : List Stage) → HaveRisen ss ts → IsNotLater (wanted buffer ss) (wanted buffer ts)
-wanted-risen buffer [] [] h = tt
-wanted-risen buffer [] (t ∷ ts) h = absurd h
-wanted-risen buffer (s ∷ ss) [] h = absurd h
-wanted-risen buffer (s ∷ ss) (t ∷ ts) h =
-    earlier-rises (next_read buffer s) (next_read buffer t) (wanted buffer ss) (wanted buffer ts)
-    (next_read-rises buffer s t h.0) (wanted-risen buffer ss ts h.1)
 
 pub wanted-set : (buffer : ℕ) (stages : List Stage) (k : ℕ) (s t : Stage) → slice_get stages k ≡ Some s → HasRisen s t
     → IsNotLater (wanted buffer stages) (wanted buffer (slice_set stages k t))
@@ -225,39 +205,6 @@ wanted-unread buffer (x ∷ stages) zero s t is same none =
     ap (λ (tick : Option ℤ). earlier tick (wanted buffer stages)) (new ∙ sym old)
 wanted-unread buffer (x ∷ stages) (suc k) s t is same none =
     ap (λ (tick : Option ℤ). earlier (next_read buffer x) tick) (wanted-unread buffer stages k s t is same none)
-
--- the same of the loops behind a place, where the loop at another place goes on: that one stands behind it, or not
-pub wanted-behind : (buffer : ℕ) (stages : List Stage) (place other : ℕ) (t : Stage) → other ≤ place
-    → wanted buffer (drop (suc place) (slice_set stages other t)) ≡ wanted buffer (drop (suc place) stages)
-wanted-behind buffer stages place other t le = ap (wanted buffer) (drop-set-lt (suc place) stages other t (omega arith))
-
-pub wanted-unread_at : (buffer : ℕ) (stages : List Stage) (place other : ℕ) (s t : Stage) → place < other
-    → slice_get stages other ≡ Some s → t.work ≡ s.work → reads_buffer buffer (body_reads s.work.loop.body) ≡ false
-    → wanted buffer (drop (suc place) (slice_set stages other t)) ≡ wanted buffer (drop (suc place) stages)
-wanted-unread_at buffer [] place other s t behind is same none = absurd (cc is)
-wanted-unread_at buffer (x ∷ stages) place zero s t behind is same none = absurd (omega arith)
-wanted-unread_at buffer (x ∷ stages) zero (suc other) s t behind is same none = wanted-unread buffer stages other s t is same none
-wanted-unread_at buffer (x ∷ stages) (suc place) (suc other) s t behind is same none =
-    wanted-unread_at buffer stages place other s t (omega arith) is same none
-
-pub wanted-rises_at : (buffer : ℕ) (stages : List Stage) (place other : ℕ) (s t : Stage) → place < other
-    → slice_get stages other ≡ Some s → t.work ≡ s.work → IsGrid s.work.loop.grid → position s ≤ℤ position t → (list : List Snapshot)
-    → let_go (wanted buffer (drop (suc place) stages)) list ≤ let_go (wanted buffer (drop (suc place) (slice_set stages other t))) list
-wanted-rises_at buffer [] place other s t behind is same valid rises list = absurd (cc is)
-wanted-rises_at buffer (x ∷ stages) place zero s t behind is same valid rises list = absurd (omega arith)
-wanted-rises_at buffer (x ∷ stages) zero (suc other) s t behind is same valid rises list =
-    wanted-rises buffer stages other s t is same valid rises list
-wanted-rises_at buffer (x ∷ stages) (suc place) (suc other) s t behind is same valid rises list =
-    wanted-rises_at buffer stages place other s t (omega arith) is same valid rises list
-
-pub wanted-within_at : (buffer : ℕ) (stages : List Stage) (place other : ℕ) (s : Stage) (r : Read) → place < other
-    → slice_get stages other ≡ Some s → is_at_work s ≡ true → Contains (body_reads s.work.loop.body) r → r.buffer ≡ buffer
-    → (tick : ℤ) × (wanted buffer (drop (suc place) stages) ≡ Some tick) × (tick ≤ℤ (turn_point s.work.loop (position s) +ℤ r.first))
-wanted-within_at buffer [] place other s r behind is work among at = absurd (cc is)
-wanted-within_at buffer (x ∷ stages) place zero s r behind is work among at = absurd (omega arith)
-wanted-within_at buffer (x ∷ stages) zero (suc other) s r behind is work among at = wanted-within buffer stages other s r is work among at
-wanted-within_at buffer (x ∷ stages) (suc place) (suc other) s r behind is work among at =
-    wanted-within_at buffer stages place other s r (omega arith) is work among at
 
 -- a buffer that one of some reads is of
 pub reads_buffer-found : (buffer : ℕ) (reads : List Read) (r : Read) → Contains reads r → r.buffer ≡ buffer
@@ -379,10 +326,6 @@ stages_at-set (x ∷ works) (y ∷ starts) (suc place) w start is =
 -- the ring of the loop at a place, of loops of which the first fills the buffer with the number
 abbrev pub ring_at : ℕ → List Stage → ℕ → Stage → List Snapshot
 ring_at buffer stages k s = kept_from (wanted (buffer + k) (drop (suc k) stages)) s.made
-
-pub rings_of-length : (buffer : ℕ) (stages : List Stage) → length (rings_of buffer stages) ≡ length stages
-rings_of-length buffer [] = refl
-rings_of-length buffer (s ∷ stages) = ap suc (rings_of-length (suc buffer) stages)
 
 pub rings_of-at : (buffer : ℕ) (stages : List Stage) (k : ℕ) (s : Stage) → slice_get stages k ≡ Some s
     → slice_get (rings_of buffer stages) k ≡ Some (ring_at buffer stages k s)

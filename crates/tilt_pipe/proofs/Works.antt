@@ -3,14 +3,15 @@ use Rattle.std.proofs.Common.{◌≡◌, ◌<◌, ℕ, zero, suc, ◌+◌, ◌-�
 use Rattle.std.proofs.lemmas.List.{append-nil, take_at, drop_all, length_push, get_or_append_left, get_or-append-add, get_or-map, length-map}
 use Rattle.std.proofs.lemmas.Option.{slice_get_within, get_or_from_slice_get, same_Some}
 use Rattle.std.specs.List.{AllByRecursion}
+use Rattle.tilt_base.proofs.Lists.{all-slice_get}
 use Rattle.tilt_code.proofs.Runs.{turns-Fill}
 use Rattle.tilt_code.specs.Body.{last_or}
 use Rattle.tilt_code.specs.Code.{LoopParts, CodeParts}
 use Rattle.tilt_code.specs.Meaning.{IsTimed}
 use Rattle.tilt_code.specs.Run.{with_buffers, buffers_of, run_of}
-use Rattle.tilt_code.specs.Turn.{Fill, turns}
+use Rattle.tilt_code.specs.Turn.{turns}
 use Rattle.tilt_pipe.specs.Made.{Work, is_used, works_from, works_of}
-use Rattle.tilt_stream.specs.Snap.{Snapshot}
+use Rattle.tilt_stream.specs.Snap.{Snapshot, Fill}
 use Rattle.tilt_stream.specs.Stream.{stream_of}
 
 -- the whole buffers of loops
@@ -152,15 +153,10 @@ run-last code inputs w is =
       used = it.used ∙ ap (λ (ws : List Work). is_used (length inputs + last) ws) behind;
     }
 
-timed-at : (loops : List LoopParts) (place : ℕ) (l : LoopParts) → AllByRecursion IsTimed loops → slice_get loops place ≡ Some l → IsTimed l
-timed-at [] place l h is = absurd (cc is)
-timed-at (first ∷ loops) zero l h is = subst IsTimed (same_Some first l is) h.0
-timed-at (first ∷ loops) (suc place) l h is = timed-at loops place l h.1 is
-
 -- a loop's whole buffer goes from the lower end of its stretch to the upper one
 pub work-timed : (code : CodeParts) (inputs : List (List Snapshot)) (place : ℕ) (w : Work) → AllByRecursion IsTimed code.loops
     → slice_get (works_of code inputs) place ≡ Some w → IsTimed w.loop
-work-timed code inputs place w all is = timed-at code.loops place w.loop all (work-is code inputs place w is).loop
+work-timed code inputs place w all is = all-slice_get IsTimed code.loops place w.loop all (work-is code inputs place w is).loop
 
 pub work-fills : (code : CodeParts) (inputs : List (List Snapshot)) (place : ℕ) (w : Work) → AllByRecursion IsTimed code.loops
     → slice_get (works_of code inputs) place ≡ Some w → Fill w.loop.lo w.loop.hi w.whole × IsTimed w.loop

@@ -2,7 +2,7 @@
 -- no more than it will have made in the end.
 use Rattle.std.specs.Prelude.{◌⊎◌, ◌≤◌, ℕ, zero, suc, ◌+◌, ◌-◌, ℤ, ◌≤ℤ◌, List, [], ◌∷◌, length, Option, Some, None, ⊤}
 use Rattle.tilt_base.specs.Grid.{IsGrid}
-use Rattle.tilt_code.specs.Turn.{Fill}
+use Rattle.tilt_stream.specs.Snap.{Fill}
 use Rattle.tilt_pipe.specs.Made.{Stage, Work, asked}
 use Rattle.tilt_pipe.specs.Positions.{made_by}
 use Rattle.tilt_pipe.specs.Rings.{position}

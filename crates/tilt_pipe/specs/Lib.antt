@@ -7,6 +7,5 @@ pub mod Positions
 pub mod Pulled
 pub mod Reads
 pub mod Rings
-pub mod Stored
 pub mod Trimmed
 pub mod Value

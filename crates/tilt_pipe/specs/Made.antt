@@ -1,6 +1,7 @@
 -- What each loop of a pipe has made of its buffer, once so many snapshots were given out (our own rule): each makes only what the loops behind
 -- it have read. It is a recursion from the last loop down to the first, so that the case of a loop looks at later loops alone.
 use Rattle.std.specs.Prelude.{ℕ, suc, ℤ, Bool, true, false, ◌&&◌, ◌||◌, ◌==◌, if◌then◌else◌, List, [], ◌∷◌, ◌++◌, map, take, length, Option, Some, None, int_lt}
+use Rattle.tilt_stream.specs.Pieces.{last_start}
 use Rattle.tilt_code.specs.Code.{LoopParts, CodeParts}
 use Rattle.tilt_code.specs.Turn.{turns}
 use Rattle.tilt_stream.specs.Snap.{Snapshot}
@@ -44,12 +45,6 @@ works_of code inputs = works_from (length inputs) inputs code.loops
 pub record Stage : Type 0 where
   pub work : Work
   pub made : List Snapshot
-
--- where the last of some snapshots starts
-abbrev pub last_start : List Snapshot → Option ℤ
-last_start [] = None
-last_start (s ∷ []) = Some s.start
-last_start (s ∷ next ∷ ss) = last_start (next ∷ ss)
 
 -- the last tick of a buffer that the last turn of a loop read, where one was made
 abbrev pub read_by_turn : ℕ → LoopParts → Option ℤ → Option ℤ

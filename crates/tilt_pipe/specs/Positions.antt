@@ -2,10 +2,9 @@
 use Rattle.std.specs.Prelude.{◌≡◌, ◌≤◌, ℕ, ℤ, pos, ◌<ℤ◌, ◌≤ℤ◌, if◌then◌else◌, List, [], ◌∷◌, ◌++◌, map, length, drop, get_or, slice_get, slice_set, Some, int_le, refl, ⊤}
 use Rattle.std.specs.Coded.{Coded, code_by, coded×, coded_list, coded_ℕ, coded_ℤ}
 use Rattle.tilt_code.specs.Code.{CodeParts, coded_code}
-use Rattle.tilt_code.specs.Turn.{Fill}
-use Rattle.tilt_stream.specs.Snap.{Snapshot, gap_before}
+use Rattle.tilt_stream.specs.Snap.{Snapshot, gap_before, Fill}
 use Rattle.tilt_pipe.specs.Made.{Stage, Work, works_of}
-use Rattle.tilt_pipe.specs.Stored.{coded_snapshots}
+use Rattle.tilt_stream.specs.Stored.{coded_snapshots}
 
 -- what a ring holds, how many snapshots before those were made and forgotten, and where the next one starts
 pub record RingParts : Type 0 where

@@ -4,7 +4,7 @@ use Rattle.std.specs.Coded.{Coded, code_by, coded×, coded_list, coded_ℕ, code
 use Rattle.tilt_code.specs.Code.{CodeParts, coded_code}
 use Rattle.tilt_stream.specs.Snap.{Snapshot}
 use Rattle.tilt_pipe.specs.Rings.{rings_after}
-use Rattle.tilt_pipe.specs.Stored.{coded_snapshots}
+use Rattle.tilt_stream.specs.Stored.{coded_snapshots}
 
 -- its code, the rows of the inputs, what each loop's ring holds, how many snapshots were given out, and whether memory was refused
 pub record PipeParts : Type 0 where

@@ -1,13 +1,9 @@
 -- Puts, one behind another.
-use Rattle.std.proofs.Common.{arith, ◌≡◌, ℕ, ◌≤◌, ◌<◌, ◌+◌, Bool, true, false, if◌then◌else◌, List, [], ◌∷◌, ◌++◌, length, get_or, take, drop, is_some, Result, Ok, Err, OnErr, refl, ap, sym, ◌∙◌, append_assoc, length-append}
+use Rattle.std.proofs.Common.{arith, ◌≡◌, ℕ, ◌≤◌, ◌<◌, ◌+◌, Bool, true, false, if◌then◌else◌, List, [], ◌∷◌, ◌++◌, length, get_or, take, drop, is_some, refl, ap, sym, ◌∙◌, append_assoc, length-append}
 use Rattle.std.proofs.lemmas.List.{take-append-drop, take_more}
+use Rattle.tilt_base.proofs.Lists.{drop-at}
 use Rattle.tilt_stream.specs.Snap.{Snapshot}
 use Rattle.tilt_stream.specs.Text.{row_text, lines_of}
-use Rattle.tilt_stream.proofs.Order.{drop-at}
-
-pub on_err : {T E P : Type 0} (r : Result T E) → P → OnErr r P
-on_err (Ok x) p = tt
-on_err (Err e) p = p
 
 by_value : (some : Bool) (line rest more : List ℕ) → (if some then line ++ (rest ++ more) else rest ++ more) ≡ (if some then line ++ rest else rest) ++ more
 by_value true line rest more = sym (append_assoc line rest more)

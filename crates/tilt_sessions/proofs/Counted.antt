@@ -1,37 +1,15 @@
 -- How many rows start before a cut: those in front.
-use Rattle.std.proofs.Common.{◌≡◌, ◌≤◌, ◌<◌, ℕ, zero, suc, ℤ, ◌≤ℤ◌, Bool, true, false, if◌then◌else◌, int_lt, List, [], ◌∷◌, length, take, drop, get_or, refl, arith, ap}
+use Rattle.std.proofs.Common.{◌≡◌, ◌≤◌, ℕ, zero, suc, ℤ, Bool, true, false, if◌then◌else◌, int_lt, List, [], ◌∷◌, length, take, drop, refl, arith, ap}
 use Rattle.std.specs.List.Sorted.{IsPartitionPoint, IsPartitionedBy}
 use Rattle.std.proofs.lemmas.Int.{ints}
+use Rattle.tilt_stream.proofs.Rising.{parted}
 use Rattle.tilt_chunk.specs.declared.cut.Cut.TheVariants.{Upto}
 use Rattle.tilt_sessions.specs.Parts.{early, behind}
 use Rattle.tilt_stream.specs.Snap.{Snapshot, InOrder}
 
--- a row in order doesn't start below the lower bound of all
-starts_above : (from limit : ℤ) (rows : List Snapshot) (i : ℕ) (d : Snapshot) → InOrder from limit rows → i < length rows → from ≤ℤ (get_or rows i d).start
-starts_above from limit [] i d h within = absurd (omega arith)
-starts_above from limit (r ∷ rs) zero d h within = h.0
-starts_above from limit (r ∷ rs) (suc i) d h within =
-    let above = starts_above r.end limit rs i d h.3 (omega arith) in
-    let a = h.0 in
-    let b = h.1 in
-    omega (arith, ints)
-
--- of two, the later one doesn't start before the earlier one
-starts_rise : (from limit : ℤ) (rows : List Snapshot) (i j : ℕ) (d : Snapshot) → InOrder from limit rows → i ≤ j → j < length rows → (get_or rows i d).start ≤ℤ (get_or rows j d).start
-starts_rise from limit [] i j d h le within = absurd (omega arith)
-starts_rise from limit (r ∷ rs) zero zero d h le within = omega (arith, ints)
-starts_rise from limit (r ∷ rs) zero (suc j) d h le within =
-    let above = starts_above r.end limit rs j d h.3 (omega arith) in
-    let b = h.1 in
-    omega (arith, ints)
-starts_rise from limit (r ∷ rs) (suc i) zero d h le within = absurd (omega arith)
-starts_rise from limit (r ∷ rs) (suc i) (suc j) d h le within = starts_rise r.end limit rs i j d h.3 (omega arith) (omega arith)
-
--- so those that start before a cut stand in front of the others
+-- those that start before a cut stand before the others
 pub starts-parted : (from limit : ℤ) (rows : List Snapshot) (cut : ℤ) → InOrder from limit rows → IsPartitionedBy (λ (r : Snapshot). int_lt r.start cut) rows
-starts-parted from limit rows cut h = λ i j d le within below.
-    let rise = starts_rise from limit rows i j d h le within in
-    grind (arith, ints)
+starts-parted from limit rows cut h = parted (λ r. r.start) (λ r width. (omega (arith, ints), omega (arith, ints))) from limit rows cut h
 
 -- a search that parts them finds how many they are
 pub starts-counted : (rows : List Snapshot) (cut : ℤ) (i : ℕ) → i ≤ length rows

@@ -3,8 +3,8 @@ use Rattle.std.proofs.Common.{◌≡◌, ◌<◌, ◌+◌, ℕ, ℤ, neg_ℤ, �
 use Rattle.std.proofs.lemmas.Int.{ints}
 use Rattle.std.proofs.lemmas.List.{take-append-drop}
 use Rattle.std.specs.Option.{ForSome}
+use Rattle.tilt_base.proofs.Lists.{drop-at}
 use Rattle.tilt_base.specs.declared.limits.TheConstants.{WIDE}
-use Rattle.tilt_stream.proofs.Order.{drop-at}
 use Rattle.tilt_stream.specs.Snap.{Snapshot, InOrder, Touch, AreSnapshots, last_end}
 
 touch-behind : (xs : List Snapshot) (s : Snapshot) (ys : List Snapshot) → Touch (xs ++ s ∷ ys) → ForSome (last_end xs) (λ end. end ≡ s.start)

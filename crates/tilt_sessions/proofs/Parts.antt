@@ -1,7 +1,6 @@
 -- The rows of a whole run, taken apart: they are in order, each session gets rows that it may be handed, and nothing is lost.
-use Rattle.std.proofs.Common.{◌≡◌, ◌<◌, ◌+◌, ℕ, zero, suc, take, drop, get_or, subst, ℤ, ◌≤ℤ◌, Bool, true, false, if◌then◌else◌, int_lt, List, [], ◌∷◌, ◌++◌, length, map, Option, None, Some, neg_ℤ, refl, sym, arith, ap, ◌∙◌}
+use Rattle.std.proofs.Common.{◌≡◌, ℕ, zero, suc, take, drop, ℤ, ◌≤ℤ◌, Bool, true, false, if◌then◌else◌, int_lt, List, [], ◌∷◌, ◌++◌, map, Option, None, Some, neg_ℤ, refl, arith, ap, ◌∙◌}
 use Rattle.std.proofs.lemmas.Int.{ints, clamps}
-use Rattle.std.proofs.lemmas.List.{take-append-drop}
 use Rattle.std.specs.Int.{int_max}
 use Rattle.std.specs.List.{AllByRecursion}
 use Rattle.std.specs.Option.{ForSome, unwrap_or}
@@ -12,7 +11,7 @@ use Rattle.tilt_chunk.specs.NewRows.{StartsBefore, IsNewRow, AreNewRows, added}
 use Rattle.tilt_chunk.specs.declared.cut.Cut.{Cut}
 use Rattle.tilt_chunk.specs.declared.cut.Cut.TheVariants.{Upto, End}
 use Rattle.tilt_sessions.specs.Parts.{is_early, early, behind, part_of}
-use Rattle.tilt_stream.proofs.Order.{InOrder-rest, InOrder-behind, drop-at}
+use Rattle.tilt_stream.proofs.Order.{InOrder-rest, unwrap_last_end}
 use Rattle.tilt_stream.specs.Snap.{Snapshot, InOrder, AreRows, last_end}
 
 -- the rows in front are in order
@@ -38,14 +37,9 @@ early-starts cut (r ∷ rs) = by (is_early cut r) refl (early-starts cut rs)
     by true is rest = (starts cut is, rest)
     by false is rest = tt
 
--- the end of the last of some rows doesn't rest on what stands for it where there is none
-end-same : (next : Snapshot) (rs : List Snapshot) (a b : ℤ) → unwrap_or (last_end (next ∷ rs)) a ≡ unwrap_or (last_end (next ∷ rs)) b
-end-same next [] a b = refl
-end-same next (s ∷ rs) a b = end-same s rs a b
-
 end-behind : (r : Snapshot) (rs : List Snapshot) (from : ℤ) → unwrap_or (last_end (r ∷ rs)) from ≡ unwrap_or (last_end rs) r.end
 end-behind r [] from = refl
-end-behind r (next ∷ rs) from = end-same next rs from r.end
+end-behind r (next ∷ rs) from = unwrap_last_end next rs from r.end
 
 -- the rows behind others are in order from their end on, and from the cut on
 pub behind-order : (cut from limit : ℤ) (rows : List Snapshot) → InOrder from limit rows
@@ -157,28 +151,3 @@ all-end (r ∷ rs) = ap (λ (l : List Snapshot). l ∷ map (early End) rs) (earl
 pub all-first : (cut : Cut) (rows : List (List Snapshot)) → map (part_of None cut) rows ≡ map (early cut) rows
 all-first cut [] = refl
 all-first cut (r ∷ rs) = ap (λ (ls : List (List Snapshot)). early cut r ∷ ls) (all-first cut rs)
-
--- a row of a list of rows stands behind those before it, within the range of times
-pub row-placed : (rows copies : List Snapshot) (row : Snapshot) (i : ℕ) → AreRows rows → i < length rows → row ≡ get_or rows i row → copies ≡ take i rows
-    → InOrder (unwrap_or (last_end copies) (neg_ℤ T)) T (row ∷ [])
-row-placed rows copies row i h within is done =
-    let split : rows ≡ take i rows ++ row ∷ drop (i + 1) rows = sym (take-append-drop i rows) ∙ ap (λ (l : List Snapshot). take i rows ++ l) (drop-at rows row i within is) in
-    rw done (InOrder-behind (neg_ℤ T) T (take i rows) row (drop (i + 1) rows) (subst AreRows split h))
-
--- so it may be pushed
-pub row-behind : (last : Option ℤ) (row : Snapshot) → InOrder (unwrap_or last (neg_ℤ T)) T (row ∷ []) → ForSome last (λ end. end ≤ℤ row.start)
-row-behind None row h = λ end same. absurd (cc same)
-row-behind (Some e) row h = λ end same. let s : e ≡ end = cc same in let a = h.0 in omega (arith, ints)
-
-rows-above : (from limit : ℤ) (rows : List Snapshot) (row : Snapshot) (i : ℕ) → InOrder from limit rows → i < length rows → row ≡ get_or rows i row → (from ≤ℤ row.start) × (row.end ≤ℤ limit)
-rows-above from limit [] row i h within is = absurd (omega arith)
-rows-above from limit (r ∷ rs) row zero h within is = let a = h.0 in let b = h.2 in (rw is a, rw is b)
-rows-above from limit (r ∷ rs) row (suc i) h within is =
-    let rest = rows-above r.end limit rs row i h.3 (omega arith) is in
-    let a = h.0 in
-    let b = h.1 in
-    (omega (arith, ints), rest.1)
-
--- and its times lie within the range of times
-pub row-in_range : (rows : List Snapshot) (row : Snapshot) (i : ℕ) → AreRows rows → i < length rows → row ≡ get_or rows i row → (neg_ℤ T ≤ℤ row.start) × (row.end ≤ℤ T)
-row-in_range rows row i h within is = rows-above (neg_ℤ T) T rows row i h within is

@@ -1,8 +1,9 @@
 -- Why a session that is given a file and binds does nothing: from its file and its inputs.
 use Rattle.std.proofs.Common.{◌≡◌, ◌≤◌, List, ℕ}
+use Rattle.tilt_outside.proofs.Puts.{rose_from}
 use Rattle.tilt_load.specs.Load.{IsLoadFault, HasSessionTurn}
 use Rattle.tilt_load.specs.SeriesFiles.{RefusesSession}
-use Rattle.tilt_load.proofs.Loads.{load_fault_weaker, rose_later}
+use Rattle.tilt_load.proofs.Loads.{load_fault_weaker}
 use Rattle.tilt_report.specs.Report.{Reason, Outcome, refused, Report, refusal}
 use Rattle.tilt_series.specs.Series.{Bounds}
 use Rattle.tilt_sessions.specs.SessionFile.{IsSessionOutcome, no_file, no_inputs, HasFileTurn, own_turn, input_turn}
@@ -40,4 +41,4 @@ module _ {A : Type 0} (takes : A → Type 0) (refuses : Reason → Type 0) (inpu
   inputs_undone a mid taken low report fault =
       load_fault_weaker tells tells (RefusesSession files binds (within a) (inputs_of a)) IsRefused (HasSessionTurn tells files binds (within a) (inputs_of a)) IsTurn
       mid after before after (λ t. t) (λ why t r. no_inputs a why (taken t) r)
-      (λ name rose turn. (rose_later before mid after low rose, turn_of_input takes inputs_of within tells files file binds a taken name turn)) report fault
+      (λ name rose turn. (rose_from before mid after low rose, turn_of_input takes inputs_of within tells files file binds a taken name turn)) report fault

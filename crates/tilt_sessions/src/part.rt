@@ -76,8 +76,6 @@ fn copied(alloc: Global, rows: &[Row]) -> Result<Rows, OutOfMemory>
     ensures { IfOk result (λ copies. copies ≡ rows.now) }
 {
     let mut copies = Rows::new(alloc);
-    for row in rows {
-        copies.push(*row)?;
-    }
+    copies.append(rows)?;
     Ok(copies)
 }

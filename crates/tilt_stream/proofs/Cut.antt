@@ -2,7 +2,7 @@
 use Rattle.std.proofs.Common.{◌≡◌, ℕ, zero, suc, ◌+◌, ◌<◌, ℤ, pos, negsuc, ◌+ℤ◌, ◌<ℤ◌, ◌≤ℤ◌, true, false, [], ◌∷◌, refl, ap, sym, ◌∙◌, arith}
 use Rattle.std.specs.Int.{int_gap}
 use Rattle.std.proofs.lemmas.Int.{ints}
-use Rattle.tilt_stream.specs.Stream.{Stream, SameStream}
+use Rattle.tilt_stream.specs.Stream.{Stream}
 use Rattle.tilt_stream.specs.Snapshots.{snapshot_on, cut_behind, snapshots_from, snapshots}
 
 -- a number is as far above another as that many steps
@@ -53,16 +53,3 @@ snapshots-first x lo end hi before within clear marked =
 -- where nothing is left there are none
 pub snapshots-none : (x : Stream) (lo hi : ℤ) → hi ≤ℤ lo → snapshots x lo hi ≡ []
 snapshots-none x lo hi h = ap (snapshots_from x lo) (int_gap_none lo hi h)
-
-cut_behind-same : (x y : Stream) → SameStream x y → (start tick : ℤ) (more : ℕ) → cut_behind x start tick more ≡ cut_behind y start tick more
-cut_behind-same x y same start tick zero = rw (same.cells (start +ℤ pos 1)) refl
-cut_behind-same x y same start tick (suc more) =
-    rw (same.marks (tick +ℤ pos 1), same.cells (start +ℤ pos 1), cut_behind-same x y same tick (tick +ℤ pos 1) more, cut_behind-same x y same start (tick +ℤ pos 1) more) refl
-
-snapshots_from-same : (x y : Stream) → SameStream x y → (start : ℤ) (more : ℕ) → snapshots_from x start more ≡ snapshots_from y start more
-snapshots_from-same x y same start zero = refl
-snapshots_from-same x y same start (suc more) = cut_behind-same x y same start (start +ℤ pos 1) more
-
--- the same stream has the same snapshots
-pub snapshots-same : (x y : Stream) → SameStream x y → (lo hi : ℤ) → snapshots x lo hi ≡ snapshots y lo hi
-snapshots-same x y same lo hi = snapshots_from-same x y same lo (int_gap lo hi)

@@ -4,36 +4,15 @@ use Rattle.std.specs.List.Sorted.{IsPartitionPoint, IsPartitionedBy}
 use Rattle.std.specs.Ordering.{int_eq}
 use Rattle.std.proofs.lemmas.Int.{ints}
 use Rattle.std.proofs.lemmas.Option.{slice_get_read, slice_get_past}
+use Rattle.tilt_stream.proofs.Rising.{parted}
 use Rattle.tilt_stream.proofs.Streams.{cell_at-before, mark_at-before, mark_at-within, mark_at-start, mark_at-end}
 use Rattle.tilt_stream.specs.Marks.{IsNextMark, HasNoMarkAbove, NamesNextMark}
 use Rattle.tilt_stream.specs.Snap.{Snapshot, InOrder, ended_below}
 use Rattle.tilt_stream.specs.Stream.{Stream, cell_at, covers, mark_at, stream_of}
 
--- a snapshot in order ends above the lower bound of all
-ends_above : (from limit : ℤ) (list : List Snapshot) (i : ℕ) (d : Snapshot) → InOrder from limit list → i < length list → from <ℤ (get_or list i d).end
-ends_above from limit [] i d h within = absurd (omega arith)
-ends_above from limit (s ∷ ss) zero d h within = let a = h.0 in let b = h.1 in omega (arith, ints)
-ends_above from limit (s ∷ ss) (suc i) d h within =
-    let above = ends_above s.end limit ss i d h.3 (omega arith) in
-    let a = h.0 in
-    let b = h.1 in
-    omega (arith, ints)
-
--- of two, the later one doesn't end before the earlier one
-ends_rise : (from limit : ℤ) (list : List Snapshot) (i j : ℕ) (d : Snapshot) → InOrder from limit list → i ≤ j → j < length list → (get_or list i d).end ≤ℤ (get_or list j d).end
-ends_rise from limit [] i j d h le within = absurd (omega arith)
-ends_rise from limit (s ∷ ss) zero zero d h le within = omega (arith, ints)
-ends_rise from limit (s ∷ ss) zero (suc j) d h le within =
-    let above = ends_above s.end limit ss j d h.3 (omega arith) in
-    omega (arith, ints)
-ends_rise from limit (s ∷ ss) (suc i) zero d h le within = absurd (omega arith)
-ends_rise from limit (s ∷ ss) (suc i) (suc j) d h le within = ends_rise s.end limit ss i j d h.3 (omega arith) (omega arith)
-
--- so those that end below a tick stand in front of the others
+-- those that end below a tick stand before the others
 pub ended-parted : (from limit : ℤ) (list : List Snapshot) (tick : ℤ) → InOrder from limit list → IsPartitionedBy (λ (s : Snapshot). int_lt s.end tick) list
-ended-parted from limit list tick h = λ i j d le within below.
-    let rise = ends_rise from limit list i j d h le within in
-    grind (arith, ints)
+ended-parted from limit list tick h = parted (λ s. s.end) (λ s width. (omega (arith, ints), omega (arith, ints))) from limit list tick h
 
 -- a search that parts them finds how many they are
 pub ended-counted : (list : List Snapshot) (tick : ℤ) (i : ℕ) → i ≤ length list → IsPartitionPoint (λ (s : Snapshot). int_lt s.end tick ≡ true) (λ (s : Snapshot). int_lt s.end tick ≡ false) list i → i ≡ ended_below tick list
@@ -99,7 +78,7 @@ mark_by None tick = None
 mark_by (Some s) tick = Some ((if int_le tick s.start then s.start else s.end) +ℤ pos 1)
 
 -- the next mark stays as it is where the marks above the tick do
-names-same : (x y : Stream) (tick : ℤ) → ((other : ℤ) → tick <ℤ other → x.mark other ≡ y.mark other) → (answer : Option ℤ) → NamesNextMark y tick answer → NamesNextMark x tick answer
+pub names-same : (x y : Stream) (tick : ℤ) → ((other : ℤ) → tick <ℤ other → x.mark other ≡ y.mark other) → (answer : Option ℤ) → NamesNextMark y tick answer → NamesNextMark x tick answer
 names-same x y tick same None names = λ other above. same other above ∙ names other above
 names-same x y tick same (Some next) names = record {
   above = names.above;

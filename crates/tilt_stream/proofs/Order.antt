@@ -1,6 +1,6 @@
 -- Lists of snapshots in the order of time.
-use Rattle.std.proofs.Common.{IfSome, Option, None, unwrap_or, ◌≡◌, ℤ, ◌<ℤ◌, ◌≤ℤ◌, List, [], ◌∷◌, ◌++◌, Some, refl, arith, slice_get, option_map, sym, ◌∙◌, ap, length, get_or, ◌-◌, sub-one, neg_ℤ, ℕ, ◌<◌, ◌+◌, drop}
-use Rattle.std.proofs.lemmas.List.{drop_more}
+use Rattle.std.proofs.Common.{IfSome, Option, None, unwrap_or, ◌≡◌, ℤ, ◌<ℤ◌, ◌≤ℤ◌, List, [], ◌∷◌, ◌++◌, Some, refl, arith, slice_get, option_map, sym, ◌∙◌, ap, length, ◌-◌, sub-one, neg_ℤ}
+use Rattle.std.specs.List.{AllByRecursion}
 use Rattle.tilt_base.specs.declared.limits.TheConstants.{WIDE}
 use Rattle.std.specs.Option.{ForSome}
 use Rattle.std.proofs.lemmas.Int.{ints}
@@ -75,28 +75,41 @@ InOrder-rest from limit x (y ∷ ys) h =
     let above : from ≤ℤ y.start = omega (arith, ints) in
     (above, h.3.1, h.3.2, h.3.3)
 
--- rows from a place on, split at the first
-pub drop-at : (xs : List Snapshot) (x : Snapshot) (i : ℕ) → i < length xs → x ≡ get_or xs i x → drop i xs ≡ x ∷ drop (i + 1) xs
-drop-at xs x i h is = drop_more xs i x h ∙ ap (λ (y : Snapshot). y ∷ drop (i + 1) xs) (sym is)
-
 -- the end of the last one, once it was added
 pub last_end-after_push : (xs ys : List Snapshot) (s : Snapshot) (end : ℤ) → ys ≡ xs ++ s ∷ [] → last_end ys ≡ Some end → end ≡ s.end
 last_end-after_push xs ys s end pushed is =
     let e : Some end ≡ Some s.end = sym is ∙ ap last_end pushed ∙ last_end-push xs s in
     cc
 
-unwrap_last_end : (y : Snapshot) (xs : List Snapshot) (a b : ℤ) → unwrap_or (last_end (y ∷ xs)) a ≡ unwrap_or (last_end (y ∷ xs)) b
+-- the end of the last one doesn't rest on what stands for it where there is none
+pub unwrap_last_end : (y : Snapshot) (xs : List Snapshot) (a b : ℤ) → unwrap_or (last_end (y ∷ xs)) a ≡ unwrap_or (last_end (y ∷ xs)) b
 unwrap_last_end y [] a b = refl
 unwrap_last_end y (x ∷ xs) a b = unwrap_last_end x xs a b
-
--- what follows the last one doesn't start before it ends
-pub InOrder-behind : (from limit : ℤ) (xs : List Snapshot) (s : Snapshot) (ys : List Snapshot) → InOrder from limit (xs ++ s ∷ ys) → InOrder (unwrap_or (last_end xs) from) limit (s ∷ [])
-InOrder-behind from limit [] s ys h = (h.0, h.1, h.2, tt)
-InOrder-behind from limit (x ∷ []) s ys h = (h.3.0, h.3.1, h.3.2, tt)
-InOrder-behind from limit (x ∷ y ∷ xs) s ys h =
-    rw (unwrap_last_end y xs x.end from) at (InOrder-behind x.end limit (y ∷ xs) s ys h.3)
 
 -- the same, of an answer that is that end
 pub last_end-low_if : (low high : ℤ) (xs : List Snapshot) (found : Option ℤ) → InOrder low high xs → found ≡ last_end xs → IfSome found (λ end. low ≤ℤ end)
 last_end-low_if low high xs None h is = tt
 last_end-low_if low high xs (Some end) h is = last_end-low low high xs end h (sym is)
+
+-- rows in order that start behind an end are in order from there on
+pub order-behind : (end from limit : ℤ) (rows : List Snapshot) → AllByRecursion (λ row. end ≤ℤ row.start) rows
+    → InOrder from limit rows → InOrder end limit rows
+order-behind end from limit [] behind h = tt
+order-behind end from limit (r ∷ rows) behind h = (behind.0, h.1, h.2, h.3)
+
+-- rows behind the last one
+behind_some : (from limit : ℤ) (x : Snapshot) (xs ys : List Snapshot) → InOrder from limit (x ∷ xs)
+    → ForSome (last_end (x ∷ xs)) (λ end. InOrder end limit ys) → InOrder from limit (x ∷ xs ++ ys)
+behind_some from limit x [] ys h behind = (h.0, h.1, h.2, behind x.end refl)
+behind_some from limit x (y ∷ xs) ys h behind = (h.0, h.1, h.2, behind_some x.end limit y xs ys h.3 behind)
+
+-- rows in order from the end of others on are in order after them
+pub InOrder-append : (from limit : ℤ) (xs ys : List Snapshot) → InOrder from limit xs → InOrder from limit ys
+    → ForSome (last_end xs) (λ end. InOrder end limit ys) → InOrder from limit (xs ++ ys)
+InOrder-append from limit [] ys h g behind = g
+InOrder-append from limit (x ∷ xs) ys h g behind = behind_some from limit x xs ys h behind
+
+-- rows in order, none of which starts before others end, are in order after them
+pub InOrder-after : (from limit : ℤ) (xs ys : List Snapshot) → InOrder from limit xs → InOrder from limit ys
+    → ForSome (last_end xs) (λ end. AllByRecursion (λ row. end ≤ℤ row.start) ys) → InOrder from limit (xs ++ ys)
+InOrder-after from limit xs ys h g behind = InOrder-append from limit xs ys h g (λ end is. order-behind end from limit ys (behind end is) g)

@@ -1,10 +1,9 @@
 -- Laws of the stream of a list in the order of time.
-use Rattle.std.proofs.Common.{◌≡◌, ℤ, pos, ◌+ℤ◌, ◌-ℤ◌, ◌<ℤ◌, ◌≤ℤ◌, true, false, List, [], ◌∷◌, ◌++◌, None, refl, arith}
-use Rattle.std.specs.Option.{ForSome}
+use Rattle.std.proofs.Common.{◌≡◌, ℤ, pos, ◌+ℤ◌, ◌<ℤ◌, ◌≤ℤ◌, true, false, List, [], ◌∷◌, ◌++◌, None, refl, arith}
 use Rattle.std.specs.Ordering.{int_eq}
 use Rattle.std.proofs.lemmas.Int.{ints}
 use Rattle.tilt_base.proofs.Booleans.{third_true, first_true, second_true}
-use Rattle.tilt_stream.specs.Snap.{Snapshot, InOrder, last_end}
+use Rattle.tilt_stream.specs.Snap.{Snapshot, InOrder}
 use Rattle.tilt_stream.specs.Stream.{cell_at, mark_at, covers}
 
 -- before the first one all is null
@@ -28,16 +27,6 @@ starts_from from limit [] s back h = h.0
 starts_from from limit (f ∷ front) s back h =
     let above : f.end ≤ℤ s.start = starts_from f.end limit front s back h.3 in
     omega (arith, ints)
-
--- on its ticks a snapshot gives the cell
-pub cell_at-within : (from limit : ℤ) (front : List Snapshot) (s : Snapshot) (back : List Snapshot) (tick : ℤ) → InOrder from limit (front ++ s ∷ back) → s.start <ℤ tick → tick ≤ℤ s.end → cell_at (front ++ s ∷ back) tick ≡ s.value
-cell_at-within from limit [] s back tick h low high =
-    let inside : covers s tick ≡ true = grind (arith, ints) in
-    rw inside refl
-cell_at-within from limit (f ∷ front) s back tick h low high =
-    let above : f.end ≤ℤ s.start = starts_from f.end limit front s back h.3 in
-    let outside : covers f tick ≡ false = grind (arith, ints) in
-    rw outside (cell_at-within f.end limit front s back tick h.3 low high)
 
 -- behind its first tick a snapshot has no mark
 pub mark_at-within : (from limit : ℤ) (front : List Snapshot) (s : Snapshot) (back : List Snapshot) (tick : ℤ) → InOrder from limit (front ++ s ∷ back) → (s.start +ℤ pos 1) <ℤ tick → tick ≤ℤ s.end → mark_at (front ++ s ∷ back) tick ≡ false
@@ -68,36 +57,3 @@ pub mark_at-end : (front : List Snapshot) (s : Snapshot) (back : List Snapshot) 
 mark_at-end front s back =
     let end : int_eq (s.end +ℤ pos 1) (s.end +ℤ pos 1) ≡ true = grind (arith, ints) in
     mark_at-append front (s ∷ back) (s.end +ℤ pos 1) (second_true (int_eq (s.end +ℤ pos 1) (s.start +ℤ pos 1)) (int_eq (s.end +ℤ pos 1) (s.end +ℤ pos 1)) (mark_at back (s.end +ℤ pos 1)) end)
-
--- what lies behind the end of the last one lies behind that of the first
-first_behind : (from limit : ℤ) (s : Snapshot) (ss : List Snapshot) (tick : ℤ) → InOrder from limit (s ∷ ss) → ForSome (last_end (s ∷ ss)) (λ end. end <ℤ tick) → s.end <ℤ tick
-first_behind from limit s [] tick h behind = behind s.end refl
-first_behind from limit s (next ∷ ss) tick h behind =
-    let above : next.end <ℤ tick = first_behind s.end limit next ss tick h.3 behind in
-    omega (arith, ints)
-
--- behind the last one all is null
-pub cell_at-behind : (from limit : ℤ) (list : List Snapshot) (tick : ℤ) → InOrder from limit list → ForSome (last_end list) (λ end. end <ℤ tick) → cell_at list tick ≡ None
-cell_at-behind from limit [] tick h behind = refl
-cell_at-behind from limit (s ∷ []) tick h behind =
-    let above : s.end <ℤ tick = behind s.end refl in
-    let outside : covers s tick ≡ false = grind (arith, ints) in
-    rw outside refl
-cell_at-behind from limit (s ∷ next ∷ ss) tick h behind =
-    let above : s.end <ℤ tick = first_behind from limit s (next ∷ ss) tick h behind in
-    let outside : covers s tick ≡ false = grind (arith, ints) in
-    rw outside (cell_at-behind s.end limit (next ∷ ss) tick h.3 behind)
-
--- behind the first tick after the last one there is no mark
-pub mark_at-behind : (from limit : ℤ) (list : List Snapshot) (tick : ℤ) → InOrder from limit list → ForSome (last_end list) (λ end. (end +ℤ pos 1) <ℤ tick) → mark_at list tick ≡ false
-mark_at-behind from limit [] tick h behind = refl
-mark_at-behind from limit (s ∷ []) tick h behind =
-    let above : (s.end +ℤ pos 1) <ℤ tick = behind s.end refl in
-    let start : int_eq tick (s.start +ℤ pos 1) ≡ false = grind (arith, ints) in
-    let end : int_eq tick (s.end +ℤ pos 1) ≡ false = grind (arith, ints) in
-    rw (start, end) refl
-mark_at-behind from limit (s ∷ next ∷ ss) tick h behind =
-    let above : s.end <ℤ (tick -ℤ pos 1) = first_behind from limit s (next ∷ ss) (tick -ℤ pos 1) h (λ end is. let b : (end +ℤ pos 1) <ℤ tick = behind end is in omega (arith, ints)) in
-    let start : int_eq tick (s.start +ℤ pos 1) ≡ false = grind (arith, ints) in
-    let end : int_eq tick (s.end +ℤ pos 1) ≡ false = grind (arith, ints) in
-    rw (start, end) (mark_at-behind s.end limit (next ∷ ss) tick h.3 behind)

@@ -1,9 +1,12 @@
 pub mod Agreement
 pub mod Domain
+pub mod Marked
 pub mod Marks
+pub mod Pieces
 pub mod Pointwise
 pub mod Snap
 pub mod Snapshots
+pub mod Stored
 pub mod Stream
 pub mod Text
 pub mod Window

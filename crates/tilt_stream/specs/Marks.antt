@@ -1,5 +1,5 @@
 -- Where the marks of a stream stand, seen from one tick.
-use Rattle.std.specs.Prelude.{◌≡◌, ℤ, ◌<ℤ◌, Option, Some, None, true, false}
+use Rattle.std.specs.Prelude.{◌≡◌, ℤ, ◌<ℤ◌, Option, Some, None, true, false, ℕ, zero, suc, pos, ◌+ℤ◌, if◌then◌else◌, ◌||◌}
 use Rattle.tilt_stream.specs.Stream.{Stream}
 
 -- the least tick above `tick` that has a mark
@@ -16,3 +16,12 @@ HasNoMarkAbove x tick = (other : ℤ) → tick <ℤ other → x.mark other ≡ f
 abbrev pub NamesNextMark : Stream → ℤ → Option ℤ → Type 0
 NamesNextMark x tick None = HasNoMarkAbove x tick
 NamesNextMark x tick (Some next) = IsNextMark x tick next
+
+-- the first of so many ticks behind `tick` that has a mark
+abbrev pub next_mark : Stream → ℤ → ℕ → Option ℤ
+next_mark x tick zero = None
+next_mark x tick (suc more) = if x.mark (tick +ℤ pos 1) then Some (tick +ℤ pos 1) else next_mark x (tick +ℤ pos 1) more
+
+-- a stream that has a mark where one of two has one
+abbrev pub joined : Stream → Stream → Stream
+joined x y = record { cell = λ tick. None; mark = λ tick. x.mark tick || y.mark tick }

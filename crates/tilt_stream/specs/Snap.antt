@@ -49,3 +49,8 @@ gap_before (Some end) start =
 abbrev pub joined_open : ℤ → List Snapshot → List Snapshot
 joined_open start [] = []
 joined_open start (s ∷ ss) = record { start = start; end = s.end; value = s.value } ∷ ss
+
+-- snapshots that go from `lo` to `hi`: the first starts at `lo`, each of the others where the one before it ends, and the last ends at `hi`
+abbrev pub Fill : ℤ → ℤ → List Snapshot → Type 0
+Fill lo hi [] = lo ≡ hi
+Fill lo hi (s ∷ ss) = (s.start ≡ lo) × (lo <ℤ s.end) × Fill s.end hi ss

@@ -1,4 +1,5 @@
 ghost use Rattle.std.specs.Prelude.{◌≡◌, ◌<◌, [], ◌∷◌, ◌++◌, length, neg_ℤ, ◌≤ℤ◌, slice_get, IsTrue, ◌↔◌, OnOk, OnErr, IfSome};
+ghost use Rattle.std.specs.List.{AllByRecursion};
 ghost use Rattle.std.specs.Option.{ForSome};
 ghost use Rattle.tilt_base.specs.declared.limits.TheConstants.{T};
 ghost use Rattle.tilt_stream.specs.Snap.{AreRows, last_end};
@@ -45,6 +46,18 @@ impl Rows {
     {
         prove!(row.start < row.end);
         self.rows.push(row)?;
+        Ok(())
+    }
+
+    /// Adds rows after the last one, none of which starts before it ends. After want of memory the rows are as before.
+    pub fn append(&mut self, more: &[Row]) -> Result<(), OutOfMemory>
+        requires behind { ForSome (last_end self.old) (λ end. AllByRecursion (λ row. end ≤ℤ row.start) more.now) }
+        requires rows { AreRows more.now }
+        ensures ok { OnOk result (self.new ≡ self.old ++ more.now) }
+        ensures err { OnErr result (self.new ≡ self.old) }
+        ensures in_order { AreRows self.new }
+    {
+        self.rows.extend_from_slice(more)?;
         Ok(())
     }
 

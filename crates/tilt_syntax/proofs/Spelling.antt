@@ -20,7 +20,7 @@ use Rattle.tilt_lexer.specs.Tokens.{is_blank, mark_text, IsTextOf, IsWithin, Beg
 use Rattle.tilt_lexer.specs.Word.{begins_word, goes_on_word, IsWord, key_text}
 use Rattle.tilt_lexer.proofs.Fronts.{word_goes_on, word_is_front, number_is_front, sign_is_front}
 use Rattle.tilt_lexer.proofs.Numbers.{numerals}
-use Rattle.tilt_lexer.proofs.Texts.{word_first, digits_first, mark_first, key_is_word}
+use Rattle.tilt_lexer.proofs.Texts.{word_first, digits_first, sign_first, key_is_word}
 use Rattle.tilt_syntax.specs.Printing.{sign_text}
 use Rattle.tilt_syntax.specs.Query.{kinds, AreSound}
 
@@ -121,7 +121,7 @@ no_equals rest more h e = false≢true (ap closes (sym e) ∙ h)
 no_longer_pair : (m : Mark) (rest more : List ℕ) (a : ℕ) → IsTrue (ends_before (tok.Mark m) rest) → IsTrue (begins_pair a)
     → length (mark_text m) ≡ 1 → mark_text m ++ rest ≡ a ∷ 61 ∷ more → ⊥
 no_longer_pair m rest more a ends pair one e =
-    let first : get_or (mark_text m) 0 0 ≡ a = sym (get_or_append_left (mark_text m) rest 0 0 (mark_first m).some) ∙ ap (λ l. get_or l 0 0) e in
+    let first : get_or (mark_text m) 0 0 ≡ a = sym (get_or_append_left (mark_text m) rest 0 0 (sign_first m).some) ∙ ap (λ l. get_or l 0 0) e in
     let behind : rest ≡ 61 ∷ more = sym (drop_at (mark_text m) rest 1 one) ∙ ap (drop 1) e in
     let not_alone : is_alone (tok.Mark m) ≡ false = ap (λ b. not (begins_pair b)) first ∙ ap not pair in
     let closed : IsTrue (closes rest) = ap (λ b. b || closes rest) (sym not_alone) ∙ ends in
@@ -136,7 +136,7 @@ same_length m other b a e f =
 longest_sign : (m other : Mark) (rest more : List ℕ) → IsTrue (ends_before (tok.Mark m) rest)
     → mark_text m ++ rest ≡ mark_text other ++ more → length (mark_text other) ≤ length (mark_text m)
 longest_sign m other rest more ends e =
-    let some = (mark_first m).some in
+    let some = (sign_first m).some in
     elim (one_or_two other) [
       | inl short ↦ omega arith
       | inr (a, (pair, is)) ↦ elim (one_or_two m) [
@@ -148,7 +148,7 @@ longest_sign m other rest more ends e =
 mark_begins : (m : Mark) (rest : List ℕ) → IsTrue (ends_before (tok.Mark m) rest)
     → Begins (tok.Mark m) (mark_text m ++ rest) (mark_text m) rest
 mark_begins m rest ends =
-    let first = mark_first m in
+    let first = sign_first m in
     let bytes = mark_text m ++ rest in
     let same : get_or bytes 0 0 ≡ get_or (mark_text m) 0 0 = get_or_append_left (mark_text m) rest 0 0 first.some in
     let sign : BeginsWithSign m bytes = record { begins = (rest, refl); longest = λ other more e. longest_sign m other rest more ends e } in

@@ -5,6 +5,7 @@ use Rattle.std.specs.List.{AllByRecursion}
 use Rattle.std.proofs.lemmas.Int.{ints, by_lt_z}
 use Rattle.tilt_base.specs.Grid.{ceil}
 use Rattle.tilt_base.specs.Reduce.{numbers, reduce}
+use Rattle.tilt_code.proofs.Constancy.{instr_cell-same}
 use Rattle.tilt_code.specs.Body.{body_of, instr_cell, last_or, leaf_marked, leaf_of, mapped, with_registers}
 use Rattle.tilt_code.specs.Code.{Block, LoopParts}
 use Rattle.tilt_code.specs.Turn.{turn, turn_end}
@@ -18,10 +19,10 @@ use Rattle.tilt_stream.specs.Window.{met}
 use Rattle.tilt_stream.specs.declared.cursor.Cursor.{Cursor}
 use Rattle.tilt_turn.proofs.Numbered.{read-stream}
 use Rattle.tilt_turn.proofs.Origins.{all-only}
-use Rattle.tilt_turn.proofs.SameMarks.{SameNext, either-same, next_mark-same, port-same, window-same}
+use Rattle.tilt_stream.proofs.SameMarks.{SameNext, either-same, next_mark-same, port-same, window-same}
 use Rattle.tilt_turn.proofs.Stepwise.{all-weaker}
 use Rattle.tilt_turn.specs.Held.{Holds, IsFit, IsLeafAt, MayGo, MayMove, leaf_only, origin}
-use Rattle.tilt_turn.specs.Marked.{marked, marked_behind}
+use Rattle.tilt_stream.specs.Marked.{marked, marked_behind}
 use Rattle.tilt_turn.specs.Ready.{IsReadable, IsReady}
 use Rattle.tilt_turn.specs.Same.{IsSameFor}
 use Rattle.tilt_turn.specs.declared.leaf.Leaf.{Leaf}
@@ -157,16 +158,6 @@ leaf_cell-same a b maps point (Win reducer buffer from to number) s =
 leaf_cell-same a b maps point (One op r) s = refl
 leaf_cell-same a b maps point (Two op r q) s = refl
 leaf_cell-same a b maps point (If c r q) s = refl
-
-instr_cell-same : (f g : Instr → Option ℤ) (cells : List (Option ℤ)) (i : Instr) → f i ≡ g i → instr_cell f cells i ≡ instr_cell g cells i
-instr_cell-same f g cells (Const number) is = refl
-instr_cell-same f g cells Null is = refl
-instr_cell-same f g cells Argument is = is
-instr_cell-same f g cells (Port buffer offset) is = is
-instr_cell-same f g cells (Win reducer buffer from to number) is = is
-instr_cell-same f g cells (One op r) is = refl
-instr_cell-same f g cells (Two op r q) is = refl
-instr_cell-same f g cells (If c r q) is = refl
 
 registers-same : (f g : Instr → Option ℤ) (cells : List (Option ℤ)) (block : Block) → AllByRecursion (λ (i : Instr). f i ≡ g i) block
     → with_registers f cells block ≡ with_registers g cells block

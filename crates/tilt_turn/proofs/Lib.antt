@@ -1,13 +1,11 @@
 pub mod Cursors
 pub mod Elsewhere
 pub mod MarkBounds
-pub mod MarkedTicks
 pub mod Moves
 pub mod NextMarks
 pub mod Numbered
 pub mod Origins
 pub mod Readies
 pub mod Registers
-pub mod SameMarks
 pub mod Stepwise
 pub mod TurnTicks

@@ -5,8 +5,8 @@ use Rattle.std.specs.Int.{int_max}
 use Rattle.std.proofs.lemmas.Option.{same_Some}
 use Rattle.tilt_stream.specs.Marks.{IsNextMark, NamesNextMark}
 use Rattle.tilt_stream.specs.Stream.{Stream}
-use Rattle.tilt_turn.proofs.MarkedTicks.{marked-first, marked-empty}
-use Rattle.tilt_turn.specs.Marked.{marked}
+use Rattle.tilt_stream.proofs.MarkedTicks.{marked-first, marked-empty}
+use Rattle.tilt_stream.specs.Marked.{marked}
 
 -- the first mark that a window holds is the next one
 pub held-next : (x : Stream) (first last mark : ℤ) (marks : List ℤ) → first ≤ℤ last → marks ≡ marked x first last

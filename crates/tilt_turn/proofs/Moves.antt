@@ -7,9 +7,9 @@ use Rattle.tilt_stream.specs.Agreement.{ChangesOnlyAtMarks}
 use Rattle.tilt_stream.specs.Marks.{IsNextMark}
 use Rattle.tilt_stream.specs.Stream.{Stream}
 use Rattle.tilt_stream.specs.Window.{met}
-use Rattle.tilt_turn.proofs.MarkedTicks.{marked-none, marked-next, marked-first, marked-empty, marked-append, met-marked, met-no_ticks, marked-no_ticks, cell-kept}
+use Rattle.tilt_stream.proofs.MarkedTicks.{marked-none, marked-next, marked-first, marked-empty, marked-append, met-marked, marked-no_ticks, cell-kept}
 use Rattle.tilt_turn.specs.Held.{Holds}
-use Rattle.tilt_turn.specs.Marked.{marked}
+use Rattle.tilt_stream.specs.Marked.{marked}
 use Rattle.tilt_turn.specs.declared.moving.Moving.{Moving}
 use Rattle.tilt_window.specs.Taken.{IsFirstTaken}
 
@@ -115,22 +115,3 @@ moved x f first last later cells marks some onwards none held =
     let all : met x (first -ℤ pos 1) later ≡ met x (first -ℤ pos 1) last =
     met-marked x first later (omega (arith, ints)) ∙ ap (λ (ts : List ℤ). x.cell first ∷ map x.cell ts) same ∙ sym (met-marked x first last some) in
     record { cells_met = held.cells_met ∙ ap (map f) (sym all); marks_met = held.marks_met ∙ sym same }
-
--- the cell of one tick
-pub begun : (x : Stream) (f : Option ℤ → Option ℤ) (first : ℤ) (cells : List (Option ℤ)) (marks : List ℤ)
-    → cells ≡ f (x.cell first) ∷ [] → marks ≡ []
-    → IsMet x f first first cells marks
-begun x f first cells marks made none =
-    let same = marked-no_ticks x first first (omega (arith, ints)) in
-    let all : met x (first -ℤ pos 1) first ≡ x.cell first ∷ [] =
-    met-marked x first first (omega (arith, ints)) ∙ ap (λ (ts : List ℤ). x.cell first ∷ map x.cell ts) same in
-    record { cells_met = made ∙ sym (ap (map f) all); marks_met = none ∙ sym same }
-
--- no cells, where the last tick lies below the first
-pub not-begun : (x : Stream) (f : Option ℤ → Option ℤ) (first last : ℤ) (cells : List (Option ℤ)) (marks : List ℤ) → last <ℤ first
-    → cells ≡ [] → marks ≡ []
-    → IsMet x f first last cells marks
-not-begun x f first last cells marks below none clear = record {
-  cells_met = none ∙ sym (ap (map f) (met-no_ticks x (first -ℤ pos 1) last (omega (arith, ints))));
-  marks_met = clear ∙ sym (marked-no_ticks x first last (omega (arith, ints)));
-}

@@ -3,6 +3,7 @@ use Rattle.std.proofs.Common.{◌≡◌, ◌<◌, ℕ, ℤ, List, [], ◌∷◌,
 use Rattle.std.proofs.lemmas.Int.{ints}
 use Rattle.std.proofs.lemmas.List.{length-map, get_or-map}
 use Rattle.std.specs.List.{AllByRecursion}
+use Rattle.tilt_stream.proofs.Ended.{names-same}
 use Rattle.tilt_code.specs.Body.{leaf_of, leaf_marked, body_of}
 use Rattle.tilt_code.specs.Code.{Block, LoopParts}
 use Rattle.tilt_code.specs.declared.instr.Instr.{Instr}
@@ -11,7 +12,6 @@ use Rattle.tilt_stream.specs.Marks.{NamesNextMark}
 use Rattle.tilt_stream.specs.Snap.{Snapshot}
 use Rattle.tilt_stream.specs.Stream.{Stream}
 use Rattle.tilt_turn.proofs.Cursors.{may-move}
-use Rattle.tilt_turn.proofs.NextMarks.{names-same}
 use Rattle.tilt_turn.proofs.Numbered.{read-map}
 use Rattle.tilt_turn.specs.Held.{IsLeafAt, MayGo, StandsAt, leaf_only, origin}
 use Rattle.tilt_turn.specs.declared.leaf.Leaf.{Leaf}

@@ -1,5 +1,5 @@
 -- Lists whose items are changed one after the other.
-use Rattle.std.proofs.Common.{◌≡◌, ◌<◌, ◌≤◌, ◌+◌, ℕ, zero, suc, List, [], ◌∷◌, ◌++◌, map, length, get_or, ap, subst, arith}
+use Rattle.std.proofs.Common.{◌≡◌, ◌<◌, ◌≤◌, ◌+◌, ℕ, zero, suc, List, [], ◌∷◌, map, length, get_or, ap, subst, arith}
 use Rattle.std.proofs.Math.ListN.{set}
 use Rattle.std.specs.Bool.{⊤}
 use Rattle.std.specs.List.{AllByRecursion}
@@ -45,7 +45,3 @@ said-step f (suc i) (y ∷ ys) d new within same = ap (λ zs. f y ∷ zs) (said-
 pub all-weaker : {X : Type 0} (P Q : X → Type 0) (xs : List X) → ((x : X) → P x → Q x) → AllByRecursion P xs → AllByRecursion Q xs
 all-weaker P Q [] f h = tt
 all-weaker P Q (x ∷ xs) f h = (f x h.0, all-weaker P Q xs f h.1)
-
-pub all-pushed : {X : Type 0} (P : X → Type 0) (xs : List X) (x : X) → AllByRecursion P (xs ++ x ∷ []) → AllByRecursion P xs × P x
-all-pushed P [] x h = (tt, h.0)
-all-pushed P (y ∷ ys) x h = let rest = all-pushed P ys x h.1 in ((h.0, rest.0), rest.1)

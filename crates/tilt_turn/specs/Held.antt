@@ -11,7 +11,7 @@ use Rattle.tilt_stream.specs.Stream.{Stream, stream_of}
 use Rattle.tilt_stream.specs.Window.{met}
 use Rattle.tilt_stream.specs.declared.cursor.Cursor.{Cursor}
 use Rattle.tilt_turn.specs.Kinds.{kind_cells, kind_reducer}
-use Rattle.tilt_turn.specs.Marked.{marked}
+use Rattle.tilt_stream.specs.Marked.{marked}
 use Rattle.tilt_turn.specs.Ready.{IsReadableWindow}
 use Rattle.tilt_turn.specs.declared.leaf.Leaf.{Leaf}
 use Rattle.tilt_turn.specs.declared.leaf.Leaf.TheVariants.{Idle, Port, Window}

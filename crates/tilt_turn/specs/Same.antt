@@ -1,18 +1,9 @@
 -- When lists tell the same, as far as a loop reads them at a grid point.
-use Rattle.std.specs.Prelude.{◌≡◌, ℤ, ◌+ℤ◌, ◌<ℤ◌, ◌≤ℤ◌, false, List, [], get_or, ⊤}
+use Rattle.std.specs.Prelude.{ℤ, ◌+ℤ◌, List, [], get_or, ⊤}
+use Rattle.tilt_stream.specs.Agreement.{IsSameUpTo}
 use Rattle.tilt_code.specs.declared.instr.Instr.{Instr}
 use Rattle.tilt_code.specs.declared.instr.Instr.TheVariants.{Port, Win}
-use Rattle.tilt_stream.specs.Snap.{Snapshot, ended_below}
-use Rattle.tilt_stream.specs.Stream.{cell_at, mark_at}
-
--- two lists that tell the same up to a tick: as many end below each tick up to it, the same cells and marks, and above it the same next
--- mark, which is that of the first list
-pub record IsSameUpTo (last : ℤ) (a b : List Snapshot) : Type 0 where
-  pub ended : (tick : ℤ) → tick ≤ℤ last → ended_below tick a ≡ ended_below tick b
-  pub cells : (tick : ℤ) → tick ≤ℤ last → cell_at a tick ≡ cell_at b tick
-  pub marks : (tick : ℤ) → tick ≤ℤ last → mark_at a tick ≡ mark_at b tick
-  pub next : (tick : ℤ) → last <ℤ tick → ((other : ℤ) → last <ℤ other → other <ℤ tick → mark_at a other ≡ false)
-      → mark_at a tick ≡ mark_at b tick
+use Rattle.tilt_stream.specs.Snap.{Snapshot}
 
 -- the same of the buffer that a leaf reads, up to the last tick that it reads at a grid point
 abbrev pub IsSameFor : List (List Snapshot) → List (List Snapshot) → ℤ → Instr → Type 0

@@ -1,9 +1,8 @@
 // Where streams that are read by leaves next have a mark.
 ghost use Rattle.std.specs.Prelude.{ℤ, ◌+ℤ◌, ◌-ℤ◌, IfSome};
-ghost use Rattle.tilt_stream.specs.Marks.{NamesNextMark};
+ghost use Rattle.tilt_stream.specs.Marks.{NamesNextMark, joined};
 ghost use Rattle.tilt_stream.specs.Pointwise.{shifted};
 ghost use Rattle.tilt_stream.specs.Stream.{Stream};
-ghost use Rattle.tilt_turn.specs.Leaves.{joined};
 ghost use Rattle.tilt_turn.specs.Ready.{IsMarkTick};
 
 // The next mark of a stream that is read so many ticks behind the tick.

@@ -2,18 +2,18 @@
 use Rattle.std.proofs.Common.{◌≡◌, ℕ, List, [], ◌∷◌, ◌++◌, length, take, drop, None, ap, ◌∙◌, subst}
 use Rattle.std.proofs.Math.Seq.{drop-append_seam, take-append_seam}
 use Rattle.std.specs.List.{AllByRecursion}
-use Rattle.tilt_lexer.specs.Word.{IsReserved, IsWord}
+use Rattle.tilt_lexer.specs.Word.{IsReserved, IsWord, IsName}
 use Rattle.tilt_syntax.specs.Query.{IsQuery}
 use Rattle.tilt_syntax.specs.Tree.{StatementTree}
 use Rattle.tilt_types.proofs.Distinct.{source_names-distinct}
 use Rattle.tilt_types.proofs.Places.{query-definitions}
 use Rattle.tilt_types.proofs.Texts.{input_names-free, let_names-free, query-ends, query-of_text, sources-few}
 use Rattle.tilt_types.specs.Checked.{core_of, definitions, input_names, let_names, source_names}
-use Rattle.tilt_core.specs.Core.{IsCore, IsSourceName}
+use Rattle.tilt_core.specs.Core.{IsCore}
 use Rattle.tilt_core.specs.CoreTree.{Definition}
 use Rattle.tilt_types.specs.WellFormed.{first_fault}
 
-names-append : (xs ys : List (List ℕ)) → AllByRecursion IsWord (xs ++ ys) → AllByRecursion (λ x. ¬ (IsReserved x)) xs → AllByRecursion (λ x. ¬ (IsReserved x)) ys → AllByRecursion IsSourceName (xs ++ ys)
+names-append : (xs ys : List (List ℕ)) → AllByRecursion IsWord (xs ++ ys) → AllByRecursion (λ x. ¬ (IsReserved x)) xs → AllByRecursion (λ x. ¬ (IsReserved x)) ys → AllByRecursion IsName (xs ++ ys)
 names-append [] [] words f g = tt
 names-append [] (y ∷ ys) words f g = ((words.0, g.0), names-append [] ys words.1 f g.1)
 names-append (x ∷ xs) ys words f g = ((words.0, f.0), names-append xs ys words.1 f.1 g)

@@ -16,9 +16,6 @@ pub texts_behind : (words : List (String Global)) (at : ℕ) → texts (take (le
 texts_behind words at = ap texts (take_rest words at) ∙ sym (drop-map (λ w. string_bytes w) at words)
 
 module _ (words : List (List ℕ)) where
-  pub before_all : ArgumentsBefore words 0 no_settings
-  before_all = record { within = omega arith; go_on = λ new are. are; back = λ new are. are }
-
   module _ (at : ℕ) (settings : Settings) (before : ArgumentsBefore words at settings) where
     pub before_next : (count : ℕ) (new : Settings) → count ≤ length (drop at words) →
         Begins settings (drop at words) new (drop count (drop at words)) → ArgumentsBefore words (at + count) new

@@ -1,7 +1,7 @@
 use Rattle.std.proofs.Common.{◌≡◌, sym, ◌∙◌, ap, Some, w64, FitsSigned, rules}
 use Rattle.std.proofs.lemmas.Int.{to_z-of_z}
-use Rattle.tilt_chunk.proofs.Parted.{last_start-push, without_last-push}
-use Rattle.tilt_chunk.specs.Pieces.{last_start, without_last}
+use Rattle.tilt_stream.proofs.Pieces.{without_last-push, last_start-push}
+use Rattle.tilt_stream.specs.Pieces.{last_start, without_last}
 use Rattle.tilt_stream.specs.Snap.{Snapshot}
 use Rattle.tilt_chunk.proofs.closing.without_last.Goals as goal
 

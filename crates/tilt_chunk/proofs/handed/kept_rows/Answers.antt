@@ -1,8 +1,10 @@
 use Rattle.std.proofs.Common.{neg_ℤ, ◌+◌, drop, ◌∷◌, of_z, to_z, w64}
+use Rattle.tilt_base.proofs.Lists.{drop-at}
 use Rattle.tilt_base.specs.declared.limits.TheConstants.{T}
+use Rattle.tilt_stream.proofs.Pieces.{kept-step, kept-behind}
 use Rattle.tilt_stream.specs.Snap.{InOrder}
-use Rattle.tilt_stream.proofs.Order.{drop-at, InOrder-rest}
-use Rattle.tilt_chunk.proofs.Parted.{kept-behind, kept-cells, kept-step}
+use Rattle.tilt_stream.proofs.Order.{InOrder-rest}
+use Rattle.tilt_chunk.proofs.Parted.{kept-cells}
 use Rattle.tilt_chunk.proofs.handed.kept_rows.Goals as goal
 
 pub keep_row-requires-clause-behind : goal.keep_row-requires-clause-behind

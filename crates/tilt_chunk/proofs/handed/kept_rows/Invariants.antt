@@ -3,7 +3,7 @@ use Rattle.std.specs.Option.{ForSome}
 use Rattle.tilt_base.specs.declared.limits.TheConstants.{T}
 use Rattle.tilt_stream.specs.Snap.{InOrder, last_end}
 use Rattle.tilt_chunk.specs.Handed.{AreCells}
-use Rattle.tilt_chunk.specs.Pieces.{kept}
+use Rattle.tilt_stream.specs.Pieces.{kept}
 use Rattle.tilt_chunk.proofs.handed.kept_rows.Given as goal
 
 abbrev pub invariant-loop-row : goal.invariant-loop-row

@@ -6,7 +6,7 @@ use Rattle.tilt_checkpoint.proofs.Rows.{time_fits}
 use Rattle.tilt_chunk.proofs.Sessions.{begun-low, behind-none, decided-low, open-none, passed-max, went-begun, went-earlier, went-printed, wide_fits}
 use Rattle.tilt_chunk.specs.Emitted.{given}
 use Rattle.tilt_chunk.specs.Later.{resumed_at}
-use Rattle.tilt_chunk.specs.Pieces.{joined_from}
+use Rattle.tilt_stream.specs.Pieces.{joined_from}
 use Rattle.tilt_chunk.proofs.later_session.go_on.Goals as goal
 
 pub returns-then-decided-frame-clause-printed : goal.returns-then-decided-frame-clause-printed

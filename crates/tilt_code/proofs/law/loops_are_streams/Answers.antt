@@ -1,5 +1,5 @@
 use Rattle.tilt_code.proofs.Constancy.{body_of-changes, loop_of-changes}
-use Rattle.tilt_code.proofs.Filling.{Fill-AreSnapshots}
+use Rattle.tilt_stream.proofs.Filling.{Fill-AreSnapshots}
 use Rattle.tilt_code.proofs.Runs.{turns-stream, turns-Fill, with_buffers-streams, run-is, run-Fill, loops-timed}
 use Rattle.tilt_code.proofs.Turns.{turns-are}
 use Rattle.tilt_code.proofs.law.loops_are_streams.Goals as goal

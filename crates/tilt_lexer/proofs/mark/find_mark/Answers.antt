@@ -5,7 +5,7 @@ use Rattle.std.proofs.lemmas.List.{get_or_default}
 use Rattle.std.proofs.lemmas.Slice.Eq.{starts_is}
 use Rattle.tilt_lexer.specs.declared.mark.TheConstants.{MARKS}
 use Rattle.tilt_lexer.specs.Tokens.{mark_text}
-use Rattle.tilt_lexer.proofs.Marks.{mark_place, mark_in_table, first_is_longest}
+use Rattle.tilt_lexer.proofs.Signs.{sign_place, sign_in_table, first_is_longest}
 use Rattle.tilt_lexer.proofs.mark.find_mark.Goals as goal
 
 pub returns-then-starts_with : goal.returns-then-starts_with
@@ -23,5 +23,5 @@ loop-mark-preserved c = λ i d more h.
 
 pub returns : goal.returns
 returns c = λ m more e.
-    let at = mark_in_table m in
-    c.loop-mark.invariant (mark_place m) m more (omega (arith, at.below)) (e ∙ ap (λ n. mark_text n ++ more) (sym at.there))
+    let at = sign_in_table m in
+    c.loop-mark.invariant (sign_place m) m more (omega (arith, at.below)) (e ∙ ap (λ n. mark_text n ++ more) (sym at.there))

@@ -1,10 +1,10 @@
 use Rattle.std.proofs.Common.{◌∙◌, [], ◌∷◌, ◌+◌, ◌++◌, append_assoc, sym, ap, length, drop, List}
 use Rattle.std.proofs.lemmas.List.{drop_all}
+use Rattle.tilt_base.proofs.Lists.{drop-at}
 use Rattle.tilt_code.proofs.Runs.{last_or-pushed}
 use Rattle.tilt_code.specs.Body.{last_or}
 use Rattle.tilt_code.specs.Code.{LoopParts}
 use Rattle.tilt_code.specs.Run.{with_buffers}
-use Rattle.tilt_machine.proofs.TurnSteps.{drop-first}
 use Rattle.tilt_stream.specs.Snap.{Snapshot}
 use Rattle.tilt_turn.proofs.Readies.{loop-ready}
 use Rattle.tilt_machine.proofs.run.run_code.Goals as goal
@@ -14,7 +14,7 @@ turns-requires c =
     let i = c.loop-each.invariant in
     let all = c.args.inputs.now ++ c.loop-each.made.items in
     let rest = drop (c.loop-each.each-index + 1) c.loops-each-items.result.now in
-    let first = drop-first c.loops-each-items.result.now c.loop-each.each-index c.each-item.result c.loop-each-test.true c.each-item.is in
+    let first = drop-at c.loops-each-items.result.now c.each-item.result c.loop-each.each-index c.loop-each-test.true c.each-item.is in
     let loops = rw first at i.loops in
     let references = rw first at i.references in
     record { ready = rw c.deref.ensures.value (loop-ready (length all) c.each-item.result rest loops.0 references) }

@@ -3,7 +3,8 @@ use Rattle.std.proofs.Common.{◌≡◌, ◌<◌, ◌+◌, ◌∙◌, ℕ, List,
 use Rattle.std.proofs.lemmas.Option.{slice_get_read, same_Some}
 use Rattle.std.specs.List.{AllByRecursion}
 use Rattle.tilt_code.specs.Code.{Block, LoopParts}
-use Rattle.tilt_pipe.proofs.Nears.{loop-sound, loops-there}
+use Rattle.tilt_pipe.proofs.Nears.{loop-sound}
+use Rattle.tilt_pipe.proofs.RingsKept.{loops-there}
 use Rattle.tilt_pipe.proofs.Works.{work-is}
 use Rattle.tilt_pipe.specs.Trimmed.{ReadsNear}
 use Rattle.tilt_pipe.proofs.chain.body.Goals as goal

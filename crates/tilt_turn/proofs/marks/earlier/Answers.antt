@@ -1,6 +1,6 @@
 use Rattle.std.proofs.Common.{◌≡◌, FitsSigned, w64, to_z, of_z, ◌-ℤ◌, arith, rules}
 use Rattle.std.proofs.lemmas.Int.{ints}
-use Rattle.tilt_turn.proofs.NextMarks.{shifted-next}
+use Rattle.tilt_stream.proofs.NextMarks.{shifted-next}
 use Rattle.tilt_turn.proofs.marks.earlier.Goals as goal
 
 pub returns-clause-next : goal.returns-clause-next

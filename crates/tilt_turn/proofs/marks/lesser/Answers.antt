@@ -1,7 +1,7 @@
 use Rattle.std.proofs.Common.{◌≡◌, ◌∙◌, FitsSigned, w64, to_z, of_z, rules}
 use Rattle.std.specs.Int.{int_min}
 use Rattle.std.proofs.lemmas.Int.{to_z-of_z}
-use Rattle.tilt_turn.proofs.NextMarks.{joined-both}
+use Rattle.tilt_stream.proofs.NextMarks.{joined-both}
 use Rattle.tilt_turn.proofs.marks.lesser.Goals as goal
 
 pub returns-in-Some-Some-clause-next : goal.returns-in-Some-Some-clause-next

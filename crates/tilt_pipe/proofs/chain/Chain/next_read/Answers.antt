@@ -1,7 +1,8 @@
 -- A reader's next turn reads near its grid point, which lies near the stretches of loops.
 use Rattle.std.proofs.Common.{◌≡◌, ◌<◌, ◌∙◌, ◌+ℤ◌, true, length, FitsSigned, w64, refl, sym, ap, arith, rules}
 use Rattle.std.proofs.lemmas.Int.{ints, by_lt_z, to_z-of_z}
-use Rattle.tilt_pipe.proofs.Nears.{loops-there, turn-near}
+use Rattle.tilt_pipe.proofs.Nears.{turn-near}
+use Rattle.tilt_pipe.proofs.RingsKept.{loops-there}
 use Rattle.tilt_pipe.proofs.Turning.{has-many, own-used}
 use Rattle.tilt_pipe.proofs.Wanting.{reads-next, reads-none, reads-unused}
 use Rattle.tilt_pipe.specs.Positions.{IsOpen, start_at}

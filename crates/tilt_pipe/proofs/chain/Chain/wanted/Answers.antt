@@ -4,7 +4,7 @@ use Rattle.std.proofs.lemmas.List.{drop_all, drop_more}
 use Rattle.std.specs.List.{AllByRecursion}
 use Rattle.circular_buffer.proofs.Places.{slice_get-some}
 use Rattle.tilt_code.specs.Run.{buffers_of}
-use Rattle.tilt_pipe.proofs.Nears.{loops-there}
+use Rattle.tilt_pipe.proofs.RingsKept.{loops-there}
 use Rattle.tilt_pipe.proofs.Turning.{own-readers-are, turns-long}
 use Rattle.tilt_pipe.proofs.Wanting.{all-get, earlier-assoc, earlier-none, readers-there, wanted_at-is}
 use Rattle.tilt_pipe.specs.Chain.{AreTurns, readers_from}

@@ -1,19 +1,19 @@
 use Rattle.std.proofs.Common.{FitsSigned, to_z-of_z, w64, ◌≡◌, ◌<◌, length, ap, ◌∙◌, arith, rules}
 use Rattle.std.proofs.lemmas.Int.{ints}
 use Rattle.tilt_code.specs.Code.{LoopParts}
-use Rattle.tilt_pipe.proofs.RingsKept.{loop-is, loops-count}
+use Rattle.tilt_pipe.proofs.RingsKept.{loop-is, loops-there}
 use Rattle.tilt_pipe.specs.Positions.{RingsParts}
 use Rattle.tilt_pipe.proofs.rings.Rings.is_open.Goals as goal
 
 pub bounds-loops-place : goal.bounds-loops-place
 bounds-loops-place c =
-    let count = loops-count _ c.self.invariant in
+    let count = loops-there _ c.self.invariant in
     let within = rw (← c.self.view_is) at c.requires in
     omega (arith, count, within, ap length c.loops.ensures.loops)
 
 pub offset_bounds-loops-place : goal.offset_bounds-loops-place
 offset_bounds-loops-place c =
-    let count = loops-count _ c.self.invariant in
+    let count = loops-there _ c.self.invariant in
     let requires = rw (← c.self.view_is) at c.requires in
     let within : c.args.place < length c.loops.result.now = omega (arith, count, requires, ap length c.loops.ensures.loops) in
     search rules

@@ -1,7 +1,7 @@
 use Rattle.std.proofs.Common.{FitsSigned, to_z-of_z, w64, ◌≡◌, ◌<◌, ◌+◌, length, ap, ◌∙◌, arith, rules}
 use Rattle.tilt_code.specs.Code.{LoopParts}
 use Rattle.tilt_pipe.proofs.OpenLists.{open-at, open-held, open-rest, open_at-within}
-use Rattle.tilt_pipe.proofs.RingsKept.{loop-is, loops-count}
+use Rattle.tilt_pipe.proofs.RingsKept.{loop-is, loops-there}
 use Rattle.tilt_pipe.specs.Positions.{RingsParts}
 use Rattle.tilt_pipe.proofs.rings.Rings.ring_get.Goals as goal
 
@@ -22,7 +22,7 @@ pub index-ring-requires : goal.index-ring-requires
 index-ring-requires c =
     let p : RingsParts = record { code = c.self.inside.code; inputs = c.self.inside.inputs.items; rings = c.self.inside.rings.items } in
     let within = open_at-within p c.args.place c.args.number (rw (← c.self.view_is) at c.requires.made) in
-    let count = loops-count p c.self.invariant in
+    let count = loops-there p c.self.invariant in
     let below : c.args.place < length c.self.inside.rings.items = omega (arith, within, count) in
     search rules
 

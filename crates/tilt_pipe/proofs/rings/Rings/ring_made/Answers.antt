@@ -1,7 +1,7 @@
 use Rattle.std.proofs.Common.{◌<◌, ◌+◌, ◌<ℤ◌, length, ap, refl, arith, rules}
 use Rattle.std.proofs.lemmas.Int.{ints}
 use Rattle.tilt_pipe.proofs.OpenLists.{open-at, open-more, open-same, open_at-past}
-use Rattle.tilt_pipe.proofs.RingsKept.{loops-count}
+use Rattle.tilt_pipe.proofs.RingsKept.{loops-there}
 use Rattle.tilt_pipe.specs.Positions.{RingsParts, start_at}
 use Rattle.tilt_pipe.proofs.rings.Rings.ring_made.Goals as goal
 
@@ -19,7 +19,7 @@ returns-then-place-loops-clause-in_order c =
 
 pub index-ring-requires : goal.index-ring-requires
 index-ring-requires c =
-    let count = loops-count _ c.self.invariant in
+    let count = loops-there _ c.self.invariant in
     let within : c.args.place < length c.self.inside.rings.items =
     omega (arith, count, ap length c.loops.ensures.loops, c.if-place-loops.false) in
     search rules
@@ -34,7 +34,7 @@ overflow_add-made c =
 
 pub is_open-requires : goal.is_open-requires
 is_open-requires c =
-    let count = loops-count _ c.self.invariant in
+    let count = loops-there _ c.self.invariant in
     rw (← c.self.view_is) (omega (arith, count, ap length c.loops.ensures.loops, c.if-place-loops.false))
 
 pub overflow_add-result : goal.overflow_add-result

@@ -1,7 +1,8 @@
 use Rattle.std.proofs.Common.{neg_ℤ, ◌+◌, drop, ◌∷◌, None}
+use Rattle.tilt_base.proofs.Lists.{drop-at}
 use Rattle.tilt_base.specs.declared.limits.TheConstants.{T}
 use Rattle.tilt_stream.specs.Snap.{InOrder}
-use Rattle.tilt_stream.proofs.Order.{drop-at, InOrder-rest, last_end-after_push}
+use Rattle.tilt_stream.proofs.Order.{InOrder-rest, last_end-after_push}
 use Rattle.tilt_stream.proofs.Filled.{filled_behind, filled-step, filled-all, stream-filled}
 use Rattle.tilt_stream.proofs.snap_list.SnapList.from_rows.Goals as goal
 

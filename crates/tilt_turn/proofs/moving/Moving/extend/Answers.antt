@@ -4,7 +4,7 @@ use Rattle.tilt_code.specs.Body.{mapped}
 use Rattle.tilt_stream.specs.Stream.{stream_of}
 use Rattle.tilt_stream.specs.declared.cursor.Cursor.{Cursor}
 use Rattle.tilt_turn.proofs.Cursors.{stands-after, stands-own, kept-behind}
-use Rattle.tilt_turn.proofs.MarkedTicks.{few-met}
+use Rattle.tilt_stream.proofs.MarkedTicks.{few-met}
 use Rattle.tilt_turn.proofs.Moves.{pushed, moved}
 use Rattle.tilt_turn.specs.Kinds.{kind_cells}
 use Rattle.tilt_turn.proofs.moving.Moving.extend.Goals as goal

@@ -1,9 +1,8 @@
 use Rattle.std.proofs.Common.{◌≡◌, ◌∙◌, sym, ap, pos, [], ◌∷◌, ◌++◌, map, take, length, get_or, refl}
 use Rattle.std.proofs.lemmas.List.{map-append, take_more, take_all}
-use Rattle.tilt_base.proofs.Lists.{all-push}
+use Rattle.tilt_base.proofs.Lists.{all-push, all-parts}
 use Rattle.tilt_code.specs.Code.{LoopParts}
 use Rattle.tilt_code.specs.declared.instr.Instr.TheVariants.{Const}
-use Rattle.tilt_turn.proofs.Stepwise.{all-pushed}
 use Rattle.tilt_turn.specs.Held.{IsLeafAt, MayGo, leaf_only, origin}
 use Rattle.tilt_turn.specs.Ready.{IsReadable}
 use Rattle.tilt_turn.proofs.state.LoopState.new.Goals as goal
@@ -22,10 +21,10 @@ loop-instr-preserved c =
           ∙ rw (c.loop-instr.invariant.same, c.new.ensures.same) refl
           ∙ sym (ap (map leaf_only) more ∙ map-append leaf_only (take i items) (instr ∷ []));
       fit = λ lists point readable low.
-          let parts = all-pushed (IsReadable (length lists) (length maps)) (take i items) instr (rw more at readable) in
+          let parts = all-parts (IsReadable (length lists) (length maps)) (take i items) (instr ∷ []) (rw more at readable) in
           rw pushed (all-push (IsLeafAt MayGo lists [] maps point) before c.new.result
           (c.loop-instr.invariant.fit lists point parts.0 low)
-          (c.new.ensures.fit lists maps point parts.1 low));
+          (c.new.ensures.fit lists maps point parts.1.0 low));
     }
 
 pub returns : goal.returns

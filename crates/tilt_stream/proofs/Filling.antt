@@ -3,10 +3,9 @@ use Rattle.std.proofs.Common.{◌≡◌, ℕ, zero, suc, ℤ, pos, neg_ℤ, ◌+
 use Rattle.std.proofs.lemmas.Int.{ints}
 use Rattle.std.specs.Int.{int_gap}
 use Rattle.tilt_base.specs.declared.limits.TheConstants.{WIDE}
-use Rattle.tilt_code.proofs.Cutting.{cut_from_first}
-use Rattle.tilt_code.specs.Turn.{Fill}
+use Rattle.tilt_stream.proofs.Cutting.{cut_from_first}
 use Rattle.tilt_stream.proofs.Cut.{int_gap_is}
-use Rattle.tilt_stream.specs.Snap.{Snapshot, InOrder, Touch, AreSnapshots}
+use Rattle.tilt_stream.specs.Snap.{Snapshot, InOrder, Touch, AreSnapshots, Fill}
 use Rattle.tilt_stream.specs.Snapshots.{snapshot_on, cut_behind, snapshots}
 use Rattle.tilt_stream.specs.Stream.{Stream}
 
@@ -37,7 +36,7 @@ snapshots-Fill x lo hi some =
     (Fill-behind x lo (lo +ℤ pos 1) hi (int_gap (lo +ℤ pos 1) hi) (omega (arith, ints)) at)
 
 -- a stretch that is filled doesn't end before it begins
-Fill-up : (lo hi : ℤ) (list : List Snapshot) → Fill lo hi list → lo ≤ℤ hi
+pub Fill-up : (lo hi : ℤ) (list : List Snapshot) → Fill lo hi list → lo ≤ℤ hi
 Fill-up lo hi [] h = omega (arith, ints)
 Fill-up lo hi (s ∷ ss) h =
     let above : s.end ≤ℤ hi = Fill-up s.end hi ss h.2 in

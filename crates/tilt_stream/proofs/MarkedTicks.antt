@@ -8,7 +8,7 @@ use Rattle.tilt_stream.specs.Agreement.{ChangesOnlyAtMarks}
 use Rattle.tilt_stream.specs.Marks.{IsNextMark}
 use Rattle.tilt_stream.specs.Stream.{Stream}
 use Rattle.tilt_stream.specs.Window.{met_behind, met}
-use Rattle.tilt_turn.specs.Marked.{marked_behind, marked}
+use Rattle.tilt_stream.specs.Marked.{marked_behind, marked}
 
 -- where none of the ticks has a mark
 behind-none : (x : Stream) (tick : ℤ) (n : ℕ) → ((other : ℤ) → tick <ℤ other → other ≤ℤ (tick +ℤ pos n) → x.mark other ≡ false)
@@ -193,10 +193,6 @@ met-marked x first last some =
     ap (met_behind x true (first -ℤ pos 1)) count
     ∙ ap (λ (t : ℤ). x.cell t ∷ met_behind x false t (int_gap first last)) here
     ∙ ap (λ (cells : List (Option ℤ)). x.cell first ∷ cells) (sym (behind-cells x first (int_gap first last)))
-
--- nothing is met where there are no ticks
-pub met-no_ticks : (x : Stream) (lo hi : ℤ) → hi ≤ℤ lo → met x lo hi ≡ []
-met-no_ticks x lo hi none = rw (int_gap_none lo hi none) refl
 
 pub marked-no_ticks : (x : Stream) (lo hi : ℤ) → hi ≤ℤ lo → marked x lo hi ≡ []
 marked-no_ticks x lo hi none = rw (int_gap_none lo hi none) refl

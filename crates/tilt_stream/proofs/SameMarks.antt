@@ -3,12 +3,12 @@ use Rattle.std.proofs.Common.{◌≡◌, ℕ, zero, suc, ℤ, pos, ◌+ℤ◌, �
 use Rattle.std.proofs.lemmas.Int.{ints, by_lt_z}
 use Rattle.std.proofs.lemmas.Bool.{or_parts}
 use Rattle.tilt_base.specs.declared.reducer.Reducer.{Reducer}
-use Rattle.tilt_code.specs.Turn.{next_mark}
+use Rattle.tilt_stream.specs.Agreement.{IsSameUpTo}
+use Rattle.tilt_stream.specs.Marks.{next_mark}
 use Rattle.tilt_stream.specs.Pointwise.{shifted}
 use Rattle.tilt_stream.specs.Snap.{Snapshot}
 use Rattle.tilt_stream.specs.Stream.{Stream, mark_at, stream_of}
 use Rattle.tilt_stream.specs.Window.{windowed_by}
-use Rattle.tilt_turn.specs.Same.{IsSameUpTo}
 
 -- above a tick they have the same marks, up to and with the first mark of the first one
 abbrev pub SameNext : (ℤ → Bool) → (ℤ → Bool) → ℤ → Type 0

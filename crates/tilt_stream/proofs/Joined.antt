@@ -9,8 +9,8 @@ use Rattle.tilt_stream.specs.Agreement.{ChangesOnlyAtMarks}
 use Rattle.tilt_stream.specs.Snap.{Snapshot, joined_open}
 use Rattle.tilt_stream.specs.Snapshots.{snapshot_on, cut_behind, snapshots}
 use Rattle.tilt_stream.specs.Stream.{Stream}
-use Rattle.tilt_chunk.specs.Pieces.{without_last, last_start, joined_from}
-use Rattle.tilt_chunk.proofs.Pieces.{without_last-more, last_start-more}
+use Rattle.tilt_stream.specs.Pieces.{without_last, last_start, joined_from}
+use Rattle.tilt_stream.proofs.Pieces.{without_last-more, last_start-more}
 
 -- the last one starts before the last tick, and not before the first one
 pub record LastStarts (from last : ℤ) (list : List Snapshot) : Type 0 where

@@ -1,4 +1,4 @@
--- A loop runs on the stretch of its definition, cut down to the definition's span: there it agrees with the definition.
+-- A stream that is restricted to a stretch, and to a span cut down to it: there it agrees with the stream, and with its span.
 use Rattle.std.proofs.Common.{◌≡◌, ℤ, pos, ◌+ℤ◌, ◌≤ℤ◌, ◌<ℤ◌, Bool, true, false, None, ◌⊎◌, inl, inr, if◌then◌else◌, refl, arith}
 use Rattle.std.specs.Ordering.{int_eq}
 use Rattle.std.specs.Int.{int_min, int_max}
