@@ -15,18 +15,3 @@ pub const OFFSET: i64 = 2_000_000_000_000;
 
 /// The greatest length of a file that is read, in bytes.
 pub const FILE: u64 = 1_073_741_824;
-
-#[cfg(test)]
-mod tests {
-    use super::*;
-
-    #[test]
-    fn limits_are_these(rt: HostRuntime) {
-        assert_eq!(rt; T, 4_000_000_000_000_000_000);
-        assert_eq!(rt; WIDE, 4_500_000_000_000_000_000);
-        assert_eq!(rt; REACH, 1_000_000_000_000);
-        assert_eq!(rt; PERIOD, 1_000_000_000_001);
-        assert_eq!(rt; OFFSET, 2_000_000_000_000);
-        assert_eq!(rt; FILE, 1_073_741_824);
-    }
-}

@@ -12,8 +12,6 @@ mod loop_span;
 mod margins;
 mod need;
 mod query_reach;
-#[cfg(test)]
-mod tests;
 mod wide_need;
 mod widest;
 

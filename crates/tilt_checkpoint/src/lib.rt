@@ -17,8 +17,6 @@ mod kept;
 mod query;
 mod reader;
 mod series;
-#[cfg(test)]
-mod tests;
 
 pub use checkpoint::Checkpoint;
 pub use decoder::decode;

@@ -15,8 +15,6 @@ mod first_session;
 mod handed;
 mod later_session;
 mod stretch;
-#[cfg(test)]
-mod tests;
 
 pub use accepted::Accepted;
 pub use cut::Cut;

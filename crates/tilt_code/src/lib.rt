@@ -21,8 +21,6 @@ mod partial;
 mod place;
 mod reader;
 mod stage;
-#[cfg(test)]
-mod tests;
 mod word;
 
 pub use code::Code;

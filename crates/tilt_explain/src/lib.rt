@@ -6,7 +6,5 @@
 #![tactic(auto)]
 
 mod explaining;
-#[cfg(test)]
-mod tests;
 
 pub use explaining::explain_text;

@@ -17,8 +17,6 @@ mod progress;
 mod query;
 mod reading;
 mod shift;
-#[cfg(test)]
-mod tests;
 mod usage;
 mod window;
 

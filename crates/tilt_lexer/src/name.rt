@@ -101,33 +101,3 @@ pub fn is_word(bytes: &[u8]) -> bool
         [first, rest @ ..] => begins_word(*first) && all_go_on_word(rest),
     }
 }
-
-#[cfg(test)]
-mod tests {
-    use super::*;
-    use std::test::Fail;
-
-    #[test]
-    fn only_words_are_names(rt: HostRuntime) -> Result<(), Fail> {
-        for (text, is_name) in [
-            ("x", true),
-            ("_", true),
-            ("a_1", true),
-            ("Zz9", true),
-            ("input", true),
-            ("", false),
-            ("1x", false),
-            ("a-b", false),
-            ("a ", false),
-            ("é", false),
-        ] {
-            let name = Name::read(rt.alloc(), text.as_bytes())?;
-            assert_eq!(rt; name.is_some(), is_name, "at {text}");
-            if let Some(name) = name {
-                let copy = name.copy()?;
-                assert_eq!(rt; copy.bytes(), text.as_bytes());
-            }
-        }
-        Ok(())
-    }
-}

@@ -10,7 +10,5 @@ mod definition_loop;
 mod instructions;
 mod map_blocks;
 mod query_code;
-#[cfg(test)]
-mod tests;
 
 pub use query_code::lower;

@@ -9,8 +9,6 @@
 
 mod made_so_far;
 mod run;
-#[cfg(test)]
-mod tests;
 mod turns;
 
 pub use run::run_code;

@@ -15,8 +15,6 @@ mod rings;
 mod run;
 mod snap_ring;
 mod starting;
-#[cfg(test)]
-mod tests;
 
 pub use pipe::Pipe;
 pub use run::run_pipe;

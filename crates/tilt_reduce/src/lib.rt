@@ -10,8 +10,6 @@ mod extreme;
 mod merge;
 mod reduction;
 mod sum;
-#[cfg(test)]
-mod tests;
 mod truth;
 mod undo;
 

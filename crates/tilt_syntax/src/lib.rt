@@ -17,8 +17,6 @@ mod printer;
 mod query;
 mod reader;
 mod statement;
-#[cfg(test)]
-mod tests;
 mod tree;
 
 pub use expr::Expr;

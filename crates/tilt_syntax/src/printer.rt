@@ -1,9 +1,8 @@
 // The text of a query.
-ghost use Rattle.std.specs.Prelude.{◌≡◌, [], ◌∷◌, ◌++◌, IfOk, OnOk, MatchOption};
+ghost use Rattle.std.specs.Prelude.{◌≡◌, ◌++◌, IfOk, OnOk, MatchOption};
 ghost use Rattle.tilt_base.specs.Expression.{One, Two};
 ghost use Rattle.tilt_lexer.specs.Word.{key_text};
 ghost use Rattle.tilt_syntax.specs.Grammar.{infix_of, reducer_key};
-ghost use Rattle.tilt_syntax.specs.Query.{IsQuery};
 ghost use Rattle.tilt_syntax.specs.Sign.{IsWritten};
 ghost use Rattle.tilt_syntax.specs.Printing.{atom_text, level_of, in_place, offset_text, reading_text, expr_text, span_text, domain_text, period_text, statement_text, query_text, ReadsBack};
 ghost use Rattle.tilt_syntax.specs.Tree.{Reduce, expr_tree, statement_tree};
@@ -290,50 +289,5 @@ fn put_offset(text: &mut Vec<u8>, offset: i64) -> Result<(), OutOfMemory>
     } else {
         put(text, b"t")?;
         put_number(text, offset)
-    }
-}
-
-#[cfg(test)]
-mod tests {
-    use super::*;
-    use std::test::Fail;
-
-    fn minus(alloc: Global, a: Expr) -> Result<Expr, OutOfMemory>
-        ensures { IfOk result (λ e. expr_tree e ≡ One Op1.Neg (expr_tree a)) }
-    {
-        Ok(Expr::One(Op1::Neg, Box::new(alloc, a)?))
-    }
-
-    fn difference(alloc: Global, a: Expr, b: Expr) -> Result<Expr, OutOfMemory>
-        ensures { IfOk result (λ e. expr_tree e ≡ Two Op2.Sub (expr_tree a) (expr_tree b)) }
-    {
-        let a = Box::new(alloc, a)?;
-        let b = Box::new(alloc, b)?;
-        Ok(Expr::Two(Op2::Sub, a, b))
-    }
-
-    // `emit --5 - (3 - 2) over (-5, 0] every 5;`
-    fn emission(alloc: Global) -> Result<Statement, OutOfMemory>
-        ensures { IfOk result (λ s. IsQuery (statement_tree s ∷ [])) }
-    {
-        let five = minus(alloc, Expr::Num(5))?;
-        let five = minus(alloc, five)?;
-        let one = difference(alloc, Expr::Num(3), Expr::Num(2))?;
-        Ok(Statement::Emit {
-            expr: difference(alloc, five, one)?,
-            over: Span { start: -5, end: 0 },
-            every: Some(5),
-        })
-    }
-
-    #[test]
-    fn a_query_is_printed(rt: HostRuntime) -> Result<(), Fail> {
-        let mut statements = Vec::new(rt.alloc());
-        statements.push(emission(rt.alloc())?)?;
-        let query = Query::new(statements);
-        let text = print(rt.alloc(), &query)?;
-        let want = "emit --5 - (3 - 2) over (-5, 0] every 5;\n";
-        assert_eq!(rt; text.as_slice(), want.as_bytes());
-        Ok(())
     }
 }

@@ -5,8 +5,6 @@
 #![tactic(auto)]
 
 mod builder;
-#[cfg(test)]
-mod check_tests;
 mod checker;
 mod declared;
 mod fault;

@@ -5,8 +5,6 @@
 
 mod refold;
 mod state;
-#[cfg(test)]
-mod tests;
 mod turn;
 mod two_stack;
 mod undoing;

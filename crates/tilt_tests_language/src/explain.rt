@@ -1,0 +1,38 @@
+// What is told of queries.
+use std::alloc::Global;
+use std::test::Fail;
+use tilt_bounds::reach;
+use tilt_explain::explain_text;
+use tilt_testing::core_of;
+
+// What is told of a query.
+fn told(alloc: Global, query: &str) -> Result<Vec<u8>, Fail> {
+    let core = core_of(alloc, query)?;
+    let margins = reach(alloc, &core)?;
+    Ok(explain_text(alloc, &core, &margins)?)
+}
+
+const QUERIES: [(&str, &str); 3] = [
+    (
+        "input x; let y = x[t-2]; emit sum(y[t-3:t]) over (0, 5];",
+        "reach 4 0\ninput x 4 0\nlet y merged 2 0\nemit loop 0 0\nloops 1 2\n",
+    ),
+    // A definition on a grid isn't merged.
+    (
+        "input temp; input limit; let avg10 = avg(temp[t-10:t]) every 10; emit avg10 - limit when avg10 > limit over (0, 30];",
+        "reach 9 9\ninput temp 9 9\ninput limit 0 0\nlet avg10 loop 0 0\nemit loop 0 0\nloops 2 2\n",
+    ),
+    (
+        "input x; input y; let u = y; emit x[t+1] over (0, 5];",
+        "reach 0 1\ninput x 0 1\ninput y unused\nlet u unused\nemit loop 0 0\nloops 1 1\n",
+    ),
+];
+
+#[test]
+fn queries_are_explained(rt: HostRuntime) -> Result<(), Fail> {
+    for (query, want) in QUERIES {
+        let text = told(rt.alloc(), query)?;
+        assert_eq!(rt; text.as_slice(), want.as_bytes(), "at {query}");
+    }
+    Ok(())
+}

@@ -1,0 +1,27 @@
+//! Tests of the language: numbers and operators, the tokens of a text, its tree, its core, what the core means, how far it
+//! looks, and how it is planned and explained.
+//!
+//! The expected values were worked out by hand from the rules of the language: tables of texts with their tokens, trees,
+//! cores and faults, and queries on small series with the snapshots that they mean.
+#![tactic(auto)]
+
+#[cfg(test)]
+mod base;
+#[cfg(test)]
+mod bounds;
+#[cfg(test)]
+mod checking;
+#[cfg(test)]
+mod evaluator;
+#[cfg(test)]
+mod explain;
+#[cfg(test)]
+mod fuse;
+#[cfg(test)]
+mod lexer;
+#[cfg(test)]
+mod parsing;
+#[cfg(test)]
+mod printing;
+#[cfg(test)]
+mod worked_queries;

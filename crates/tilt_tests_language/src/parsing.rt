@@ -1,0 +1,307 @@
+// Texts, and the trees that they are read as.
+use std::alloc::Global;
+use std::test::Fail;
+use tilt_base::Span;
+use tilt_lexer::lex;
+use tilt_syntax::{Expr, Query, Statement, SyntaxFault, parse, parse_expression};
+use tilt_testing::{name_text, query_of};
+
+// Expressions, and their trees with each operator before its operands; nothing where the text is none.
+const EXPRESSIONS: &[(&str, &str)] = &[
+    ("a when b when c", "(When (When a b) c)"),
+    ("(a when b) when c", "(When (When a b) c)"),
+    ("a when (b when c)", "(When a (When b c))"),
+    ("a or b when c or d", "(When (Or a b) (Or c d))"),
+    ("a or b or c", "(Or (Or a b) c)"),
+    ("a or b and c", "(Or a (And b c))"),
+    ("a and b or c", "(Or (And a b) c)"),
+    ("a and b and c", "(And (And a b) c)"),
+    ("not a and not b", "(And (Not a) (Not b))"),
+    ("not not a", "(Not (Not a))"),
+    ("not a == b", "(Not (Eq a b))"),
+    ("a == not b", ""),
+    ("a < b < c", ""),
+    ("(a < b) != (c >= d)", "(Ne (Lt a b) (Ge c d))"),
+    ("a + b <= c - d", "(Le (Add a b) (Sub c d))"),
+    ("a - b - c", "(Sub (Sub a b) c)"),
+    ("a - (b - c)", "(Sub a (Sub b c))"),
+    ("a + b * c", "(Add a (Mul b c))"),
+    ("a * b + c", "(Add (Mul a b) c)"),
+    ("a / b % c * d", "(Mul (Rem (Div a b) c) d)"),
+    ("- 1", "(Neg 1)"),
+    ("--a * -b", "(Mul (Neg (Neg a)) (Neg b))"),
+    ("a - -1", "(Sub a (Neg 1))"),
+    ("-(a > b)", "(Neg (Gt a b))"),
+    ("-not a", ""),
+    ("if a then b else c when d", "(If a b (When c d))"),
+    ("if a then if b then c else d else e", "(If a (If b c d) e)"),
+    ("1 + if a then b else c", ""),
+    ("1 + (if a then b else c)", "(Add 1 (If a b c))"),
+    ("if a then b", ""),
+    ("x[t]", "x"),
+    ("x[t+3]", "x@3"),
+    ("x[t-9223372036854775807]", "x@-9223372036854775807"),
+    ("x[t-0]", "x"),
+    ("sum(x[t+1:t+4])", "(Sum x 1 4)"),
+    ("last(x[t-3:t])", "(Last x -3 0)"),
+    ("isnull(a or true)", "(IsNull (Or a true))"),
+    ("ifnull(a, b when false)", "(IfNull a (When b false))"),
+    ("", ""),
+    ("()", ""),
+    ("(a", ""),
+    ("a)", ""),
+    ("a b", ""),
+    ("a +", ""),
+    ("t", ""),
+    ("x[3]", ""),
+    ("x[t+a]", ""),
+    ("x[t--1]", ""),
+    ("sum(x)", ""),
+    ("sum(x[t])", ""),
+    ("sum(over[t:t])", ""),
+    ("isnull a", ""),
+    ("ifnull(a)", ""),
+];
+
+fn show(alloc: Global, expr: &Expr) -> Result<String, Fail> {
+    Ok(match expr {
+        Expr::Num(number) => format!(in alloc; "{number}")?,
+        Expr::Truth(truth) => format!(in alloc; "{truth}")?,
+        Expr::Read { name, offset: 0 } => String::from_str(alloc, name_text(name)?)?,
+        Expr::Read { name, offset } => {
+            let name = name_text(name)?;
+            format!(in alloc; "{name}@{offset}")?
+        }
+        Expr::Reduce {
+            reducer,
+            name,
+            from,
+            to,
+        } => {
+            let name = name_text(name)?;
+            format!(in alloc; "({reducer:?} {name} {from} {to})")?
+        }
+        Expr::One(op, a) => {
+            let a = show(alloc, a)?;
+            format!(in alloc; "({op:?} {a})")?
+        }
+        Expr::Two(op, a, b) => {
+            let a = show(alloc, a)?;
+            let b = show(alloc, b)?;
+            format!(in alloc; "({op:?} {a} {b})")?
+        }
+        Expr::If(c, a, b) => {
+            let c = show(alloc, c)?;
+            let a = show(alloc, a)?;
+            let b = show(alloc, b)?;
+            format!(in alloc; "(If {c} {a} {b})")?
+        }
+    })
+}
+
+// The tree that the text is, or nothing.
+fn show_read(alloc: Global, text: &str) -> Result<String, Fail> {
+    let tokens = lex(alloc, text.as_bytes())?;
+    if tokens.len() > 256 {
+        return Err("the text is too long".into());
+    }
+    match parse_expression(alloc, &tokens)? {
+        Some(expr) => show(alloc, &expr),
+        None => Ok(String::new(alloc)),
+    }
+}
+
+#[test]
+fn expressions_are_read_as_they_bind(rt: HostRuntime) -> Result<(), Fail> {
+    for (text, want) in EXPRESSIONS {
+        let shown = show_read(rt.alloc(), text)?;
+        assert_eq!(rt; shown.as_str(), *want, "at {text}");
+    }
+    Ok(())
+}
+
+fn show_over(alloc: Global, over: Option<Span>) -> Result<String, Fail> {
+    Ok(match over {
+        Some(Span { start, end }) => format!(in alloc; " over {start} {end}")?,
+        None => String::new(alloc),
+    })
+}
+
+fn show_every(alloc: Global, every: Option<i64>) -> Result<String, Fail> {
+    Ok(match every {
+        Some(every) => format!(in alloc; " every {every}")?,
+        None => String::new(alloc),
+    })
+}
+
+fn show_statement(alloc: Global, statement: &Statement) -> Result<String, Fail> {
+    Ok(match statement {
+        Statement::Input { name } => {
+            let name = name_text(name)?;
+            format!(in alloc; "input {name};")?
+        }
+        Statement::Let {
+            name,
+            expr,
+            over,
+            every,
+        } => {
+            let name = name_text(name)?;
+            let expr = show(alloc, expr)?;
+            let over = show_over(alloc, *over)?;
+            let every = show_every(alloc, *every)?;
+            format!(in alloc; "let {name} {expr}{over}{every};")?
+        }
+        Statement::Emit { expr, over, every } => {
+            let expr = show(alloc, expr)?;
+            let over = show_over(alloc, Some(*over))?;
+            let every = show_every(alloc, *every)?;
+            format!(in alloc; "emit {expr}{over}{every};")?
+        }
+    })
+}
+
+fn show_query(alloc: Global, query: &Query) -> Result<String, Fail> {
+    let mut shown = String::new(alloc);
+    for statement in query.statements() {
+        let statement = show_statement(alloc, statement)?;
+        shown.push_str(statement.as_str())?;
+    }
+    Ok(shown)
+}
+
+#[test]
+fn statements_are_read_in_order(rt: HostRuntime) -> Result<(), Fail> {
+    for (text, want) in [
+        ("emit 1 over (0, 5];", "emit 1 over 0 5;"),
+        (
+            "input x; let y = x over (-10, 10] every 5; let z = y every 2; emit z over (5, -0] every 3;",
+            "input x;let y x over -10 10 every 5;let z y every 2;emit z over 5 0 every 3;",
+        ),
+        (
+            "let a = 1; input b; let c = a when b; emit c over (0, 1];",
+            "let a 1;input b;let c (When a b);emit c over 0 1;",
+        ),
+    ] {
+        let query = query_of(rt.alloc(), text)?;
+        let shown = show_query(rt.alloc(), &query)?;
+        assert_eq!(rt; shown.as_str(), want, "at {text}");
+    }
+    Ok(())
+}
+
+#[test]
+fn the_first_faulty_statement_is_refused(rt: HostRuntime) -> Result<(), Fail> {
+    for (text, want) in [
+        ("", SyntaxFault::EmitPlace { statement: 1 }),
+        (";", SyntaxFault::Syntax { statement: 1 }),
+        ("input x;", SyntaxFault::EmitPlace { statement: 1 }),
+        (
+            "input x; emit x over (0, 5]",
+            SyntaxFault::Syntax { statement: 2 },
+        ),
+        (
+            "emit 1 over (0, 5]; input x;",
+            SyntaxFault::EmitPlace { statement: 1 },
+        ),
+        (
+            "emit 1 over (0, 5]; input t;",
+            SyntaxFault::EmitPlace { statement: 1 },
+        ),
+        (
+            "input t; emit 1 over (0, 5];",
+            SyntaxFault::Syntax { statement: 1 },
+        ),
+        (
+            "input x; let sum = x; emit;",
+            SyntaxFault::Syntax { statement: 2 },
+        ),
+        (
+            "input x; let y = x; let z = y;",
+            SyntaxFault::EmitPlace { statement: 3 },
+        ),
+        ("emit 1;", SyntaxFault::Syntax { statement: 1 }),
+        ("emit 1 over (0, 5);", SyntaxFault::Syntax { statement: 1 }),
+        (
+            "emit 1 over (0, --5];",
+            SyntaxFault::Syntax { statement: 1 },
+        ),
+        (
+            "emit 1 every 5 over (0, 5];",
+            SyntaxFault::Syntax { statement: 1 },
+        ),
+        (
+            "emit 1 over (0, 5] every -5;",
+            SyntaxFault::Syntax { statement: 1 },
+        ),
+    ] {
+        let tokens = lex(rt.alloc(), text.as_bytes())?;
+        match parse(rt.alloc(), &tokens) {
+            Ok(_) => assert!(rt; false, "at {text}"),
+            Err(fault) => assert_eq!(rt; fault, want, "at {text}"),
+        }
+    }
+    Ok(())
+}
+
+// The text with a front, a part that is repeated, and an end.
+fn repeated(alloc: Global, front: &str, part: &str, times: u32, end: &str) -> Result<String, Fail> {
+    let mut text = String::new(alloc);
+    text.push_str(front)?;
+    for _ in 0..times {
+        text.push_str(part)?;
+    }
+    text.push_str(end)?;
+    Ok(text)
+}
+
+#[test]
+fn sizes_are_bounded(rt: HostRuntime) -> Result<(), Fail> {
+    let alloc = rt.alloc();
+    for (front, part, times, end, want) in [
+        // 256 and 257 statements, and tokens of one statement.
+        ("", "input x;", 255, "emit 1 over (0, 5];", None),
+        (
+            "",
+            "input x;",
+            256,
+            "emit 1 over (0, 5];",
+            Some(SyntaxFault::TooManyStatements),
+        ),
+        ("", ";", 257, "", Some(SyntaxFault::TooManyStatements)),
+        ("emit ", "-", 247, "1 over (0, 5];", None),
+        (
+            "emit ",
+            "-",
+            248,
+            "1 over (0, 5];",
+            Some(SyntaxFault::StatementTooLong { statement: 1 }),
+        ),
+        (
+            "input x; emit ",
+            "(",
+            300,
+            "",
+            Some(SyntaxFault::StatementTooLong { statement: 2 }),
+        ),
+        (
+            "input; emit ",
+            "(",
+            300,
+            "",
+            Some(SyntaxFault::Syntax { statement: 1 }),
+        ),
+        (
+            "emit ",
+            "(",
+            255,
+            "",
+            Some(SyntaxFault::Syntax { statement: 1 }),
+        ),
+    ] {
+        let text = repeated(alloc, front, part, times, end)?;
+        let tokens = lex(alloc, text.as_bytes())?;
+        assert_eq!(rt; parse(alloc, &tokens).err(), want, "at {front}");
+    }
+    Ok(())
+}

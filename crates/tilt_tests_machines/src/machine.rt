@@ -1,0 +1,96 @@
+// Runs of listings.
+use crate::runs::CASES;
+use std::alloc::Global;
+use std::test::Fail;
+use tilt_code::read_code;
+use tilt_machine::run_code;
+use tilt_testing::{Piece, inputs_of, pieces_of};
+
+// The run of a listing.
+fn run_listing(alloc: Global, text: &str, inputs: &[&[Piece]]) -> Result<Vec<Piece>, Fail> {
+    let code = read_code(alloc, text.as_bytes())?;
+    let inputs = inputs_of(alloc, inputs)?;
+    if inputs.len() != code.inputs().len() {
+        return Err("as many row lists as inputs are wanted".into());
+    }
+    let list = run_code(alloc, &code, &inputs)?;
+    pieces_of(alloc, &list)
+}
+
+#[test]
+fn listings_run(rt: HostRuntime) -> Result<(), Fail> {
+    for case in CASES {
+        let list = run_listing(rt.alloc(), case.code, case.inputs)?;
+        assert_eq!(rt; list.as_slice(), case.want, "at {}", case.code);
+    }
+    Ok(())
+}
+
+// Adds 7, and gives 1 for null.
+const FILLED: &str =
+    "map\nr0 = cell\nr1 = const 7\nr2 = add r0 r1\nr3 = const 1\nr4 = ifnull r2 r3\nend\n";
+
+// Gives null for 0.
+const TRUE_ONES: &str = "map\nr0 = cell\nr1 = when r0 r0\nend\n";
+
+// What a reducer gives at tick 8 on a null and two equal neighbours among others.
+fn reduced(alloc: Global, maps: &str, step: &str) -> Result<Vec<Piece>, Fail> {
+    let text = format!(in alloc; "tilt 1\ninput x\nloop 7 8 1 0\n{maps}r0 = win {step}\nend\n")?;
+    let rows: &[Piece] = &[
+        (0, 2, Some(-9)),
+        (2, 3, None),
+        (3, 5, Some(3)),
+        (5, 7, Some(3)),
+        (7, 8, Some(0)),
+    ];
+    run_listing(alloc, &text, &[rows])
+}
+
+#[test]
+fn each_reducer_runs_with_and_without_a_map(rt: HostRuntime) -> Result<(), Fail> {
+    for (word, plain, filled, true_ones) in [
+        ("sum", -3, 26, -3),
+        ("avg", 0, 5, -1),
+        ("min", -9, -2, -9),
+        ("max", 3, 10, 3),
+        ("count", 4, 5, 3),
+        ("first", -9, -2, -9),
+        ("last", 0, 7, 3),
+        ("any", 1, 1, 1),
+        ("all", 0, 1, 1),
+    ] {
+        for (maps, number, want) in [
+            ("", "", plain),
+            (FILLED, " m0", filled),
+            (TRUE_ONES, " m0", true_ones),
+        ] {
+            let step = format!(in rt.alloc(); "{word} b0 -8 0{number}")?;
+            let list = reduced(rt.alloc(), maps, &step)?;
+            assert_eq!(rt;
+                list.as_slice(),
+                [(7, 8, Some(want))].as_slice(),
+                "at {word} {maps}"
+            );
+        }
+    }
+    Ok(())
+}
+
+// The listing of so many loops, each of which reads the one before it.
+fn chain_of(alloc: Global, count: u32) -> Result<String, Fail> {
+    let mut text = String::from_str(alloc, "tilt 1\ninput x\n")?;
+    for buffer in 0..count {
+        let each = format!(in alloc; "loop 0 8 1 0\nr0 = port b{buffer} 0\nend\n")?;
+        text.push_str(&each)?;
+    }
+    Ok(text)
+}
+
+#[test]
+fn a_chain_of_a_thousand_loops_runs(rt: HostRuntime) -> Result<(), Fail> {
+    let text = chain_of(rt.alloc(), 1000)?;
+    let rows: &[Piece] = &[(0, 4, Some(1)), (4, 8, Some(5))];
+    let list = run_listing(rt.alloc(), &text, &[rows])?;
+    assert_eq!(rt; list.as_slice(), rows);
+    Ok(())
+}

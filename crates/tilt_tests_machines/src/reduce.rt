@@ -1,0 +1,75 @@
+// What the nine reducers answer on some lists.
+ghost use Rattle.std.specs.Prelude.{◌≡◌, ◌<◌, length};
+ghost use Rattle.tilt_base.specs.Reduce.{reduce};
+
+use tilt_base::Cell;
+use tilt_reduce::{AllR, AnyR, AvgR, CountR, FirstR, LastR, MaxR, MinR, Reduction, SumR};
+
+// What the reducer answers once these numbers were added, through the trait alone.
+fn answer<R: Reduction>(numbers: &[i64]) -> Cell
+    requires { length numbers.now < 9223372036854775807 }
+    ensures { result ≡ reduce R.reducer numbers.now }
+{
+    let mut state = R::empty();
+    for number in numbers {
+        R::add(&mut state, *number);
+    }
+    R::finish(&state)
+}
+
+// The nine answers: sum, average, least, greatest, count, first, last, any, all.
+fn answers(numbers: &[i64]) -> [Cell; 9] {
+    [
+        answer::<SumR>(numbers),
+        answer::<AvgR>(numbers),
+        answer::<MinR>(numbers),
+        answer::<MaxR>(numbers),
+        answer::<CountR>(numbers),
+        answer::<FirstR>(numbers),
+        answer::<LastR>(numbers),
+        answer::<AnyR>(numbers),
+        answer::<AllR>(numbers),
+    ]
+}
+
+#[test]
+fn each_reducer_has_its_own_answer(rt: HostRuntime) {
+    let cases: [(&[i64], [i64; 9]); 6] = [
+        (&[7], [7, 7, 7, 7, 1, 7, 7, 1, 1]),
+        (&[0, 0], [0, 0, 0, 0, 2, 0, 0, 0, 0]),
+        (&[0, 0, 7], [7, 2, 0, 7, 3, 0, 7, 1, 0]),
+        (&[-1, -2], [-3, -1, -2, -1, 2, -1, -2, 1, 1]),
+        (&[-9, 3, 0, -5], [-11, -2, -9, 3, 4, -9, -5, 1, 0]),
+        (
+            &[i64::MAX, 1, -1],
+            [
+                i64::MAX,
+                3_074_457_345_618_258_602,
+                -1,
+                i64::MAX,
+                3,
+                i64::MAX,
+                -1,
+                1,
+                1,
+            ],
+        ),
+    ];
+    for (numbers, expected) in cases {
+        assert_eq!(rt; answers(numbers), expected.map(Some), "at {numbers:?}");
+    }
+    assert_eq!(rt; answers(&[]), [None; 9]);
+}
+
+#[test]
+fn a_sum_that_64_bits_do_not_hold_is_null(rt: HostRuntime) {
+    for (a, b, sum, average) in [
+        (i64::MAX, 1, None, Some(4_611_686_018_427_387_904)),
+        (i64::MAX, i64::MAX, None, Some(i64::MAX)),
+        (i64::MIN, i64::MIN, None, Some(i64::MIN)),
+        (i64::MIN, i64::MAX, Some(-1), Some(0)),
+    ] {
+        assert_eq!(rt; answer::<SumR>(&[a, b]), sum, "at {a} {b}");
+        assert_eq!(rt; answer::<AvgR>(&[a, b]), average, "at {a} {b}");
+    }
+}

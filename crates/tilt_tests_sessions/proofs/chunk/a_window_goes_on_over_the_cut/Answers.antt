@@ -1,0 +1,12 @@
+use Rattle.std.proofs.Common.{◌∙◌, ap, sym}
+use Rattle.tilt_checkpoint.specs.Checkpoint.{CheckpointParts}
+use Rattle.tilt_types.specs.Checked.{core_of}
+use Rattle.tilt_chunk.proofs.Sessions.{checked-core}
+use Rattle.tilt_tests_sessions.proofs.chunk.a_window_goes_on_over_the_cut.Goals as goal
+
+pub resume-requires-clause-core : goal.resume-requires-clause-core
+resume-requires-clause-core g c =
+    sym (checked-core c.in_ok-query.query c.in_ok-core.core c.in_ok-core.ensures) ∙ ap (λ (d : CheckpointParts). core_of d.query) (sym c.in_ok-session.ensures.left)
+
+pub resume-requires-clause-margins : goal.resume-requires-clause-margins
+resume-requires-clause-margins g c = c.in_ok-margins.ensures.margins

@@ -1,5 +1,0 @@
-use Rattle.std.proofs.Common.{◌≡◌, ◌++◌, take}
-use Rattle.tilt_window.proofs.tests.push_each.Given as goal
-
-abbrev pub invariant-loop-cell : goal.invariant-loop-cell
-invariant-loop-cell g l = g.W.Window.cells l.window ≡ g.W.Window.cells l.fn.window ++ take l.cell-index l.cells
