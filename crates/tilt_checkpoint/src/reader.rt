@@ -1,6 +1,7 @@
 // The bytes of a checkpoint, from a place on, and the pieces that they begin with.
 ghost use Rattle.std.specs.Prelude.{◌≡◌, MatchOption};
-ghost use Rattle.tilt_checkpoint.specs.Reading.{behind, behind_line, count_at, maybe, maybe_at, moment_at, number_at, query_at, row_at, series_head, times, Reads};
+ghost use Rattle.tilt_checkpoint.specs.Reading.{behind, behind_line, count_at, maybe, maybe_at, moment_at, number_at, query_at};
+ghost use Rattle.tilt_checkpoint.specs.Reading.{row_at, series_head, times, Reads};
 ghost use Rattle.tilt_text.specs.Cut.{until_at};
 
 use crate::encoder::TITLE;

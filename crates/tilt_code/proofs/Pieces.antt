@@ -27,7 +27,7 @@ pieces-cut mark (b ∷ bs) =
       | inr other ↦ rw other (ap (onto_first b) (pieces-cut mark bs) ∙ onto_cut mark b bs (until_at mark bs))
     ]
 
--- the piece in front of a mark
+-- the piece before a mark
 pub pieces_front : (mark : ℕ) (front rest : List ℕ) → Lacks mark front → pieces mark (front ++ mark ∷ rest) ≡ front ∷ pieces mark rest
 pieces_front mark front rest h =
     pieces-cut mark (front ++ mark ∷ rest) ∙ ap (cut_pieces mark (front ++ mark ∷ rest)) (until-front mark front rest h)
@@ -45,7 +45,8 @@ pub pieces_some : (mark : ℕ) (bytes : List ℕ) → pieces mark bytes ≡ [] �
 pieces_some mark bytes e = cut_some mark bytes (until_at mark bytes) (sym (pieces-cut mark bytes) ∙ e)
 
 -- whether pieces are left, by whether bytes are
-pub left_empty : (mark : ℕ) (left : Option (List ℕ)) (none : Bool) → is_some left ≡ not none → (IsTrue none → pieces_left mark left ≡ []) × (pieces_left mark left ≡ [] → IsTrue none)
+pub left_empty : (mark : ℕ) (left : Option (List ℕ)) (none : Bool) → is_some left ≡ not none
+    → (IsTrue none → pieces_left mark left ≡ []) × (pieces_left mark left ≡ [] → IsTrue none)
 left_empty mark None true e = (λ _. refl, λ _. refl)
 left_empty mark None false e = cc e
 left_empty mark (Some bytes) true e = cc e

@@ -140,38 +140,3 @@ fn take_piece<S: Shelf>(
     bytes.extend_from_slice(&room[..taken])?;
     Ok(taken)
 }
-
-#[cfg(test)]
-mod tests {
-    use super::*;
-    use crate::mem_shelf::MemShelf;
-    use std::test::Fail;
-
-    #[test]
-    fn files_up_to_the_limit_are_read_whole(rt: HostRuntime) -> Result<(), Fail> {
-        let cases: [(usize, u32, bool); 7] = [
-            (4, 4, true),
-            (5, 4, false),
-            (0, 4, true),
-            (0, 0, true),
-            (1, 0, false),
-            (65546, 65546, true),
-            (65546, 65545, false),
-        ];
-        for (length, limit, is_read) in cases {
-            let bytes: Vec<u8> = (0..length).map(|i| (i % 251) as u8).collect(rt.alloc())?;
-            let mut shelf = MemShelf::new(rt.alloc());
-            shelf.hold("a", bytes.as_slice(), 0)?;
-            let read = read_all(rt.alloc(), &mut shelf, "a", u64::from(limit));
-            let want = if is_read {
-                Ok(bytes)
-            } else {
-                Err(ReadAllFault::TooLong)
-            };
-            assert_eq!(rt; read, want, "{length} bytes, limit {limit}");
-            let most = u64::from(limit).saturating_add(1);
-            assert_eq!(rt; shelf.given(), (length as u64).min(most));
-        }
-        Ok(())
-    }
-}
