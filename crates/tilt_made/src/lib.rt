@@ -7,8 +7,6 @@ mod generator;
 mod query;
 mod series;
 mod sums;
-#[cfg(test)]
-mod tests;
 mod text;
 
 pub use query::query_text;

@@ -11,8 +11,6 @@ mod print;
 mod records;
 mod row;
 mod series;
-#[cfg(test)]
-mod tests;
 
 pub use fault::{ReadRowsFault, SeriesFault};
 pub use print::{put_header, put_rows, put_snap, row_text};
