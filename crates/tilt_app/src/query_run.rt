@@ -1,5 +1,5 @@
 // The snapshots of an accepted query.
-ghost use Rattle.std.specs.Prelude.{◌≡◌, ◌∷◌, neg_ℤ, Some, IfOk};
+ghost use Rattle.std.specs.Prelude.{◌≡◌, neg_ℤ, Some, IfOk};
 ghost use Rattle.tilt_base.specs.declared.limits.TheConstants.{T};
 ghost use Rattle.tilt_sessions.specs.Parts.{IsRun};
 ghost use Rattle.tilt_core.specs.Meaning.{output_of};

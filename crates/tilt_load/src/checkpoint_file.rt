@@ -1,5 +1,5 @@
 // A checkpoint file, from the shelf to the checkpoint whose spelling it is.
-ghost use Rattle.std.specs.Prelude.{◌≡◌, List, ℕ, Ok, IfOk, IfErr};
+ghost use Rattle.std.specs.Prelude.{◌≡◌, Ok, IfOk, IfErr};
 ghost use Rattle.tilt_bounds.specs.Margins.{margins_of};
 ghost use Rattle.tilt_checkpoint.specs.Valid.{IsCheckpoint};
 ghost use Rattle.tilt_load.specs.CheckpointFile.{TakesCheckpoint, RefusesCheckpoint};

@@ -1,5 +1,5 @@
 // A code file, from the shelf to the loop code whose listing it is.
-ghost use Rattle.std.specs.Prelude.{◌≡◌, List, ℕ, IfOk, IfErr};
+ghost use Rattle.std.specs.Prelude.{◌≡◌, IfOk, IfErr};
 ghost use Rattle.tilt_load.specs.CodeFile.{TakesCode, RefusesCode};
 ghost use Rattle.tilt_load.specs.Load.{IsLoadFault};
 ghost use Rattle.tilt_outside.specs.Reads.{OnlyReads};

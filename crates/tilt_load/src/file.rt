@@ -1,5 +1,5 @@
 // A file that the words name, from the shelf to its bytes.
-ghost use Rattle.std.specs.Prelude.{◌≡◌, ◌≤◌, List, ℕ, length, IfOk, IfErr};
+ghost use Rattle.std.specs.Prelude.{◌≡◌, ◌≤◌, length, IfOk, IfErr};
 ghost use Rattle.tilt_base.specs.declared.limits.TheConstants.{FILE};
 ghost use Rattle.tilt_load.specs.Load.{IsLoadFault, IsTooLong};
 ghost use Rattle.tilt_outside.specs.Reads.{OnlyReads};

@@ -1,5 +1,5 @@
 // The series file of an input, from the shelf to its rows.
-ghost use Rattle.std.specs.Prelude.{◌≡◌, List, ℕ, Ok, Err, IfOk, IfErr};
+ghost use Rattle.std.specs.Prelude.{◌≡◌, Ok, Err, IfOk, IfErr};
 ghost use Rattle.tilt_load.specs.Load.{IsLoadFault};
 ghost use Rattle.std.specs.List.{AllByRecursion};
 ghost use Rattle.tilt_load.specs.SeriesFiles.{IsWithin, input_read};

@@ -7,8 +7,6 @@ mod generator;
 mod query;
 mod series;
 mod sums;
-#[cfg(test)]
-mod tests;
 
 pub use query::query_text;
 pub use series::made_rows;

@@ -11,8 +11,6 @@ mod print;
 mod records;
 mod row;
 mod series;
-#[cfg(test)]
-mod tests;
 
 pub use bounds::Bounds;
 pub use fault::{ReadRowsFault, SeriesFault};

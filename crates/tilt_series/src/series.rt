@@ -1,5 +1,4 @@
 // The rows of a series file.
-ghost use Rattle.std.specs.Prelude.{◌≡◌};
 ghost use Rattle.tilt_series.specs.Records.{IsBetween, records_left};
 ghost use Rattle.tilt_series.specs.Series.{Gives, rows_of, series_of};
 

@@ -1,5 +1,5 @@
 // What sessions have printed, joined, and what the last one hands on.
-ghost use Rattle.std.specs.Prelude.{◌≡◌, ◌++◌, ◌≤ℤ◌, IfOk};
+ghost use Rattle.std.specs.Prelude.{◌≡◌, ◌++◌, ◌≤ℤ◌, List, IfOk};
 ghost use Rattle.tilt_checkpoint.specs.Checkpoint.{CheckpointParts};
 ghost use Rattle.tilt_checkpoint.specs.Spelling.{spelling};
 ghost use Rattle.tilt_checkpoint.specs.Valid.{IsCheckpoint, IsCut};
@@ -8,7 +8,6 @@ ghost use Rattle.tilt_chunk.specs.declared.cut.Cut.TheVariants.{Upto, End};
 ghost use Rattle.tilt_sessions.specs.Parts.{AreJoined, IsRun};
 ghost use Rattle.tilt_stream.specs.Snap.{AreSnapshots};
 ghost use Rattle.tilt_syntax.specs.Tree.{StatementTree};
-ghost use Rattle.std.specs.Prelude.{List};
 
 use crate::part::session_rows;
 use std::alloc::{AllocError as OutOfMemory, Global};

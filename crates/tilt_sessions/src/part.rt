@@ -1,8 +1,7 @@
 // The rows of a session, out of those of a whole run.
 ghost use Rattle.std.specs.Prelude.{◌≡◌, ◌≤◌, length, map, take, drop, IfOk};
-ghost use Rattle.tilt_base.specs.declared.limits.TheConstants.{T};
 ghost use Rattle.std.specs.List.{AllByRecursion};
-ghost use Rattle.tilt_sessions.specs.Parts.{behind, early, left_by, part_of};
+ghost use Rattle.tilt_sessions.specs.Parts.{behind, early, part_of};
 ghost use Rattle.tilt_stream.specs.Snap.{AreRows};
 
 use std::alloc::{AllocError as OutOfMemory, Global};

@@ -8,8 +8,6 @@ mod figures;
 mod range;
 mod showing;
 mod tally;
-#[cfg(test)]
-mod tests;
 mod watcher;
 
 pub use ends::Ends;

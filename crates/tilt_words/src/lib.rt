@@ -10,8 +10,6 @@ mod command;
 mod fault;
 mod number;
 mod reader;
-#[cfg(test)]
-mod tests;
 
 pub use bind::Bind;
 pub use command::Command;

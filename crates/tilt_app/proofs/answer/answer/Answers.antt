@@ -8,7 +8,6 @@ use Rattle.tilt_app.specs.Outcome.{IsCommandOutcome, HasCommandTurn}
 use Rattle.tilt_app.proofs.Streams.{pipe-rings, streams-run}
 use Rattle.tilt_app.specs.Watch.{watched_text}
 use Rattle.tilt_report.specs.Report.{printed, report_of}
-use Rattle.tilt_stream.specs.Text.{text_of}
 use Rattle.tilt_words.specs.Binding.{bindings_of}
 use Rattle.tilt_words.specs.Command.{command_of}
 use Rattle.tilt_app.proofs.answer.answer.Goals as goal

@@ -1,4 +1,4 @@
-use Rattle.std.proofs.Common.{◌≡◌, ◌∙◌, List, [], ℕ, None, Some, length, refl, subst, sym}
+use Rattle.std.proofs.Common.{◌≡◌, List, [], ℕ, None, Some, length, refl, subst, sym}
 use Rattle.std.proofs.lemmas.Result.{err_from_is_err_and, IfErr-weaker}
 use Rattle.tilt_app.proofs.Finish.{made_none, made_some, no_save_fault, on_ok, on_ok_so, on_ok_then, unput_cause, unput_either, unput_no_save, unsaved_cause}
 use Rattle.tilt_app.specs.Answer.{name_of, save_of}

@@ -1,4 +1,4 @@
-use Rattle.std.proofs.Common.{◌≡◌, ◌∙◌, ◌≤◌, false, suc, ℕ, length, max, ap, subst, sym, arith}
+use Rattle.std.proofs.Common.{◌≡◌, ◌∙◌, ◌≤◌, ℕ, length, max, ap, subst, sym, arith}
 use Rattle.std.proofs.lemmas.Result.{err_from_is_err_and}
 use Rattle.tilt_app.proofs.Streams.{line-failed, line-put, line-room, line-wanting, lines-none, lines-put, most-first, most-later, next-of, none-of, one-later, place-end}
 use Rattle.tilt_code.specs.Run.{run_of}

@@ -1,4 +1,4 @@
-use Rattle.std.proofs.Common.{◌≡◌, ◌∙◌, ◌≤◌, false, suc, length, ap, sym, arith}
+use Rattle.std.proofs.Common.{◌≡◌, ◌∙◌, ap, sym, arith}
 use Rattle.std.proofs.lemmas.Result.{err_from_is_err_and}
 use Rattle.tilt_app.proofs.Streams.{line-failed, line-put, line-room, line-wanting, lines-none, lines-put, next-of, one-later}
 use Rattle.tilt_code.specs.Run.{run_of}

@@ -1,6 +1,6 @@
-use Rattle.std.proofs.Common.{refl, sym, ap}
+use Rattle.std.proofs.Common.{refl}
 use Rattle.std.proofs.lemmas.Result.{err_from_is_err_and}
-use Rattle.tilt_app.proofs.Printing.{prints-cut, prints-failed, prints-put, prints-then}
+use Rattle.tilt_app.proofs.Printing.{prints-cut, prints-failed, prints-then}
 use Rattle.tilt_app.specs.Pipe.{rings_line}
 use Rattle.tilt_code.specs.Run.{run_of}
 use Rattle.tilt_pipe.specs.Rings.{most_ever}

@@ -1,14 +1,11 @@
 // What command lines are which command.
-
-use crate::bind::Bind;
-use crate::command::Command;
-use crate::fault::WordsFault;
-use crate::reader::read_words;
 use std::alloc::Global;
 use std::test::Fail;
+use tilt_testing::name_text;
+use tilt_words::{Bind, Command, WordsFault, read_words};
 
 // The pieces of a text between bars.
-fn words(alloc: Global, text: &str) -> Result<Vec<String>, Fail> {
+fn words_of(alloc: Global, text: &str) -> Result<Vec<String>, Fail> {
     let mut words = Vec::new(alloc);
     for piece in text.split('|') {
         words.push(String::from_str(alloc, piece)?)?;
@@ -19,7 +16,7 @@ fn words(alloc: Global, text: &str) -> Result<Vec<String>, Fail> {
 fn show_binds(alloc: Global, binds: &[Bind]) -> Result<String, Fail> {
     let mut shown = String::new(alloc);
     for bind in binds {
-        let name = std::str::from_utf8(bind.name.bytes())?;
+        let name = name_text(&bind.name)?;
         let bind = format!(in alloc; " {name}={}", bind.file)?;
         shown.push_str(bind.as_str())?;
     }
@@ -143,7 +140,7 @@ fn words_are_the_command_that_they_spell(rt: HostRuntime) -> Result<(), Fail> {
         ("try|2147483647|1000000", "try 2147483647 1000000"),
         ("try|-0|+7", "try 0 7"),
     ] {
-        let words = words(rt.alloc(), text)?;
+        let words = words_of(rt.alloc(), text)?;
         let command = read_words(rt.alloc(), words.as_slice())?;
         let shown = show(rt.alloc(), &command)?;
         assert_eq!(rt; shown.as_str(), want, "at {text}");
@@ -222,7 +219,7 @@ fn other_words_are_no_command(rt: HostRuntime) -> Result<(), Fail> {
         "try|2147483648|0",
         "try|0|1000001",
     ] {
-        let words = words(rt.alloc(), text)?;
+        let words = words_of(rt.alloc(), text)?;
         match read_words(rt.alloc(), words.as_slice()) {
             Ok(_) => assert!(rt; false, "at {text}"),
             Err(fault) => assert_eq!(rt; fault, WordsFault::Usage, "at {text}"),

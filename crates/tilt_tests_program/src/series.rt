@@ -1,7 +1,7 @@
 // Series and texts that no clause fixes: what the crate `csv` takes for a record, and what memory is found for.
-use crate::{ReadRowsFault, SeriesFault, put_header, put_rows, read_rows, row_text};
 use std::test::Fail;
 use tilt_outside::MemSink;
+use tilt_series::{ReadRowsFault, SeriesFault, put_header, put_rows, read_rows, row_text};
 use tilt_stream::{Row, Rows, SnapList};
 
 #[test]

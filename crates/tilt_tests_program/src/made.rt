@@ -1,8 +1,8 @@
 // What no clause says: a small run worked out by hand, and the texts of one.
-use crate::{made_rows, query_text, summary};
 use std::test::Fail;
-use tilt_base::Cell;
-use tilt_stream::{Row, Rows, SnapList};
+use tilt_made::{made_rows, query_text, summary};
+use tilt_stream::{Row, SnapList};
+use tilt_testing::{Piece, rows_of};
 
 #[test]
 fn one_row_each_from_seed_1(rt: HostRuntime) -> Result<(), Fail> {
@@ -24,34 +24,25 @@ fn one_row_each_from_seed_1(rt: HostRuntime) -> Result<(), Fail> {
     Ok(())
 }
 
-// Adds a row from the end of the last one, or from tick 0 on, up to `end`.
-fn push_up_to(rows: &mut Rows, end: i64, value: Cell) -> Result<(), Fail> {
-    let start = rows.last_end().unwrap_or(0);
-    if start < end && end <= 1000 {
-        rows.push(Row { start, end, value })?;
-    }
-    Ok(())
-}
+// A run of one row each.
+const RUN: &[Piece] = &[
+    (0, 1, Some(0)),
+    (1, 2, Some(625)),
+    (2, 3, Some(625)),
+    (3, 4, None),
+    (4, 10, Some(0)),
+    (10, 20, Some(0)),
+];
 
 #[test]
 fn texts_of_a_run(rt: HostRuntime) -> Result<(), Fail> {
     let query =
         b"input a;\ninput b;\nlet m = avg(a[t-10:t]) every 10;\nlet d = a - m;\nemit ifnull(d, 0) + ifnull(b, 0) over (0, 10];\n";
     assert_eq!(rt; query_text(rt.alloc(), 0)?.as_slice(), query.as_slice());
-    let mut rows = Rows::new(rt.alloc());
-    let list = SnapList::from_rows(rt.alloc(), &rows)?;
+    let list = SnapList::new(rt.alloc());
     let empty = b"rows 0 0\nprinted 0\nsum 0\n";
     assert_eq!(rt; summary(rt.alloc(), 0, &list)?.as_slice(), empty.as_slice());
-    for (end, value) in [
-        (1, Some(0)),
-        (2, Some(625)),
-        (3, Some(625)),
-        (4, None),
-        (10, Some(0)),
-        (20, Some(0)),
-    ] {
-        push_up_to(&mut rows, end, value)?;
-    }
+    let rows = rows_of(rt.alloc(), RUN)?;
     let list = SnapList::from_rows(rt.alloc(), &rows)?;
     let run = b"rows 1 1\nprinted 5\nsum 1250\n";
     assert_eq!(rt; summary(rt.alloc(), 1, &list)?.as_slice(), run.as_slice());
