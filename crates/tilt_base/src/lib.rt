@@ -1,9 +1,12 @@
-//! What every other crate speaks of: the limits of times, cells, numbers spelled in decimal digits, the scalar
-//! operators on cells, the reducers on lists of numbers, and grids of ticks.
+//! What every other crate speaks of: the limits of times, cells, numbers spelled in decimal digits, the scalar operators on cells,
+//! the reducers on lists of numbers, grids of ticks, and spans.
 //!
-//! What comes in is bytes, cells, lists of numbers and ticks; what goes out is numbers, cells and ticks. Nothing here
-//! takes memory. `read_number` answers the number spelled; `apply1`, `apply2`, `choose` and `reduce` answer the tables
-//! of `specs/Scalar` and `specs/Reduce`; `Grid::ceil` and `Grid::floor` answer the nearest points of `specs/Grid`.
+//! What comes in is bytes, cells, lists of numbers and ticks; what goes out is numbers, cells and ticks. Nothing here takes memory.
+//! `read_number` answers the number spelled, and `read_shortest` that of a shortest decimal; `apply1`, `apply2`, `choose` and
+//! `reduce` answer the tables of `specs/Scalar` and `specs/Reduce`; `Grid::ceil` and `Grid::floor` answer the nearest points of
+//! `specs/Grid`, and `Grid::is_point` whether a tick is one.
+//!
+//! The laws of numbers, lists and grid points that several crates above cite stand in `proofs/`.
 #![tactic(auto)]
 
 mod cell;

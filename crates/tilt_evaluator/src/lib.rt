@@ -1,7 +1,8 @@
 //! What a query gives, tick by tick: the definitions of its meaning, run by themselves.
 //!
-//! What comes in is a core and the rows of its inputs. `evaluate_query` gives what the query gives by its one clause, and
-//! `evaluate` the snapshots of any source. No crate of the program stands on this one: it is for worked queries in tests.
+//! What comes in is a core and the rows of its inputs; what goes out is snapshots. `evaluate_query` gives what the query gives, by
+//! its one clause, and `evaluate` the snapshots of any source on a stretch of time, by its one. Both are slow, on purpose. No crate
+//! of the program stands on this one: it is for worked queries in tests.
 #![tactic(auto)]
 
 mod cells;

@@ -1,7 +1,8 @@
 //! Which queries are well formed, and their core.
 //!
 //! What comes in is a query, as `parse` of `tilt_syntax` gives it. `check` gives its core, or its first fault, by its one clause;
-//! in `specs/`, `Types` and `WellFormed` say what has a fault, and `Checked` what the core is.
+//! besides, it may only want memory. In `specs/`, `Types` and `WellFormed` say what has a fault, and `Checked` what the core is.
+//! The types of a core stand in `tilt_core`, and are exported here as well.
 #![tactic(auto)]
 
 mod builder;

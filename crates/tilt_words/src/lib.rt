@@ -1,6 +1,6 @@
-//! The words of a command line. What comes in is the words behind the program's name; what goes out is the command that
-//! they are, or that they are none. The clauses of `read_words` say which, by `IsCommand` of `specs/Command`: words are
-//! one command at most, and only those that are none are refused.
+//! The words of a command line. What comes in is the words after the program's name; what goes out is the command that they are, or
+//! that they are none. The clauses of `read_words` say which, by `IsCommand` of `specs/Command`: words are one command at most, and
+//! only those that are none are refused.
 #![tactic(auto)]
 
 mod arguments;
