@@ -1,5 +1,6 @@
 -- What a source is asked for is all that matters of it.
-use Rattle.std.proofs.Common.{◌≡◌, ℕ, zero, suc, ◌+◌, ◌<◌, ◌==◌, ℤ, pos, ◌+ℤ◌, ◌-ℤ◌, List, [], ◌∷◌, ◌++◌, length, Option, Some, None, if◌then◌else◌, ◌⊎◌, inl, inr, sym, ap, ◌∙◌, arith, subst, length-append, get_or}
+use Rattle.std.proofs.Common.{◌≡◌, ℕ, zero, suc, ◌+◌, ◌<◌, ◌==◌, ℤ, pos, ◌+ℤ◌, ◌-ℤ◌, List, [], ◌∷◌, ◌++◌, length, Option, Some, None, if◌then◌else◌, ◌⊎◌, inl, inr, sym, ap, ◌∙◌, arith, subst}
+use Rattle.std.proofs.Common.{length-append, get_or}
 use Rattle.std.proofs.lemmas.Int.{ints, clamps}
 use Rattle.tilt_base.proofs.Comparisons.{same_number}
 use Rattle.tilt_base.specs.Expression.{Leaf, One, Two, If}

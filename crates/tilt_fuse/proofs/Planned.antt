@@ -1,5 +1,6 @@
 -- How a plan goes on from one definition to the next.
-use Rattle.std.proofs.Common.{◌≡◌, ℕ, zero, suc, ◌+◌, ◌*◌, ◌<◌, ◌≤◌, pos, ◌≤ℤ◌, Bool, true, false, List, [], ◌∷◌, ◌++◌, length, get_or, drop, replicate, Option, Some, None, ◌⊎◌, inl, inr, refl, sym, ap, ◌∙◌, arith, subst, append_assoc, length-append}
+use Rattle.std.proofs.Common.{◌≡◌, ℕ, zero, suc, ◌+◌, ◌*◌, ◌<◌, ◌≤◌, pos, ◌≤ℤ◌, Bool, true, false, List, [], ◌∷◌, ◌++◌, length, get_or, drop, replicate, Option, Some, None, ◌⊎◌, inl, inr, refl}
+use Rattle.std.proofs.Common.{sym, ap, ◌∙◌, arith, subst, append_assoc, length-append}
 use Rattle.std.specs.Prelude.{◌&&◌, ◌||◌, not, nat_le, is_some, ⊤}
 use Rattle.std.specs.Ordering.{int_eq}
 use Rattle.std.proofs.Math.ListN.{get_or-append}
@@ -142,7 +143,8 @@ pub record IsMerged (def : Definition) (behind : List Definition) (ns : List (Op
   pub small : nodes tree ≤ 64
   pub fits : is_windowed behind ns number ≡ true → is_some (only_reading tree) ≡ true
 
-pub merged-is : (def : Definition) (behind : List Definition) (ns : List (Option Need)) (number : ℕ) (tree : FusedTree) → is_merged def behind ns number tree ≡ true → IsMerged def behind ns number tree
+pub merged-is : (def : Definition) (behind : List Definition) (ns : List (Option Need)) (number : ℕ) (tree : FusedTree)
+    → is_merged def behind ns number tree ≡ true → IsMerged def behind ns number tree
 merged-is def behind ns number tree test =
     let one = and_parts (not (are_none behind) && not (is_some def.over) && int_eq def.grid.period (pos 1) && nat_le (nodes tree) 64)
     (not (is_windowed behind ns number) || is_some (only_reading tree)) test in
