@@ -1,5 +1,5 @@
 -- How a plan goes on from one definition to the next.
-use Rattle.std.proofs.Common.{◌≡◌, ℕ, zero, suc, ◌+◌, ◌*◌, ◌<◌, ◌≤◌, pos, ◌≤ℤ◌, Bool, true, false, List, [], ◌∷◌, ◌++◌, length, get_or, drop, replicate, Option, Some, None, ◌⊎◌, inl, inr, refl}
+use Rattle.std.proofs.Common.{◌≡◌, ℕ, zero, suc, ◌+◌, ◌*◌, ◌<◌, ◌≤◌, pos, ◌≤ℤ◌, Bool, true, false, List, [], ◌∷◌, ◌++◌, length, get_or, drop, replicate, Option, Some, None, inl, inr, refl}
 use Rattle.std.proofs.Common.{sym, ap, ◌∙◌, arith, subst, append_assoc, length-append}
 use Rattle.std.specs.Prelude.{◌&&◌, ◌||◌, not, nat_le, is_some, ⊤}
 use Rattle.std.specs.Ordering.{int_eq}
@@ -8,6 +8,7 @@ use Rattle.std.proofs.Math.Seq.{get_or-append_seam}
 use Rattle.std.proofs.lemmas.Int.{ints, clamps}
 use Rattle.std.proofs.lemmas.List.{get_or_past}
 use Rattle.std.proofs.lemmas.Bool.{not-true, or_right, or_left, and_parts}
+use Rattle.tilt_base.proofs.Comparisons.{below_or_at}
 use Rattle.tilt_base.specs.declared.limits.TheConstants.{REACH}
 use Rattle.tilt_bounds.proofs.Needs.{below_or_behind, need_at-input, need_at-definition, same_need}
 use Rattle.tilt_bounds.proofs.Steps.{definition-at}
@@ -63,10 +64,6 @@ holds-narrow (Some n) asked other less h =
 asked-behind : (number : ℕ) (behind : List Definition) → HoldsAll (need_before behind (asked_from (suc number) behind number)) (asked_from (suc number) behind number)
 asked-behind number [] = tt
 asked-behind number (def ∷ behind) = holds-itself (asked_from (suc number) (def ∷ behind) number)
-
-below_or_at : (source number : ℕ) → source < suc number → (source < number) ⊎ (source ≡ number)
-below_or_at source number low =
-    elim (below_or_behind source number) [ inl l ↦ inl l | inr e ↦ (let is = e.1 in inr (omega arith)) ]
 
 -- each definition asks of the sources before it no more than their needs
 asked-held : (all : List (Option Need)) (number k : ℕ) (defs : List Definition) (def : Definition) → ((source : ℕ) → source < number → HoldsAll (need_at all source) (asked_from number defs source))
