@@ -149,9 +149,9 @@ longest_sign m other rest more ends e =
       ]
     ]
 
-mark_begins : (m : Mark) (rest : List ℕ) → IsTrue (ends_before (tok.Mark m) rest)
+sign_begins : (m : Mark) (rest : List ℕ) → IsTrue (ends_before (tok.Mark m) rest)
     → Begins (tok.Mark m) (mark_text m ++ rest) (mark_text m) rest
-mark_begins m rest ends =
+sign_begins m rest ends =
     let first = sign_first m in
     let bytes = mark_text m ++ rest in
     let same : get_or bytes 0 0 ≡ get_or (mark_text m) 0 0 = get_or_append_left (mark_text m) rest 0 0 first.some in
@@ -165,7 +165,7 @@ token_begins (tok.Word x) rest s ends = word_begins (tok.Word x) x rest s.0 (s.0
 token_begins (tok.Number (pos n)) rest s ends = number_begins n rest (omega (arith, ints, s.1)) (stops_digits rest ends)
 token_begins (tok.Number (negsuc n)) rest s ends = absurd (omega (arith, ints, s.0))
 token_begins (tok.Key k) rest s ends = word_begins (tok.Key k) (key_text k) rest (key_is_word k) refl tt (stops_word rest ends)
-token_begins (tok.Mark m) rest s ends = mark_begins m rest ends
+token_begins (tok.Mark m) rest s ends = sign_begins m rest ends
 
 within : (k : Tok) → IsSound k → IsWithin k
 within (tok.Word x) s = tt
