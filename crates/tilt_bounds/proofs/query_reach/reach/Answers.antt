@@ -22,7 +22,7 @@ returns-then-is_too_far-clause-margins c =
 pub narrow-requires : goal.narrow-requires
 narrow-requires c =
     let within = widest-within c.args.core.now c.inputs-inputs.result.now c.defs-defs.result.now c.in_ok-needs.needs.items
-        c.deref.result.now c.widest_of-widest.result c.inputs-inputs.ensures.names c.defs-defs.ensures.defs
+    c.deref.result.now c.widest_of-widest.result c.inputs-inputs.ensures.names c.defs-defs.ensures.defs
     c.in_ok-needs.ensures.needs c.deref.ensures.value c.widest_of-widest.ensures
     (sym c.is_too_far.ensures ∙ c.if-is_too_far.false) in
     rw c.deref-2.ensures.value (all_within-limit (evenly REACH) c.widest_of-widest.result c.in_ok-needs.needs.items (within.1, within.3)

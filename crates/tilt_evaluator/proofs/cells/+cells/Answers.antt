@@ -58,7 +58,7 @@ body_cell-returns-in_ok-members-in-Reduce t c =
     let lo : to_z w128 (of_z w128 (to_z w128 (of_z w128 c.args.tick) +ℤ to_z w128 (of_z w128 c.from-in-Reduce.result))) ≡ c.args.tick +ℤ c.in-Reduce.from = omega (arith, ints) in
     let hi : to_z w128 (of_z w128 (to_z w128 (of_z w128 c.args.tick) +ℤ to_z w128 (of_z w128 c.from-in-Reduce-2.result))) ≡ c.args.tick +ℤ c.in-Reduce.to = omega (arith, ints) in
     let members : c.deref.result.now ≡ numbers (met x (c.args.tick +ℤ c.in-Reduce.from) (c.args.tick +ℤ c.in-Reduce.to)) = c.deref.ensures.value
-        ∙ (rw (lo, hi) at c.in_ok-members-in-Reduce.ensures) in
+    ∙ (rw (lo, hi) at c.in_ok-members-in-Reduce.ensures) in
     rw c.in-Reduce.is (c.reduce.ensures ∙ ap (λ (ns : List ℤ). reduce reducer ns) members)
 
 pub numbers_met-loop-before-preserved : goal.numbers_met-loop-before-preserved

@@ -16,7 +16,7 @@ this c = record { def = c.planned.inside.def; body = fused_tree_of c.planned.ins
 pub stretch-span-requires-clause-used : goal.stretch-span-requires-clause-used
 stretch-span-requires-clause-used c =
     let is = planned-at c.args.core.now c.args.margins.now c.args.lo c.args.hi c.inputs-inputs.ensures.accepted c.requires.margins
-        c.args.plan.now.loops.items c.requires.plan c.deref-planned-items.result.now c.loop-planned.planned-index c.planned-item.result (this c)
+    c.args.plan.now.loops.items c.requires.plan c.deref-planned-items.result.now c.loop-planned.planned-index c.planned-item.result (this c)
     c.deref-planned-items.ensures.value c.loop-planned-test.true c.planned-item.is c.planned.view_is in
     used-at c.args.core.now c.args.margins.now c.planned.inside.def (margins-needs c.args.core.now c.args.margins.now c.requires.margins) is.is_used
 
