@@ -19,8 +19,6 @@ mod query_run;
 mod run;
 mod run_printed;
 mod streamed;
-#[cfg(test)]
-mod tests;
 mod unput;
 mod whole_text;
 

@@ -1,5 +1,6 @@
 -- What tests on numbers and on bytes tell.
-use Rattle.std.proofs.Common.{◌≡◌, ℕ, ◌==◌, ◌≤◌, ℤ, pos, negsuc, ◌≤ℤ◌, ◌<ℤ◌, int_lt, int_le, nat_lt, unsigned_abs, true, false, if◌then◌else◌, List, Some, None, refl, arith}
+use Rattle.std.proofs.Common.{◌≡◌, ℕ, ◌==◌, ◌≤◌, ℤ, pos, negsuc, ◌≤ℤ◌, ◌<ℤ◌, int_lt, int_le, nat_lt, unsigned_abs, true, false, if◌then◌else◌, List, Some, None, refl, arith, zero, suc, ◌<◌, ◌⊎◌}
+use Rattle.std.proofs.Common.{inl, inr}
 use Rattle.std.specs.Str.{bytes_eq}
 use Rattle.std.proofs.lemmas.Bool.Decides.{nat_tests}
 use Rattle.std.proofs.lemmas.Int.{ints}
@@ -20,6 +21,12 @@ bytes_same x y h = (bytes_eq-Decides x y).0 h
 -- a place that isn't found isn't within
 pub not_found : (at n : ℕ) → (if nat_lt at n then Some at else None) ≡ None → n ≤ at
 not_found at n e = grind (arith, nat_tests)
+
+-- a number below the next one is below this one, or is it
+pub below_or_at : (a b : ℕ) → a < suc b → (a < b) ⊎ (a ≡ b)
+below_or_at a zero low = inr (omega arith)
+below_or_at zero (suc b) low = inl (omega arith)
+below_or_at (suc a) (suc b) low = elim (below_or_at a b (omega arith)) [ inl less ↦ inl (omega arith) | inr same ↦ inr (omega arith) ]
 
 -- the tests of signed numbers, from a test to its fact and back
 pub lt_true : (a b : ℤ) → int_lt a b ≡ true → a <ℤ b

@@ -1,5 +1,6 @@
 -- The shortest decimals of the numbers of 64 bits spell their numbers.
-use Rattle.std.proofs.Common.{◌≡◌, ◌≢◌, ℕ, suc, ◌^◌, ◌<◌, inl, inr, nat_lt, Bool, true, false, Decides, MatchOption, if◌then◌else◌, List, [], ◌∷◌, length, Some, None, option_map, ℤ, pos, negsuc, FitsSigned, refl, sym, ap, subst, ◌∙◌, arith}
+use Rattle.std.proofs.Common.{◌≡◌, ◌≢◌, ℕ, suc, ◌^◌, ◌<◌, inl, inr, nat_lt, Bool, true, false, Decides, MatchOption, if◌then◌else◌, List, [], ◌∷◌, length, Some, None, option_map, ℤ, pos, negsuc}
+use Rattle.std.proofs.Common.{FitsSigned, refl, sym, ap, subst, ◌∙◌, arith}
 use Rattle.std.proofs.lemmas.Bool.Decides.{nat_tests, eqb_tells, Decides-ltb}
 use Rattle.std.proofs.lemmas.Fmt.{digits_decimal, digits_value-decimal, decimal_is_IsNumeral, decimal_nonempty}
 use Rattle.std.proofs.lemmas.Option.{option_and_then_some, cond_some, same_Some, none-some}
@@ -58,7 +59,8 @@ pub number_spelled_fits : (bs : List ℕ) (z : ℤ) → number_spelled bs ≡ So
 number_spelled_fits bs z e = option_and_then_some within_64_bits (integer_spelled bs) z e (λ y _ f. fits_within_64_bits y z f)
 
 -- a number that is spelled otherwise than by its shortest decimal has bytes that are no shortest decimal
-pub shortest_or_none : (bs : List ℕ) (z : ℤ) (same : Bool) → number_spelled bs ≡ Some z → Decides same (signed_decimal z ≡ bs) → MatchOption (then_some same z) ((y : ℤ) → FitsSigned w64 y → bs ≢ signed_decimal y) (λ y. bs ≡ signed_decimal y)
+pub shortest_or_none : (bs : List ℕ) (z : ℤ) (same : Bool) → number_spelled bs ≡ Some z → Decides same (signed_decimal z ≡ bs)
+    → MatchOption (then_some same z) ((y : ℤ) → FitsSigned w64 y → bs ≢ signed_decimal y) (λ y. bs ≡ signed_decimal y)
 shortest_or_none bs z true spelled test = sym (test.0 refl)
 shortest_or_none bs z false spelled test = λ y fits e.
     let other : z ≡ y = same_Some z y (sym spelled ∙ ap number_spelled e ∙ number_spelled-signed_decimal y fits) in

@@ -1,5 +1,6 @@
 -- Numbers spelled in decimal digits: an optional sign and then digits, of which there is at least one.
-use Rattle.std.specs.Prelude.{ℕ, ◌^◌, ◌==◌, nat_lt, if◌then◌else◌, List, [], ◌∷◌, Option, Some, None, option_map, option_and_then, ℤ, pos, negsuc, neg_ℤ}
+use Rattle.std.specs.Prelude.{ℕ, ◌^◌, ◌==◌, nat_lt, if◌then◌else◌, List, [], ◌∷◌, Option, Some, None, option_map, option_and_then, ℤ}
+use Rattle.std.specs.Prelude.{pos, negsuc, neg_ℤ}
 use Rattle.std.specs.Str.{all_ascii_digits}
 use Rattle.std.specs.Str.Parse.{digits_value}
 
@@ -12,7 +13,8 @@ natural_spelled (c ∷ cs) = if all_ascii_digits (c ∷ cs) then Some (digits_va
 abbrev pub integer_spelled : List ℕ → Option ℤ
 integer_spelled [] = None
 integer_spelled (c ∷ cs) =
-    if c == 45 then option_map (λ n. neg_ℤ (pos n)) (natural_spelled cs) else option_map pos (natural_spelled (if c == 43 then cs else c ∷ cs))
+    if c == 45 then option_map (λ n. neg_ℤ (pos n)) (natural_spelled cs)
+    else option_map pos (natural_spelled (if c == 43 then cs else c ∷ cs))
 
 -- the number, where 64 bits without a sign hold it
 abbrev pub within_u64 : ℕ → Option ℕ

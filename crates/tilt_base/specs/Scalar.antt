@@ -1,5 +1,7 @@
--- The scalar operators on cells, each on numbers and on null (our own rule). A cell is null or a number of 64 bits; any number but 0 is true.
-use Rattle.std.specs.Prelude.{ℤ, pos, neg_ℤ, ◌+ℤ◌, ◌-ℤ◌, ◌*ℤ◌, Bool, true, false, not, ◌&&◌, ◌||◌, if◌then◌else◌, Option, Some, None, option_and_then, int_lt, int_le, int_div, int_rem}
+-- The scalar operators on cells, each on numbers and on null (our own rule). A cell is null or a number of 64 bits; any number but 0 is
+-- true.
+use Rattle.std.specs.Prelude.{ℤ, pos, neg_ℤ, ◌+ℤ◌, ◌-ℤ◌, ◌*ℤ◌, Bool, true, false, not, ◌&&◌, ◌||◌, if◌then◌else◌, Option, Some, None}
+use Rattle.std.specs.Prelude.{option_and_then, int_lt, int_le, int_div, int_rem}
 use Rattle.std.specs.Ordering.{int_eq}
 use Rattle.tilt_base.specs.declared.operator.Op1.{Op1}
 use Rattle.tilt_base.specs.declared.operator.Op1.TheVariants.{Neg, Not, IsNull}

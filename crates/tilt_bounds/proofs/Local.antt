@@ -1,7 +1,8 @@
 -- What a source is asked for is all that matters of it.
-use Rattle.std.proofs.Common.{◌≡◌, ℕ, zero, suc, ◌+◌, ◌<◌, ◌==◌, ℤ, pos, ◌+ℤ◌, ◌-ℤ◌, List, [], ◌∷◌, ◌++◌, length, Option, Some, None, if◌then◌else◌, ◌⊎◌, inl, inr, sym, ap, ◌∙◌, arith, subst, length-append, get_or}
+use Rattle.std.proofs.Common.{◌≡◌, ℕ, zero, suc, ◌+◌, ◌<◌, ◌==◌, ℤ, pos, ◌+ℤ◌, ◌-ℤ◌, List, [], ◌∷◌, ◌++◌, length, Option, Some, None, if◌then◌else◌, ◌⊎◌, inl, inr, sym, ap, ◌∙◌, arith, subst}
+use Rattle.std.proofs.Common.{length-append, get_or}
 use Rattle.std.proofs.lemmas.Int.{ints, clamps}
-use Rattle.tilt_base.proofs.Comparisons.{same_number}
+use Rattle.tilt_base.proofs.Comparisons.{same_number, below_or_at}
 use Rattle.tilt_base.specs.Expression.{Leaf, One, Two, If}
 use Rattle.tilt_stream.proofs.Locality.{same-agrees, narrower-agrees, lifted1-agrees, lifted2-agrees, branched-agrees, shifted-agrees, windowed-agrees, on_grid-agrees, restricted-agrees}
 use Rattle.tilt_stream.specs.Agreement.{Agree}
@@ -103,11 +104,6 @@ module _ (lo hi : ℤ) where
       let at_x = ap (source_of (xs ++ x ∷ [])) (same ∙ sym xs_is) ∙ source_of-last xs x in
       let at_y = ap (source_of (ys ++ y ∷ [])) (same ∙ sym ys_is) ∙ source_of-last ys y in
       rw (at_x, at_y) (subst (λ (s : ℕ). AgreeAsAsked (n s) lo hi x y) (sym same) last)
-
-  below_or_at : (source number : ℕ) → source < suc number → (source < number) ⊎ (source ≡ number)
-  below_or_at source zero low = inr (omega arith)
-  below_or_at zero (suc number) low = inl (omega arith)
-  below_or_at (suc source) (suc number) low = elim (below_or_at source number (omega arith)) [ inl l ↦ inl (omega arith) | inr e ↦ inr (omega arith) ]
 
   -- a definition is the source behind those that it is over
   placed : (number : ℕ) (xs : List Stream) (x : Stream) (defs : List Definition) → length xs ≡ number → source_of (with_definitions (xs ++ x ∷ []) defs) number ≡ x

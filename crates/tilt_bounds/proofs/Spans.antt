@@ -33,4 +33,5 @@ module _ (lo hi : ℤ) (low : neg_ℤ WIDE ≤ℤ lo) (some : lo <ℤ hi) (high 
 
   pub cut_down-bounded : (span : Option Span) → IsBounded (cut_down span lo hi)
   cut_down-bounded None = (low, some, high)
-  cut_down-bounded (Some span) = chosen (int_max lo span.start) (int_min hi span.end) (omega (arith, ints, clamps)) (omega (arith, ints, clamps)) (int_lt (int_max lo span.start) (int_min hi span.end)) refl
+  cut_down-bounded (Some span) = chosen (int_max lo span.start) (int_min hi span.end) (omega (arith, ints, clamps))
+      (omega (arith, ints, clamps)) (int_lt (int_max lo span.start) (int_min hi span.end)) refl

@@ -20,8 +20,10 @@ AgreeAsAsked (Some n) lo hi x y = Agree x y (lo -ℤ n.back) (hi +ℤ n.ahead)
 
 -- where the rows of each input agree on what it is asked for, so do the meanings of each source
 pub record IsLocal (core : CoreParts) (margins : MarginsParts) : Type 0 where
-  pub local : (one other : List (List Snapshot)) (lo hi : ℤ) → length one ≡ length core.inputs → length other ≡ length core.inputs → lo <ℤ hi
-      → ((input : ℕ) → input < length core.inputs → AgreeAsAsked (need_at margins.needs input) lo hi (meaning one core.defs input) (meaning other core.defs input))
+  pub local : (one other : List (List Snapshot)) (lo hi : ℤ) → length one ≡ length core.inputs → length other ≡ length core.inputs
+      → lo <ℤ hi
+      → ((input : ℕ) → input < length core.inputs → AgreeAsAsked (need_at margins.needs input) lo hi (meaning one core.defs input)
+      (meaning other core.defs input))
       → (source : ℕ) → AgreeAsAsked (need_at margins.needs source) lo hi (meaning one core.defs source) (meaning other core.defs source)
 
 -- rows, and behind them others that start at the cut or later
@@ -42,7 +44,8 @@ pub record SameUpTo (last : ℤ) (x y : Stream) : Type 0 where
   pub cells : (tick : ℤ) → tick ≤ℤ last → x.cell tick ≡ y.cell tick
   pub marks : (tick : ℤ) → tick ≤ℤ last → x.mark tick ≡ y.mark tick
 
--- a source that looks so far ahead stays as it is up to the cut, less the look-ahead, and farther by what it looks ahead; the emitted one looks ahead by nothing
+-- a source that looks so far ahead stays as it is up to the cut, less the look-ahead, and farther by what it looks ahead; the emitted one
+-- looks ahead by nothing
 abbrev pub StaysAsAsked : Option Need → ℤ → Stream → Stream → Type 0
 StaysAsAsked None last x y = ⊤
 StaysAsAsked (Some n) last x y = SameUpTo (last +ℤ n.ahead) x y
@@ -50,4 +53,5 @@ StaysAsAsked (Some n) last x y = SameUpTo (last +ℤ n.ahead) x y
 -- rows that are added from a cut on change nothing up to the cut less the look-ahead
 pub record IsCausal (core : CoreParts) (margins : MarginsParts) : Type 0 where
   pub causal : (cut : ℤ) (before after : List (List Snapshot)) → length before ≡ length core.inputs → AreContinued cut before after
-      → (source : ℕ) → StaysAsAsked (need_at margins.needs source) (cut -ℤ margins.ahead) (meaning before core.defs source) (meaning after core.defs source)
+      → (source : ℕ) → StaysAsAsked (need_at margins.needs source) (cut -ℤ margins.ahead) (meaning before core.defs source)
+      (meaning after core.defs source)

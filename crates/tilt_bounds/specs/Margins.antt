@@ -1,5 +1,6 @@
 -- How far a query looks, as plain data, and when that is too far (our own rule).
-use Rattle.std.specs.Prelude.{◌≡◌, ℕ, ℤ, pos, ◌≤ℤ◌, Bool, ◌||◌, if◌then◌else◌, List, map, length, Option, Some, None, Result, Ok, Err, int_lt, MatchResult, ⊤, refl}
+use Rattle.std.specs.Prelude.{◌≡◌, ℕ, ℤ, pos, ◌≤ℤ◌, Bool, ◌||◌, if◌then◌else◌, List, map, length, Option, Some, None, Result, Ok, Err}
+use Rattle.std.specs.Prelude.{int_lt, MatchResult, ⊤, refl}
 use Rattle.std.specs.Coded.{Coded, code_by, coded×, coded_ℤ, coded_list, coded_option}
 use Rattle.std.specs.List.{slice_index_or}
 use Rattle.tilt_base.specs.declared.limits.TheConstants.{REACH}
@@ -52,7 +53,8 @@ is_too_far n = int_lt REACH n.back || int_lt REACH n.ahead
 abbrev pub margins_of : CoreParts → Result MarginsParts needs.Need
 margins_of core =
     let widest = needs.reach (length core.inputs) core.defs in
-    if is_too_far widest then Err widest else Ok (record { back = widest.back; ahead = widest.ahead; needs = needs.needs (length core.inputs) core.defs })
+    if is_too_far widest then Err widest
+    else Ok (record { back = widest.back; ahead = widest.ahead; needs = needs.needs (length core.inputs) core.defs })
 
 -- a fault tells these numbers, or it is want of memory
 abbrev pub IsTold : Result MarginsParts needs.Need → ReachFault → Type 0

@@ -1,5 +1,6 @@
 -- The checkpoints of sessions are valid, and what sessions go on by.
-use Rattle.std.proofs.Common.{◌≡◌, ℕ, zero, suc, FitsSigned, of_z, to_z, w64, ℤ, pos, negsuc, neg_ℤ, ◌+ℤ◌, ◌-ℤ◌, ◌<ℤ◌, ◌≤ℤ◌, true, false, List, [], ◌∷◌, length, map, slice_get, Option, Some, None, Ok, inl, inr, refl, sym, ap, ◌∙◌, arith, subst}
+use Rattle.std.proofs.Common.{◌≡◌, ℕ, zero, suc, FitsSigned, of_z, to_z, w64, ℤ, pos, negsuc, neg_ℤ, ◌+ℤ◌, ◌-ℤ◌, ◌<ℤ◌, ◌≤ℤ◌, true, false, List, [], ◌∷◌, length, map, slice_get, Option, Some, None}
+use Rattle.std.proofs.Common.{Ok, inl, inr, refl, sym, ap, ◌∙◌, arith, subst}
 use Rattle.std.specs.Prelude.{int_lt}
 use Rattle.std.specs.Int.{int_gap, int_max}
 use Rattle.std.specs.List.{AllByRecursion}

@@ -2,7 +2,8 @@
 use Rattle.std.proofs.Common.{ℕ, zero, suc, List, [], ◌∷◌, ◌++◌, map, Option, Some, None}
 use Rattle.tilt_base.specs.Expression.{Leaf, One, Two, If}
 use Rattle.tilt_base.specs.Grid.{IsGrid}
-use Rattle.tilt_stream.proofs.Constancy.{stream_of-changes, constant-changes, shifted-changes, lifted1-changes, lifted2-changes, branched-changes, windowed-changes, on_grid-changes, restricted-changes}
+use Rattle.tilt_stream.proofs.Constancy.{stream_of-changes, constant-changes, shifted-changes, lifted1-changes, lifted2-changes, branched-changes, windowed-changes, on_grid-changes}
+use Rattle.tilt_stream.proofs.Constancy.{restricted-changes}
 use Rattle.tilt_stream.specs.Agreement.{ChangesOnlyAtMarks}
 use Rattle.tilt_stream.specs.Domain.{on_grid}
 use Rattle.tilt_stream.specs.Snap.{Snapshot}
@@ -36,7 +37,8 @@ source_of_rows [] source = constant-changes None
 source_of_rows (rows ∷ inputs) zero = stream_of-changes rows
 source_of_rows (rows ∷ inputs) (suc source) = source_of_rows inputs source
 
-source_of_more : (xs : List Stream) (x : Stream) → ((source : ℕ) → ChangesOnlyAtMarks (source_of xs source)) → ChangesOnlyAtMarks x → (source : ℕ) → ChangesOnlyAtMarks (source_of (xs ++ x ∷ []) source)
+source_of_more : (xs : List Stream) (x : Stream) → ((source : ℕ) → ChangesOnlyAtMarks (source_of xs source)) → ChangesOnlyAtMarks x
+    → (source : ℕ) → ChangesOnlyAtMarks (source_of (xs ++ x ∷ []) source)
 source_of_more [] x h g zero = g
 source_of_more [] x h g (suc source) = constant-changes None
 source_of_more (y ∷ ys) x h g zero = h 0

@@ -29,7 +29,8 @@ with_definitions-front xs (def ∷ defs) i h =
     with_definitions-front (xs ++ x ∷ []) defs i (omega (arith, length-append xs (x ∷ []))) ∙ source_of-front xs x i h
 
 -- a definition is over the sources before it
-with_definitions-at : (xs : List Stream) (defs : List Definition) (k i : ℕ) (other : Definition) → k < length defs → i ≡ length xs + k → source_of (with_definitions xs defs) i ≡ definition_of (with_definitions xs (take k defs)) (get_or defs k other)
+with_definitions-at : (xs : List Stream) (defs : List Definition) (k i : ℕ) (other : Definition) → k < length defs → i ≡ length xs + k
+    → source_of (with_definitions xs defs) i ≡ definition_of (with_definitions xs (take k defs)) (get_or defs k other)
 with_definitions-at xs [] k i other h is = absurd (omega arith)
 with_definitions-at xs (def ∷ defs) zero i other h is =
     let x = definition_of xs def in
@@ -60,7 +61,9 @@ module _ (inputs : List (List Snapshot)) (defs : List Definition) (i : ℕ) wher
       with_definitions-front (map stream_of inputs) defs i (omega (arith, count)) ∙ source_of-map inputs i rows h ∙ ap stream_of (sym is)
 
   -- a definition is over the inputs and the definitions before it
-  pub source_of-definition : (def : Definition) → length inputs ≤ i → i - length inputs < length defs → def ≡ get_or defs (i - length inputs) def → source_of (sources inputs defs) i ≡ definition_of (sources inputs (take (i - length inputs) defs)) def
+  pub source_of-definition : (def : Definition) → length inputs ≤ i → i - length inputs < length defs
+      → def ≡ get_or defs (i - length inputs) def
+      → source_of (sources inputs defs) i ≡ definition_of (sources inputs (take (i - length inputs) defs)) def
   source_of-definition def h l is =
       with_definitions-at (map stream_of inputs) defs (i - length inputs) i def l (omega (arith, count)) ∙ ap (definition_of (sources inputs (take (i - length inputs) defs))) (sym is)
 

@@ -1,5 +1,6 @@
 -- What a query's core keeps: the names and the definitions of a query that was accepted.
-use Rattle.std.specs.Prelude.{◌≡◌, ℕ, suc, ◌+◌, ◌≤◌, ◌<◌, pos, neg_ℤ, ◌<ℤ◌, ◌≤ℤ◌, List, [], ◌∷◌, ◌++◌, length, Option, Some, None, IsSome, ⊤, refl}
+use Rattle.std.specs.Prelude.{◌≡◌, ℕ, suc, ◌+◌, ◌≤◌, ◌<◌, pos, neg_ℤ, ◌<ℤ◌, ◌≤ℤ◌, List, [], ◌∷◌, ◌++◌, length, Option, Some, None}
+use Rattle.std.specs.Prelude.{IsSome, ⊤, refl}
 use Rattle.std.specs.Coded.{Coded, code_by, coded×, coded_ℕ, coded_list}
 use Rattle.std.specs.List.{AllByRecursion}
 use Rattle.tilt_base.specs.Expression.{Leaf, One, Two, If}
@@ -18,7 +19,8 @@ pub record CoreParts : Type 0 where
 -- cores are told apart part by part
 abbrev pub coded_core : Coded CoreParts
 coded_core =
-    code_by (List (List ℕ) × (List (List ℕ) × List Definition)) (coded× (coded_list (coded_list coded_ℕ)) (coded× (coded_list (coded_list coded_ℕ)) (coded_list coded_definition)))
+    code_by (List (List ℕ) × (List (List ℕ) × List Definition))
+    (coded× (coded_list (coded_list coded_ℕ)) (coded× (coded_list (coded_list coded_ℕ)) (coded_list coded_definition)))
     (λ c. (c.inputs, (c.names, c.defs)))
     (λ p. record { inputs = p.0; names = p.1.0; defs = p.1.1 })
     (λ _. refl)

@@ -48,7 +48,8 @@ abbrev pub stored_leaf : CoreLeaf → Gv
 stored_leaf (Const number) = gcons gnil (coded_ℤ.code number)
 stored_leaf (Read source offset) = gcons (gnum 1) (gcons (coded_ℕ.code source) (coded_ℤ.code offset))
 stored_leaf (Reduce r source from to) =
-    gcons (gcons gnil gnil) (gcons (reducer.the_row.coded.code r) (gcons (coded_ℕ.code source) (gcons (coded_ℤ.code from) (coded_ℤ.code to))))
+    gcons (gcons gnil gnil) (gcons (reducer.the_row.coded.code r)
+    (gcons (coded_ℕ.code source) (gcons (coded_ℤ.code from) (coded_ℤ.code to))))
 
 pub stored_leaf_inj : (x y : CoreLeaf) → stored_leaf x ≡ stored_leaf y → x ≡ y
 stored_leaf_inj (Const m) (Const n) p = let e = coded_ℤ.inj m n (cc p) in cc

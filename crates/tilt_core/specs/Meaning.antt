@@ -1,6 +1,8 @@
--- The meaning of a query: the stream of each source, from the rows of the inputs and the definitions. Sources are numbered, the inputs in order from 0 on, then the
--- definitions in order. The meaning looks at one tick and at whole series: it has no buffer, no margin and no loop.
-use Rattle.std.specs.Prelude.{ℕ, zero, suc, ◌==◌, if◌then◌else◌, List, [], ◌∷◌, ◌++◌, length, map, Option, Some, None, option_map, option_and_then, ⊤}
+-- The meaning of a query: the stream of each source, from the rows of the inputs and the definitions. Sources are numbered, the inputs in
+-- order from 0 on, then the definitions in order. The meaning looks at one tick and at whole series: it has no buffer, no margin and no
+-- loop.
+use Rattle.std.specs.Prelude.{ℕ, zero, suc, ◌==◌, if◌then◌else◌, List, [], ◌∷◌, ◌++◌, length, map, Option, Some, None, option_map}
+use Rattle.std.specs.Prelude.{option_and_then, ⊤}
 use Rattle.tilt_base.specs.Expression.{Leaf, One, Two, If}
 use Rattle.tilt_base.specs.Grid.{IsGrid}
 use Rattle.tilt_stream.specs.Snap.{Snapshot}

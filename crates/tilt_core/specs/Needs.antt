@@ -1,6 +1,7 @@
--- How far a query looks back and ahead (the TiLT paper's boundary resolution). A need is a pair of numbers of ticks: for the output up to a tick, a source is
--- looked at from so far back to so far ahead.
-use Rattle.std.specs.Prelude.{ℕ, suc, ℤ, pos, neg_ℤ, ◌+ℤ◌, ◌-ℤ◌, ◌==◌, if◌then◌else◌, List, [], ◌∷◌, ◌++◌, map, Option, Some, None, option_map}
+-- How far a query looks back and ahead (the TiLT paper's boundary resolution). A need is a pair of numbers of ticks: for the output up to
+-- a tick, a source is looked at from so far back to so far ahead.
+use Rattle.std.specs.Prelude.{ℕ, suc, ℤ, pos, neg_ℤ, ◌+ℤ◌, ◌-ℤ◌, ◌==◌, if◌then◌else◌, List, [], ◌∷◌, ◌++◌, map, Option, Some, None}
+use Rattle.std.specs.Prelude.{option_map}
 use Rattle.std.specs.Int.{int_max}
 use Rattle.std.specs.List.{range_with_len}
 use Rattle.tilt_base.specs.Expression.{Leaf, One, Two, If}
@@ -47,7 +48,8 @@ abbrev pub asked_of : Definition → Option Need → ℕ → Option Need
 asked_of def None source = None
 asked_of def (Some n) source = asked_by (body_need def n) def.body source
 
--- the need of a definition: that of the last one, which is emitted, is the tick itself; that of another is what the definitions behind it ask
+-- the need of a definition: that of the last one, which is emitted, is the tick itself; that of another is what the definitions behind it
+-- ask
 abbrev pub need_before : List Definition → Option Need → Option Need
 need_before [] asked = Some no_margin
 need_before (def ∷ defs) asked = asked
@@ -79,6 +81,7 @@ widest [] = no_margin
 widest (None ∷ ns) = widest ns
 widest (Some n ∷ ns) = wider n (widest ns)
 
--- the look-back and the look-ahead of a query with so many inputs: the widest of the needs of its inputs and of the bodies of its definitions
+-- the look-back and the look-ahead of a query with so many inputs: the widest of the needs of its inputs and of the bodies of its
+-- definitions
 abbrev pub reach : ℕ → List Definition → Need
 reach inputs defs = widest (map (asked_from inputs defs) (range_with_len 0 inputs) ++ body_needs defs (needs_from inputs defs))

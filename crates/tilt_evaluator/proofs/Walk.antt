@@ -44,19 +44,23 @@ module _ (x : Stream) (lo before hi tick : ℤ) (within : before <ℤ hi) (is : 
   not_again low = grind (arith, ints)
 
   -- a snapshot begins there, or the window does
-  met-begins : (begins : Bool) → lo ≤ℤ before → (begins || x.mark (before +ℤ pos 1)) ≡ true → numbers (met_behind x begins before (int_gap before hi)) ≡ numbers (x.cell tick ∷ []) ++ numbers (met_behind x (int_eq tick lo) tick (int_gap tick hi))
+  met-begins : (begins : Bool) → lo ≤ℤ before → (begins || x.mark (before +ℤ pos 1)) ≡ true
+      → numbers (met_behind x begins before (int_gap before hi)) ≡ numbers (x.cell tick ∷ []) ++ numbers (met_behind x (int_eq tick lo) tick (int_gap tick hi))
   met-begins begins low test =
       ap (λ (n : ℕ). numbers (met_behind x begins before n)) gap
       ∙ rw (test, ← is, not_again low) (numbers-cons (x.cell tick) (met_behind x false tick (int_gap tick hi)))
 
   -- none begins there
-  met-goes_on : (begins : Bool) → lo ≤ℤ before → (begins || x.mark (before +ℤ pos 1)) ≡ false → numbers (met_behind x begins before (int_gap before hi)) ≡ numbers (met_behind x (int_eq tick lo) tick (int_gap tick hi))
+  met-goes_on : (begins : Bool) → lo ≤ℤ before → (begins || x.mark (before +ℤ pos 1)) ≡ false
+      → numbers (met_behind x begins before (int_gap before hi)) ≡ numbers (met_behind x (int_eq tick lo) tick (int_gap tick hi))
   met-goes_on begins low test =
       ap (λ (n : ℕ). numbers (met_behind x begins before n)) gap ∙ rw (test, ← is, not_again low) refl
 
   module _ (front all : List ℤ) (low : lo ≤ℤ before) (so_far : front ++ numbers (met_behind x (int_eq before lo) before (int_gap before hi)) ≡ all) where
     -- the walk with one more member, or without
-    pub met-more : (more : List ℤ) (cell : Option ℤ) → more ≡ front ++ numbers (cell ∷ []) → cell ≡ x.cell tick → (int_eq before lo || x.mark (before +ℤ pos 1)) ≡ true → more ++ numbers (met_behind x (int_eq tick lo) tick (int_gap tick hi)) ≡ all
+    pub met-more : (more : List ℤ) (cell : Option ℤ) → more ≡ front ++ numbers (cell ∷ []) → cell ≡ x.cell tick
+        → (int_eq before lo || x.mark (before +ℤ pos 1)) ≡ true
+        → more ++ numbers (met_behind x (int_eq tick lo) tick (int_gap tick hi)) ≡ all
     met-more more cell pushed at test =
         ap (λ (ns : List ℤ). ns ++ numbers (met_behind x (int_eq tick lo) tick (int_gap tick hi))) (pushed ∙ ap (λ (c : Option ℤ). front ++ numbers (c ∷ [])) at)
         ∙ append_assoc front (numbers (x.cell tick ∷ [])) (numbers (met_behind x (int_eq tick lo) tick (int_gap tick hi)))

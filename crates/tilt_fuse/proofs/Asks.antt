@@ -51,7 +51,8 @@ nodes-as_map (One op a) = omega (arith, nodes-as_map a)
 nodes-as_map (Two op a b) = omega (arith, nodes-as_map a, nodes-as_map b)
 nodes-as_map (If c a b) = omega (arith, nodes-as_map c, nodes-as_map a, nodes-as_map b)
 
-few-over : (alone : Bool) (map : FusedTree) (reducer : Reducer) (source : ℕ) (from to : ℤ) → nodes map ≤ 64 → nodes (if alone then Win reducer source from to else WinBy map reducer source from to) ≤ 65
+few-over : (alone : Bool) (map : FusedTree) (reducer : Reducer) (source : ℕ) (from to : ℤ) → nodes map ≤ 64
+    → nodes (if alone then Win reducer source from to else WinBy map reducer source from to) ≤ 65
 few-over true map reducer source from to small = omega arith
 few-over false map reducer source from to small = omega arith
 
@@ -203,7 +204,8 @@ module _ (P : ℕ → Need → Type 0) (narrow : (source : ℕ) (asked other : N
       Fits windowed_on = (source : ℕ) (tree : FusedTree) → get_or merged source None ≡ Some tree → windowed_on source ≡ true → is_some (only_reading tree) ≡ true
 
       -- the tree of an expression asks what the condition says
-      pub fused-asks : (body : CoreTree) → ReadsBelow bound body → Fits (has_window_on body) → ((source : ℕ) → source < bound → Serves source (asked_by n body source)) → EachAsks P n (fused merged body)
+      pub fused-asks : (body : CoreTree) → ReadsBelow bound body → Fits (has_window_on body)
+          → ((source : ℕ) → source < bound → Serves source (asked_by n body source)) → EachAsks P n (fused merged body)
       fused-asks (Leaf (core.Const number)) reads fits h = tt
       fused-asks (Leaf (core.Read source offset)) reads fits h = read-asks source offset (get_or merged source None) (served source (reaching n offset offset) reads h)
       fused-asks (Leaf (core.Reduce reducer source from to)) reads fits h =

@@ -1,5 +1,6 @@
 -- How a plan goes on from one definition to the next.
-use Rattle.std.proofs.Common.{◌≡◌, ℕ, zero, suc, ◌+◌, ◌*◌, ◌<◌, ◌≤◌, pos, ◌≤ℤ◌, Bool, true, false, List, [], ◌∷◌, ◌++◌, length, get_or, drop, replicate, Option, Some, None, ◌⊎◌, inl, inr, refl, sym, ap, ◌∙◌, arith, subst, append_assoc, length-append}
+use Rattle.std.proofs.Common.{◌≡◌, ℕ, zero, suc, ◌+◌, ◌*◌, ◌<◌, ◌≤◌, pos, ◌≤ℤ◌, Bool, true, false, List, [], ◌∷◌, ◌++◌, length, get_or, drop, replicate, Option, Some, None, inl, inr, refl}
+use Rattle.std.proofs.Common.{sym, ap, ◌∙◌, arith, subst, append_assoc, length-append}
 use Rattle.std.specs.Prelude.{◌&&◌, ◌||◌, not, nat_le, is_some, ⊤}
 use Rattle.std.specs.Ordering.{int_eq}
 use Rattle.std.proofs.Math.ListN.{get_or-append}
@@ -7,6 +8,7 @@ use Rattle.std.proofs.Math.Seq.{get_or-append_seam}
 use Rattle.std.proofs.lemmas.Int.{ints, clamps}
 use Rattle.std.proofs.lemmas.List.{get_or_past}
 use Rattle.std.proofs.lemmas.Bool.{not-true, or_right, or_left, and_parts}
+use Rattle.tilt_base.proofs.Comparisons.{below_or_at}
 use Rattle.tilt_base.specs.declared.limits.TheConstants.{REACH}
 use Rattle.tilt_bounds.proofs.Needs.{below_or_behind, need_at-input, need_at-definition, same_need}
 use Rattle.tilt_bounds.proofs.Steps.{definition-at}
@@ -62,10 +64,6 @@ holds-narrow (Some n) asked other less h =
 asked-behind : (number : ℕ) (behind : List Definition) → HoldsAll (need_before behind (asked_from (suc number) behind number)) (asked_from (suc number) behind number)
 asked-behind number [] = tt
 asked-behind number (def ∷ behind) = holds-itself (asked_from (suc number) (def ∷ behind) number)
-
-below_or_at : (source number : ℕ) → source < suc number → (source < number) ⊎ (source ≡ number)
-below_or_at source number low =
-    elim (below_or_behind source number) [ inl l ↦ inl l | inr e ↦ (let is = e.1 in inr (omega arith)) ]
 
 -- each definition asks of the sources before it no more than their needs
 asked-held : (all : List (Option Need)) (number k : ℕ) (defs : List Definition) (def : Definition) → ((source : ℕ) → source < number → HoldsAll (need_at all source) (asked_from number defs source))
@@ -142,7 +140,8 @@ pub record IsMerged (def : Definition) (behind : List Definition) (ns : List (Op
   pub small : nodes tree ≤ 64
   pub fits : is_windowed behind ns number ≡ true → is_some (only_reading tree) ≡ true
 
-pub merged-is : (def : Definition) (behind : List Definition) (ns : List (Option Need)) (number : ℕ) (tree : FusedTree) → is_merged def behind ns number tree ≡ true → IsMerged def behind ns number tree
+pub merged-is : (def : Definition) (behind : List Definition) (ns : List (Option Need)) (number : ℕ) (tree : FusedTree)
+    → is_merged def behind ns number tree ≡ true → IsMerged def behind ns number tree
 merged-is def behind ns number tree test =
     let one = and_parts (not (are_none behind) && not (is_some def.over) && int_eq def.grid.period (pos 1) && nat_le (nodes tree) 64)
     (not (is_windowed behind ns number) || is_some (only_reading tree)) test in

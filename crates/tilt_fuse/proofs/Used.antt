@@ -1,5 +1,6 @@
 -- When a source is used: the definitions behind it name it.
-use Rattle.std.proofs.Common.{◌≡◌, ℕ, zero, suc, ◌+◌, ◌<◌, ◌≤◌, ◌==◌, Bool, true, false, List, [], ◌∷◌, length, Option, Some, None, if◌then◌else◌, inl, inr, refl, sym, ap, ◌∙◌, arith, subst, get_or, set, replicate, take, drop, ◌-◌, length-drop, drop-cons}
+use Rattle.std.proofs.Common.{◌≡◌, ℕ, zero, suc, ◌+◌, ◌<◌, ◌≤◌, ◌==◌, Bool, true, false, List, [], ◌∷◌, length, Option, Some, None, if◌then◌else◌, inl, inr, refl, sym, ap, ◌∙◌, arith, subst}
+use Rattle.std.proofs.Common.{get_or, set, replicate, take, drop, ◌-◌, length-drop, drop-cons}
 use Rattle.std.specs.Prelude.{◌||◌, is_some}
 use Rattle.std.proofs.Math.Bool.{or-false}
 use Rattle.std.proofs.lemmas.List.{get_or-set_same, get_or-set_other, length-replicate, take_all}
@@ -190,4 +191,5 @@ module _ (inputs done : ℕ) (defs : List Definition) where
       let at : length defs - (done + 1) ≡ place = omega arith in
       let next : suc place ≡ place + 1 = omega arith in
       rw at (subst (λ (ds : List Definition). AreUsed used (needs (inputs + place) ds))
-      (ap (λ (ds : List Definition). def ∷ ds) (rest low ∙ ap (λ (i : ℕ). drop i defs) (sym next)) ∙ ap (λ (d : Definition). d ∷ drop (suc place) defs) is ∙ sym (drop-cons defs place def (omega arith))) h)
+      (ap (λ (ds : List Definition). def ∷ ds) (rest low ∙ ap (λ (i : ℕ). drop i defs) (sym next)) ∙ ap (λ (d : Definition). d ∷ drop (suc place) defs) is
+      ∙ sym (drop-cons defs place def (omega arith))) h)

@@ -38,4 +38,5 @@ MeansItsBody xs defs loop =
 
 -- so does each loop, whatever the rows are, one list of them for each input
 pub record MeanTheirBodies (core : CoreParts) (loops : List PlannedLoop) : Type 0 where
-  pub each : (rows : List (List Snapshot)) → length rows ≡ length core.inputs → AllByRecursion (MeansItsBody (sources rows core.defs) core.defs) loops
+  pub each : (rows : List (List Snapshot)) → length rows ≡ length core.inputs
+      → AllByRecursion (MeansItsBody (sources rows core.defs) core.defs) loops

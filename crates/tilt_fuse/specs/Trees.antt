@@ -1,5 +1,6 @@
 -- What is known of the trees of loops and of merged sources.
-use Rattle.std.specs.Prelude.{◌≡◌, ℕ, ◌+◌, ◌≤◌, pos, ◌+ℤ◌, ◌≤ℤ◌, ◌<ℤ◌, Bool, true, List, ◌++◌, length, drop, replicate, get_or, Option, Some, None, is_some, ⊤}
+use Rattle.std.specs.Prelude.{◌≡◌, ℕ, ◌+◌, ◌≤◌, pos, ◌+ℤ◌, ◌≤ℤ◌, ◌<ℤ◌, Bool, true, List, ◌++◌, length, drop, replicate, get_or, Option}
+use Rattle.std.specs.Prelude.{Some, None, is_some, ⊤}
 use Rattle.tilt_base.specs.Expression as expression
 use Rattle.tilt_base.specs.Offset.{IsOffset}
 use Rattle.tilt_base.specs.declared.limits.TheConstants.{REACH}
@@ -49,8 +50,8 @@ HasMaps (Two op a b) = HasMaps a × HasMaps b
 HasMaps (If c a b) = HasMaps c × HasMaps a × HasMaps b
 HasMaps other = ⊤
 
--- what a tree with a need asks of each source that it reads is as a condition says; windows end behind their starts, their maps are maps, and arguments
--- stand in maps alone
+-- what a tree with a need asks of each source that it reads is as a condition says; windows end behind their starts, their maps are maps,
+-- and arguments stand in maps alone
 abbrev pub EachAsks : (ℕ → Need → Type 0) → Need → FusedTree → Type 0
 EachAsks P n (Const number) = ⊤
 EachAsks P n (Port source offset) = P source (reaching n offset offset)
@@ -66,8 +67,8 @@ abbrev pub Holds : Option Need → Need → Type 0
 Holds None asked = ⊥
 Holds (Some n) asked = (asked.back ≤ℤ n.back) × (asked.ahead ≤ℤ n.ahead)
 
--- the tree of a merged source is small, it asks each source that it reads for no more than the source's need, and where its source has windows on it, it is
--- made from one reading
+-- the tree of a merged source is small, it asks each source that it reads for no more than the source's need, and where its source has
+-- windows on it, it is made from one reading
 pub record IsMergedTree (needs : List (Option Need)) (windowed_on : Bool) (source : ℕ) (tree : FusedTree) : Type 0 where
   pub small : nodes tree ≤ 64
   pub need : Need
@@ -91,7 +92,8 @@ pub record IsKnown (inputs : ℕ) (defs : List Definition) (used : List Bool) : 
   pub near : AreWithin (evenly REACH) (needs inputs defs)
 
 -- the definitions before a place are gone through: with the loops of the others, the loops so far are all
-pub record IsPlanned (fuse : Bool) (inputs : ℕ) (defs : List Definition) (place : ℕ) (merged : List (Option FusedTree)) (loops : List PlannedLoop) : Type 0 where
+pub record IsPlanned (fuse : Bool) (inputs : ℕ) (defs : List Definition) (place : ℕ) (merged : List (Option FusedTree))
+    (loops : List PlannedLoop) : Type 0 where
   pub many : length merged ≡ inputs + place
   pub trees : AreMergedTrees (needs inputs defs) (is_windowed (drop place defs) (drop place (needs_from inputs defs))) merged
   pub so_far : loops ++ loops_from fuse inputs place merged (drop place defs) (drop place (needs_from inputs defs))

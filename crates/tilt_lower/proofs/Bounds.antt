@@ -78,7 +78,8 @@ all_three c a b n p q r =
     let third : nat_lt b n ≡ true = grind arith in
     rw (first, second, third) refl
 
-RefersBack-append : (buffers maps register : ℕ) (one two : Block) → RefersBack buffers maps register one → RefersBack buffers maps (register + length one) two → RefersBack buffers maps register (one ++ two)
+RefersBack-append : (buffers maps register : ℕ) (one two : Block) → RefersBack buffers maps register one
+    → RefersBack buffers maps (register + length one) two → RefersBack buffers maps register (one ++ two)
 RefersBack-append buffers maps register [] two g h =
     let at : register + 0 ≡ register = omega arith in
     subst (λ (r : ℕ). RefersBack buffers maps r two) at h
@@ -92,7 +93,8 @@ IsGood stands i = IsTrue (stands i) × (ConstantFits i → IsInstr i)
 
 -- a block behind another
 module _ (count made : ℕ) where
-  back-two : (register : ℕ) (first next : Block) (second : ℕ) → second ≡ register + length first → RefersBack count made register first → RefersBack count made second next → RefersBack count made register (first ++ next)
+  back-two : (register : ℕ) (first next : Block) (second : ℕ) → second ≡ register + length first → RefersBack count made register first
+      → RefersBack count made second next → RefersBack count made register (first ++ next)
   back-two register first next second at g h =
       RefersBack-append count made register first next g (subst (λ (r : ℕ). RefersBack count made r next) at h)
 
@@ -125,7 +127,8 @@ module _ (buffer : ℕ → ℕ) (count : ℕ) (few : count ≤ 256) (n : Need) (
   good (tree.WinBy map_tree reducer source from to) asks register map small fewer = ((refl, λ fits. (window-is source from to asks.0 asks.1, omega arith)), tt)
   good tree.Argument asks register map small fewer = absurd asks
   good (tree.One op a) asks register map small fewer =
-      all-append (IsGood stands_in_body) (block_of buffer register map a) (instr.One op (result_at register a) ∷ []) (good a asks register map (omega arith) (omega arith)) ((refl, λ fits. omega arith), tt)
+      all-append (IsGood stands_in_body) (block_of buffer register map a) (instr.One op (result_at register a) ∷ [])
+      (good a asks register map (omega arith) (omega arith)) ((refl, λ fits. omega arith), tt)
   good (tree.Two op a b) asks register map small fewer =
       let second = register + registers a in
       all-append (IsGood stands_in_body) (block_of buffer register map a ++ block_of buffer second (map + maps a) b) (instr.Two op (result_at register a) (result_at second b) ∷ [])

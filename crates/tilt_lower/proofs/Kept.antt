@@ -1,5 +1,6 @@
 -- The code of a plan keeps what a code keeps, where its constants are numbers of 64 bits.
-use Rattle.std.proofs.Common.{◌≡◌, ℕ, suc, ◌+◌, ◌*◌, ◌<◌, ◌≤◌, ℤ, pos, ◌+ℤ◌, ◌-ℤ◌, ◌≤ℤ◌, ◌<ℤ◌, Bool, true, false, List, [], ◌∷◌, ◌++◌, length, map, get_or, Option, Some, refl, sym, ap, ◌∙◌, arith, subst, IsTrue}
+use Rattle.std.proofs.Common.{◌≡◌, ℕ, suc, ◌+◌, ◌*◌, ◌<◌, ◌≤◌, ℤ, pos, ◌+ℤ◌, ◌-ℤ◌, ◌≤ℤ◌, ◌<ℤ◌, Bool, true, false, List, [], ◌∷◌, ◌++◌, length, map, get_or, Option, Some, refl, sym, ap, ◌∙◌, arith}
+use Rattle.std.proofs.Common.{subst, IsTrue}
 use Rattle.std.specs.Prelude.{⊤, neg_ℤ}
 use Rattle.std.specs.List.{AllByRecursion}
 use Rattle.std.specs.Option.{unwrap_or}
@@ -142,7 +143,8 @@ module _ (query : CoreParts) (margins : MarginsParts) (lo hi : ℤ) (used : List
       let ahead_high = within.3 in
       subst (λ (made : LoopParts). IsKept count made) (sym same)
       (kept_on buffer (inputs + l.def) count few def is.need isdef within l.body is.small
-      (asks-weaker (λ source asked. (buffer source < count) × Holds (need_at (needs inputs query.defs) source) asked) (λ source asked. (buffer source < count) × ((asked.back ≤ℤ REACH) × (asked.ahead ≤ℤ REACH)))
+      (asks-weaker (λ source asked. (buffer source < count) × Holds (need_at (needs inputs query.defs) source) asked)
+      (λ source asked. (buffer source < count) × ((asked.back ≤ℤ REACH) × (asked.ahead ≤ℤ REACH)))
       (λ source asked h. (h.0, held-within (need_at (needs inputs query.defs) source) asked (known.near.each source) h.1)) (body_need def is.need) l.body is.asks)
       s.lo s.hi s.empty
       (cut_down-bounded (lo -ℤ is.need.back) (hi +ℤ is.need.ahead) (omega (arith, ints)) (omega (arith, ints)) (omega (arith, ints)) def.over)

@@ -72,7 +72,8 @@ either_way place true one other g h = g
 either_way place false one other g h = h
 
 -- the loops of a plan from a place on
-pub loops_from-behind : (fuse : Bool) (inputs place : ℕ) (merged : List (Option FusedTree)) (defs : List Definition) (ns : List (Option Need)) → AreBehind place (loops_from fuse inputs place merged defs ns)
+pub loops_from-behind : (fuse : Bool) (inputs place : ℕ) (merged : List (Option FusedTree)) (defs : List Definition) (ns : List (Option Need))
+    → AreBehind place (loops_from fuse inputs place merged defs ns)
 loops_from-behind fuse inputs place merged [] ns = tt
 loops_from-behind fuse inputs place merged (def ∷ defs) [] = tt
 loops_from-behind fuse inputs place merged (def ∷ defs) (None ∷ ns) =

@@ -1,5 +1,6 @@
 -- What the loops of a plan are, one by one, and the loops of the code that they are lowered to.
-use Rattle.std.proofs.Common.{◌≡◌, ℕ, zero, suc, ◌+◌, ◌<◌, ◌≤◌, ℤ, ◌≤ℤ◌, ◌<ℤ◌, Bool, true, false, List, [], ◌∷◌, ◌++◌, length, map, take, get_or, Option, Some, None, Ok, Err, if◌then◌else◌, refl, sym, ap, ◌∙◌, arith, subst}
+use Rattle.std.proofs.Common.{◌≡◌, ℕ, zero, suc, ◌+◌, ◌<◌, ◌≤◌, ℤ, ◌≤ℤ◌, ◌<ℤ◌, Bool, true, false, List, [], ◌∷◌, ◌++◌, length, map, take, get_or, Option, Some, None, Ok, Err, if◌then◌else◌, refl}
+use Rattle.std.proofs.Common.{sym, ap, ◌∙◌, arith, subst}
 use Rattle.std.specs.Prelude.{neg_ℤ, ◌&&◌, ◌*◌, is_some, replicate, IsOk}
 use Rattle.std.specs.List.{AllByRecursion, slice_index_or}
 use Rattle.std.specs.Option.{IsSome, unwrap_or}
@@ -137,7 +138,8 @@ module _ (query : CoreParts) (margins : MarginsParts) (lo hi : ℤ) (is : IsCore
       (told-at (length query.inputs) i loops item lowered-all (omega (arith, ap length are)) (at ∙ ap (λ (ls : List PlannedLoop). get_or ls i item) are))
 
 -- the need of the definition of a loop
-pub used-at : (query : CoreParts) (margins : MarginsParts) (place : ℕ) → margins.needs ≡ needs (length query.inputs) query.defs → IsSome (get_or (needs_from (length query.inputs) query.defs) place None)
+pub used-at : (query : CoreParts) (margins : MarginsParts) (place : ℕ) → margins.needs ≡ needs (length query.inputs) query.defs
+    → IsSome (get_or (needs_from (length query.inputs) query.defs) place None)
     → IsSome (need_at margins.needs (length query.inputs + place))
 used-at query margins place are used =
     subst (λ (o : Option Need). IsSome o) (sym (ap (λ (ns : List (Option Need)). need_at ns (length query.inputs + place)) are ∙ need_at-definition (length query.inputs) query.defs place)) used

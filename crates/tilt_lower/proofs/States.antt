@@ -1,6 +1,7 @@
 -- How a plan is lowered, definition by definition: each source with a buffer is that buffer's stream, each merged one is its tree's, and each agrees with its
 -- meaning on all that it is asked for.
-use Rattle.std.proofs.Common.{◌≡◌, ℕ, zero, suc, ◌+◌, ◌<◌, ◌≤◌, ◌*◌, ◌==◌, ℤ, ◌+ℤ◌, ◌-ℤ◌, Bool, true, false, List, [], ◌∷◌, ◌++◌, length, map, get_or, drop, replicate, Option, Some, None, ◌⊎◌, inl, inr, refl, sym, ap, ◌∙◌, arith, subst, append_assoc, length-append}
+use Rattle.std.proofs.Common.{◌≡◌, ℕ, zero, suc, ◌+◌, ◌<◌, ◌≤◌, ◌*◌, ◌==◌, ℤ, ◌+ℤ◌, ◌-ℤ◌, Bool, true, false, List, [], ◌∷◌, ◌++◌, length, map, get_or, drop, replicate, Option, Some, None, ◌⊎◌, inl}
+use Rattle.std.proofs.Common.{inr, refl, sym, ap, ◌∙◌, arith, subst, append_assoc, length-append}
 use Rattle.std.specs.Prelude.{⊤, ◌&&◌, ◌||◌, is_some}
 use Rattle.std.specs.Option.{unwrap_or}
 use Rattle.std.proofs.Math.ListN.{get_or-append}
@@ -8,6 +9,7 @@ use Rattle.std.proofs.Math.Seq.{get_or-append_seam}
 use Rattle.std.proofs.lemmas.Int.{ints}
 use Rattle.std.proofs.lemmas.Bool.{cases_Bool, or_left, and_parts}
 use Rattle.std.proofs.lemmas.List.{length-map, length-replicate, map-append, get_or_past, get_or_default}
+use Rattle.tilt_base.proofs.Comparisons.{below_or_at}
 use Rattle.tilt_code.proofs.Runs.{with_loops-last}
 use Rattle.tilt_bounds.proofs.Needs.{below_or_behind, need_at-definition}
 use Rattle.tilt_bounds.specs.Laws.{AgreeAsAsked}
@@ -182,9 +184,6 @@ module _ (query : CoreParts) (margins : MarginsParts) (lo hi : ℤ) (used : List
       pub stand : (source : ℕ) (t : FusedTree) → get_or merged source None ≡ Some t → SameStream (source_of ys source) (fused_stream ys t)
       pub asks : (source : ℕ) (t : FusedTree) → get_or merged source None ≡ Some t → (m : Need) × ((need_at all source ≡ Some m) × EachAsks (IsAsked front ys) m t)
       pub apart : (source : ℕ) (t : FusedTree) → get_or merged source None ≡ Some t → (k : ℕ) × ((source ≡ inputs + k) × (has_loop front k ≡ false))
-
-    below_or_at : (source number : ℕ) → source < suc number → (source < number) ⊎ (source ≡ number)
-    below_or_at source number low = elim (below_or_behind source number) [ inl l ↦ inl l | inr e ↦ (let at = e.1 in inr (omega arith)) ]
 
     module _ (place : ℕ) (low : place < length defs) (def : Definition) (def_is : def ≡ get_or defs place def) (s : State place) where
       abbrev number : ℕ

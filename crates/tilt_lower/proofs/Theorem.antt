@@ -1,5 +1,6 @@
 -- The code of a query means what the query means.
-use Rattle.std.proofs.Common.{◌≡◌, ℕ, zero, suc, ◌+◌, ◌-◌, ◌<◌, ◌==◌, ℤ, pos, ◌+ℤ◌, ◌-ℤ◌, Bool, true, false, List, [], ◌∷◌, ◌++◌, length, map, get_or, drop, Option, Some, None, inl, inr, refl, sym, ap, ◌∙◌, arith, subst, length-append}
+use Rattle.std.proofs.Common.{◌≡◌, ℕ, zero, suc, ◌+◌, ◌-◌, ◌<◌, ◌==◌, ℤ, pos, ◌+ℤ◌, ◌-ℤ◌, Bool, true, false, List, [], ◌∷◌, ◌++◌, length, map, get_or, drop, Option, Some, None, inl, inr, refl, sym}
+use Rattle.std.proofs.Common.{ap, ◌∙◌, arith, subst, length-append}
 use Rattle.std.specs.Prelude.{int_lt, nat_lt, ◌&&◌}
 use Rattle.std.specs.Int.{int_min, int_max}
 use Rattle.std.specs.List.{AllByRecursion}
@@ -231,7 +232,8 @@ module _ (query : CoreParts) (margins : MarginsParts) (lo hi : ℤ) (used : List
     agrees : (source : ℕ) → has_buffer inputs loops source ≡ true
         → AgreeAsAsked (need_at margins.needs source) lo hi (get_or (map stream_of (buffers_of made rows)) (buffer source) nothing) (meaning rows defs source)
     agrees source buffered =
-        subst (λ (ms : List (Option Need)). AgreeAsAsked (need_at ms source) lo hi (get_or (map stream_of (buffers_of made rows)) (buffer source) nothing) (meaning rows defs source)) (sym margins_are)
+        subst (λ (ms : List (Option Need)). AgreeAsAsked (need_at ms source) lo hi (get_or (map stream_of (buffers_of made rows)) (buffer source) nothing) (meaning rows defs source))
+        (sym margins_are)
         (subst (λ (ys : List Stream). AgreeAsAsked (need_at all source) lo hi (get_or ys (buffer source) nothing) (meaning rows defs source))
         (sym (with_buffers-streams rows made.loops timed)) (buffers-agree bs bs_are source buffered))
 

@@ -1,5 +1,6 @@
 -- What a turn reads of a loop: what it has made, and one null snapshot for the rest of its stretch.
-use Rattle.std.proofs.Common.{◌≡◌, ◌≤◌, ◌<◌, ◌+◌, ◌-◌, ℕ, zero, suc, ℤ, neg_ℤ, ◌<ℤ◌, ◌≤ℤ◌, true, false, int_lt, List, [], ◌∷◌, ◌++◌, map, length, get_or, slice_get, option_map, Some, None, refl, sym, ap, ◌∙◌, subst, arith, length-append}
+use Rattle.std.proofs.Common.{◌≡◌, ◌≤◌, ◌<◌, ◌+◌, ◌-◌, ℕ, zero, suc, ℤ, neg_ℤ, ◌<ℤ◌, ◌≤ℤ◌, true, false, int_lt, List, [], ◌∷◌, ◌++◌, map, length, get_or, slice_get, option_map, Some, None, refl}
+use Rattle.std.proofs.Common.{sym, ap, ◌∙◌, subst, arith, length-append}
 use Rattle.std.proofs.lemmas.Int.{ints, by_lt_z}
 use Rattle.std.proofs.lemmas.List.{append-nil, get_or-map, get_or_append_left, length-map}
 use Rattle.std.proofs.lemmas.Option.{same_Some, get_or_from_slice_get, slice_get-map}

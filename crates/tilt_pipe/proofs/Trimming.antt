@@ -1,5 +1,6 @@
 -- What rings keep after a turn of one loop, and while they are trimmed one after the other.
-use Rattle.std.proofs.Common.{◌≡◌, ◌≢◌, inl, inr, ◌≤◌, ◌<◌, ◌+◌, ◌-◌, ℕ, suc, ℤ, pos, int_lt, Bool, true, false, if◌then◌else◌, List, [], ◌∷◌, ◌++◌, map, length, drop, get_or, slice_get, slice_set, option_map, Option, Some, None, refl, sym, ap, ◌∙◌, subst, arith, length-drop, length-append}
+use Rattle.std.proofs.Common.{◌≡◌, ◌≢◌, inl, inr, ◌≤◌, ◌<◌, ◌+◌, ◌-◌, ℕ, suc, ℤ, pos, int_lt, Bool, true, false, if◌then◌else◌, List, [], ◌∷◌, ◌++◌, map, length, drop, get_or, slice_get, slice_set}
+use Rattle.std.proofs.Common.{option_map, Option, Some, None, refl, sym, ap, ◌∙◌, subst, arith, length-drop, length-append}
 use Rattle.std.proofs.lemmas.Bool.{cases_lt, cases_eq}
 use Rattle.std.proofs.lemmas.Int.{ints}
 use Rattle.std.proofs.lemmas.List.{drop-set-lt, drop-set-add, length-map, map-set, set-get_or}

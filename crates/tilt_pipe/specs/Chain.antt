@@ -1,5 +1,6 @@
 -- What is kept of the loops of a pipe while their turns are made.
-use Rattle.std.specs.Prelude.{◌≡◌, ◌⊎◌, ◌<◌, ◌+◌, ℕ, suc, ℤ, ◌+ℤ◌, ◌<ℤ◌, ◌≤ℤ◌, ◌==◌, if◌then◌else◌, List, [], ◌∷◌, ◌++◌, length, map, slice_get, Some, ⊤}
+use Rattle.std.specs.Prelude.{◌≡◌, ◌⊎◌, ◌<◌, ◌+◌, ℕ, suc, ℤ, ◌+ℤ◌, ◌<ℤ◌, ◌≤ℤ◌, ◌==◌, if◌then◌else◌, List, [], ◌∷◌, ◌++◌, length, map}
+use Rattle.std.specs.Prelude.{slice_get, Some, ⊤}
 use Rattle.std.specs.List.{AllByRecursion, Contains}
 use Rattle.tilt_code.specs.Run.{buffers_of}
 use Rattle.tilt_stream.specs.Snap.{Snapshot}
@@ -13,7 +14,8 @@ use Rattle.tilt_pipe.specs.declared.chain.Chain.{Chain}
 use Rattle.tilt_pipe.specs.declared.chain.LoopTurns.{LoopTurns}
 use Rattle.tilt_pipe.specs.declared.chain.Reader.{Reader}
 
--- the later loops that read a buffer: the number of the loop among all loops, and the first tick that it reads there, seen from its grid point
+-- the later loops that read a buffer: the number of the loop among all loops, and the first tick that it reads there, seen from its grid
+-- point
 abbrev pub readers_in : ℕ → ℕ → List Read → List Reader
 readers_in buffer place [] = []
 readers_in buffer place (r ∷ reads) =
@@ -26,7 +28,8 @@ readers_from buffer place [] = []
 readers_from buffer place (w ∷ works) = readers_in buffer place (body_reads w.loop.body) ++ readers_from buffer (suc place) works
 
 -- a loop's turns: its state is fit for its next turn over the whole buffers, and its readers are those behind it
-pub record AreTurnsOf (wholes : List (List Snapshot)) (buffer place : ℕ) (start : ℤ) (w : Work) (behind : List Work) (turns : LoopTurns) : Type 0 where
+pub record AreTurnsOf (wholes : List (List Snapshot)) (buffer place : ℕ) (start : ℤ) (w : Work) (behind : List Work)
+    (turns : LoopTurns) : Type 0 where
   pub used : turns.used ≡ w.used
   pub readers : turns.readers.items ≡ readers_from buffer (suc place) behind
   pub fit : (point : ℤ) × (point ≤ℤ turn_point w.loop start) × IsFit wholes w.loop point turns.state
@@ -40,7 +43,8 @@ AreTurns wholes buffer place starts works all = ⊥
 
 -- a pipe's loops between two turns: each state is fit, and each ring holds exactly what the next turns behind it may read
 pub record IsChain (c : Chain) : Type 0 where
-  pub turns : AreTurns (buffers_of c.rings.code c.rings.inputs) (length c.rings.inputs) 0 (starts_of c.rings.rings) (works_in c.rings) c.turns.items
+  pub turns : AreTurns (buffers_of c.rings.code c.rings.inputs) (length c.rings.inputs) 0 (starts_of c.rings.rings) (works_in c.rings)
+      c.turns.items
   pub exact : map (λ r. r.held) c.rings.rings ≡ rings_of (length c.rings.inputs) (stages_at (works_in c.rings) (starts_of c.rings.rings))
 
 -- a read at a grid point is told: it is one of an input, or the loop has made all up to that tick, or all

@@ -1,5 +1,6 @@
 -- What the rings of a pipe keep, by where each loop stands. Where a loop stands says what it has made: that is written down nowhere else.
-use Rattle.std.specs.Prelude.{◌≡◌, ◌≤◌, ℕ, ℤ, pos, ◌<ℤ◌, ◌≤ℤ◌, if◌then◌else◌, List, [], ◌∷◌, ◌++◌, map, length, drop, get_or, slice_get, slice_set, Some, int_le, refl, ⊤}
+use Rattle.std.specs.Prelude.{◌≡◌, ◌≤◌, ℕ, ℤ, pos, ◌<ℤ◌, ◌≤ℤ◌, if◌then◌else◌, List, [], ◌∷◌, ◌++◌, map, length, drop, get_or, slice_get}
+use Rattle.std.specs.Prelude.{slice_set, Some, int_le, refl, ⊤}
 use Rattle.std.specs.Coded.{Coded, code_by, coded×, coded_list, coded_ℕ, coded_ℤ}
 use Rattle.tilt_code.specs.Code.{CodeParts, coded_code}
 use Rattle.tilt_stream.specs.Snap.{Snapshot, gap_before, Fill}

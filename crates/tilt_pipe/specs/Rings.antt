@@ -1,5 +1,6 @@
 -- What the ring of each loop holds (our own rule): of what the loop has made, that which the next turns of later loops may read.
-use Rattle.std.specs.Prelude.{ℕ, zero, suc, ◌+◌, ℤ, Bool, ◌&&◌, if◌then◌else◌, List, [], ◌∷◌, length, drop, max, Option, Some, None, int_lt}
+use Rattle.std.specs.Prelude.{ℕ, zero, suc, ◌+◌, ℤ, Bool, ◌&&◌, if◌then◌else◌, List, [], ◌∷◌, length, drop, max, Option, Some, None}
+use Rattle.std.specs.Prelude.{int_lt}
 use Rattle.tilt_code.specs.Code.{CodeParts}
 use Rattle.tilt_code.specs.Run.{run_of}
 use Rattle.tilt_stream.specs.Snap.{Snapshot, ended_below, last_end}

@@ -1,5 +1,6 @@
 -- What is let go of the rings of a pipe after a turn.
-use Rattle.std.specs.Prelude.{neg_ℤ, ◌≡◌, ◌<◌, ◌≤◌, ◌+◌, ℕ, suc, ℤ, pos, ◌+ℤ◌, ◌<ℤ◌, ◌≤ℤ◌, ◌&&◌, if◌then◌else◌, List, [], ◌∷◌, drop, length, slice_get, Option, Some, None, int_lt}
+use Rattle.std.specs.Prelude.{neg_ℤ, ◌≡◌, ◌<◌, ◌≤◌, ◌+◌, ℕ, suc, ℤ, pos, ◌+ℤ◌, ◌<ℤ◌, ◌≤ℤ◌, ◌&&◌, if◌then◌else◌, List, [], ◌∷◌, drop}
+use Rattle.std.specs.Prelude.{length, slice_get, Option, Some, None, int_lt}
 use Rattle.std.specs.List.{AllByRecursion, Contains}
 use Rattle.tilt_base.specs.declared.limits.TheConstants.{OFFSET}
 use Rattle.tilt_code.specs.Grammar.{IsInstr}
@@ -9,7 +10,8 @@ use Rattle.tilt_turn.specs.Held.{IsFit}
 use Rattle.tilt_turn.specs.Ready.{IsKept}
 use Rattle.tilt_pipe.specs.Chain.{AreTold, AreTurns}
 use Rattle.tilt_pipe.specs.Made.{Work}
-use Rattle.tilt_pipe.specs.Positions.{RingParts, RingsParts, IsOpen, forgotten_of, lists_of, made_by, stages_at, start_at, starts_of, works_in}
+use Rattle.tilt_pipe.specs.Positions.{RingParts, RingsParts, IsOpen, forgotten_of, lists_of, made_by, stages_at, start_at, starts_of}
+use Rattle.tilt_pipe.specs.Positions.{works_in}
 use Rattle.tilt_pipe.specs.Reads.{earlier, reads_of, turn_point}
 use Rattle.tilt_pipe.specs.Rings.{let_go, wanted}
 use Rattle.tilt_pipe.specs.declared.chain.Chain.{Chain}
@@ -52,7 +54,8 @@ wanted_at p place = wanted (length p.inputs + place) (drop (suc place) (stages_a
 abbrev pub read_next : RingsParts → Reader → Option Work → Option ℤ
 read_next p reader None = None
 read_next p reader (Some w) =
-    if w.used && int_lt (start_at p reader.place) w.loop.hi then Some (turn_point w.loop (start_at p reader.place) +ℤ reader.first) else None
+    if w.used && int_lt (start_at p reader.place) w.loop.hi then Some (turn_point w.loop (start_at p reader.place) +ℤ reader.first)
+    else None
 
 -- the first tick that the next turns of readers read
 abbrev pub wanted_by : RingsParts → List Reader → Option ℤ

@@ -76,7 +76,8 @@ met_behind-first : (x : Stream) (tick : ℤ) (n : ℕ) → x.mark (tick +ℤ pos
 met_behind-first x tick n clear = rw clear refl
 
 -- a window that moves by one tick meets the same cells, where no snapshot begins at its new last tick and none at its new first one
-met_behind-moved : (x : Stream) → ChangesOnlyAtMarks x → (lo : ℤ) (n : ℕ) → x.mark (lo +ℤ pos 1 +ℤ pos 1) ≡ false → x.mark (lo +ℤ pos 1 +ℤ pos n) ≡ false → met_behind x true lo n ≡ met_behind x true (lo +ℤ pos 1) n
+met_behind-moved : (x : Stream) → ChangesOnlyAtMarks x → (lo : ℤ) (n : ℕ) → x.mark (lo +ℤ pos 1 +ℤ pos 1) ≡ false
+    → x.mark (lo +ℤ pos 1 +ℤ pos n) ≡ false → met_behind x true lo n ≡ met_behind x true (lo +ℤ pos 1) n
 met_behind-moved x h lo zero first last = refl
 met_behind-moved x h lo (suc zero) first last =
     let same : lo +ℤ pos 1 +ℤ pos 1 -ℤ pos 1 ≡ lo +ℤ pos 1 = omega (arith, ints) in

@@ -1,5 +1,6 @@
 -- How many snapshots end below a tick, and what the next one says of that tick and of the marks above it.
-use Rattle.std.proofs.Common.{subst, ◌≡◌, ◌≤◌, ◌<◌, ℕ, zero, suc, ℤ, pos, ◌+ℤ◌, ◌<ℤ◌, ◌≤ℤ◌, Bool, true, false, if◌then◌else◌, int_lt, int_le, List, [], ◌∷◌, length, nat_lt, get_or, slice_get, Option, Some, None, refl, arith, ap, sym, ◌∙◌}
+use Rattle.std.proofs.Common.{subst, ◌≡◌, ◌≤◌, ◌<◌, ℕ, zero, suc, ℤ, pos, ◌+ℤ◌, ◌<ℤ◌, ◌≤ℤ◌, Bool, true, false, if◌then◌else◌, int_lt, int_le, List, [], ◌∷◌, length, nat_lt, get_or, slice_get}
+use Rattle.std.proofs.Common.{Option, Some, None, refl, arith, ap, sym, ◌∙◌}
 use Rattle.std.specs.List.Sorted.{IsPartitionPoint, IsPartitionedBy}
 use Rattle.std.specs.Ordering.{int_eq}
 use Rattle.std.proofs.lemmas.Int.{ints}
@@ -15,7 +16,9 @@ pub ended-parted : (from limit : ℤ) (list : List Snapshot) (tick : ℤ) → In
 ended-parted from limit list tick h = parted (λ s. s.end) (λ s width. (omega (arith, ints), omega (arith, ints))) from limit list tick h
 
 -- a search that parts them finds how many they are
-pub ended-counted : (list : List Snapshot) (tick : ℤ) (i : ℕ) → i ≤ length list → IsPartitionPoint (λ (s : Snapshot). int_lt s.end tick ≡ true) (λ (s : Snapshot). int_lt s.end tick ≡ false) list i → i ≡ ended_below tick list
+pub ended-counted : (list : List Snapshot) (tick : ℤ) (i : ℕ) → i ≤ length list
+    → IsPartitionPoint (λ (s : Snapshot). int_lt s.end tick ≡ true) (λ (s : Snapshot). int_lt s.end tick ≡ false) list i
+    → i ≡ ended_below tick list
 ended-counted [] tick i within point = omega arith
 ended-counted (s ∷ ss) tick zero within point =
     let out = point.1 0 s (omega arith) (omega arith) in
@@ -39,7 +42,9 @@ none_ended from limit (s ∷ ss) tick h low =
     rw out (none_ended s.end limit ss tick h.3 (omega (arith, ints)))
 
 -- at a list that begins with this one: it ends below the tick, or it is the next one, and the tick lies on it or before it
-cell-next : (from limit : ℤ) (s : Snapshot) (ss : List Snapshot) (tick : ℤ) → InOrder from limit (s ∷ ss) → cell_by (slice_get ss (ended_below tick ss)) tick ≡ cell_at ss tick → (ended begun : Bool) → int_lt s.end tick ≡ ended → int_lt s.start tick ≡ begun → cell_by (slice_get (s ∷ ss) (ended_below tick (s ∷ ss))) tick ≡ cell_at (s ∷ ss) tick
+cell-next : (from limit : ℤ) (s : Snapshot) (ss : List Snapshot) (tick : ℤ) → InOrder from limit (s ∷ ss)
+    → cell_by (slice_get ss (ended_below tick ss)) tick ≡ cell_at ss tick → (ended begun : Bool) → int_lt s.end tick ≡ ended
+    → int_lt s.start tick ≡ begun → cell_by (slice_get (s ∷ ss) (ended_below tick (s ∷ ss))) tick ≡ cell_at (s ∷ ss) tick
 cell-next from limit s ss tick h rest true begun is from_is =
     let outside : covers s tick ≡ false = grind (arith, ints) in
     rw (is, outside) rest
@@ -59,12 +64,14 @@ ended-cell from limit (s ∷ ss) tick h =
     cell-next from limit s ss tick h (ended-cell s.end limit ss tick h.3) (int_lt s.end tick) (int_lt s.start tick) refl refl
 
 -- the same, by cases
-pub cell-found : (from limit : ℤ) (list : List Snapshot) (tick : ℤ) (s : Snapshot) → InOrder from limit list → slice_get list (ended_below tick list) ≡ Some s → s.start <ℤ tick → s.value ≡ cell_at list tick
+pub cell-found : (from limit : ℤ) (list : List Snapshot) (tick : ℤ) (s : Snapshot) → InOrder from limit list
+    → slice_get list (ended_below tick list) ≡ Some s → s.start <ℤ tick → s.value ≡ cell_at list tick
 cell-found from limit list tick s h is begun =
     let test : int_lt s.start tick ≡ true = grind (arith, ints) in
     rw (is, test) at (ended-cell from limit list tick h)
 
-pub cell-before : (from limit : ℤ) (list : List Snapshot) (tick : ℤ) (s : Snapshot) → InOrder from limit list → slice_get list (ended_below tick list) ≡ Some s → tick ≤ℤ s.start → None ≡ cell_at list tick
+pub cell-before : (from limit : ℤ) (list : List Snapshot) (tick : ℤ) (s : Snapshot) → InOrder from limit list
+    → slice_get list (ended_below tick list) ≡ Some s → tick ≤ℤ s.start → None ≡ cell_at list tick
 cell-before from limit list tick s h is before =
     let test : int_lt s.start tick ≡ false = grind (arith, ints) in
     rw (is, test) at (ended-cell from limit list tick h)
@@ -95,7 +102,8 @@ mark-passed from limit s ss tick other h ended above =
     rw (start, end) refl
 
 -- the next mark of a list whose first one hasn't ended: where it begins, or behind its last tick
-mark-first : (from limit : ℤ) (s : Snapshot) (ss : List Snapshot) (tick : ℤ) → InOrder from limit (s ∷ ss) → tick ≤ℤ s.end → (before : Bool) → int_le tick s.start ≡ before → NamesNextMark (stream_of (s ∷ ss)) tick (mark_by (Some s) tick)
+mark-first : (from limit : ℤ) (s : Snapshot) (ss : List Snapshot) (tick : ℤ) → InOrder from limit (s ∷ ss) → tick ≤ℤ s.end
+    → (before : Bool) → int_le tick s.start ≡ before → NamesNextMark (stream_of (s ∷ ss)) tick (mark_by (Some s) tick)
 mark-first from limit s ss tick h ongoing true is =
     let low : tick ≤ℤ s.start = grind (arith, ints) in
     rw is (record {
@@ -111,7 +119,9 @@ mark-first from limit s ss tick h ongoing false is =
       least = λ other above below. mark_at-within from limit [] s ss other h (omega (arith, ints)) (omega (arith, ints));
     })
 
-mark-next : (from limit : ℤ) (s : Snapshot) (ss : List Snapshot) (tick : ℤ) → InOrder from limit (s ∷ ss) → NamesNextMark (stream_of ss) tick (mark_by (slice_get ss (ended_below tick ss)) tick) → (ended : Bool) → int_lt s.end tick ≡ ended → NamesNextMark (stream_of (s ∷ ss)) tick (mark_by (slice_get (s ∷ ss) (ended_below tick (s ∷ ss))) tick)
+mark-next : (from limit : ℤ) (s : Snapshot) (ss : List Snapshot) (tick : ℤ) → InOrder from limit (s ∷ ss)
+    → NamesNextMark (stream_of ss) tick (mark_by (slice_get ss (ended_below tick ss)) tick) → (ended : Bool) → int_lt s.end tick ≡ ended
+    → NamesNextMark (stream_of (s ∷ ss)) tick (mark_by (slice_get (s ∷ ss) (ended_below tick (s ∷ ss))) tick)
 mark-next from limit s ss tick h rest true is =
     let below : s.end <ℤ tick = grind (arith, ints) in
     rw is (names-same (stream_of (s ∷ ss)) (stream_of ss) tick (λ other above. mark-passed from limit s ss tick other h below above) _ rest)
@@ -127,7 +137,8 @@ ended-mark from limit (s ∷ ss) tick h =
     mark-next from limit s ss tick h (ended-mark s.end limit ss tick h.3) (int_lt s.end tick) refl
 
 -- one of them lies within the bounds of all
-pub InOrder-at : (from limit : ℤ) (list : List Snapshot) (i : ℕ) (s : Snapshot) → InOrder from limit list → i < length list → s ≡ get_or list i s → (from ≤ℤ s.start) × (s.start <ℤ s.end) × (s.end ≤ℤ limit)
+pub InOrder-at : (from limit : ℤ) (list : List Snapshot) (i : ℕ) (s : Snapshot) → InOrder from limit list → i < length list
+    → s ≡ get_or list i s → (from ≤ℤ s.start) × (s.start <ℤ s.end) × (s.end ≤ℤ limit)
 InOrder-at from limit [] i s h within is = absurd (omega arith)
 InOrder-at from limit (x ∷ xs) zero s h within is = subst (λ (y : Snapshot). (from ≤ℤ y.start) × (y.start <ℤ y.end) × (y.end ≤ℤ limit)) (sym is) (h.0, h.1, h.2)
 InOrder-at from limit (x ∷ xs) (suc i) s h within is =
@@ -145,12 +156,14 @@ pub none-found : (list : List Snapshot) (tick : ℤ) (i : ℕ) → i ≡ ended_b
 none-found list tick i is past = rw (← is) (sym (slice_get_past list i (grind arith)))
 
 -- the next mark by cases
-pub mark-found : (from limit : ℤ) (list : List Snapshot) (tick : ℤ) (s : Snapshot) → InOrder from limit list → slice_get list (ended_below tick list) ≡ Some s → s.start <ℤ tick → IsNextMark (stream_of list) tick (s.end +ℤ pos 1)
+pub mark-found : (from limit : ℤ) (list : List Snapshot) (tick : ℤ) (s : Snapshot) → InOrder from limit list
+    → slice_get list (ended_below tick list) ≡ Some s → s.start <ℤ tick → IsNextMark (stream_of list) tick (s.end +ℤ pos 1)
 mark-found from limit list tick s h is begun =
     let test : int_le tick s.start ≡ false = grind (arith, ints) in
     rw (is, test) at (ended-mark from limit list tick h)
 
-pub mark-before : (from limit : ℤ) (list : List Snapshot) (tick : ℤ) (s : Snapshot) → InOrder from limit list → slice_get list (ended_below tick list) ≡ Some s → tick ≤ℤ s.start → IsNextMark (stream_of list) tick (s.start +ℤ pos 1)
+pub mark-before : (from limit : ℤ) (list : List Snapshot) (tick : ℤ) (s : Snapshot) → InOrder from limit list
+    → slice_get list (ended_below tick list) ≡ Some s → tick ≤ℤ s.start → IsNextMark (stream_of list) tick (s.start +ℤ pos 1)
 mark-before from limit list tick s h is before =
     let test : int_le tick s.start ≡ true = grind (arith, ints) in
     rw (is, test) at (ended-mark from limit list tick h)

@@ -1,5 +1,6 @@
 -- Rows with their gaps filled have the same stream.
-use Rattle.std.proofs.Common.{◌≡◌, ℤ, pos, ◌+ℤ◌, ◌≤ℤ◌, Bool, true, false, ◌||◌, List, [], ◌∷◌, ◌++◌, Option, Some, None, refl, sym, ◌∙◌, arith, append_assoc, int_lt, if◌then◌else◌, ℕ, length, ◌≤◌, drop}
+use Rattle.std.proofs.Common.{◌≡◌, ℤ, pos, ◌+ℤ◌, ◌≤ℤ◌, Bool, true, false, ◌||◌, List, [], ◌∷◌, ◌++◌, Option, Some, None, refl, sym, ◌∙◌, arith, append_assoc, int_lt, if◌then◌else◌, ℕ, length, ◌≤◌}
+use Rattle.std.proofs.Common.{drop}
 use Rattle.std.proofs.lemmas.List.{append-nil, drop_all}
 use Rattle.tilt_base.specs.declared.limits.TheConstants.{T}
 use Rattle.std.specs.Ordering.{int_eq}
@@ -15,14 +16,16 @@ filled_behind end [] = []
 filled_behind end (row ∷ rows) = gap_before end row.start ++ row ∷ filled_behind (Some row.end) rows
 
 module _ (end limit : ℤ) (row : Snapshot) (rows : List Snapshot) (tick : ℤ) (h : InOrder end limit (row ∷ rows)) (rest : cell_at (filled_behind (Some row.end) rows) tick ≡ cell_at rows tick) where
-  behind_gap : (in_gap : Bool) → covers (record { start = end; end = row.start; value = None }) tick ≡ in_gap → (if in_gap then None else cell_at (row ∷ filled_behind (Some row.end) rows) tick) ≡ cell_at (row ∷ rows) tick
+  behind_gap : (in_gap : Bool) → covers (record { start = end; end = row.start; value = None }) tick ≡ in_gap
+      → (if in_gap then None else cell_at (row ∷ filled_behind (Some row.end) rows) tick) ≡ cell_at (row ∷ rows) tick
   behind_gap true is =
       let low : row.start ≤ℤ row.start = omega (arith, ints) in
       let before : tick ≤ℤ row.start = grind (arith, ints) in
       sym (cell_at-before row.start limit (row ∷ rows) tick (low, h.1, h.2, h.3) before)
   behind_gap false is = rw rest refl
 
-  cells_by_gap : (some : Bool) → cell_at ((if some then record { start = end; end = row.start; value = None } ∷ [] else []) ++ row ∷ filled_behind (Some row.end) rows) tick ≡ cell_at (row ∷ rows) tick
+  cells_by_gap : (some : Bool)
+      → cell_at ((if some then record { start = end; end = row.start; value = None } ∷ [] else []) ++ row ∷ filled_behind (Some row.end) rows) tick ≡ cell_at (row ∷ rows) tick
   cells_by_gap true = behind_gap _ refl
   cells_by_gap false = rw rest refl
 
@@ -42,7 +45,11 @@ neither true b c x y h = refl
 neither false true c x y h = refl
 neither false false c x y h = h
 
-marks_by_gap : (some : Bool) (end : ℤ) (row : Snapshot) (rows : List Snapshot) (tick : ℤ) → (int_eq tick (row.end +ℤ pos 1) || mark_at (filled_behind (Some row.end) rows) tick) ≡ (int_eq tick (row.end +ℤ pos 1) || mark_at rows tick) → (int_eq tick (end +ℤ pos 1) || mark_at ((if some then record { start = end; end = row.start; value = None } ∷ [] else []) ++ row ∷ filled_behind (Some row.end) rows) tick) ≡ (int_eq tick (end +ℤ pos 1) || mark_at (row ∷ rows) tick)
+marks_by_gap : (some : Bool) (end : ℤ) (row : Snapshot) (rows : List Snapshot) (tick : ℤ)
+    → (int_eq tick (row.end +ℤ pos 1) || mark_at (filled_behind (Some row.end) rows) tick) ≡ (int_eq tick (row.end +ℤ pos 1) || mark_at rows tick)
+    → (int_eq tick (end +ℤ pos 1)
+    || mark_at ((if some then record { start = end; end = row.start; value = None } ∷ [] else []) ++ row ∷ filled_behind (Some row.end) rows) tick)
+    ≡ (int_eq tick (end +ℤ pos 1) || mark_at (row ∷ rows) tick)
 marks_by_gap true end row rows tick rest =
     either (int_eq tick (end +ℤ pos 1)) (int_eq tick (row.start +ℤ pos 1)) (int_eq tick (row.end +ℤ pos 1)) (mark_at (filled_behind (Some row.end) rows) tick) (mark_at rows tick) rest
 marks_by_gap false end row rows tick rest =
@@ -63,7 +70,8 @@ cells_of_filled (row ∷ rows) tick h = rw (cells_filled row.end T rows tick h.3
 
 marks_of_filled : (rows : List Snapshot) (tick : ℤ) → mark_at (filled_behind None rows) tick ≡ mark_at rows tick
 marks_of_filled [] tick = refl
-marks_of_filled (row ∷ rows) tick = first_mark (int_eq tick (row.start +ℤ pos 1)) (int_eq tick (row.end +ℤ pos 1)) (mark_at (filled_behind (Some row.end) rows) tick) (mark_at rows tick) (marks_filled row.end rows tick)
+marks_of_filled (row ∷ rows) tick = first_mark (int_eq tick (row.start +ℤ pos 1)) (int_eq tick (row.end +ℤ pos 1))
+    (mark_at (filled_behind (Some row.end) rows) tick) (mark_at rows tick) (marks_filled row.end rows tick)
 
 -- rows with their gaps filled have the rows' stream
 pub stream-filled : (rows : List Snapshot) → AreRows rows → SameStream (stream_of (filled_behind None rows)) (stream_of rows)
@@ -73,7 +81,8 @@ stream-filled rows h = record {
 }
 
 -- one more row
-pub filled-step : (list rest all : List Snapshot) (row : Snapshot) → list ++ filled_behind (last_end list) (row ∷ rest) ≡ all → (list ++ gap_before (last_end list) row.start ++ row ∷ []) ++ filled_behind (last_end (list ++ gap_before (last_end list) row.start ++ row ∷ [])) rest ≡ all
+pub filled-step : (list rest all : List Snapshot) (row : Snapshot) → list ++ filled_behind (last_end list) (row ∷ rest) ≡ all
+    → (list ++ gap_before (last_end list) row.start ++ row ∷ []) ++ filled_behind (last_end (list ++ gap_before (last_end list) row.start ++ row ∷ [])) rest ≡ all
 filled-step list rest all row h =
     rw (last_end-push (list ++ gap_before (last_end list) row.start) row) (simp append_assoc h)
 

@@ -70,7 +70,8 @@ met_behind-agrees x y false lo hi tick (suc n) h (inr e) high = absurd (cc e.1)
 pub met-agrees : (x y : Stream) (lo hi from to : ℤ) → Agree x y lo hi → lo ≤ℤ from → to ≤ℤ hi → met x from to ≡ met y from to
 met-agrees x y lo hi from to h low high =
     by_lt_z from to
-    (λ some. met_behind-agrees x y true from hi from (int_gap from to) (narrower-agrees x y lo hi from hi h low (omega (arith, ints))) (inr (refl, refl)) (let e = int_gap_is from to (omega (arith, ints)) in omega (arith, ints)))
+    (λ some. met_behind-agrees x y true from hi from (int_gap from to) (narrower-agrees x y lo hi from hi h low (omega (arith, ints)))
+    (inr (refl, refl)) (let e = int_gap_is from to (omega (arith, ints)) in omega (arith, ints)))
     (λ none. rw (int_gap_none from to none) refl)
 
 -- what a window makes of them agrees where it ends behind its start

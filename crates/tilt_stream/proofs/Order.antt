@@ -14,7 +14,8 @@ starts_behind from limit x (y ∷ ys) s h behind =
     omega (arith, ints)
 
 -- what stands behind the end of the last one may be added
-pub InOrder-push : (from limit : ℤ) (xs : List Snapshot) (s : Snapshot) → InOrder from limit xs → from ≤ℤ s.start → ForSome (last_end xs) (λ end. end ≤ℤ s.start) → s.start <ℤ s.end → s.end ≤ℤ limit → InOrder from limit (xs ++ s ∷ [])
+pub InOrder-push : (from limit : ℤ) (xs : List Snapshot) (s : Snapshot) → InOrder from limit xs → from ≤ℤ s.start
+    → ForSome (last_end xs) (λ end. end ≤ℤ s.start) → s.start <ℤ s.end → s.end ≤ℤ limit → InOrder from limit (xs ++ s ∷ [])
 InOrder-push from limit [] s h low behind width high = (low, width, high, tt)
 InOrder-push from limit (x ∷ []) s h low behind width high =
     (h.0, h.1, h.2, (behind x.end refl, width, high, tt))
@@ -27,7 +28,8 @@ Touch-push (x ∷ []) s h touches = (touches x.end refl, tt)
 Touch-push (x ∷ y ∷ ys) s h touches = (h.0, Touch-push (y ∷ ys) s h.1 touches)
 
 -- a snapshot that starts where the last one ends may be added
-pub AreSnapshots-push : (xs : List Snapshot) (s : Snapshot) → AreSnapshots xs → neg_ℤ WIDE ≤ℤ s.start → ForSome (last_end xs) (λ end. end ≡ s.start) → s.start <ℤ s.end → s.end ≤ℤ WIDE → AreSnapshots (xs ++ s ∷ [])
+pub AreSnapshots-push : (xs : List Snapshot) (s : Snapshot) → AreSnapshots xs → neg_ℤ WIDE ≤ℤ s.start
+    → ForSome (last_end xs) (λ end. end ≡ s.start) → s.start <ℤ s.end → s.end ≤ℤ WIDE → AreSnapshots (xs ++ s ∷ [])
 AreSnapshots-push xs s h starts touches width ends = record {
   in_order = InOrder-push (neg_ℤ WIDE) WIDE xs s h.in_order starts (λ end is. let e : end ≡ s.start = touches end is in omega (arith, ints)) width ends;
   touch = Touch-push xs s h.touch touches;

@@ -1,5 +1,6 @@
 -- How many snapshots end below a tick, seen from one place.
-use Rattle.std.proofs.Common.{◌≡◌, ◌≤◌, ◌<◌, ℕ, zero, suc, ℤ, ◌<ℤ◌, ◌≤ℤ◌, Bool, true, false, if◌then◌else◌, int_lt, List, [], ◌∷◌, length, slice_get, Option, Some, None, IfSome, IsTrue, ◌↔◌, refl, arith, sym}
+use Rattle.std.proofs.Common.{◌≡◌, ◌≤◌, ◌<◌, ℕ, zero, suc, ℤ, ◌<ℤ◌, ◌≤ℤ◌, Bool, true, false, if◌then◌else◌, int_lt, List, [], ◌∷◌, length, slice_get, Option, Some, None, IfSome, IsTrue, ◌↔◌, refl}
+use Rattle.std.proofs.Common.{arith, sym}
 use Rattle.std.proofs.lemmas.Int.{ints}
 use Rattle.tilt_stream.proofs.Ended.{none_ended}
 use Rattle.tilt_stream.specs.Snap.{Snapshot, InOrder, ended_below}
@@ -48,7 +49,8 @@ read_above from limit (x ∷ xs) (suc i) s h is =
     (omega (arith, ints), rest.1, rest.2)
 
 -- the one at a place lies within the bounds of all
-pub read-within : (from limit : ℤ) (list : List Snapshot) (place : ℕ) (found : Option Snapshot) → InOrder from limit list → found ≡ slice_get list place → IfSome found (λ s. from ≤ℤ s.start) × IfSome found (λ s. s.end ≤ℤ limit)
+pub read-within : (from limit : ℤ) (list : List Snapshot) (place : ℕ) (found : Option Snapshot) → InOrder from limit list
+    → found ≡ slice_get list place → IfSome found (λ s. from ≤ℤ s.start) × IfSome found (λ s. s.end ≤ℤ limit)
 read-within from limit list place None h is = (tt, tt)
 read-within from limit list place (Some s) h is = let all = read_above from limit list place s h (sym is) in (all.0, all.2)
 

@@ -29,7 +29,8 @@ starts_from from limit (f ∷ front) s back h =
     omega (arith, ints)
 
 -- behind its first tick a snapshot has no mark
-pub mark_at-within : (from limit : ℤ) (front : List Snapshot) (s : Snapshot) (back : List Snapshot) (tick : ℤ) → InOrder from limit (front ++ s ∷ back) → (s.start +ℤ pos 1) <ℤ tick → tick ≤ℤ s.end → mark_at (front ++ s ∷ back) tick ≡ false
+pub mark_at-within : (from limit : ℤ) (front : List Snapshot) (s : Snapshot) (back : List Snapshot) (tick : ℤ)
+    → InOrder from limit (front ++ s ∷ back) → (s.start +ℤ pos 1) <ℤ tick → tick ≤ℤ s.end → mark_at (front ++ s ∷ back) tick ≡ false
 mark_at-within from limit [] s back tick h low high =
     let start : int_eq tick (s.start +ℤ pos 1) ≡ false = grind (arith, ints) in
     let end : int_eq tick (s.end +ℤ pos 1) ≡ false = grind (arith, ints) in

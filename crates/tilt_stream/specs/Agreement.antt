@@ -3,7 +3,8 @@ use Rattle.std.specs.Prelude.{◌≡◌, ℤ, pos, ◌+ℤ◌, ◌-ℤ◌, ◌<�
 use Rattle.tilt_stream.specs.Snap.{Snapshot, ended_below}
 use Rattle.tilt_stream.specs.Stream.{Stream, cell_at, mark_at}
 
--- the same cells on `(lo, hi]`, and the same marks there but for the first tick, at which a stretch that is looked at by itself begins in any case
+-- the same cells on `(lo, hi]`, and the same marks there but for the first tick, at which a stretch that is looked at by itself begins in
+-- any case
 pub record Agree (x y : Stream) (lo hi : ℤ) : Type 0 where
   pub cells : (tick : ℤ) → lo <ℤ tick → tick ≤ℤ hi → x.cell tick ≡ y.cell tick
   pub marks : (tick : ℤ) → (lo +ℤ pos 1) <ℤ tick → tick ≤ℤ hi → x.mark tick ≡ y.mark tick

@@ -1,4 +1,5 @@
--- Where a stream is taken and where it holds: grids and stretches of time (the TiLT paper's precision and time domain; marks are our own rule).
+-- Where a stream is taken and where it holds: grids and stretches of time (the TiLT paper's precision and time domain; marks are our own
+-- rule).
 use Rattle.std.specs.Prelude.{ℕ, zero, suc, ℤ, pos, ◌+ℤ◌, ◌-ℤ◌, Bool, false, ◌&&◌, ◌||◌, if◌then◌else◌, None, int_lt, int_le, unsigned_abs}
 use Rattle.std.specs.Ordering.{int_eq}
 use Rattle.tilt_base.specs.Grid.{GridPoints, is_point, ceil}
@@ -9,7 +10,8 @@ abbrev pub some_mark : Stream → ℤ → ℕ → Bool
 some_mark x tick zero = false
 some_mark x tick (suc more) = x.mark (tick +ℤ pos 1) || some_mark x (tick +ℤ pos 1) more
 
--- `every`: at each tick the cell of the least grid point that isn't below it; a mark stands behind a grid point where one of the ticks up to the next one had a mark
+-- `every`: at each tick the cell of the least grid point that isn't below it; a mark stands behind a grid point where one of the ticks up
+-- to the next one had a mark
 abbrev pub on_grid : GridPoints → Stream → Stream
 on_grid grid x = record {
   cell = λ tick. x.cell (ceil grid tick);

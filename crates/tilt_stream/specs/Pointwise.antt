@@ -1,5 +1,5 @@
--- Streams that take each tick by itself: constants, shifts and the scalar operators (after the TiLT paper's temporal expressions; marks are our own rule).
--- A mark stands where one of the operands has one, the branch that isn't chosen included.
+-- Streams that take each tick by itself: constants, shifts and the scalar operators (after the TiLT paper's temporal expressions; marks
+-- are our own rule). A mark stands where one of the operands has one, the branch that isn't chosen included.
 use Rattle.std.specs.Prelude.{ℤ, ◌+ℤ◌, false, ◌||◌, Option, None}
 use Rattle.tilt_base.specs.declared.operator.Op1.{Op1}
 use Rattle.tilt_base.specs.declared.operator.Op2.{Op2}
@@ -28,4 +28,7 @@ lifted2 op x y = record { cell = λ tick. apply2 op (x.cell tick) (y.cell tick);
 
 -- `if c then x else y`
 abbrev pub branched : Stream → Stream → Stream → Stream
-branched c x y = record { cell = λ tick. choose (c.cell tick) (x.cell tick) (y.cell tick); mark = λ tick. c.mark tick || x.mark tick || y.mark tick }
+branched c x y = record {
+  cell = λ tick. choose (c.cell tick) (x.cell tick) (y.cell tick);
+  mark = λ tick. c.mark tick || x.mark tick || y.mark tick;
+}

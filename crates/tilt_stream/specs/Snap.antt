@@ -8,7 +8,8 @@ pub record Snapshot : Type 0 where
   pub end : ℤ
   pub value : Option ℤ
 
--- each starts below its end, not before the end of the one before it, and ends at the limit or before; the first doesn't start before `from`
+-- each starts below its end, not before the end of the one before it, and ends at the limit or before; the first doesn't start before
+-- `from`
 abbrev pub InOrder : ℤ → ℤ → List Snapshot → Type 0
 InOrder from limit [] = ⊤
 InOrder from limit (s ∷ ss) = (from ≤ℤ s.start) × (s.start <ℤ s.end) × (s.end ≤ℤ limit) × InOrder s.end limit ss
@@ -50,7 +51,8 @@ abbrev pub joined_open : ℤ → List Snapshot → List Snapshot
 joined_open start [] = []
 joined_open start (s ∷ ss) = record { start = start; end = s.end; value = s.value } ∷ ss
 
--- snapshots that go from `lo` to `hi`: the first starts at `lo`, each of the others where the one before it ends, and the last ends at `hi`
+-- snapshots that go from `lo` to `hi`: the first starts at `lo`, each of the others where the one before it ends, and the last ends at
+-- `hi`
 abbrev pub Fill : ℤ → ℤ → List Snapshot → Type 0
 Fill lo hi [] = lo ≡ hi
 Fill lo hi (s ∷ ss) = (s.start ≡ lo) × (lo <ℤ s.end) × Fill s.end hi ss

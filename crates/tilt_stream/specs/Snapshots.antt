@@ -12,7 +12,8 @@ snapshot_on x start end = record { start = start; end = end; value = x.cell (sta
 abbrev pub cut_behind : Stream → ℤ → ℤ → ℕ → List Snapshot
 cut_behind x start tick zero = snapshot_on x start tick ∷ []
 cut_behind x start tick (suc more) =
-    if x.mark (tick +ℤ pos 1) then snapshot_on x start tick ∷ cut_behind x tick (tick +ℤ pos 1) more else cut_behind x start (tick +ℤ pos 1) more
+    if x.mark (tick +ℤ pos 1) then snapshot_on x start tick ∷ cut_behind x tick (tick +ℤ pos 1) more
+    else cut_behind x start (tick +ℤ pos 1) more
 
 -- the snapshots of that many ticks behind `start`
 abbrev pub snapshots_from : Stream → ℤ → ℕ → List Snapshot

@@ -1,4 +1,5 @@
--- A stream is a function of time: at each tick a cell, and a mark where a snapshot begins (the TiLT paper's temporal object; marks are our own rule).
+-- A stream is a function of time: at each tick a cell, and a mark where a snapshot begins (the TiLT paper's temporal object; marks are
+-- our own rule).
 use Rattle.std.specs.Prelude.{◌≡◌, ℤ, pos, ◌+ℤ◌, Bool, false, ◌&&◌, ◌||◌, if◌then◌else◌, List, [], ◌∷◌, Option, None, int_lt, int_le}
 use Rattle.std.specs.Ordering.{int_eq}
 use Rattle.tilt_stream.specs.Snap.{Snapshot}

@@ -1,12 +1,14 @@
 -- Windows over a stream (the TiLT paper's reductions; which snapshots a window meets is our own rule).
--- The window from `from` to `to` at a tick is the ticks `tick + from + 1` to `tick + to`. It meets each snapshot that has a tick in it, once.
+-- The window from `from` to `to` at a tick is the ticks `tick + from + 1` to `tick + to`. It meets each snapshot that has a tick in it,
+-- once.
 use Rattle.std.specs.Prelude.{ℕ, zero, suc, ℤ, pos, ◌+ℤ◌, Bool, true, false, ◌||◌, if◌then◌else◌, List, [], ◌∷◌, map, Option}
 use Rattle.std.specs.Int.{int_gap}
 use Rattle.tilt_base.specs.declared.reducer.Reducer.{Reducer}
 use Rattle.tilt_base.specs.Reduce.{numbers, reduce}
 use Rattle.tilt_stream.specs.Stream.{Stream}
 
--- the cells at those of so many ticks behind `tick` at which a snapshot begins; `begins` says that one begins at the first of them, marked or not
+-- the cells at those of so many ticks behind `tick` at which a snapshot begins; `begins` says that one begins at the first of them,
+-- marked or not
 abbrev pub met_behind : Stream → Bool → ℤ → ℕ → List (Option ℤ)
 met_behind x begins tick zero = []
 met_behind x begins tick (suc more) =
@@ -17,7 +19,8 @@ met_behind x begins tick (suc more) =
 abbrev pub met : Stream → ℤ → ℤ → List (Option ℤ)
 met x lo hi = met_behind x true lo (int_gap lo hi)
 
--- what a reducer gives on the numbers among the cells that each tick's window meets; a mark stands where the source has one at the window's last tick or at its first
+-- what a reducer gives on the numbers among the cells that each tick's window meets; a mark stands where the source has one at the
+-- window's last tick or at its first
 abbrev pub windowed : Reducer → ℤ → ℤ → Stream → Stream
 windowed reducer from to x = record {
   cell = λ tick. reduce reducer (numbers (met x (tick +ℤ from) (tick +ℤ to)));

@@ -40,7 +40,7 @@ const CORES: &[(&str, &str)] = &[
         "emit if true and not false then 1 else 2 over (0, 5];",
         "If(Two(And, Const(1), One(Not, Const(0))), Const(1), Const(2)); ",
     ),
-    // An input behind a definition still has a number below it.
+    // An input after a definition still has a number below it.
     (
         "input x; let y = x[t-2]; input z; emit y - z over (0, 5];",
         "x; z; Read { source: 0, offset: -2 }; \

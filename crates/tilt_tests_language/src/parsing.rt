@@ -4,7 +4,7 @@ use std::test::Fail;
 use tilt_base::Span;
 use tilt_lexer::lex;
 use tilt_syntax::{Expr, Query, Statement, SyntaxFault, parse, parse_expression};
-use tilt_testing::{name_text, query_of};
+use tilt_testing::{name_text, query_of, repeated};
 
 // Expressions, and their trees with each operator before its operands; nothing where the text is none.
 const EXPRESSIONS: &[(&str, &str)] = &[
@@ -244,21 +244,10 @@ fn the_first_faulty_statement_is_refused(rt: HostRuntime) -> Result<(), Fail> {
     Ok(())
 }
 
-// The text with a front, a part that is repeated, and an end.
-fn repeated(alloc: Global, front: &str, part: &str, times: u32, end: &str) -> Result<String, Fail> {
-    let mut text = String::new(alloc);
-    text.push_str(front)?;
-    for _ in 0..times {
-        text.push_str(part)?;
-    }
-    text.push_str(end)?;
-    Ok(text)
-}
-
 #[test]
 fn sizes_are_bounded(rt: HostRuntime) -> Result<(), Fail> {
     let alloc = rt.alloc();
-    for (front, part, times, end, want) in [
+    for (start, part, times, end, want) in [
         // 256 and 257 statements, and tokens of one statement.
         ("", "input x;", 255, "emit 1 over (0, 5];", None),
         (
@@ -299,9 +288,9 @@ fn sizes_are_bounded(rt: HostRuntime) -> Result<(), Fail> {
             Some(SyntaxFault::Syntax { statement: 1 }),
         ),
     ] {
-        let text = repeated(alloc, front, part, times, end)?;
+        let text = repeated(alloc, start, part, times, end)?;
         let tokens = lex(alloc, text.as_bytes())?;
-        assert_eq!(rt; parse(alloc, &tokens).err(), want, "at {front}");
+        assert_eq!(rt; parse(alloc, &tokens).err(), want, "at {start}");
     }
     Ok(())
 }

@@ -3,7 +3,7 @@ use crate::worked_queries::Word::{Const, If, One, Read, Reduce, Two};
 use tilt_base::{Op1, Op2, Reducer};
 use tilt_testing::Piece;
 
-// An expression, written with each operator behind its operands.
+// An expression, written with each operator after its operands.
 #[derive(Clone, Copy)]
 pub enum Word {
     Const(i64),

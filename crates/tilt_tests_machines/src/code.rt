@@ -175,9 +175,9 @@ fn last_line(text: &[u8]) -> u64 {
 fn a_text_that_is_cut_is_bad_where_it_ends(rt: HostRuntime) -> Result<(), Fail> {
     let text = SMALL.as_bytes();
     for length in 0..text.len() {
-        let front = &text[..length];
-        let line = last_line(front);
-        let fault = fault_of(rt.alloc(), front);
+        let prefix = &text[..length];
+        let line = last_line(prefix);
+        let fault = fault_of(rt.alloc(), prefix);
         assert_eq!(rt; fault, Some(CodeFault::BadCode { line }), "at {length}");
     }
     Ok(())

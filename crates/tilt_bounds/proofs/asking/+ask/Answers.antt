@@ -22,7 +22,8 @@ returns-in-Read-clause-bounded t c =
     λ limit near all.
     let below = rw c.in-Read.is at c.requires.reads in
     rw (c.ask_source.ensures, c.reaching.ensures)
-    (all_within-source (evenly (pos (limit + 18446744073709551616))) c.args.asked.now c.in-Read.source (reaching c.args.need (to_z w128 (of_z w128 c.from-offset.result)) (to_z w128 (of_z w128 c.from-offset.result))) below all
+    (all_within-source (evenly (pos (limit + 18446744073709551616))) c.args.asked.now c.in-Read.source
+    (reaching c.args.need (to_z w128 (of_z w128 c.from-offset.result)) (to_z w128 (of_z w128 c.from-offset.result))) below all
     (within-reaching limit c.args.need (to_z w128 (of_z w128 c.from-offset.result)) (to_z w128 (of_z w128 c.from-offset.result)) (omega (arith, ints)) (omega (arith, ints)) near))
 
 pub returns-in-Reduce-clause-asks : goal.returns-in-Reduce-clause-asks

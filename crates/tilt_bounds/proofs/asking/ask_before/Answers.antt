@@ -55,7 +55,8 @@ returns-in-Some-clause-still_bounded c =
     (c.ask.ensures.bounded limit
     (within-asked so_far c.args.def.now c.args.behind.now (need_at c.args.asked.now c.args.number) c.need_before-need.result c.in-Some.need c.body_need.result
     c.requires.definition.grid (c.requires.bounded.each c.args.number) c.need_before-need.ensures c.in-Some.is c.body_need.ensures)
-    (all_within-put_down so_far (limit + 2 ^ 64) c.args.behind.now c.args.asked.now c.args.number c.need_before-need.result (omega (arith, many)) c.requires.bounded c.need_before-need.ensures (omega arith)))
+    (all_within-put_down so_far (limit + 2 ^ 64) c.args.behind.now c.args.asked.now c.args.number c.need_before-need.result
+    (omega (arith, many)) c.requires.bounded c.need_before-need.ensures (omega arith)))
 
 pub returns-in_default-clause-needs : goal.returns-in_default-clause-needs
 returns-in_default-clause-needs c =

@@ -7,4 +7,5 @@ pub returns : goal.returns
 returns c =
     let front = c.split_at.ensures.front in
     let back = c.split_at.ensures.back in
-    c.wider.ensures ∙ rw (c.widest_need.ensures, c.widest_body_need.ensures, front, back) (sym (widest-append (take c.args.inputs c.args.needs.now) (body_needs c.args.defs.now (drop c.args.inputs c.args.needs.now))))
+    c.wider.ensures ∙ rw (c.widest_need.ensures, c.widest_body_need.ensures, front, back)
+    (sym (widest-append (take c.args.inputs c.args.needs.now) (body_needs c.args.defs.now (drop c.args.inputs c.args.needs.now))))

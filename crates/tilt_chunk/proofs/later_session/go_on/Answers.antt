@@ -79,7 +79,8 @@ returns-clause-printed c =
     let end_fits : FitsSigned w64 frame.end = search rules in
     let t = rw (to_z-of_z w64 frame.end end_fits, to_z-of_z w64 mid mid_fits) at c.if-decided-frame.false in
     let before : mid <ℤ frame.end = grind (arith, ints) in
-    c.close.ensures.printed ∙ went-printed c.args.accepted.now.core.now frame c.args.rows.items c.args.behind.begun c.in_ok-list.list c.join_from.result cut c.args.last mid c.max-from.result _ _ mid_is from_is
+    c.close.ensures.printed ∙ went-printed c.args.accepted.now.core.now frame c.args.rows.items c.args.behind.begun c.in_ok-list.list
+    c.join_from.result cut c.args.last mid c.max-from.result _ _ mid_is from_is
     (to_z-of_z w64 c.max-from.result from_fits) (to_z-of_z w64 c.args.last c.ranges.last) c.in_ok-list.ensures c.join_from.ensures before
 
 pub returns-clause-begun : goal.returns-clause-begun
@@ -94,5 +95,6 @@ returns-clause-begun c =
     let from_fits : FitsSigned w64 c.max-from.result = search rules in
     let low = decided-low frame cut c.requires.frame c.requires.cut in
     let from_is : c.max-from.result ≡ int_max frame.start (mid -ℤ pos 1) = passed-max frame.start mid c.max-from.result start_fits mid_fits (rw (← mid_is) at low) c.max-from.ensures.value in
-    c.close.ensures.begun ∙ went-begun c.args.accepted.now.core.now frame c.args.rows.items c.args.behind.begun c.in_ok-list.list c.join_from.result cut c.args.last mid c.max-from.result _ _ mid_is from_is
+    c.close.ensures.begun ∙ went-begun c.args.accepted.now.core.now frame c.args.rows.items c.args.behind.begun c.in_ok-list.list
+    c.join_from.result cut c.args.last mid c.max-from.result _ _ mid_is from_is
     (to_z-of_z w64 c.max-from.result from_fits) (to_z-of_z w64 c.args.last c.ranges.last) c.in_ok-list.ensures c.join_from.ensures

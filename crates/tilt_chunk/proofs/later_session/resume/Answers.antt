@@ -105,7 +105,8 @@ returns-clause-next c =
           let range = subst IsInRange w.in-Upto.is c.requires.range in
           let upto_is = to_z-of_z w64 upto (time_fits upto range.0 range.1) in
           w.next-is
-          ∙ ap Some (w.new-in-Upto.ensures ∙ later-left c.args.checkpoint c.args.accepted.now.core.now frame c.args.cut (to_z w64 (of_z w64 c.cut.result)) (to_z w64 (of_z w64 c.decided_by-last.result))
+          ∙ ap Some (w.new-in-Upto.ensures ∙ later-left c.args.checkpoint c.args.accepted.now.core.now frame c.args.cut
+          (to_z w64 (of_z w64 c.cut.result)) (to_z w64 (of_z w64 c.decided_by-last.result))
           c.args.rows.items c.in_ok-handed.handed.rows.items c.in_ok-handed.handed.rows.items c.in_ok-handed.handed.ends.items series c.open_start.result c.requires.core
           c.new.ensures.frame old_is last_is c.open_start.ensures.value c.into_parts-query.ensures.series ends known refl
           upto _ (first_kept frame upto) _ c.into_parts-query.result.0 c.in_ok-closed.closed.open_start c.in_ok-kept.kept.items w.in-Upto.is

@@ -57,7 +57,8 @@ body_cell-returns-in_ok-members-in-Reduce t c =
     let reducer = c.in-Reduce.reducer in
     let lo : to_z w128 (of_z w128 (to_z w128 (of_z w128 c.args.tick) +ℤ to_z w128 (of_z w128 c.from-in-Reduce.result))) ≡ c.args.tick +ℤ c.in-Reduce.from = omega (arith, ints) in
     let hi : to_z w128 (of_z w128 (to_z w128 (of_z w128 c.args.tick) +ℤ to_z w128 (of_z w128 c.from-in-Reduce-2.result))) ≡ c.args.tick +ℤ c.in-Reduce.to = omega (arith, ints) in
-    let members : c.deref.result.now ≡ numbers (met x (c.args.tick +ℤ c.in-Reduce.from) (c.args.tick +ℤ c.in-Reduce.to)) = c.deref.ensures.value ∙ (rw (lo, hi) at c.in_ok-members-in-Reduce.ensures) in
+    let members : c.deref.result.now ≡ numbers (met x (c.args.tick +ℤ c.in-Reduce.from) (c.args.tick +ℤ c.in-Reduce.to)) = c.deref.ensures.value
+        ∙ (rw (lo, hi) at c.in_ok-members-in-Reduce.ensures) in
     rw c.in-Reduce.is (c.reduce.ensures ∙ ap (λ (ns : List ℤ). reduce reducer ns) members)
 
 pub numbers_met-loop-before-preserved : goal.numbers_met-loop-before-preserved
@@ -73,7 +74,10 @@ numbers_met-loop-before-preserved t c =
     record {
       reached = omega (arith, ints);
       so_far = elim c.if-begins_behind.branch [
-        | numbers_met-then-begins_behind+in_ok-cell+in_ok-push_number w ↦ met-more x lo before hi tick within is c.loop-before.members.items (numbers (met x lo hi)) reached c.loop-before.invariant.so_far c.if-begins_behind.members.items w.in_ok-cell.cell (ap (λ (v : Vec ℤ Global). v.items) w.members-is ∙ w.in_ok-push_number.ensures) w.in_ok-cell.ensures (sym c.begins_behind.ensures ∙ w.if-begins_behind.true)
-        | numbers_met-else-begins_behind w ↦ rw w.members-is (met-same x lo before hi tick within is c.loop-before.members.items (numbers (met x lo hi)) reached c.loop-before.invariant.so_far (sym c.begins_behind.ensures ∙ w.if-begins_behind.false))
+        | numbers_met-then-begins_behind+in_ok-cell+in_ok-push_number w ↦ met-more x lo before hi tick within is c.loop-before.members.items (numbers (met x lo hi)) reached
+            c.loop-before.invariant.so_far c.if-begins_behind.members.items w.in_ok-cell.cell
+            (ap (λ (v : Vec ℤ Global). v.items) w.members-is ∙ w.in_ok-push_number.ensures) w.in_ok-cell.ensures (sym c.begins_behind.ensures ∙ w.if-begins_behind.true)
+        | numbers_met-else-begins_behind w ↦ rw w.members-is (met-same x lo before hi tick within is c.loop-before.members.items
+            (numbers (met x lo hi)) reached c.loop-before.invariant.so_far (sym c.begins_behind.ensures ∙ w.if-begins_behind.false))
       ];
     }

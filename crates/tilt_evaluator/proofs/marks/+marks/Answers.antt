@@ -47,7 +47,8 @@ source_mark-returns t c =
 pub body_mark-returns-else-source_mark : goal.body_mark-returns-else-source_mark
 body_mark-returns-else-source_mark t c =
     let x = meaning c.args.inputs.now c.args.defs.now c.in-Reduce.source in
-    let first : to_z w128 (of_z w128 (to_z w128 (of_z w128 (to_z w128 (of_z w128 c.args.tick) +ℤ to_z w128 (of_z w128 c.from-else-source_mark.result))) +ℤ pos 1)) ≡ c.args.tick +ℤ c.in-Reduce.from +ℤ pos 1 = omega (arith, ints) in
+    let first : to_z w128 (of_z w128 (to_z w128 (of_z w128 (to_z w128 (of_z w128 c.args.tick) +ℤ to_z w128 (of_z w128 c.from-else-source_mark.result))) +ℤ pos 1)) ≡
+        c.args.tick +ℤ c.in-Reduce.from +ℤ pos 1 = omega (arith, ints) in
     let last : to_z w128 (of_z w128 (to_z w128 (of_z w128 c.args.tick) +ℤ to_z w128 (of_z w128 c.from-in-Reduce.result))) ≡ c.args.tick +ℤ c.in-Reduce.to = omega (arith, ints) in
     let none : x.mark (c.args.tick +ℤ c.in-Reduce.to) ≡ false = sym (ap (λ (at : ℤ). x.mark at) last) ∙ sym c.source_mark-in-Reduce.ensures ∙ c.if-source_mark.false in
     rw (c.in-Reduce.is, none) (c.source_mark-else-source_mark.ensures ∙ ap (λ (at : ℤ). x.mark at) first)

@@ -13,5 +13,6 @@ returns c =
     let counts = rw (c.deref-2.ensures.value, c.in_ok-fused.ensures.plan, c.deref-3.ensures.value, c.in_ok-plain.ensures.plan) at c.in_ok-put_loops.ensures in
     record {
       text = counts ∙ ap (λ (t : List ℕ). t ++ loops_line (length (plan_of core true)) (length (plan_of core false))) (c.in_ok-put.ensures ∙ ap (λ (t : List ℕ). t ++ codes "emit loop 0 0\n") (lets
-          ∙ ap (λ (t : List ℕ). t ++ let_lines (plan_of core true) margins.needs (length core.inputs) 0 core.names) (inputs ∙ ap (λ (t : List ℕ). t ++ input_lines margins.needs 0 core.inputs) reach)));
+          ∙ ap (λ (t : List ℕ). t ++ let_lines (plan_of core true) margins.needs (length core.inputs) 0 core.names)
+          (inputs ∙ ap (λ (t : List ℕ). t ++ input_lines margins.needs 0 core.inputs) reach)));
     }

@@ -6,4 +6,5 @@ use Rattle.tilt_explain.proofs.explaining.put_lets.Given as goal
 
 abbrev pub invariant-loop-place : goal.invariant-loop-place
 invariant-loop-place l =
-    l.text.items ++ let_lines l.loops (map need_of l.needs) (length l.core.inputs) l.place (drop l.place l.core.names) ≡ l.fn.text.items ++ let_lines l.loops (map need_of l.needs) (length l.core.inputs) 0 l.core.names
+    l.text.items ++ let_lines l.loops (map need_of l.needs) (length l.core.inputs) l.place (drop l.place l.core.names) ≡ l.fn.text.items
+    ++ let_lines l.loops (map need_of l.needs) (length l.core.inputs) 0 l.core.names

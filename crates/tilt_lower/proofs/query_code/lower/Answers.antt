@@ -15,13 +15,15 @@ this c = record { def = c.planned.inside.def; body = fused_tree_of c.planned.ins
 
 pub stretch-span-requires-clause-used : goal.stretch-span-requires-clause-used
 stretch-span-requires-clause-used c =
-    let is = planned-at c.args.core.now c.args.margins.now c.args.lo c.args.hi c.inputs-inputs.ensures.accepted c.requires.margins c.args.plan.now.loops.items c.requires.plan c.deref-planned-items.result.now c.loop-planned.planned-index c.planned-item.result (this c)
+    let is = planned-at c.args.core.now c.args.margins.now c.args.lo c.args.hi c.inputs-inputs.ensures.accepted c.requires.margins
+        c.args.plan.now.loops.items c.requires.plan c.deref-planned-items.result.now c.loop-planned.planned-index c.planned-item.result (this c)
     c.deref-planned-items.ensures.value c.loop-planned-test.true c.planned-item.is c.planned.view_is in
     used-at c.args.core.now c.args.margins.now c.planned.inside.def (margins-needs c.args.core.now c.args.margins.now c.requires.margins) is.is_used
 
 pub stretch-span-requires-clause-numbered : goal.stretch-span-requires-clause-numbered
 stretch-span-requires-clause-numbered c =
-    (planned-at c.args.core.now c.args.margins.now c.args.lo c.args.hi c.inputs-inputs.ensures.accepted c.requires.margins c.args.plan.now.loops.items c.requires.plan c.deref-planned-items.result.now c.loop-planned.planned-index c.planned-item.result (this c)
+    (planned-at c.args.core.now c.args.margins.now c.args.lo c.args.hi c.inputs-inputs.ensures.accepted c.requires.margins
+    c.args.plan.now.loops.items c.requires.plan c.deref-planned-items.result.now c.loop-planned.planned-index c.planned-item.result (this c)
     c.deref-planned-items.ensures.value c.loop-planned-test.true c.planned-item.is c.planned.view_is).numbered
 
 pub stretch-span-requires-clause-low : goal.stretch-span-requires-clause-low
@@ -35,19 +37,22 @@ stretch-span-requires-clause-high c =
 pub bounds-defs-planned-inside : goal.bounds-defs-planned-inside
 bounds-defs-planned-inside c =
     rw c.defs.ensures.defs
-    (planned-at c.args.core.now c.args.margins.now c.args.lo c.args.hi c.inputs-inputs.ensures.accepted c.requires.margins c.args.plan.now.loops.items c.requires.plan c.deref-planned-items.result.now c.loop-planned.planned-index c.planned-item.result
+    (planned-at c.args.core.now c.args.margins.now c.args.lo c.args.hi c.inputs-inputs.ensures.accepted c.requires.margins
+    c.args.plan.now.loops.items c.requires.plan c.deref-planned-items.result.now c.loop-planned.planned-index c.planned-item.result
     (record { def = c.planned.inside.def; body = fused_tree_of c.planned.inside.body })
     c.deref-planned-items.ensures.value c.loop-planned-test.true c.planned-item.is c.planned.view_is).numbered
 
 pub loop_on-requires-clause-small : goal.loop_on-requires-clause-small
 loop_on-requires-clause-small c =
-    (planned-at c.args.core.now c.args.margins.now c.args.lo c.args.hi c.inputs-inputs.ensures.accepted c.requires.margins c.args.plan.now.loops.items c.requires.plan c.deref-planned-items.result.now c.loop-planned.planned-index c.planned-item.result
+    (planned-at c.args.core.now c.args.margins.now c.args.lo c.args.hi c.inputs-inputs.ensures.accepted c.requires.margins
+    c.args.plan.now.loops.items c.requires.plan c.deref-planned-items.result.now c.loop-planned.planned-index c.planned-item.result
     (record { def = c.planned.inside.def; body = fused_tree_of c.planned.inside.body })
     c.deref-planned-items.ensures.value c.loop-planned-test.true c.planned-item.is c.planned.view_is).small
 
 pub loop_on-requires-clause-maps : goal.loop_on-requires-clause-maps
 loop_on-requires-clause-maps c =
-    (planned-at c.args.core.now c.args.margins.now c.args.lo c.args.hi c.inputs-inputs.ensures.accepted c.requires.margins c.args.plan.now.loops.items c.requires.plan c.deref-planned-items.result.now c.loop-planned.planned-index c.planned-item.result
+    (planned-at c.args.core.now c.args.margins.now c.args.lo c.args.hi c.inputs-inputs.ensures.accepted c.requires.margins
+    c.args.plan.now.loops.items c.requires.plan c.deref-planned-items.result.now c.loop-planned.planned-index c.planned-item.result
     (record { def = c.planned.inside.def; body = fused_tree_of c.planned.inside.body })
     c.deref-planned-items.ensures.value c.loop-planned-test.true c.planned-item.is c.planned.view_is).maps
 

@@ -7,4 +7,5 @@ use Rattle.tilt_stream.proofs.snap.last_end.Goals as goal
 pub returns : goal.returns
 returns c =
     let fits : SFits w64 c.last-2.inside.end = search rules in
-    ap Some (to_z-of_z w64 c.last-2.inside.end fits) ∙ ap (λ (s : Snapshot). Some s.end) c.last-2.view_is ∙ ap (option_map (λ (s : Snapshot). s.end)) c.in_ok-last.ensures.value ∙ last_end-get c.args.snaps.now
+    ap Some (to_z-of_z w64 c.last-2.inside.end fits) ∙ ap (λ (s : Snapshot). Some s.end) c.last-2.view_is
+    ∙ ap (option_map (λ (s : Snapshot). s.end)) c.in_ok-last.ensures.value ∙ last_end-get c.args.snaps.now

@@ -27,5 +27,6 @@ pub returns : goal.returns
 returns c =
     let rows = c.as_slice-row-items.result.now in
     record {
-      stream = rw (filled-all c.loop-row.list (filled_behind None c.args.rows.now) c.loop-row.row-index rows c.loop-row-test.false c.loop-row.invariant.filled) (stream-filled c.args.rows.now c.as_slice-row-items.ensures.in_order);
+      stream = rw (filled-all c.loop-row.list (filled_behind None c.args.rows.now) c.loop-row.row-index rows c.loop-row-test.false c.loop-row.invariant.filled)
+          (stream-filled c.args.rows.now c.as_slice-row-items.ensures.in_order);
     }

@@ -6,7 +6,8 @@ use Rattle.tilt_stream.proofs.snap_list.SnapList.value_at.Goals as goal
 
 pub returns-then-snap-tick : goal.returns-then-snap-tick
 returns-then-snap-tick c =
-    rw (← c.snap.view_is) at (cell-found (neg_ℤ WIDE) WIDE c.args.self.now c.args.tick c.in_ok-snap.snap c.first_left.ensures.no_gaps.in_order (search rules) (rw (← c.snap.view_is) (grind (arith, ints))))
+    rw (← c.snap.view_is) at (cell-found (neg_ℤ WIDE) WIDE c.args.self.now c.args.tick c.in_ok-snap.snap c.first_left.ensures.no_gaps.in_order
+    (search rules) (rw (← c.snap.view_is) (grind (arith, ints))))
 
 pub returns-else-snap-tick : goal.returns-else-snap-tick
 returns-else-snap-tick c =

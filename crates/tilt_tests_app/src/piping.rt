@@ -1,6 +1,6 @@
 // What `pipe` prints.
 
-use super::{Case, File, assert_cases, assert_end, end_of};
+use crate::call::{Case, File, assert_cases, assert_end, end_of};
 use std::test::Fail;
 
 const QUERY: &[u8] = b"input x; let y = x[t-2]; emit sum(y[t-3:t]) over (0, 5];";
@@ -14,9 +14,10 @@ const FILES: &[File<'_>] = &[("q", QUERY), ("s", SERIES)];
 // With fusion there is one loop. The ring of the last loop holds nothing, since no loop reads it.
 const FUSED: &[u8] = b"start,end,value\n2,3,4\n3,4,10\n4,5,10\nrings 0\n";
 
-// Without it y is a loop, with the snapshots (-2, 2], (2, 3] and (3, 5]. Those of the output end at 2, 3, 4 and 5. The sums at 1, 3, 4 and 5
-// read y up to 1, 3, 4 and 5, so that 1, 2, 3 and 3 snapshots of y are made when 1, 2, 3 and 4 of the output are given out. The next sums
-// read from the ticks 1, 2 and 3 on, and then none is left: the ring holds 1, 2 and 2 snapshots, and none at the end.
+// Without it y is a loop, with the snapshots (-2, 2], (2, 3] and (3, 5]. Those of the output end at 2, 3, 4 and 5. The sums at
+// 1, 3, 4 and 5 read y up to 1, 3, 4 and 5, so that 1, 2, 3 and 3 snapshots of y are made when 1, 2, 3 and 4 of the output are
+// given out. The next sums read from the ticks 1, 2 and 3 on, and then none is left: the ring holds 1, 2 and 2 snapshots, and
+// none at the end.
 const PLAIN: &[u8] = b"start,end,value\n2,3,4\n3,4,10\n4,5,10\nrings 2\n";
 
 const NAMES: &[u8] = b"tilt: 2 input names: x\n";
@@ -37,9 +38,9 @@ fn a_query_is_piped(rt: HostRuntime) -> Result<(), Fail> {
     assert_cases(&rt, rt.alloc(), &cases)
 }
 
-// The numbers of calls of the output that fail, and the front that is put then. The first snapshot is null, and has no line. The calls are
-// the header, three lines, `rings `, the number, LF, and the flush.
-const FRONTS: &[(u64, &[u8])] = &[
+// The numbers of calls of the output that fail, and the prefix that is put then. The first snapshot is null, and has no line.
+// The calls are the header, three lines, `rings `, the number, LF, and the flush.
+const PREFIXES: &[(u64, &[u8])] = &[
     (1, b"start,en"),
     (3, b"start,end,value\n2,3,4\n3,4"),
     (5, b"start,end,value\n2,3,4\n3,4,10\n4,5,10\nrin"),
@@ -49,9 +50,9 @@ const FRONTS: &[(u64, &[u8])] = &[
 
 #[test]
 fn a_put_fails_in_mid_stream(rt: HostRuntime) -> Result<(), Fail> {
-    for (i, (put, front)) in FRONTS.iter().enumerate() {
+    for (i, (put, prefix)) in PREFIXES.iter().enumerate() {
         let end = end_of(rt.alloc(), "pipe\nq\n--plain\nx=s", FILES, (0, *put, 0))?;
-        assert_end(&rt, &end, 4, front, b"tilt: 5 write fault\n", i);
+        assert_end(&rt, &end, 4, prefix, b"tilt: 5 write fault\n", i);
     }
     Ok(())
 }

@@ -1,5 +1,5 @@
 // Words, and the command that they are.
-use super::{Case, File, QUERY, SERIES, assert_cases};
+use crate::call::{Case, File, QUERY, SERIES, assert_cases};
 use std::test::Fail;
 
 const FILES: &[File<'_>] = &[("q", QUERY), ("s", SERIES)];

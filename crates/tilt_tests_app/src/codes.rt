@@ -1,5 +1,5 @@
 // Listings of code, what is told of a plan, and runs of listings.
-use super::{NONE, assert_end, end_of};
+use crate::call::{NONE, assert_end, end_of};
 use std::test::Fail;
 
 // Words, a query, and what is printed of its code.
@@ -28,13 +28,15 @@ const CODES: &[(&str, &str, &str)] = &[
     (
         "compile\nq\n--plain",
         "input x; let u = x; let y = x + 1; emit if y > 2 then -y else x[t-1] over (0, 5];",
-        "tilt 1\ninput x\nloop 0 5 1 0\nr0 = port b0 0\nr1 = const 1\nr2 = add r0 r1\nend\nloop 0 5 1 0\nr0 = port b1 0\nr1 = const 2\nr2 = gt r0 r1\nr3 = port b1 0\nr4 = neg r3\nr5 = port b0 -1\nr6 = if r2 r4 r5\nend\n",
+        "tilt 1\ninput x\nloop 0 5 1 0\nr0 = port b0 0\nr1 = const 1\nr2 = add r0 r1\nend\n\
+         loop 0 5 1 0\nr0 = port b1 0\nr1 = const 2\nr2 = gt r0 r1\nr3 = port b1 0\nr4 = neg r3\nr5 = port b0 -1\nr6 = if r2 r4 r5\nend\n",
     ),
     // A grid is looked ahead for, and a definition on one isn't merged.
     (
         "compile\nq\n--plain",
         "input x; let y = x[t+1]; let a = avg(y[t-10:t]) every 10; emit a over (0, 30];",
-        "tilt 1\ninput x\nloop -9 39 1 0\nr0 = port b0 1\nend\nloop 0 30 10 0\nr0 = win avg b1 -10 0\nend\nloop 0 30 1 0\nr0 = port b2 0\nend\n",
+        "tilt 1\ninput x\nloop -9 39 1 0\nr0 = port b0 1\nend\n\
+         loop 0 30 10 0\nr0 = win avg b1 -10 0\nend\nloop 0 30 1 0\nr0 = port b2 0\nend\n",
     ),
     (
         "compile\nq",

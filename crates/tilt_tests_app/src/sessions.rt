@@ -1,9 +1,9 @@
-// Runs that are cut, and sessions behind a checkpoint.
-use super::{Case, File, assert_cases, shelf_of, sink_of, words_of};
-use crate::command::tilt;
+// Runs that are cut, and sessions after a checkpoint.
+use crate::call::{Case, File, assert_cases, shelf_of, sink_of, words_of};
 use std::alloc::Global;
 use std::process::Abort;
 use std::test::Fail;
+use tilt_app::tilt;
 
 const COUNT: &[u8] = b"input x; emit count(x[t-3:t]) over (0, 10];";
 

@@ -1,5 +1,5 @@
 // What is printed of queries and series that are read.
-use super::{Case, File, QUERY, SERIES, Text, assert_cases, assert_texts};
+use crate::call::{Case, File, QUERY, SERIES, Text, assert_cases, assert_texts};
 use std::test::Fail;
 
 const TEXTS: &[Text<'_>] = &[

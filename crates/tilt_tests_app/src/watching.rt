@@ -1,7 +1,7 @@
 // Watchers of a run, of the kinds that there are and of a kind of one's own.
 ghost use Rattle.std.specs.Prelude.{◌≡◌};
 
-use super::{Case, Failing, File, QUERY, SERIES, assert_cases, assert_end, end_beside};
+use crate::call::{Case, Failing, File, QUERY, SERIES, assert_cases, assert_end, end_beside};
 use std::alloc::Global;
 use std::process::Abort;
 use std::test::Fail;
@@ -13,7 +13,7 @@ const FILES: &[File<'_>] = &[("q", QUERY), ("s", SERIES), ("none", b"start,end,v
 // What three watchers of the three kinds begin with, and what they have of the series.
 const BEFORE: &[(i64, i64)] = &[(0, 0), (i64::MAX, i64::MIN), (i64::MAX, i64::MIN)];
 
-const BEHIND: &[(i64, i64)] = &[(2, 16), (7, 9), (0, 8)];
+const AFTER: &[(i64, i64)] = &[(2, 16), (7, 9), (0, 8)];
 
 const FAULT: &[u8] = b"tilt: 5 write fault\n";
 
@@ -27,7 +27,7 @@ const WATCHED: &[Watched<'_>] = &[
         0,
         b"start,end,value\n0,5,7\n6,8,9\nfigures 2 16\nfigures 7 9\nfigures 0 8\n",
         b"",
-        BEHIND,
+        AFTER,
     ),
     (
         "watch\nq\nx=s\n--plain",
@@ -35,13 +35,14 @@ const WATCHED: &[Watched<'_>] = &[
         0,
         b"start,end,value\n0,5,7\n6,8,9\nfigures 2 16\nfigures 7 9\nfigures 0 8\n",
         b"",
-        BEHIND,
+        AFTER,
     ),
     (
         "watch\nq\nx=none",
         (0, 0, 0),
         0,
-        b"start,end,value\nfigures 0 0\nfigures 9223372036854775807 -9223372036854775808\nfigures 9223372036854775807 -9223372036854775808\n",
+        b"start,end,value\nfigures 0 0\nfigures 9223372036854775807 -9223372036854775808\n\
+          figures 9223372036854775807 -9223372036854775808\n",
         b"",
         BEFORE,
     ),
@@ -87,7 +88,7 @@ const WATCHED: &[Watched<'_>] = &[
         4,
         b"start,end,value\n0,5,7\n6,8,9\nfigure",
         FAULT,
-        BEHIND,
+        AFTER,
     ),
     (
         "watch\nq\nx=s",
@@ -95,7 +96,7 @@ const WATCHED: &[Watched<'_>] = &[
         4,
         b"start,end,value\n0,5,7\n6,8,9\nfigures 2 16\nfigure",
         FAULT,
-        BEHIND,
+        AFTER,
     ),
     (
         "watch\nq\nx=s",
@@ -103,7 +104,7 @@ const WATCHED: &[Watched<'_>] = &[
         4,
         b"start,end,value\n0,5,7\n6,8,9\nfigures 2 16\nfigures 7 9\nfigure",
         FAULT,
-        BEHIND,
+        AFTER,
     ),
     (
         "watch\nq\nx=s",
@@ -111,7 +112,7 @@ const WATCHED: &[Watched<'_>] = &[
         4,
         b"start,end,value\n0,5,7\n6,8,9\nfigures 2 16\nfigures 7 9\nfigures 0 8\n",
         FAULT,
-        BEHIND,
+        AFTER,
     ),
 ];
 

@@ -1,7 +1,7 @@
 // Queries and series that are refused, and the line that tells why.
-use super::{Case, File, QUERY, SERIES, TWO, Text, assert_cases, assert_texts};
-use std::alloc::Global;
+use crate::call::{Case, File, QUERY, SERIES, TWO, Text, assert_cases, assert_texts};
 use std::test::Fail;
+use tilt_testing::repeated;
 
 const REFUSED: &[Text<'_>] = &[
     (b"", SERIES, b"", b"tilt: 25 statement 1: place of emit\n"),
@@ -241,7 +241,7 @@ fn what_is_refused_is_told(rt: HostRuntime) -> Result<(), Fail> {
     assert_texts(&rt, rt.alloc(), REFUSED)
 }
 
-// A front, a piece that stands so often behind it, what stands behind that, and the line behind its number.
+// How a text starts, a piece that stands so often after it, how it ends, and what is told of it.
 const LONG: &[(&str, &str, usize, &str, &str)] = &[
     (
         "",
@@ -261,26 +261,10 @@ const LONG: &[(&str, &str, usize, &str, &str)] = &[
     ),
 ];
 
-// A text of so many copies of a piece behind a front, and an end behind them.
-fn repeated(
-    alloc: Global,
-    front: &str,
-    piece: &str,
-    count: usize,
-    end: &str,
-) -> Result<String, Fail> {
-    let mut text = String::from_str(alloc, front)?;
-    for _ in 0..count {
-        text.push_str(piece)?;
-    }
-    text.push_str(end)?;
-    Ok(text)
-}
-
 #[test]
 fn queries_past_the_limits_are_refused(rt: HostRuntime) -> Result<(), Fail> {
-    for (front, piece, count, end, told) in LONG {
-        let query = repeated(rt.alloc(), front, piece, *count, end)?;
+    for (start, piece, count, end, told) in LONG {
+        let query = repeated(rt.alloc(), start, piece, *count, end)?;
         let line = format!(in rt.alloc(); "tilt: {told}\n")?;
         let case = [(
             query.as_str().as_bytes(),

@@ -1,5 +1,5 @@
 // A made run, with a seed and a count.
-use super::{Case, assert_cases};
+use crate::call::{Case, assert_cases};
 use std::test::Fail;
 
 const MADE: &[Case<'_>] = &[

@@ -1,11 +1,13 @@
 // Reads, puts and the flush that fail.
 ghost use Rattle.std.specs.Prelude.{[], ⊤};
 
-use super::{Failing, File, QUERY, SERIES, WORDS, assert_end, end_of, shelf_of, sink_of, words_of};
-use crate::command::tilt;
+use crate::call::{
+    Failing, File, QUERY, SERIES, WORDS, assert_end, end_of, shelf_of, sink_of, words_of,
+};
 use std::alloc::Global;
 use std::process::Abort;
 use std::test::Fail;
+use tilt_app::tilt;
 use tilt_outside::{Failed, MemShelf, Shelf};
 
 // Words, files, what fails, and the status, the output and the line that are wanted.
@@ -62,7 +64,7 @@ const FAULTS: &[Fault<'_>] = &[
     (YX, TWO, (5, 0, 0), 3, b"", b"tilt: 4 read fault: o\n"),
     (YX, TWO, (6, 0, 0), 3, b"", b"tilt: 4 read fault: o\n"),
     (YX, TWO, (7, 0, 0), 0, SERIES, b""),
-    // A failing put leaves a front. The sink takes half of the piece at which it fails. Behind the three puts comes the flush.
+    // A failing put leaves a prefix. The sink takes half of the piece at which it fails. After the three puts comes the flush.
     (WORDS, FILES, (0, 1, 0), 4, b"start,en", FAULT),
     (WORDS, FILES, (0, 2, 0), 4, b"start,end,value\n0,5", FAULT),
     (
@@ -95,7 +97,7 @@ const LINES: &[(&str, u64, u8, &[u8])] = &[
     ("run\nq\nx=q", 6, 1, b"tilt: 10 series x: bad header\n"),
 ];
 
-// Ends the test unless the status is the same where the put of that number of the line fails, and a front of it is told.
+// Ends the test unless the status is the same where the put of that number of the line fails, and a prefix of it is told.
 fn assert_line_cut(
     rt: &impl Abort,
     alloc: Global,

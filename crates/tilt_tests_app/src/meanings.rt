@@ -1,9 +1,9 @@
 // What queries mean, on small series that were worked out by hand.
-use super::{End, NONE, assert_end, end_of};
+use crate::call::{End, NONE, assert_end, end_of};
 use std::alloc::Global;
 use std::test::Fail;
 
-// Each with the rows of x, those of y where there is one, and the lines behind the header of the output.
+// Each with the rows of x, those of y where there is one, and the lines after the header of the output.
 const MEANINGS: &[(&str, &str, &str, &str)] = &[
     // Where a series is null, and branches that aren't chosen.
     (
@@ -31,7 +31,7 @@ const MEANINGS: &[(&str, &str, &str, &str)] = &[
         "0,1,2 1,2,2 2,3,-1 3,4,0 4,5,-2",
         "0,1,3 1,2,-3 4,5,3",
     ),
-    // Windows behind, ahead, wholly behind and wholly ahead.
+    // Windows that look back, ahead, wholly back and wholly ahead.
     (
         "input x; emit count(x[t-3:t]) over (0, 10];",
         "0,5,7 5,8,7",
@@ -94,7 +94,7 @@ const MEANINGS: &[(&str, &str, &str, &str)] = &[
         "0,18,25 18,40,26",
         "10,18,5 18,20,4 20,30,1",
     ),
-    // Spans of definitions, and an input behind a definition.
+    // Spans of definitions, and an input after a definition.
     (
         "input x; let y = x over (2, 4]; emit ifnull(y, 0) over (0, 6];",
         "0,6,9",
@@ -116,7 +116,8 @@ const MEANINGS: &[(&str, &str, &str, &str)] = &[
     ),
     // Ten shifts that become one.
     (
-        "input x; let a = x[t-1]; let b = a[t-1]; let c = b[t-1]; let d = c[t-1]; let e = d[t-1]; let f = e[t-1]; let g = f[t-1]; let h = g[t-1]; let i = h[t-1]; emit i[t-1] over (0, 15];",
+        "input x; let a = x[t-1]; let b = a[t-1]; let c = b[t-1]; let d = c[t-1]; let e = d[t-1]; \
+         let f = e[t-1]; let g = f[t-1]; let h = g[t-1]; let i = h[t-1]; emit i[t-1] over (0, 15];",
         "0,3,7",
         "",
         "10,13,7",
