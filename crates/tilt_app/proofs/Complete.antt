@@ -22,7 +22,8 @@ module _ (is_outcome : Outcome → Type 0) (once : (o p : Outcome) → is_outcom
   pub printed_or_refused : (text : List ℕ) (save : Option Save) (report : Report) → is_outcome (outcome_of text save) → is_outcome (refused report) → ⊥
   printed_or_refused text save report outcome other = text_is_no_refusal text save report (once (outcome_of text save) (refused report) outcome other)
 
-  module _ (has_turn : List ℕ → Type 0) (shelf_tells : Type 0) (reads_before reads_after : ℕ) (held holds : List ℕ → List ℕ) (saves_before saves_after : ℕ) (out_tells : Type 0) (old new : List ℕ) (puts_before puts_after : ℕ) (told : shelf_tells)
+  module _ (has_turn : List ℕ → Type 0) (shelf_tells : Type 0) (reads_before reads_after : ℕ) (held holds : List ℕ → List ℕ) (saves_before saves_after : ℕ)
+      (out_tells : Type 0) (old new : List ℕ) (puts_before puts_after : ℕ) (told : shelf_tells)
       (no_read_fault : Rose reads_before reads_after → ⊥) where
     -- a text that isn't printed, or isn't saved, wants memory
     pub only_memory : (report : Report) (text : List ℕ) (save : Option Save)
@@ -39,7 +40,8 @@ module _ (is_outcome : Outcome → Type 0) (once : (o p : Outcome) → is_outcom
     same_refusal report other is outcome = inl (same_report report other (once (refused report) (refused other) is outcome))
 
     -- a refusal is reported, or it wants memory
-    pub the_refusal : (report other : Report) → IsCause is_outcome has_turn shelf_tells reads_before reads_after held holds saves_before saves_after out_tells old new puts_before puts_after report → is_outcome (refused other)
+    pub the_refusal : (report other : Report) → IsCause is_outcome has_turn shelf_tells reads_before reads_after held holds saves_before saves_after out_tells
+        old new puts_before puts_after report → is_outcome (refused other)
         → (report ≡ other) ⊎ (report ≡ out_of_memory)
     the_refusal usage other cause outcome = same_refusal usage other cause outcome
     the_refusal (refusal why) other cause outcome = same_refusal (refusal why) other (cause told) outcome
@@ -50,7 +52,8 @@ module _ (is_outcome : Outcome → Type 0) (once : (o p : Outcome) → is_outcom
     the_refusal out_of_memory other cause outcome = inr refl
 
 -- a cause for a command is one for the words that are it
-pub wider_cause : (is_outcome is_outcome' : Outcome → Type 0) (has_turn has_turn' : List ℕ → Type 0) (shelf_tells : Type 0) (reads_before reads_after : ℕ) (held holds : List ℕ → List ℕ) (saves_before saves_after : ℕ) (out_tells : Type 0) (old new : List ℕ) (puts_before puts_after : ℕ)
+pub wider_cause : (is_outcome is_outcome' : Outcome → Type 0) (has_turn has_turn' : List ℕ → Type 0) (shelf_tells : Type 0) (reads_before reads_after : ℕ)
+    (held holds : List ℕ → List ℕ) (saves_before saves_after : ℕ) (out_tells : Type 0) (old new : List ℕ) (puts_before puts_after : ℕ)
     → ((o : Outcome) → is_outcome o → is_outcome' o) → ((name : List ℕ) → has_turn name → has_turn' name) → (report : Report)
     → IsCause is_outcome has_turn shelf_tells reads_before reads_after held holds saves_before saves_after out_tells old new puts_before puts_after report
     → IsCause is_outcome' has_turn' shelf_tells reads_before reads_after held holds saves_before saves_after out_tells old new puts_before puts_after report
@@ -85,8 +88,10 @@ status_of_usage (save_fault name) is = absurd (omega arith)
 status_of_usage out_of_memory is = absurd (omega arith)
 
 -- usage is reported only where it is the outcome
-pub cause_of_usage : (is_outcome : Outcome → Type 0) (has_turn : List ℕ → Type 0) (shelf_tells : Type 0) (reads_before reads_after : ℕ) (held holds : List ℕ → List ℕ) (saves_before saves_after : ℕ) (out_tells : Type 0) (old new : List ℕ) (puts_before puts_after : ℕ)
-    → (report : Report) → report ≡ usage → IsCause is_outcome has_turn shelf_tells reads_before reads_after held holds saves_before saves_after out_tells old new puts_before puts_after report → is_outcome (refused usage)
+pub cause_of_usage : (is_outcome : Outcome → Type 0) (has_turn : List ℕ → Type 0) (shelf_tells : Type 0) (reads_before reads_after : ℕ)
+    (held holds : List ℕ → List ℕ) (saves_before saves_after : ℕ) (out_tells : Type 0) (old new : List ℕ) (puts_before puts_after : ℕ)
+    → (report : Report) → report ≡ usage → IsCause is_outcome has_turn shelf_tells reads_before reads_after held holds saves_before saves_after out_tells old
+    new puts_before puts_after report → is_outcome (refused usage)
 cause_of_usage is_outcome has_turn st rb ra he ho sb sa ot old new pb pa usage is cause = cause
 cause_of_usage is_outcome has_turn st rb ra he ho sb sa ot old new pb pa (refusal why) is cause = absurd (cc is)
 cause_of_usage is_outcome has_turn st rb ra he ho sb sa ot old new pb pa (read_fault name) is cause = absurd (cc is)
@@ -95,7 +100,8 @@ cause_of_usage is_outcome has_turn st rb ra he ho sb sa ot old new pb pa (save_f
 cause_of_usage is_outcome has_turn st rb ra he ho sb sa ot old new pb pa out_of_memory is cause = absurd (cc is)
 
 -- words that give no command are reported as such, or want memory
-pub cause_of_words : (words : List (List ℕ)) (files : List ℕ → List ℕ) (watchers : List Watch) (has_turn : List ℕ → Type 0) (shelf_tells : Type 0) (reads_before reads_after : ℕ) (held holds : List ℕ → List ℕ) (saves_before saves_after : ℕ) (out_tells : Type 0) (old new : List ℕ)
+pub cause_of_words : (words : List (List ℕ)) (files : List ℕ → List ℕ) (watchers : List Watch) (has_turn : List ℕ → Type 0) (shelf_tells : Type 0)
+    (reads_before reads_after : ℕ) (held holds : List ℕ → List ℕ) (saves_before saves_after : ℕ) (out_tells : Type 0) (old new : List ℕ)
     (puts_before puts_after : ℕ) (fault : WordsFault) → new ≡ old → (fault ≡ variant.Usage → (command : CommandValue) → ¬ (IsCommand words command))
     → IsCause (IsOutcome words files watchers) has_turn shelf_tells reads_before reads_after held holds saves_before saves_after out_tells old new puts_before puts_after (report_of_words fault)
 cause_of_words words files watchers has_turn st rb ra he ho sb sa ot old new pb pa variant.Usage same none = no_command (none refl)

@@ -25,7 +25,8 @@ on_ok_so (Ok u) x = x
 on_ok_so (Err e) x = tt
 
 -- nothing is saved
-pub made_none : (is_outcome : Outcome → Type 0) (text name : List ℕ) (bytes : Option (Vec ℕ Global)) → bytes ≡ None → is_outcome (outcome_of text (save_of name bytes)) → is_outcome (outcome_of text None)
+pub made_none : (is_outcome : Outcome → Type 0) (text name : List ℕ) (bytes : Option (Vec ℕ Global)) → bytes ≡ None
+    → is_outcome (outcome_of text (save_of name bytes)) → is_outcome (outcome_of text None)
 made_none is_outcome text name bytes is made = subst (λ (b : Option (Vec ℕ Global)). is_outcome (outcome_of text (save_of name b))) is made
 
 -- these bytes are saved
@@ -41,7 +42,8 @@ unsaved_cause is_outcome has_turn tells rb ra held holds sb sa out_tells old new
     rw is (rose, (text, bytes, record { outcome = outcome; written = written; unsaved = unsaved }))
 
 -- where nothing was answered, no save failed
-pub no_save_fault : (is_outcome : Outcome → Type 0) (has_turn : List ℕ → Type 0) (tells : Type 0) (rb ra : ℕ) (report : Report) → IsUnanswered is_outcome has_turn tells rb ra report → IsSaveFault report → ⊥
+pub no_save_fault : (is_outcome : Outcome → Type 0) (has_turn : List ℕ → Type 0) (tells : Type 0) (rb ra : ℕ) (report : Report)
+    → IsUnanswered is_outcome has_turn tells rb ra report → IsSaveFault report → ⊥
 no_save_fault is_outcome has_turn tells rb ra usage fault is = is
 no_save_fault is_outcome has_turn tells rb ra (refusal why) fault is = is
 no_save_fault is_outcome has_turn tells rb ra (read_fault name) fault is = is

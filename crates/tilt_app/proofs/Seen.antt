@@ -60,7 +60,8 @@ status_of_write_fault (save_fault name) is = absurd (omega arith)
 status_of_write_fault out_of_memory is = absurd (omega arith)
 
 -- why nothing was answered is the cause
-pub unanswered_cause : (is_outcome : Outcome → Type 0) (has_turn : List ℕ → Type 0) (shelf_tells : Type 0) (reads_before reads_after : ℕ) (held holds : List ℕ → List ℕ) (saves_before saves_after : ℕ) (out_tells : Type 0) (old new : List ℕ)
+pub unanswered_cause : (is_outcome : Outcome → Type 0) (has_turn : List ℕ → Type 0) (shelf_tells : Type 0) (reads_before reads_after : ℕ)
+    (held holds : List ℕ → List ℕ) (saves_before saves_after : ℕ) (out_tells : Type 0) (old new : List ℕ)
     (puts_before puts_after : ℕ) (report : Report) → new ≡ old → IsUnanswered is_outcome has_turn shelf_tells reads_before reads_after report
     → IsCause is_outcome has_turn shelf_tells reads_before reads_after held holds saves_before saves_after out_tells old new puts_before puts_after report
 unanswered_cause is_outcome has_turn st rb ra he ho sb sa ot old new pb pa usage same fault = fault

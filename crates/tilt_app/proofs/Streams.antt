@@ -1,5 +1,6 @@
 -- What pipes give of a query, and how their lines are put.
-use Rattle.std.proofs.Common.{◌≡◌, ◌≤◌, ◌+◌, ℕ, ℤ, zero, suc, Bool, List, [], ◌∷◌, ◌++◌, length, max, take, drop, slice_get, Option, Some, None, Result, Ok, Err, IsErr, false, refl, sym, ap, ◌∙◌, subst, arith, append_assoc, length-append}
+use Rattle.std.proofs.Common.{◌≡◌, ◌≤◌, ◌+◌, ℕ, ℤ, zero, suc, Bool, List, [], ◌∷◌, ◌++◌, length, max, take, drop, slice_get, Option, Some}
+use Rattle.std.proofs.Common.{None, Result, Ok, Err, IsErr, false, refl, sym, ap, ◌∙◌, subst, arith, append_assoc, length-append}
 use Rattle.std.proofs.lemmas.List.{take-append-drop}
 use Rattle.tilt_base.proofs.Lists.{one-more}
 use Rattle.tilt_app.proofs.Printing.{prints-as, prints-none, prints-put, prints-short, prints-stopped, prints-then}

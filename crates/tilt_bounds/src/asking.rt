@@ -1,5 +1,6 @@
 // The needs of sources: each definition asks the sources before it, from the last definition to the first.
-ghost use Rattle.std.specs.Prelude.{◌≡◌, ◌+◌, ◌*◌, ◌^◌, ◌<◌, ◌≤◌, ◌≤ℤ◌, ◌∷◌, ℕ, suc, pos, neg_ℤ, None, Some, length, IfOk, replicate, slice_set};
+ghost use Rattle.std.specs.Prelude.{◌≡◌, ◌+◌, ◌*◌, ◌^◌, ◌<◌, ◌≤◌, ◌≤ℤ◌, ◌∷◌, ℕ, suc, pos, neg_ℤ};
+ghost use Rattle.std.specs.Prelude.{None, Some, length, IfOk, replicate, slice_set};
 ghost use Rattle.tilt_core.specs.Core.{AreDefinitions, IsDefinition, ReadsBelow};
 ghost use Rattle.tilt_core.specs.CoreTree.{tree_of};
 ghost use Rattle.tilt_core.specs.Needs.{asked_by, body_need, either, need_before, needs, reaching};

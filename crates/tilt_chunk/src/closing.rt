@@ -15,7 +15,8 @@ pub(crate) struct Closed {
     pub(crate) open_start: Option<i64>,
 }
 
-// Of snapshots up to a tick, those whose end is known, and the start of the one whose end isn't: of the last, before the end of the output.
+// Of snapshots up to a tick, those whose end is known, and the start of the one whose end isn't: of the last, before the end of the
+// output.
 pub(crate) fn close(frame: Frame, last: i64, list: SnapList) -> Closed
     ensures printed { result.printed ≡ closed frame last list }
     ensures begun { result.open_start ≡ open_start frame last list }

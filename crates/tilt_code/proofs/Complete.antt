@@ -1,5 +1,6 @@
 -- The lines of a code make the whole of it, one behind the other.
-use Rattle.std.proofs.Common.{◌≡◌, ℕ, zero, suc, ◌+◌, ◌^◌, ◌<◌, ◌≤◌, Bool, true, false, not, if◌then◌else◌, nat_eq, List, [], ◌∷◌, ◌++◌, length, map, Option, Some, None, ℤ, pos, Contains, IsTrue, refl, sym, ap, ◌∙◌, subst, arith, inl, inr, append-nil, append_assoc, length-append}
+use Rattle.std.proofs.Common.{◌≡◌, ℕ, zero, suc, ◌+◌, ◌^◌, ◌<◌, ◌≤◌, Bool, true, false, not, if◌then◌else◌, nat_eq, List, [], ◌∷◌, ◌++◌, length, map, Option}
+use Rattle.std.proofs.Common.{Some, None, ℤ, pos, Contains, IsTrue, refl, sym, ap, ◌∙◌, subst, arith, inl, inr, append-nil, append_assoc, length-append}
 use Rattle.std.specs.List.{flat_map, list_any, AllByRecursion}
 use Rattle.std.specs.Str.{bytes_eq}
 use Rattle.std.proofs.lemmas.Bool.{cases_Bool, and_from}
@@ -57,13 +58,15 @@ at s inputs loops lo hi grid maps block = record {
 -- a block
 
 module _ (s : Stage) (inputs : List (List ℕ)) (loops : List LoopParts) (lo hi : ℤ) (grid : GridPoints) (maps : List Block) where
-  block-run : (register : ℕ) (front xs : Block) → register ≡ length front → AllByRecursion (λ i. IsTrue (stands_in s i) × IsInstr i) xs → run (at s inputs loops lo hi grid maps front) (block_lines register xs) ≡ Some (at s inputs loops lo hi grid maps (front ++ xs))
+  block-run : (register : ℕ) (front xs : Block) → register ≡ length front → AllByRecursion (λ i. IsTrue (stands_in s i) × IsInstr i) xs
+      → run (at s inputs loops lo hi grid maps front) (block_lines register xs) ≡ Some (at s inputs loops lo hi grid maps (front ++ xs))
   block-run register front [] h all = ap (λ (b : Block). Some (at s inputs loops lo hi grid maps b)) (sym (append-nil front))
   block-run register front (x ∷ xs) h all =
       let next : suc register ≡ length (front ++ x ∷ []) = omega (arith, length-append front (x ∷ [])) in
       let number : nat_eq register (length front) ≡ true = rw (← h) (same_number register) in
       let tests = and_from (stands_in s x) (nat_eq register (length front)) all.0.0 number in
-      ap (λ (t : Bool). (if t then Some (at s inputs loops lo hi grid maps (front ++ x ∷ [])) else None) >>= λ q. run q (block_lines (suc register) xs)) tests ∙ block-run (suc register) (front ++ x ∷ []) xs next all.1 ∙ ap (λ (b : Block). Some (at s inputs loops lo hi grid maps b)) (append_assoc front (x ∷ []) xs)
+      ap (λ (t : Bool). (if t then Some (at s inputs loops lo hi grid maps (front ++ x ∷ [])) else None) >>= λ q. run q (block_lines (suc register) xs)) tests
+      ∙ block-run (suc register) (front ++ x ∷ []) xs next all.1 ∙ ap (λ (b : Block). Some (at s inputs loops lo hi grid maps b)) (append_assoc front (x ∷ []) xs)
 
 pub length_some : {X : Type 0} (xs : List X) → 0 < length xs → is_nil xs ≡ false
 length_some [] h = absurd (omega arith)
@@ -72,24 +75,35 @@ length_some (x ∷ xs) h = refl
 -- maps
 
 module _ (inputs : List (List ℕ)) (loops : List LoopParts) (lo hi : ℤ) (grid : GridPoints) where
-  map-run : (front : List Block) (m : Block) → IsBlock stands_in_map m → run (at stage.InBody inputs loops lo hi grid front []) (map_lines m) ≡ Some (at stage.InBody inputs loops lo hi grid (front ++ m ∷ []) [])
+  map-run : (front : List Block) (m : Block) → IsBlock stands_in_map m → run (at stage.InBody inputs loops lo hi grid front []) (map_lines m)
+      ≡ Some (at stage.InBody inputs loops lo hi grid (front ++ m ∷ []) [])
   map-run front m h =
-      run-then (at stage.InMap inputs loops lo hi grid front []) (at stage.InMap inputs loops lo hi grid front m) (block_lines 0 m) (line.End ∷ []) (block-run stage.InMap inputs loops lo hi grid front 0 [] m refl h.instrs) ∙ ap (λ (t : Bool). (if t then None else Some (at stage.InBody inputs loops lo hi grid (front ++ m ∷ []) [])) >>= λ q. run q []) (length_some m h.some)
+      run-then (at stage.InMap inputs loops lo hi grid front []) (at stage.InMap inputs loops lo hi grid front m) (block_lines 0 m) (line.End ∷ [])
+      (block-run stage.InMap inputs loops lo hi grid front 0 [] m refl h.instrs)
+      ∙ ap (λ (t : Bool). (if t then None else Some (at stage.InBody inputs loops lo hi grid (front ++ m ∷ []) [])) >>= λ q. run q []) (length_some m h.some)
 
-  maps-run : (front maps : List Block) → AllByRecursion (IsBlock stands_in_map) maps → run (at stage.InBody inputs loops lo hi grid front []) (flat_map map_lines maps) ≡ Some (at stage.InBody inputs loops lo hi grid (front ++ maps) [])
+  maps-run : (front maps : List Block) → AllByRecursion (IsBlock stands_in_map) maps
+      → run (at stage.InBody inputs loops lo hi grid front []) (flat_map map_lines maps) ≡ Some (at stage.InBody inputs loops lo hi grid (front ++ maps) [])
   maps-run front [] all = ap (λ (ms : List Block). Some (at stage.InBody inputs loops lo hi grid ms [])) (sym (append-nil front))
   maps-run front (m ∷ maps) all =
-      run-then (at stage.InBody inputs loops lo hi grid front []) (at stage.InBody inputs loops lo hi grid (front ++ m ∷ []) []) (map_lines m) (flat_map map_lines maps) (map-run front m all.0) ∙ maps-run (front ++ m ∷ []) maps all.1 ∙ ap (λ (ms : List Block). Some (at stage.InBody inputs loops lo hi grid ms [])) (append_assoc front (m ∷ []) maps)
+      run-then (at stage.InBody inputs loops lo hi grid front []) (at stage.InBody inputs loops lo hi grid (front ++ m ∷ []) []) (map_lines m)
+      (flat_map map_lines maps) (map-run front m all.0) ∙ maps-run (front ++ m ∷ []) maps all.1
+      ∙ ap (λ (ms : List Block). Some (at stage.InBody inputs loops lo hi grid ms [])) (append_assoc front (m ∷ []) maps)
 
 -- loops
 
 module _ (inputs : List (List ℕ)) where
-  loop-run : (front : List LoopParts) (lo hi : ℤ) (grid : GridPoints) (l : LoopParts) → IsLoop l → run (at stage.Outside inputs front lo hi grid [] []) (loop_lines l) ≡ Some (at stage.Outside inputs (front ++ l ∷ []) l.lo l.hi l.grid [] [])
+  loop-run : (front : List LoopParts) (lo hi : ℤ) (grid : GridPoints) (l : LoopParts) → IsLoop l
+      → run (at stage.Outside inputs front lo hi grid [] []) (loop_lines l) ≡ Some (at stage.Outside inputs (front ++ l ∷ []) l.lo l.hi l.grid [] [])
   loop-run front lo hi grid l h =
       let head = at stage.InBody inputs front l.lo l.hi l.grid [] [] in
       let mapped = at stage.InBody inputs front l.lo l.hi l.grid l.maps [] in
       let full = at stage.InBody inputs front l.lo l.hi l.grid l.maps l.body in
-      ap (run head) (append_assoc (flat_map map_lines l.maps) (block_lines 0 l.body) (line.End ∷ [])) ∙ run-then head mapped (flat_map map_lines l.maps) (block_lines 0 l.body ++ line.End ∷ []) (maps-run inputs front l.lo l.hi l.grid [] l.maps h.maps) ∙ run-then mapped full (block_lines 0 l.body) (line.End ∷ []) (block-run stage.InBody inputs front l.lo l.hi l.grid l.maps 0 [] l.body refl h.body.instrs) ∙ ap (λ (t : Bool). (if t then None else Some (at stage.Outside inputs (front ++ l ∷ []) l.lo l.hi l.grid [] [])) >>= λ q. run q []) (length_some l.body h.body.some)
+      ap (run head) (append_assoc (flat_map map_lines l.maps) (block_lines 0 l.body) (line.End ∷ []))
+      ∙ run-then head mapped (flat_map map_lines l.maps) (block_lines 0 l.body ++ line.End ∷ []) (maps-run inputs front l.lo l.hi l.grid [] l.maps h.maps)
+      ∙ run-then mapped full (block_lines 0 l.body) (line.End ∷ [])
+      (block-run stage.InBody inputs front l.lo l.hi l.grid l.maps 0 [] l.body refl h.body.instrs)
+      ∙ ap (λ (t : Bool). (if t then None else Some (at stage.Outside inputs (front ++ l ∷ []) l.lo l.hi l.grid [] [])) >>= λ q. run q []) (length_some l.body h.body.some)
 
   -- what whole loops make, with the numbers of some first line
   record Looped (front loops : List LoopParts) (lo hi : ℤ) (grid : GridPoints) : Type 0 where
@@ -111,7 +125,9 @@ module _ (inputs : List (List ℕ)) where
         low = rest.low;
         high = rest.high;
         points = rest.points;
-        made = run-then (at stage.Outside inputs front lo hi grid [] []) (at stage.Outside inputs (front ++ l ∷ []) l.lo l.hi l.grid [] []) (loop_lines l) (flat_map loop_lines loops) (loop-run front lo hi grid l all.0) ∙ rest.made ∙ ap (λ (ls : List LoopParts). Some (at stage.Outside inputs ls rest.low rest.high rest.points [] [])) (append_assoc front (l ∷ []) loops);
+        made = run-then (at stage.Outside inputs front lo hi grid [] []) (at stage.Outside inputs (front ++ l ∷ []) l.lo l.hi l.grid [] []) (loop_lines l)
+            (flat_map loop_lines loops) (loop-run front lo hi grid l all.0) ∙ rest.made
+            ∙ ap (λ (ls : List LoopParts). Some (at stage.Outside inputs ls rest.low rest.high rest.points [] [])) (append_assoc front (l ∷ []) loops);
       }
 
 -- inputs
@@ -132,13 +148,17 @@ distinct-absent (x ∷ front) name rest d (zero, lt, is) =
     d.0 (Contains-append_right front (name ∷ rest) x (zero, omega arith, sym is))
 distinct-absent (x ∷ front) name rest d (suc k, lt, is) = distinct-absent front name rest d.1 (k, omega (arith, lt), is)
 
-inputs-run : (front names : List (List ℕ)) → AreDistinct (front ++ names) → run (at stage.Outside front [] (pos 0) (pos 0) (record { period = pos 1; offset = pos 0 }) [] []) (map line.Input names) ≡ Some (at stage.Outside (front ++ names) [] (pos 0) (pos 0) (record { period = pos 1; offset = pos 0 }) [] [])
+inputs-run : (front names : List (List ℕ)) → AreDistinct (front ++ names)
+    → run (at stage.Outside front [] (pos 0) (pos 0) (record { period = pos 1; offset = pos 0 }) [] []) (map line.Input names)
+    ≡ Some (at stage.Outside (front ++ names) [] (pos 0) (pos 0) (record { period = pos 1; offset = pos 0 }) [] [])
 inputs-run front [] d =
     ap (λ (ns : List (List ℕ)). Some (at stage.Outside ns [] (pos 0) (pos 0) (record { period = pos 1; offset = pos 0 }) [] [])) (sym (append-nil front))
 inputs-run front (name ∷ names) d =
     let next = at stage.Outside (front ++ name ∷ []) [] (pos 0) (pos 0) (record { period = pos 1; offset = pos 0 }) [] [] in
     let fresh = absent_fresh name front (distinct-absent front name names d) in
-    ap (λ (t : Bool). (if not t then Some next else None) >>= λ q. run q (map line.Input names)) fresh ∙ inputs-run (front ++ name ∷ []) names (subst AreDistinct (sym (append_assoc front (name ∷ []) names)) d) ∙ ap (λ (ns : List (List ℕ)). Some (at stage.Outside ns [] (pos 0) (pos 0) (record { period = pos 1; offset = pos 0 }) [] [])) (append_assoc front (name ∷ []) names)
+    ap (λ (t : Bool). (if not t then Some next else None) >>= λ q. run q (map line.Input names)) fresh
+    ∙ inputs-run (front ++ name ∷ []) names (subst AreDistinct (sym (append_assoc front (name ∷ []) names)) d)
+    ∙ ap (λ (ns : List (List ℕ)). Some (at stage.Outside ns [] (pos 0) (pos 0) (record { period = pos 1; offset = pos 0 }) [] [])) (append_assoc front (name ∷ []) names)
 
 -- codes
 
@@ -172,12 +192,18 @@ block-fits stands register (x ∷ xs) h all = ((omega arith, all.0.1), block-fit
 
 maps-fit : (maps : List Block) → AllByRecursion (IsBlock stands_in_map) maps → AreLines (flat_map map_lines maps)
 maps-fit [] all = tt
-maps-fit (m ∷ maps) all =
-    (tt, all-append IsLine (block_lines 0 m ++ line.End ∷ []) (flat_map map_lines maps) (all-append IsLine (block_lines 0 m) (line.End ∷ []) (block-fits stands_in_map 0 m (omega (arith, all.0.few)) all.0.instrs) (tt, tt)) (maps-fit maps all.1))
+maps-fit (m ∷ maps) all = (
+  tt,
+  all-append IsLine (block_lines 0 m ++ line.End ∷ []) (flat_map map_lines maps)
+      (all-append IsLine (block_lines 0 m) (line.End ∷ []) (block-fits stands_in_map 0 m (omega (arith, all.0.few)) all.0.instrs) (tt, tt)) (maps-fit maps all.1),
+)
 
 loop-fits : (l : LoopParts) → IsLoop l → AreLines (loop_lines l)
-loop-fits l h =
-    ((h.stretch, h.grid), all-append IsLine (flat_map map_lines l.maps ++ block_lines 0 l.body) (line.End ∷ []) (all-append IsLine (flat_map map_lines l.maps) (block_lines 0 l.body) (maps-fit l.maps h.maps) (block-fits stands_in_body 0 l.body (omega (arith, h.body.few)) h.body.instrs)) (tt, tt))
+loop-fits l h = (
+  (h.stretch, h.grid),
+  all-append IsLine (flat_map map_lines l.maps ++ block_lines 0 l.body) (line.End ∷ [])
+      (all-append IsLine (flat_map map_lines l.maps) (block_lines 0 l.body) (maps-fit l.maps h.maps) (block-fits stands_in_body 0 l.body (omega (arith, h.body.few)) h.body.instrs)) (tt, tt),
+)
 
 loops-fit : (loops : List LoopParts) → AllByRecursion IsLoop loops → AreLines (flat_map loop_lines loops)
 loops-fit [] all = tt
@@ -202,7 +228,8 @@ run_texts p (t ∷ ts) = take_text t p >>= λ q. run_texts q ts
 pub texts-run : (p : PartialCode) (ls : List Line) → AreLines ls → run_texts p (map line_text ls) ≡ run p ls
 texts-run p [] all = refl
 texts-run p (l ∷ ls) all =
-    ap (λ (o : Option Line). (o >>= λ k. with_line k p) >>= λ q. run_texts q (map line_text ls)) (text_again l all.0) ∙ elim (with_line l p) as (λ (o : Option PartialCode). o >>= (λ q. run_texts q (map line_text ls)) ≡ o >>= λ q. run q ls) [
+    ap (λ (o : Option Line). (o >>= λ k. with_line k p) >>= λ q. run_texts q (map line_text ls)) (text_again l all.0)
+    ∙ elim (with_line l p) as (λ (o : Option PartialCode). o >>= (λ q. run_texts q (map line_text ls)) ≡ o >>= λ q. run q ls) [
       | None ↦ refl
       | Some q ↦ texts-run q ls all.1
     ]

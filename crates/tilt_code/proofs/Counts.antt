@@ -75,7 +75,8 @@ maps-good c b n [] is h = tt
 maps-good c b n (m ∷ maps) is h =
     let inside = with_maps c (suc c.maps) in
     let block = block-good inside 0 m (map_refers_back b n (before inside) (suc c.maps) 0 m is.0.instrs h.0) in
-    good-append c (map_lines m) (flat_map map_lines maps) (refl, good-append inside (block_lines 0 m) (line.End ∷ []) block (refl, tt)) (subst (λ (d : Counted). AreGood d (flat_map map_lines maps)) (sym (map-count c m)) (maps-good inside b n maps is.1 h.1))
+    good-append c (map_lines m) (flat_map map_lines maps) (refl, good-append inside (block_lines 0 m) (line.End ∷ []) block (refl, tt))
+    (subst (λ (d : Counted). AreGood d (flat_map map_lines maps)) (sym (map-count c m)) (maps-good inside b n maps is.1 h.1))
 
 pub good-maps : (c : Counted) (b n : ℕ) (maps : List Block) → AllByRecursion (IsBlock stands_in_map) maps → AreGood c (flat_map map_lines maps) → AllByRecursion (RefersBack b n 0) maps
 good-maps c b n [] is h = tt
@@ -98,16 +99,25 @@ body-count c l = maps-count (headed c) (length l.maps) l.maps (omega arith)
 
 loop-count : (c : Counted) (l : LoopParts) → count_lines c (loop_lines l) ≡ with_maps (headed c) (length l.maps)
 loop-count c l =
-    count-append (headed c) (flat_map map_lines l.maps ++ block_lines 0 l.body) (line.End ∷ []) ∙ ap (λ (d : Counted). count_lines d (line.End ∷ [])) (count-append (headed c) (flat_map map_lines l.maps) (block_lines 0 l.body) ∙ ap (λ (d : Counted). count_lines d (block_lines 0 l.body)) (body-count c l) ∙ block-count (with_maps (headed c) (length l.maps)) 0 l.body)
+    count-append (headed c) (flat_map map_lines l.maps ++ block_lines 0 l.body) (line.End ∷ [])
+    ∙ ap (λ (d : Counted). count_lines d (line.End ∷ []))
+    (count-append (headed c) (flat_map map_lines l.maps) (block_lines 0 l.body)
+    ∙ ap (λ (d : Counted). count_lines d (block_lines 0 l.body)) (body-count c l) ∙ block-count (with_maps (headed c) (length l.maps)) 0 l.body)
 
-loop-good : (c : Counted) (b : ℕ) (l : LoopParts) → b ≡ c.inputs + c.loops → IsLoop l → AllByRecursion (RefersBack b (length l.maps) 0) l.maps → RefersBack b (length l.maps) 0 l.body → AreGood c (loop_lines l)
+loop-good : (c : Counted) (b : ℕ) (l : LoopParts) → b ≡ c.inputs + c.loops → IsLoop l → AllByRecursion (RefersBack b (length l.maps) 0) l.maps
+    → RefersBack b (length l.maps) 0 l.body → AreGood c (loop_lines l)
 loop-good c b l e is maps body =
     let inside = with_maps (headed c) (length l.maps) in
     let same : b ≡ before inside = omega arith in
-    let block = block-good inside 0 l.body (subst (λ (n : ℕ). RefersBack n (length l.maps) 0 l.body) same body) in
-    (refl, good-append (headed c) (flat_map map_lines l.maps ++ block_lines 0 l.body) (line.End ∷ []) (good-append (headed c) (flat_map map_lines l.maps) (block_lines 0 l.body) (maps-good (headed c) b (length l.maps) l.maps is.maps maps) (subst (λ (d : Counted). AreGood d (block_lines 0 l.body)) (sym (body-count c l)) block)) (refl, tt))
+    let block = block-good inside 0 l.body (subst (λ (n : ℕ). RefersBack n (length l.maps) 0 l.body) same body) in (
+      refl,
+      good-append (headed c) (flat_map map_lines l.maps ++ block_lines 0 l.body) (line.End ∷ [])
+          (good-append (headed c) (flat_map map_lines l.maps) (block_lines 0 l.body) (maps-good (headed c) b (length l.maps) l.maps is.maps maps)
+          (subst (λ (d : Counted). AreGood d (block_lines 0 l.body)) (sym (body-count c l)) block)) (refl, tt),
+    )
 
-good-loop : (c : Counted) (b : ℕ) (l : LoopParts) → b ≡ c.inputs + c.loops → IsLoop l → AreGood c (loop_lines l) → AllByRecursion (RefersBack b (length l.maps) 0) l.maps × RefersBack b (length l.maps) 0 l.body
+good-loop : (c : Counted) (b : ℕ) (l : LoopParts) → b ≡ c.inputs + c.loops → IsLoop l → AreGood c (loop_lines l)
+    → AllByRecursion (RefersBack b (length l.maps) 0) l.maps × RefersBack b (length l.maps) 0 l.body
 good-loop c b l e is h =
     let inside = with_maps (headed c) (length l.maps) in
     let same : before inside ≡ b = omega arith in
@@ -120,7 +130,8 @@ good-loop c b l e is h =
 loops-good : (c : Counted) (b : ℕ) (loops : List LoopParts) → b ≡ c.inputs + c.loops → AllByRecursion IsLoop loops → ReadsBefore b loops → AreGood c (flat_map loop_lines loops)
 loops-good c b [] e is h = tt
 loops-good c b (l ∷ loops) e is h =
-    good-append c (loop_lines l) (flat_map loop_lines loops) (loop-good c b l e is.0 h.0 h.1) (subst (λ (d : Counted). AreGood d (flat_map loop_lines loops)) (sym (loop-count c l)) (loops-good (with_maps (headed c) (length l.maps)) (suc b) loops (omega arith) is.1 h.2))
+    good-append c (loop_lines l) (flat_map loop_lines loops) (loop-good c b l e is.0 h.0 h.1)
+    (subst (λ (d : Counted). AreGood d (flat_map loop_lines loops)) (sym (loop-count c l)) (loops-good (with_maps (headed c) (length l.maps)) (suc b) loops (omega arith) is.1 h.2))
 
 good-loops : (c : Counted) (b : ℕ) (loops : List LoopParts) → b ≡ c.inputs + c.loops → AllByRecursion IsLoop loops → AreGood c (flat_map loop_lines loops) → ReadsBefore b loops
 good-loops c b [] e is h = tt
@@ -142,12 +153,17 @@ inputs-good c (name ∷ names) = (refl, inputs-good (record c { inputs = suc c.i
 -- references that are good part by part are good line by line
 pub code-good : (code : CodeParts) → AllByRecursion IsLoop code.loops → HasGoodReferences code → AreGood none_counted (code_lines code)
 code-good code is h =
-    let named : Counted = record { inputs = length code.inputs; loops = 0; maps = 0 } in
-    (refl, good-append none_counted (map line.Input code.inputs) (flat_map loop_lines code.loops) (inputs-good none_counted code.inputs) (subst (λ (d : Counted). AreGood d (flat_map loop_lines code.loops)) (sym (inputs-count none_counted (length code.inputs) code.inputs (omega arith))) (loops-good named (length code.inputs) code.loops (omega arith) is h)))
+    let named : Counted = record { inputs = length code.inputs; loops = 0; maps = 0 } in (
+      refl,
+      good-append none_counted (map line.Input code.inputs) (flat_map loop_lines code.loops) (inputs-good none_counted code.inputs)
+          (subst (λ (d : Counted). AreGood d (flat_map loop_lines code.loops)) (sym (inputs-count none_counted (length code.inputs) code.inputs (omega arith)))
+          (loops-good named (length code.inputs) code.loops (omega arith) is h)),
+    )
 
 -- and the other way
 pub good-code : (code : CodeParts) → AllByRecursion IsLoop code.loops → AreGood none_counted (code_lines code) → HasGoodReferences code
 good-code code is h =
     let named : Counted = record { inputs = length code.inputs; loops = 0; maps = 0 } in
     let parts = good-parts none_counted (map line.Input code.inputs) (flat_map loop_lines code.loops) h.1 in
-    good-loops named (length code.inputs) code.loops (omega arith) is (subst (λ (d : Counted). AreGood d (flat_map loop_lines code.loops)) (inputs-count none_counted (length code.inputs) code.inputs (omega arith)) parts.1)
+    good-loops named (length code.inputs) code.loops (omega arith) is
+    (subst (λ (d : Counted). AreGood d (flat_map loop_lines code.loops)) (inputs-count none_counted (length code.inputs) code.inputs (omega arith)) parts.1)

@@ -73,12 +73,15 @@ with_loop-is s p l g h = record {
 
 with_loop-lines : (p : PartialCode) (l : LoopParts) → code_lines (with_loop p l) ≡ opened p ++ loop_lines l
 with_loop-lines p l =
-    ap (λ (ls : List Line). line.Title ∷ (map line.Input p.inputs ++ ls)) (flat_map-append loop_lines p.loops (l ∷ []) ∙ ap (λ (ls : List Line). flat_map loop_lines p.loops ++ ls) (append-nil (loop_lines l))) ∙ ap (λ (ls : List Line). line.Title ∷ ls) (sym (append_assoc (map line.Input p.inputs) (flat_map loop_lines p.loops) (loop_lines l)))
+    ap (λ (ls : List Line). line.Title ∷ (map line.Input p.inputs ++ ls))
+    (flat_map-append loop_lines p.loops (l ∷ []) ∙ ap (λ (ls : List Line). flat_map loop_lines p.loops ++ ls) (append-nil (loop_lines l)))
+    ∙ ap (λ (ls : List Line). line.Title ∷ ls) (sym (append_assoc (map line.Input p.inputs) (flat_map loop_lines p.loops) (loop_lines l)))
 
 body-end : (front maps block fill : List Line) (head end : Line) → front ++ head ∷ (maps ++ (block ++ fill) ++ end ∷ []) ≡ ((front ++ head ∷ maps) ++ block) ++ (fill ++ end ∷ [])
 body-end front maps block fill head end = simp append_assoc
 
-map-end : (front maps block fill : List Line) (head map step end : Line) → front ++ head ∷ (maps ++ ((map ∷ ((block ++ fill) ++ end ∷ [])) ++ []) ++ step ∷ [] ++ end ∷ []) ≡ ((front ++ head ∷ maps) ++ map ∷ block) ++ (fill ++ end ∷ step ∷ end ∷ [])
+map-end : (front maps block fill : List Line) (head map step end : Line) → front ++ head
+    ∷ (maps ++ ((map ∷ ((block ++ fill) ++ end ∷ [])) ++ []) ++ step ∷ [] ++ end ∷ []) ≡ ((front ++ head ∷ maps) ++ map ∷ block) ++ (fill ++ end ∷ step ∷ end ∷ [])
 map-end front maps block fill head map step end = simp (append_assoc, append-nil)
 
 ended : (s : Stage) (p : PartialCode) → IsPartialAt s p → Ended (written_in s p)
@@ -102,7 +105,8 @@ ended stage.InBody p g =
       code = with_loop p l;
       more = fill p.block ++ line.End ∷ [];
       grammatical = with_loop-is stage.InBody p l g whole;
-      begins = with_loop-lines p l ∙ ap (λ (ls : List Line). opened p ++ head ∷ (flat_map map_lines p.maps ++ ls ++ line.End ∷ [])) (filled-lines p.block) ∙ body-end (opened p) (flat_map map_lines p.maps) (block_lines 0 p.block) (fill p.block) head line.End;
+      begins = with_loop-lines p l ∙ ap (λ (ls : List Line). opened p ++ head ∷ (flat_map map_lines p.maps ++ ls ++ line.End ∷ [])) (filled-lines p.block)
+          ∙ body-end (opened p) (flat_map map_lines p.maps) (block_lines 0 p.block) (fill p.block) head line.End;
     }
 ended stage.InMap p g =
     let l : LoopParts = record { lo = p.lo; hi = p.hi; grid = p.grid; maps = p.maps ++ filled p.block ∷ []; body = instr.Null ∷ [] } in
@@ -114,7 +118,10 @@ ended stage.InMap p g =
       code = with_loop p l;
       more = fill p.block ++ line.End ∷ step ∷ line.End ∷ [];
       grammatical = with_loop-is stage.InMap p l g whole;
-      begins = with_loop-lines p l ∙ ap (λ (ls : List Line). opened p ++ head ∷ (ls ++ step ∷ [] ++ line.End ∷ [])) (flat_map-append map_lines p.maps (filled p.block ∷ [])) ∙ ap (λ (ls : List Line). opened p ++ head ∷ (flat_map map_lines p.maps ++ ((line.Map ∷ (ls ++ line.End ∷ [])) ++ []) ++ step ∷ [] ++ line.End ∷ [])) (filled-lines p.block) ∙ map-end (opened p) (flat_map map_lines p.maps) (block_lines 0 p.block) (fill p.block) head line.Map step line.End;
+      begins = with_loop-lines p l ∙ ap (λ (ls : List Line). opened p ++ head ∷ (ls ++ step ∷ [] ++ line.End ∷ []))
+          (flat_map-append map_lines p.maps (filled p.block ∷ []))
+          ∙ ap (λ (ls : List Line). opened p ++ head ∷ (flat_map map_lines p.maps ++ ((line.Map ∷ (ls ++ line.End ∷ [])) ++ []) ++ step ∷ [] ++ line.End ∷ []))
+          (filled-lines p.block) ∙ map-end (opened p) (flat_map map_lines p.maps) (block_lines 0 p.block) (fill p.block) head line.Map step line.End;
     }
 
 -- texts that make a partial code are its lines
@@ -132,8 +139,15 @@ texts-sound p q (t ∷ ts) g e =
 pub taken-front : (q : PartialCode) (texts : List (List ℕ)) → run_texts nothing texts ≡ Some q → IsFront texts
 taken-front q texts e =
     let s = texts-sound nothing q texts nothing-is e in
-    let whole = ended q.stage q s.0 in
-    (whole.code, whole.grammatical, (map line_text whole.more, ap (map line_text) whole.begins ∙ map-append line_text (written q) whole.more ∙ ap (λ (xs : List (List ℕ)). xs ++ map line_text whole.more) s.1))
+    let whole = ended q.stage q s.0 in (
+      whole.code,
+      whole.grammatical,
+      (
+        map line_text whole.more,
+        ap (map line_text) whole.begins ∙ map-append line_text (written q) whole.more
+            ∙ ap (λ (xs : List (List ℕ)). xs ++ map line_text whole.more) s.1,
+      ),
+    )
 
 -- and a front makes one
 pub front-taken : (texts : List (List ℕ)) → IsFront texts → (q : PartialCode) × (run_texts nothing texts ≡ Some q)

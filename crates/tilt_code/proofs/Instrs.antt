@@ -1,5 +1,6 @@
 -- What is read of an instruction is its words, and its words are read.
-use Rattle.std.proofs.Common.{◌≡◌, ℕ, ◌^◌, ◌<◌, Bool, true, false, if◌then◌else◌, List, [], ◌∷◌, ◌++◌, Option, Some, None, ℤ, pos, negsuc, neg_ℤ, ◌≤ℤ◌, FitsSigned, refl, sym, ap, ◌∙◌, subst, arith, inl, inr, ◌⊎◌}
+use Rattle.std.proofs.Common.{◌≡◌, ℕ, ◌^◌, ◌<◌, Bool, true, false, if◌then◌else◌, List, [], ◌∷◌, ◌++◌, Option, Some, None, ℤ}
+use Rattle.std.proofs.Common.{pos, negsuc, neg_ℤ, ◌≤ℤ◌, FitsSigned, refl, sym, ap, ◌∙◌, subst, arith, inl, inr, ◌⊎◌}
 use Rattle.std.specs.Prelude.{codes, int_lt, int_le}
 use Rattle.std.specs.Fmt.{decimal, signed_decimal}
 use Rattle.std.specs.Int.{w64}
@@ -86,7 +87,8 @@ offset_takes words z rest e =
 
 offset_again : (z : ℤ) (rest : Words) → IsOffset z → offset_at (signed_decimal z ∷ rest) ≡ Some (z, rest)
 offset_again z rest h =
-    ap (λ (o : Option (ℤ × Words)). o >>= λ n. if is_offset n.0 then Some n else None) (number_again z rest (offset_fits z h)) ∙ ap (λ (t : Bool). if t then Some (z, rest) else None) (true_is_offset z h)
+    ap (λ (o : Option (ℤ × Words)). o >>= λ n. if is_offset n.0 then Some n else None) (number_again z rest (offset_fits z h))
+    ∙ ap (λ (t : Bool). if t then Some (z, rest) else None) (true_is_offset z h)
 
 -- reducers and operators
 
@@ -187,7 +189,8 @@ record Spells (form : List ℕ) (words : Words) (i : Instr) (rest : Words) : Typ
   parts : form ∷ words ≡ instr_words i ++ rest
   within : IsInstr i
 
-spells_at : (form : List ℕ) (words : Words) (j i : Instr) (r rest : Words) → ◌≡◌ {A = Option (Instr × Words)} (Some (j, r)) (Some (i, rest)) → form ∷ words ≡ instr_words j ++ r → IsInstr j → Spells form words i rest
+spells_at : (form : List ℕ) (words : Words) (j i : Instr) (r rest : Words) → ◌≡◌ {A = Option (Instr × Words)} (Some (j, r)) (Some (i, rest)) → form ∷ words
+    ≡ instr_words j ++ r → IsInstr j → Spells form words i rest
 spells_at form words j i r rest e parts within =
     let p = pair_is j i r rest e in
     record { parts = parts ∙ (λ k. instr_words (p.0 k) ++ p.1 k); within = subst IsInstr p.0 within }
@@ -231,7 +234,8 @@ win2 r b = offset_at b.1 >>= win3 r b
 abbrev win1 : Reducer × Words → Option (Instr × Words)
 win1 r = named_at 98 r.1 >>= win2 r
 
-win_words : (r : Reducer) (b : ℕ) (f t : ℤ) (m : Option ℕ) (rest : Words) → codes "win" ∷ reducer_word r ∷ buffer_word b ∷ signed_decimal f ∷ signed_decimal t ∷ (map_part m ++ rest) ≡ instr_words (instr.Win r b f t m) ++ rest
+win_words : (r : Reducer) (b : ℕ) (f t : ℤ) (m : Option ℕ) (rest : Words) → codes "win" ∷ reducer_word r ∷ buffer_word b ∷ signed_decimal f ∷ signed_decimal t
+    ∷ (map_part m ++ rest) ≡ instr_words (instr.Win r b f t m) ++ rest
 win_words r b f t None rest = refl
 win_words r b f t (Some map) rest = refl
 
@@ -252,15 +256,24 @@ win_takes words i rest e =
     let fs = offset_takes b.0.1 f.0.0 f.0.1 f.1 in
     let ts = offset_takes f.0.1 t.0.0 t.0.1 t.1 in
     let ms = map_takes t.0.1 m.0.0 m.0.1 m.1 in
-    let parts = rs ∙ ap (λ (l : Words). reducer_word r.0.0 ∷ l) (bs.0 ∙ ap (λ (l : Words). buffer_word b.0.0 ∷ l) (fs.0 ∙ ap (λ (l : Words). signed_decimal f.0.0 ∷ l) (ts.0 ∙ ap (λ (l : Words). signed_decimal t.0.0 ∷ l) ms.0))) in
-    spells_at (codes "win") words (instr.Win r.0.0 b.0.0 f.0.0 t.0.0 m.0.0) i m.0.1 rest g.1 (ap (λ (l : Words). codes "win" ∷ l) parts ∙ win_words r.0.0 b.0.0 f.0.0 t.0.0 m.0.0 m.0.1) (win_within r.0.0 b.0.0 f.0.0 t.0.0 m.0.0 (record { number = bs.1; low = fs.1; high = ts.1; some_ticks = lt_true f.0.0 t.0.0 g.0 }) ms.1)
+    let parts = rs ∙ ap (λ (l : Words). reducer_word r.0.0 ∷ l)
+    (bs.0 ∙ ap (λ (l : Words). buffer_word b.0.0 ∷ l) (fs.0 ∙ ap (λ (l : Words). signed_decimal f.0.0 ∷ l) (ts.0 ∙ ap (λ (l : Words). signed_decimal t.0.0 ∷ l) ms.0))) in
+    spells_at (codes "win") words (instr.Win r.0.0 b.0.0 f.0.0 t.0.0 m.0.0) i m.0.1 rest g.1
+    (ap (λ (l : Words). codes "win" ∷ l) parts ∙ win_words r.0.0 b.0.0 f.0.0 t.0.0 m.0.0 m.0.1)
+    (win_within r.0.0 b.0.0 f.0.0 t.0.0 m.0.0 (record { number = bs.1; low = fs.1; high = ts.1; some_ticks = lt_true f.0.0 t.0.0 g.0 }) ms.1)
 
-win_again : (r : Reducer) (b : ℕ) (f t : ℤ) (m : Option ℕ) → IsWindow b f t → IsMap m → win_at (reducer_word r ∷ buffer_word b ∷ signed_decimal f ∷ signed_decimal t ∷ map_part m) ≡ Some (instr.Win r b f t m, [])
+win_again : (r : Reducer) (b : ℕ) (f t : ℤ) (m : Option ℕ) → IsWindow b f t → IsMap m
+    → win_at (reducer_word r ∷ buffer_word b ∷ signed_decimal f ∷ signed_decimal t ∷ map_part m) ≡ Some (instr.Win r b f t m, [])
 win_again r b f t m w h =
     let rest3 = signed_decimal t ∷ map_part m in
     let rest2 = signed_decimal f ∷ rest3 in
     let rest1 = buffer_word b ∷ rest2 in
-    ap (λ (o : Option (Reducer × Words)). o >>= win1) (reducer_again r rest1) ∙ ap (λ (o : Option (ℕ × Words)). o >>= win2 (r, rest1)) (named_again 98 b rest2 w.number) ∙ ap (λ (o : Option (ℤ × Words)). o >>= win3 (r, rest1) (b, rest2)) (offset_again f rest3 w.low) ∙ ap (λ (o : Option (ℤ × Words)). o >>= win4 (r, rest1) (b, rest2) (f, rest3)) (offset_again t (map_part m) w.high) ∙ ap (λ (o : Option (Option ℕ × Words)). o >>= win5 (r, rest1) (b, rest2) (f, rest3) (t, map_part m)) (map_again m h) ∙ ap (λ (p : Bool). if p then Some (instr.Win r b f t m, []) else None) (true_lt f t w.some_ticks)
+    ap (λ (o : Option (Reducer × Words)). o >>= win1) (reducer_again r rest1)
+    ∙ ap (λ (o : Option (ℕ × Words)). o >>= win2 (r, rest1)) (named_again 98 b rest2 w.number)
+    ∙ ap (λ (o : Option (ℤ × Words)). o >>= win3 (r, rest1) (b, rest2)) (offset_again f rest3 w.low)
+    ∙ ap (λ (o : Option (ℤ × Words)). o >>= win4 (r, rest1) (b, rest2) (f, rest3)) (offset_again t (map_part m) w.high)
+    ∙ ap (λ (o : Option (Option ℕ × Words)). o >>= win5 (r, rest1) (b, rest2) (f, rest3) (t, map_part m)) (map_again m h)
+    ∙ ap (λ (p : Bool). if p then Some (instr.Win r b f t m, []) else None) (true_lt f t w.some_ticks)
 
 abbrev if3 : ℕ × Words → ℕ × Words → ℕ × Words → Option (Instr × Words)
 if3 c a b = Some (instr.If c.0 a.0 b.0, b.1)
@@ -279,7 +292,8 @@ if_takes words i rest e =
     let cs = named_takes 114 words c.0.0 c.0.1 c.1 in
     let as' = named_takes 114 c.0.1 a.0.0 a.0.1 a.1 in
     let bs = named_takes 114 a.0.1 b.0.0 b.0.1 b.1 in
-    spells_at (codes "if") words (instr.If c.0.0 a.0.0 b.0.0) i b.0.1 rest b.2 (ap (λ (l : Words). codes "if" ∷ l) (cs.0 ∙ ap (λ (l : Words). register_word c.0.0 ∷ l) (as'.0 ∙ ap (λ (l : Words). register_word a.0.0 ∷ l) bs.0))) (cs.1, as'.1, bs.1)
+    spells_at (codes "if") words (instr.If c.0.0 a.0.0 b.0.0) i b.0.1 rest b.2
+    (ap (λ (l : Words). codes "if" ∷ l) (cs.0 ∙ ap (λ (l : Words). register_word c.0.0 ∷ l) (as'.0 ∙ ap (λ (l : Words). register_word a.0.0 ∷ l) bs.0))) (cs.1, as'.1, bs.1)
 
 abbrev two3 : Op2 → ℕ × Words → ℕ × Words → Option (Instr × Words)
 two3 op a b = Some (instr.Two op a.0 b.0, b.1)
@@ -300,7 +314,8 @@ two_takes form words i rest e =
     let bs = named_takes 114 a.0.1 b.0.0 b.0.1 b.1 in
     spells_at form words (instr.Two o.0 a.0.0 b.0.0) i b.0.1 rest b.2 ((λ k. sym is k ∷ (as'.0 ∙ ap (λ (l : Words). register_word a.0.0 ∷ l) bs.0) k)) (as'.1, bs.1)
 
-one_takes : (o : Option Op1) (form : List ℕ) (words : Words) (i : Instr) (rest : Words) → find (λ q. bytes_eq (one_word q) form) ONES ≡ o → one_at o form words ≡ Some (i, rest) → Spells form words i rest
+one_takes : (o : Option Op1) (form : List ℕ) (words : Words) (i : Instr) (rest : Words) → find (λ q. bytes_eq (one_word q) form) ONES ≡ o → one_at o form words
+    ≡ Some (i, rest) → Spells form words i rest
 one_takes None form words i rest found e = two_takes form words i rest e
 one_takes (Some op) form words i rest found e =
     let a = bind_some (named_at 114 words) (λ n. Some (instr.One op n.0, n.1)) (i, rest) e in
@@ -353,7 +368,10 @@ instr_again (instr.One op a) h =
     form_one op (register_word a ∷ []) ∙ ap (λ (o : Option (ℕ × Words)). o >>= λ k. Some (instr.One op k.0, k.1)) (named_again 114 a [] h)
 instr_again (instr.Two op a b) h =
     let rest = register_word b ∷ [] in
-    form_two op (register_word a ∷ rest) ∙ ap (λ (o : Option Op2). o >>= two1 (register_word a ∷ rest)) (two_found op) ∙ ap (λ (o : Option (ℕ × Words)). o >>= two2 op) (named_again 114 a rest h.0) ∙ ap (λ (o : Option (ℕ × Words)). o >>= two3 op (a, rest)) (named_again 114 b [] h.1)
+    form_two op (register_word a ∷ rest) ∙ ap (λ (o : Option Op2). o >>= two1 (register_word a ∷ rest)) (two_found op)
+    ∙ ap (λ (o : Option (ℕ × Words)). o >>= two2 op) (named_again 114 a rest h.0) ∙ ap (λ (o : Option (ℕ × Words)). o >>= two3 op (a, rest)) (named_again 114 b [] h.1)
 instr_again (instr.If c a b) h =
     let rest = register_word b ∷ [] in
-    ap (λ (o : Option (ℕ × Words)). o >>= if1) (named_again 114 c (register_word a ∷ rest) h.0) ∙ ap (λ (o : Option (ℕ × Words)). o >>= if2 (c, register_word a ∷ rest)) (named_again 114 a rest h.1) ∙ ap (λ (o : Option (ℕ × Words)). o >>= if3 (c, register_word a ∷ rest) (a, rest)) (named_again 114 b [] h.2)
+    ap (λ (o : Option (ℕ × Words)). o >>= if1) (named_again 114 c (register_word a ∷ rest) h.0)
+    ∙ ap (λ (o : Option (ℕ × Words)). o >>= if2 (c, register_word a ∷ rest)) (named_again 114 a rest h.1)
+    ∙ ap (λ (o : Option (ℕ × Words)). o >>= if3 (c, register_word a ∷ rest) (a, rest)) (named_again 114 b [] h.2)

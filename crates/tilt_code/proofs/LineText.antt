@@ -1,5 +1,6 @@
 -- What is read of a line is its text, and its text is read.
-use Rattle.std.proofs.Common.{◌≡◌, ℕ, ◌^◌, ◌<◌, Bool, true, false, ◌&&◌, not, if◌then◌else◌, List, [], ◌∷◌, ◌++◌, Option, Some, None, ℤ, pos, neg_ℤ, FitsSigned, refl, sym, ap, ◌∙◌, subst, arith, inl, inr, append-nil, append_assoc}
+use Rattle.std.proofs.Common.{◌≡◌, ℕ, ◌^◌, ◌<◌, Bool, true, false, ◌&&◌, not, if◌then◌else◌, List, [], ◌∷◌, ◌++◌, Option, Some, None}
+use Rattle.std.proofs.Common.{ℤ, pos, neg_ℤ, FitsSigned, refl, sym, ap, ◌∙◌, subst, arith, inl, inr, append-nil, append_assoc}
 use Rattle.std.specs.Prelude.{codes, ◌==◌, int_lt, int_le}
 use Rattle.std.specs.Fmt.{decimal, signed_decimal}
 use Rattle.std.specs.Int.{w64}
@@ -27,7 +28,9 @@ use Rattle.tilt_lexer.specs.Word.{goes_on_word, is_word, IsWord, IsName}
 use Rattle.tilt_lexer.proofs.Fronts.{word_goes_on}
 use Rattle.tilt_code.specs.Grammar.{IsInstr, IsNumber, IsStretch, IsWindow}
 use Rattle.tilt_code.specs.Line.{one_word, two_word, buffer_word, register_word, map_word, instr_words, line_words, line_text, spaced}
-use Rattle.tilt_code.specs.Reading.{named, word_at, number_at, only, pieces, is_reserved, is_input_name, input_line, is_grid, is_stretch, grid_of, head_at, title_at, step_at, other_at, whole_line, last_word, line_of, instr_at}
+use Rattle.tilt_code.specs.Reading.{named, word_at, number_at, only, pieces, is_reserved, is_input_name, input_line, is_grid}
+use Rattle.tilt_code.specs.Reading.{is_stretch, grid_of, head_at, title_at, step_at, other_at, whole_line, last_word, line_of}
+use Rattle.tilt_code.specs.Reading.{instr_at}
 use Rattle.tilt_code.specs.declared.instr.Instr.{Instr}
 use Rattle.tilt_code.specs.declared.instr.Instr.TheVariants as instr
 use Rattle.tilt_code.specs.declared.line.Line.{Line}
@@ -68,7 +71,8 @@ stretch_true lo hi h =
 
 true_stretch : (lo hi : ℤ) → IsStretch lo hi → is_stretch lo hi ≡ true
 true_stretch lo hi h =
-    and_from (int_le (neg_ℤ WIDE) lo && int_lt lo hi) (int_le hi WIDE) (and_from (int_le (neg_ℤ WIDE) lo) (int_lt lo hi) (true_le (neg_ℤ WIDE) lo h.low) (true_lt lo hi h.some_ticks)) (true_le hi WIDE h.high)
+    and_from (int_le (neg_ℤ WIDE) lo && int_lt lo hi) (int_le hi WIDE)
+    (and_from (int_le (neg_ℤ WIDE) lo) (int_lt lo hi) (true_le (neg_ℤ WIDE) lo h.low) (true_lt lo hi h.some_ticks)) (true_le hi WIDE h.high)
 
 grid_true : (grid : GridPoints) → is_grid grid.period grid.offset ≡ true → IsGrid grid
 grid_true grid h =
@@ -108,7 +112,8 @@ record SpellsLine (first : List ℕ) (words : Words) (l : Line) (rest : Words) :
   parts : first ∷ words ≡ line_words l ++ rest
   within : IsLine l
 
-spells_line : (first : List ℕ) (words : Words) (k l : Line) (r rest : Words) → ◌≡◌ {A = Option (Line × Words)} (Some (k, r)) (Some (l, rest)) → first ∷ words ≡ line_words k ++ r → IsLine k → SpellsLine first words l rest
+spells_line : (first : List ℕ) (words : Words) (k l : Line) (r rest : Words) → ◌≡◌ {A = Option (Line × Words)} (Some (k, r)) (Some (l, rest)) → first ∷ words
+    ≡ line_words k ++ r → IsLine k → SpellsLine first words l rest
 spells_line first words k l r rest e parts within =
     let p = pair_is k l r rest e in
     record { parts = parts ∙ (λ j. line_words (p.0 j) ++ p.1 j); within = subst IsLine p.0 within }
@@ -154,7 +159,8 @@ head_takes words l rest e =
     let os = number_takes p.0.1 o.0.0 o.0.1 o.1 in
     let is-grid = grid_true (record { period = p.0.0; offset = o.0.0 }) made.0 in
     let parts = los.0 ∙ ap (λ (ws : Words). signed_decimal lo.0.0 ∷ ws) (his.0 ∙ ap (λ (ws : Words). signed_decimal hi.0.0 ∷ ws) (ps.0 ∙ ap (λ (ws : Words). signed_decimal p.0.0 ∷ ws) os.0)) in
-    spells_line (codes "loop") words (line.Head lo.0.0 hi.0.0 grid.0) l o.0.1 rest g.1 (ap (λ (ws : Words). codes "loop" ∷ ws) parts ∙ ap (λ (k : GridPoints). line_words (line.Head lo.0.0 hi.0.0 k) ++ o.0.1) same) (stretch_true lo.0.0 hi.0.0 g.0, subst IsGrid same is-grid)
+    spells_line (codes "loop") words (line.Head lo.0.0 hi.0.0 grid.0) l o.0.1 rest g.1
+    (ap (λ (ws : Words). codes "loop" ∷ ws) parts ∙ ap (λ (k : GridPoints). line_words (line.Head lo.0.0 hi.0.0 k) ++ o.0.1) same) (stretch_true lo.0.0 hi.0.0 g.0, subst IsGrid same is-grid)
 
 abbrev step3 : ℕ → List ℕ × Words → Instr × Words → Option (Line × Words)
 step3 register sign i = if bytes_eq sign.0 (codes "=") then Some (line.Step register i.0, i.1) else None
@@ -165,7 +171,8 @@ step2 register sign = instr_at sign.1 >>= step3 register sign
 abbrev step1 : Words → ℕ → Option (Line × Words)
 step1 words register = word_at words >>= step2 register
 
-step_behind : (first : List ℕ) (words : Words) (l : Line) (rest : Words) (register : ℕ) → (first ≡ 114 ∷ decimal register) × (register < 2 ^ 32) → step1 words register ≡ Some (l, rest) → SpellsLine first words l rest
+step_behind : (first : List ℕ) (words : Words) (l : Line) (rest : Words) (register : ℕ) → (first ≡ 114 ∷ decimal register) × (register < 2 ^ 32)
+    → step1 words register ≡ Some (l, rest) → SpellsLine first words l rest
 step_behind first [] l rest register s e = absurd (cc e)
 step_behind first (w ∷ ws) l rest register s e =
     let i = bind_some (instr_at ws) (step3 register (w, ws)) (l, rest) e in
@@ -230,14 +237,20 @@ words_takes (first ∷ words) l e =
       | inr n ↦ whole_takes first words l n.1
     ]
 
-head_again : (lo hi : ℤ) (grid : GridPoints) → IsStretch lo hi → IsGrid grid → head_at (signed_decimal lo ∷ signed_decimal hi ∷ signed_decimal grid.period ∷ signed_decimal grid.offset ∷ []) ≡ Some (line.Head lo hi grid, [])
+head_again : (lo hi : ℤ) (grid : GridPoints) → IsStretch lo hi → IsGrid grid
+    → head_at (signed_decimal lo ∷ signed_decimal hi ∷ signed_decimal grid.period ∷ signed_decimal grid.offset ∷ []) ≡ Some (line.Head lo hi grid, [])
 head_again lo hi grid s g =
     let ends = stretch_fits lo hi s in
     let points = grid_fits grid g in
     let rest3 = signed_decimal grid.offset ∷ [] in
     let rest2 = signed_decimal grid.period ∷ rest3 in
     let rest1 = signed_decimal hi ∷ rest2 in
-    ap (λ (o : Option (ℤ × Words)). o >>= head1) (number_again lo rest1 ends.0) ∙ ap (λ (o : Option (ℤ × Words)). o >>= head2 (lo, rest1)) (number_again hi rest2 ends.1) ∙ ap (λ (o : Option (ℤ × Words)). o >>= head3 (lo, rest1) (hi, rest2)) (number_again grid.period rest3 points.0) ∙ ap (λ (o : Option (ℤ × Words)). o >>= head4 (lo, rest1) (hi, rest2) (grid.period, rest3)) (number_again grid.offset [] points.1) ∙ ap (λ (t : Bool). (if t then Some grid else None) >>= head5 (lo, rest1) (hi, rest2) (grid.period, rest3) (grid.offset, [])) (true_grid grid g) ∙ ap (λ (t : Bool). if t then Some (line.Head lo hi grid, []) else None) (true_stretch lo hi s)
+    ap (λ (o : Option (ℤ × Words)). o >>= head1) (number_again lo rest1 ends.0)
+    ∙ ap (λ (o : Option (ℤ × Words)). o >>= head2 (lo, rest1)) (number_again hi rest2 ends.1)
+    ∙ ap (λ (o : Option (ℤ × Words)). o >>= head3 (lo, rest1) (hi, rest2)) (number_again grid.period rest3 points.0)
+    ∙ ap (λ (o : Option (ℤ × Words)). o >>= head4 (lo, rest1) (hi, rest2) (grid.period, rest3)) (number_again grid.offset [] points.1)
+    ∙ ap (λ (t : Bool). (if t then Some grid else None) >>= head5 (lo, rest1) (hi, rest2) (grid.period, rest3) (grid.offset, [])) (true_grid grid g)
+    ∙ ap (λ (t : Bool). if t then Some (line.Head lo hi grid, []) else None) (true_stretch lo hi s)
 
 -- and its words are read
 words_again : (l : Line) → IsLine l → line_of (line_words l) ≡ Some l
@@ -246,7 +259,8 @@ words_again (line.Input name) h = ap (λ (t : Bool). if t then Some (line.Input 
 words_again (line.Head lo hi grid) h = ap (λ (o : Option (Line × Words)). o >>= only) (head_again lo hi grid h.0 h.1)
 words_again line.Map h = refl
 words_again (line.Step register i) h =
-    ap (λ (o : Option ℕ). (o >>= step1 (codes "=" ∷ instr_words i)) >>= only) (named-decimal 114 register h.0) ∙ ap (λ (o : Option (Instr × Words)). (o >>= step3 register (codes "=", instr_words i)) >>= only) (instr_again i h.1)
+    ap (λ (o : Option ℕ). (o >>= step1 (codes "=" ∷ instr_words i)) >>= only) (named-decimal 114 register h.0)
+    ∙ ap (λ (o : Option (Instr × Words)). (o >>= step3 register (codes "=", instr_words i)) >>= only) (instr_again i h.1)
 words_again line.End h = refl
 
 -- bytes other than a blank and LF
@@ -322,7 +336,9 @@ number_then n ws small q = plain_then (decimal n) ws (plain_decimal n (omega ari
 
 win_plain : (r : Reducer) (b : ℕ) (f t : ℤ) (ws : Words) → IsWindow b f t → AllPlain ws → AllPlain (reducer_word r ∷ buffer_word b ∷ signed_decimal f ∷ signed_decimal t ∷ ws)
 win_plain r b f t ws w q =
-    plain_then (reducer_word r) (buffer_word b ∷ signed_decimal f ∷ signed_decimal t ∷ ws) (plain_reducer r) (number_then b (signed_decimal f ∷ signed_decimal t ∷ ws) w.number (plain_then (signed_decimal f) (signed_decimal t ∷ ws) (plain_signed f (offset_fits f w.low)) (plain_then (signed_decimal t) ws (plain_signed t (offset_fits t w.high)) q)))
+    plain_then (reducer_word r) (buffer_word b ∷ signed_decimal f ∷ signed_decimal t ∷ ws) (plain_reducer r)
+    (number_then b (signed_decimal f ∷ signed_decimal t ∷ ws) w.number
+    (plain_then (signed_decimal f) (signed_decimal t ∷ ws) (plain_signed f (offset_fits f w.low)) (plain_then (signed_decimal t) ws (plain_signed t (offset_fits t w.high)) q)))
 
 instr_plain : (i : Instr) → IsInstr i → AllPlain (instr_words i)
 instr_plain (instr.Const n) h = plain_then (signed_decimal n) [] (plain_signed n h) refl
@@ -341,7 +357,10 @@ line_plain (line.Input name) h = plain_then name [] (plain_word name h.0) refl
 line_plain (line.Head lo hi grid) h =
     let ends = stretch_fits lo hi h.0 in
     let points = grid_fits grid h.1 in
-    plain_then (signed_decimal lo) (signed_decimal hi ∷ signed_decimal grid.period ∷ signed_decimal grid.offset ∷ []) (plain_signed lo ends.0) (plain_then (signed_decimal hi) (signed_decimal grid.period ∷ signed_decimal grid.offset ∷ []) (plain_signed hi ends.1) (plain_then (signed_decimal grid.period) (signed_decimal grid.offset ∷ []) (plain_signed grid.period points.0) (plain_then (signed_decimal grid.offset) [] (plain_signed grid.offset points.1) refl)))
+    plain_then (signed_decimal lo) (signed_decimal hi ∷ signed_decimal grid.period ∷ signed_decimal grid.offset ∷ []) (plain_signed lo ends.0)
+    (plain_then (signed_decimal hi) (signed_decimal grid.period ∷ signed_decimal grid.offset ∷ []) (plain_signed hi ends.1)
+    (plain_then (signed_decimal grid.period) (signed_decimal grid.offset ∷ []) (plain_signed grid.period points.0)
+    (plain_then (signed_decimal grid.offset) [] (plain_signed grid.offset points.1) refl)))
 line_plain line.Map h = refl
 line_plain (line.Step register i) h = number_then register (codes "=" ∷ instr_words i) h.0 (instr_plain i h.1)
 line_plain line.End h = refl

@@ -24,41 +24,56 @@ block_lines-push register at (x ∷ xs) i h =
     ap (λ (ls : List Line). line.Step register x ∷ ls) (block_lines-push (suc register) at xs i (omega arith))
 
 -- the text of a block up to a place, and of the instruction there
-pub block_text_more : (block : Block) (k : ℕ) (d : Instr) → k < length block → ended (map line_text (block_lines 0 (take (k + 1) block))) ≡ ended (map line_text (block_lines 0 (take k block))) ++ ended (line_text (line.Step k (get_or block k d)) ∷ [])
+pub block_text_more : (block : Block) (k : ℕ) (d : Instr) → k < length block → ended (map line_text (block_lines 0 (take (k + 1) block)))
+    ≡ ended (map line_text (block_lines 0 (take k block))) ++ ended (line_text (line.Step k (get_or block k d)) ∷ [])
 block_text_more block k d below =
     let at : k ≡ 0 + length (take k block) = omega (arith, length-take k block) in
-    ap (λ (b : Block). ended (map line_text (block_lines 0 b))) (take_more block k d below) ∙ ap (λ (ls : List Line). ended (map line_text ls)) (block_lines-push 0 k (take k block) (get_or block k d) at) ∙ ended-append (block_lines 0 (take k block)) (line.Step k (get_or block k d) ∷ [])
+    ap (λ (b : Block). ended (map line_text (block_lines 0 b))) (take_more block k d below)
+    ∙ ap (λ (ls : List Line). ended (map line_text ls)) (block_lines-push 0 k (take k block) (get_or block k d) at)
+    ∙ ended-append (block_lines 0 (take k block)) (line.Step k (get_or block k d) ∷ [])
 
 -- the text of a map
 pub map_text : (block : Block) → ended (map line_text (map_lines block)) ≡ codes "map\n" ++ (ended (map line_text (block_lines 0 block)) ++ codes "end\n")
 map_text block = ap (λ (t : List ℕ). codes "map\n" ++ t) (ended-append (block_lines 0 block) (line.End ∷ []))
 
 -- the text of a loop
-pub loop_text : (loop : LoopParts) → ended (map line_text (loop_lines loop)) ≡ ended (line_text (line.Head loop.lo loop.hi loop.grid) ∷ []) ++ (ended (map line_text (flat_map map_lines loop.maps)) ++ (ended (map line_text (block_lines 0 loop.body)) ++ codes "end\n"))
+pub loop_text : (loop : LoopParts) → ended (map line_text (loop_lines loop)) ≡ ended (line_text (line.Head loop.lo loop.hi loop.grid) ∷ [])
+    ++ (ended (map line_text (flat_map map_lines loop.maps)) ++ (ended (map line_text (block_lines 0 loop.body)) ++ codes "end\n"))
 loop_text loop =
     let head = line.Head loop.lo loop.hi loop.grid in
     let maps = flat_map map_lines loop.maps in
     let body = block_lines 0 loop.body in
     ended-append (head ∷ []) (maps ++ body ++ line.End ∷ []) ∙
-    ap (λ (t : List ℕ). ended (line_text head ∷ []) ++ t) (ended-append (maps ++ body) (line.End ∷ []) ∙ ap (λ (t : List ℕ). t ++ codes "end\n") (ended-append maps body) ∙ append_assoc (ended (map line_text maps)) (ended (map line_text body)) (codes "end\n"))
+    ap (λ (t : List ℕ). ended (line_text head ∷ []) ++ t) (ended-append (maps ++ body) (line.End ∷ [])
+    ∙ ap (λ (t : List ℕ). t ++ codes "end\n") (ended-append maps body) ∙ append_assoc (ended (map line_text maps)) (ended (map line_text body)) (codes "end\n"))
 
 -- a block up to a place, and the instruction there, put one behind the other
-pub block_put : (block : Block) (k : ℕ) (d : Instr) (before progress whole : List ℕ) → k < length block → progress ≡ before ++ ended (map line_text (block_lines 0 (take k block))) → whole ≡ progress ++ ended (line_text (line.Step k (get_or block k d)) ∷ []) → whole ≡ before ++ ended (map line_text (block_lines 0 (take (k + 1) block)))
+pub block_put : (block : Block) (k : ℕ) (d : Instr) (before progress whole : List ℕ) → k < length block → progress ≡ before
+    ++ ended (map line_text (block_lines 0 (take k block))) → whole ≡ progress ++ ended (line_text (line.Step k (get_or block k d)) ∷ []) → whole ≡ before
+    ++ ended (map line_text (block_lines 0 (take (k + 1) block)))
 block_put block k d before progress whole below s w =
-    w ∙ ap (λ (t : List ℕ). t ++ ended (line_text (line.Step k (get_or block k d)) ∷ [])) s ∙ append_assoc before (ended (map line_text (block_lines 0 (take k block)))) (ended (line_text (line.Step k (get_or block k d)) ∷ [])) ∙ ap (λ (t : List ℕ). before ++ t) (sym (block_text_more block k d below))
+    w ∙ ap (λ (t : List ℕ). t ++ ended (line_text (line.Step k (get_or block k d)) ∷ [])) s
+    ∙ append_assoc before (ended (map line_text (block_lines 0 (take k block)))) (ended (line_text (line.Step k (get_or block k d)) ∷ []))
+    ∙ ap (λ (t : List ℕ). before ++ t) (sym (block_text_more block k d below))
 
 regroup : (a b c d e : List ℕ) → (((a ++ b) ++ c) ++ d) ++ e ≡ a ++ (b ++ (c ++ (d ++ e)))
 regroup a b c d e = simp append_assoc
 
 -- the parts of a loop, put one behind the other
-pub loop_put : (loop : LoopParts) (before head maps body whole : List ℕ) → head ≡ before ++ ended (line_text (line.Head loop.lo loop.hi loop.grid) ∷ []) → maps ≡ head ++ ended (map line_text (flat_map map_lines loop.maps)) → body ≡ maps ++ ended (map line_text (block_lines 0 loop.body)) → whole ≡ body ++ codes "end\n" → whole ≡ before ++ ended (map line_text (loop_lines loop))
+pub loop_put : (loop : LoopParts) (before head maps body whole : List ℕ) → head ≡ before ++ ended (line_text (line.Head loop.lo loop.hi loop.grid) ∷ []) → maps
+    ≡ head ++ ended (map line_text (flat_map map_lines loop.maps)) → body ≡ maps ++ ended (map line_text (block_lines 0 loop.body)) → whole ≡ body
+    ++ codes "end\n" → whole ≡ before ++ ended (map line_text (loop_lines loop))
 loop_put loop before head maps body whole h m b w =
     let first = ended (line_text (line.Head loop.lo loop.hi loop.grid) ∷ []) in
     let second = ended (map line_text (flat_map map_lines loop.maps)) in
     let third = ended (map line_text (block_lines 0 loop.body)) in
-    w ∙ ap (λ (t : List ℕ). t ++ codes "end\n") (b ∙ ap (λ (t : List ℕ). t ++ third) (m ∙ ap (λ (t : List ℕ). t ++ second) h)) ∙ regroup before first second third (codes "end\n") ∙ ap (λ (t : List ℕ). before ++ t) (sym (loop_text loop))
+    w ∙ ap (λ (t : List ℕ). t ++ codes "end\n") (b ∙ ap (λ (t : List ℕ). t ++ third) (m ∙ ap (λ (t : List ℕ). t ++ second) h))
+    ∙ regroup before first second third (codes "end\n") ∙ ap (λ (t : List ℕ). before ++ t) (sym (loop_text loop))
 
 -- the parts of a loop's first line, put one behind the other
-pub head_put : (lo hi : ℤ) (grid : GridPoints) (before word ends blank points whole : List ℕ) → word ≡ before ++ codes "loop " → ends ≡ word ++ spaced (signed_decimal lo ∷ signed_decimal hi ∷ []) → blank ≡ ends ++ codes " " → points ≡ blank ++ spaced (signed_decimal grid.period ∷ signed_decimal grid.offset ∷ []) → whole ≡ points ++ codes "\n" → whole ≡ before ++ ended (line_text (line.Head lo hi grid) ∷ [])
+pub head_put : (lo hi : ℤ) (grid : GridPoints) (before word ends blank points whole : List ℕ) → word ≡ before ++ codes "loop " → ends ≡ word
+    ++ spaced (signed_decimal lo ∷ signed_decimal hi ∷ []) → blank ≡ ends ++ codes " " → points ≡ blank
+    ++ spaced (signed_decimal grid.period ∷ signed_decimal grid.offset ∷ []) → whole ≡ points ++ codes "\n" → whole ≡ before ++ ended (line_text (line.Head lo hi grid) ∷ [])
 head_put lo hi grid before word ends blank points whole a b c d e =
-    e ∙ ap (λ (t : List ℕ). t ++ codes "\n") (d ∙ ap (λ (t : List ℕ). t ++ spaced (signed_decimal grid.period ∷ signed_decimal grid.offset ∷ [])) (c ∙ ap (λ (t : List ℕ). t ++ codes " ") (b ∙ ap (λ (t : List ℕ). t ++ spaced (signed_decimal lo ∷ signed_decimal hi ∷ [])) a))) ∙ simp append_assoc
+    e ∙ ap (λ (t : List ℕ). t ++ codes "\n") (d ∙ ap (λ (t : List ℕ). t ++ spaced (signed_decimal grid.period ∷ signed_decimal grid.offset ∷ []))
+    (c ∙ ap (λ (t : List ℕ). t ++ codes " ") (b ∙ ap (λ (t : List ℕ). t ++ spaced (signed_decimal lo ∷ signed_decimal hi ∷ [])) a))) ∙ simp append_assoc

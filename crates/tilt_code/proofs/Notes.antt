@@ -1,5 +1,6 @@
 -- The first bad reference is noted on the way.
-use Rattle.std.proofs.Common.{◌≡◌, ℕ, suc, ◌+◌, ◌-◌, Bool, true, false, ◌&&◌, if◌then◌else◌, nat_eq, List, [], ◌∷◌, ◌++◌, length, map, Option, Some, None, ℤ, IsTrue, refl, sym, ap, ◌∙◌, subst, arith, inl, inr, length-append}
+use Rattle.std.proofs.Common.{◌≡◌, ℕ, suc, ◌+◌, ◌-◌, Bool, true, false, ◌&&◌, if◌then◌else◌, nat_eq, List, [], ◌∷◌, ◌++◌, length}
+use Rattle.std.proofs.Common.{map, Option, Some, None, ℤ, IsTrue, refl, sym, ap, ◌∙◌, subst, arith, inl, inr, length-append}
 use Rattle.std.proofs.lemmas.Bool.{cases_Bool, and_parts}
 use Rattle.std.proofs.lemmas.Option.{none-some, same_Some}
 use Rattle.tilt_base.specs.Grid.{GridPoints}
@@ -47,7 +48,8 @@ input-agrees stage.Before name p q c a e = absurd (none-some q e)
 input-agrees stage.InMap name p q c a e = absurd (none-some q e)
 input-agrees stage.InBody name p q c a e = absurd (none-some q e)
 
-head-agrees : (at : Stage) (lo hi : ℤ) (grid : GridPoints) (p q : PartialCode) (c : Counted) → IsPartialAt at p → Agrees at p c → with_head at lo hi grid p ≡ Some q → Agrees q.stage q (record c { loops = suc c.loops; maps = 0 })
+head-agrees : (at : Stage) (lo hi : ℤ) (grid : GridPoints) (p q : PartialCode) (c : Counted) → IsPartialAt at p → Agrees at p c → with_head at lo hi grid p
+    ≡ Some q → Agrees q.stage q (record c { loops = suc c.loops; maps = 0 })
 head-agrees stage.Outside lo hi grid p q c g a e =
     let r : PartialCode = record p { stage = stage.InBody; lo = lo; hi = hi; grid = grid } in
     subst (λ (x : PartialCode). Agrees x.stage x (record c { loops = suc c.loops; maps = 0 })) (same_Some r q e) (a.0, ap suc a.1, sym (ap length g.inside.0))
@@ -166,15 +168,19 @@ note-bad s l number none bad =
     ap (λ (o : Option Place). note o s.code l number) none ∙ ap (λ (b : Bool). if b then None else Some (record { in_loop = suc (length s.code.loops); line = number })) bad
 
 -- nothing is noted of good lines
-pub noted-none : (number : ℕ) (s q : Progress) (c : Counted) (ls : List Line) → AreLines ls → IsPartial s.code → Agrees s.code.stage s.code c → runs number s (map line_text ls) ≡ Some q → s.bad ≡ None → AreGood c ls → q.bad ≡ None
+pub noted-none : (number : ℕ) (s q : Progress) (c : Counted) (ls : List Line) → AreLines ls → IsPartial s.code → Agrees s.code.stage s.code c
+    → runs number s (map line_text ls) ≡ Some q → s.bad ≡ None → AreGood c ls → q.bad ≡ None
 noted-none number s q c [] fits g a e none good = sym (ap (λ (x : Progress). x.bad) (same_Some s q e)) ∙ none
 noted-none number s q c (l ∷ ls) fits g a e none good =
     let t = taken number s q l (map line_text ls) fits.0 g e in
     let judged = line-judged l s.code t.made c a t.is in
-    noted-none (suc number) (record { code = t.made; bad = note s.bad s.code l number }) q (count_line c l) ls fits.1 t.kept (line-agrees l s.code t.made c g a t.is) t.rest (note-good s l number none (judged.same ∙ good.0)) good.1
+    noted-none (suc number) (record { code = t.made; bad = note s.bad s.code l number }) q (count_line c l) ls fits.1 t.kept
+    (line-agrees l s.code t.made c g a t.is) t.rest (note-good s l number none (judged.same ∙ good.0)) good.1
 
 -- of others the first bad one is
-pub noted-first : (number : ℕ) (s q : Progress) (c : Counted) (before : List Line) (here : Line) (behind : List Line) → AreLines (before ++ here ∷ behind) → IsPartial s.code → Agrees s.code.stage s.code c → runs number s (map line_text (before ++ here ∷ behind)) ≡ Some q → s.bad ≡ None → AreGood c before → is_good (count_lines c before) here ≡ false → q.bad ≡ Some (record { in_loop = (count_lines c before).loops; line = length before + number })
+pub noted-first : (number : ℕ) (s q : Progress) (c : Counted) (before : List Line) (here : Line) (behind : List Line) → AreLines (before ++ here ∷ behind)
+    → IsPartial s.code → Agrees s.code.stage s.code c → runs number s (map line_text (before ++ here ∷ behind)) ≡ Some q → s.bad ≡ None → AreGood c before
+    → is_good (count_lines c before) here ≡ false → q.bad ≡ Some (record { in_loop = (count_lines c before).loops; line = length before + number })
 noted-first number s q c [] here behind fits g a e none good bad =
     let t = taken number s q here (map line_text behind) fits.0 g e in
     let judged = line-judged here s.code t.made c a t.is in
@@ -185,7 +191,8 @@ noted-first number s q c (l ∷ before) here behind fits g a e none good bad =
     let t = taken number s q l (map line_text (before ++ here ∷ behind)) fits.0 g e in
     let judged = line-judged l s.code t.made c a t.is in
     let next : Progress = record { code = t.made; bad = note s.bad s.code l number } in
-    let rest = noted-first (suc number) next q (count_line c l) before here behind fits.1 t.kept (line-agrees l s.code t.made c g a t.is) t.rest (note-good s l number none (judged.same ∙ good.0)) good.1 bad in
+    let rest = noted-first (suc number) next q (count_line c l) before here behind fits.1 t.kept (line-agrees l s.code t.made c g a t.is) t.rest
+    (note-good s l number none (judged.same ∙ good.0)) good.1 bad in
     let count : length before + suc number ≡ suc (length before) + number = omega arith in
     rest ∙ ap (λ (n : ℕ). Some (record { in_loop = (count_lines (count_line c l) before).loops; line = n })) count
 

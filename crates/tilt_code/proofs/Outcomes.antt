@@ -1,5 +1,6 @@
 -- What a text comes to is the code whose listing it is, or the first fault in it, and nothing else.
-use Rattle.std.proofs.Common.{◌≡◌, ◌⊎◌, ℕ, suc, ◌+◌, Bool, true, false, not, if◌then◌else◌, List, [], ◌∷◌, ◌++◌, length, map, Option, Some, None, Result, Ok, Err, refl, sym, ap, ◌∙◌, subst, arith, inl, inr, ⊎_elim, append-nil}
+use Rattle.std.proofs.Common.{◌≡◌, ◌⊎◌, ℕ, suc, ◌+◌, Bool, true, false, not, if◌then◌else◌, List, [], ◌∷◌, ◌++◌, length, map}
+use Rattle.std.proofs.Common.{Option, Some, None, Result, Ok, Err, refl, sym, ap, ◌∙◌, subst, arith, inl, inr, ⊎_elim, append-nil}
 use Rattle.std.specs.Prelude.{IfOk, IfErr, MatchResult}
 use Rattle.std.specs.List.{AllByRecursion}
 use Rattle.std.proofs.lemmas.Bool.{cases_Bool, and_parts}
@@ -29,7 +30,8 @@ use Rattle.tilt_code.proofs.LineText.{IsLine}
 use Rattle.tilt_code.proofs.Notes.{noted-none, noted-first, Verdict, all_good, first_bad, verdict}
 use Rattle.tilt_code.proofs.Partials.{IsPartial, nothing-is, written, written_in, take_text, nil_true, some_length}
 use Rattle.tilt_code.proofs.Pieces.{pieces_some, pieces_front, pieces_lone}
-use Rattle.tilt_code.proofs.Texts.{joined, joined_pieces, joined_then, joined_append, pieces_ended, pieces_lack, lacks_within, within_lacks, runs, read_runs, read_from-then, Told, whole, early, refused, Stops, stops, runs-taken, taken-runs, refused-taken}
+use Rattle.tilt_code.proofs.Texts.{joined, joined_pieces, joined_then, joined_append, pieces_ended, pieces_lack, lacks_within, within_lacks, runs}
+use Rattle.tilt_code.proofs.Texts.{read_runs, read_from-then, Told, whole, early, refused, Stops, stops, runs-taken, taken-runs, refused-taken}
 
 abbrev start : Progress
 start = record { code = nothing; bad = None }
@@ -185,7 +187,8 @@ refused-or number (Some s) next never = absurd (never s refl)
 module _ (bytes : List ℕ) (n : ℕ) (b : IsBadLine bytes n) (q : Progress) (reached : runs 1 start b.before ≡ Some q) where
   behind-reads : (p : List ℕ) (ps : List (List ℕ)) → pieces 10 b.rest ≡ p ∷ ps → read_text bytes ≡ read_from (length b.before + 1) q (p ∷ ps)
   behind-reads p ps e =
-      ap (read_from 1 start) (ap (pieces 10) b.whole ∙ pieces_ended b.before b.rest (front-lacks b.before b.good) ∙ ap (λ (l : List (List ℕ)). b.before ++ l) e) ∙ read_runs 1 start q b.before p ps reached
+      ap (read_from 1 start) (ap (pieces 10) b.whole ∙ pieces_ended b.before b.rest (front-lacks b.before b.good) ∙ ap (λ (l : List (List ℕ)). b.before ++ l) e)
+      ∙ read_runs 1 start q b.before p ps reached
 
   line-number : ◌≡◌ {A = Result Progress ℕ} (Err (length b.before + 1)) (Err n)
   line-number = let same : length b.before + 1 ≡ n = omega (arith, b.counted) in ap (λ (k : ℕ). Err k) same
@@ -206,7 +209,8 @@ module _ (bytes : List ℕ) (n : ℕ) (b : IsBadLine bytes n) (q : Progress) (re
       let never : (s : Progress) → with_text (length b.before + 1) text q ≡ Some s → ⊥ = λ s taken.
       let step = runs-taken (length b.before + 1) q s (text ∷ []) (ap (λ (o : Option Progress). o >>= λ r. Some r) taken) in
       unfront (taken-front s.code (b.before ++ text ∷ []) (texts-join nothing q.code s.code b.before (text ∷ []) (runs-taken 1 start q b.before reached) step)) in
-      reads ∙ read_from-then (length b.before + 1) q text (pieces 10 more) (pieces_some 10 more) ∙ refused-or (length b.before + 1) (with_text (length b.before + 1) text q) (λ r. read_from (suc (length b.before + 1)) r (pieces 10 more)) never ∙ line-number
+      reads ∙ read_from-then (length b.before + 1) q text (pieces 10 more) (pieces_some 10 more)
+      ∙ refused-or (length b.before + 1) (with_text (length b.before + 1) text q) (λ r. read_from (suc (length b.before + 1)) r (pieces 10 more)) never ∙ line-number
 
 -- and the first that is bad is told
 pub line-bad : (bytes : List ℕ) (n : ℕ) → IsBadLine bytes n → read_text bytes ≡ Err n
@@ -221,20 +225,25 @@ module _ (code : CodeParts) (h : IsGrammatical code) (q : Progress) (reached : r
   unnoted : AreGood none_counted (code_lines code) → q.bad ≡ None
   unnoted good = noted-none 1 start q none_counted (code_lines code) (code-fits code h) nothing-is (refl, refl) reached refl good
 
-  noted : (before : List Line) (here : Line) (behind : List Line) → code_lines code ≡ before ++ here ∷ behind → AreGood none_counted before → is_good (count_lines none_counted before) here ≡ false → q.bad ≡ Some (record { in_loop = (count_lines none_counted before).loops; line = length before + 1 })
+  noted : (before : List Line) (here : Line) (behind : List Line) → code_lines code ≡ before ++ here ∷ behind → AreGood none_counted before
+      → is_good (count_lines none_counted before) here ≡ false → q.bad ≡ Some (record { in_loop = (count_lines none_counted before).loops; line = length before + 1 })
   noted before here behind e good bad =
-      noted-first 1 start q none_counted before here behind (subst (AllByRecursion IsLine) e (code-fits code h)) nothing-is (refl, refl) (ap (λ (ls : List Line). runs 1 start (map line_text ls)) (sym e) ∙ reached) refl good bad
+      noted-first 1 start q none_counted before here behind (subst (AllByRecursion IsLine) e (code-fits code h)) nothing-is (refl, refl)
+      (ap (λ (ls : List Line). runs 1 start (map line_text ls)) (sym e) ∙ reached) refl good bad
 
-code-judged : (p : PartialCode) → IsGrammatical (code_of p) → runs 1 start (code_texts (code_of p)) ≡ Some (record { code = p; bad = None }) → Verdict none_counted (code_lines (code_of p)) → IsCode (code_of p)
+code-judged : (p : PartialCode) → IsGrammatical (code_of p) → runs 1 start (code_texts (code_of p)) ≡ Some (record { code = p; bad = None })
+    → Verdict none_counted (code_lines (code_of p)) → IsCode (code_of p)
 code-judged p h reached (all_good good) = record { grammatical = h; references = good-code (code_of p) h.loops good }
 code-judged p h reached (first_bad before here behind e good bad) =
     absurd (none-some _ (noted (code_of p) h (record { code = p; bad = None }) reached before here behind e good bad))
 
-place-judged : (bytes : List ℕ) (p : PartialCode) (place : Place) → ReadsAs bytes (record { code = p; bad = Some place }) → Verdict none_counted (code_lines (code_of p)) → IsBadReference bytes place.in_loop place.line
+place-judged : (bytes : List ℕ) (p : PartialCode) (place : Place) → ReadsAs bytes (record { code = p; bad = Some place })
+    → Verdict none_counted (code_lines (code_of p)) → IsBadReference bytes place.in_loop place.line
 place-judged bytes p place r (all_good good) =
     absurd (none-some place (sym (unnoted (code_of p) r.grammatical (record { code = p; bad = Some place }) r.reached good)))
 place-judged bytes p place r (first_bad before here behind e good bad) =
-    let found = same_Some place (record { in_loop = (count_lines none_counted before).loops; line = length before + 1 }) (noted (code_of p) r.grammatical (record { code = p; bad = Some place }) r.reached before here behind e good bad) in
+    let found = same_Some place (record { in_loop = (count_lines none_counted before).loops; line = length before + 1 })
+    (noted (code_of p) r.grammatical (record { code = p; bad = Some place }) r.reached before here behind e good bad) in
     record {
       code = code_of p;
       before = before;
@@ -269,7 +278,8 @@ code-read code h =
     (r.there.code, r.read ∙ ap (λ (o : Option Place). Ok (record { code = r.there.code; bad = o })) none, r.parts)
 
 -- and a listing whose first bad reference stands there comes to that
-pub bad-read : (bytes : List ℕ) (in_loop n : ℕ) → IsBadReference bytes in_loop n → (p : PartialCode) × (read_text bytes ≡ Ok (record { code = p; bad = Some (record { in_loop = in_loop; line = n }) }))
+pub bad-read : (bytes : List ℕ) (in_loop n : ℕ) → IsBadReference bytes in_loop n → (p : PartialCode)
+    × (read_text bytes ≡ Ok (record { code = p; bad = Some (record { in_loop = in_loop; line = n }) }))
 bad-read bytes in_loop n b =
     let r = code-reads b.code b.grammatical in
     let found = noted b.code b.grammatical r.there r.reached b.before b.here b.behind b.lines b.good b.bad in
@@ -295,7 +305,8 @@ given-line bytes (Err (fault.BadCode m)) g = λ n e. subst (IsBadLine bytes) (ba
 given-line bytes (Err (fault.BadReference l m)) g = λ n e. absurd (cc e)
 given-line bytes (Err fault.OutOfMemory) g = λ n e. absurd (cc e)
 
-pub given-reference : (bytes : List ℕ) (result : Result CodeParts CodeFault) → Gives result (read_text bytes) → IfErr result (λ f. (in_loop n : ℕ) → f ≡ fault.BadReference in_loop n → IsBadReference bytes in_loop n)
+pub given-reference : (bytes : List ℕ) (result : Result CodeParts CodeFault) → Gives result (read_text bytes)
+    → IfErr result (λ f. (in_loop n : ℕ) → f ≡ fault.BadReference in_loop n → IsBadReference bytes in_loop n)
 given-reference bytes (Ok code) g = tt
 given-reference bytes (Err (fault.BadCode m)) g = λ l n e. absurd (cc e)
 given-reference bytes (Err (fault.BadReference k m)) g = λ l n e.
@@ -309,7 +320,8 @@ same_progress p q a b e =
     let same = same_Ok {B = ℕ} (record { code = p; bad = a }) (record { code = q; bad = b }) e in
     (ap (λ (s : Progress). s.code) same, ap (λ (s : Progress). s.bad) same)
 
-pub given-only : (bytes : List ℕ) (result : Result CodeParts CodeFault) → Gives result (read_text bytes) → (code : CodeParts) → IsCode code → bytes ≡ listing code → MatchResult result (λ found. found ≡ code) (λ f. f ≡ fault.OutOfMemory)
+pub given-only : (bytes : List ℕ) (result : Result CodeParts CodeFault) → Gives result (read_text bytes) → (code : CodeParts) → IsCode code → bytes
+    ≡ listing code → MatchResult result (λ found. found ≡ code) (λ f. f ≡ fault.OutOfMemory)
 given-only bytes (Ok found) g code h is =
     let r = code-read code h in
     let same = same_progress g.0 r.0 None None (sym g.1 ∙ ap read_text is ∙ r.1) in
@@ -323,13 +335,15 @@ given-only bytes (Err (fault.BadReference k m)) g code h is =
     absurd (none-some (record { in_loop = k; line = m }) (sym same.1))
 given-only bytes (Err fault.OutOfMemory) g code h is = refl
 
-pub given-first_line : (bytes : List ℕ) (result : Result CodeParts CodeFault) → Gives result (read_text bytes) → (n : ℕ) → IsBadLine bytes n → MatchResult result (λ _. ⊥) (λ f. (f ≡ fault.BadCode n) ⊎ (f ≡ fault.OutOfMemory))
+pub given-first_line : (bytes : List ℕ) (result : Result CodeParts CodeFault) → Gives result (read_text bytes) → (n : ℕ) → IsBadLine bytes n
+    → MatchResult result (λ _. ⊥) (λ f. (f ≡ fault.BadCode n) ⊎ (f ≡ fault.OutOfMemory))
 given-first_line bytes (Ok found) g n b = ok-err (record { code = g.0; bad = None }) n (sym g.1 ∙ line-bad bytes n b)
 given-first_line bytes (Err (fault.BadCode m)) g n b = inl (ap fault.BadCode (same_Err {A = Progress} m n (sym g ∙ line-bad bytes n b)))
 given-first_line bytes (Err (fault.BadReference k m)) g n b = absurd (ok-err (record { code = g.0; bad = Some (record { in_loop = k; line = m }) }) n (sym g.1 ∙ line-bad bytes n b))
 given-first_line bytes (Err fault.OutOfMemory) g n b = inr refl
 
-pub given-first_reference : (bytes : List ℕ) (result : Result CodeParts CodeFault) → Gives result (read_text bytes) → (in_loop n : ℕ) → IsBadReference bytes in_loop n → MatchResult result (λ _. ⊥) (λ f. (f ≡ fault.BadReference in_loop n) ⊎ (f ≡ fault.OutOfMemory))
+pub given-first_reference : (bytes : List ℕ) (result : Result CodeParts CodeFault) → Gives result (read_text bytes) → (in_loop n : ℕ)
+    → IsBadReference bytes in_loop n → MatchResult result (λ _. ⊥) (λ f. (f ≡ fault.BadReference in_loop n) ⊎ (f ≡ fault.OutOfMemory))
 given-first_reference bytes (Ok found) g l n b =
     let r = bad-read bytes l n b in
     none-some (record { in_loop = l; line = n }) (same_progress g.0 r.0 None (Some (record { in_loop = l; line = n })) (sym g.1 ∙ r.1)).1
@@ -338,6 +352,7 @@ given-first_reference bytes (Err (fault.BadCode m)) g l n b =
     absurd (ok-err (record { code = r.0; bad = Some (record { in_loop = l; line = n }) }) m (sym r.1 ∙ g))
 given-first_reference bytes (Err (fault.BadReference k m)) g l n b =
     let r = bad-read bytes l n b in
-    let same = same_Some (record { in_loop = k; line = m }) (record { in_loop = l; line = n }) (same_progress g.0 r.0 (Some (record { in_loop = k; line = m })) (Some (record { in_loop = l; line = n })) (sym g.1 ∙ r.1)).1 in
+    let same = same_Some (record { in_loop = k; line = m }) (record { in_loop = l; line = n })
+    (same_progress g.0 r.0 (Some (record { in_loop = k; line = m })) (Some (record { in_loop = l; line = n })) (sym g.1 ∙ r.1)).1 in
     inl (λ i. fault.BadReference (same i).in_loop (same i).line)
 given-first_reference bytes (Err fault.OutOfMemory) g l n b = inr refl

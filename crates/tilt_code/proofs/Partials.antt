@@ -1,5 +1,6 @@
 -- The lines so far are those of the partial code that they make, and each front of a listing makes one.
-use Rattle.std.proofs.Common.{◌≡◌, ℕ, ◌^◌, ◌<◌, ◌≤◌, Bool, true, false, ◌&&◌, not, if◌then◌else◌, nat_eq, List, [], ◌∷◌, ◌++◌, length, map, Option, Some, None, ℤ, IsTrue, refl, sym, ap, ◌∙◌, subst, arith, inl, inr, append-nil, append_assoc, length-append}
+use Rattle.std.proofs.Common.{◌≡◌, ℕ, ◌^◌, ◌<◌, ◌≤◌, Bool, true, false, ◌&&◌, not, if◌then◌else◌, nat_eq, List, [], ◌∷◌, ◌++◌, length, map}
+use Rattle.std.proofs.Common.{Option, Some, None, ℤ, IsTrue, refl, sym, ap, ◌∙◌, subst, arith, inl, inr, append-nil, append_assoc, length-append}
 use Rattle.std.specs.List.{flat_map, list_any, AllByRecursion}
 use Rattle.std.specs.Str.{bytes_eq}
 use Rattle.std.proofs.lemmas.Bool.{cases_Bool, and_parts, not-true, eqb-true}
@@ -124,12 +125,14 @@ step_is at p r q l e lines kept =
 title-sound : (at : Stage) (p q : PartialCode) → IsPartialAt at p → with_title at p ≡ Some q → Step at p q line.Title
 title-sound stage.Before p q g e =
     let h = g.inside in
-    step_is stage.Before p (record p { stage = stage.Outside }) q line.Title e (λ i. line.Title ∷ (map line.Input (h.0 i) ++ flat_map loop_lines (h.1 i))) (record { named = g.named; distinct = g.distinct; loops = g.loops; inside = (h.2, h.3) })
+    step_is stage.Before p (record p { stage = stage.Outside }) q line.Title e (λ i. line.Title ∷ (map line.Input (h.0 i) ++ flat_map loop_lines (h.1 i)))
+    (record { named = g.named; distinct = g.distinct; loops = g.loops; inside = (h.2, h.3) })
 title-sound stage.Outside p q g e = absurd (none-some q e)
 title-sound stage.InMap p q g e = absurd (none-some q e)
 title-sound stage.InBody p q g e = absurd (none-some q e)
 
-input-lines : (inputs : List (List ℕ)) (name : List ℕ) (loops : List LoopParts) → loops ≡ [] → map line.Input (inputs ++ name ∷ []) ++ flat_map loop_lines loops ≡ (map line.Input inputs ++ flat_map loop_lines loops) ++ line.Input name ∷ []
+input-lines : (inputs : List (List ℕ)) (name : List ℕ) (loops : List LoopParts) → loops ≡ [] → map line.Input (inputs ++ name ∷ []) ++ flat_map loop_lines loops
+    ≡ (map line.Input inputs ++ flat_map loop_lines loops) ++ line.Input name ∷ []
 input-lines inputs name loops e =
     rw e (append-nil (map line.Input (inputs ++ name ∷ [])) ∙ map-append line.Input inputs (name ∷ []) ∙ ap (λ (t : List Line). t ++ line.Input name ∷ []) (sym (append-nil (map line.Input inputs))))
 
@@ -152,11 +155,13 @@ input-sound stage.InBody name p q n g e = absurd (none-some q e)
 none-open : (stands : Instr → Bool) (block : Block) → block ≡ [] → IsOpen stands block
 none-open stands block e = subst (IsOpen stands) (sym e) (record { few = omega arith; instrs = tt })
 
-head-sound : (at : Stage) (lo hi : ℤ) (grid : GridPoints) (p q : PartialCode) → IsStretch lo hi → IsGrid grid → IsPartialAt at p → with_head at lo hi grid p ≡ Some q → Step at p q (line.Head lo hi grid)
+head-sound : (at : Stage) (lo hi : ℤ) (grid : GridPoints) (p q : PartialCode) → IsStretch lo hi → IsGrid grid → IsPartialAt at p → with_head at lo hi grid p
+    ≡ Some q → Step at p q (line.Head lo hi grid)
 head-sound stage.Outside lo hi grid p q s k g e =
     let r : PartialCode = record p { stage = stage.InBody; lo = lo; hi = hi; grid = grid } in
     let h = g.inside in
-    step_is stage.Outside p r q (line.Head lo hi grid) e ((λ i. (opened p ++ line.Head lo hi grid ∷ flat_map map_lines (h.0 i)) ++ block_lines 0 (h.1 i)) ∙ append-nil (opened p ++ line.Head lo hi grid ∷ [])) (record {
+    step_is stage.Outside p r q (line.Head lo hi grid) e ((λ i. (opened p ++ line.Head lo hi grid ∷ flat_map map_lines (h.0 i)) ++ block_lines 0 (h.1 i))
+    ∙ append-nil (opened p ++ line.Head lo hi grid ∷ [])) (record {
       named = g.named;
       distinct = g.distinct;
       loops = g.loops;
@@ -188,7 +193,8 @@ map-sound stage.Outside p q g e = absurd (none-some q e)
 map-sound stage.InMap p q g e = absurd (none-some q e)
 
 -- an instruction more in an open block
-open-push : (stands : Instr → Bool) (block : Block) (register : ℕ) (i : Instr) → IsNumber register → IsInstr i → stands i ≡ true → register ≡ length block → IsOpen stands block → IsOpen stands (block ++ i ∷ [])
+open-push : (stands : Instr → Bool) (block : Block) (register : ℕ) (i : Instr) → IsNumber register → IsInstr i → stands i ≡ true → register ≡ length block
+    → IsOpen stands block → IsOpen stands (block ++ i ∷ [])
 open-push stands block register i n w s same h = record {
   few = omega (arith, n, same, length-append block (i ∷ []));
   instrs = all-append (λ j. IsTrue (stands j) × IsInstr j) block (i ∷ []) h.instrs ((s, w), tt);
@@ -200,7 +206,8 @@ step-sound stage.InMap register i p q n w g e =
     let kept = guard_some (stands_in_map i && nat_eq register (length p.block)) (Some r) q e in
     let tests = and_parts (stands_in_map i) (nat_eq register (length p.block)) kept.0 in
     let same = eqb-true register (length p.block) tests.1 in
-    step_is stage.InMap p r q (line.Step register i) kept.1 (ap (λ (ls : List Line). headed p ++ line.Map ∷ ls) (block_lines-push 0 register p.block i (omega (arith, same))) ∙ sym (append_assoc (headed p) (line.Map ∷ block_lines 0 p.block) (line.Step register i ∷ []))) (record {
+    step_is stage.InMap p r q (line.Step register i) kept.1 (ap (λ (ls : List Line). headed p ++ line.Map ∷ ls)
+    (block_lines-push 0 register p.block i (omega (arith, same))) ∙ sym (append_assoc (headed p) (line.Map ∷ block_lines 0 p.block) (line.Step register i ∷ []))) (record {
       named = g.named;
       distinct = g.distinct;
       loops = g.loops;
@@ -211,7 +218,9 @@ step-sound stage.InBody register i p q n w g e =
     let kept = guard_some (stands_in_body i && nat_eq register (length p.block)) (Some r) q e in
     let tests = and_parts (stands_in_body i) (nat_eq register (length p.block)) kept.0 in
     let same = eqb-true register (length p.block) tests.1 in
-    step_is stage.InBody p r q (line.Step register i) kept.1 (ap (λ (ls : List Line). headed p ++ ls) (block_lines-push 0 register p.block i (omega (arith, same))) ∙ sym (append_assoc (headed p) (block_lines 0 p.block) (line.Step register i ∷ []))) (record {
+    step_is stage.InBody p r q (line.Step register i) kept.1
+    (ap (λ (ls : List Line). headed p ++ ls) (block_lines-push 0 register p.block i (omega (arith, same)))
+    ∙ sym (append_assoc (headed p) (block_lines 0 p.block) (line.Step register i ∷ []))) (record {
       named = g.named;
       distinct = g.distinct;
       loops = g.loops;
@@ -231,7 +240,8 @@ open-block stands block some h = record { some = some_length block some; few = h
 map-end-lines : (front maps block : List Line) (head map end : Line) → (front ++ head ∷ (maps ++ ((map ∷ (block ++ end ∷ [])) ++ []))) ++ [] ≡ ((front ++ head ∷ maps) ++ map ∷ block) ++ end ∷ []
 map-end-lines front maps block head map end = simp (append_assoc, append-nil)
 
-loop-end-lines : (inputs loops maps block : List Line) (head end : Line) → inputs ++ (loops ++ ((head ∷ (maps ++ block ++ end ∷ [])) ++ [])) ≡ (((inputs ++ loops) ++ head ∷ maps) ++ block) ++ end ∷ []
+loop-end-lines : (inputs loops maps block : List Line) (head end : Line) → inputs ++ (loops ++ ((head ∷ (maps ++ block ++ end ∷ [])) ++ []))
+    ≡ (((inputs ++ loops) ++ head ∷ maps) ++ block) ++ end ∷ []
 loop-end-lines inputs loops maps block head end = simp (append_assoc, append-nil)
 
 end-sound : (at : Stage) (p q : PartialCode) → IsPartialAt at p → with_end at p ≡ Some q → Step at p q line.End
@@ -240,7 +250,8 @@ end-sound stage.InMap p q g e =
     let kept = guard_else (is_nil p.block) (Some r) q e in
     let block = open-block stands_in_map p.block kept.0 g.inside.1 in
     let head = line.Head p.lo p.hi p.grid in
-    step_is stage.InMap p r q line.End kept.1 (ap (λ (ls : List Line). (opened p ++ head ∷ ls) ++ []) (flat_map-append map_lines p.maps (p.block ∷ [])) ∙ map-end-lines (opened p) (flat_map map_lines p.maps) (block_lines 0 p.block) head line.Map line.End) (record {
+    step_is stage.InMap p r q line.End kept.1 (ap (λ (ls : List Line). (opened p ++ head ∷ ls) ++ []) (flat_map-append map_lines p.maps (p.block ∷ []))
+    ∙ map-end-lines (opened p) (flat_map map_lines p.maps) (block_lines 0 p.block) head line.Map line.End) (record {
       named = g.named;
       distinct = g.distinct;
       loops = g.loops;
@@ -259,7 +270,9 @@ end-sound stage.InBody p q g e =
     let block = open-block stands_in_body p.block kept.0 g.inside.1 in
     let head = line.Head p.lo p.hi p.grid in
     let whole : IsLoop (open_loop p) = record { stretch = g.inside.0.stretch; grid = g.inside.0.on_grid; maps = g.inside.0.mapped; body = block } in
-    step_is stage.InBody p r q line.End kept.1 (ap (λ (ls : List Line). line.Title ∷ (map line.Input p.inputs ++ ls)) (flat_map-append loop_lines p.loops (open_loop p ∷ [])) ∙ loop-end-lines (line.Title ∷ map line.Input p.inputs) (flat_map loop_lines p.loops) (flat_map map_lines p.maps) (block_lines 0 p.block) head line.End) (record {
+    step_is stage.InBody p r q line.End kept.1 (ap (λ (ls : List Line). line.Title ∷ (map line.Input p.inputs ++ ls))
+    (flat_map-append loop_lines p.loops (open_loop p ∷ []))
+    ∙ loop-end-lines (line.Title ∷ map line.Input p.inputs) (flat_map loop_lines p.loops) (flat_map map_lines p.maps) (block_lines 0 p.block) head line.End) (record {
       named = g.named;
       distinct = g.distinct;
       loops = all-append IsLoop p.loops (open_loop p ∷ []) g.loops (whole, tt);

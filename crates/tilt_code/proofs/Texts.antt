@@ -1,5 +1,6 @@
 -- A text, cut at each LF, and what it comes to.
-use Rattle.std.proofs.Common.{◌≡◌, ℕ, zero, suc, ◌+◌, Bool, true, false, if◌then◌else◌, List, [], ◌∷◌, ◌++◌, length, Option, Some, None, Result, Ok, Err, refl, sym, ap, ◌∙◌, arith, inl, inr, append-nil, append_assoc, add-one}
+use Rattle.std.proofs.Common.{◌≡◌, ℕ, zero, suc, ◌+◌, Bool, true, false, if◌then◌else◌, List, [], ◌∷◌, ◌++◌, length, Option, Some}
+use Rattle.std.proofs.Common.{None, Result, Ok, Err, refl, sym, ap, ◌∙◌, arith, inl, inr, append-nil, append_assoc, add-one}
 use Rattle.std.specs.Prelude.{codes, ◌==◌}
 use Rattle.std.specs.List.{AllByRecursion, join_with_byte, onto_first}
 use Rattle.std.proofs.lemmas.Bool.{cases_Bool, eqb-true}
@@ -48,13 +49,15 @@ joined_append [] v vs = refl
 joined_append (w ∷ []) v vs =
     sym (append_assoc w (codes "\n") (joined (v ∷ vs))) ∙ ap (λ (t : List ℕ). t ++ joined (v ∷ vs)) (sym (append-nil (w ++ codes "\n")))
 joined_append (w ∷ x ∷ ws) v vs =
-    ap (λ (t : List ℕ). w ++ 10 ∷ t) (joined_append (x ∷ ws) v vs) ∙ sym (append_assoc w (codes "\n") (ended (x ∷ ws) ++ joined (v ∷ vs))) ∙ sym (append_assoc (w ++ codes "\n") (ended (x ∷ ws)) (joined (v ∷ vs)))
+    ap (λ (t : List ℕ). w ++ 10 ∷ t) (joined_append (x ∷ ws) v vs) ∙ sym (append_assoc w (codes "\n") (ended (x ∷ ws) ++ joined (v ∷ vs)))
+    ∙ sym (append_assoc (w ++ codes "\n") (ended (x ∷ ws)) (joined (v ∷ vs)))
 
 -- whole lines in front of a text are pieces in front of its pieces
 pub pieces_ended : (texts : List (List ℕ)) (rest : List ℕ) → AllByRecursion (Lacks 10) texts → pieces 10 (ended texts ++ rest) ≡ texts ++ pieces 10 rest
 pieces_ended [] rest all = refl
 pieces_ended (t ∷ ts) rest all =
-    ap (pieces 10) (append_assoc (t ++ codes "\n") (ended ts) rest ∙ append_assoc t (codes "\n") (ended ts ++ rest)) ∙ pieces_front 10 t (ended ts ++ rest) all.0 ∙ ap (λ (ps : List (List ℕ)). t ∷ ps) (pieces_ended ts rest all.1)
+    ap (pieces 10) (append_assoc (t ++ codes "\n") (ended ts) rest ∙ append_assoc t (codes "\n") (ended ts ++ rest))
+    ∙ pieces_front 10 t (ended ts ++ rest) all.0 ∙ ap (λ (ps : List (List ℕ)). t ∷ ps) (pieces_ended ts rest all.1)
 
 -- no LF within, in the words of the definition and byte by byte
 
@@ -78,7 +81,8 @@ abbrev pub runs : ℕ → Progress → List (List ℕ) → Option Progress
 runs number s [] = Some s
 runs number s (t ∷ ts) = with_text number t s >>= λ q. runs (suc number) q ts
 
-pub read_from-then : (number : ℕ) (s : Progress) (t : List ℕ) (ps : List (List ℕ)) → (ps ≡ [] → ⊥) → read_from number s (t ∷ ps) ≡ or_line number (with_text number t s) (λ q. read_from (suc number) q ps)
+pub read_from-then : (number : ℕ) (s : Progress) (t : List ℕ) (ps : List (List ℕ)) → (ps ≡ [] → ⊥) → read_from number s (t ∷ ps)
+    ≡ or_line number (with_text number t s) (λ q. read_from (suc number) q ps)
 read_from-then number s t [] h = absurd (h refl)
 read_from-then number s t (p ∷ ps) h = refl
 
@@ -87,7 +91,8 @@ some_behind [] p ps e = cc e
 some_behind (x ∷ xs) p ps e = cc e
 
 -- texts that come to something, and what is behind them
-pub read_runs : (number : ℕ) (s q : Progress) (ts : List (List ℕ)) (p : List ℕ) (ps : List (List ℕ)) → runs number s ts ≡ Some q → read_from number s (ts ++ p ∷ ps) ≡ read_from (length ts + number) q (p ∷ ps)
+pub read_runs : (number : ℕ) (s q : Progress) (ts : List (List ℕ)) (p : List ℕ) (ps : List (List ℕ)) → runs number s ts ≡ Some q
+    → read_from number s (ts ++ p ∷ ps) ≡ read_from (length ts + number) q (p ∷ ps)
 read_runs number s q [] p ps e =
     let count : number ≡ 0 + number = omega arith in
     let same = same_Some s q e in
@@ -95,7 +100,8 @@ read_runs number s q [] p ps e =
 read_runs number s q (t ∷ ts) p ps e =
     let b = bind_some (with_text number t s) (λ r. runs (suc number) r ts) q e in
     let count : length ts + suc number ≡ suc (length ts) + number = omega arith in
-    read_from-then number s t (ts ++ p ∷ ps) (some_behind ts p ps) ∙ ap (λ (o : Option Progress). or_line number o (λ r. read_from (suc number) r (ts ++ p ∷ ps))) b.1 ∙ read_runs (suc number) b.0 q ts p ps b.2 ∙ ap (λ (n : ℕ). read_from n q (p ∷ ps)) count
+    read_from-then number s t (ts ++ p ∷ ps) (some_behind ts p ps)
+    ∙ ap (λ (o : Option Progress). or_line number o (λ r. read_from (suc number) r (ts ++ p ∷ ps))) b.1 ∙ read_runs (suc number) b.0 q ts p ps b.2 ∙ ap (λ (n : ℕ). read_from n q (p ∷ ps)) count
 
 -- why the reading of pieces stops: at the end of a listing, at an end that is none, or at a line that can't stand there
 pub data Told (at : ℕ) (here : List ℕ) (behind : List (List ℕ)) (there : Progress) (read : Result Progress ℕ) : Type 0 where
@@ -128,7 +134,8 @@ stops_then number s q t ps read e r = record {
   told = r.told;
 }
 
-stops_at : (number : ℕ) (s : Progress) (t : List ℕ) (p : List ℕ) (ps : List (List ℕ)) (o : Option Progress) → with_text number t s ≡ o → ((q : Progress) → Stops (suc number) q (p ∷ ps) (read_from (suc number) q (p ∷ ps))) → Stops number s (t ∷ p ∷ ps) (or_line number o (λ q. read_from (suc number) q (p ∷ ps)))
+stops_at : (number : ℕ) (s : Progress) (t : List ℕ) (p : List ℕ) (ps : List (List ℕ)) (o : Option Progress) → with_text number t s ≡ o
+    → ((q : Progress) → Stops (suc number) q (p ∷ ps) (read_from (suc number) q (p ∷ ps))) → Stops number s (t ∷ p ∷ ps) (or_line number o (λ q. read_from (suc number) q (p ∷ ps)))
 stops_at number s t p ps None e next = record {
   front = [];
   here = t;
@@ -190,7 +197,8 @@ taken-runs number s p (t ∷ ts) e =
     let b = bind_some (take_text t s.code) (λ r. run_texts r ts) p e in
     let l = bind_some (line_read t) (λ k. with_line k s.code) b.0 b.1 in
     let next : Progress = record { code = b.0; bad = note s.bad s.code l.0 number } in
-    let taken : with_text number t s ≡ Some next = ap (λ (o : Option Line). o >>= λ k. with_line k s.code >>= λ r. Some (record { code = r; bad = note s.bad s.code k number })) l.1 ∙ ap (λ (o : Option PartialCode). o >>= λ r. Some (record { code = r; bad = note s.bad s.code l.0 number })) l.2 in
+    let taken : with_text number t s ≡ Some next = ap (λ (o : Option Line). o >>= λ k. with_line k s.code >>= λ r. Some
+    (record { code = r; bad = note s.bad s.code k number })) l.1 ∙ ap (λ (o : Option PartialCode). o >>= λ r. Some (record { code = r; bad = note s.bad s.code l.0 number })) l.2 in
     let rest = taken-runs (suc number) next p ts b.2 in
     (rest.0, ap (λ (o : Option Progress). o >>= λ r. runs (suc number) r ts) taken ∙ rest.1, rest.2)
 
@@ -201,11 +209,15 @@ refused-taken number s t p none e =
     none-some r.0 (sym (ap (λ (o : Option Progress). o >>= λ r. Some r) none) ∙ r.1)
 
 -- a line that can't stand there
-pub read_refused : (number : ℕ) (s : Progress) (left text behind : List ℕ) → pieces 10 left ≡ text ∷ pieces 10 behind → with_text number text s ≡ None → read_from number s (pieces 10 left) ≡ Err number
+pub read_refused : (number : ℕ) (s : Progress) (left text behind : List ℕ) → pieces 10 left ≡ text ∷ pieces 10 behind → with_text number text s ≡ None
+    → read_from number s (pieces 10 left) ≡ Err number
 read_refused number s left text behind e none =
-    ap (read_from number s) e ∙ read_from-then number s text (pieces 10 behind) (pieces_some 10 behind) ∙ ap (λ (o : Option Progress). or_line number o (λ q. read_from (suc number) q (pieces 10 behind))) none
+    ap (read_from number s) e ∙ read_from-then number s text (pieces 10 behind) (pieces_some 10 behind)
+    ∙ ap (λ (o : Option Progress). or_line number o (λ q. read_from (suc number) q (pieces 10 behind))) none
 
 -- one that was taken
-pub read_taken : (number : ℕ) (s q : Progress) (left text behind : List ℕ) → pieces 10 left ≡ text ∷ pieces 10 behind → with_text number text s ≡ Some q → read_from number s (pieces 10 left) ≡ read_from (number + 1) q (pieces 10 behind)
+pub read_taken : (number : ℕ) (s q : Progress) (left text behind : List ℕ) → pieces 10 left ≡ text ∷ pieces 10 behind → with_text number text s ≡ Some q
+    → read_from number s (pieces 10 left) ≡ read_from (number + 1) q (pieces 10 behind)
 read_taken number s q left text behind e taken =
-    ap (read_from number s) e ∙ read_from-then number s text (pieces 10 behind) (pieces_some 10 behind) ∙ ap (λ (o : Option Progress). or_line number o (λ r. read_from (suc number) r (pieces 10 behind))) taken ∙ ap (λ (n : ℕ). read_from n q (pieces 10 behind)) (sym (add-one number))
+    ap (read_from number s) e ∙ read_from-then number s text (pieces 10 behind) (pieces_some 10 behind)
+    ∙ ap (λ (o : Option Progress). or_line number o (λ r. read_from (suc number) r (pieces 10 behind))) taken ∙ ap (λ (n : ℕ). read_from n q (pieces 10 behind)) (sym (add-one number))

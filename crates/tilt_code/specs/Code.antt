@@ -31,7 +31,8 @@ coded_block = coded_list instr.the_row.coded
 -- loops are told apart part by part
 abbrev pub coded_loop : Coded LoopParts
 coded_loop =
-    code_by (ℤ × (ℤ × (GridPoints × (List Block × Block)))) (coded× coded_ℤ (coded× coded_ℤ (coded× grid.the_row.coded (coded× (coded_list coded_block) coded_block))))
+    code_by (ℤ × (ℤ × (GridPoints × (List Block × Block)))) (coded× coded_ℤ
+    (coded× coded_ℤ (coded× grid.the_row.coded (coded× (coded_list coded_block) coded_block))))
     (λ l. (l.lo, (l.hi, (l.grid, (l.maps, l.body)))))
     (λ p. record { lo = p.0; hi = p.1.0; grid = p.1.1.0; maps = p.1.1.1.0; body = p.1.1.1.1 })
     (λ _. refl)
@@ -39,4 +40,5 @@ coded_loop =
 -- and codes too
 abbrev pub coded_code : Coded CodeParts
 coded_code =
-    code_by (List (List ℕ) × List LoopParts) (coded× (coded_list (coded_list coded_ℕ)) (coded_list coded_loop)) (λ c. (c.inputs, c.loops)) (λ p. record { inputs = p.0; loops = p.1 }) (λ _. refl)
+    code_by (List (List ℕ) × List LoopParts) (coded× (coded_list (coded_list coded_ℕ))
+    (coded_list coded_loop)) (λ c. (c.inputs, c.loops)) (λ p. record { inputs = p.0; loops = p.1 }) (λ _. refl)

@@ -1,5 +1,6 @@
 -- How a line is read, word by word. What it comes to is said by the lines' words alone: `Line`.
-use Rattle.std.specs.Prelude.{ℕ, ◌^◌, ◌==◌, ℤ, pos, negsuc, neg_ℤ, int_lt, int_le, nat_lt, Bool, not, ◌&&◌, if◌then◌else◌, List, [], ◌∷◌, Option, Some, None, MatchOption, codes, ◌≡◌}
+use Rattle.std.specs.Prelude.{ℕ, ◌^◌, ◌==◌, ℤ, pos, negsuc, neg_ℤ, int_lt, int_le, nat_lt, Bool, not, ◌&&◌}
+use Rattle.std.specs.Prelude.{if◌then◌else◌, List, [], ◌∷◌, Option, Some, None, MatchOption, codes, ◌≡◌}
 use Rattle.std.specs.List.{find, list_any, slice_split}
 use Rattle.std.specs.Str.{bytes_eq}
 use Rattle.tilt_base.specs.Grid.{GridPoints}

@@ -25,7 +25,8 @@ RefersBack buffers maps register (i ∷ is) = IsTrue (refers_below buffers maps 
 abbrev pub ReadsBefore : ℕ → List LoopParts → Type 0
 ReadsBefore buffers [] = ⊤
 ReadsBefore buffers (loop ∷ loops) =
-    AllByRecursion (RefersBack buffers (length loop.maps) 0) loop.maps × RefersBack buffers (length loop.maps) 0 loop.body × ReadsBefore (suc buffers) loops
+    AllByRecursion (RefersBack buffers (length loop.maps) 0) loop.maps
+    × RefersBack buffers (length loop.maps) 0 loop.body × ReadsBefore (suc buffers) loops
 
 -- each reference of a code is good
 abbrev pub HasGoodReferences : CodeParts → Type 0

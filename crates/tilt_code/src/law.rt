@@ -38,7 +38,8 @@ pub fn turns_end_by_marks()
 /// loop refers to needn't be there. Over buffers that change only at marks, the body changes only at marks, and so does the
 /// loop. The turns of a loop are the snapshots of its stream on its stretch, and their list has that stream, at every tick.
 /// So the buffers of a code have the streams of its loops read as definitions, and the run of a code gives the snapshots
-/// of its meaning on the stretch of its last loop. The loops of each `Code` have a stretch and a grid. The lists touch and go from the lower end of the stretch to the upper.
+/// of its meaning on the stretch of its last loop. The loops of each `Code` have a stretch and a grid. The lists touch and go from the
+/// lower end of the stretch to the upper.
 pub fn loops_are_streams()
     ensures body_changes { (xs : List Stream) (l : LoopParts) → AllByRecursion ChangesOnlyAtMarks xs
         → ChangesOnlyAtMarks (body_of xs l) }

@@ -1,6 +1,8 @@
 // The lines of a listing, and how one is read.
 ghost use Rattle.std.specs.Prelude.{◌≡◌, option_map, IfOk};
-ghost use Rattle.tilt_code.specs.Reading.{grid_of, head_at, input_line, is_input_name, is_reserved, is_stretch, last_word, line_of, other_at, pieces, step_at, title_at, whole_line, words_line, Reads};
+ghost use Rattle.tilt_code.specs.Reading.{grid_of, head_at, input_line, is_input_name, is_reserved, is_stretch};
+ghost use Rattle.tilt_code.specs.Reading.{last_word, line_of, other_at, pieces, step_at, title_at, whole_line};
+ghost use Rattle.tilt_code.specs.Reading.{words_line, Reads};
 
 use crate::form::read_instr;
 use crate::instr::Instr;

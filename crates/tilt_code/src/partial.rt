@@ -3,7 +3,9 @@ ghost use Rattle.std.specs.Prelude.{◌≡◌};
 ghost use Rattle.std.specs.List.{list_any};
 ghost use Rattle.std.specs.Str.{bytes_eq};
 ghost use Rattle.tilt_code.specs.Grammar.{stands_in_body, stands_in_map};
-ghost use Rattle.tilt_code.specs.Partial.{closed, is_new, nothing, parts_of, stands_in, with_end, with_head, with_input, with_line, with_map, with_step, with_title, Takes};
+ghost use Rattle.tilt_code.specs.Partial.{closed, is_new, nothing, parts_of, stands_in, with_end};
+ghost use Rattle.tilt_code.specs.Partial.{with_head, with_input, with_line, with_map, with_step};
+ghost use Rattle.tilt_code.specs.Partial.{with_title, Takes};
 
 use crate::instr::Instr;
 use crate::line::Line;

@@ -4,7 +4,8 @@ ghost use Rattle.tilt_code.specs.declared.fault.CodeFault.{CodeFault};
 ghost use Rattle.tilt_code.specs.Code.{CodeParts};
 ghost use Rattle.tilt_code.specs.Fault.{IsBadLine, IsBadReference};
 ghost use Rattle.tilt_code.specs.Listing.{listing};
-ghost use Rattle.tilt_code.specs.Partial.{is_end, is_whole, note, parts_of, read_from, read_text, refers_back, with_text, Gives, GivesProgress, TakesText};
+ghost use Rattle.tilt_code.specs.Partial.{is_end, is_whole, note, parts_of, read_from, read_text};
+ghost use Rattle.tilt_code.specs.Partial.{refers_back, with_text, Gives, GivesProgress, TakesText};
 ghost use Rattle.tilt_code.specs.References.{refers_below, IsCode};
 
 use crate::code::Code;

@@ -46,7 +46,8 @@ unbound_none_of_two : (first second : Option (List ℕ)) → first_of_two first 
 unbound_none_of_two None second none = none
 unbound_none_of_two (Some name) second none = cc
 
-pub bound_file : (declared : List (List ℕ)) (binds : List Binding) (name : List ℕ) (before after : List (List ℕ)) → faulty_name declared binds ≡ None → declared ≡ before ++ name ∷ after → Contains binds (record { name = name; file = file_of binds name })
+pub bound_file : (declared : List (List ℕ)) (binds : List Binding) (name : List ℕ) (before after : List (List ℕ)) → faulty_name declared binds ≡ None → declared
+    ≡ before ++ name ∷ after → Contains binds (record { name = name; file = file_of binds name })
 bound_file declared binds name before after none place =
     let unbound = unbound_none_of_two (first_unexpected declared [] (bound_names binds)) (first_unbound (bound_names binds) declared) none in
     file_among binds name (unbound_none (bound_names binds) name before after (ap (first_unbound (bound_names binds)) (sym place) ∙ unbound))

@@ -20,7 +20,8 @@ both_taken (Err why) others all is = cc
 both_taken (Ok rows) (Err why) all is = cc
 both_taken (Ok rows) (Ok others) all is = record { one = rows; more = others; one_is = refl; more_is = refl; all_is = cc }
 
-both_more : (first : Result (List Snapshot) Reason) (others : Result (List (List Snapshot)) Reason) (one : List Snapshot) (more : List (List Snapshot)) → first ≡ Ok one → others ≡ Ok more → with_rows first others ≡ Ok (one ∷ more)
+both_more : (first : Result (List Snapshot) Reason) (others : Result (List (List Snapshot)) Reason) (one : List Snapshot) (more : List (List Snapshot)) → first
+    ≡ Ok one → others ≡ Ok more → with_rows first others ≡ Ok (one ∷ more)
 both_more first others one more p q = rw (p, q) refl
 
 module _ (files : List ℕ → List ℕ) (binds : List Binding) where

@@ -26,7 +26,9 @@ use Rattle.tilt_series.specs.Series.{Bounds}
 use Rattle.tilt_words.specs.Binding.{Binding}
 
 -- a fault, where other refusals and other turns follow
-pub load_fault_weaker : (tells tells' : Type 0) (is is' : Reason → Type 0) (turn turn' : List ℕ → Type 0) (before after before' after' : ℕ) → (tells' → tells) → ((why : Reason) → tells' → is why → is' why) → ((name : List ℕ) → Rose before after → turn name → Rose before' after' × turn' name) → (report : Report) → IsLoadFault tells is turn before after report → IsLoadFault tells' is' turn' before' after' report
+pub load_fault_weaker : (tells tells' : Type 0) (is is' : Reason → Type 0) (turn turn' : List ℕ → Type 0) (before after before' after' : ℕ) → (tells' → tells)
+    → ((why : Reason) → tells' → is why → is' why) → ((name : List ℕ) → Rose before after → turn name → Rose before' after' × turn' name) → (report : Report)
+    → IsLoadFault tells is turn before after report → IsLoadFault tells' is' turn' before' after' report
 load_fault_weaker tells tells' is is' turn turn' b a b' a' told more next usage fault = fault
 load_fault_weaker tells tells' is is' turn turn' b a b' a' told more next (refusal why) fault =
     λ t. more why t (fault (told t))
@@ -41,7 +43,8 @@ pub too_long_refuses : (name file : List ℕ) (why : Reason) → IsTooLong name 
 too_long_refuses name file why is = rw is.0 (no_core (long is.1))
 
 -- a report that is a refusal or wants memory, where each refusal refuses the query
-loads_by : (name bytes : List ℕ) (report : Report) → (report ≡ out_of_memory) ⊎ ((why : Reason) × (report ≡ refusal why)) → ((why : Reason) → report ≡ refusal why → RefusesQuery name bytes why) → IsLoadFault ⊤ (RefusesQuery name bytes) (λ _. ⊥) 0 0 report
+loads_by : (name bytes : List ℕ) (report : Report) → (report ≡ out_of_memory) ⊎ ((why : Reason) × (report ≡ refusal why))
+    → ((why : Reason) → report ≡ refusal why → RefusesQuery name bytes why) → IsLoadFault ⊤ (RefusesQuery name bytes) (λ _. ⊥) 0 0 report
 loads_by name bytes report (inl memory) refuses = rw memory tt
 loads_by name bytes report (inr (why, is)) refuses = rw is (λ _. refuses why is)
 
@@ -66,17 +69,21 @@ check_report (check.BadDomain n) = inr (_, refl)
 check_report check.OutOfMemory = inl refl
 
 -- a faulty place refuses the query, unless it is want of memory
-pub place_refuses : (name bytes : List ℕ) (fault : LexFault) → length bytes ≤ FILE → (fault ≢ lexical.OutOfMemory → IsFaultyAt 0 bytes fault) → IsLoadFault ⊤ (RefusesQuery name bytes) (λ _. ⊥) 0 0 (report_of_place fault)
+pub place_refuses : (name bytes : List ℕ) (fault : LexFault) → length bytes ≤ FILE → (fault ≢ lexical.OutOfMemory → IsFaultyAt 0 bytes fault)
+    → IsLoadFault ⊤ (RefusesQuery name bytes) (λ _. ⊥) 0 0 (report_of_place fault)
 place_refuses name bytes fault short faulty =
     loads_by name bytes (report_of_place fault) (place_report fault) (λ why is. no_core (no_tokens fault short (faulty (λ same. let e = ap report_of_place same in cc)) is))
 
 -- tokens that are no query refuse it
-pub syntax_refuses : (name bytes : List ℕ) (tokens : List Token) (fault : SyntaxFault) → length bytes ≤ FILE → AreTokens 0 bytes tokens → (fault ≢ syntax.OutOfMemory → IsRefused (kinds tokens) fault) → IsLoadFault ⊤ (RefusesQuery name bytes) (λ _. ⊥) 0 0 (report_of_syntax fault)
+pub syntax_refuses : (name bytes : List ℕ) (tokens : List Token) (fault : SyntaxFault) → length bytes ≤ FILE → AreTokens 0 bytes tokens
+    → (fault ≢ syntax.OutOfMemory → IsRefused (kinds tokens) fault) → IsLoadFault ⊤ (RefusesQuery name bytes) (λ _. ⊥) 0 0 (report_of_syntax fault)
 syntax_refuses name bytes tokens fault short lexed faulty =
     loads_by name bytes (report_of_syntax fault) (syntax_report fault) (λ why is. no_core (no_statements tokens fault short lexed (faulty (λ same. let e = ap report_of_syntax same in cc)) is))
 
 -- a query that isn't well formed is refused
-pub check_refuses : (name bytes : List ℕ) (tokens : List Token) (query : List StatementTree) (fault : CheckFault) → length bytes ≤ FILE → AreTokens 0 bytes tokens → IsQueryOf (kinds tokens) query → (fault ≡ check.OutOfMemory) ⊎ (checked query ≡ Err fault) → IsLoadFault ⊤ (RefusesQuery name bytes) (λ _. ⊥) 0 0 (report_of_check fault)
+pub check_refuses : (name bytes : List ℕ) (tokens : List Token) (query : List StatementTree) (fault : CheckFault) → length bytes ≤ FILE
+    → AreTokens 0 bytes tokens → IsQueryOf (kinds tokens) query → (fault ≡ check.OutOfMemory) ⊎ (checked query ≡ Err fault)
+    → IsLoadFault ⊤ (RefusesQuery name bytes) (λ _. ⊥) 0 0 (report_of_check fault)
 check_refuses name bytes tokens query fault short lexed parsed (inl memory) = rw memory tt
 check_refuses name bytes tokens query fault short lexed parsed (inr is_fault) =
     loads_by name bytes (report_of_check fault) (check_report fault) (λ why is. no_core (ill_formed tokens query fault short lexed parsed is_fault is))
@@ -88,7 +95,8 @@ reach_refuses name bytes core (reach.TooFar back ahead) has is = λ _. far core 
 reach_refuses name bytes core reach.OutOfMemory has is = tt
 
 -- a faulty name refuses the inputs
-pub names_refuse : (tells : Type 0) (files : List ℕ → List ℕ) (binds : List Binding) (bounds : ℕ → Bounds) (inputs : List (List ℕ)) (turn : List ℕ → Type 0) (before after : ℕ) (report : Report) → IsNameFault inputs binds report
+pub names_refuse : (tells : Type 0) (files : List ℕ → List ℕ) (binds : List Binding) (bounds : ℕ → Bounds) (inputs : List (List ℕ)) (turn : List ℕ → Type 0)
+    (before after : ℕ) (report : Report) → IsNameFault inputs binds report
     → IsLoadFault tells (RefusesSession files binds bounds inputs) turn before after report
 names_refuse tells files binds bounds inputs turn before after usage fault = absurd fault
 names_refuse tells files binds bounds inputs turn before after (refusal why) fault = λ t. rw fault.1 (by_names fault.0 fault.2)

@@ -31,7 +31,8 @@ module _ (files : List ℕ → List ℕ) (binds : List Binding) (bounds : ℕ �
   place_of_it here own = own ∙ ap bounds (sym before_it)
 
   -- it is the turn of the input at a place
-  pub turn_at : (tells : Type 0) (file : List ℕ) → faulty_name inputs binds ≡ None → file ≡ file_of binds name → (tells → AreRead files binds bounds inputs i) → HasSessionTurn tells files binds bounds inputs file
+  pub turn_at : (tells : Type 0) (file : List ℕ) → faulty_name inputs binds ≡ None → file ≡ file_of binds name → (tells → AreRead files binds bounds inputs i)
+      → HasSessionTurn tells files binds bounds inputs file
   turn_at tells file names bound read = record {
     bind = record { name = name; file = file_of binds name };
     among = bound_file inputs binds name (take i inputs) (drop (i + 1) inputs) names (parted inputs name i low is);
@@ -51,19 +52,29 @@ module _ (files : List ℕ → List ℕ) (binds : List Binding) (bounds : ℕ �
       → input_read files here (file_of binds name) name ≡ Ok new → inputs_read files binds bounds (take (i + 1) inputs) ≡ Ok (rows ++ new ∷ [])
   taken_at here own rows new read taken =
       let more = take_more inputs i name low ∙ ap (λ (x : List ℕ). take i inputs ++ x ∷ []) (sym is) in
-      ap (inputs_read files binds bounds) more ∙ read_more files binds bounds (take i inputs) rows name new read (subst (λ (b : Bounds). input_read files b (file_of binds name) name ≡ Ok new) (place_of_it here own) taken)
+      ap (inputs_read files binds bounds) more ∙ read_more files binds bounds (take i inputs) rows name new read
+      (subst (λ (b : Bounds). input_read files b (file_of binds name) name ≡ Ok new) (place_of_it here own) taken)
 
   -- it is refused, and so are all
   pub refused_at : (here : Bounds) → here ≡ bounds i → (rows : List (List Snapshot)) (why : Reason) → inputs_read files binds bounds (take i inputs) ≡ Ok rows
       → input_read files here (file_of binds name) name ≡ Err why → inputs_read files binds bounds inputs ≡ Err why
   refused_at here own rows why read refused =
-      ap (inputs_read files binds bounds) (parted inputs name i low is) ∙ read_stops files binds bounds (take i inputs) (drop (i + 1) inputs) rows name why read (subst (λ (b : Bounds). input_read files b (file_of binds name) name ≡ Err why) (place_of_it here own) refused)
+      ap (inputs_read files binds bounds) (parted inputs name i low is)
+      ∙ read_stops files binds bounds (take i inputs) (drop (i + 1) inputs) rows name why read
+      (subst (λ (b : Bounds). input_read files b (file_of binds name) name ≡ Err why) (place_of_it here own) refused)
 
   -- why the inputs aren't taken, where the one at the place isn't
-  pub fault_at : (here : Bounds) → here ≡ bounds i → (tells : Type 0) (now : List ℕ → List ℕ) (file : List ℕ) (before mid after : ℕ) → faulty_name inputs binds ≡ None → file ≡ file_of binds name → (tells → AreRead files binds bounds inputs i) → now ≡ files → before ≤ mid → (report : Report) → IsLoadFault tells (λ r. input_read now here file name ≡ Err r) (λ which. which ≡ file) mid after report → IsLoadFault tells (λ r. inputs_read files binds bounds inputs ≡ Err r) (HasSessionTurn tells files binds bounds inputs) before after report
+  pub fault_at : (here : Bounds) → here ≡ bounds i → (tells : Type 0) (now : List ℕ → List ℕ) (file : List ℕ) (before mid after : ℕ) → faulty_name inputs binds
+      ≡ None → file ≡ file_of binds name → (tells → AreRead files binds bounds inputs i) → now ≡ files → before ≤ mid → (report : Report)
+      → IsLoadFault tells (λ r. input_read now here file name ≡ Err r) (λ which. which ≡ file) mid after report
+      → IsLoadFault tells (λ r. inputs_read files binds bounds inputs ≡ Err r) (HasSessionTurn tells files binds bounds inputs) before after report
   fault_at here own tells now file before mid after names bound read same kept report fault =
-      load_fault_weaker tells tells (λ r. input_read now here file name ≡ Err r) (λ r. inputs_read files binds bounds inputs ≡ Err r) (λ which. which ≡ file) (HasSessionTurn tells files binds bounds inputs) mid after before after (λ t. t) (λ r t refused. refused_at here own (read t).0 r (read t).1 (rw (same, bound) at refused)) (λ which rose at. (rose_from before mid after kept rose, rw at (turn_at tells file names bound read))) report fault
+      load_fault_weaker tells tells (λ r. input_read now here file name ≡ Err r) (λ r. inputs_read files binds bounds inputs ≡ Err r) (λ which. which ≡ file)
+      (HasSessionTurn tells files binds bounds inputs) mid after before after (λ t. t)
+      (λ r t refused. refused_at here own (read t).0 r (read t).1 (rw (same, bound) at refused))
+      (λ which rose at. (rose_from before mid after kept rose, rw at (turn_at tells file names bound read))) report fault
 
 -- all were taken
-pub all_taken : (files : List ℕ → List ℕ) (binds : List Binding) (bounds : ℕ → Bounds) (inputs : List (List ℕ)) (rows : List (List Snapshot)) (i : ℕ) → length inputs ≤ i → inputs_read files binds bounds (take i inputs) ≡ Ok rows → inputs_read files binds bounds inputs ≡ Ok rows
+pub all_taken : (files : List ℕ → List ℕ) (binds : List Binding) (bounds : ℕ → Bounds) (inputs : List (List ℕ)) (rows : List (List Snapshot)) (i : ℕ)
+    → length inputs ≤ i → inputs_read files binds bounds (take i inputs) ≡ Ok rows → inputs_read files binds bounds inputs ≡ Ok rows
 all_taken files binds bounds inputs rows i high read = rw (take_all i inputs high) at read

@@ -7,7 +7,9 @@ use Rattle.std.proofs.lemmas.Int.{ints}
 use Rattle.std.proofs.lemmas.Option.{none-some, same_Some}
 use Rattle.csv.specs.Reading.{default_config, records, strip_bom}
 use Rattle.tilt_base.proofs.Comparisons.{le_false}
-use Rattle.tilt_series.specs.Series.{◌>>=◌, Bounds, byte_order_mark, fields_spelled, is_below, is_header, is_past, is_time, row_of, row_unless, rows_behind_header, rows_of, series_of, three_of, time_fault}
+use Rattle.tilt_series.specs.Series.{◌>>=◌, Bounds, byte_order_mark, fields_spelled, is_below, is_header, is_past}
+use Rattle.tilt_series.specs.Series.{is_time, row_of, row_unless, rows_behind_header, rows_of, series_of, three_of}
+use Rattle.tilt_series.specs.Series.{time_fault}
 use Rattle.tilt_series.specs.declared.fault.SeriesFault.{SeriesFault}
 use Rattle.tilt_series.specs.declared.fault.SeriesFault.TheVariants.{BadHeader, TimeRange, EmptyInterval, OutOfOrder, RowBeforeCut, RowPastCut}
 use Rattle.tilt_stream.specs.Snap.{Snapshot}

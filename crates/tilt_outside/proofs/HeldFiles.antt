@@ -1,5 +1,6 @@
 -- Files in a list, by name.
-use Rattle.std.proofs.Common.{◌≡◌, ◌≢◌, ◌≤◌, ◌+◌, ◌-◌, ◌^◌, inl, inr, ℕ, min, length, unwrap_or, Bool, true, false, List, [], ◌∷◌, ◌++◌, get_or, set, Option, None, Some, find, refl, sym, ◌∙◌, ap, arith, position}
+use Rattle.std.proofs.Common.{◌≡◌, ◌≢◌, ◌≤◌, ◌+◌, ◌-◌, ◌^◌, inl, inr, ℕ, min, length, unwrap_or, Bool, true, false, List, []}
+use Rattle.std.proofs.Common.{◌∷◌, ◌++◌, get_or, set, Option, None, Some, find, refl, sym, ◌∙◌, ap, arith, position}
 use Rattle.std.specs.Option.{option_map, option_map_or, option_or}
 use Rattle.std.specs.List.{position_or_len, slice_get}
 use Rattle.std.specs.Str.{bytes_eq}
@@ -46,7 +47,8 @@ option_or-None None = refl
 option_or-None (Some file) = refl
 
 -- files that differ in the one of a name alone
-holds_instead : (old new : List HeldFile) (file : HeldFile) (name : List ℕ) → file_named new name ≡ Some file → ((other : List ℕ) → other ≢ name → file_named new other ≡ file_named old other) → HoldsInstead old new name file.bytes file.room
+holds_instead : (old new : List HeldFile) (file : HeldFile) (name : List ℕ) → file_named new name ≡ Some file
+    → ((other : List ℕ) → other ≢ name → file_named new other ≡ file_named old other) → HoldsInstead old new name file.bytes file.room
 holds_instead old new file name found same = record {
   held = ap (option_map (λ (f : HeldFile). f.bytes)) found;
   room_held = ap (λ (o : Option HeldFile). option_map_or (λ (f : HeldFile). f.room) o 0) found;
@@ -55,7 +57,8 @@ holds_instead old new file name found same = record {
 }
 
 -- a file in the place of the one of its name
-pub HoldsInstead-set : (files : List HeldFile) (file : HeldFile) (name : List ℕ) (i : ℕ) → file.name ≡ name → position (has_name name) files ≡ Some i → HoldsInstead files (set files i file) name file.bytes file.room
+pub HoldsInstead-set : (files : List HeldFile) (file : HeldFile) (name : List ℕ) (i : ℕ) → file.name ≡ name → position (has_name name) files ≡ Some i
+    → HoldsInstead files (set files i file) name file.bytes file.room
 HoldsInstead-set files file name i named at =
     let there = position-Some (has_name name) files i file at in
     let was : (get_or files i file).name ≡ name = (bytes_eq-Decides (get_or files i file).name name).0 there.1 in
@@ -64,13 +67,15 @@ HoldsInstead-set files file name i named at =
     (λ other differs. find_past (has_name other) files i file file (has_other_name (get_or files i file) name other was differs) (has_other_name file name other named differs))
 
 -- a file behind those of other names
-pub HoldsInstead-push : (files : List HeldFile) (file : HeldFile) (name : List ℕ) → file.name ≡ name → position (has_name name) files ≡ None → HoldsInstead files (files ++ file ∷ []) name file.bytes file.room
+pub HoldsInstead-push : (files : List HeldFile) (file : HeldFile) (name : List ℕ) → file.name ≡ name → position (has_name name) files ≡ None
+    → HoldsInstead files (files ++ file ∷ []) name file.bytes file.room
 HoldsInstead-push files file name named at =
     let has : has_name name file ≡ true = (bytes_eq-Decides file.name name).1 named in
     let none : find (has_name name) files ≡ None = file_named-none files name at in
     holds_instead files (files ++ file ∷ []) file name
     (find-append (has_name name) files (file ∷ []) ∙ rw (none, has))
-    (λ other differs. let not_it : has_name other file ≡ false = has_other_name file name other named differs in find-append (has_name other) files (file ∷ []) ∙ rw not_it (option_or-None (file_named files other)))
+    (λ other differs. let not_it : has_name other file ≡ false = has_other_name file name other named differs in find-append (has_name other) files (file ∷ [])
+    ∙ rw not_it (option_or-None (file_named files other)))
 
 -- what the file at the place holds is what the name holds
 pub bytes_held-at : (files : List HeldFile) (name : List ℕ) (i : ℕ) (file : HeldFile) → position (has_name name) files ≡ Some i → file ≡ get_or files i file → bytes_held files name ≡ Some file.bytes
@@ -85,14 +90,16 @@ pub bytes_held-none : (files : List HeldFile) (name : List ℕ) → position (ha
 bytes_held-none files name at = ap (option_map (λ (f : HeldFile). f.bytes)) (file_named-none files name at)
 
 -- other bytes in the file of the name
-pub HoldsInstead-bytes : (files : List HeldFile) (name : List ℕ) (i : ℕ) (file : HeldFile) (bytes : List ℕ) → position (has_name name) files ≡ Some i → file ≡ get_or files i file → HoldsInstead files (set files i (record file { bytes = bytes })) name bytes (room_of files name)
+pub HoldsInstead-bytes : (files : List HeldFile) (name : List ℕ) (i : ℕ) (file : HeldFile) (bytes : List ℕ) → position (has_name name) files ≡ Some i → file
+    ≡ get_or files i file → HoldsInstead files (set files i (record file { bytes = bytes })) name bytes (room_of files name)
 HoldsInstead-bytes files name i file bytes at is =
     let there = position-Some (has_name name) files i file at in
     let named : file.name ≡ name = ap (λ (f : HeldFile). f.name) is ∙ (bytes_eq-Decides (get_or files i file).name name).0 there.1 in
     rw (room_of-at files name i file at is) (HoldsInstead-set files (record file { bytes = bytes }) name i named at)
 
 -- a read of a name that is held fails where 64 bits don't hold the count of bytes given
-pub ReadFails-full : (shelf : ShelfState) (name bytes : List ℕ) (at room count : ℕ) → Some bytes ≡ bytes_held shelf.files name → count ≡ min room (length bytes - at) → 2 ^ 64 ≤ shelf.given + count → ReadFails shelf name (count_from shelf name at room)
+pub ReadFails-full : (shelf : ShelfState) (name bytes : List ℕ) (at room count : ℕ) → Some bytes ≡ bytes_held shelf.files name → count
+    ≡ min room (length bytes - at) → 2 ^ 64 ≤ shelf.given + count → ReadFails shelf name (count_from shelf name at room)
 ReadFails-full shelf name bytes at room count held is full =
     let content : bytes ≡ content_of shelf.files name = ap (λ (o : Option (List ℕ)). unwrap_or o []) held in
     inr (inr (rw (← content, ← is) full))

@@ -39,7 +39,8 @@ module _ {K : Type 0} (tells : Type 0) (written : K → List ℕ) (faults : K �
   }
 
   -- a piece behind bytes that were put whole
-  pub puts-then : (old mid new : K) (done piece : List ℕ) (result : Result (Unit {0}) Failed) → Puts tells written faults takes old mid done (Ok tt) → Puts tells written faults takes mid new piece result → Puts tells written faults takes old new (done ++ piece) result
+  pub puts-then : (old mid new : K) (done piece : List ℕ) (result : Result (Unit {0}) Failed) → Puts tells written faults takes old mid done (Ok tt)
+      → Puts tells written faults takes mid new piece result → Puts tells written faults takes old new (done ++ piece) result
   puts-then old mid new done piece (Ok u) first then = record {
     whole = λ told. then.whole told ∙ rw (first.whole told) (append_assoc (written old) done piece);
     front = λ _. tt;
@@ -54,7 +55,9 @@ module _ {K : Type 0} (tells : Type 0) (written : K → List ℕ) (faults : K �
   }
 
   -- more bytes behind a piece whose put failed
-  pub puts-short : ((sink : K) (m n : ℕ) → m ≤ n → takes sink n → takes sink m) → (old new : K) (piece more : List ℕ) (e : Failed) (told : Result (Unit {0}) Failed) → IsErr told → Puts tells written faults takes old new piece (Err e) → Puts tells written faults takes old new (piece ++ more) told
+  pub puts-short : ((sink : K) (m n : ℕ) → m ≤ n → takes sink n → takes sink m)
+      → (old new : K) (piece more : List ℕ) (e : Failed) (told : Result (Unit {0}) Failed) → IsErr told → Puts tells written faults takes old new piece (Err e)
+      → Puts tells written faults takes old new (piece ++ more) told
   puts-short fewer old new piece more e (Ok u) failed cut = absurd (cc failed)
   puts-short fewer old new piece more e (Err f) failed cut = record {
     whole = λ _. tt;

@@ -1,15 +1,19 @@
 // The loops of a pipe, and their turns.
-ghost use Rattle.std.specs.Prelude.{◌≡◌, ◌↔◌, ◌≢◌, ◌<◌, ◌≤◌, ◌+◌, ℕ, ℤ, pos, ◌+ℤ◌, ◌<ℤ◌, ◌≤ℤ◌, List, [], ◌∷◌, ◌++◌, length, drop, map, slice_get, slice_set, Some, true, false, IfOk, OnOk, MatchOption};
+ghost use Rattle.std.specs.Prelude.{◌≡◌, ◌↔◌, ◌≢◌, ◌<◌, ◌≤◌, ◌+◌, ℕ, ℤ, pos, ◌+ℤ◌, ◌<ℤ◌, ◌≤ℤ◌, List, [], ◌∷◌, ◌++◌};
+ghost use Rattle.std.specs.Prelude.{length, drop, map, slice_get, slice_set, Some, true, false, IfOk, OnOk};
+ghost use Rattle.std.specs.Prelude.{MatchOption};
 ghost use Rattle.std.specs.List.{AllByRecursion};
 ghost use Rattle.tilt_code.specs.Code.{LoopParts};
 ghost use Rattle.tilt_code.specs.References.{IsCode};
 ghost use Rattle.tilt_code.specs.Run.{buffers_of};
 ghost use Rattle.tilt_pipe.specs.Chain.{AreTold, IsBehind, IsChain, IsTold};
 ghost use Rattle.tilt_pipe.specs.Made.{Work, reads_buffer};
-ghost use Rattle.tilt_pipe.specs.Positions.{AreRings, IsOpen, RingParts, RingsParts, made_at, stages_at, start_at, starts_of, with_ring, works_in};
+ghost use Rattle.tilt_pipe.specs.Positions.{AreRings, IsOpen, RingParts, RingsParts, made_at};
+ghost use Rattle.tilt_pipe.specs.Positions.{stages_at, start_at, starts_of, with_ring, works_in};
 ghost use Rattle.tilt_pipe.specs.Reads.{body_reads, earlier, reads_of, turn_point};
 ghost use Rattle.tilt_pipe.specs.Rings.{wanted};
-ghost use Rattle.tilt_pipe.specs.Trimmed.{HasTurns, IsReader, IsShort, IsTrimmed, KeepsWanted, MayTurn, ReadsNear, StandAlike, read_next, wanted_at};
+ghost use Rattle.tilt_pipe.specs.Trimmed.{HasTurns, IsReader, IsShort, IsTrimmed, KeepsWanted};
+ghost use Rattle.tilt_pipe.specs.Trimmed.{MayTurn, ReadsNear, StandAlike, read_next, wanted_at};
 ghost use Rattle.tilt_turn.specs.Held.{IsFit};
 ghost use Rattle.tilt_turn.specs.Ready.{IsBodyTick};
 
@@ -221,7 +225,8 @@ fn next_snap(turns: &mut LoopTurns, rings: &Rings, place: usize) -> Result<Snap,
     ensures snap { (w : Work) → IsOpen rings.now place w
         → IfOk result (λ snap. slice_get w.whole (length (made_at rings.now place w)) ≡ Some snap) }
     ensures fit { (w : Work) → IsOpen rings.now place w
-        → OnOk result (IsFit (buffers_of rings.now.code rings.now.inputs) w.loop (turn_point w.loop (start_at rings.now place)) turns.new.state) }
+        → OnOk result (IsFit (buffers_of rings.now.code rings.now.inputs) w.loop
+        (turn_point w.loop (start_at rings.now place)) turns.new.state) }
     ensures used { turns.new.used ≡ turns.old.used }
     ensures readers { turns.new.readers.items ≡ turns.old.readers.items }
     ensures code { IsCode rings.now.code }

@@ -1,5 +1,6 @@
 // The pipelined machine.
-ghost use Rattle.std.specs.Prelude.{◌≡◌, ◌++◌, ◌∷◌, [], ◌<◌, ℕ, suc, true, false, length, slice_get, IfOk, OnOk, IsErr, OnErr, MatchOption};
+ghost use Rattle.std.specs.Prelude.{◌≡◌, ◌++◌, ◌∷◌, [], ◌<◌, ℕ, suc, true, false, length};
+ghost use Rattle.std.specs.Prelude.{slice_get, IfOk, OnOk, IsErr, OnErr, MatchOption};
 ghost use Rattle.tilt_code.specs.Run.{run_of};
 ghost use Rattle.tilt_pipe.specs.Chain.{IsChain};
 ghost use Rattle.tilt_pipe.specs.Pulled.{IsPulled, given_in, steps_left};
@@ -54,7 +55,8 @@ impl Pipe {
     /// The next snapshot of the code's run: `None` exactly where all were given out, and then nothing changes. `OutOfMemory` comes
     /// where memory is refused, and each time after that.
     pub fn next(&mut self) -> Result<Option<Snap>, OutOfMemory>
-        ensures given { self.old.refused ≡ false → IfOk result (λ next. next ≡ slice_get (run_of self.old.code self.old.inputs) self.old.given) }
+        ensures given { self.old.refused ≡ false → IfOk result
+            (λ next. next ≡ slice_get (run_of self.old.code self.old.inputs) self.old.given) }
         ensures after { self.old.refused ≡ false → IfOk result (λ next. MatchOption next (self.new ≡ self.old)
             (λ _. self.new ≡ pipe_after self.old.code self.old.inputs (suc self.old.given))) }
         ensures refused { OnErr result (self.new.refused ≡ true) }

@@ -1,9 +1,12 @@
 // The buffers that the loops of a pipe read: the rows of the inputs, and a ring for each loop.
-ghost use Rattle.std.specs.Prelude.{◌≡◌, ◌<◌, ◌≤◌, ◌+◌, ℕ, ℤ, pos, neg_ℤ, ◌<ℤ◌, List, [], ◌∷◌, ◌++◌, get_or, length, map, slice_get, Some, IfOk, OnOk, OnErr, IsTrue, ◌↔◌, MatchOption};
+ghost use Rattle.std.specs.Prelude.{◌≡◌, ◌<◌, ◌≤◌, ◌+◌, ℕ, ℤ, pos, neg_ℤ, ◌<ℤ◌, List, [], ◌∷◌, ◌++◌, get_or};
+ghost use Rattle.std.specs.Prelude.{length, map, slice_get, Some, IfOk, OnOk, OnErr, IsTrue, ◌↔◌, MatchOption};
 ghost use Rattle.tilt_code.specs.References.{IsCode};
 ghost use Rattle.tilt_base.specs.declared.limits.TheConstants.{WIDE};
 ghost use Rattle.tilt_pipe.specs.Made.{Work};
-ghost use Rattle.tilt_pipe.specs.Positions.{AreRings, IsOpen, RingParts, forgotten_of, lists_of, made_at, open_lists, start_at, starts_of, with_ring, works_in};
+ghost use Rattle.tilt_pipe.specs.Positions.{AreRings, IsOpen, RingParts, forgotten_of, lists_of};
+ghost use Rattle.tilt_pipe.specs.Positions.{made_at, open_lists, start_at, starts_of, with_ring};
+ghost use Rattle.tilt_pipe.specs.Positions.{works_in};
 ghost use Rattle.tilt_pipe.specs.Reads.{turn_point};
 ghost use Rattle.tilt_pipe.specs.Rings.{held, kept_from, let_go};
 ghost use Rattle.tilt_stream.specs.Snap.{InOrder};
@@ -148,7 +151,8 @@ impl Rings {
 
     // Lets go what a loop has made and ends below a tick, and all of it where there is no tick. It may have let go less before.
     pub(crate) fn keep_from(&mut self, place: usize, first: Option<i64>)
-        requires { (w : Work) × (r : RingParts) × (slice_get (works_in self.old) place ≡ Some w) × (slice_get self.old.rings place ≡ Some r)
+        requires { (w : Work) × (r : RingParts) × (slice_get (works_in self.old) place ≡ Some w)
+            × (slice_get self.old.rings place ≡ Some r)
             × (r.forgotten ≤ let_go first (made_at self.old place w)) }
         ensures { (w : Work) → slice_get (works_in self.old) place ≡ Some w → self.new ≡ with_ring self.old place (record {
           held = kept_from first (made_at self.old place w);

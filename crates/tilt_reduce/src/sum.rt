@@ -41,7 +41,8 @@ impl SumAndCount {
     }
 
     fn merge(&self, other: &SumAndCount) -> SumAndCount
-        requires { (ms : List ℤ) × (ns : List ℤ) × IsSumAndCount self.now ms × IsSumAndCount other.now ns × (length (ms ++ ns) < 9223372036854775808) }
+        requires { (ms : List ℤ) × (ns : List ℤ) × IsSumAndCount self.now ms
+            × IsSumAndCount other.now ns × (length (ms ++ ns) < 9223372036854775808) }
         ensures { (ms ns : List ℤ) → IsSumAndCount self.now ms → IsSumAndCount other.now ns → IsSumAndCount result (ms ++ ns) }
     {
         SumAndCount {

@@ -44,7 +44,8 @@ impl TrueCount {
     }
 
     fn merge(&self, other: &TrueCount) -> TrueCount
-        requires { (ms : List ℤ) × (ns : List ℤ) × IsTrueCount self.now ms × IsTrueCount other.now ns × (length (ms ++ ns) < 9223372036854775808) }
+        requires { (ms : List ℤ) × (ns : List ℤ) × IsTrueCount self.now ms
+            × IsTrueCount other.now ns × (length (ms ++ ns) < 9223372036854775808) }
         ensures { (ms ns : List ℤ) → IsTrueCount self.now ms → IsTrueCount other.now ns → IsTrueCount result (ms ++ ns) }
     {
         TrueCount {

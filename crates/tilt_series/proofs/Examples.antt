@@ -7,7 +7,8 @@ use Rattle.tilt_series.specs.declared.fault.SeriesFault.TheVariants.{EmptyInterv
 use Rattle.tilt_series.specs.Series.{series_of}
 
 -- an empty value is null
-a_row_and_a_null_row : series_of (record { last_end = None; from = None; upto = None }) (codes "start,end,value\n0,5,7\n5,6,\n") ≡ Ok (record { start = pos 0; end = pos 5; value = Some (pos 7) } ∷ record { start = pos 5; end = pos 6; value = None } ∷ [])
+a_row_and_a_null_row : series_of (record { last_end = None; from = None; upto = None }) (codes "start,end,value\n0,5,7\n5,6,\n")
+    ≡ Ok (record { start = pos 0; end = pos 5; value = Some (pos 7) } ∷ record { start = pos 5; end = pos 6; value = None } ∷ [])
 unfolding next_record records_from strip_bom
 a_row_and_a_null_row = refl
 

@@ -84,7 +84,8 @@ at_the_end true fields p e = let is : ◌≡◌ {A = Read} (fields, st.StartReco
 at_the_end false fields p e = cc e
 
 -- the same at one byte: the record ends there, or goes on
-one_byte : (q : State × Action) (fields : List (List ℕ)) (rest : List ℕ) (more : Option Read) (p : Read) → EndsBetween q → (more ≡ Some p → IsBehind rest p) → (if is_end q.1 then Some (fields, q.0, rest) else more) ≡ Some p → (length p.2 ≤ length rest) × (ends_at_end p.1 ≡ false)
+one_byte : (q : State × Action) (fields : List (List ℕ)) (rest : List ℕ) (more : Option Read) (p : Read) → EndsBetween q → (more ≡ Some p → IsBehind rest p)
+    → (if is_end q.1 then Some (fields, q.0, rest) else more) ≡ Some p → (length p.2 ≤ length rest) × (ends_at_end p.1 ≡ false)
 one_byte q fields rest more p between goes e = by (is_end q.1) between e
   where
     by : (b : Bool) → (b ≡ true → ends_at_end q.0 ≡ false) → (if b then Some (fields, q.0, rest) else more) ≡ Some p → (length p.2 ≤ length rest) × (ends_at_end p.1 ≡ false)
@@ -98,7 +99,10 @@ pub next_behind : (s : State) (fields : List (List ℕ)) (field bytes : List ℕ
 unfolding next_record
 next_behind s fields field [] p e = at_the_end (ends_at_end s) (fields ++ (field ∷ [])) p e
 next_behind s fields field (c ∷ rest) p e =
-    let behind = one_byte (step default_config s c) (fields_after (step default_config s c).1 fields field) rest (next_record default_config (step default_config s c).0 (fields_after (step default_config s c).1 fields field) (field_after (step default_config s c).1 c field) rest) p (step_between s c) (next_behind (step default_config s c).0 (fields_after (step default_config s c).1 fields field) (field_after (step default_config s c).1 c field) rest p) e in
+    let behind = one_byte (step default_config s c) (fields_after (step default_config s c).1 fields field) rest
+    (next_record default_config (step default_config s c).0 (fields_after (step default_config s c).1 fields field)
+    (field_after (step default_config s c).1 c field) rest) p (step_between s c)
+    (next_behind (step default_config s c).0 (fields_after (step default_config s c).1 fields field) (field_after (step default_config s c).1 c field) rest p) e in
     record { short = omega (arith, behind.0); between = behind.1 }
 
 -- between two records, the next one takes a byte at least
@@ -106,11 +110,14 @@ pub next_shorter : (s : State) (bytes : List ℕ) (p : Read) → ends_at_end s �
 unfolding next_record
 next_shorter s [] p between e = cc (rw between at e)
 next_shorter s (c ∷ rest) p between e =
-    let behind = one_byte (step default_config s c) (fields_after (step default_config s c).1 [] []) rest (next_record default_config (step default_config s c).0 (fields_after (step default_config s c).1 [] []) (field_after (step default_config s c).1 c []) rest) p (step_between s c) (next_behind (step default_config s c).0 (fields_after (step default_config s c).1 [] []) (field_after (step default_config s c).1 c []) rest p) e in
+    let behind = one_byte (step default_config s c) (fields_after (step default_config s c).1 [] []) rest
+    (next_record default_config (step default_config s c).0 (fields_after (step default_config s c).1 [] []) (field_after (step default_config s c).1 c [])
+    rest) p (step_between s c) (next_behind (step default_config s c).0 (fields_after (step default_config s c).1 [] []) (field_after (step default_config s c).1 c []) rest p) e in
     omega (arith, behind.0)
 
 -- how many records are looked for makes no difference, as long as there are as many as bytes
-pub records_enough : (n m : ℕ) (s : State) (bytes : List ℕ) → ends_at_end s ≡ false → length bytes < n → length bytes < m → records_from default_config n s bytes ≡ records_from default_config m s bytes
+pub records_enough : (n m : ℕ) (s : State) (bytes : List ℕ) → ends_at_end s ≡ false → length bytes < n → length bytes < m
+    → records_from default_config n s bytes ≡ records_from default_config m s bytes
 unfolding records_from
 records_enough zero m s bytes between hn hm = absurd (omega arith)
 records_enough (suc n) zero s bytes between hn hm = absurd (omega arith)
@@ -126,7 +133,8 @@ records_enough (suc n) (suc m) s bytes between hn hm =
         ap (λ (rs : List (List (List ℕ))). p.0 ∷ rs) (more p.1 p.2 (behind p refl) (omega (arith, short)) (omega (arith, short)))
 
 -- what a read over known bytes takes
-pub taken_of : (s s2 : State) (before after : Option (List ℕ)) (found : Bool) (fields : List (List ℕ)) → ends_at_end s ≡ false → IsSome before → ReadsNext default_config s before after found fields s2 → TakesFirst found (records_of s before) fields (records_of s2 after)
+pub taken_of : (s s2 : State) (before after : Option (List ℕ)) (found : Bool) (fields : List (List ℕ)) → ends_at_end s ≡ false → IsSome before
+    → ReadsNext default_config s before after found fields s2 → TakesFirst found (records_of s before) fields (records_of s2 after)
 unfolding records_from
 taken_of s s2 None after found fields between known h = cc known
 taken_of s s2 (Some xs) None found fields between known h = absurd h
@@ -142,7 +150,8 @@ taken_of s s2 (Some xs) (Some ys) found fields between known h =
         rw (h.0, h.1, h.2, h.3) (ap (λ (rs : List (List (List ℕ))). p.0 ∷ rs) (records_enough (length xs) (length p.2 + 1) p.1 p.2 (behind p refl) (omega (arith, short)) (omega arith)))
 
 -- what a read that found a record leaves
-pub left_between : (s s2 : State) (before after : Option (List ℕ)) (fields : List (List ℕ)) → IsSome before → ReadsNext default_config s before after true fields s2 → IsSome after × (ends_at_end s2 ≡ false)
+pub left_between : (s s2 : State) (before after : Option (List ℕ)) (fields : List (List ℕ)) → IsSome before
+    → ReadsNext default_config s before after true fields s2 → IsSome after × (ends_at_end s2 ≡ false)
 left_between s s2 None after fields known h = cc known
 left_between s s2 (Some xs) None fields known h = absurd h
 left_between s s2 (Some xs) (Some ys) fields known h = by (next_record default_config s [] [] xs) (λ p e. (next_behind s [] [] xs p e).between) h
@@ -156,7 +165,8 @@ abbrev pub bytes_in : Bor (List ℕ) → Option (List ℕ)
 bytes_in bytes = Some bytes.now
 
 -- after a read the bytes that are pending are those that are left
-after_read : (a b : BytesReader) (found : Bool) (fields : List (List ℕ)) → IsBetween a → ReadRecord bytes_in a b found fields → ReadsNext default_config a.state (bytes_left a) (bytes_left b) found fields b.state
+after_read : (a b : BytesReader) (found : Bool) (fields : List (List ℕ)) → IsBetween a → ReadRecord bytes_in a b found fields
+    → ReadsNext default_config a.state (bytes_left a) (bytes_left b) found fields b.state
 after_read a b found fields between h = rw h.1 (rw between.config at h.0)
 
 -- a read takes the first of the records that are left
@@ -165,7 +175,8 @@ takes_first a b found fields between h =
     taken_of a.state b.state (bytes_left a) (bytes_left b) found fields between.state between.known (after_read a b found fields between h)
 
 -- and leaves the reader between two records
-pub stays_between : (a b : BytesReader) (found : Bool) (fields : List (List ℕ)) → IsBetween a → took_first b ≡ true → is_flexible b ≡ is_flexible a → ReadRecord bytes_in a b found fields → OnTrue found (IsBetween b)
+pub stays_between : (a b : BytesReader) (found : Bool) (fields : List (List ℕ)) → IsBetween a → took_first b ≡ true → is_flexible b ≡ is_flexible a
+    → ReadRecord bytes_in a b found fields → OnTrue found (IsBetween b)
 stays_between a b true fields between first same h =
     let left = left_between a.state b.state (bytes_left a) (bytes_left b) fields between.known (after_read a b true fields between h) in
     record { config = h.2 ∙ between.config; trim = h.3 ∙ between.trim; flexible = same ∙ between.flexible; ready = inl first; known = left.0; state = left.1 }

@@ -23,10 +23,13 @@ regroup front s (Ok rows) = ap (λ (rs : List Snapshot). Ok rs) (sym (append_ass
 regroup front s (Err fault) = refl
 
 -- one more row
-pub whole_of-row : (bounds : Bounds) (front : List Snapshot) (row : ℕ) (fields : List (List ℕ)) (left : List (List (List ℕ))) (s : Snapshot) → Ok s ≡ row_of (bounds_behind bounds front) row fields → whole_of bounds front row (fields ∷ left) ≡ whole_of bounds (front ++ s ∷ []) (row + 1) left
+pub whole_of-row : (bounds : Bounds) (front : List Snapshot) (row : ℕ) (fields : List (List ℕ)) (left : List (List (List ℕ))) (s : Snapshot) → Ok s
+    ≡ row_of (bounds_behind bounds front) row fields → whole_of bounds front row (fields ∷ left) ≡ whole_of bounds (front ++ s ∷ []) (row + 1) left
 whole_of-row bounds front row fields left s is =
     rw (← is, last_end-push front s) (regroup front s (rows_of (record bounds { last_end = Some s.end }) (row + 1) left))
 
 -- the bounds that a loop makes of the last end so far
-pub bounds_here : (bounds : Bounds) (rows : List Snapshot) (last from upto found end : Option ℤ) → ◌≡◌ {A = Bounds} (record { last_end = last; from = from; upto = upto }) bounds → found ≡ option_or end last → end ≡ last_end rows → ◌≡◌ {A = Bounds} (record { last_end = found; from = from; upto = upto }) (bounds_behind bounds rows)
+pub bounds_here : (bounds : Bounds) (rows : List Snapshot) (last from upto found end : Option ℤ)
+    → ◌≡◌ {A = Bounds} (record { last_end = last; from = from; upto = upto }) bounds → found ≡ option_or end last → end ≡ last_end rows
+    → ◌≡◌ {A = Bounds} (record { last_end = found; from = from; upto = upto }) (bounds_behind bounds rows)
 bounds_here bounds rows last from upto found end view or ends = rw (← view, or, ends) refl

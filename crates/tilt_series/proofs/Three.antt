@@ -11,7 +11,8 @@ field_there (f ∷ fs) zero h e = cc e
 field_there (f ∷ fs) (suc i) h e = field_there fs i (omega arith) e
 
 -- the three fields, one by one
-pub three_fields_of : (fields : List (List ℕ)) (a b c : List ℕ) → length fields ≡ 3 → Some a ≡ field_at fields 0 → Some b ≡ field_at fields 1 → Some c ≡ field_at fields 2 → Some (a, b, c) ≡ three_of fields
+pub three_fields_of : (fields : List (List ℕ)) (a b c : List ℕ) → length fields ≡ 3 → Some a ≡ field_at fields 0 → Some b ≡ field_at fields 1 → Some c
+    ≡ field_at fields 2 → Some (a, b, c) ≡ three_of fields
 unfolding field_at
 three_fields_of [] a b c h e0 e1 e2 = cc e0
 three_fields_of (x ∷ []) a b c h e0 e1 e2 = cc e1

@@ -1,5 +1,6 @@
 -- Puts, one behind another.
-use Rattle.std.proofs.Common.{arith, ◌≡◌, ℕ, ◌≤◌, ◌<◌, ◌+◌, Bool, true, false, if◌then◌else◌, List, [], ◌∷◌, ◌++◌, length, get_or, take, drop, is_some, refl, ap, sym, ◌∙◌, append_assoc, length-append}
+use Rattle.std.proofs.Common.{arith, ◌≡◌, ℕ, ◌≤◌, ◌<◌, ◌+◌, Bool, true, false, if◌then◌else◌, List, [], ◌∷◌, ◌++◌}
+use Rattle.std.proofs.Common.{length, get_or, take, drop, is_some, refl, ap, sym, ◌∙◌, append_assoc, length-append}
 use Rattle.std.proofs.lemmas.List.{take-append-drop, take_more}
 use Rattle.tilt_base.proofs.Lists.{drop-at}
 use Rattle.tilt_stream.specs.Snap.{Snapshot}
@@ -26,7 +27,8 @@ lines_of-take list s i h is =
     ap lines_of (take_more list i s h ∙ ap (λ (x : Snapshot). take i list ++ x ∷ []) (sym is)) ∙ lines_of-append (take i list) (s ∷ [])
 
 -- all lines
-pub lines_of-parts : (list : List Snapshot) (s : Snapshot) (i : ℕ) → i < length list → s ≡ get_or list i s → lines_of list ≡ lines_of (take i list) ++ (lines_of (s ∷ []) ++ lines_of (drop (i + 1) list))
+pub lines_of-parts : (list : List Snapshot) (s : Snapshot) (i : ℕ) → i < length list → s ≡ get_or list i s → lines_of list ≡ lines_of (take i list)
+    ++ (lines_of (s ∷ []) ++ lines_of (drop (i + 1) list))
 lines_of-parts list s i h is =
     ap lines_of (sym (take-append-drop i list)) ∙ lines_of-append (take i list) (drop i list) ∙ ap (λ (l : List ℕ). lines_of (take i list) ++ l) (lines_of-drop list s i h is)
 

@@ -1,5 +1,6 @@
 -- No name of a well-formed query stands twice.
-use Rattle.std.proofs.Common.{◌≡◌, ℕ, zero, suc, ◌+◌, true, false, ◌||◌, if◌then◌else◌, ◌⊎◌, inl, inr, ⊎_elim, List, [], ◌∷◌, ◌++◌, Option, Some, None, is_some, Contains, refl, sym, ◌∙◌, arith, subst, append-nil}
+use Rattle.std.proofs.Common.{◌≡◌, ℕ, zero, suc, ◌+◌, true, false, ◌||◌, if◌then◌else◌, ◌⊎◌, inl, inr, ⊎_elim, List, [], ◌∷◌}
+use Rattle.std.proofs.Common.{◌++◌, Option, Some, None, is_some, Contains, refl, sym, ◌∙◌, arith, subst, append-nil}
 use Rattle.std.specs.Option.{option_or}
 use Rattle.std.specs.Str.{bytes_eq}
 use Rattle.std.proofs.lemmas.List.Elements.{Contains-append_cases, Contains-append_left, Contains-append_right}
@@ -40,7 +41,8 @@ module _ (declared : List Declared) (x : List ℕ) (a : ValueType) (names : List
 
   not_among : ¬ (Contains names x)
   not_among among =
-      let wrong : true ≡ false = sym (or_right (is_declared declared x) (bytes_eq x x) (same_bytes x)) ∙ sym (is_declared-push declared (record { name = x; value_type = a }) x) ∙ fresh.none x among in
+      let wrong : true ≡ false = sym (or_right (is_declared declared x) (bytes_eq x x) (same_bytes x))
+      ∙ sym (is_declared-push declared (record { name = x; value_type = a }) x) ∙ fresh.none x among in
       cc
 
 Contains-insert_cases : (xs ys : List (List ℕ)) (x y : List ℕ) → Contains (xs ++ x ∷ ys) y → (x ≡ y) ⊎ Contains (xs ++ ys) y

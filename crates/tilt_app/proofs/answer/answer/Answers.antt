@@ -51,17 +51,22 @@ returns-in_ok-text-in-Run-clause-made g c =
 
 pub returns-in_ok-text-in-Run-clause-streams : goal.returns-in_ok-text-in-Run-clause-streams
 returns-in_ok-text-in-Run-clause-streams g c =
-    λ streamed. rw c.in-Run.is (streams-run (string_bytes c.in-Run.query) (bindings_of c.in-Run.binds.items) c.in-Run.plain c.in-Run.cuts.items (rw c.as_slice.ensures.value at (c.in_ok-text-in-Run.ensures.streamed (rw c.unsaved.ensures at streamed))))
+    λ streamed. rw c.in-Run.is (streams-run (string_bytes c.in-Run.query) (bindings_of c.in-Run.binds.items) c.in-Run.plain c.in-Run.cuts.items
+    (rw c.as_slice.ensures.value at (c.in_ok-text-in-Run.ensures.streamed (rw c.unsaved.ensures at streamed))))
 
 pub returns-in_ok-watched-in-Watch-clause-made : goal.returns-in_ok-watched-in-Watch-clause-made
 returns-in_ok-watched-in-Watch-clause-made g c =
     λ told watchers.
-    rw (c.in-Watch.is, c.unsaved-in-Watch.ensures) (rw (c.as_str-in-Watch.ensures.value, c.deref-in-Watch.ensures.value) at (c.in_ok-watched-in-Watch.ensures.given told (λ list. printed (watched_text watchers list))))
+    rw (c.in-Watch.is, c.unsaved-in-Watch.ensures) (rw (
+      c.as_str-in-Watch.ensures.value,
+      c.deref-in-Watch.ensures.value,
+    ) at (c.in_ok-watched-in-Watch.ensures.given told (λ list. printed (watched_text watchers list))))
 
 pub returns-in_ok-pipe-in-Pipe-clause-made : goal.returns-in_ok-pipe-in-Pipe-clause-made
 returns-in_ok-pipe-in-Pipe-clause-made g c =
     λ told watchers.
-    rw (c.in-Pipe.is, c.unsaved-in-Pipe.ensures) (pipe-rings (g.S.Shelf.files c.args.shelf.now) (string_bytes c.in-Pipe.query) (bindings_of c.in-Pipe.binds.items) (not c.in-Pipe.plain) c.in_ok-pipe-in-Pipe.pipe
+    rw (c.in-Pipe.is, c.unsaved-in-Pipe.ensures) (pipe-rings (g.S.Shelf.files c.args.shelf.now) (string_bytes c.in-Pipe.query)
+    (bindings_of c.in-Pipe.binds.items) (not c.in-Pipe.plain) c.in_ok-pipe-in-Pipe.pipe
     (rw (c.as_str-in-Pipe.ensures.value, c.deref-in-Pipe.ensures.value) at (c.in_ok-pipe-in-Pipe.ensures.given told)))
 
 pub returns-in_err-list-in-Start-clause-fault : goal.returns-in_err-list-in-Start-clause-fault
@@ -86,7 +91,12 @@ returns-in_err-list-in-ResumeUpto-clause-fault g c =
     let command = command_of c.args.command.now in
     let within = rw c.in-ResumeUpto.is at c.requires.within in
     let fits = cut-fits c.in-ResumeUpto.upto c.in-ResumeUpto.upto within.0 (omega (arith, ints)) within.1 in
-    let fault = rw (c.as_str-in-ResumeUpto.ensures.value, c.deref-in-ResumeUpto.ensures.value, to_z-of_z w64 c.in-ResumeUpto.upto fits) at (c.in_err-list-in-ResumeUpto.ensures.fault (string_bytes c.in-ResumeUpto.save)) in
+    let fault = rw (
+      c.as_str-in-ResumeUpto.ensures.value,
+      c.deref-in-ResumeUpto.ensures.value,
+      to_z-of_z w64 c.in-ResumeUpto.upto
+          fits,
+    ) at (c.in_err-list-in-ResumeUpto.ensures.fault (string_bytes c.in-ResumeUpto.save)) in
     rw (p.1, p.2) (load_unanswered (IsCommandOutcome files watchers command) (HasCommandTurn tells files command) tells (g.S.Shelf.read_faults c.args.shelf.now)
     (g.S.Shelf.read_faults c.resume_session.new.shelf) (report_of c.in_err-list-in-ResumeUpto.field-0.0) (rw c.in-ResumeUpto.is fault))
 

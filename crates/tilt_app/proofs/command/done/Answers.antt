@@ -16,7 +16,8 @@ returns-in_err-answered-clause-cause g c =
     let files = g.S.Shelf.files c.args.shelf.now in
     let command = command_of c.args.command.now in
     rw (p.1, p.2) (unanswered_cause (IsCommandOutcome files _ command) (HasCommandTurn tells files command) tells (g.S.Shelf.read_faults c.args.shelf.now) (g.S.Shelf.read_faults c.answer.new.shelf)
-    files (g.S.Shelf.files c.answer.new.shelf) (g.S.Shelf.save_faults c.args.shelf.now) (g.S.Shelf.save_faults c.answer.new.shelf) g.O.Sink.tells (g.O.Sink.written c.args.out.now) (g.O.Sink.written c.args.out.now) (g.O.Sink.faults c.args.out.now) (g.O.Sink.faults c.args.out.now)
+    files (g.S.Shelf.files c.answer.new.shelf) (g.S.Shelf.save_faults c.args.shelf.now) (g.S.Shelf.save_faults c.answer.new.shelf) g.O.Sink.tells
+    (g.O.Sink.written c.args.out.now) (g.O.Sink.written c.args.out.now) (g.O.Sink.faults c.args.out.now) (g.O.Sink.faults c.args.out.now)
     (report_of c.in_err-answered.field-0.0) refl (c.in_err-answered.ensures.fault _))
 
 pub returns-in_err-answered-clause-seen : goal.returns-in_err-answered-clause-seen

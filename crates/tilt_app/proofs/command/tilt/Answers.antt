@@ -26,7 +26,8 @@ returns-in-Ok-done-clause-complete_refusal g c =
     let words = texts c.args.words.now in
     let files = g.S.Shelf.files c.args.shelf.now in
     let done = c.in-Ok-done.ensures.done in
-    absurd (printed_or_refused (IsOutcome words files _) (outcome_once words files _ c.in-Ok.ensures.one) done.0 done.1 report (does (command_of c.in-Ok.command) c.in-Ok.ensures.command (done.2 told))
+    absurd (printed_or_refused (IsOutcome words files _) (outcome_once words files _ c.in-Ok.ensures.one) done.0 done.1 report
+    (does (command_of c.in-Ok.command) c.in-Ok.ensures.command (done.2 told))
     outcome)
 
 pub returns-in-Ok-done-clause-no_command : goal.returns-in-Ok-done-clause-no_command

@@ -14,7 +14,8 @@ load_code-requires g c = c.requires c.args.code.now own_turn
 pub returns-in_err-code-clause-fault : goal.returns-in_err-code-clause-fault
 returns-in_err-code-clause-fault g c =
     let p = err_from_is_err_and c.from_residual.result c.from_residual.ensures.1 in
-    rw (p.1, p.2) (file_undone _ _ _ _ g.S.Shelf.tells (g.S.Shelf.files c.args.shelf.now) c.args.code.now (bindings_of c.args.binds.now) _ _ (report_of c.in_err-code.field-0.0) c.in_err-code.ensures.fault)
+    rw (p.1, p.2) (file_undone _ _ _ _ g.S.Shelf.tells (g.S.Shelf.files c.args.shelf.now) c.args.code.now (bindings_of c.args.binds.now) _ _
+    (report_of c.in_err-code.field-0.0) c.in_err-code.ensures.fault)
 
 pub load_inputs-requires : goal.load_inputs-requires
 load_inputs-requires g c =

@@ -12,7 +12,8 @@ returns-in_err-query-clause-fault g c =
     let tells = g.S.Shelf.tells in
     let files = g.S.Shelf.files c.args.shelf.now in
     let query = c.args.query.now in
-    rw (p.1, p.2) (load_fault_weaker tells tells (RefusesQuery query (files query)) (λ why. IsExplainOutcome files query (refused (refusal why))) (λ which. which ≡ query) (λ which. which ≡ query) _ _ _ _
+    rw (p.1, p.2) (load_fault_weaker tells tells (RefusesQuery query (files query)) (λ why. IsExplainOutcome files query (refused (refusal why)))
+    (λ which. which ≡ query) (λ which. which ≡ query) _ _ _ _
     (λ t. t) (λ why t is. no_query why is) (λ which rose same. (rose, same)) (report_of c.in_err-query.field-0.0) c.in_err-query.ensures.fault)
 
 pub returns-clause-printed : goal.returns-clause-printed

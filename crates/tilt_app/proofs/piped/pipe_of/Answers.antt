@@ -16,12 +16,14 @@ load_query-requires g c = c.requires c.args.query.now own_turn
 pub returns-in_err-query-clause-fault_of_run : goal.returns-in_err-query-clause-fault_of_run
 returns-in_err-query-clause-fault_of_run g c =
     let p = err_from_is_err_and c.from_residual.result c.from_residual.ensures.1 in
-    rw (p.1, p.2) (file_undone _ _ _ (IsMadeOfQuery (λ list. printed (text_of list))) g.S.Shelf.tells (g.S.Shelf.files c.args.shelf.now) c.args.query.now (bindings_of c.args.binds.now) _ _ (report_of c.in_err-query.field-0.0) c.in_err-query.ensures.fault)
+    rw (p.1, p.2) (file_undone _ _ _ (IsMadeOfQuery (λ list. printed (text_of list))) g.S.Shelf.tells (g.S.Shelf.files c.args.shelf.now) c.args.query.now
+    (bindings_of c.args.binds.now) _ _ (report_of c.in_err-query.field-0.0) c.in_err-query.ensures.fault)
 
 pub returns-in_err-query-clause-fault_of_pipe : goal.returns-in_err-query-clause-fault_of_pipe
 returns-in_err-query-clause-fault_of_pipe g c =
     let p = err_from_is_err_and c.from_residual.result c.from_residual.ensures.1 in
-    rw (p.1, p.2) (file_undone _ _ _ (IsPiped c.args.fuse) g.S.Shelf.tells (g.S.Shelf.files c.args.shelf.now) c.args.query.now (bindings_of c.args.binds.now) _ _ (report_of c.in_err-query.field-0.0) c.in_err-query.ensures.fault)
+    rw (p.1, p.2) (file_undone _ _ _ (IsPiped c.args.fuse) g.S.Shelf.tells (g.S.Shelf.files c.args.shelf.now) c.args.query.now (bindings_of c.args.binds.now) _
+    _ (report_of c.in_err-query.field-0.0) c.in_err-query.ensures.fault)
 
 pub load_inputs-requires : goal.load_inputs-requires
 load_inputs-requires g c =

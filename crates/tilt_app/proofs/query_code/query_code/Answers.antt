@@ -16,7 +16,11 @@ returns-clause-code c =
     let domain = c.domain-domain.result in
     let start : FitsSigned w64 domain.start = search rules in
     let end : FitsSigned w64 domain.end = search rules in
-    IfOk-weaker c.lower.result _ _ (λ code is. (domain, c.domain-domain.ensures.span, rw (c.in_ok-plan.ensures.plan, to_z-of_z w64 domain.start start, to_z-of_z w64 domain.end end) at is)) c.lower.ensures.code
+    IfOk-weaker c.lower.result _ _ (λ code is. (
+      domain,
+      c.domain-domain.ensures.span,
+      rw (c.in_ok-plan.ensures.plan, to_z-of_z w64 domain.start start, to_z-of_z w64 domain.end end) at is,
+    )) c.lower.ensures.code
 
 pub returns-clause-means : goal.returns-clause-means
 returns-clause-means c =

@@ -14,7 +14,8 @@ pub returns-in_err-query-clause-fault : goal.returns-in_err-query-clause-fault
 returns-in_err-query-clause-fault g c =
     λ makes.
     let p = err_from_is_err_and c.from_residual.result c.from_residual.ensures.1 in
-    rw (p.1, p.2) (file_undone _ _ _ (IsMadeOfQuery makes) g.S.Shelf.tells (g.S.Shelf.files c.args.shelf.now) c.args.query.now (bindings_of c.args.binds.now) _ _ (report_of c.in_err-query.field-0.0) c.in_err-query.ensures.fault)
+    rw (p.1, p.2) (file_undone _ _ _ (IsMadeOfQuery makes) g.S.Shelf.tells (g.S.Shelf.files c.args.shelf.now) c.args.query.now (bindings_of c.args.binds.now) _
+    _ (report_of c.in_err-query.field-0.0) c.in_err-query.ensures.fault)
 
 pub load_inputs-requires : goal.load_inputs-requires
 load_inputs-requires g c =

@@ -49,7 +49,8 @@ loop-pipe-preserved g c =
       within = omega arith;
       most = c.max-most.ensures ∙ ap (max c.loop-pipe.most) c.held.ensures
           ∙ most-later c.args.pipe.code c.args.pipe.inputs c.loop-pipe.pipe c.next.new.self c.loop-pipe.most i.most later;
-      prints = line-put _ _ _ _ _ _ (run_of c.args.pipe.code c.args.pipe.inputs) c.loop-pipe.pipe.given i.prints c.in-Some.snap _ c.next.new.self.given later.0 (next ∙ c.in-Some.is) c.in_ok-put_snap.ensures;
+      prints = line-put _ _ _ _ _ _ (run_of c.args.pipe.code c.args.pipe.inputs) c.loop-pipe.pipe.given i.prints c.in-Some.snap _ c.next.new.self.given later.0
+          (next ∙ c.in-Some.is) c.in_ok-put_snap.ensures;
     }
 
 pub returns-in_err-put_snap-clause-prints : goal.returns-in_err-put_snap-clause-prints

@@ -41,7 +41,8 @@ loop-pipe-preserved g c =
     let later = one-later c.args.pipe.code c.args.pipe.inputs c.loop-pipe.pipe c.next.new.self i.is (rw c.in-Some.is at (c.in_ok-snap.ensures.after (ap (λ (p : PipeParts). p.refused) i.is))) in
     record {
       is = later.1;
-      prints = line-put _ _ _ _ _ _ (run_of c.args.pipe.code c.args.pipe.inputs) c.loop-pipe.pipe.given i.prints c.in-Some.snap _ c.next.new.self.given later.0 (next ∙ c.in-Some.is) c.in_ok-put_snap.ensures;
+      prints = line-put _ _ _ _ _ _ (run_of c.args.pipe.code c.args.pipe.inputs) c.loop-pipe.pipe.given i.prints c.in-Some.snap _ c.next.new.self.given later.0
+          (next ∙ c.in-Some.is) c.in_ok-put_snap.ensures;
     }
 
 pub returns-in_err-put_snap : goal.returns-in_err-put_snap

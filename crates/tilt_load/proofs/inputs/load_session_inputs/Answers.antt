@@ -11,7 +11,8 @@ use Rattle.tilt_load.proofs.inputs.load_session_inputs.Goals as goal
 pub returns-in_err-check_names-clause-fault : goal.returns-in_err-check_names-clause-fault
 returns-in_err-check_names-clause-fault g c =
     let p = err_from_is_err_and c.from_residual.result c.from_residual.ensures.1 in
-    rw (p.1, p.2) (names_refuse g.S.Shelf.tells (g.S.Shelf.files c.args.shelf.now) (bindings_of c.args.binds.now) (bounds_of c.args.session.now) c.args.inputs.now _ _ _ (report_of c.in_err-check_names.field-0.0) c.in_err-check_names.ensures)
+    rw (p.1, p.2) (names_refuse g.S.Shelf.tells (g.S.Shelf.files c.args.shelf.now) (bindings_of c.args.binds.now) (bounds_of c.args.session.now)
+    c.args.inputs.now _ _ _ (report_of c.in_err-check_names.field-0.0) c.in_err-check_names.ensures)
 
 pub returns-clause-fault : goal.returns-clause-fault
 returns-clause-fault g c =
@@ -21,7 +22,8 @@ returns-clause-fault g c =
     let bounds = bounds_of c.args.session.now in
     let inputs = c.args.inputs.now in
     let turn = HasSessionTurn tells files binds bounds inputs in
-    IfErr-weaker c.read_inputs.result _ _ (λ fault is. load_fault_weaker tells tells (λ why. inputs_read files binds bounds inputs ≡ Err why) (RefusesSession files binds bounds inputs) turn turn _ _ _ _
+    IfErr-weaker c.read_inputs.result _ _ (λ fault is. load_fault_weaker tells tells (λ why. inputs_read files binds bounds inputs ≡ Err why)
+    (RefusesSession files binds bounds inputs) turn turn _ _ _ _
     (λ t. t) (λ why t refused. by_series why c.in_ok-check_names.ensures refused) (λ name rose next. (rose, next)) (report_of fault) is) c.read_inputs.ensures.fault
 
 pub returns-clause-taken : goal.returns-clause-taken

@@ -13,7 +13,9 @@ use Rattle.tilt_load.proofs.inputs.read_inputs.Goals as goal
 
 pub load_input-requires : goal.load_input-requires
 load_input-requires g c =
-    c.requires.lent c.file_bound.result.now (turn_at (g.S.Shelf.files c.args.shelf.now) (bindings_of c.args.binds.now) (bounds_of c.args.session.now) c.args.inputs.now c.input-item.result c.loop-input.input-index c.loop-input-test.true c.input-item.is g.S.Shelf.tells c.file_bound.result.now c.requires.named c.file_bound.ensures (λ t. (c.loop-input.all.items, c.loop-input.invariant.read t)))
+    c.requires.lent c.file_bound.result.now (turn_at (g.S.Shelf.files c.args.shelf.now) (bindings_of c.args.binds.now) (bounds_of c.args.session.now)
+    c.args.inputs.now c.input-item.result c.loop-input.input-index c.loop-input-test.true c.input-item.is g.S.Shelf.tells c.file_bound.result.now
+    c.requires.named c.file_bound.ensures (λ t. (c.loop-input.all.items, c.loop-input.invariant.read t)))
 
 pub returns-in_err-rows-clause-fault : goal.returns-in_err-rows-clause-fault
 returns-in_err-rows-clause-fault g c =
@@ -39,11 +41,13 @@ loop-input-preserved g c =
           let taken = rw (c.loop-input.invariant.rest.same_files, c.file_bound.ensures) at (c.in_ok-rows.ensures.taken t) in
           rw c.in_ok-add.ensures (taken_at files binds bounds c.args.inputs.now c.input-item.result c.loop-input.input-index c.loop-input-test.true c.input-item.is
           c.bounds_at-bounds.result here c.loop-input.all.items c.in_ok-rows.rows (c.loop-input.invariant.read t) taken);
-      within = rw c.in_ok-add.ensures (within_more bounds c.loop-input.all.items c.in_ok-rows.rows c.loop-input.invariant.within (subst (λ (b : Bounds). AllByRecursion (IsWithin b) c.in_ok-rows.rows) (c.bounds_at-bounds.ensures ∙ ap bounds (c.len.ensures ∙ stored)) c.in_ok-rows.ensures.within));
+      within = rw c.in_ok-add.ensures (within_more bounds c.loop-input.all.items c.in_ok-rows.rows c.loop-input.invariant.within
+          (subst (λ (b : Bounds). AllByRecursion (IsWithin b) c.in_ok-rows.rows) (c.bounds_at-bounds.ensures ∙ ap bounds (c.len.ensures ∙ stored)) c.in_ok-rows.ensures.within));
       many = rw c.in_ok-add.ensures (omega (arith, length-append c.loop-input.all.items (c.in_ok-rows.rows ∷ []), c.loop-input.invariant.many));
       rest = reads-then c.loop-input.invariant.rest c.load_input.ensures.rest;
     }
 
 pub returns-clause-taken : goal.returns-clause-taken
 returns-clause-taken g c =
-    λ t. all_taken (g.S.Shelf.files c.args.shelf.now) (bindings_of c.args.binds.now) (bounds_of c.args.session.now) c.args.inputs.now c.loop-input.all.items c.loop-input.input-index c.loop-input-test.false (c.loop-input.invariant.read t)
+    λ t. all_taken (g.S.Shelf.files c.args.shelf.now) (bindings_of c.args.binds.now) (bounds_of c.args.session.now) c.args.inputs.now c.loop-input.all.items
+    c.loop-input.input-index c.loop-input-test.false (c.loop-input.invariant.read t)

@@ -12,13 +12,15 @@ pub returns-in_err-query-clause-fault : goal.returns-in_err-query-clause-fault
 returns-in_err-query-clause-fault c =
     λ name.
     let p = err_from_is_err_and c.from_residual-in_err-query.result c.from_residual-in_err-query.ensures.1 in
-    rw (p.1, p.2) (syntax_refuses name c.args.bytes.now c.in_ok-tokens.tokens.items c.in_err-query.field-0.0 c.requires c.in_ok-tokens.ensures.tokens (rw c.deref.ensures.value at c.in_err-query.ensures.faulty))
+    rw (p.1, p.2) (syntax_refuses name c.args.bytes.now c.in_ok-tokens.tokens.items c.in_err-query.field-0.0 c.requires c.in_ok-tokens.ensures.tokens
+    (rw c.deref.ensures.value at c.in_err-query.ensures.faulty))
 
 pub returns-in_err-core-clause-fault : goal.returns-in_err-core-clause-fault
 returns-in_err-core-clause-fault c =
     λ name.
     let p = err_from_is_err_and c.from_residual-in_err-core.result c.from_residual-in_err-core.ensures.1 in
-    rw (p.1, p.2) (check_refuses name c.args.bytes.now c.in_ok-tokens.tokens.items c.in_ok-query.query c.in_err-core.field-0.0 c.requires c.in_ok-tokens.ensures.tokens (rw c.deref.ensures.value at c.in_ok-query.ensures.query) c.in_err-core.ensures)
+    rw (p.1, p.2) (check_refuses name c.args.bytes.now c.in_ok-tokens.tokens.items c.in_ok-query.query c.in_err-core.field-0.0 c.requires
+    c.in_ok-tokens.ensures.tokens (rw c.deref.ensures.value at c.in_ok-query.ensures.query) c.in_err-core.ensures)
 
 pub returns-in_err-margins-clause-fault : goal.returns-in_err-margins-clause-fault
 returns-in_err-margins-clause-fault c =

@@ -11,7 +11,8 @@ returns-in_err-put_signed g c =
     let front = codes "51 cut back from " ++ signed_decimal c.args.old in
     let wide : FitsSigned w128 c.args.old = record { sfits = omega (arith, c.ranges.old.sfits) } in
     let cut = rw (c.from.ensures, to_z-of_z w64 c.args.old c.ranges.old, to_z-of_z w128 c.args.old wide) at c.in_err-put_signed.ensures in
-    rw (append_assoc front (codes " to ") (signed_decimal c.args.new)) (puts-short _ _ _ _ g.met.E.Sink.takes_fewer _ _ front (codes " to " ++ signed_decimal c.args.new) _ c.from_residual.result c.from_residual.ensures.0 cut)
+    rw (append_assoc front (codes " to ") (signed_decimal c.args.new))
+    (puts-short _ _ _ _ g.met.E.Sink.takes_fewer _ _ front (codes " to " ++ signed_decimal c.args.new) _ c.from_residual.result c.from_residual.ensures.0 cut)
 
 pub returns : goal.returns
 returns g c =

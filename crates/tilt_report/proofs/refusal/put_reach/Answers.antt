@@ -9,7 +9,8 @@ pub returns-in_err-put_signed : goal.returns-in_err-put_signed
 returns-in_err-put_signed g c =
     let front = codes "31 too far: back " ++ signed_decimal c.args.back in
     let cut = rw (to_z-of_z w128 c.args.back c.ranges.back) at c.in_err-put_signed.ensures in
-    rw (append_assoc front (codes " ahead ") (signed_decimal c.args.ahead)) (puts-short _ _ _ _ g.met.E.Sink.takes_fewer _ _ front (codes " ahead " ++ signed_decimal c.args.ahead) _ c.from_residual.result c.from_residual.ensures.0 cut)
+    rw (append_assoc front (codes " ahead ") (signed_decimal c.args.ahead))
+    (puts-short _ _ _ _ g.met.E.Sink.takes_fewer _ _ front (codes " ahead " ++ signed_decimal c.args.ahead) _ c.from_residual.result c.from_residual.ensures.0 cut)
 
 pub returns : goal.returns
 returns g c =

@@ -6,7 +6,8 @@ use Rattle.tilt_report.proofs.refusal.put_reference.Goals as goal
 pub returns-in_err-put_counted : goal.returns-in_err-put_counted
 returns-in_err-put_counted g c =
     let front = codes "41 bad reference in loop " ++ decimal c.args.in_loop in
-    rw (append_assoc front (codes ", line ") (decimal c.args.line)) (puts-short _ _ _ _ g.met.E.Sink.takes_fewer _ _ front (codes ", line " ++ decimal c.args.line) _ c.from_residual.result c.from_residual.ensures.0 c.in_err-put_counted.ensures)
+    rw (append_assoc front (codes ", line ") (decimal c.args.line))
+    (puts-short _ _ _ _ g.met.E.Sink.takes_fewer _ _ front (codes ", line " ++ decimal c.args.line) _ c.from_residual.result c.from_residual.ensures.0 c.in_err-put_counted.ensures)
 
 pub returns : goal.returns
 returns g c =

@@ -7,7 +7,8 @@ pub returns-in_err-put_named : goal.returns-in_err-put_named
 returns-in_err-put_named g c =
     let front = series_number c.args.fault.now ++ codes " series " in
     let cut = rw (c.as_bytes.ensures.value ∙ c.number_of.ensures) at c.in_err-put_named.ensures in
-    rw (append_assoc front c.args.name.now (series_words c.args.fault.now)) (puts-short _ _ _ _ g.met.E.Sink.takes_fewer _ _ front (c.args.name.now ++ series_words c.args.fault.now) _ c.from_residual.result c.from_residual.ensures.0 cut)
+    rw (append_assoc front c.args.name.now (series_words c.args.fault.now))
+    (puts-short _ _ _ _ g.met.E.Sink.takes_fewer _ _ front (c.args.name.now ++ series_words c.args.fault.now) _ c.from_residual.result c.from_residual.ensures.0 cut)
 
 pub returns-in_err-put_text : goal.returns-in_err-put_text
 returns-in_err-put_text g c =

@@ -30,4 +30,6 @@ pub loop-snap-preserved : goal.loop-snap-preserved
 loop-snap-preserved g c =
     let list = c.as_slice-snap-items.result.now in
     let s = c.snap-item.result in
-    rw (lines_of-take list s c.loop-snap.snap-index c.loop-snap-test.true c.snap-item.is) (puts-then _ _ _ _ c.args.sink.now c.loop-snap.sink c.put_snap.new.sink (lines_of (take c.loop-snap.snap-index list)) (lines_of (s ∷ [])) (Ok tt) c.loop-snap.invariant c.in_ok-put_snap.ensures)
+    rw (lines_of-take list s c.loop-snap.snap-index c.loop-snap-test.true c.snap-item.is)
+    (puts-then _ _ _ _ c.args.sink.now c.loop-snap.sink c.put_snap.new.sink (lines_of (take c.loop-snap.snap-index list)) (lines_of (s ∷ [])) (Ok tt)
+    c.loop-snap.invariant c.in_ok-put_snap.ensures)

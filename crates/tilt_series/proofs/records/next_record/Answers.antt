@@ -4,7 +4,8 @@ use Rattle.tilt_series.proofs.records.next_record.Goals as goal
 
 pub returns-clause-between : goal.returns-clause-between
 returns-clause-between c =
-    stays_between c.args.reader.now c.read_byte_record.new.self c.in-Ok.found (fields_of c.read_byte_record.new.row) c.requires (c.in-Ok.ensures.ready c.requires.trim) c.in-Ok.ensures.flexible (c.in-Ok.ensures.reads c.requires.trim c.requires.ready)
+    stays_between c.args.reader.now c.read_byte_record.new.self c.in-Ok.found (fields_of c.read_byte_record.new.row) c.requires
+    (c.in-Ok.ensures.ready c.requires.trim) c.in-Ok.ensures.flexible (c.in-Ok.ensures.reads c.requires.trim c.requires.ready)
 
 pub returns-clause-taken : goal.returns-clause-taken
 returns-clause-taken c =

@@ -13,5 +13,8 @@ loop-row-preserved c =
     let taken : records_left c.loop-row.reader ≡ fields ∷ left = rw found at c.in_ok-next_record.ensures.taken in
     record {
       between = rw found at c.in_ok-next_record.ensures.between;
-      read = rw c.in_ok-push.ensures.ok (sym (whole_of-row c.args.bounds c.loop-row.rows c.loop-row.row fields left c.in_ok-read_row.field-0 (c.in_ok-read_row.ensures.read ∙ ap (λ b. row_of b c.loop-row.row fields) (bounds_here c.args.bounds c.loop-row.rows _ _ _ _ _ c.bounds.view_is c.or-last_end.ensures c.last_end.ensures.value))) ∙ ap (whole_of c.args.bounds c.loop-row.rows c.loop-row.row) (sym taken) ∙ c.loop-row.invariant.read);
+      read = rw c.in_ok-push.ensures.ok (sym (whole_of-row c.args.bounds c.loop-row.rows c.loop-row.row fields left c.in_ok-read_row.field-0
+          (c.in_ok-read_row.ensures.read ∙ ap (λ b. row_of b c.loop-row.row fields)
+          (bounds_here c.args.bounds c.loop-row.rows _ _ _ _ _ c.bounds.view_is c.or-last_end.ensures c.last_end.ensures.value)))
+          ∙ ap (whole_of c.args.bounds c.loop-row.rows c.loop-row.row) (sym taken) ∙ c.loop-row.invariant.read);
     }

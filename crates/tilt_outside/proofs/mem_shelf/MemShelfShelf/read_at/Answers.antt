@@ -19,7 +19,8 @@ returns-in_default-clause-fails c =
             failing = c.self.inside.failing.items;
           } in
           let full : 2 ^ 64 ≤ c.self.inside.given + w.count_from.result = grind (arith, nat_tests, w.can_count.ensures, w.if-can_count.false) in
-          rw (← c.self.view_is) (ReadFails-full shelf c.args.name.now w.in-Some.bytes.now c.args.at (length c.args.room.now) w.count_from.result (rw c.deref-2.ensures.value at w.in-Some.ensures) w.count_from.ensures full)
+          rw (← c.self.view_is) (ReadFails-full shelf c.args.name.now w.in-Some.bytes.now c.args.at (length c.args.room.now) w.count_from.result
+          (rw c.deref-2.ensures.value at w.in-Some.ensures) w.count_from.ensures full)
       | in_default-via-in-Some+else-not-is_listed w ↦ rw (← c.self.view_is) (inr (inl (search rules)))
       | in_default-via-in_default w ↦ rw (← c.self.view_is) (rw (← c.deref-2.ensures.value) (inl (sym w.in_default.ensures)))
     ] in

@@ -9,4 +9,5 @@ start-requires-clause-rows c =
 pub returns-clause-joined : goal.returns-clause-joined
 returns-clause-joined c =
     first-joined c.args.query c.args.accepted.now.core.now c.args.rows.now c.in_ok-part.part.items c.args.cut c.in_ok-printed.printed c.in_ok-printed.checkpoint c.in_ok-bytes.bytes.items
-    (rw (to_z-of_z c.ranges.cut) at c.in_ok-part.ensures.parts) (rw (to_z-of_z c.ranges.cut) at c.in_ok-printed.ensures.printed) (rw (to_z-of_z c.ranges.cut) at c.in_ok-printed.ensures.left) c.in_ok-bytes.ensures.text c.cut.ensures.valid
+    (rw (to_z-of_z c.ranges.cut) at c.in_ok-part.ensures.parts) (rw (to_z-of_z c.ranges.cut) at c.in_ok-printed.ensures.printed)
+    (rw (to_z-of_z c.ranges.cut) at c.in_ok-printed.ensures.left) c.in_ok-bytes.ensures.text c.cut.ensures.valid
