@@ -1,16 +1,17 @@
 -- What is reported where no count rose, by what a command or words come to.
 use Rattle.std.proofs.Common.{◌≡◌, ◌⊎◌, inl, inr, List, ℕ, Option, None, Some, refl, arith}
+use Rattle.tilt_app.specs.Cause.{IsCause, IsUnanswered, IsSaveFault}
+use Rattle.tilt_app.specs.Change.{ShelfChange, SinkChange}
+use Rattle.tilt_app.specs.Outcome.{IsOutcome, no_command}
 use Rattle.tilt_outside.specs.Faults.{Rose}
-use Rattle.tilt_app.specs.Cause.{IsCause}
-use Rattle.tilt_app.specs.Saving.{Save, outcome_of}
+use Rattle.tilt_printed.specs.Saving.{SaveValue, outcome_of}
+use Rattle.tilt_report.specs.Report.{Outcome, refused, Report, usage, refusal, read_fault, write_fault, save_fault, out_of_memory, report_of_words, status_of}
 use Rattle.tilt_watch.specs.Watch.{Watch}
 use Rattle.tilt_words.specs.Command.{CommandValue, IsCommand}
 use Rattle.tilt_words.specs.declared.fault.WordsFault.{WordsFault}
 use Rattle.tilt_words.specs.declared.fault.WordsFault.TheVariants as variant
-use Rattle.tilt_app.specs.Outcome.{IsOutcome, no_command}
-use Rattle.tilt_report.specs.Report.{Outcome, refused, Report, usage, refusal, read_fault, write_fault, save_fault, out_of_memory, report_of_words, status_of}
 
-text_is_no_refusal : (text : List ℕ) (save : Option Save) (report : Report) → outcome_of text save ≡ refused report → ⊥
+text_is_no_refusal : (text : List ℕ) (save : Option SaveValue) (report : Report) → outcome_of text save ≡ refused report → ⊥
 text_is_no_refusal text None report same = cc
 text_is_no_refusal text (Some save) report same = cc
 
@@ -19,16 +20,13 @@ same_report report other same = cc
 
 module _ (is_outcome : Outcome → Type 0) (once : (o p : Outcome) → is_outcome o → is_outcome p → o ≡ p) where
   -- what is printed isn't refused
-  pub printed_or_refused : (text : List ℕ) (save : Option Save) (report : Report) → is_outcome (outcome_of text save) → is_outcome (refused report) → ⊥
+  pub printed_or_refused : (text : List ℕ) (save : Option SaveValue) (report : Report) → is_outcome (outcome_of text save) → is_outcome (refused report) → ⊥
   printed_or_refused text save report outcome other = text_is_no_refusal text save report (once (outcome_of text save) (refused report) outcome other)
 
-  module _ (has_turn : List ℕ → Type 0) (shelf_tells : Type 0) (reads_before reads_after : ℕ) (held holds : List ℕ → List ℕ) (saves_before saves_after : ℕ)
-      (out_tells : Type 0) (old new : List ℕ) (puts_before puts_after : ℕ) (told : shelf_tells)
-      (no_read_fault : Rose reads_before reads_after → ⊥) where
+  module _ (has_turn : List ℕ → Type 0) (shelf : ShelfChange) (out : SinkChange) (told : shelf.tells) (no_read_fault : Rose shelf.reads_before shelf.reads_after → ⊥) where
     -- a text that isn't printed, or isn't saved, wants memory
-    pub only_memory : (report : Report) (text : List ℕ) (save : Option Save)
-        → IsCause is_outcome has_turn shelf_tells reads_before reads_after held holds saves_before saves_after out_tells old new puts_before puts_after report
-        → is_outcome (outcome_of text save) → (Rose saves_before saves_after → ⊥) → (Rose puts_before puts_after → ⊥) → report ≡ out_of_memory
+    pub only_memory : (report : Report) (text : List ℕ) (save : Option SaveValue) → IsCause is_outcome has_turn shelf out report
+        → is_outcome (outcome_of text save) → (Rose shelf.saves_before shelf.saves_after → ⊥) → (Rose out.before out.after → ⊥) → report ≡ out_of_memory
     only_memory usage text save cause outcome no_save_fault no_put_fault = absurd (printed_or_refused text save usage outcome cause)
     only_memory (read_fault name) text save cause outcome no_save_fault no_put_fault = absurd (no_read_fault cause.0)
     only_memory write_fault text save cause outcome no_save_fault no_put_fault = absurd (no_put_fault cause.0)
@@ -40,8 +38,7 @@ module _ (is_outcome : Outcome → Type 0) (once : (o p : Outcome) → is_outcom
     same_refusal report other is outcome = inl (same_report report other (once (refused report) (refused other) is outcome))
 
     -- a refusal is reported, or it wants memory
-    pub the_refusal : (report other : Report) → IsCause is_outcome has_turn shelf_tells reads_before reads_after held holds saves_before saves_after out_tells
-        old new puts_before puts_after report → is_outcome (refused other)
+    pub the_refusal : (report other : Report) → IsCause is_outcome has_turn shelf out report → is_outcome (refused other)
         → (report ≡ other) ⊎ (report ≡ out_of_memory)
     the_refusal usage other cause outcome = same_refusal usage other cause outcome
     the_refusal (refusal why) other cause outcome = same_refusal (refusal why) other (cause told) outcome
@@ -51,18 +48,55 @@ module _ (is_outcome : Outcome → Type 0) (once : (o p : Outcome) → is_outcom
         absurd (printed_or_refused cause.1.0 (Some (record { name = name; bytes = cause.1.1 })) other (cause.1.2.outcome told) outcome)
     the_refusal out_of_memory other cause outcome = inr refl
 
+module _ (is_outcome : Outcome → Type 0) (has_turn : List ℕ → Type 0) (shelf : ShelfChange) (out : SinkChange) where
+  -- where no count rose, the status is that of words, of a refusal, or of want of memory
+  pub status_faultless : (report : Report) → IsCause is_outcome has_turn shelf out report → (Rose shelf.reads_before shelf.reads_after → ⊥)
+      → (Rose shelf.saves_before shelf.saves_after → ⊥) → (Rose out.before out.after → ⊥)
+      → (status_of report ≡ 1) ⊎ ((status_of report ≡ 2) ⊎ (status_of report ≡ 5))
+  status_faultless usage cause no_read no_save no_put = inr (inl refl)
+  status_faultless (refusal why) cause no_read no_save no_put = inl refl
+  status_faultless (read_fault name) cause no_read no_save no_put = absurd (no_read cause.0)
+  status_faultless write_fault cause no_read no_save no_put = absurd (no_put cause.0)
+  status_faultless (save_fault name) cause no_read no_save no_put = absurd (no_save cause.0)
+  status_faultless out_of_memory cause no_read no_save no_put = inr (inr refl)
+
+  -- usage is reported only where it is the outcome
+  pub cause_of_usage : (report : Report) → report ≡ usage → IsCause is_outcome has_turn shelf out report → is_outcome (refused usage)
+  cause_of_usage usage is cause = cause
+  cause_of_usage (refusal why) is cause = absurd (cc is)
+  cause_of_usage (read_fault name) is cause = absurd (cc is)
+  cause_of_usage write_fault is cause = absurd (cc is)
+  cause_of_usage (save_fault name) is cause = absurd (cc is)
+  cause_of_usage out_of_memory is cause = absurd (cc is)
+
+  -- why nothing was answered is the cause, where nothing was written
+  pub unanswered_cause : (report : Report) → out.new ≡ out.old → IsUnanswered is_outcome has_turn shelf report → IsCause is_outcome has_turn shelf out report
+  unanswered_cause usage same fault = fault
+  unanswered_cause (refusal why) same fault = fault
+  unanswered_cause (read_fault name) same fault = fault
+  unanswered_cause write_fault same fault = absurd fault
+  unanswered_cause (save_fault name) same fault = absurd fault
+  unanswered_cause out_of_memory same fault = inl (λ _. same)
+
+  -- where nothing was answered, no save failed
+  pub no_save_fault : (report : Report) → IsUnanswered is_outcome has_turn shelf report → IsSaveFault report → ⊥
+  no_save_fault usage fault is = is
+  no_save_fault (refusal why) fault is = is
+  no_save_fault (read_fault name) fault is = is
+  no_save_fault write_fault fault is = is
+  no_save_fault (save_fault name) fault is = fault
+  no_save_fault out_of_memory fault is = is
+
 -- a cause for a command is one for the words that are it
-pub wider_cause : (is_outcome is_outcome' : Outcome → Type 0) (has_turn has_turn' : List ℕ → Type 0) (shelf_tells : Type 0) (reads_before reads_after : ℕ)
-    (held holds : List ℕ → List ℕ) (saves_before saves_after : ℕ) (out_tells : Type 0) (old new : List ℕ) (puts_before puts_after : ℕ)
+pub wider_cause : (is_outcome is_outcome' : Outcome → Type 0) (has_turn has_turn' : List ℕ → Type 0) (shelf : ShelfChange) (out : SinkChange)
     → ((o : Outcome) → is_outcome o → is_outcome' o) → ((name : List ℕ) → has_turn name → has_turn' name) → (report : Report)
-    → IsCause is_outcome has_turn shelf_tells reads_before reads_after held holds saves_before saves_after out_tells old new puts_before puts_after report
-    → IsCause is_outcome' has_turn' shelf_tells reads_before reads_after held holds saves_before saves_after out_tells old new puts_before puts_after report
-wider_cause is is' turn turn' st rb ra he ho sb sa ot old new pb pa more next usage cause = more (refused usage) cause
-wider_cause is is' turn turn' st rb ra he ho sb sa ot old new pb pa more next (refusal why) cause = λ t. more (refused (refusal why)) (cause t)
-wider_cause is is' turn turn' st rb ra he ho sb sa ot old new pb pa more next (read_fault name) cause = (cause.0, next name cause.1)
-wider_cause is is' turn turn' st rb ra he ho sb sa ot old new pb pa more next write_fault cause =
+    → IsCause is_outcome has_turn shelf out report → IsCause is_outcome' has_turn' shelf out report
+wider_cause is is' turn turn' shelf out more next usage cause = more (refused usage) cause
+wider_cause is is' turn turn' shelf out more next (refusal why) cause = λ t. more (refused (refusal why)) (cause t)
+wider_cause is is' turn turn' shelf out more next (read_fault name) cause = (cause.0, next name cause.1)
+wider_cause is is' turn turn' shelf out more next write_fault cause =
     (cause.0, (cause.1.0, cause.1.1, record { outcome = λ t. more (outcome_of cause.1.0 cause.1.1) (cause.1.2.outcome t); front = cause.1.2.front }))
-wider_cause is is' turn turn' st rb ra he ho sb sa ot old new pb pa more next (save_fault name) cause = (
+wider_cause is is' turn turn' shelf out more next (save_fault name) cause = (
   cause.0,
   (
     cause.1.0,
@@ -74,9 +108,16 @@ wider_cause is is' turn turn' st rb ra he ho sb sa ot old new pb pa more next (s
     },
   ),
 )
-wider_cause is is' turn turn' st rb ra he ho sb sa ot old new pb pa more next out_of_memory (inl none) = inl none
-wider_cause is is' turn turn' st rb ra he ho sb sa ot old new pb pa more next out_of_memory (inr part) =
+wider_cause is is' turn turn' shelf out more next out_of_memory (inl none) = inl none
+wider_cause is is' turn turn' shelf out more next out_of_memory (inr part) =
     inr (part.0, part.1, record { outcome = λ t. more (outcome_of part.0 part.1) (part.2.outcome t); front = part.2.front })
+
+-- words that give no command are reported as such, or want memory
+pub cause_of_words : (words : List (List ℕ)) (files : List ℕ → List ℕ) (watchers : List Watch) (has_turn : List ℕ → Type 0) (shelf : ShelfChange) (out : SinkChange)
+    (fault : WordsFault) → out.new ≡ out.old → (fault ≡ variant.Usage → (command : CommandValue) → ¬ (IsCommand words command))
+    → IsCause (IsOutcome words files watchers) has_turn shelf out (report_of_words fault)
+cause_of_words words files watchers has_turn shelf out variant.Usage same none = no_command (none refl)
+cause_of_words words files watchers has_turn shelf out variant.OutOfMemory same none = inl (λ _. same)
 
 -- the status of usage is that of no other report
 pub status_of_usage : (report : Report) → status_of report ≡ 2 → report ≡ usage
@@ -87,22 +128,38 @@ status_of_usage write_fault is = absurd (omega arith)
 status_of_usage (save_fault name) is = absurd (omega arith)
 status_of_usage out_of_memory is = absurd (omega arith)
 
--- usage is reported only where it is the outcome
-pub cause_of_usage : (is_outcome : Outcome → Type 0) (has_turn : List ℕ → Type 0) (shelf_tells : Type 0) (reads_before reads_after : ℕ)
-    (held holds : List ℕ → List ℕ) (saves_before saves_after : ℕ) (out_tells : Type 0) (old new : List ℕ) (puts_before puts_after : ℕ)
-    → (report : Report) → report ≡ usage → IsCause is_outcome has_turn shelf_tells reads_before reads_after held holds saves_before saves_after out_tells old
-    new puts_before puts_after report → is_outcome (refused usage)
-cause_of_usage is_outcome has_turn st rb ra he ho sb sa ot old new pb pa usage is cause = cause
-cause_of_usage is_outcome has_turn st rb ra he ho sb sa ot old new pb pa (refusal why) is cause = absurd (cc is)
-cause_of_usage is_outcome has_turn st rb ra he ho sb sa ot old new pb pa (read_fault name) is cause = absurd (cc is)
-cause_of_usage is_outcome has_turn st rb ra he ho sb sa ot old new pb pa write_fault is cause = absurd (cc is)
-cause_of_usage is_outcome has_turn st rb ra he ho sb sa ot old new pb pa (save_fault name) is cause = absurd (cc is)
-cause_of_usage is_outcome has_turn st rb ra he ho sb sa ot old new pb pa out_of_memory is cause = absurd (cc is)
+-- the status of a write fault is that of no other report
+pub status_of_write_fault : (report : Report) → status_of report ≡ 4 → report ≡ write_fault
+status_of_write_fault usage is = absurd (omega arith)
+status_of_write_fault (refusal why) is = absurd (omega arith)
+status_of_write_fault (read_fault name) is = absurd (omega arith)
+status_of_write_fault write_fault is = refl
+status_of_write_fault (save_fault name) is = absurd (omega arith)
+status_of_write_fault out_of_memory is = absurd (omega arith)
 
--- words that give no command are reported as such, or want memory
-pub cause_of_words : (words : List (List ℕ)) (files : List ℕ → List ℕ) (watchers : List Watch) (has_turn : List ℕ → Type 0) (shelf_tells : Type 0)
-    (reads_before reads_after : ℕ) (held holds : List ℕ → List ℕ) (saves_before saves_after : ℕ) (out_tells : Type 0) (old new : List ℕ)
-    (puts_before puts_after : ℕ) (fault : WordsFault) → new ≡ old → (fault ≡ variant.Usage → (command : CommandValue) → ¬ (IsCommand words command))
-    → IsCause (IsOutcome words files watchers) has_turn shelf_tells reads_before reads_after held holds saves_before saves_after out_tells old new puts_before puts_after (report_of_words fault)
-cause_of_words words files watchers has_turn st rb ra he ho sb sa ot old new pb pa variant.Usage same none = no_command (none refl)
-cause_of_words words files watchers has_turn st rb ra he ho sb sa ot old new pb pa variant.OutOfMemory same none = inl (λ _. same)
+-- the status of a save fault is that of no other report
+pub status_of_save_fault : (report : Report) → status_of report ≡ 6 → IsSaveFault report
+status_of_save_fault usage is = absurd (omega arith)
+status_of_save_fault (refusal why) is = absurd (omega arith)
+status_of_save_fault (read_fault name) is = absurd (omega arith)
+status_of_save_fault write_fault is = absurd (omega arith)
+status_of_save_fault (save_fault name) is = tt
+status_of_save_fault out_of_memory is = absurd (omega arith)
+
+-- the status of a save fault
+pub status_of_save : (report : Report) → IsSaveFault report → status_of report ≡ 6
+status_of_save usage is = absurd is
+status_of_save (refusal why) is = absurd is
+status_of_save (read_fault name) is = absurd is
+status_of_save write_fault is = absurd is
+status_of_save (save_fault name) is = refl
+status_of_save out_of_memory is = absurd is
+
+-- a report has another status than 0
+pub status_not_0 : (report : Report) → status_of report ≡ 0 → ⊥
+status_not_0 usage is = absurd (omega arith)
+status_not_0 (refusal why) is = absurd (omega arith)
+status_not_0 (read_fault name) is = absurd (omega arith)
+status_not_0 write_fault is = absurd (omega arith)
+status_not_0 (save_fault name) is = absurd (omega arith)
+status_not_0 out_of_memory is = absurd (omega arith)

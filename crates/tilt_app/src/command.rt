@@ -1,30 +1,36 @@
 // The program's one call.
-ghost use Rattle.std.specs.Prelude.{◌≡◌, ◌⊎◌, ◌++◌, List, ℕ, length, Option, Some, OnOk, IfErr, MatchResult};
+ghost use Rattle.std.specs.Prelude.{◌≡◌, ◌≤◌, ◌⊎◌, ◌↔◌, List, ℕ, length, Option, Some, OnOk, IfErr, MatchResult};
+ghost use Rattle.tilt_app.specs.Cause.{IsCause, IsLineWritten, IsSaveFault};
+ghost use Rattle.tilt_app.specs.Change.{shelf_change, sink_change};
+ghost use Rattle.tilt_app.specs.Continued.{IsContinued};
+ghost use Rattle.tilt_app.specs.Done.{IsDone};
+ghost use Rattle.tilt_app.specs.Outcome.{HaveBytes, HasRowBytes, HasRowTurn, HasTurn, IsOutcome, IsRowOutcome};
+ghost use Rattle.tilt_app.specs.Outcome.{IsRunnable, IsSaving, IsStreaming, Saves, Streams};
+ghost use Rattle.tilt_app.specs.Saving.{IsSaved, IsUnsaved};
+ghost use Rattle.tilt_app.specs.Show.{IsShow, IsWatch, IsWatchOf, SeeOfFault, WatchesRun};
+ghost use Rattle.tilt_app.specs.Table.{row_of};
+ghost use Rattle.tilt_outside.specs.Counts.{added_count};
 ghost use Rattle.tilt_outside.specs.Faults.{Rose};
 ghost use Rattle.tilt_outside.specs.Reads.{OnlyReads};
-ghost use Rattle.tilt_app.specs.Cause.{IsCause, IsLineWritten, IsSaveFault};
-ghost use Rattle.tilt_app.specs.Continues.{Continues};
-ghost use Rattle.tilt_app.specs.Outcome.{IsCommandOutcome, HasCommandTurn, IsOutcome, HasTurn};
-ghost use Rattle.tilt_app.specs.Outcome.{IsRunnable, IsSaving, IsStreaming, Saves, Streams};
-ghost use Rattle.tilt_app.specs.Run.{IsRunOutcome};
-ghost use Rattle.tilt_app.specs.Saving.{IsSaved, IsUnsaved, Save, outcome_of};
-ghost use Rattle.tilt_app.specs.Show.{HaveSeen, HaveSeenInPart, IsShow, IsWatch, IsWatchOf, SeeAll, SeeOfFault};
-ghost use Rattle.tilt_report.specs.Report.{Report, printed, refused, report_of, status_of, line_of};
+ghost use Rattle.tilt_printed.specs.Saving.{SaveValue, outcome_of};
+ghost use Rattle.tilt_printed.specs.Left.{left_of};
+ghost use Rattle.tilt_printed.specs.Show.{HaveSeen, HaveSeenInPart, SeeAll};
+ghost use Rattle.tilt_report.specs.Report.{Report, refused, report_of, status_of, line_of};
 ghost use Rattle.tilt_report.specs.Report.{write_fault, save_fault, out_of_memory};
 ghost use Rattle.tilt_stream.specs.Snap.{Snapshot};
-ghost use Rattle.tilt_stream.specs.Text.{text_of};
-ghost use Rattle.tilt_watch.specs.Watch.{watches};
+ghost use Rattle.tilt_watch.specs.Watch.{Watch, watches};
 ghost use Rattle.tilt_words.specs.Binding.{Binding};
 ghost use Rattle.tilt_words.specs.Command.{CommandValue, IsCommand, IsWithin, command_of, texts};
 
-use crate::answer::{Answered, answer, save_name};
+use crate::answer::answer;
 use std::alloc::Global;
 use tilt_outside::{Shelf, Sink};
+use tilt_printed::Save;
 use tilt_report::Fault;
 use tilt_watch::Watcher;
 use tilt_words::{Command, read_words};
 
-// Does what the command says: all is read before the first put, and what is saved is saved behind all puts.
+// Does what the command says: all is read before the first put, and what is saved is saved after all puts.
 fn done<'a, S: Shelf, O: Sink>(
     alloc: Global,
     command: &'a Command,
@@ -32,78 +38,90 @@ fn done<'a, S: Shelf, O: Sink>(
     out: &mut O,
     watchers: &mut Vec<Box<dyn Watcher>>,
 ) -> Result<(), Fault<'a>>
-    requires lent { (name : List ℕ) → HasCommandTurn S.tells (S.files shelf.old) (command_of command.now) name → S.lends name }
+    requires lent { (any : List Watch) (name : List ℕ)
+        → HasRowTurn S.tells (S.files shelf.old) any (row_of (command_of command.now)) name → S.lends name }
     requires within { IsWithin (command_of command.now) }
-    requires room { (text : List ℕ) (save : Option Save)
-        → (S.tells → IsCommandOutcome (S.files shelf.old) (watches pair step watchers.old.items) (command_of command.now)
+    requires room { (text : List ℕ) (save : Option SaveValue)
+        → (S.tells → IsRowOutcome (S.files shelf.old) (watches pair step watchers.old.items) (row_of (command_of command.now))
         (outcome_of text save))
         → O.takes out.old (length text) }
-    requires saves { (text : List ℕ) (save : Save)
-        → (S.tells → IsCommandOutcome (S.files shelf.old) (watches pair step watchers.old.items) (command_of command.now)
+    requires saves { (text : List ℕ) (save : SaveValue)
+        → (S.tells → IsRowOutcome (S.files shelf.old) (watches pair step watchers.old.items) (row_of (command_of command.now))
         (outcome_of text (Some save)))
         → S.takes shelf.old save.name (length save.bytes) }
-    ensures done { OnOk result ((text : List ℕ) × (save : Option Save)
-        × (S.tells → IsCommandOutcome (S.files shelf.old) (watches pair step watchers.old.items) (command_of command.now)
-        (outcome_of text save))
-        × (O.tells → O.written out.new ≡ O.written out.old ++ text)
-        × IsSaved S.tells (S.files shelf.old) (S.files shelf.new) save) }
+    ensures done { OnOk result (IsDone
+        (IsRowOutcome (S.files shelf.old) (watches pair step watchers.old.items) (row_of (command_of command.now)))
+        (shelf_change S.tells S.files S.read_faults S.save_faults shelf.old shelf.new)
+        (sink_change O.tells O.written O.faults O.takes out.old out.new)) }
     ensures cause { IfErr result (λ fault. IsCause
-        (IsCommandOutcome (S.files shelf.old) (watches pair step watchers.old.items) (command_of command.now))
-        (HasCommandTurn S.tells (S.files shelf.old) (command_of command.now)) S.tells
-        (S.read_faults shelf.old) (S.read_faults shelf.new) (S.files shelf.old) (S.files shelf.new) (S.save_faults shelf.old)
-        (S.save_faults shelf.new) O.tells (O.written out.old) (O.written out.new) (O.faults out.old) (O.faults out.new)
-        (report_of fault)) }
-    ensures law { S.tells → OnOk result (Continues (S.files shelf.old) (command_of command.now)) }
-    ensures handed_on { OnOk result (O.held_back out.new ≡ 0) }
+        (IsRowOutcome (S.files shelf.old) (watches pair step watchers.old.items) (row_of (command_of command.now)))
+        (λ name. (any : List Watch) × HasRowTurn S.tells (S.files shelf.old) any (row_of (command_of command.now)) name)
+        (shelf_change S.tells S.files S.read_faults S.save_faults shelf.old shelf.new)
+        (sink_change O.tells O.written O.faults O.takes out.old out.new) (report_of fault)) }
+    ensures continued { S.tells → OnOk result (IsContinued (S.files shelf.old) (S.files shelf.new) O.tells
+        (O.written out.old) (O.written out.new) (command_of command.now)) }
+    ensures handed_on { MatchResult result (λ _. O.held_back out.new ≡ 0)
+        (λ fault. IsSaveFault (report_of fault) → O.held_back out.new ≡ 0) }
     ensures seen { MatchResult result
         (λ _. (shown : Option (List Snapshot)) × IsShow S.tells (S.files shelf.old) (command_of command.now) shown
-        × SeeAll O.tells (O.written out.old) (O.written out.new) (watchers.new ≡ watchers.old)
-        (watches pair step watchers.old.items) (watches pair step watchers.new.items) shown)
-        (λ fault. SeeOfFault O.tells (O.written out.old) (O.written out.new) (watchers.new ≡ watchers.old)
-        (watches pair step watchers.old.items) (watches pair step watchers.new.items)
+        × SeeAll (left_of O.tells O.written out.old out.new pair step watchers.old watchers.new) shown)
+        (λ fault. SeeOfFault (left_of O.tells O.written out.old out.new pair step watchers.old watchers.new)
         (IsShow S.tells (S.files shelf.old) (command_of command.now)) (report_of fault)) }
+    ensures read { S.tells → OnOk result ((count : ℕ) × (any : List Watch)
+        × HasRowBytes (S.files shelf.old) any (row_of (command_of command.now)) count
+        × (S.given shelf.new ≡ added_count (S.given shelf.old) count)) }
     ensures rest { MatchResult result
-        (λ _. (Saves (command_of command.now) → ⊥) → OnlyReads S.files S.read_faults S.save_faults S.takes shelf.old shelf.new)
+        (λ _. (Saves (command_of command.now) → ⊥)
+        → OnlyReads S.files S.read_faults S.save_faults S.takes shelf.old shelf.new)
         (λ fault. (IsSaveFault (report_of fault) → ⊥) → OnlyReads S.files S.read_faults S.save_faults S.takes shelf.old shelf.new) }
     ensures saving { IfErr result (λ fault. IsSaveFault (report_of fault) → Saves (command_of command.now)) }
     ensures unwritten { IfErr result (λ fault. (report_of fault ≡ write_fault → ⊥) → (IsSaveFault (report_of fault) → ⊥)
         → ((report_of fault ≡ out_of_memory) × Streams (command_of command.now) → ⊥) → out.new ≡ out.old) }
+    ensures takes { (name : List ℕ) (n : ℕ) → S.takes shelf.old name n ↔ S.takes shelf.new name n }
+    ensures counts { (S.read_faults shelf.old ≤ S.read_faults shelf.new) × (S.save_faults shelf.old ≤ S.save_faults shelf.new)
+        × (O.faults out.old ≤ O.faults out.new) }
 {
     let answered = answer(alloc, command, shelf)?;
-    let Answered { printed, bytes } = answered;
-    if let Err(unput) = printed.put(out, watchers) {
+    if let Err(unput) = answered.printed.put(out, watchers) {
         return Err(unput.fault());
     }
-    match bytes {
+    match answered.save {
         None => Ok(()),
-        Some(bytes) => save(shelf, save_name(command), &bytes),
+        Some(bytes) => save(shelf, &bytes),
     }
 }
 
-// Saves bytes under a name.
-fn save<'a, S: Shelf>(shelf: &mut S, name: &'a str, bytes: &[u8]) -> Result<(), Fault<'a>>
-    requires { S.takes shelf.old name.now (length bytes.now) }
-    ensures saved { OnOk result (IsSaved S.tells (S.files shelf.old) (S.files shelf.new)
-        (Some (record { name = name.now; bytes = bytes.now }))) }
-    ensures fault { IfErr result (λ fault. (report_of fault ≡ save_fault name.now)
+// Saves bytes under their name.
+fn save<'a, S: Shelf>(shelf: &mut S, save: &Save<'a>) -> Result<(), Fault<'a>>
+    requires { S.takes shelf.old save.now.name.now (length save.now.bytes.items) }
+    ensures saved { OnOk result (IsSaved (shelf_change S.tells S.files S.read_faults S.save_faults shelf.old shelf.new)
+        (Some (record { name = save.now.name.now; bytes = save.now.bytes.items }))) }
+    ensures fault { IfErr result (λ fault. (report_of fault ≡ save_fault save.now.name.now)
         × Rose (S.save_faults shelf.old) (S.save_faults shelf.new)
-        × IsUnsaved S.tells (S.files shelf.old) (S.files shelf.new) (record { name = name.now; bytes = bytes.now })) }
-    ensures read_faults { S.read_faults shelf.new ≡ S.read_faults shelf.old }
+        × IsUnsaved (shelf_change S.tells S.files S.read_faults S.save_faults shelf.old shelf.new)
+        (record { name = save.now.name.now; bytes = save.now.bytes.items })) }
+    ensures counts { (S.read_faults shelf.new ≡ S.read_faults shelf.old) × (S.save_faults shelf.old ≤ S.save_faults shelf.new)
+        × (S.given shelf.new ≡ S.given shelf.old) }
+    ensures takes { (name : List ℕ) (n : ℕ) → S.takes shelf.old name n ↔ S.takes shelf.new name n }
 {
-    match shelf.save(name, bytes) {
+    match shelf.save(save.name, &save.bytes) {
         Ok(()) => Ok(()),
-        Err(_) => Err(Fault::SaveFault(name)),
+        Err(_) => Err(Fault::SaveFault(save.name)),
     }
 }
 
-// Tells of a fault, and gives its status.
+// Tells of a fault, hands the line on, and gives the status of the fault.
 fn tell<E: Sink>(err: &mut E, fault: &Fault<'_>) -> u8
     requires { (n : ℕ) → E.takes err.old n }
     ensures status { result ≡ status_of (report_of fault.now) }
-    ensures line { E.tells → IsLineWritten (E.written err.old) (E.written err.new) (line_of (report_of fault.now))
-        (E.faults err.old) (E.faults err.new) }
+    ensures line { IsLineWritten (sink_change E.tells E.written E.faults E.takes err.old err.new) (line_of (report_of fault.now)) }
+    ensures told { (E.held_back err.new ≡ 0) ⊎ Rose (E.faults err.old) (E.faults err.new) }
+    ensures count { E.faults err.old ≤ E.faults err.new }
+    ensures takes { (n : ℕ) → E.takes err.new n }
 {
-    let _ = fault.put(err);
+    if fault.put(err).is_ok() {
+        let _ = err.flush();
+    }
     fault.status()
 }
 
@@ -114,13 +132,13 @@ fn tell<E: Sink>(err: &mut E, fault: &Fault<'_>) -> u8
 /// what `run` puts, and then the line of how many snapshots the loops held at most. `watch QUERY NAME=FILE ..`
 /// puts what `run` puts, shows the snapshots to the watchers, and puts a line of each one's figures. `try SEED COUNT` reads
 /// nothing: it puts the summary of a query on that many rows for each input, which are made from the seed. `start QUERY ..`
-/// puts what `run` would put by a cut, and `resume CHECKPOINT ..` the lines behind it; where they end by a cut, the bytes of a
-/// checkpoint are saved behind all puts. Where that isn't done, one line that tells why goes to `err`, and nothing else. A
+/// puts what `run` would put by a cut, and `resume CHECKPOINT ..` the lines after it; where they end by a cut, the bytes of a
+/// checkpoint are saved after all puts. Where that isn't done, one line that tells why goes to `err`, and nothing else. A
 /// fault of `err` changes nothing.
 ///
 /// The first refusal is told: that of the words, then of the query, the code or the checkpoint, then of the cut, then of the
 /// names that are bound, then of the series in the order in which the inputs are declared. `run` without cuts and `pipe` put each
-/// snapshot as soon as it is made, so that memory may be wanting behind a front of the text. All other commands take all memory
+/// snapshot as soon as it is made, so that memory may be wanting after a prefix of the text. All other commands take all memory
 /// before the first put.
 ///
 /// The answer is the status that the program ends with: 0 done, 1 refused, 2 the words are no command, 3 a read failed, 4 a
@@ -134,33 +152,35 @@ pub fn tilt<S: Shelf, O: Sink, E: Sink>(
     watchers: &mut Vec<Box<dyn Watcher>>,
 ) -> u8
     requires lent { (name : List ℕ) → HasTurn S.tells (texts words.now) (S.files shelf.old) name → S.lends name }
-    requires room { (text : List ℕ) (save : Option Save)
+    requires room { (text : List ℕ) (save : Option SaveValue)
         → (S.tells → IsOutcome (texts words.now) (S.files shelf.old) (watches pair step watchers.old.items) (outcome_of text save))
         → O.takes out.old (length text) }
-    requires saves { (text : List ℕ) (save : Save)
+    requires saves { (text : List ℕ) (save : SaveValue)
         → (S.tells → IsOutcome (texts words.now) (S.files shelf.old) (watches pair step watchers.old.items) (outcome_of text (Some save)))
         → S.takes shelf.old save.name (length save.bytes) }
     requires lines { (n : ℕ) → E.takes err.old n }
 
     // Status 0: the text was written whole and handed on, and nothing else was; then the bytes were saved, where some are.
-    ensures done { result ≡ 0 → (text : List ℕ) × (save : Option Save)
-        × (S.tells → IsOutcome (texts words.now) (S.files shelf.old) (watches pair step watchers.old.items) (outcome_of text save))
-        × (O.tells → O.written out.new ≡ O.written out.old ++ text)
-        × IsSaved S.tells (S.files shelf.old) (S.files shelf.new) save }
-    ensures handed_on { result ≡ 0 → O.held_back out.new ≡ 0 }
+    ensures done { result ≡ 0 → IsDone (IsOutcome (texts words.now) (S.files shelf.old) (watches pair step watchers.old.items))
+        (shelf_change S.tells S.files S.read_faults S.save_faults shelf.old shelf.new)
+        (sink_change O.tells O.written O.faults O.takes out.old out.new) }
+    ensures handed_on { (result ≡ 0) ⊎ (result ≡ 6) → O.held_back out.new ≡ 0 }
     ensures quiet { result ≡ 0 → err.new ≡ err.old }
+    ensures read_once { result ≡ 0 → S.tells → (count : ℕ) × HaveBytes (texts words.now) (S.files shelf.old) count
+        × (S.given shelf.new ≡ added_count (S.given shelf.old) count) }
 
-    // Behind a checkpoint, the session goes on as one session on all rows would.
-    ensures continues { result ≡ 0 → S.tells → (command : CommandValue) → IsCommand (texts words.now) command
-        → Continues (S.files shelf.old) command }
+    // After the checkpoint of some rows, a session writes and saves what one session on all rows would beyond.
+    ensures continued { result ≡ 0 → S.tells → (command : CommandValue) → IsCommand (texts words.now) command
+        → IsContinued (S.files shelf.old) (S.files shelf.new) O.tells (O.written out.old) (O.written out.new) command }
 
     // Every other status has its cause and its line.
     ensures reported { (result ≡ 0 → ⊥) → (report : Report) × (result ≡ status_of report)
         × IsCause (IsOutcome (texts words.now) (S.files shelf.old) (watches pair step watchers.old.items))
-        (HasTurn S.tells (texts words.now) (S.files shelf.old)) S.tells
-        (S.read_faults shelf.old) (S.read_faults shelf.new) (S.files shelf.old) (S.files shelf.new) (S.save_faults shelf.old)
-        (S.save_faults shelf.new) O.tells (O.written out.old) (O.written out.new) (O.faults out.old) (O.faults out.new) report
-        × (E.tells → IsLineWritten (E.written err.old) (E.written err.new) (line_of report) (E.faults err.old) (E.faults err.new)) }
+        (HasTurn S.tells (texts words.now) (S.files shelf.old))
+        (shelf_change S.tells S.files S.read_faults S.save_faults shelf.old shelf.new)
+        (sink_change O.tells O.written O.faults O.takes out.old out.new) report
+        × IsLineWritten (sink_change E.tells E.written E.faults E.takes err.old err.new) (line_of report) }
+    ensures told { (result ≡ 0 → ⊥) → (E.held_back err.new ≡ 0) ⊎ Rose (E.faults err.old) (E.faults err.new) }
 
     // Nothing is written but under status 0, 4 and 6, and under 5 by a command that prints each snapshot as soon as it is made.
     ensures unwritten { (result ≡ 0 → ⊥) → (result ≡ 4 → ⊥) → (result ≡ 6 → ⊥)
@@ -169,7 +189,7 @@ pub fn tilt<S: Shelf, O: Sink, E: Sink>(
     ensures no_command { ¬ (IsRunnable (texts words.now)) → (result ≡ 2) ⊎ (result ≡ 5) }
 
     // Where no count rose, the outcome is the answer, but for want of memory.
-    ensures complete { S.tells → (text : List ℕ) (save : Option Save)
+    ensures complete { S.tells → (text : List ℕ) (save : Option SaveValue)
         → IsOutcome (texts words.now) (S.files shelf.old) (watches pair step watchers.old.items) (outcome_of text save)
         → (Rose (S.read_faults shelf.old) (S.read_faults shelf.new) → ⊥)
         → (Rose (S.save_faults shelf.old) (S.save_faults shelf.new) → ⊥)
@@ -177,22 +197,27 @@ pub fn tilt<S: Shelf, O: Sink, E: Sink>(
     ensures complete_refusal { S.tells → (report : Report)
         → IsOutcome (texts words.now) (S.files shelf.old) (watches pair step watchers.old.items) (refused report)
         → (Rose (S.read_faults shelf.old) (S.read_faults shelf.new) → ⊥) → (result ≡ status_of report) ⊎ (result ≡ 5) }
+    ensures faultless { (Rose (S.read_faults shelf.old) (S.read_faults shelf.new) → ⊥)
+        → (Rose (S.save_faults shelf.old) (S.save_faults shelf.new) → ⊥)
+        → (Rose (O.faults out.old) (O.faults out.new) → ⊥) → (result ≡ 0) ⊎ ((result ≡ 1) ⊎ ((result ≡ 2) ⊎ (result ≡ 5))) }
 
     // The watchers are as before, but where snapshots were printed for them to watch.
     ensures unwatched { ¬ (IsWatch (texts words.now)) → watchers.new ≡ watchers.old }
     ensures unseen { (result ≡ 0 → ⊥) → (result ≡ 4 → ⊥) → watchers.new ≡ watchers.old }
     ensures seen { result ≡ 0 → (query : List ℕ) (binds : List Binding) → IsWatchOf (texts words.now) query binds
-        → (list : List Snapshot) × (S.tells → IsRunOutcome (S.files shelf.old) query binds (printed (text_of list)))
-        × HaveSeen O.tells (O.written out.old) (O.written out.new) (watchers.new ≡ watchers.old)
-        (watches pair step watchers.old.items) (watches pair step watchers.new.items) list }
+        → (list : List Snapshot) × WatchesRun S.tells (S.files shelf.old) query binds list
+        × HaveSeen (left_of O.tells O.written out.old out.new pair step watchers.old watchers.new) list }
     ensures seen_in_part { result ≡ 4 → (query : List ℕ) (binds : List Binding) → IsWatchOf (texts words.now) query binds
-        → (list : List Snapshot) × (S.tells → IsRunOutcome (S.files shelf.old) query binds (printed (text_of list)))
-        × HaveSeenInPart O.tells (O.written out.old) (O.written out.new) (watchers.new ≡ watchers.old)
-        (watches pair step watchers.old.items) (watches pair step watchers.new.items) list }
+        → (list : List Snapshot) × WatchesRun S.tells (S.files shelf.old) query binds list
+        × HaveSeenInPart (left_of O.tells O.written out.old out.new pair step watchers.old watchers.new) list }
 
-    // The files and the count of failed saves are as before, and the count of failed reads is no lower, but where bytes were saved.
+    // The files are as before, but where bytes were saved. What can be taken still can, and no count falls.
     ensures rest { (result ≡ 0 → ⊥) → (result ≡ 6 → ⊥) → OnlyReads S.files S.read_faults S.save_faults S.takes shelf.old shelf.new }
     ensures unsaved { ¬ (IsSaving (texts words.now)) → OnlyReads S.files S.read_faults S.save_faults S.takes shelf.old shelf.new }
+    ensures takes { (name : List ℕ) (n : ℕ) → S.takes shelf.old name n ↔ S.takes shelf.new name n }
+    ensures lines_left { (n : ℕ) → E.takes err.new n }
+    ensures counts { (S.read_faults shelf.old ≤ S.read_faults shelf.new) × (S.save_faults shelf.old ≤ S.save_faults shelf.new)
+        × (O.faults out.old ≤ O.faults out.new) × (E.faults err.old ≤ E.faults err.new) }
 {
     match read_words(alloc, words) {
         Ok(command) => match done(alloc, &command, shelf, out, watchers) {
