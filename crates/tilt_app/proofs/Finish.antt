@@ -1,14 +1,17 @@
 -- What puts and a save leave, from what each of them did.
-use Rattle.std.proofs.Common.{◌≡◌, ◌++◌, List, ℕ, true, false, Option, None, Some, Result, Ok, Err, inr, refl, subst}
-use Rattle.std.specs.Prelude.{OnOk, Vec}
-use Rattle.std.specs.declared.alloc.Global.{Global}
-use Rattle.tilt_app.specs.Answer.{save_of}
-use Rattle.tilt_app.specs.Cause.{IsCause, IsSaveFault, IsUnanswered, report_of_unput}
-use Rattle.tilt_app.specs.declared.unput.Unput.{Unput}
-use Rattle.tilt_app.specs.declared.unput.Unput.TheVariants.{Failed, OutOfMemory}
-use Rattle.tilt_outside.specs.Written.{AppendsFront}
-use Rattle.tilt_app.specs.Saving.{Save, outcome_of, IsUnsaved}
+use Rattle.std.proofs.Common.{◌≡◌, ◌++◌, ◌+◌, List, ℕ, Option, None, Some, Result, Ok, Err, length, inr, refl, subst}
+use Rattle.std.specs.Prelude.{OnOk}
+use Rattle.tilt_app.specs.Cause.{IsCause, IsSaveFault}
+use Rattle.tilt_app.specs.Change.{ShelfChange, SinkChange}
+use Rattle.tilt_app.specs.Saving.{IsUnsaved}
 use Rattle.tilt_outside.specs.Faults.{Rose}
+use Rattle.tilt_outside.specs.Written.{AppendsFront}
+use Rattle.tilt_printed.specs.Answer.{save_of}
+use Rattle.tilt_printed.specs.Saving.{SaveValue, outcome_of}
+use Rattle.tilt_printed.specs.Unput.{report_of_unput}
+use Rattle.tilt_printed.specs.declared.save.Save.{Save}
+use Rattle.tilt_printed.specs.declared.unput.Unput.{Unput}
+use Rattle.tilt_printed.specs.declared.unput.Unput.TheVariants.{Failed, OutOfMemory}
 use Rattle.tilt_report.specs.Report.{Outcome, Report, usage, refusal, read_fault, write_fault, save_fault, out_of_memory}
 
 -- what holds where a call didn't fail
@@ -25,40 +28,29 @@ on_ok_so (Ok u) x = x
 on_ok_so (Err e) x = tt
 
 -- nothing is saved
-pub made_none : (is_outcome : Outcome → Type 0) (text name : List ℕ) (bytes : Option (Vec ℕ Global)) → bytes ≡ None
-    → is_outcome (outcome_of text (save_of name bytes)) → is_outcome (outcome_of text None)
-made_none is_outcome text name bytes is made = subst (λ (b : Option (Vec ℕ Global)). is_outcome (outcome_of text (save_of name b))) is made
+pub made_none : (is_outcome : Outcome → Type 0) (text : List ℕ) (save : Option Save) → save ≡ None → is_outcome (outcome_of text (save_of save))
+    → is_outcome (outcome_of text None)
+made_none is_outcome text save is made = subst (λ (s : Option Save). is_outcome (outcome_of text (save_of s))) is made
 
 -- these bytes are saved
-pub made_some : (is_outcome : Outcome → Type 0) (text name : List ℕ) (bytes : Option (Vec ℕ Global)) (b : Vec ℕ Global) → bytes ≡ Some b → is_outcome (outcome_of text (save_of name bytes))
-    → is_outcome (outcome_of text (Some (record { name = name; bytes = b.items })))
-made_some is_outcome text name bytes b is made = subst (λ (o : Option (Vec ℕ Global)). is_outcome (outcome_of text (save_of name o))) is made
+pub made_some : (is_outcome : Outcome → Type 0) (text : List ℕ) (save : Option Save) (s : Save) → save ≡ Some s → is_outcome (outcome_of text (save_of save))
+    → is_outcome (outcome_of text (Some (record { name = s.name.now; bytes = s.bytes.items })))
+made_some is_outcome text save s is made = subst (λ (o : Option Save). is_outcome (outcome_of text (save_of o))) is made
 
--- a save that failed is the cause
-pub unsaved_cause : (is_outcome : Outcome → Type 0) (has_turn : List ℕ → Type 0) (tells : Type 0) (rb ra : ℕ) (held holds : List ℕ → List ℕ) (sb sa : ℕ) (out_tells : Type 0) (old new : List ℕ)
-    (pb pa : ℕ) (text name bytes : List ℕ) (report : Report) → report ≡ save_fault name → Rose sb sa → (tells → is_outcome (outcome_of text (Some (record { name = name; bytes = bytes }))))
-    → (out_tells → new ≡ old ++ text) → IsUnsaved tells held holds (record { name = name; bytes = bytes }) → IsCause is_outcome has_turn tells rb ra held holds sb sa out_tells old new pb pa report
-unsaved_cause is_outcome has_turn tells rb ra held holds sb sa out_tells old new pb pa text name bytes report is rose outcome written unsaved =
-    rw is (rose, (text, bytes, record { outcome = outcome; written = written; unsaved = unsaved }))
+module _ (is_outcome : Outcome → Type 0) (has_turn : List ℕ → Type 0) (shelf : ShelfChange) (out : SinkChange) where
+  -- a save that failed is the cause
+  pub unsaved_cause : (text name bytes : List ℕ) (report : Report) → report ≡ save_fault name → Rose shelf.saves_before shelf.saves_after
+      → (shelf.tells → is_outcome (outcome_of text (Some (record { name = name; bytes = bytes })))) → (out.tells → out.new ≡ out.old ++ text)
+      → IsUnsaved shelf (record { name = name; bytes = bytes }) → IsCause is_outcome has_turn shelf out report
+  unsaved_cause text name bytes report is rose outcome written unsaved =
+      rw is (rose, (text, bytes, record { outcome = outcome; written = written; unsaved = unsaved }))
 
--- where nothing was answered, no save failed
-pub no_save_fault : (is_outcome : Outcome → Type 0) (has_turn : List ℕ → Type 0) (tells : Type 0) (rb ra : ℕ) (report : Report)
-    → IsUnanswered is_outcome has_turn tells rb ra report → IsSaveFault report → ⊥
-no_save_fault is_outcome has_turn tells rb ra usage fault is = is
-no_save_fault is_outcome has_turn tells rb ra (refusal why) fault is = is
-no_save_fault is_outcome has_turn tells rb ra (read_fault name) fault is = is
-no_save_fault is_outcome has_turn tells rb ra write_fault fault is = is
-no_save_fault is_outcome has_turn tells rb ra (save_fault name) fault is = fault
-no_save_fault is_outcome has_turn tells rb ra out_of_memory fault is = is
-
--- a text that wasn't put whole is the cause
-pub unput_cause : (is_outcome : Outcome → Type 0) (has_turn : List ℕ → Type 0) (tells : Type 0) (rb ra : ℕ) (held holds : List ℕ → List ℕ) (sb sa : ℕ) (out_tells : Type 0) (old new : List ℕ)
-    (pb pa : ℕ) (text : List ℕ) (save : Option Save) (unput : Unput) (report : Report) → report ≡ report_of_unput unput → (tells → is_outcome (outcome_of text save))
-    → (out_tells → AppendsFront old new text) → (unput ≡ Failed → Rose pb pa) → IsCause is_outcome has_turn tells rb ra held holds sb sa out_tells old new pb pa report
-unput_cause is_outcome has_turn tells rb ra held holds sb sa out_tells old new pb pa text save Failed report is outcome front rose =
-    rw is (rose refl, (text, save, record { outcome = outcome; front = front }))
-unput_cause is_outcome has_turn tells rb ra held holds sb sa out_tells old new pb pa text save OutOfMemory report is outcome front rose =
-    rw is (inr (text, save, record { outcome = outcome; front = front }))
+  -- a text that wasn't put whole is the cause
+  pub unput_cause : (text : List ℕ) (save : Option SaveValue) (unput : Unput) (report : Report) → report ≡ report_of_unput unput
+      → (shelf.tells → is_outcome (outcome_of text save)) → (out.tells → AppendsFront out.old out.new text) → (unput ≡ Failed → Rose out.before out.after)
+      → IsCause is_outcome has_turn shelf out report
+  unput_cause text save Failed report is outcome front rose = rw is (rose refl, (text, save, record { outcome = outcome; front = front }))
+  unput_cause text save OutOfMemory report is outcome front rose = rw is (inr (text, save, record { outcome = outcome; front = front }))
 
 -- no save failed where a text wasn't put whole
 pub unput_no_save : (unput : Unput) (report : Report) → report ≡ report_of_unput unput → IsSaveFault report → ⊥

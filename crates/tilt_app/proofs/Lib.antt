@@ -1,9 +1,6 @@
-pub mod Compiled
 pub mod Complete
-pub mod Files
 pub mod Finish
-pub mod MadeQuery
 pub mod Once
-pub mod Printing
+pub mod Rows
 pub mod Seen
-pub mod Streams
+pub mod Shown

@@ -3,6 +3,7 @@
 use Rattle.std.specs.Prelude.{◌≡◌, ⊤, List, [], ℕ}
 use Rattle.tilt_app.specs.Table.{Row, reads, makes, row_of}
 use Rattle.tilt_load.specs.FileCommand.{IsFileOutcome, HasFileTurn, HasBytes}
+use Rattle.tilt_outside.specs.Counts.{added_count}
 use Rattle.tilt_report.specs.Report.{Outcome, refused, usage}
 use Rattle.tilt_watch.specs.Watch.{Watch}
 use Rattle.tilt_words.specs.Command.{CommandValue, IsCommand, run, pipe, watch, start, resume_upto}
@@ -17,10 +18,11 @@ abbrev pub HasRowTurn : Type 0 → (List ℕ → List ℕ) → List Watch → Ro
 HasRowTurn tells files watchers (reads file binds command) name = HasFileTurn (command watchers) tells files file binds name
 HasRowTurn tells files watchers (makes is_outcome) name = ⊥
 
--- so many bytes its files have together, each of which is read once
-abbrev pub HasRowBytes : (List ℕ → List ℕ) → List Watch → Row → ℕ → Type 0
-HasRowBytes files watchers (reads file binds command) count = HasBytes (command watchers) files file binds count
-HasRowBytes files watchers (makes is_outcome) count = count ≡ 0
+-- reads gave each of its files once, and whole: this is the count of bytes given before and after
+abbrev pub IsRowRead : (List ℕ → List ℕ) → List Watch → Row → ℕ → ℕ → Type 0
+IsRowRead files watchers (reads file binds command) before after =
+    (count : ℕ) × HasBytes (command watchers) files file binds count × (after ≡ added_count before count)
+IsRowRead files watchers (makes is_outcome) before after = after ≡ before
 
 -- what the words do
 pub data IsOutcome (words : List (List ℕ)) (files : List ℕ → List ℕ) (watchers : List Watch) : Outcome → Type 0 where
@@ -33,10 +35,10 @@ abbrev pub HasTurn : Type 0 → List (List ℕ) → (List ℕ → List ℕ) → 
 HasTurn tells words files name =
     (command : CommandValue) × IsCommand words command × ((watchers : List Watch) × HasRowTurn tells files watchers (row_of command) name)
 
--- so many bytes the files of the words have together
-abbrev pub HaveBytes : List (List ℕ) → (List ℕ → List ℕ) → ℕ → Type 0
-HaveBytes words files count =
-    (command : CommandValue) × IsCommand words command × ((watchers : List Watch) × HasRowBytes files watchers (row_of command) count)
+-- reads gave each file of the words once, and whole: this is the count of bytes given before and after
+abbrev pub HaveRead : List (List ℕ) → (List ℕ → List ℕ) → ℕ → ℕ → Type 0
+HaveRead words files before after =
+    (command : CommandValue) × IsCommand words command × ((watchers : List Watch) × IsRowRead files watchers (row_of command) before after)
 
 -- the words are a command
 abbrev pub IsRunnable : List (List ℕ) → Type 0

@@ -1,18 +1,20 @@
 // What a command comes to.
-ghost use Rattle.std.specs.Prelude.{List, ℕ};
+ghost use Rattle.std.specs.Prelude.{List, ℕ, IfOk};
 ghost use Rattle.tilt_app.specs.Answered.{IsAnswered};
+ghost use Rattle.tilt_app.specs.Continued.{Continues};
 ghost use Rattle.tilt_app.specs.Outcome.{HasRowTurn};
 ghost use Rattle.tilt_app.specs.Table.{row_of};
 ghost use Rattle.tilt_load.specs.Does.{reading};
+ghost use Rattle.tilt_printed.specs.Answer.{comes_to};
 ghost use Rattle.tilt_watch.specs.Watch.{Watch};
 ghost use Rattle.tilt_words.specs.Command.{IsWithin, command_of};
 
 use std::alloc::Global;
-use tilt_commands::{Manner, compile, exec, explain, made_run, pipe, run, watch};
+use tilt_commands::{Manner, compile, exec, explain, pipe, run, try_, watch};
 use tilt_outside::Shelf;
 use tilt_printed::Answered;
 use tilt_report::Fault;
-use tilt_sessions::{resume_session, start_session};
+use tilt_sessions::{SavedCut, resume_session, start_session};
 use tilt_words::Command;
 
 /// What the command prints and saves. All files are read here, and all memory is taken but that of snapshots which are put as they
@@ -25,8 +27,21 @@ pub(crate) fn answer<'a, S: Shelf>(
     requires lent { (watchers : List Watch) (name : List ℕ)
         → HasRowTurn S.tells (S.files shelf.old) watchers (row_of (command_of command.now)) name → S.lends name }
     requires within { IsWithin (command_of command.now) }
-    ensures { IsAnswered (reading S.tells S.files S.read_faults S.save_faults S.takes S.given shelf.old shelf.new)
-        (command_of command.now) result }
+    ensures does { IsAnswered (command_of command.now)
+        (reading S.tells S.files S.read_faults S.save_faults S.takes S.given shelf.old shelf.new) result }
+    ensures continues { S.tells → IfOk result (λ answer. (watchers : List Watch)
+        → Continues (S.files shelf.old) (command_of command.now) (comes_to watchers answer)) }
 {
-    todo
+    match command {
+        Command::Run { query, binds, plain, cuts } => run(alloc, shelf, query, binds, Manner { fuse: !*plain, cuts }),
+        Command::Compile { query, plain } => compile(alloc, shelf, query, !*plain),
+        Command::Exec { code, binds } => exec(alloc, shelf, code, binds),
+        Command::Explain { query } => explain(alloc, shelf, query),
+        Command::Pipe { query, binds, plain } => pipe(alloc, shelf, query, binds, !*plain),
+        Command::Watch { query, binds, plain } => watch(alloc, shelf, query, binds, !*plain),
+        Command::Try { seed, count } => try_(alloc, *seed, *count),
+        Command::Start { query, binds, plain, upto, save } => start_session(alloc, shelf, query, binds, !*plain, SavedCut { upto: *upto, save }),
+        Command::ResumeUpto { file, binds, plain, upto, save } => resume_session(alloc, shelf, file, binds, !*plain, Some(SavedCut { upto: *upto, save })),
+        Command::ResumeEnd { file, binds, plain } => resume_session(alloc, shelf, file, binds, !*plain, None),
+    }
 }

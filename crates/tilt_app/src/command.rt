@@ -4,12 +4,11 @@ ghost use Rattle.tilt_app.specs.Cause.{IsCause, IsLineWritten, IsSaveFault};
 ghost use Rattle.tilt_app.specs.Change.{shelf_change, sink_change};
 ghost use Rattle.tilt_app.specs.Continued.{IsContinued};
 ghost use Rattle.tilt_app.specs.Done.{IsDone};
-ghost use Rattle.tilt_app.specs.Outcome.{HaveBytes, HasRowBytes, HasRowTurn, HasTurn, IsOutcome, IsRowOutcome};
+ghost use Rattle.tilt_app.specs.Outcome.{HasRowTurn, HasTurn, HaveRead, IsOutcome, IsRowOutcome, IsRowRead};
 ghost use Rattle.tilt_app.specs.Outcome.{IsRunnable, IsSaving, IsStreaming, Saves, Streams};
 ghost use Rattle.tilt_app.specs.Saving.{IsSaved, IsUnsaved};
 ghost use Rattle.tilt_app.specs.Show.{IsShow, IsWatch, IsWatchOf, SeeOfFault, WatchesRun};
 ghost use Rattle.tilt_app.specs.Table.{row_of};
-ghost use Rattle.tilt_outside.specs.Counts.{added_count};
 ghost use Rattle.tilt_outside.specs.Faults.{Rose};
 ghost use Rattle.tilt_outside.specs.Reads.{OnlyReads};
 ghost use Rattle.tilt_printed.specs.Saving.{SaveValue, outcome_of};
@@ -58,8 +57,9 @@ fn done<'a, S: Shelf, O: Sink>(
         (λ name. (any : List Watch) × HasRowTurn S.tells (S.files shelf.old) any (row_of (command_of command.now)) name)
         (shelf_change S.tells S.files S.read_faults S.save_faults shelf.old shelf.new)
         (sink_change O.tells O.written O.faults O.takes out.old out.new) (report_of fault)) }
-    ensures continued { S.tells → OnOk result (IsContinued (S.files shelf.old) (S.files shelf.new) O.tells
-        (O.written out.old) (O.written out.new) (command_of command.now)) }
+    ensures continued { S.tells → OnOk result (IsContinued
+        (shelf_change S.tells S.files S.read_faults S.save_faults shelf.old shelf.new)
+        (sink_change O.tells O.written O.faults O.takes out.old out.new) (command_of command.now)) }
     ensures handed_on { MatchResult result (λ _. O.held_back out.new ≡ 0)
         (λ fault. IsSaveFault (report_of fault) → O.held_back out.new ≡ 0) }
     ensures seen { MatchResult result
@@ -67,9 +67,8 @@ fn done<'a, S: Shelf, O: Sink>(
         × SeeAll (left_of O.tells O.written out.old out.new pair step watchers.old watchers.new) shown)
         (λ fault. SeeOfFault (left_of O.tells O.written out.old out.new pair step watchers.old watchers.new)
         (IsShow S.tells (S.files shelf.old) (command_of command.now)) (report_of fault)) }
-    ensures read { S.tells → OnOk result ((count : ℕ) × (any : List Watch)
-        × HasRowBytes (S.files shelf.old) any (row_of (command_of command.now)) count
-        × (S.given shelf.new ≡ added_count (S.given shelf.old) count)) }
+    ensures read { S.tells → OnOk result ((any : List Watch)
+        × IsRowRead (S.files shelf.old) any (row_of (command_of command.now)) (S.given shelf.old) (S.given shelf.new)) }
     ensures rest { MatchResult result
         (λ _. (Saves (command_of command.now) → ⊥)
         → OnlyReads S.files S.read_faults S.save_faults S.takes shelf.old shelf.new)
@@ -166,12 +165,13 @@ pub fn tilt<S: Shelf, O: Sink, E: Sink>(
         (sink_change O.tells O.written O.faults O.takes out.old out.new) }
     ensures handed_on { (result ≡ 0) ⊎ (result ≡ 6) → O.held_back out.new ≡ 0 }
     ensures quiet { result ≡ 0 → err.new ≡ err.old }
-    ensures read_once { result ≡ 0 → S.tells → (count : ℕ) × HaveBytes (texts words.now) (S.files shelf.old) count
-        × (S.given shelf.new ≡ added_count (S.given shelf.old) count) }
+    ensures read_once { result ≡ 0 → S.tells
+        → HaveRead (texts words.now) (S.files shelf.old) (S.given shelf.old) (S.given shelf.new) }
 
     // After the checkpoint of some rows, a session writes and saves what one session on all rows would beyond.
     ensures continued { result ≡ 0 → S.tells → (command : CommandValue) → IsCommand (texts words.now) command
-        → IsContinued (S.files shelf.old) (S.files shelf.new) O.tells (O.written out.old) (O.written out.new) command }
+        → IsContinued (shelf_change S.tells S.files S.read_faults S.save_faults shelf.old shelf.new)
+        (sink_change O.tells O.written O.faults O.takes out.old out.new) command }
 
     // Every other status has its cause and its line.
     ensures reported { (result ≡ 0 → ⊥) → (report : Report) × (result ≡ status_of report)
