@@ -1,5 +1,5 @@
 -- What a command comes to: what is printed, as bytes, and what is saved after it.
-use Rattle.std.specs.Prelude.{◌↔◌, List, ℕ, Option, None, Some, IsSome}
+use Rattle.std.specs.Prelude.{◌↔◌, List, Option, None, Some, IsSome}
 use Rattle.tilt_printed.specs.Saving.{SaveValue, outcome_of}
 use Rattle.tilt_printed.specs.Show.{shown_of}
 use Rattle.tilt_printed.specs.Text.{IsFresh, IsStreamed, printed_text}

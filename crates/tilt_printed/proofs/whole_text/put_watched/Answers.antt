@@ -16,5 +16,5 @@ returns-clause-puts g c =
 pub returns-clause-seen : goal.returns-clause-seen
 returns-clause-seen g c =
     let figures = rw (c.deref.ensures.value, c.show.ensures) at c.put_figures.ensures in
-    figures_seen (left_of g.O.Sink.tells g.O.Sink.written c.args.out.now c.put_figures.new.out _ _ c.args.watchers.now c.put_figures.new.watchers) _ c.args.list.now c.put_figures.result c.show.ensures
+    figures_seen (left_of g.O.Sink.tells g.O.Sink.written c.args.out.now c.put_figures.new.out _ _ c.args.watchers.now c.show.new.list) _ c.args.list.now c.put_figures.result c.show.ensures
     c.in_ok-put_text.ensures.whole figures.whole figures.front
