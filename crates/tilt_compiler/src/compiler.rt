@@ -52,8 +52,8 @@ pub fn accept(alloc: Global, core: Core, fuse: bool) -> Result<Accepted, ReachFa
     ensures fuse { IfOk result (λ accepted. accepted.fuse ≡ fuse) }
     ensures refused { IfErr result (λ fault. IsTold (margins_of core) fault) }
 {
-    let _margins = reach(alloc, &core)?;
-    Err(ReachFault::OutOfMemory)
+    let margins = reach(alloc, &core)?;
+    Ok(Accepted::of(alloc, core, margins, fuse)?)
 }
 
 impl Accepted {
@@ -67,7 +67,16 @@ impl Accepted {
         requires { margins_of core ≡ Ok margins }
         ensures { IfOk result (λ accepted. accepted ≡ record { core = core; margins = margins; fuse = fuse }) }
     {
-        Err(OutOfMemory)
+        // What a core and margins keep is known from here on.
+        let _ = core.inputs();
+        let _ = margins.needs();
+        let plan = plan(alloc, &core, fuse)?;
+        Ok(Accepted {
+            core,
+            margins,
+            plan,
+            fuse,
+        })
     }
 
     /// The core.
@@ -104,7 +113,7 @@ impl Accepted {
         ensures means { IfOk result (λ code. (rows : List (List Snapshot)) → length rows ≡ length self.now.core.inputs
             → run_of code rows ≡ given self.now.core rows lo hi) }
     {
-        Err(OutOfMemory)
+        lower(alloc, &self.plan, &self.core, &self.margins, lo, hi)
     }
 
     /// The code on the output domain: its run is what the query gives, whatever the rows are.
@@ -114,6 +123,7 @@ impl Accepted {
         ensures means { IfOk result (λ code. (rows : List (List Snapshot)) → length rows ≡ length self.now.core.inputs
             → output_of self.now.core rows ≡ Some (run_of code rows)) }
     {
-        Err(OutOfMemory)
+        let domain = self.domain();
+        self.code_on(alloc, domain.start, domain.end)
     }
 }

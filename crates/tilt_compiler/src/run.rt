@@ -24,6 +24,12 @@ impl Accepted {
         requires within { ForSome (domain_of self.now.core.defs) (λ domain. (domain.start ≤ℤ lo) × (hi ≤ℤ domain.end)) }
         ensures { IfOk result (λ list. list ≡ given self.now.core inputs.items lo hi) }
     {
-        Err(OutOfMemory)
+        if hi <= lo {
+            return Ok(SnapList::new(alloc));
+        }
+        // The output domain is known from here on.
+        let _domain = self.domain();
+        let code = self.code_on(alloc, lo, hi)?;
+        run_pipe(alloc, code, inputs)
     }
 }
