@@ -1,9 +1,9 @@
 -- A shelf in memory.
-use Rattle.std.specs.Prelude.{◌≡◌, ◌≢◌, ◌+◌, ◌-◌, ◌^◌, ◌<◌, ◌≤◌, ◌⊎◌, ℕ, List, [], Option, None, Some}
+use Rattle.std.specs.Prelude.{◌≡◌, ◌≢◌, ◌-◌, ◌<◌, ◌⊎◌, ℕ, List, [], Option, None, Some}
 use Rattle.std.specs.Prelude.{min, length, find, unwrap_or, Contains}
 use Rattle.std.specs.Option.{option_map, option_map_or}
 use Rattle.std.specs.Str.{bytes_eq}
-use Rattle.tilt_outside.specs.Counts.{next_count}
+use Rattle.tilt_outside.specs.Counts.{added_count, next_count}
 
 -- a file in memory: its name, its bytes, and how many bytes it may have
 pub record HeldFile : Type 0 where
@@ -47,11 +47,9 @@ pub record HoldsInstead (old new : List HeldFile) (name bytes : List ℕ) (room 
 abbrev pub count_from : ShelfState → List ℕ → ℕ → ℕ → ℕ
 count_from shelf name at room = min room (length (content_of shelf.files name) - at)
 
--- the next call fails if it reads so many bytes of that name: it isn't held, the number of the call is listed, or 64 bits don't hold the
--- count of bytes given
-abbrev pub ReadFails : ShelfState → List ℕ → ℕ → Type 0
-ReadFails shelf name count =
-    (bytes_held shelf.files name ≡ None) ⊎ Contains shelf.failing (next_count shelf.calls) ⊎ (2 ^ 64 ≤ shelf.given + count)
+-- the next call fails if it reads that name: it isn't held, or the number of the call is listed
+abbrev pub ReadFails : ShelfState → List ℕ → Type 0
+ReadFails shelf name = (bytes_held shelf.files name ≡ None) ⊎ Contains shelf.failing (next_count shelf.calls)
 
 -- the name isn't held, or may hold fewer bytes than that
 abbrev pub HasNoRoom : List HeldFile → List ℕ → ℕ → Type 0
@@ -67,7 +65,7 @@ after_call shelf = record shelf { calls = next_count shelf.calls }
 
 -- the shelf after a read that gave so many bytes
 abbrev pub after_read : ShelfState → ℕ → ShelfState
-after_read shelf count = record shelf { calls = next_count shelf.calls; given = shelf.given + count }
+after_read shelf count = record shelf { calls = next_count shelf.calls; given = added_count shelf.given count }
 
 -- the shelf after a read that failed
 abbrev pub after_read_fault : ShelfState → ShelfState

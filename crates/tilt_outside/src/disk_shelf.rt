@@ -121,10 +121,8 @@ impl<'a, R: Files> Shelf for DiskShelf<'a, R> {
     ghost lends = { λ _. ⊤ };
 
     fn read_at(&mut self, name: &str, at: u64, room: &mut [u8]) -> Result<usize, Failed> {
-        if let Ok(count) = self.read_from(name, at, room)
-            && let Some(given) = self.given.checked_add(count as u64)
-        {
-            self.given = given;
+        if let Ok(count) = self.read_from(name, at, room) {
+            self.given = self.given.saturating_add(count as u64);
             return Ok(count);
         }
         self.read_faults = self.read_faults.saturating_add(1);

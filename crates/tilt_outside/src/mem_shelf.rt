@@ -1,8 +1,9 @@
 // A shelf in memory.
-ghost use Rattle.std.specs.Prelude.{◌≡◌, ◌≢◌, ◌⊎◌, ◌<◌, ◌≤◌, ◌+◌, ◌-◌, ◌^◌, ◌++◌, ◌↔◌, ◌∷◌, [], ⊤, List, ℕ};
-ghost use Rattle.std.specs.Prelude.{length, take, drop, min, max, position, option_copied, nat_lt, IfOk, IsErr, OnOk, OnErr, MatchResult};
+ghost use Rattle.std.specs.Prelude.{◌≡◌, ◌≢◌, ◌⊎◌, ◌<◌, ◌≤◌, ◌-◌, ◌++◌, ◌↔◌, ◌∷◌, [], ⊤, List, ℕ};
+ghost use Rattle.std.specs.Prelude.{length, take, drop, min, max, position, option_copied, IfOk, IsErr, OnOk, OnErr, MatchResult};
 ghost use Rattle.std.specs.Bool.{IsFalse, OnTrue, OnFalse};
 ghost use Rattle.std.specs.Str.{bytes_eq};
+ghost use Rattle.tilt_outside.specs.Counts.{added_count};
 ghost use Rattle.tilt_outside.specs.Faults.{HasCause};
 ghost use Rattle.tilt_outside.specs.Files.{IsNextPiece};
 ghost use Rattle.tilt_outside.specs.Reads.{OnlyReads};
@@ -78,7 +79,7 @@ impl MemShelf {
         find_bytes(&self.files, name)
     }
 
-    /// How many bytes the reads have given so far.
+    /// How many bytes the reads have given so far. The count stops at the end of 64 bits.
     pub fn given(&self) -> u64
         ensures { result ≡ self.now.given }
     {
@@ -132,13 +133,6 @@ fn count_from(bytes: &[u8], at: u64, room: usize) -> usize
     room.min(bytes.len() - start)
 }
 
-// Whether 64 bits hold the count of bytes given, where so many more are given.
-fn can_count(given: u64, count: usize) -> bool
-    ensures { result ≡ nat_lt (given + count) (2 ^ 64) }
-{
-    given.checked_add(count as u64).is_some()
-}
-
 // Puts so many bytes from a place on into the front of the room.
 fn copy_from(bytes: &[u8], at: u64, count: usize, room: &mut [u8])
     requires in_room { count ≤ length room.old }
@@ -164,18 +158,18 @@ impl Shelf for MemShelf {
 
     ghost lends = { λ _. ⊤ };
 
-    /// Fails exactly where the name isn't held, the number of the call is listed, or 64 bits don't hold the count of bytes
-    /// given. It gives as many bytes as there are from `at` on and fit the room.
+    /// Fails exactly where the name isn't held or the number of the call is listed. It gives as many bytes as there are
+    /// from `at` on and fit the room.
     fn read_at(&mut self, name: &str, at: u64, room: &mut [u8]) -> Result<usize, Failed>
         requires space { 0 < length room.old }
         ensures count { IfOk result (λ n. n ≤ length room.old) }
         ensures piece { ⊤ → IfOk result (λ n. IsNextPiece (content_of self.old.files name.now) at room.new n) }
-        ensures given { MatchResult result (λ n. self.new.given ≡ self.old.given + n) (λ _. self.new.given ≡ self.old.given) }
+        ensures given { MatchResult result (λ n. self.new.given ≡ added_count self.old.given n) (λ _. self.new.given ≡ self.old.given) }
         ensures cause { HasCause self.old.read_faults self.new.read_faults result }
         ensures rest { OnlyReads (λ shelf. content_of shelf.files) (λ shelf. shelf.read_faults) (λ shelf. shelf.save_faults)
             (λ _ _ _. ⊤) self.old self.new }
 
-        ensures fails { IsErr result ↔ ReadFails self.old name.now (count_from self.old name.now at (length room.old)) }
+        ensures fails { IsErr result ↔ ReadFails self.old name.now }
         ensures exact { IfOk result (λ n. n ≡ count_from self.old name.now at (length room.old)) }
         ensures ok { IfOk result (λ n. self.new ≡ after_read self.old n) }
         ensures room { IfOk result (λ n. room.new
@@ -186,13 +180,12 @@ impl Shelf for MemShelf {
         self.calls = self.calls.saturating_add(1);
         let is_listed = self.failing.contains(&self.calls);
         match find_bytes(&self.files, name) {
-            Some(bytes) if !is_listed && can_count(self.given, count_from(bytes, at, room.len())) =>
-                {
-                    let count = count_from(bytes, at, room.len());
-                    copy_from(bytes, at, count, room);
-                    self.given += count as u64;
-                    Ok(count)
-                }
+            Some(bytes) if !is_listed => {
+                let count = count_from(bytes, at, room.len());
+                copy_from(bytes, at, count, room);
+                self.given = self.given.saturating_add(count as u64);
+                Ok(count)
+            }
             _ => {
                 self.read_faults = self.read_faults.saturating_add(1);
                 Err(Failed)
