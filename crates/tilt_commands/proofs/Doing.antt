@@ -1,0 +1,81 @@
+-- What makes the clauses of a command on a query: from the query and the rows that were loaded.
+use Rattle.std.proofs.Common.{◌≡◌, List, ℕ, Result, Ok, Err}
+use Rattle.tilt_commands.specs.Loaded.{Loads, refusing_row}
+use Rattle.tilt_commands.specs.Query.{query_row}
+use Rattle.tilt_commands.specs.declared.loaded.LoadedRun.{LoadedRun}
+use Rattle.tilt_core.specs.Core.{CoreParts}
+use Rattle.tilt_load.proofs.Loads.{load_fault_weaker}
+use Rattle.tilt_load.specs.Does.{Does, IsRead, IsUndone, Reading}
+use Rattle.tilt_load.specs.FileCommand.{IsFileOutcome, no_file, no_inputs, done, HasFileTurn, own_turn, input_turn}
+use Rattle.tilt_report.specs.Report.{Reason, Outcome, refused, Report, refusal, report_of, out_of_memory}
+use Rattle.tilt_report.specs.declared.fault.Fault.{Fault}
+use Rattle.tilt_stream.specs.Snap.{Snapshot}
+use Rattle.tilt_words.specs.Binding.{Binding}
+
+-- What a command on a query comes to.
+module _ (query : List ℕ) (gives : CoreParts → List (List Snapshot) → Outcome → Type 0) where
+  -- its refusals are those of all commands on queries
+  refusal_any : (files : List ℕ → List ℕ) (file : List ℕ) (binds : List Binding) (o : Outcome) → IsFileOutcome (refusing_row query) files file binds o
+      → IsFileOutcome (query_row query gives) files file binds o
+  refusal_any files file binds o (no_file why is) = no_file why is
+  refusal_any files file binds o (no_inputs core why taken is) = no_inputs core why taken is
+  refusal_any files file binds o (done core rows taken read nothing) = absurd nothing
+
+  -- and its turns
+  pub turn_any : (tells : Type 0) (files : List ℕ → List ℕ) (file : List ℕ) (binds : List Binding) (name : List ℕ)
+      → HasFileTurn (refusing_row query) tells files file binds name → HasFileTurn (query_row query gives) tells files file binds name
+  turn_any tells files file binds name own_turn = own_turn
+  turn_any tells files file binds name (input_turn bind among next) =
+      input_turn bind among (λ t. let n = next t in record { says = n.says; taken = n.taken; input = n.input })
+
+  undone_any : (file : List ℕ) (binds : List Binding) (shelf : Reading) (report : Report) → IsUndone (refusing_row query) file binds shelf report
+      → IsUndone (query_row query gives) file binds shelf report
+  undone_any file binds shelf report fault =
+      load_fault_weaker shelf.tells shelf.tells (λ why. IsFileOutcome (refusing_row query) shelf.files file binds (refused (refusal why)))
+      (λ why. IsFileOutcome (query_row query gives) shelf.files file binds (refused (refusal why)))
+      (HasFileTurn (refusing_row query) shelf.tells shelf.files file binds) (HasFileTurn (query_row query gives) shelf.tells shelf.files file binds)
+      shelf.faults_before shelf.faults_after shelf.faults_before shelf.faults_after (λ t. t)
+      (λ why t is. refusal_any shelf.files file binds (refused (refusal why)) is)
+      (λ name rose turn. (rose, turn_any shelf.tells shelf.files file binds name turn)) report fault
+
+  read_any : (file : List ℕ) (binds : List Binding) (shelf : Reading) → IsRead (refusing_row query) file binds shelf → IsRead (query_row query gives) file binds shelf
+  read_any file binds shelf read = record {
+    count = read.count;
+    bytes = record { says = read.bytes.says; taken = read.bytes.taken; is = read.bytes.is };
+    given = read.given;
+  }
+
+module _ {T W : Type 0} (query : List ℕ) (gives : W → CoreParts → List (List Snapshot) → Outcome → Type 0) (comes : W → T → Outcome) (keeps : T → Type 0)
+    (binds : List Binding) (shelf : Reading) where
+  -- the query or the rows weren't loaded
+  pub does_undone : (fault : Fault) (told : Result T Fault) → told ≡ Err fault → Loads query binds shelf (Err fault)
+      → Does (λ w. query_row query (gives w)) comes keeps query binds shelf told
+  does_undone fault told same loads = rw same (record {
+    made = λ t. tt;
+    kept = tt;
+    fault = λ w. undone_any query (gives w) query binds shelf (report_of fault) loads.fault;
+    read = λ t. tt;
+    rest = loads.rest;
+  })
+
+  -- there was no memory for what is made of them
+  pub does_short : (run : LoadedRun) (fault : Fault) (told : Result T Fault) → told ≡ Err fault → report_of fault ≡ out_of_memory
+      → Loads query binds shelf (Ok run) → Does (λ w. query_row query (gives w)) comes keeps query binds shelf told
+  does_short run fault told same memory loads = rw same (record {
+    made = λ t. tt;
+    kept = tt;
+    fault = λ w. rw memory tt;
+    read = λ t. tt;
+    rest = loads.rest;
+  })
+
+  -- it was made
+  pub does_made : (run : LoadedRun) (x : T) → ((w : W) → gives w run.accepted.core run.rows.items (comes w x)) → keeps x
+      → Loads query binds shelf (Ok run) → Does (λ w. query_row query (gives w)) comes keeps query binds shelf (Ok x)
+  does_made run x is fits loads = record {
+    made = λ t w. done run.accepted.core run.rows.items (loads.taken t) (loads.inputs t) (is w);
+    kept = fits;
+    fault = λ w. tt;
+    read = λ t w. read_any query (gives w) query binds shelf (loads.read t);
+    rest = loads.rest;
+  }

@@ -1,0 +1,4 @@
+pub mod Doing
+pub mod Lawful
+pub mod MadeQuery
+pub mod Taken

@@ -1,0 +1,33 @@
+// What `watch` comes to.
+ghost use Rattle.std.specs.Prelude.{⊤, [], List, ℕ};
+ghost use Rattle.tilt_commands.specs.Watch.{watch_row};
+ghost use Rattle.tilt_load.specs.Does.{Does, reading};
+ghost use Rattle.tilt_load.specs.FileCommand.{HasFileTurn};
+ghost use Rattle.tilt_printed.specs.Answer.{Fits, comes_to};
+ghost use Rattle.tilt_words.specs.Binding.{bindings_of};
+
+use crate::loaded::{load_run, run_whole};
+use std::alloc::Global;
+use tilt_outside::Shelf;
+use tilt_printed::{Answered, Printed, WholeText};
+use tilt_report::Fault;
+use tilt_words::Bind;
+
+/// What `watch` comes to: the query in a file, with fusion or without, on the files that are bound. The watchers are shown the
+/// snapshots.
+pub fn watch<'a, S: Shelf>(
+    alloc: Global,
+    shelf: &mut S,
+    query: &'a str,
+    binds: &'a [Bind],
+    fuse: bool,
+) -> Result<Answered<'a>, Fault<'a>>
+    requires { (name : List ℕ)
+        → HasFileTurn (watch_row query.now []) (S.files shelf.old) query.now (bindings_of binds.now) S.tells name → S.lends name }
+    ensures { Does (watch_row query.now) comes_to (Fits ⊥ ⊤ ⊥) query.now (bindings_of binds.now)
+        (reading S.tells S.files S.read_faults S.save_faults S.takes S.given shelf.old shelf.new) result }
+{
+    let loaded = load_run(alloc, shelf, query, binds, fuse)?;
+    let list = run_whole(alloc, &loaded.accepted, &loaded.rows)?;
+    Ok(Answered::unsaved(Printed::Whole(WholeText::Watched(list))))
+}

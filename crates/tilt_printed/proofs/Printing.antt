@@ -1,0 +1,100 @@
+-- Puts, one after another, where memory may be wanting between them.
+use Rattle.std.proofs.Common.{IsErr, ◌≡◌, ◌+◌, ℕ, List, [], ◌++◌, length, Result, Ok, Err, sym, refl, ◌∙◌, append_assoc, length-append, arith, add_assoc, zero-add}
+use Rattle.std.proofs.lemmas.List.{append-nil}
+use Rattle.tilt_outside.proofs.Puts.{rose_from, front_first, front_behind}
+use Rattle.tilt_printed.specs.Prints.{Prints}
+use Rattle.tilt_printed.specs.declared.unput.Unput.{Unput}
+use Rattle.tilt_printed.specs.declared.unput.Unput.TheVariants as variant
+use Rattle.tilt_outside.specs.Written.{AppendsFront, Puts}
+use Rattle.tilt_outside.specs.declared.failed.Failed.{Failed}
+
+-- nothing of a piece
+front_none : (old piece : List ℕ) → AppendsFront old old piece
+front_none old piece = record { front = []; rest = piece; parts = refl; appended = sym (append-nil old) }
+
+module _ {K : Type 0} (tells : Type 0) (written : K → List ℕ) (faults : K → ℕ) (takes : K → ℕ → Type 0) where
+  -- nothing was put so far
+  pub prints-none : {T : Type 0} (sink : K) (x : T) → Prints tells written faults takes sink sink [] (Ok x)
+  prints-none sink x = record {
+    whole = λ _. sym (append-nil (written sink));
+    front = λ _. tt;
+    kept = omega arith;
+    rose = tt;
+    room = λ n h. rw (zero-add n) at h;
+  }
+
+  -- bytes that were put whole
+  pub prints-put : {T : Type 0} (old new : K) (bytes : List ℕ) (x : T) → Puts tells written faults takes old new bytes (Ok tt)
+      → Prints tells written faults takes old new bytes (Ok x)
+  prints-put old new bytes x put = record { whole = put.whole; front = put.front; kept = put.cause.kept; rose = tt; room = put.room }
+
+  -- a put that failed, and more bytes after it
+  pub prints-short : {T : Type 0} (old new : K) (piece more : List ℕ) (e : Failed) (told : Result T Unput) → IsErr told
+      → Puts tells written faults takes old new piece (Err e) → Prints tells written faults takes old new (piece ++ more) told
+  prints-short old new piece more e (Ok x) failed cut = absurd (cc failed)
+  prints-short old new piece more e (Err f) failed cut = record {
+    whole = λ _. tt;
+    front = λ told. front_first _ _ piece more (cut.front told);
+    kept = cut.cause.kept;
+    rose = λ _. cut.cause.rose;
+    room = tt;
+  }
+
+  -- a put that failed
+  pub prints-failed : {T : Type 0} (old new : K) (piece : List ℕ) (e : Failed) (told : Result T Unput) → IsErr told
+      → Puts tells written faults takes old new piece (Err e) → Prints tells written faults takes old new piece told
+  prints-failed old new piece e (Ok x) failed cut = absurd (cc failed)
+  prints-failed old new piece e (Err f) failed cut =
+      record { whole = λ _. tt; front = cut.front; kept = cut.cause.kept; rose = λ _. cut.cause.rose; room = tt }
+
+  -- what was wanting or failed in a piece, and more bytes after it
+  pub prints-cut : {S T : Type 0} (old new : K) (piece more : List ℕ) (e : Unput) (told : Result T Unput) → told ≡ Err e
+      → Prints {T = S} tells written faults takes old new piece (Err e) → Prints tells written faults takes old new (piece ++ more) told
+  prints-cut old new piece more e told same cut = rw same (record {
+    whole = λ _. tt;
+    front = λ t. front_first _ _ piece more (cut.front t);
+    kept = cut.kept;
+    rose = cut.rose;
+    room = tt;
+  })
+
+  -- the same, told of another value
+  pub prints-err : {S T : Type 0} (old new : K) (piece : List ℕ) (e : Unput) (told : Result T Unput) → told ≡ Err e
+      → Prints {T = S} tells written faults takes old new piece (Err e) → Prints tells written faults takes old new piece told
+  prints-err old new piece e told same cut =
+      rw same (record { whole = λ _. tt; front = cut.front; kept = cut.kept; rose = cut.rose; room = tt })
+
+  -- no memory before a piece
+  pub prints-stopped : {T : Type 0} (sink : K) (piece : List ℕ) (e : Unput) (told : Result T Unput) → told ≡ Err e → e ≡ variant.OutOfMemory
+      → Prints tells written faults takes sink sink piece told
+  prints-stopped sink piece e told same memory = rw (same, memory) (record {
+    whole = λ _. tt;
+    front = λ _. front_none (written sink) piece;
+    kept = omega arith;
+    rose = λ no. absurd (cc no);
+    room = tt;
+  })
+
+  -- a piece after bytes that were put whole
+  pub prints-then : {S T : Type 0} (old mid new : K) (done piece : List ℕ) (x : S) (result : Result T Unput)
+      → Prints tells written faults takes old mid done (Ok x) → Prints tells written faults takes mid new piece result
+      → Prints tells written faults takes old new (done ++ piece) result
+  prints-then old mid new done piece x (Ok y) first then = record {
+    whole = λ told. then.whole told ∙ rw (first.whole told) (append_assoc (written old) done piece);
+    front = λ _. tt;
+    kept = omega (arith, first.kept, then.kept);
+    rose = tt;
+    room = λ n h. then.room n (first.room (length piece + n) (rw (length-append done piece, add_assoc (length done) (length piece) n) at h));
+  }
+  prints-then old mid new done piece x (Err e) first then = record {
+    whole = λ _. tt;
+    front = λ told. front_behind _ _ _ done piece (first.whole told) (then.front told);
+    kept = omega (arith, first.kept, then.kept);
+    rose = λ failed. rose_from _ _ _ first.kept (then.rose failed);
+    room = tt;
+  }
+
+  -- the same bytes, of which it is known that they were put so far and told otherwise
+  pub prints-as : {S T : Type 0} (old new : K) (bytes : List ℕ) (x : S) (y : T) → Prints tells written faults takes old new bytes (Ok x)
+      → Prints tells written faults takes old new bytes (Ok y)
+  prints-as old new bytes x y all = record { whole = all.whole; front = all.front; kept = all.kept; rose = tt; room = all.room }

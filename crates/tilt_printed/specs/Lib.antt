@@ -1,0 +1,9 @@
+pub mod Answer
+pub mod Figures
+pub mod Left
+pub mod Prints
+pub mod Rings
+pub mod Saving
+pub mod Show
+pub mod Text
+pub mod Unput

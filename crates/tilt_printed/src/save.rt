@@ -1,0 +1,10 @@
+// What is saved.
+
+/// Bytes that are saved under a name, after all puts.
+#[derive(Drop)]
+pub struct Save<'a> {
+    /// The name.
+    pub name: &'a str,
+    /// The bytes.
+    pub bytes: Vec<u8>,
+}

@@ -1,0 +1,74 @@
+// Texts of which each line is put before the next snapshot is made.
+ghost use Rattle.std.specs.Prelude.{◌≡◌, length, IfOk};
+ghost use Rattle.tilt_code.specs.Run.{run_of};
+ghost use Rattle.tilt_outside.specs.Written.{Puts};
+ghost use Rattle.tilt_pipe.specs.Rings.{most_ever};
+ghost use Rattle.tilt_pipe.specs.Value.{pipe_after};
+ghost use Rattle.tilt_printed.specs.Prints.{Prints};
+ghost use Rattle.tilt_printed.specs.Rings.{rings_line, rings_text};
+ghost use Rattle.tilt_stream.specs.Text.{lines_of, text_of};
+
+use crate::unput::Unput;
+use itoa::Buffer;
+use tilt_outside::{Failed, Sink};
+use tilt_pipe::Pipe;
+use tilt_series::{put_header, put_snap};
+
+// Puts the text of the snapshots that the pipe gives out.
+pub(crate) fn put_run<O: Sink>(out: &mut O, pipe: Pipe) -> Result<(), Unput>
+    requires fresh { pipe ≡ pipe_after pipe.code pipe.inputs 0 }
+    requires room { O.takes out.old (length (text_of (run_of pipe.code pipe.inputs))) }
+    ensures { Prints O.tells O.written O.faults O.takes out.old out.new (text_of (run_of pipe.code pipe.inputs)) result }
+{
+    put_text(out, pipe)?;
+    Ok(())
+}
+
+// Puts the text of the snapshots that the pipe gives out, and then the line of the most that its rings held.
+pub(crate) fn put_rings<O: Sink>(out: &mut O, pipe: Pipe) -> Result<(), Unput>
+    requires fresh { pipe ≡ pipe_after pipe.code pipe.inputs 0 }
+    requires room { O.takes out.old (length (rings_text pipe.code pipe.inputs)) }
+    ensures { Prints O.tells O.written O.faults O.takes out.old out.new (rings_text pipe.code pipe.inputs) result }
+{
+    let most = put_text(out, pipe)?;
+    put_most(out, most)?;
+    Ok(())
+}
+
+// Puts the text of the snapshots that the pipe gives out, and answers the most that its rings held.
+fn put_text<O: Sink>(out: &mut O, pipe: Pipe) -> Result<u128, Unput>
+    requires fresh { pipe ≡ pipe_after pipe.code pipe.inputs 0 }
+    requires room { O.takes out.old (length (text_of (run_of pipe.code pipe.inputs))) }
+    ensures prints { Prints O.tells O.written O.faults O.takes out.old out.new (text_of (run_of pipe.code pipe.inputs)) result }
+    ensures most { IfOk result (λ most. most ≡ most_ever pipe.code pipe.inputs) }
+{
+    put_header(out)?;
+    put_lines(out, pipe)
+}
+
+// Puts the lines of the snapshots that the pipe gives out, and answers the most that its rings held.
+fn put_lines<O: Sink>(out: &mut O, pipe: Pipe) -> Result<u128, Unput>
+    requires fresh { pipe ≡ pipe_after pipe.code pipe.inputs 0 }
+    requires room { O.takes out.old (length (lines_of (run_of pipe.code pipe.inputs))) }
+    ensures prints { Prints O.tells O.written O.faults O.takes out.old out.new (lines_of (run_of pipe.code pipe.inputs)) result }
+    ensures most { IfOk result (λ most. most ≡ most_ever pipe.code pipe.inputs) }
+{
+    let mut pipe = pipe;
+    let mut most = pipe.held();
+    while let Some(snap) = pipe.next()? {
+        put_snap(out, &snap)?;
+        most = most.max(pipe.held());
+    }
+    Ok(most)
+}
+
+// Puts the line `rings G`.
+fn put_most<O: Sink>(out: &mut O, most: u128) -> Result<(), Failed>
+    requires { O.takes out.old (length (rings_line most)) }
+    ensures { Puts O.tells O.written O.faults O.takes out.old out.new (rings_line most) result }
+{
+    let mut buffer = Buffer::new();
+    out.put(b"rings ")?;
+    out.put(buffer.format(most).as_bytes())?;
+    out.put(b"\n")
+}
