@@ -1,3 +1,4 @@
+pub mod FileCommands
 pub mod Framed
 pub mod InputNames
 pub mod InputRows
@@ -6,5 +7,7 @@ pub mod OneCheckpoint
 pub mod OneCode
 pub mod OneQuery
 pub mod OneSeries
+pub mod ReadRows
+pub mod Told
 pub mod Turns
 pub mod Within

@@ -1,8 +1,7 @@
 -- Tokens are a query, or are refused for a fault.
-use Rattle.std.proofs.Common.{◌≡◌, ◌⊎◌, inl, inr, ℕ, ◌+◌, ◌<◌, ◌≤◌, List, [], ◌∷◌, length, refl, arith}
+use Rattle.std.proofs.Common.{◌⊎◌, inl, inr, ℕ, ◌+◌, List, [], ◌∷◌, length, arith}
 use Rattle.std.proofs.lemmas.Bool.{cases_lt}
 use Rattle.tilt_lexer.specs.declared.token.Tok.{Tok}
-use Rattle.tilt_syntax.specs.Grammar.{IsStatement}
 use Rattle.tilt_syntax.specs.Query.{AreSound, statements, IsInPlace, AreGood, IsQueryOf, IsRefused, too_many, no_tokens, faulty}
 use Rattle.tilt_syntax.specs.Query.{HasFault, too_long, no_statement, misplaced, FirstFault, here, later, IsGood}
 use Rattle.tilt_syntax.specs.Tree.{StatementTree, Input, Let, Emit}

@@ -1,10 +1,13 @@
 -- Reading comes to an answer, whatever the tokens are: each task asks only for smaller ones.
-use Rattle.std.proofs.Common.{◌≡◌, ◌≢◌, ◌⊎◌, inl, inr, ℕ, zero, suc, ◌+◌, ◌*◌, ◌<◌, ◌≤◌, ℤ, pos, negsuc, List, [], ◌∷◌, ◌++◌, length, Option, Some, None}
+use Rattle.std.proofs.Common.{◌≡◌, ◌≢◌, ◌⊎◌, inl, inr, ℕ, zero, suc, ◌+◌, ◌*◌, ◌<◌, ◌≤◌, ℤ, pos, negsuc, List, [], ◌∷◌, length, Option, Some, None}
 use Rattle.std.proofs.Common.{refl, sym, ap, ◌∙◌, subst, arith, length-append}
 use Rattle.std.specs.Str.{bytes_eq}
 use Rattle.std.proofs.lemmas.Bool.{both_ways, cases_Bool, cases_eq}
 use Rattle.tilt_base.proofs.Comparisons.{same_bytes, bytes_same}
+use Rattle.tilt_base.specs.Expression.{One, Two}
+use Rattle.tilt_base.specs.declared.operator.Op1.TheVariants as op1
 use Rattle.tilt_base.specs.declared.operator.Op2.{Op2}
+use Rattle.tilt_base.specs.declared.operator.Op2.TheVariants as op2
 use Rattle.tilt_base.specs.declared.reducer.Reducer.{Reducer}
 use Rattle.tilt_base.specs.declared.reducer.Reducer.TheVariants as reducer
 use Rattle.tilt_base.specs.declared.span.Span.{Span}
@@ -18,7 +21,7 @@ use Rattle.tilt_lexer.proofs.Differ.{same_key, same_sign}
 use Rattle.tilt_syntax.specs.Descent.{Plan, Done, Test, Between, Ask, Found, Task, Reading, GoingOn, plan_of}
 use Rattle.tilt_syntax.specs.Descent.{Comes, done, met, missed, between, behind_all, found, none}
 use Rattle.tilt_syntax.specs.Descent.{number_plan, name_plan, offset_plan, reading_plan, window_plan, enclosed_plan, pair_plan, word_plan, atom_plan}
-use Rattle.tilt_syntax.specs.Descent.{chain_plan, behind_operand, going_plan}
+use Rattle.tilt_syntax.specs.Descent.{chain_plan, behind_operand, going_plan, give}
 use Rattle.tilt_syntax.specs.Grammar.{IsStatement}
 use Rattle.tilt_syntax.specs.Levels.{level_number, operator_of, tighter}
 use Rattle.tilt_syntax.specs.Statements.{bound_plan, span_plan, domain_plan, period_plan, empty_plan, end_plan, statement_plan}
@@ -26,7 +29,7 @@ use Rattle.tilt_syntax.specs.Tree.{ExprTree, StatementTree}
 use Rattle.tilt_syntax.specs.declared.level.Level.{Level}
 use Rattle.tilt_syntax.specs.declared.level.Level.TheVariants.{Choice, When, Or, And, Negation, Comparison, Sum, Product, Minus, Atom}
 use Rattle.tilt_syntax.proofs.Operators.{same_level}
-use Rattle.tilt_syntax.proofs.Sound.{Fits, Keeps, kept, fits}
+use Rattle.tilt_syntax.proofs.Sound.{Fits, kept, fits}
 use Rattle.tilt_syntax.proofs.Statements.{statement-comes, statement-keeps, told, tells}
 use Rattle.tilt_syntax.proofs.Steady.{one_answer}
 
@@ -208,8 +211,8 @@ pair-falls n ts behind le h = (
 )
 
 word-falls : (n : ℕ) (k : Key) (ts : List Tok) → 11 * length ts ≤ n → Falls n (word_plan k ts)
-word-falls n key.IsNull ts le = enclosed-falls n ts _ le (λ e us. tt)
-word-falls n key.IfNull ts le = pair-falls n ts _ le (λ a b us. tt)
+word-falls n key.IsNull ts le = enclosed-falls n ts (λ e us. give (One op1.IsNull e) us) le (λ e us. tt)
+word-falls n key.IfNull ts le = pair-falls n ts (λ a b us. give (Two op2.IfNull a b) us) le (λ a b us. tt)
 word-falls n key.Sum ts le = window-falls n reducer.Sum ts
 word-falls n key.Avg ts le = window-falls n reducer.Avg ts
 word-falls n key.Min ts le = window-falls n reducer.Min ts
@@ -226,7 +229,7 @@ atom-falls [] = tt
 atom-falls (Number n ∷ ts) = tt
 atom-falls (Word x ∷ ts) = reading-falls _ x ts
 atom-falls (Reserved k ∷ ts) = word-falls _ k ts (omega arith)
-atom-falls (Sign m ∷ ts) = enclosed-falls _ (Sign m ∷ ts) _ (omega arith) (λ e us. tt)
+atom-falls (Sign m ∷ ts) = enclosed-falls _ (Sign m ∷ ts) give (omega arith) (λ e us. tt)
 
 -- plans of the other tasks
 
