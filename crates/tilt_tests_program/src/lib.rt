@@ -5,15 +5,21 @@
 #![tactic(auto)]
 
 #[cfg(test)]
+mod faulty_files;
+#[cfg(test)]
 mod interrupted_files;
 #[cfg(test)]
 mod made;
+#[cfg(test)]
+mod saves;
 #[cfg(test)]
 mod series;
 #[cfg(test)]
 mod shelves;
 #[cfg(test)]
 mod sinks;
+#[cfg(test)]
+mod sure;
 #[cfg(test)]
 mod watch;
 #[cfg(test)]

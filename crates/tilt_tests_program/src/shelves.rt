@@ -1,6 +1,9 @@
 // Shelves in memory and on a disk, and whole files that are read from them.
+use crate::faulty_files::{Faults, FaultyFiles};
 use crate::interrupted_files::InterruptedFiles;
+use std::cell::Cell;
 use std::fs;
+use std::io::ErrorKind;
 use std::test::Fail;
 use tilt_outside::{DiskShelf, Failed, MemShelf, ReadAllFault, Shelf, read_all};
 
@@ -56,6 +59,27 @@ fn each_failing_read_is_told_and_is_the_last(rt: HostRuntime) -> Result<(), Fail
 }
 
 #[test]
+fn a_file_is_read_to_its_end_and_no_further(rt: HostRuntime) -> Result<(), Fail> {
+    // How many reads there are: one more where the end isn't told by the limit.
+    for (bytes, limit, reads) in [
+        (b"four".as_slice(), 9, 2u64),
+        (b"four", 4, 2),
+        (b"four", 3, 1),
+        (b"", 9, 1),
+        (b"", 0, 1),
+    ] {
+        let mut shelf = MemShelf::new(rt.alloc());
+        shelf.hold("a", bytes, 0)?;
+        shelf.fail_at(reads.saturating_add(1))?;
+        let _ = read_all(rt.alloc(), &mut shelf, "a", limit);
+        let mut room = [0u8; 4];
+        let next = shelf.read_at("a", 0, &mut room);
+        assert_eq!(rt; next, Err(Failed), "{bytes:?}, limit {limit}");
+    }
+    Ok(())
+}
+
+#[test]
 fn saves_within_and_past_the_room(rt: HostRuntime) -> Result<(), Fail> {
     let cases: [(&str, &[u8], u64, Option<&[u8]>, bool); 7] = [
         ("a", b"", 9, Some(b""), false),
@@ -79,13 +103,16 @@ fn saves_within_and_past_the_room(rt: HostRuntime) -> Result<(), Fail> {
     Ok(())
 }
 
+// The number of this program, for the names of new files.
+const PROGRAM: u32 = 7;
+
 const NAME: &str = "tilt_outside_saved";
 
 const OTHER: &str = "tilt_outside_other";
 
 #[test]
 fn what_is_saved_is_read_again(rt: HostRuntime) -> Result<(), Fail> {
-    let mut shelf = DiskShelf::new(rt.alloc(), &rt);
+    let mut shelf = DiskShelf::new(rt.alloc(), &rt, PROGRAM);
     for bytes in [b"first bytes".as_slice(), b"", b"second"] {
         assert_eq!(rt; shelf.save(NAME, bytes), Ok(()));
         let read = read_all(rt.alloc(), &mut shelf, NAME, 20)?;
@@ -103,7 +130,7 @@ fn what_is_saved_is_read_again(rt: HostRuntime) -> Result<(), Fail> {
 
 #[test]
 fn reading_on_in_another_file_gives_its_bytes(rt: HostRuntime) -> Result<(), Fail> {
-    let mut shelf = DiskShelf::new(rt.alloc(), &rt);
+    let mut shelf = DiskShelf::new(rt.alloc(), &rt, PROGRAM);
     assert_eq!(rt; shelf.save(NAME, b"first"), Ok(()));
     assert_eq!(rt; shelf.save(OTHER, b"other"), Ok(()));
     let mut room = [0u8; 2];
@@ -122,10 +149,34 @@ fn reading_on_in_another_file_gives_its_bytes(rt: HostRuntime) -> Result<(), Fai
 }
 
 #[test]
+fn an_error_that_stays_is_told_at_once(rt: HostRuntime) -> Result<(), Fail> {
+    assert_eq!(rt;
+        DiskShelf::new(rt.alloc(), &rt, PROGRAM).save(OTHER, b"other"),
+        Ok(())
+    );
+    for (first, calls) in [(1, 1), (2, 2)] {
+        let made = Cell::new(0u32);
+        let faults = Faults {
+            calls: &made,
+            first,
+            last: u32::MAX,
+            kind: ErrorKind::Other,
+        };
+        let files = FaultyFiles { files: &rt, faults };
+        let mut shelf = DiskShelf::new(rt.alloc(), &files, PROGRAM);
+        let mut room = [0u8; 2];
+        assert_eq!(rt; shelf.read_at(OTHER, 0, &mut room), Err(Failed));
+        assert_eq!(rt; made.get(), calls);
+    }
+    fs::remove_file(&rt, OTHER)?;
+    Ok(())
+}
+
+#[test]
 fn an_interrupted_read_is_begun_again(rt: HostRuntime) -> Result<(), Fail> {
     for interruptions in 0..3 {
         let files = InterruptedFiles { interruptions };
-        let mut shelf = DiskShelf::new(rt.alloc(), &files);
+        let mut shelf = DiskShelf::new(rt.alloc(), &files, PROGRAM);
         let mut room = [0u8; 2];
         let count = shelf.read_at(NAME, 0, &mut room)?;
         assert_eq!(rt; (count, room), (1, *b"x\0"));

@@ -124,6 +124,31 @@ impl Write for ToldWriter {
     }
 }
 
+// Takes all, and fails where it is flushed.
+#[derive(Drop)]
+struct UnflushedWriter;
+
+impl Write for UnflushedWriter {
+    fn write(&mut self, bytes: &[u8]) -> io::Result<usize> {
+        Ok(bytes.len())
+    }
+
+    fn flush(&mut self) -> io::Result<()> {
+        Err(io::Error::from(ErrorKind::Other))
+    }
+}
+
+#[test]
+fn a_flush_reaches_the_writer(rt: HostRuntime) -> Result<(), Fail> {
+    let mut sink = StdSink::new(UnflushedWriter);
+    assert_eq!(rt; sink.put(b"piece"), Ok(()));
+    assert_eq!(rt; sink.flush(), Err(Failed));
+    let mut sink = BufferedSink::new(rt.alloc(), UnflushedWriter)?;
+    assert_eq!(rt; sink.put(b"piece"), Ok(()));
+    assert_eq!(rt; sink.flush(), Err(Failed));
+    Ok(())
+}
+
 #[test]
 fn pieces_are_written_whole_or_the_fault_is_told(rt: HostRuntime) -> Result<(), Fail> {
     // The answers stand last first.

@@ -132,8 +132,18 @@ same_begins (argument.upto {old = old} {value = value} {rest = rest} {time = tim
     (ap (λ z. record old { upto = Some z }) same ∙ sym g.gives, sym g.rests)
 same_begins (argument.save {file = file} {rest = rest} fresh some) b = let g = after_save b file rest refl in (sym g.2, sym g.3)
 
+-- none begin with an option that has a value, and have none
+pub alone : {old new : Settings} {words rest : List (List ℕ)} → Begins old words new rest → (option : List ℕ) → words ≡ option ∷ [] →
+    IsOption option → (112 == get_or option 2 0) ≡ false → (101 == get_or option 2 0) ≡ false → ⊥
+alone (argument.bind {word = word} is) option e o p q = let heads : word ≡ option = cc in no_bind o word heads is
+alone (argument.plain fresh) option e o p q = clash e p
+alone (argument.end fresh) option e o p q = clash e q
+alone (argument.cut fresh are) option e o p q = cc
+alone (argument.upto fresh is) option e o p q = cc
+alone (argument.save fresh some) option e o p q = cc
+
 -- no words begin with none
-no_begins : {old new : Settings} {words rest : List (List ℕ)} → Begins old words new rest → words ≡ [] → ⊥
+pub no_begins : {old new : Settings} {words rest : List (List ℕ)} → Begins old words new rest → words ≡ [] → ⊥
 no_begins (argument.bind is) e = cc
 no_begins (argument.plain fresh) e = cc
 no_begins (argument.end fresh) e = cc

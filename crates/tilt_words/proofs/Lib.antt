@@ -1,5 +1,6 @@
 pub mod Answered
 pub mod ArgumentsRead
+pub mod Decided
 pub mod Determined
 pub mod Fronts
 pub mod OneCommand

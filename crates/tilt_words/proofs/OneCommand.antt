@@ -8,11 +8,11 @@ use Rattle.tilt_words.specs.Command.{Call, CommandValue, IsCommand, IsFileComman
 use Rattle.tilt_words.proofs.Determined.{same_settings}
 
 -- the third byte of a call's first word, in which the commands differ, but `pipe` and `explain`, whose first bytes do
-abbrev third : Call → ℕ
+abbrev pub third : Call → ℕ
 third call = get_or call.name 2 0
 
 -- the command with these words
-abbrev rebuilt : Call → CommandValue
+abbrev pub rebuilt : Call → CommandValue
 rebuilt call =
     let file = call.file in
     let s = call.settings in
@@ -24,7 +24,7 @@ rebuilt call =
     else if third call == 115 then (if s.end then resume_end file s.binds s.plain else resume_upto file s.binds s.plain (unwrap_or s.upto (pos 0)) (unwrap_or s.save []))
     else watch file s.binds s.plain
 
-rebuilt_same : (command : CommandValue) (call : Call) → call_of command ≡ Some call → rebuilt call ≡ command
+pub rebuilt_same : (command : CommandValue) (call : Call) → call_of command ≡ Some call → rebuilt call ≡ command
 rebuilt_same (run query binds plain cuts) call e = ap rebuilt (sym (same_Some _ call e))
 rebuilt_same (compile query plain) call e = ap rebuilt (sym (same_Some _ call e))
 rebuilt_same (exec code binds) call e = ap rebuilt (sym (same_Some _ call e))

@@ -93,12 +93,12 @@ module _ (greatest : ℤ) where
       λ i. heads i ∷ tails i
 
   -- one number before the comma, and the others behind it
-  joined : (least : ℤ) (word : List ℕ) (z : ℤ) (more : List ℤ) → IsNumber least greatest (before_comma word) z →
+  pub joined : (least : ℤ) (word : List ℕ) (z : ℤ) (more : List ℤ) → IsNumber least greatest (before_comma word) z →
       AreRising z greatest (after_comma word) more → AreRising least greatest word (z ∷ more)
   joined least word z [] is are = absurd are
   joined least word z (next ∷ more) is are = (is, are)
 
-  others : (least : ℤ) (word : List ℕ) (z : ℤ) (all : List ℤ) → HasComma word → IsNumber least greatest (before_comma word) z →
+  pub others : (least : ℤ) (word : List ℕ) (z : ℤ) (all : List ℤ) → HasComma word → IsNumber least greatest (before_comma word) z →
       AreRising least greatest word all → (more : List ℤ) × AreRising z greatest (after_comma word) more
   others least word z [] has is are = absurd are
   others least word z (y ∷ []) has is are = absurd (no_number least word y has are)
@@ -107,13 +107,13 @@ module _ (greatest : ℤ) where
       (next ∷ more, subst (λ l. AreRising l greatest (after_comma word) (next ∷ more)) same are.1)
 
   -- where no number stands before the comma, or where there is none and no number stands, there are no numbers
-  no_first : (least : ℤ) (word : List ℕ) (all : List ℤ) → HasComma word →
+  pub no_first : (least : ℤ) (word : List ℕ) (all : List ℤ) → HasComma word →
       ((z : ℤ) → IsNumber least greatest (before_comma word) z → ⊥) → AreRising least greatest word all → ⊥
   no_first least word [] has none are = are
   no_first least word (y ∷ []) has none are = no_number least word y has are
   no_first least word (y ∷ next ∷ more) has none are = none y are.0
 
-  no_last : (least : ℤ) (word : List ℕ) (all : List ℤ) → before_comma word ≡ word → ((z : ℤ) → IsNumber least greatest word z → ⊥) →
+  pub no_last : (least : ℤ) (word : List ℕ) (all : List ℤ) → before_comma word ≡ word → ((z : ℤ) → IsNumber least greatest word z → ⊥) →
       AreRising least greatest word all → ⊥
   no_last least word [] same none are = are
   no_last least word (y ∷ []) same none are = none y are
