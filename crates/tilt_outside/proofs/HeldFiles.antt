@@ -11,7 +11,7 @@ use Rattle.std.proofs.lemmas.List.Quantifiers.{position-Some}
 use Rattle.std.proofs.lemmas.List.Sums.{position_or_len_is}
 use Rattle.std.proofs.lemmas.Option.{slice_get-get_or, slice_get_cases}
 use Rattle.std.proofs.lemmas.Slice.Eq.{bytes_eq-Decides}
-use Rattle.tilt_outside.specs.MemShelf.{HeldFile, file_named, bytes_held, room_of, HoldsInstead}
+use Rattle.tilt_outside.specs.HeldFiles.{HeldFile, file_named, bytes_held, room_of, HoldsInstead}
 
 -- whether a file has the name
 abbrev pub has_name : List ℕ → HeldFile → Bool
@@ -88,6 +88,9 @@ room_of-at files name i file at is = ap (λ (o : Option HeldFile). option_map_or
 -- what no file is named holds nothing
 pub bytes_held-none : (files : List HeldFile) (name : List ℕ) → position (has_name name) files ≡ None → bytes_held files name ≡ None
 bytes_held-none files name at = ap (option_map (λ (f : HeldFile). f.bytes)) (file_named-none files name at)
+
+pub room_of-none : (files : List HeldFile) (name : List ℕ) → position (has_name name) files ≡ None → room_of files name ≡ 0
+room_of-none files name at = ap (λ (o : Option HeldFile). option_map_or (λ (f : HeldFile). f.room) o 0) (file_named-none files name at)
 
 -- other bytes in the file of the name
 pub HoldsInstead-bytes : (files : List HeldFile) (name : List ℕ) (i : ℕ) (file : HeldFile) (bytes : List ℕ) → position (has_name name) files ≡ Some i → file
