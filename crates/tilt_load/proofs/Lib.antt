@@ -1,5 +1,4 @@
 pub mod FileCommands
-pub mod Framed
 pub mod InputNames
 pub mod InputRows
 pub mod Loads

@@ -8,7 +8,7 @@ use Rattle.tilt_checkpoint.specs.Decided.{frame_of}
 use Rattle.tilt_checkpoint.specs.Reading.{query_at}
 use Rattle.tilt_checkpoint.specs.Spelling.{body_lines, spelling}
 use Rattle.tilt_checkpoint.specs.Valid.{IsCheckpoint}
-use Rattle.tilt_checkpoint.proofs.Decoded.{body_of, valid-read}
+use Rattle.tilt_checkpoint.proofs.Decoding.{body_of, valid-read}
 use Rattle.tilt_checkpoint.proofs.Queries.{query-again}
 use Rattle.tilt_lexer.specs.Tokens.{AreTokens}
 use Rattle.tilt_syntax.proofs.Law.{reads_back}
@@ -16,7 +16,7 @@ use Rattle.tilt_syntax.specs.Printing.{query_text}
 use Rattle.tilt_syntax.specs.Query.{IsQuery}
 use Rattle.tilt_syntax.specs.Tree.{StatementTree}
 use Rattle.tilt_types.specs.Checked.{core_of}
-use Rattle.tilt_load.proofs.Framed.{accepted_frame}
+use Rattle.tilt_checkpoint.proofs.Framed.{accepted_frame}
 use Rattle.tilt_load.specs.CheckpointFile.{TakesCheckpoint, RefusesCheckpoint, long, of_none}
 use Rattle.tilt_load.specs.Load.{IsTooLong}
 use Rattle.tilt_report.specs.Report.{Reason, file_too_long, bad_checkpoint}

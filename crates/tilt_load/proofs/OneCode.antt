@@ -3,6 +3,7 @@ use Rattle.std.proofs.Common.{◌≡◌, ◌∙◌, ◌<◌, ◌≤◌, ◌⊎�
 use Rattle.std.specs.Prelude.{⊤}
 use Rattle.tilt_base.specs.declared.limits.TheConstants.{FILE}
 use Rattle.std.proofs.lemmas.Bool.{cases_lt}
+use Rattle.tilt_code.proofs.Judged.{listed_or_bad}
 use Rattle.tilt_code.proofs.Outcomes.{line-bad, code-read, bad-read}
 use Rattle.tilt_code.specs.Code.{CodeParts}
 use Rattle.tilt_code.specs.Fault.{IsBadLine, IsBadReference}
@@ -88,7 +89,7 @@ code_refuses name bytes (fault.BadCode n) short bad_line bad_reference = λ _. l
 code_refuses name bytes (fault.BadReference i n) short bad_line bad_reference = λ _. reference i n short (bad_reference i n refl)
 code_refuses name bytes fault.OutOfMemory short bad_line bad_reference = tt
 
--- one of the two always, where each text is the listing of a code, or has a first bad line or a first bad reference
+-- one of the two always
 module _ (name bytes : List ℕ) where
   abbrev IsListed : Type 0
   IsListed = (code : CodeParts) × IsCode code × (bytes ≡ listing code)
@@ -104,9 +105,9 @@ module _ (name bytes : List ℕ) where
   by_listing short (inr (inl (n, bad))) = inr (report.bad_code n, line n short bad)
   by_listing short (inr (inr (in_loop, n, bad))) = inr (report.bad_reference in_loop n, reference in_loop n short bad)
 
-  by_length : IsListed ⊎ IsBad → (FILE < length bytes) ⊎ (length bytes ≤ FILE) → IsEither
-  by_length reads (inl over) = inr (file_too_long name, long over)
-  by_length reads (inr short) = by_listing short reads
+  by_length : (FILE < length bytes) ⊎ (length bytes ≤ FILE) → IsEither
+  by_length (inl over) = inr (file_too_long name, long over)
+  by_length (inr short) = by_listing short (listed_or_bad bytes)
 
-  pub code_taken_or_refused : IsListed ⊎ IsBad → ((c : CodeParts) × TakesCode bytes c) ⊎ ((r : Reason) × RefusesCode name bytes r)
-  code_taken_or_refused reads = by_length reads (cases_lt FILE (length bytes))
+  pub code_taken_or_refused : ((c : CodeParts) × TakesCode bytes c) ⊎ ((r : Reason) × RefusesCode name bytes r)
+  code_taken_or_refused = by_length (cases_lt FILE (length bytes))

@@ -3,13 +3,14 @@ use Rattle.std.proofs.Common.{◌≡◌, ◌∙◌, ◌<◌, ◌≤◌, ◌⊎�
 use Rattle.std.proofs.lemmas.Bool.{cases_lt}
 use Rattle.tilt_base.specs.declared.limits.TheConstants.{FILE}
 use Rattle.tilt_lexer.proofs.Sound.{sound}
+use Rattle.tilt_lexer.proofs.Whole as whole
 use Rattle.tilt_lexer.proofs.Unique.{same_fault, tokens_or_fault, same_tokens}
 use Rattle.tilt_lexer.specs.Tokens.{AreTokens, IsFaultyAt}
 use Rattle.tilt_lexer.specs.declared.fault.LexFault.{LexFault}
-use Rattle.tilt_lexer.specs.declared.token.Tok.{Tok}
 use Rattle.tilt_lexer.specs.declared.token.Token.{Token}
 use Rattle.tilt_syntax.proofs.Parsing.{sound-kinds}
-use Rattle.tilt_syntax.specs.Query.{IsQuery, IsQueryOf, IsRefused, kinds}
+use Rattle.tilt_syntax.specs.Query.{AreSound, IsQuery, IsQueryOf, IsRefused, kinds}
+use Rattle.tilt_syntax.proofs.Judged.{query_or_refused}
 use Rattle.tilt_syntax.specs.declared.fault.SyntaxFault.{SyntaxFault}
 use Rattle.tilt_syntax.proofs.Refused.{one_refusal, query-or-refused}
 use Rattle.tilt_syntax.proofs.Unique.{one_query}
@@ -129,10 +130,12 @@ pub record IsQueryFile (bytes : List ℕ) : Type 0 where
   pub says : HasQuery bytes query (core_of query)
   pub near : margins_of (core_of query) ≡ Ok margins
 
--- of any text: it is such a query, or it is refused, where each text has tokens or a fault, and tokens are a query or are refused
-module _ (lexes : (bytes : List ℕ) → ((tokens : List Token) × AreTokens 0 bytes tokens) ⊎ ((f : LexFault) × IsFaultyAt 0 bytes f))
-    (parses : (ts : List Tok) → ((q : List StatementTree) × IsQueryOf ts q) ⊎ ((f : SyntaxFault) × IsRefused ts f))
-    (name bytes : List ℕ) where
+-- tokens of a text are those that a text may have
+sounds : {bytes : List ℕ} (tokens : List Token) → AreTokens 0 bytes tokens → AreSound (kinds tokens)
+sounds tokens lexed = sound-kinds tokens (sound lexed)
+
+-- each text is such a query, or it is refused
+module _ (name bytes : List ℕ) where
   abbrev IsEither : Type 0
   IsEither = IsQueryFile bytes ⊎ ((r : Reason) × RefusesQuery name bytes r)
 
@@ -145,7 +148,7 @@ module _ (lexes : (bytes : List ℕ) → ((tokens : List Token) × AreTokens 0 b
       by_check : (q : List StatementTree) → IsQueryOf (kinds tokens) q → (found : Option CheckFault) → first_fault 1 [] q ≡ found → IsEither
       by_check q parsed None is =
           let good : checked q ≡ Ok (core_of q) = ap (λ (o : Option CheckFault). core_unless o (core_of q)) is in
-          let valid : IsQuery q = record { tokens = kinds tokens; sound = sound-kinds tokens (sound lexed); parsed = parsed } in
+          let valid : IsQuery q = record { tokens = kinds tokens; sound = sounds tokens lexed; parsed = parsed } in
           by_margins q (record { short = short; tokens = tokens; lexed = lexed; parsed = parsed; valid = valid; accepted = good })
           (margins_of (core_of q)) refl
       by_check q parsed (Some f) is =
@@ -160,14 +163,14 @@ module _ (lexes : (bytes : List ℕ) → ((tokens : List Token) × AreTokens 0 b
           inr (told.0, no_core (no_statements tokens f short lexed refused told.1))
 
     by_lex : ((tokens : List Token) × AreTokens 0 bytes tokens) ⊎ ((f : LexFault) × IsFaultyAt 0 bytes f) → IsEither
-    by_lex (inl (tokens, lexed)) = by_parse tokens lexed (parses (kinds tokens))
+    by_lex (inl (tokens, lexed)) = by_parse tokens lexed (query_or_refused (kinds tokens) (sounds tokens lexed))
     by_lex (inr (f, faulty)) =
         let told = place_told 0 bytes f faulty in
         inr (told.0, no_core (no_tokens f short faulty told.1))
 
   by_length : (FILE < length bytes) ⊎ (length bytes ≤ FILE) → IsEither
   by_length (inl over) = inr (file_too_long name, no_core (long over))
-  by_length (inr short) = by_lex short (lexes bytes)
+  by_length (inr short) = by_lex short (whole.tokens_or_fault bytes)
 
   pub query_taken_or_refused : IsQueryFile bytes ⊎ ((r : Reason) × RefusesQuery name bytes r)
   query_taken_or_refused = by_length (cases_lt FILE (length bytes))
