@@ -11,6 +11,8 @@ mod codes;
 #[cfg(test)]
 mod faults;
 #[cfg(test)]
+mod hostile;
+#[cfg(test)]
 mod meanings;
 #[cfg(test)]
 mod piping;
