@@ -1,9 +1,10 @@
 -- What puts and a save leave, from what each of them did.
 use Rattle.std.proofs.Common.{◌≡◌, ◌++◌, ◌+◌, List, ℕ, Option, None, Some, Result, Ok, Err, length, inr, refl, subst}
-use Rattle.std.specs.Prelude.{OnOk}
+use Rattle.std.specs.Prelude.{MatchResult, OnOk}
 use Rattle.tilt_app.specs.Cause.{IsCause, IsSaveFault}
 use Rattle.tilt_app.specs.Change.{ShelfChange, SinkChange}
-use Rattle.tilt_app.specs.Saving.{IsUnsaved}
+use Rattle.tilt_app.specs.Continued.{Continues, IsContinued, IsLeft}
+use Rattle.tilt_app.specs.Saving.{IsSaved, IsUnsaved}
 use Rattle.tilt_outside.specs.Faults.{Rose}
 use Rattle.tilt_outside.specs.Written.{AppendsFront}
 use Rattle.tilt_printed.specs.Answer.{save_of}
@@ -13,6 +14,7 @@ use Rattle.tilt_printed.specs.declared.save.Save.{Save}
 use Rattle.tilt_printed.specs.declared.unput.Unput.{Unput}
 use Rattle.tilt_printed.specs.declared.unput.Unput.TheVariants.{Failed, OutOfMemory}
 use Rattle.tilt_report.specs.Report.{Outcome, Report, usage, refusal, read_fault, write_fault, save_fault, out_of_memory}
+use Rattle.tilt_words.specs.Command.{CommandValue, start, resume_upto, resume_end}
 
 -- what holds where a call didn't fail
 pub on_ok : {E X : Type 0} (r : Result (Unit {0}) E) → ((e : E) → r ≡ Err e → ⊥) → OnOk r X → X
@@ -62,3 +64,18 @@ pub unput_either : (unput : Unput) (report : Report) (streams : Type 0) → repo
     → (report ≡ write_fault → ⊥) → ((report ≡ out_of_memory) × streams → ⊥) → ⊥
 unput_either Failed report streams is streamed no_fault no_stream = no_fault is
 unput_either OutOfMemory report streams is streamed no_fault no_stream = no_stream (is, streamed refl)
+
+-- what holds of a result that isn't a failure
+pub on_match : {E P : Type 0} (Q : Type 0) (r : Result (Unit {0}) E) → ((e : E) → r ≡ Err e → ⊥) → MatchResult r (λ _. P) (λ _. Q) → P
+on_match Q (Ok u) fine seen = seen
+on_match Q (Err e) fine seen = absurd (fine e refl)
+
+-- a session goes on by what was written and saved, as its outcome does
+pub continued : (command : CommandValue) (shelf : ShelfChange) (out : SinkChange) (text : List ℕ) (save : Option SaveValue) → Continues shelf.held command (outcome_of text save)
+    → (out.tells → out.new ≡ out.old ++ text) → IsSaved shelf save → IsContinued shelf out command
+continued (start query binds plain upto name) shelf out text save goes written saved = record { text = text; save = save; outcome = goes; written = written; saved = saved }
+continued (resume_upto checkpoint binds plain upto name) shelf out text save goes written saved =
+    λ query rows cut hands. record { text = text; save = save; outcome = goes query rows cut hands; written = written; saved = saved }
+continued (resume_end checkpoint binds plain) shelf out text save goes written saved =
+    λ query rows cut hands. record { text = text; save = save; outcome = goes query rows cut hands; written = written; saved = saved }
+continued command shelf out text save goes written saved = tt

@@ -5,7 +5,7 @@ use Rattle.tilt_app.specs.Outcome.{IsOutcome, IsRowOutcome, no_command, does}
 use Rattle.tilt_app.specs.Table.{row_of}
 use Rattle.tilt_report.specs.Report.{Outcome, refused, usage}
 use Rattle.tilt_watch.specs.Watch.{Watch}
-use Rattle.tilt_words.proofs.Whole.{command_or_none}
+use Rattle.tilt_words.proofs.Decided.{command_or_none}
 use Rattle.tilt_words.proofs.OneCommand.{one_command}
 use Rattle.tilt_words.proofs.Within.{within}
 use Rattle.tilt_words.specs.Command.{CommandValue, IsCommand}

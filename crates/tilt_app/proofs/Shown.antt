@@ -2,8 +2,8 @@
 use Rattle.std.proofs.Common.{◌≡◌, ◌++◌, ◌∙◌, List, [], ℕ, Option, None, Some, Result, Ok, Err, refl, sym, subst, ap}
 use Rattle.std.proofs.lemmas.List.{append-nil}
 use Rattle.std.proofs.lemmas.Result.{IfErr-weaker, IfOk-weaker}
-use Rattle.std.specs.Prelude.{IfOk, IfErr, IsSome}
-use Rattle.tilt_app.specs.Answered.{DoesRow}
+use Rattle.std.specs.Prelude.{⊤, IfOk, IfErr, IsSome}
+use Rattle.tilt_app.specs.Answered.{DoesRow, IsAnswered}
 use Rattle.tilt_app.specs.Cause.{IsUnanswered}
 use Rattle.tilt_app.specs.Change.{ShelfChange}
 use Rattle.tilt_app.specs.Outcome.{HasRowTurn, IsRowOutcome, IsRowRead, Saves, Shows, Streams}
@@ -11,8 +11,8 @@ use Rattle.tilt_app.specs.Show.{IsShow}
 use Rattle.tilt_app.specs.Table.{Row, reads, makes, row_of}
 use Rattle.tilt_commands.specs.Run.{run_row}
 use Rattle.tilt_commands.specs.Watch.{watch_row}
-use Rattle.tilt_load.specs.Does.{Reading}
-use Rattle.tilt_load.specs.FileCommand.{IsFileOutcome, no_file, no_inputs, done}
+use Rattle.tilt_load.specs.Does.{Does, Reading}
+use Rattle.tilt_load.specs.FileCommand.{FileCommand, IsFileOutcome, no_file, no_inputs, done}
 use Rattle.tilt_load.specs.Load.{IsLoadFault}
 use Rattle.tilt_printed.specs.Answer.{Fits, comes_to, save_of}
 use Rattle.tilt_printed.specs.Saving.{outcome_of}
@@ -25,6 +25,7 @@ use Rattle.tilt_printed.specs.declared.save.Save.{Save}
 use Rattle.tilt_printed.specs.declared.whole_text.WholeText.TheVariants.{Snapshots, Lines, Watched, Text}
 use Rattle.tilt_report.specs.Report.{Outcome, Report, usage, refusal, read_fault, write_fault, save_fault, out_of_memory, printed, refused, report_of}
 use Rattle.tilt_report.specs.declared.fault.Fault.{Fault}
+use Rattle.tilt_sessions.specs.SavedCut.{SavedCutValue}
 use Rattle.tilt_stream.specs.Snap.{Snapshot}
 use Rattle.tilt_stream.specs.Text.{text_of}
 use Rattle.tilt_watch.specs.Watch.{Watch}
@@ -65,6 +66,28 @@ module _ (shelf : Reading) (keeps : Answered → Type 0) (result : Result Answer
   row_undone (makes is_outcome) does watchers =
       IfErr-weaker result _ _ (λ fault is. memory_fault shelf.tells _ _ shelf.faults_before shelf.faults_after (report_of fault) is) does.fault
 
+module _ (command : CommandValue) (shelf : Reading) where
+  -- what an answer comes to
+  pub answer_made : (answer : Answered) → IsAnswered command shelf (Ok answer) → shelf.tells → (watchers : List Watch)
+      → IsRowOutcome shelf.files watchers (row_of command) (comes_to watchers answer)
+  answer_made answer does told = row_made shelf _ (Ok answer) (row_of command) does told
+
+  pub answer_fits : (answer : Answered) → IsAnswered command shelf (Ok answer) → Fits (Streams command) (Shows command) (Saves command) answer
+  answer_fits answer does = row_kept shelf _ (Ok answer) (row_of command) does
+
+  pub answer_rest : (answer : Answered) → IsAnswered command shelf (Ok answer) → shelf.rest
+  answer_rest answer does = row_rest shelf _ (Ok answer) (row_of command) does
+
+  pub answer_read : (answer : Answered) → IsAnswered command shelf (Ok answer) → shelf.tells
+      → (watchers : List Watch) × IsRowRead shelf.files watchers (row_of command) shelf.given_before shelf.given_after
+  answer_read answer does told = row_read shelf _ (Ok answer) (row_of command) does told
+
+  -- why there is none
+  pub answer_undone : (fault : Fault) → IsAnswered command shelf (Err fault) → (watchers : List Watch)
+      → IsLoadFault shelf.tells (λ why. IsRowOutcome shelf.files watchers (row_of command) (refused (refusal why)))
+      (HasRowTurn shelf.tells shelf.files watchers (row_of command)) shelf.faults_before shelf.faults_after (report_of fault)
+  answer_undone fault does watchers = row_undone shelf _ (Err fault) (row_of command) does watchers
+
 -- why nothing is answered, by why files aren't taken
 pub load_unanswered : (is_outcome : Outcome → Type 0) (has_turn has_turn' : List ℕ → Type 0) (shelf : ShelfChange) → ((name : List ℕ) → has_turn name → has_turn' name)
     → (report : Report) → IsLoadFault shelf.tells (λ why. is_outcome (refused (refusal why))) has_turn shelf.reads_before shelf.reads_after report
@@ -78,11 +101,11 @@ load_unanswered is_outcome has_turn has_turn' shelf more out_of_memory fault = t
 
 none_shown : (shown : Option (List Snapshot)) → (IsSome shown → ⊥) → shown ≡ None
 none_shown None none = refl
-none_shown (Some list) none = absurd (none tt)
+none_shown (Some list) none = absurd (none refl)
 
 none_saved : (save : Option Save) → (IsSome save → ⊥) → save ≡ None
 none_saved None none = refl
-none_saved (Some save) none = absurd (none tt)
+none_saved (Some save) none = absurd (none refl)
 
 same_text : (text other : List ℕ) → printed text ≡ printed other → text ≡ other
 same_text text other same = cc
@@ -103,11 +126,11 @@ module _ (tells : Type 0) (files : List ℕ → List ℕ) where
       → (tells → IsFileOutcome (watch_row query []) files query binds (outcome_of (printed_text [] text) (save_of save))) → IsShow tells files (watch query binds plain) (shown_of text)
   watch_shows query binds plain (Whole (Watched list)) save none some made =
       (list, refl, λ t. run_of_watch files query binds list _ (made t) (ap (λ (s : Option Save). outcome_of (printed_text [] (Whole (Watched list))) (save_of s)) none))
-  watch_shows query binds plain (Whole (Snapshots list)) save none some made = absurd some
-  watch_shows query binds plain (Whole (Lines list)) save none some made = absurd some
-  watch_shows query binds plain (Whole (Text text)) save none some made = absurd some
-  watch_shows query binds plain (Run pipe) save none some made = absurd some
-  watch_shows query binds plain (Rings pipe) save none some made = absurd some
+  watch_shows query binds plain (Whole (Snapshots list)) save none some made = absurd (cc some)
+  watch_shows query binds plain (Whole (Lines list)) save none some made = absurd (cc some)
+  watch_shows query binds plain (Whole (Text text)) save none some made = absurd (cc some)
+  watch_shows query binds plain (Run pipe) save none some made = absurd (cc some)
+  watch_shows query binds plain (Rings pipe) save none some made = absurd (cc some)
 
   -- what a command shows
   pub answer_shows : (command : CommandValue) (answer : Answered) → Fits (Streams command) (Shows command) (Saves command) answer
@@ -115,3 +138,18 @@ module _ (tells : Type 0) (files : List ℕ → List ℕ) where
   answer_shows (watch query binds plain) answer fits made =
       watch_shows query binds plain answer.printed answer.save (none_saved answer.save fits.saved.0) (fits.shown.1 tt) (λ t. made t [])
   answer_shows command answer fits made = none_shown (shown_of answer.printed) fits.shown.0
+
+-- a property of answers may be another one
+pub does_weaker : (command : List Watch → FileCommand) (keeps keeps' : Answered → Type 0) (file : List ℕ) (binds : List Binding) (shelf : Reading) (result : Result Answered Fault)
+    → ((answer : Answered) → keeps answer → keeps' answer) → Does command comes_to keeps file binds shelf result → Does command comes_to keeps' file binds shelf result
+does_weaker command keeps keeps' file binds shelf result more does =
+    record { made = does.made; kept = IfOk-weaker result _ _ more does.kept; fault = does.fault; read = does.read; rest = does.rest }
+
+-- where a cut is given, bytes are saved; and where none is, none are
+pub fits_saved : (streams shows : Type 0) (cut : SavedCutValue) (answer : Answered) → Fits streams shows (IsSome (Some cut)) answer → Fits streams shows ⊤ answer
+fits_saved streams shows cut answer fits =
+    record { fresh = fits.fresh; streamed = fits.streamed; shown = fits.shown; saved = ((λ some. tt), (λ is. fits.saved.1 refl)) }
+
+pub fits_unsaved : (streams shows : Type 0) (answer : Answered) → (let none : Option SavedCutValue = None in Fits streams shows (IsSome none) answer) → Fits streams shows ⊥ answer
+fits_unsaved streams shows answer fits =
+    record { fresh = fits.fresh; streamed = fits.streamed; shown = fits.shown; saved = ((λ some. absurd (cc (fits.saved.0 some))), (λ is. absurd is)) }

@@ -1,5 +1,5 @@
 -- The table of commands: what each of them does, by a line for each.
-use Rattle.std.specs.Prelude.{not, List, [], ℕ}
+use Rattle.std.specs.Prelude.{not, List, [], ℕ, Some, None}
 use Rattle.tilt_commands.specs.Compile.{compile_row}
 use Rattle.tilt_commands.specs.Exec.{exec_row}
 use Rattle.tilt_commands.specs.Explain.{explain_row}
@@ -28,9 +28,10 @@ row_of (run query binds plain cuts) = reads query binds (λ watchers. run_row qu
 row_of (compile query plain) = reads query [] (λ watchers. compile_row query (not plain))
 row_of (exec code binds) = reads code binds (λ watchers. exec_row code)
 row_of (explain query) = reads query [] (λ watchers. explain_row query)
-row_of (start query binds plain upto save) = reads query binds (λ watchers. start_row query upto save)
-row_of (resume_upto checkpoint binds plain upto save) = reads checkpoint binds (λ watchers. resume_row checkpoint (upto_saved upto save))
-row_of (resume_end checkpoint binds plain) = reads checkpoint binds (λ watchers. resume_row checkpoint to_end)
+row_of (start query binds plain upto save) = reads query binds (λ watchers. start_row (record { upto = upto; save = save }) query)
+row_of (resume_upto checkpoint binds plain upto save) =
+    reads checkpoint binds (λ watchers. resume_row (Some (record { upto = upto; save = save })) checkpoint)
+row_of (resume_end checkpoint binds plain) = reads checkpoint binds (λ watchers. resume_row None checkpoint)
 row_of (pipe query binds plain) = reads query binds (λ watchers. pipe_row query (not plain))
 row_of (watch query binds plain) = reads query binds (watch_row query)
 row_of (try seed count) = makes (IsTryOutcome seed count)
