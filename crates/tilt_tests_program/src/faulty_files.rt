@@ -38,9 +38,9 @@ impl Faults<'_> {
 }
 
 #[derive(Drop)]
-pub struct FaultyFiles<'a, R: Files> {
+pub struct FaultyFiles<'a, 'c, R: Files> {
     pub files: &'a R,
-    pub faults: Faults<'a>,
+    pub faults: Faults<'c>,
 }
 
 #[derive(Drop)]
@@ -102,12 +102,12 @@ impl<F: OpenFile> OpenFile for FaultyFile<'_, F> {
     }
 }
 
-impl<'a, R: Files> Files for FaultyFiles<'a, R> {
-    type File = FaultyFile<'a, R::File>;
+impl<'a, 'c, R: Files> Files for FaultyFiles<'a, 'c, R> {
+    type File = FaultyFile<'c, R::File>;
 
     type Dir = R::Dir;
 
-    fn open_file(&self, how: &OpenOptions, path: &str) -> io::Result<FaultyFile<'a, R::File>> {
+    fn open_file(&self, how: &OpenOptions, path: &str) -> io::Result<FaultyFile<'c, R::File>> {
         self.faults.next_uninterrupted()?;
         Ok(FaultyFile {
             file: self.files.open_file(how, path)?,

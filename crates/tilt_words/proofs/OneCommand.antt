@@ -25,32 +25,16 @@ rebuilt call =
     else watch file s.binds s.plain
 
 pub rebuilt_same : (command : CommandValue) (call : Call) → call_of command ≡ Some call → rebuilt call ≡ command
-rebuilt_same (run query binds plain cuts) call e = ap rebuilt (sym (same_Some _ call e))
-rebuilt_same (compile query plain) call e = ap rebuilt (sym (same_Some _ call e))
-rebuilt_same (exec code binds) call e = ap rebuilt (sym (same_Some _ call e))
-rebuilt_same (explain query) call e = ap rebuilt (sym (same_Some _ call e))
-rebuilt_same (start query binds plain upto save) call e = ap rebuilt (sym (same_Some _ call e))
-rebuilt_same (resume_upto file binds plain upto save) call e = ap rebuilt (sym (same_Some _ call e))
-rebuilt_same (resume_end file binds plain) call e = ap rebuilt (sym (same_Some _ call e))
-rebuilt_same (pipe query binds plain) call e = ap rebuilt (sym (same_Some _ call e))
-rebuilt_same (watch query binds plain) call e = ap rebuilt (sym (same_Some _ call e))
 rebuilt_same (try seed count) call e = absurd (none-some call e)
+rebuilt_same command call e = ap rebuilt (sym (same_Some _ call e))
 
 -- a call isn't that of `try`
 clash : {name other : List ℕ} → name ≡ other → (get_or name 2 0 == get_or other 2 0) ≡ false → ⊥
 clash {name} {other} e differ = let same : get_or name 2 0 ≡ get_or other 2 0 = ap (λ l. get_or l 2 0) e in grind (arith, nat_tests)
 
 no_try : (command : CommandValue) (call : Call) → call_of command ≡ Some call → call.name ≡ codes "try" → ⊥
-no_try (run query binds plain cuts) call e name = clash (ap (λ c. c.name) (same_Some _ call e) ∙ name) refl
-no_try (compile query plain) call e name = clash (ap (λ c. c.name) (same_Some _ call e) ∙ name) refl
-no_try (exec code binds) call e name = clash (ap (λ c. c.name) (same_Some _ call e) ∙ name) refl
-no_try (explain query) call e name = clash (ap (λ c. c.name) (same_Some _ call e) ∙ name) refl
-no_try (start query binds plain upto save) call e name = clash (ap (λ c. c.name) (same_Some _ call e) ∙ name) refl
-no_try (resume_upto file binds plain upto save) call e name = clash (ap (λ c. c.name) (same_Some _ call e) ∙ name) refl
-no_try (resume_end file binds plain) call e name = clash (ap (λ c. c.name) (same_Some _ call e) ∙ name) refl
-no_try (pipe query binds plain) call e name = clash (ap (λ c. c.name) (same_Some _ call e) ∙ name) refl
-no_try (watch query binds plain) call e name = clash (ap (λ c. c.name) (same_Some _ call e) ∙ name) refl
 no_try (try seed count) call e name = none-some call e
+no_try command call e name = clash (ap (λ c. c.name) (same_Some _ call e) ∙ name) refl
 
 -- a command is one with a file, or it is `try`
 pub record IsTryOf (words : List (List ℕ)) (command : CommandValue) : Type 0 where
@@ -60,28 +44,12 @@ pub record IsTryOf (words : List (List ℕ)) (command : CommandValue) : Type 0 w
   pub words_are : IsTry words seed count
 
 kinds : (words : List (List ℕ)) (command : CommandValue) → IsCommand words command → IsFileCommand words command ⊎ IsTryOf words command
-kinds words (run query binds plain cuts) is = inl is
-kinds words (compile query plain) is = inl is
-kinds words (exec code binds) is = inl is
-kinds words (explain query) is = inl is
-kinds words (start query binds plain upto save) is = inl is
-kinds words (resume_upto file binds plain upto save) is = inl is
-kinds words (resume_end file binds plain) is = inl is
-kinds words (pipe query binds plain) is = inl is
-kinds words (watch query binds plain) is = inl is
 kinds words (try seed count) is = inr (record { seed = seed; count = count; is = refl; words_are = is })
+kinds words command is = inl is
 
 pub file_command : (words : List (List ℕ)) (command : CommandValue) → IsFileCommand words command → IsCommand words command
-file_command words (run query binds plain cuts) is = is
-file_command words (compile query plain) is = is
-file_command words (exec code binds) is = is
-file_command words (explain query) is = is
-file_command words (start query binds plain upto save) is = is
-file_command words (resume_upto file binds plain upto save) is = is
-file_command words (resume_end file binds plain) is = is
-file_command words (pipe query binds plain) is = is
-file_command words (watch query binds plain) is = is
 file_command words (try seed count) is = absurd (none-some is.call is.call_is)
+file_command words command is = is
 
 module _ (words : List (List ℕ)) where
   -- it is one of them, by its first word

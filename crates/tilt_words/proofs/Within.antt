@@ -5,7 +5,7 @@ use Rattle.std.proofs.lemmas.Option.{same_Some, none-some}
 use Rattle.tilt_base.specs.declared.limits.TheConstants.{T}
 use Rattle.tilt_words.specs.Arguments.{Settings, no_settings, Begins, AreArguments}
 use Rattle.tilt_words.specs.Arguments as argument
-use Rattle.tilt_words.specs.Command.{Call, CommandValue, IsCommand, IsFileCommand, IsWithin, run, compile, exec, explain, start, resume_upto, resume_end, pipe, watch, try}
+use Rattle.tilt_words.specs.Command.{Call, CommandValue, IsCommand, IsFileCommand, IsWithin, run, start, resume_upto, try}
 use Rattle.tilt_words.specs.Number.{AreRising, RiseFrom, after_comma}
 
 rises : (least greatest : ℤ) (word : List ℕ) (numbers : List ℤ) → AreRising least greatest word numbers → RiseFrom least greatest numbers
@@ -46,16 +46,11 @@ pub within : (words : List (List ℕ)) (command : CommandValue) → IsCommand wo
 within words (run query binds plain cuts) is =
     let same = same_Some _ is.call is.call_is in
     subst (λ (c : Call). RiseFrom (neg_ℤ T) T c.settings.cuts) (sym same) (call_within words (run query binds plain cuts) is).cuts
-within words (compile query plain) is = tt
-within words (exec code binds) is = tt
-within words (explain query) is = tt
 within words (start query binds plain upto save) is =
     let same = same_Some _ is.call is.call_is in
     (call_within words (start query binds plain upto save) is).upto upto (ap (λ (c : Call). c.settings.upto) (sym same))
 within words (resume_upto file binds plain upto save) is =
     let same = same_Some _ is.call is.call_is in
     (call_within words (resume_upto file binds plain upto save) is).upto upto (ap (λ (c : Call). c.settings.upto) (sym same))
-within words (resume_end file binds plain) is = tt
-within words (pipe query binds plain) is = tt
-within words (watch query binds plain) is = tt
 within words (try seed count) is = (omega (arith, ints, is.is_seed.high), omega (arith, ints, is.is_count.high))
+within words command is = tt

@@ -5,7 +5,6 @@
 
 mod arguments;
 mod bind;
-mod call;
 mod command;
 mod fault;
 mod number;

@@ -3,7 +3,6 @@ ghost use Rattle.std.specs.Prelude.{◌≡◌, ◌↔◌, ◌∷◌, ℕ, codes,
 ghost use Rattle.tilt_words.specs.Command.{CommandValue, IsCommand, IsFile, IsFileCommand, IsTry, IsWithin, command_of, texts};
 
 use crate::arguments::Arguments;
-use crate::call::command_named;
 use crate::command::Command;
 use crate::fault::WordsFault;
 use crate::number::read_up_to;
@@ -68,7 +67,7 @@ fn read_call(alloc: Global, name: &str, file: &str, rest: &[String]) -> Result<C
     }
     let arguments = Arguments::read(alloc, rest)?;
     let file = String::from_str(alloc, file)?;
-    command_named(name, file, arguments).ok_or(WordsFault::Usage)
+    Command::named(name, file, arguments).ok_or(WordsFault::Usage)
 }
 
 // Whether the word may be the file behind a command's first word.
