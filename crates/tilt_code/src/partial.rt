@@ -1,5 +1,5 @@
 // A code of which the lines so far were read.
-ghost use Rattle.std.specs.Prelude.{◌≡◌, []};
+ghost use Rattle.std.specs.Prelude.{◌≡◌, ◌++◌, [], ◌∷◌, OnOk};
 ghost use Rattle.tilt_code.specs.Grammar.{stands_in_body, stands_in_map};
 ghost use Rattle.tilt_code.specs.Partial.{closed, is_new, nothing, parts_of, stands_in, with_end};
 ghost use Rattle.tilt_code.specs.Partial.{with_head, with_input, with_line, with_map, with_step};
@@ -130,7 +130,7 @@ impl Partial {
         if !stands_in(self.stage, instr) || register as usize != self.block.len() {
             return Ok(false);
         }
-        self.block.push(instr)?;
+        push_instr(&mut self.block, instr)?;
         Ok(true)
     }
 
@@ -184,6 +184,17 @@ impl Partial {
         block.shrink_to_fit();
         block
     }
+}
+
+// Adds an instruction to a block. Room for one comes first, since listings of many blocks have short ones.
+fn push_instr(block: &mut Vec<Instr>, instr: Instr) -> Result<(), OutOfMemory>
+    ensures { OnOk result (block.new.items ≡ block.old.items ++ instr ∷ []) }
+{
+    if block.is_empty() {
+        block.reserve_exact(1)?;
+    }
+    block.push(instr)?;
+    Ok(())
 }
 
 // Whether an instruction may stand in the open block.
