@@ -118,14 +118,14 @@ front at b bytes no_blank =
 abbrev Reads : ℕ → List ℕ → Type 0
 Reads at bytes = ((tokens : List Token) × AreTokens at bytes tokens) ⊎ ((f : LexFault) × IsFaultyAt at bytes f)
 
-behind_a_blank : (at b : ℕ) (bytes : List ℕ) → IsTrue (is_blank b) → Reads (at + 1) bytes → Reads at (b ∷ bytes)
-behind_a_blank at b bytes is (inl rest) = inl (rest.0, blank is rest.1)
-behind_a_blank at b bytes is (inr rest) = inr (rest.0, behind_blank is rest.1)
+after_a_blank : (at b : ℕ) (bytes : List ℕ) → IsTrue (is_blank b) → Reads (at + 1) bytes → Reads at (b ∷ bytes)
+after_a_blank at b bytes is (inl rest) = inl (rest.0, blank is rest.1)
+after_a_blank at b bytes is (inr rest) = inr (rest.0, behind_blank is rest.1)
 
-behind_a_token : (at n : ℕ) (kind : Tok) (bytes : List ℕ) → IsFront kind n bytes → Reads (at + n) (drop n bytes) → Reads at bytes
-behind_a_token at n kind bytes front (inl rest) =
+after_a_token : (at n : ℕ) (kind : Tok) (bytes : List ℕ) → IsFront kind n bytes → Reads (at + n) (drop n bytes) → Reads at bytes
+after_a_token at n kind bytes front (inl rest) =
     inl (record { kind = kind; start = at; end = at + n } ∷ rest.0, tokens_from at n kind bytes (drop n bytes) front refl rest.0 rest.1)
-behind_a_token at n kind bytes front (inr rest) = inr (rest.0, faults_from at n kind bytes (drop n bytes) front refl rest.0 rest.1)
+after_a_token at n kind bytes front (inr rest) = inr (rest.0, faults_from at n kind bytes (drop n bytes) front refl rest.0 rest.1)
 
 read_within : (most at : ℕ) (bytes : List ℕ) → length bytes ≤ most → Reads at bytes
 read_within zero at [] few = inl ([], nothing)
@@ -133,9 +133,9 @@ read_within zero at (b ∷ bytes) few = absurd (omega arith)
 read_within (suc most) at [] few = inl ([], nothing)
 read_within (suc most) at (b ∷ bytes) few =
     elim (cases_Bool (is_blank b)) [
-      | inl is ↦ behind_a_blank at b bytes is (read_within most (at + 1) bytes (omega arith))
+      | inl is ↦ after_a_blank at b bytes is (read_within most (at + 1) bytes (omega arith))
       | inr no_blank ↦ elim (front at b bytes no_blank) [
-        | inl token ↦ behind_a_token at token.1 token.0 (b ∷ bytes) token.2 (read_within most (at + token.1) (drop token.1 (b ∷ bytes))
+        | inl token ↦ after_a_token at token.1 token.0 (b ∷ bytes) token.2 (read_within most (at + token.1) (drop token.1 (b ∷ bytes))
             (omega (arith, length-drop token.1 (b ∷ bytes), front_some token.0 token.1 (b ∷ bytes) token.2)))
         | inr bad ↦ inr bad
       ]

@@ -2,8 +2,8 @@
 //!
 //! Bytes come in; names, numbers, reserved words and signs (`Mark`) go out, each with its place. The clauses of `lex` say which:
 //! the tokens are the longest that begin at each place (`tokens`), no others are (`only`), and a refusal tells the first faulty
-//! place, wherever there is one (`faulty`, `first`). A `Name` is a word, by `specs/Word`; a name that a source may have isn't
-//! reserved (`IsName`).
+//! place, wherever there is one (`faulty`, `first`). `next_token` gives them one at a time. A `Name` is a word, by `specs/Word`;
+//! a name that a source may have isn't reserved (`IsName`).
 #![tactic(auto)]
 
 mod cursor;

@@ -1,13 +1,21 @@
--- Tokens are a query, or are refused for a fault.
+-- Tokens are a query, or are refused for a fault; and so is a text.
 use Rattle.std.proofs.Common.{◌⊎◌, inl, inr, ℕ, ◌+◌, List, [], ◌∷◌, length, arith}
 use Rattle.std.proofs.lemmas.Bool.{cases_lt}
+use Rattle.tilt_lexer.specs.Tokens.{AreTokens}
 use Rattle.tilt_lexer.specs.declared.token.Tok.{Tok}
-use Rattle.tilt_syntax.specs.Query.{AreSound, statements, IsInPlace, AreGood, IsQueryOf, IsRefused, too_many, no_tokens, faulty}
+use Rattle.tilt_lexer.specs.declared.token.Token.{Token}
+use Rattle.tilt_lexer.proofs.Sound.{sound}
+use Rattle.tilt_lexer.proofs.Whole.{tokens_or_fault}
+use Rattle.tilt_syntax.specs.Query.{kinds, AreSound, statements, IsInPlace, AreGood, IsQueryOf, IsRefused, too_many, no_tokens, faulty}
 use Rattle.tilt_syntax.specs.Query.{HasFault, too_long, no_statement, misplaced, FirstFault, here, later, IsGood}
 use Rattle.tilt_syntax.specs.Tree.{StatementTree, Input, Let, Emit}
 use Rattle.tilt_syntax.specs.declared.fault.SyntaxFault.{SyntaxFault}
 use Rattle.tilt_syntax.specs.declared.fault.SyntaxFault.TheVariants as fault
+use Rattle.tilt_syntax.specs.declared.fault.TextFault.{TextFault}
+use Rattle.tilt_syntax.specs.declared.fault.TextFault.TheVariants as text
+use Rattle.tilt_syntax.specs.Text.{IsQueryText, IsRefusedText, no_tokens as no_place, no_query}
 use Rattle.tilt_syntax.proofs.Cutting.{cut}
+use Rattle.tilt_syntax.proofs.Parsing.{sound-kinds}
 use Rattle.tilt_syntax.proofs.Total.{statement_or_none}
 
 in_place_or_not : (behind : List (List Tok)) (s : StatementTree) → IsInPlace behind s ⊎ (¬ (IsInPlace behind s))
@@ -61,4 +69,20 @@ query_or_refused (t ∷ ts) sound =
         | inl all ↦ inl (all.0, record { some = (let e = cut (t ∷ ts) (omega arith) in rw e (omega arith)); few = few; good = all.1 })
         | inr first ↦ inr (first.0, faulty few first.1)
       ]
+    ]
+
+-- the tokens of a text are a query or are refused
+tokens_judged : (bytes : List ℕ) (tokens : List Token) → AreTokens 0 bytes tokens
+    → ((query : List StatementTree) × IsQueryOf (kinds tokens) query) ⊎ ((f : SyntaxFault) × IsRefused (kinds tokens) f)
+    → ((query : List StatementTree) × IsQueryText bytes query) ⊎ ((f : TextFault) × IsRefusedText bytes f)
+tokens_judged bytes tokens lexed (inl is) = inl (is.0, record { tokens = tokens; lexed = lexed; parsed = is.1 })
+tokens_judged bytes tokens lexed (inr is) = inr (text.Refused is.0, no_query tokens lexed is.1)
+
+-- a text is a query or is refused; that it is not both stands in `Texts`
+pub text_or_refused : (bytes : List ℕ)
+    → ((query : List StatementTree) × IsQueryText bytes query) ⊎ ((f : TextFault) × IsRefusedText bytes f)
+text_or_refused bytes =
+    elim (tokens_or_fault bytes) [
+      | inl has ↦ tokens_judged bytes has.0 has.1 (query_or_refused (kinds has.0) (sound-kinds has.0 (sound has.1)))
+      | inr place ↦ inr (text.Lexical place.0, no_place place.1)
     ]

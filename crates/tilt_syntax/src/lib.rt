@@ -1,6 +1,7 @@
 //! The tree of a query's text. Tokens come in, and the query that they are goes out. The clauses of `parse` say which: what goes
 //! out is the grammar's one reading of the tokens (`query`, `only`), and a refusal tells the first fault, exactly where there is
-//! one (`faulty`, `first`). A `Query` keeps that some tokens read as it. The other way, `print` gives its text, which reads as this
+//! one (`faulty`, `first`). Those of `read_text` say the same of a text, which may be of any length: it keeps no more of its tokens
+//! than a query may have. A `Query` keeps that some tokens read as it. The other way, `print` gives its text, which reads as this
 //! query and no other (`text`, `reads_back`). No code but tests calls `parse_expression`, which reads one expression.
 #![tactic(auto)]
 
