@@ -1,4 +1,3 @@
-pub mod Framed
 pub mod InputNames
 pub mod InputRows
 pub mod Loads
