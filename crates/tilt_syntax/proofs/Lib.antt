@@ -3,6 +3,8 @@ pub mod Cuts
 pub mod Cutting
 pub mod Descending
 pub mod Finding
+pub mod Judged
+pub mod Keeping
 pub mod Law
 pub mod Operators
 pub mod Parsing
@@ -15,6 +17,9 @@ pub mod Spelling
 pub mod Spelt
 pub mod Statements
 pub mod Steady
+pub mod Texts
+pub mod Total
+pub mod Trimming
 pub mod Unique
 pub mod Whole
 pub mod Written
