@@ -1,16 +1,17 @@
 -- A command that is given a file and binds has one outcome, and what makes the clauses of a function that does it.
-use Rattle.std.proofs.Common.{◌≡◌, ◌+◌, ◌⊎◌, ◌≤◌, ℕ, List, length, refl, inl, inr, ap, sym, subst, ◌∙◌}
+use Rattle.std.proofs.Common.{◌≡◌, ◌+◌, ◌⊎◌, ◌≤◌, ℕ, List, length, Err, refl, inl, inr, ap, sym, subst, ◌∙◌}
 use Rattle.tilt_load.proofs.InputRows.{read_many}
 use Rattle.tilt_load.proofs.Loads.{load_fault_weaker}
 use Rattle.tilt_load.proofs.OneSeries.{inputs_once, inputs_refused_once, inputs_refused_or_taken, inputs_taken_or_refused}
-use Rattle.tilt_load.specs.Does.{IsRead, IsUndone, Reading}
+use Rattle.tilt_load.specs.Does.{Does, IsRead, IsUndone, Reading}
 use Rattle.tilt_load.specs.FileCommand.{FileCommand, IsFileOutcome, no_file, no_inputs, done, HasFileTurn, own_turn, input_turn, input_bytes}
 use Rattle.tilt_load.specs.Load.{IsLoadFault, HasSessionTurn}
 use Rattle.tilt_load.specs.SeriesFiles.{TakesSession, RefusesSession}
 use Rattle.tilt_outside.proofs.Counts.{added-twice}
 use Rattle.tilt_outside.proofs.Puts.{rose_from}
 use Rattle.tilt_outside.specs.Counts.{added_count}
-use Rattle.tilt_report.specs.Report.{Reason, Outcome, refused, Report, refusal, usage}
+use Rattle.tilt_report.specs.Report.{Reason, Outcome, refused, Report, refusal, usage, report_of}
+use Rattle.tilt_report.specs.declared.fault.Fault.{Fault}
 use Rattle.tilt_stream.specs.Snap.{Snapshot}
 use Rattle.tilt_words.specs.Binding.{Binding}
 
@@ -141,3 +142,9 @@ module _ (command : FileCommand) (file : List ℕ) (binds : List Binding) (shelf
         bytes = record { says = says; taken = taken; is = refl };
         given = then ∙ ap (λ (m : ℕ). added_count m all) first ∙ added-twice shelf.given_before (length (shelf.files file)) all;
       }
+
+-- a command that isn't done
+pub not_done : {T W : Type 0} {command : W → FileCommand} {comes : W → T → Outcome} {keeps : T → Type 0} {file : List ℕ} {binds : List Binding} {shelf : Reading}
+    (fault : Fault) → ((beside : W) → IsUndone (command beside) file binds shelf (report_of fault)) → shelf.rest
+    → Does command comes keeps file binds shelf (Err fault)
+not_done fault undone rest = record { made = λ told. tt; kept = tt; fault = undone; read = λ told. tt; rest = rest }
