@@ -32,7 +32,7 @@ refused_or_starts name bytes r q is starts =
 starts_or_refused : (name bytes : List ℕ) → IsQueryFile bytes ⊎ ((r : Reason) × RefusesQuery name bytes r)
     → ((q : List StatementTree) × StartsFrom bytes q) ⊎ ((r : Reason) × RefusesQuery name bytes r)
 starts_or_refused name bytes (inl is) = inl (is.query, record { says = is.says; margins = is.margins; near = is.near })
-starts_or_refused name bytes (inr refused) = inr refused
+starts_or_refused name bytes (inr (r, is)) = inr (r, is)
 
 -- a first session
 pub start_lawful : (cut : SavedCutValue) (query : List ℕ) → IsLawful (start_row cut query)
