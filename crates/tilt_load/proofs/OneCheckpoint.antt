@@ -2,10 +2,10 @@
 use Rattle.std.proofs.Common.{◌≡◌, ◌≢◌, ◌<◌, ◌≤◌, ◌^◌, ◌⊎◌, List, ℕ, length, inl, inr, refl, arith}
 use Rattle.std.proofs.lemmas.Bool.{cases_lt}
 use Rattle.tilt_base.specs.declared.limits.TheConstants.{FILE}
+use Rattle.tilt_checkpoint.proofs.Spelled.{spelled_once}
 use Rattle.tilt_checkpoint.specs.Checkpoint.{CheckpointParts}
 use Rattle.tilt_checkpoint.specs.Spelling.{spelling}
 use Rattle.tilt_checkpoint.specs.Valid.{IsCheckpoint}
-use Rattle.tilt_checkpoint.proofs.Spelled.{spelled_once}
 use Rattle.tilt_load.specs.CheckpointFile.{TakesCheckpoint, RefusesCheckpoint, long, of_none}
 use Rattle.tilt_load.specs.Load.{IsTooLong}
 use Rattle.tilt_report.specs.Report.{Reason, file_too_long, bad_checkpoint}
