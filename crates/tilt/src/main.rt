@@ -3,7 +3,7 @@
 #![tactic(auto)]
 
 use std::alloc::AllocError as OutOfMemory;
-use std::process::ExitCode;
+use std::process::{self, ExitCode};
 use std::{env, io};
 use tilt_app::tilt;
 use tilt_outside::{BufferedSink, DiskShelf, StdSink};
@@ -24,7 +24,7 @@ fn main(rt: HostRuntime) -> ExitCode {
 
 // Does what the words say, beside a watcher of each kind.
 fn status(rt: &HostRuntime, words: &[String]) -> Result<u8, OutOfMemory> {
-    let mut shelf = DiskShelf::new(rt.alloc(), rt);
+    let mut shelf = DiskShelf::new(rt.alloc(), rt, process::id(rt.process()));
     let mut out = BufferedSink::new(rt.alloc(), rt.stdout())?;
     let mut err = StdSink::new(rt.stderr());
     let mut watchers: Vec<Box<dyn Watcher>> = Vec::new(rt.alloc());

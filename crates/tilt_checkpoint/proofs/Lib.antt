@@ -1,5 +1,6 @@
 pub mod Bodies
-pub mod Decoded
+pub mod Decoding
+pub mod Framed
 pub mod Frames
 pub mod Inputs
 pub mod Lines

@@ -37,7 +37,8 @@ impl Checkpoint {
     /// The checkpoint of these parts.
     pub fn new(query: Query, cut: i64, open_start: Option<i64>, series: Vec<Kept>) -> Checkpoint
         requires { IsCheckpoint (record { query = query; cut = cut; open_start = open_start; series = series.items }) }
-        ensures { result ≡ record { query = query; cut = cut; open_start = open_start; series = series.items } }
+        ensures value { result ≡ record { query = query; cut = cut; open_start = open_start; series = series.items } }
+        ensures valid { IsCheckpoint result }
     {
         Checkpoint {
             query,

@@ -1,33 +1,47 @@
 // A checkpoint of its spelling.
-ghost use Rattle.std.specs.Prelude.{◌≡◌, ◌≢◌, ◌⊎◌, IfOk, IfErr, MatchResult};
+ghost use Rattle.std.specs.Prelude.{◌≡◌, ◌≢◌, ◌⊎◌, Ok, length, IfOk, IfErr, MatchResult};
+ghost use Rattle.tilt_bounds.specs.Margins.{margins_of};
 ghost use Rattle.tilt_checkpoint.specs.Checkpoint.{CheckpointParts, with_query};
-ghost use Rattle.tilt_checkpoint.specs.Decided.{IsFrame};
+ghost use Rattle.tilt_checkpoint.specs.Decided.{IsFrame, frame_of};
 ghost use Rattle.tilt_checkpoint.specs.Reading.{Gives, body_at, end_at, is_amid, is_cut, is_open, rest_at};
 ghost use Rattle.tilt_checkpoint.specs.Spelling.{spelling};
 ghost use Rattle.tilt_checkpoint.specs.Valid.{IsCheckpoint, IsCut};
+ghost use Rattle.tilt_types.specs.Checked.{core_of};
 
 use crate::body::Body;
 use crate::checkpoint::Checkpoint;
 use crate::fault::CheckpointFault;
 use crate::frame::Frame;
 use crate::kept::Kept;
-use crate::query::read_query;
+use crate::query::{Asked, read_query};
 use crate::reader::Reader;
 use crate::series::read_series;
 use std::alloc::Global;
 use tilt_base::T;
+use tilt_bounds::Margins;
+use tilt_core::Core;
 use tilt_syntax::Query;
 
-/// The checkpoint whose spelling the bytes are. `BadCheckpoint` comes exactly where they are the spelling of no valid
-/// checkpoint.
-pub fn decode(alloc: Global, bytes: &[u8]) -> Result<Checkpoint, CheckpointFault>
-    ensures checkpoint { IfOk result (λ checkpoint. IsCheckpoint checkpoint × (bytes.now ≡ spelling checkpoint)) }
+/// A checkpoint that was read, the core of its query, and how far that looks.
+#[derive(Drop)]
+pub struct Decoded {
+    pub checkpoint: Checkpoint,
+    pub core: Core,
+    pub margins: Margins,
+}
+
+/// The checkpoint whose spelling the bytes are, with the core and the margins of its query. `BadCheckpoint` comes exactly where the
+/// bytes are the spelling of no valid checkpoint.
+pub fn decode(alloc: Global, bytes: &[u8]) -> Result<Decoded, CheckpointFault>
+    ensures checkpoint { IfOk result (λ decoded. IsCheckpoint decoded.checkpoint × (bytes.now ≡ spelling decoded.checkpoint)) }
+    ensures core { IfOk result (λ decoded. decoded.core ≡ core_of decoded.checkpoint.query) }
+    ensures margins { IfOk result (λ decoded. margins_of decoded.core ≡ Ok decoded.margins) }
     ensures bad { IfErr result (λ fault. fault ≡ CheckpointFault.BadCheckpoint
         → (checkpoint : CheckpointParts) → IsCheckpoint checkpoint → bytes.now ≢ spelling checkpoint) }
 
     // Nothing else is: no other checkpoint, and no other fault.
     ensures only { (checkpoint : CheckpointParts) → IsCheckpoint checkpoint → bytes.now ≡ spelling checkpoint →
-        MatchResult result (λ found. found ≡ checkpoint) (λ fault. fault ≡ CheckpointFault.OutOfMemory) }
+        MatchResult result (λ found. found.checkpoint ≡ checkpoint) (λ fault. fault ≡ CheckpointFault.OutOfMemory) }
     ensures none { ((checkpoint : CheckpointParts) → IsCheckpoint checkpoint → bytes.now ≢ spelling checkpoint) →
         MatchResult result (λ _. ⊥) (λ fault. (fault ≡ CheckpointFault.BadCheckpoint) ⊎ (fault ≡ CheckpointFault.OutOfMemory)) }
 {
@@ -35,15 +49,21 @@ pub fn decode(alloc: Global, bytes: &[u8]) -> Result<Checkpoint, CheckpointFault
 }
 
 // The checkpoint whose spelling the bytes are.
-fn read(alloc: Global, bytes: &[u8]) -> Result<Checkpoint, CheckpointFault>
-    ensures checkpoint { IfOk result (λ checkpoint. IsCheckpoint checkpoint × (bytes.now ≡ spelling checkpoint)) }
+fn read(alloc: Global, bytes: &[u8]) -> Result<Decoded, CheckpointFault>
+    ensures checkpoint { IfOk result (λ decoded. IsCheckpoint decoded.checkpoint × (bytes.now ≡ spelling decoded.checkpoint)) }
+    ensures core { IfOk result (λ decoded. decoded.core ≡ core_of decoded.checkpoint.query) }
+    ensures margins { IfOk result (λ decoded. margins_of decoded.core ≡ Ok decoded.margins) }
     ensures only { (checkpoint : CheckpointParts) → IsCheckpoint checkpoint → bytes.now ≡ spelling checkpoint →
-        MatchResult result (λ found. found ≡ checkpoint) (λ fault. fault ≡ CheckpointFault.OutOfMemory) }
+        MatchResult result (λ found. found.checkpoint ≡ checkpoint) (λ fault. fault ≡ CheckpointFault.OutOfMemory) }
 {
     let mut reader = Reader::new(bytes);
     let asked = read_query(alloc, &mut reader)?;
-    let body = read_body(alloc, reader, asked.frame, asked.inputs)?;
-    Ok(whole(asked.query, body))
+    let body = read_behind(alloc, &asked, reader)?;
+    Ok(Decoded {
+        checkpoint: whole(asked.query, body),
+        core: asked.core,
+        margins: asked.margins,
+    })
 }
 
 // The checkpoint of a query and what stands behind it.
@@ -52,6 +72,15 @@ fn whole(query: Query, body: Body) -> Checkpoint
     ensures { result ≡ with_query query body }
 {
     Checkpoint::new(query, body.cut, body.open_start, body.series)
+}
+
+// What stands behind a query.
+fn read_behind(alloc: Global, asked: &Asked, reader: Reader<'_>) -> Result<Body, CheckpointFault>
+    requires { margins_of asked.now.core ≡ Ok asked.now.margins }
+    ensures { Gives (body_at (frame_of asked.now.core) (length asked.now.core.inputs) reader.entry) (λ body. body) result }
+{
+    let frame = Frame::new(&asked.core, &asked.margins);
+    read_body(alloc, reader, frame, asked.core.inputs().len())
 }
 
 // What stands behind a query with that frame and so many inputs.

@@ -3,8 +3,9 @@
 //! What comes in is checkpoints and bytes; what goes out is bytes, and checkpoints again. A `Checkpoint` keeps that it is
 //! valid, as `specs/Valid` says. The clause of `encode` says that it gives the text of `specs/Spelling`. Those of `decode` say
 //! that it gives the valid checkpoint whose spelling the bytes are (`checkpoint`, `only`), and refuses them exactly where they
-//! are the spelling of none (`bad`, `none`); besides, it may only want memory. What is decided at a cut, and which ticks have
-//! to be kept then, stands in `specs/Decided`.
+//! are the spelling of none (`bad`, `none`); besides, it may only want memory. With the checkpoint it hands on the core and the
+//! margins of its query, so that nobody checks them again. What is decided at a cut, and which ticks have to be kept then, stands
+//! in `specs/Decided`.
 #![tactic(auto)]
 
 mod body;
@@ -19,7 +20,7 @@ mod reader;
 mod series;
 
 pub use checkpoint::Checkpoint;
-pub use decoder::decode;
+pub use decoder::{Decoded, decode};
 pub use encoder::encode;
 pub use fault::CheckpointFault;
 pub use frame::Frame;

@@ -1,6 +1,6 @@
 // The query of a checkpoint, read.
-ghost use Rattle.std.specs.Prelude.{◌≡◌, ◌↔◌, ◌++◌, List, ℕ, length, IsTrue, IfOk, IfErr, MatchResult};
-ghost use Rattle.tilt_checkpoint.specs.Decided.{IsFrame, frame_of};
+ghost use Rattle.std.specs.Prelude.{◌≡◌, ◌↔◌, ◌++◌, List, ℕ, Ok, length, IsTrue, IfOk, IfErr, MatchResult};
+ghost use Rattle.tilt_bounds.specs.Margins.{margins_of};
 ghost use Rattle.tilt_checkpoint.specs.Spelling.{query_lines, title};
 ghost use Rattle.tilt_checkpoint.specs.Valid.{IsAccepted};
 ghost use Rattle.tilt_syntax.specs.Printing.{query_text};
@@ -9,27 +9,27 @@ ghost use Rattle.tilt_syntax.specs.Tree.{StatementTree};
 ghost use Rattle.tilt_types.specs.Checked.{core_of};
 
 use crate::fault::CheckpointFault;
-use crate::frame::Frame;
 use crate::reader::Reader;
 use std::alloc::{AllocError as OutOfMemory, Global};
-use tilt_bounds::reach;
+use tilt_bounds::{Margins, reach};
+use tilt_core::Core;
 use tilt_lexer::lex;
 use tilt_syntax::{Query, parse, print};
 use tilt_types::check;
 
-// A query that is accepted.
+// A query that is accepted, its core, and how far it looks.
 #[derive(Drop)]
 pub(crate) struct Asked {
     pub(crate) query: Query,
-    pub(crate) frame: Frame,
-    pub(crate) inputs: usize,
+    pub(crate) core: Core,
+    pub(crate) margins: Margins,
 }
 
 // The query of a checkpoint, from the first line to the last of the query.
 pub(crate) fn read_query(alloc: Global, reader: &mut Reader<'_>) -> Result<Asked, CheckpointFault>
     ensures found { IfOk result (λ asked. IsAccepted asked.query × (reader.old ≡ title ++ (query_lines asked.query ++ reader.new))) }
-    ensures frame { IfOk result (λ asked. IsFrame asked.frame × (asked.frame ≡ frame_of (core_of asked.query))) }
-    ensures inputs { IfOk result (λ asked. asked.inputs ≡ length (core_of asked.query).inputs) }
+    ensures core { IfOk result (λ asked. asked.core ≡ core_of asked.query) }
+    ensures margins { IfOk result (λ asked. margins_of asked.core ≡ Ok asked.margins) }
     ensures only { (query : List StatementTree) (more : List ℕ) → IsAccepted query
         → reader.old ≡ title ++ (query_lines query ++ more)
         → MatchResult result (λ asked. (asked.query ≡ query) × (reader.new ≡ more)) (λ fault. fault ≡ CheckpointFault.OutOfMemory) }
@@ -43,8 +43,8 @@ pub(crate) fn read_query(alloc: Global, reader: &mut Reader<'_>) -> Result<Asked
 // The query of so many statements of which the text is the printing.
 fn asked_of(alloc: Global, count: u64, text: &[u8]) -> Result<Asked, CheckpointFault>
     ensures found { IfOk result (λ asked. IsAccepted asked.query × (length asked.query ≡ count) × (text.now ≡ query_text asked.query)) }
-    ensures frame { IfOk result (λ asked. IsFrame asked.frame × (asked.frame ≡ frame_of (core_of asked.query))) }
-    ensures inputs { IfOk result (λ asked. asked.inputs ≡ length (core_of asked.query).inputs) }
+    ensures core { IfOk result (λ asked. asked.core ≡ core_of asked.query) }
+    ensures margins { IfOk result (λ asked. margins_of asked.core ≡ Ok asked.margins) }
     ensures only { (query : List StatementTree) → IsAccepted query → length query ≡ count → text.now ≡ query_text query
         → MatchResult result (λ asked. asked.query ≡ query) (λ fault. fault ≡ CheckpointFault.OutOfMemory) }
 {
@@ -52,11 +52,11 @@ fn asked_of(alloc: Global, count: u64, text: &[u8]) -> Result<Asked, CheckpointF
     if query.statements().len() as u64 != count || !is_printing(alloc, text, &query)? {
         return Err(CheckpointFault::BadCheckpoint);
     }
-    let (frame, inputs) = plan(alloc, &query)?;
+    let (core, margins) = core_and_margins(alloc, &query)?;
     Ok(Asked {
         query,
-        frame,
-        inputs,
+        core,
+        margins,
     })
 }
 
@@ -79,15 +79,15 @@ fn is_printing(alloc: Global, text: &[u8], query: &Query) -> Result<bool, OutOfM
     Ok(text == printed.as_slice())
 }
 
-// The frame of the query and the number of its inputs, where it is accepted.
-fn plan(alloc: Global, query: &Query) -> Result<(Frame, usize), CheckpointFault>
+// The core and the margins of the query, where it is accepted.
+fn core_and_margins(alloc: Global, query: &Query) -> Result<(Core, Margins), CheckpointFault>
     ensures found { IfOk result (λ found. IsAccepted query.now) }
-    ensures frame { IfOk result (λ found. IsFrame found.0 × (found.0 ≡ frame_of (core_of query.now))) }
-    ensures inputs { IfOk result (λ found. found.1 ≡ length (core_of query.now).inputs) }
+    ensures core { IfOk result (λ found. found.0 ≡ core_of query.now) }
+    ensures margins { IfOk result (λ found. margins_of found.0 ≡ Ok found.1) }
     ensures only { IsAccepted query.now → IfErr result (λ fault. fault ≡ CheckpointFault.OutOfMemory) }
 {
     let _parsed = query.statements();
     let core = check(alloc, query)?;
     let margins = reach(alloc, &core)?;
-    Ok((Frame::new(&core, &margins), core.inputs().len()))
+    Ok((core, margins))
 }

@@ -26,7 +26,8 @@ use Rattle.tilt_stream.proofs.Joined.{snapshots-parted, snapshots-some}
 use Rattle.tilt_chunk.proofs.Lists.{continued, kept-all, new-counted}
 use Rattle.tilt_stream.proofs.Pieces.{last_start-append, length-joined_from, without_last-append}
 use Rattle.tilt_chunk.specs.Cuts.{IsOnward, decided_by}
-use Rattle.tilt_chunk.specs.Emitted.{closed, emitted, given, open_at, open_start}
+use Rattle.tilt_chunk.specs.Emitted.{closed, emitted, open_at, open_start}
+use Rattle.tilt_compiler.specs.Compiled.{given}
 use Rattle.tilt_chunk.specs.Kept.{checkpoint_at, kept_of}
 use Rattle.tilt_chunk.specs.Later.{both, going_on, newly, next, resumed_at}
 use Rattle.tilt_chunk.specs.Law.{IsOneCut}

@@ -12,7 +12,8 @@ use Rattle.tilt_core.specs.Core.{CoreParts, emitted_number}
 use Rattle.tilt_core.specs.Meaning.{meaning}
 use Rattle.tilt_chunk.proofs.OneCut.{decided-most}
 use Rattle.tilt_chunk.specs.Cuts.{decided_by}
-use Rattle.tilt_chunk.specs.Emitted.{closed, emitted, given}
+use Rattle.tilt_chunk.specs.Emitted.{closed, emitted}
+use Rattle.tilt_compiler.specs.Compiled.{given}
 use Rattle.tilt_chunk.specs.declared.cut.Cut.{Cut}
 
 AreSnapshots-closed : (frame : Frame) (last : ℤ) (list : List Snapshot) → AreSnapshots list → AreSnapshots (closed frame last list)

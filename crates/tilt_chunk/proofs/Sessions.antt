@@ -4,13 +4,14 @@ use Rattle.std.proofs.Common.{Ok, inl, inr, refl, sym, ap, ◌∙◌, arith, sub
 use Rattle.std.specs.Prelude.{int_lt}
 use Rattle.std.specs.Int.{int_gap, int_max}
 use Rattle.std.specs.List.{AllByRecursion}
+use Rattle.std.specs.Option.{ForSome}
 use Rattle.std.proofs.lemmas.Bool.{cases_Bool}
 use Rattle.std.proofs.lemmas.Int.{ints, clamps, to_z-of_z}
 use Rattle.std.proofs.lemmas.List.{length-map}
 use Rattle.tilt_base.specs.declared.limits.TheConstants.{T, WIDE}
 use Rattle.tilt_bounds.specs.Margins.{MarginsParts, margins_of}
 use Rattle.tilt_checkpoint.specs.Checkpoint.{KeptParts, CheckpointParts}
-use Rattle.tilt_checkpoint.specs.Decided.{IsFrame, decided, first_kept, frame_of}
+use Rattle.tilt_checkpoint.specs.Decided.{IsFrame, decided, first_kept, frame_of, frame_with}
 use Rattle.tilt_checkpoint.specs.Valid.{IsAccepted, IsCheckpoint, IsCut, IsOpen, IsSeries}
 use Rattle.tilt_checkpoint.specs.declared.frame.Frame.{Frame}
 use Rattle.tilt_stream.specs.Snap.{Snapshot, AreRows, last_end}
@@ -19,7 +20,9 @@ use Rattle.tilt_stream.specs.Stream.{Stream}
 use Rattle.tilt_syntax.specs.Query.{IsQuery}
 use Rattle.tilt_syntax.specs.Tree.{StatementTree}
 use Rattle.tilt_types.specs.Checked.{checked, core_of, core_unless}
-use Rattle.tilt_core.specs.Core.{CoreParts, emitted_number}
+use Rattle.tilt_base.specs.declared.span.Span.{Span}
+use Rattle.tilt_core.specs.Core.{CoreParts, domain_of, emitted_number}
+use Rattle.tilt_core.specs.Needs.{reach}
 use Rattle.tilt_core.specs.Meaning.{meaning}
 use Rattle.tilt_types.specs.WellFormed.{first_fault}
 use Rattle.tilt_types.specs.declared.fault.CheckFault.{CheckFault}
@@ -27,7 +30,8 @@ use Rattle.tilt_chunk.proofs.Lists.{kept_at-again, kept_at-first, last_or-none, 
 use Rattle.tilt_chunk.proofs.OneCut.{decided-most, decided-on, first-on}
 use Rattle.tilt_chunk.proofs.Valid.{StartsIn, all-series, ends-where, is-open, series-again}
 use Rattle.tilt_chunk.specs.Cuts.{IsInRange, IsOnward, decided_by}
-use Rattle.tilt_chunk.specs.Emitted.{closed, given, open_at, open_start}
+use Rattle.tilt_chunk.specs.Emitted.{closed, open_at, open_start}
+use Rattle.tilt_compiler.specs.Compiled.{given}
 use Rattle.tilt_chunk.specs.Handed.{AreBehind, AreCells, all_taken_up, closed_behind, kept_at}
 use Rattle.tilt_chunk.specs.Kept.{checkpoint_at, kept_of}
 use Rattle.tilt_chunk.specs.Later.{both, going_on, kept_again, newly, next, resumed_at}
@@ -206,12 +210,23 @@ module _ (query : List StatementTree) (core : CoreParts) (frame : Frame) (rows k
       (subst (AllByRecursion (λ k. AreCells k.rows)) first-series cells))
 
 -- the tick up to which the output is decided, which was passed on, is the end of the output at most
-pub passed-most : (core : CoreParts) (frame : Frame) (cut : Cut) (last till : ℤ) → frame ≡ frame_of core
+passed-most : (core : CoreParts) (frame : Frame) (cut : Cut) (last till : ℤ) → frame ≡ frame_of core
     → last ≡ decided_by frame cut → till ≡ last
     → till ≤ℤ (frame_of core).end
 passed-most core frame cut last till frame_is last_is till_is =
     let e : till ≡ decided_by (frame_of core) cut = till_is ∙ last_is ∙ ap (λ (f : Frame). decided_by f cut) frame_is in
     subst (λ (t : ℤ). t ≤ℤ (frame_of core).end) (sym e) (decided-most (frame_of core) cut)
+
+-- so a first session runs within the output domain
+pub passed-within : (core : CoreParts) (frame : Frame) (cut : Cut) (from last till : ℤ) → frame ≡ frame_of core → from ≡ frame.start
+    → last ≡ decided_by frame cut → till ≡ last → ForSome (domain_of core.defs) (λ domain. (domain.start ≤ℤ from) × (till ≤ℤ domain.end))
+passed-within core frame cut from last till frame_is from_is last_is till_is =
+    λ domain is.
+    let n = reach (length core.inputs) core.defs in
+    let start : from ≡ domain.start = from_is ∙ ap (λ (f : Frame). f.start) frame_is ∙ ap (λ (over : Option Span). (frame_with over n).start) is in
+    let end : (frame_of core).end ≡ domain.end = ap (λ (over : Option Span). (frame_with over n).end) is in
+    let most = passed-most core frame cut last till frame_is last_is till_is in
+    (omega (arith, ints), omega (arith, ints))
 
 -- there is one list for each input
 pub both-counted : (c : CheckpointParts) (cut : Cut) (new : List (List Snapshot)) → IsCheckpoint c → AreNewRows c.cut cut c.series new

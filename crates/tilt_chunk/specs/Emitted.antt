@@ -1,18 +1,13 @@
 -- What is printed of a query up to the end of a session (our own rule). The rows are one list for each input.
 use Rattle.std.specs.Prelude.{ℤ, if◌then◌else◌, List, Option, None, int_lt}
 use Rattle.tilt_stream.specs.Snap.{Snapshot}
-use Rattle.tilt_stream.specs.Snapshots.{snapshots}
-use Rattle.tilt_core.specs.Core.{CoreParts, emitted_number}
-use Rattle.tilt_core.specs.Meaning.{meaning}
+use Rattle.tilt_compiler.specs.Compiled.{given}
+use Rattle.tilt_core.specs.Core.{CoreParts}
 use Rattle.tilt_checkpoint.specs.Decided.{frame_of}
 use Rattle.tilt_checkpoint.specs.declared.frame.Frame.{Frame}
 use Rattle.tilt_chunk.specs.Cuts.{decided_by}
 use Rattle.tilt_stream.specs.Pieces.{without_last, last_start}
 use Rattle.tilt_chunk.specs.declared.cut.Cut.{Cut}
-
--- the snapshots of what a query means on `(lo, hi]`
-abbrev pub given : CoreParts → List (List Snapshot) → ℤ → ℤ → List Snapshot
-given core rows lo hi = snapshots (meaning rows core.defs (emitted_number core)) lo hi
 
 -- of snapshots up to a tick, those whose end is known: all of them at the end of the output, and before it all but the last one
 abbrev pub closed : Frame → ℤ → List Snapshot → List Snapshot

@@ -7,7 +7,8 @@ use Rattle.tilt_checkpoint.specs.Checkpoint.{KeptParts, CheckpointParts}
 use Rattle.tilt_checkpoint.specs.Decided.{frame_of, decided, first_kept}
 use Rattle.tilt_checkpoint.specs.declared.frame.Frame.{Frame}
 use Rattle.tilt_chunk.specs.Cuts.{decided_by}
-use Rattle.tilt_chunk.specs.Emitted.{given, closed, open_start}
+use Rattle.tilt_chunk.specs.Emitted.{closed, open_start}
+use Rattle.tilt_compiler.specs.Compiled.{given}
 use Rattle.tilt_chunk.specs.NewRows.{added}
 use Rattle.tilt_stream.specs.Pieces.{joined_from, kept}
 use Rattle.tilt_chunk.specs.declared.cut.Cut.{Cut}

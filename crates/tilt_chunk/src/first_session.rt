@@ -1,7 +1,6 @@
 // The first session of a query.
 ghost use Rattle.std.specs.Prelude.{◌≡◌, Ok, IfOk};
-ghost use Rattle.tilt_bounds.specs.Margins.{margins_of};
-ghost use Rattle.tilt_checkpoint.specs.Valid.{IsCut};
+ghost use Rattle.tilt_checkpoint.specs.Valid.{IsCheckpoint, IsCut};
 ghost use Rattle.tilt_chunk.specs.Emitted.{emitted};
 ghost use Rattle.tilt_chunk.specs.Kept.{checkpoint_at};
 ghost use Rattle.tilt_chunk.specs.NewRows.{AreFirstRows};
@@ -9,12 +8,11 @@ ghost use Rattle.tilt_chunk.specs.declared.cut.Cut.TheVariants.{Upto};
 ghost use Rattle.tilt_syntax.specs.Query.{IsQuery};
 ghost use Rattle.tilt_types.specs.Checked.{checked};
 
-use crate::accepted::Accepted;
 use crate::closing::close;
 use crate::handed::{first_rows, keep};
-use crate::stretch::run_on;
 use std::alloc::{AllocError as OutOfMemory, Global};
 use tilt_checkpoint::{Checkpoint, Frame};
+use tilt_compiler::Accepted;
 use tilt_stream::{Rows, SnapList};
 use tilt_syntax::Query;
 
@@ -23,23 +21,23 @@ use tilt_syntax::Query;
 pub fn start(
     alloc: Global,
     query: Query,
-    accepted: &Accepted<'_>,
+    accepted: &Accepted,
     rows: Vec<Rows>,
     upto: i64,
 ) -> Result<(SnapList, Checkpoint), OutOfMemory>
     requires query { IsQuery query }
-    requires core { checked query ≡ Ok accepted.now.core.now }
-    requires margins { margins_of accepted.now.core.now ≡ Ok accepted.now.margins.now }
-    requires rows { AreFirstRows accepted.now.core.now (Upto upto) rows.items }
+    requires core { checked query ≡ Ok accepted.now.core }
+    requires rows { AreFirstRows accepted.now.core (Upto upto) rows.items }
     requires cut { IsCut upto }
-    ensures printed { IfOk result (λ session. session.0 ≡ emitted accepted.now.core.now rows.items (Upto upto)) }
+    ensures printed { IfOk result (λ session. session.0 ≡ emitted accepted.now.core rows.items (Upto upto)) }
     ensures left { IfOk result (λ session. session.1 ≡ checkpoint_at query rows.items upto) }
+    ensures valid { IfOk result (λ session. IsCheckpoint session.1) }
 {
-    let frame = Frame::new(accepted.core, accepted.margins);
+    let frame = Frame::new(accepted.core(), accepted.margins());
     let last = frame.decided(upto);
     let handed = first_rows(alloc, rows)?;
     let series = keep(alloc, &handed, frame.first_kept(upto))?;
-    let list = run_on(alloc, accepted, handed.rows, frame.start, last)?;
+    let list = accepted.run_on(alloc, handed.rows, frame.start, last)?;
     let closed = close(frame, last, list);
     Ok((
         closed.printed,

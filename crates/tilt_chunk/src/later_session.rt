@@ -1,11 +1,11 @@
 // A session behind a checkpoint.
 ghost use Rattle.std.specs.List.{AllByRecursion};
-ghost use Rattle.std.specs.Prelude.{◌≡◌, ◌≤ℤ◌, ℤ, Ok, IfOk, length};
-ghost use Rattle.tilt_bounds.specs.Margins.{margins_of};
+ghost use Rattle.std.specs.Prelude.{◌≡◌, ◌≤ℤ◌, ℤ, IfOk, IfSome, length};
 ghost use Rattle.tilt_checkpoint.specs.Decided.{IsFrame, decided, first_kept, frame_of};
-ghost use Rattle.tilt_checkpoint.specs.Valid.{IsCut, IsOpen};
+ghost use Rattle.tilt_checkpoint.specs.Valid.{IsCheckpoint, IsCut, IsOpen};
 ghost use Rattle.tilt_chunk.specs.Cuts.{IsOnward, IsInRange, decided_by};
-ghost use Rattle.tilt_chunk.specs.Emitted.{given, open_start};
+ghost use Rattle.tilt_chunk.specs.Emitted.{open_start};
+ghost use Rattle.tilt_compiler.specs.Compiled.{given};
 ghost use Rattle.tilt_chunk.specs.Handed.{AreCells, closed_behind, kept_at};
 ghost use Rattle.tilt_chunk.specs.Later.{newly, next_by, resumed_at};
 ghost use Rattle.tilt_chunk.specs.Law.{IsOneCut};
@@ -14,13 +14,12 @@ ghost use Rattle.tilt_stream.specs.Pieces.{joined_from};
 ghost use Rattle.tilt_chunk.specs.declared.cut.Cut.TheVariants.{Upto};
 ghost use Rattle.tilt_types.specs.Checked.{core_of};
 
-use crate::accepted::Accepted;
 use crate::closing::{Closed, close, join_from};
 use crate::cut::Cut;
 use crate::handed::{Handed, keep, rows_behind};
-use crate::stretch::run_on;
 use std::alloc::{AllocError as OutOfMemory, Global};
 use tilt_checkpoint::{Checkpoint, Frame, Kept};
+use tilt_compiler::Accepted;
 use tilt_stream::{Rows, SnapList};
 
 /// A session behind a checkpoint: what is printed newly, and where the session ends by a cut its own checkpoint. The rows are those
@@ -30,24 +29,21 @@ use tilt_stream::{Rows, SnapList};
 pub fn resume(
     alloc: Global,
     checkpoint: Checkpoint,
-    accepted: &Accepted<'_>,
+    accepted: &Accepted,
     rows: Vec<Rows>,
     cut: Cut,
 ) -> Result<(SnapList, Option<Checkpoint>), OutOfMemory>
-    requires core { accepted.now.core.now ≡ core_of checkpoint.query }
-    requires margins { margins_of accepted.now.core.now ≡ Ok accepted.now.margins.now }
+    requires core { accepted.now.core ≡ core_of checkpoint.query }
     requires rows { AreNewRows checkpoint.cut cut checkpoint.series rows.items }
     requires onward { IsOnward checkpoint.cut cut }
     requires range { IsInRange cut }
     ensures newly { IfOk result (λ session. session.0 ≡ newly checkpoint rows.items cut) }
     ensures next { IfOk result (λ session. session.1 ≡ next_by checkpoint rows.items cut) }
+    ensures valid { IfOk result (λ session. IfSome session.1 IsCheckpoint) }
     ensures law { IfOk result (λ _. IsOneCut checkpoint rows.items cut) }
 {
-    // What the core and the margins keep is known from here on.
-    let _ = accepted.core.inputs();
-    let _ = accepted.margins.needs();
     let behind = Behind {
-        frame: Frame::new(accepted.core, accepted.margins),
+        frame: Frame::new(accepted.core(), accepted.margins()),
         cut: checkpoint.cut(),
         begun: checkpoint.open_start(),
     };
@@ -101,23 +97,22 @@ fn decided_by(frame: Frame, cut: Cut) -> i64
 // What is printed newly where the output is decided up to a tick, and the start of the snapshot that is open there.
 fn go_on(
     alloc: Global,
-    accepted: &Accepted<'_>,
+    accepted: &Accepted,
     behind: Behind,
     rows: Vec<Rows>,
     last: i64,
 ) -> Result<Closed, OutOfMemory>
-    requires margins { margins_of accepted.now.core.now ≡ Ok accepted.now.margins.now }
-    requires inputs { length rows.items ≡ length accepted.now.core.now.inputs }
-    requires framed { behind.frame ≡ frame_of accepted.now.core.now }
+    requires inputs { length rows.items ≡ length accepted.now.core.inputs }
+    requires framed { behind.frame ≡ frame_of accepted.now.core }
     requires frame { IsFrame behind.frame }
     requires cut { IsCut behind.cut }
     requires begun { IsOpen behind.frame (decided behind.frame behind.cut) behind.begun }
     requires onward { decided behind.frame behind.cut ≤ℤ last }
     requires high { last ≤ℤ behind.frame.end }
     ensures printed { IfOk result (λ made. made.printed ≡ closed_behind behind.frame behind.cut last
-        (joined_from behind.begun (given accepted.now.core.now rows.items (resumed_at behind.frame behind.cut) last))) }
+        (joined_from behind.begun (given accepted.now.core rows.items (resumed_at behind.frame behind.cut) last))) }
     ensures begun { IfOk result (λ made. made.open_start ≡ open_start behind.frame last
-        (joined_from behind.begun (given accepted.now.core.now rows.items (resumed_at behind.frame behind.cut) last))) }
+        (joined_from behind.begun (given accepted.now.core rows.items (resumed_at behind.frame behind.cut) last))) }
 {
     let frame = behind.frame;
     let decided = frame.decided(behind.cut);
@@ -128,6 +123,6 @@ fn go_on(
         });
     }
     let from = frame.start.max(decided - 1);
-    let list = run_on(alloc, accepted, rows, from, last)?;
+    let list = accepted.run_on(alloc, rows, from, last)?;
     Ok(close(frame, last, join_from(behind.begun, list)))
 }

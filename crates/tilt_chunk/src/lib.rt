@@ -3,21 +3,18 @@
 //! What comes in is a query, or the checkpoint of an earlier session, with the rows up to a cut; what goes out is the snapshots
 //! that are printed by then, and a checkpoint. `start` gives what is printed up to its cut (`printed`), and the checkpoint there
 //! (`left`), by `specs/Emitted` and `Kept`. `resume` gives what is printed newly (`newly`), and the next checkpoint (`next`), by
-//! `specs/Later`; its clause `law` says that sessions print together what one session prints on all rows (`specs/Law`). Both run
-//! the query's code on the ticks that are newly decided alone, and `resume` on the last one before them too, where there is one, so
-//! that it meets the snapshot that is open there.
+//! `specs/Later`; its clause `law` says that sessions print together what one session prints on all rows (`specs/Law`). Each
+//! checkpoint that they leave is valid (`valid`). Both run the query's code on the ticks that are newly decided alone, and `resume`
+//! on the last one before them too, where there is one, so that it meets the snapshot that is open there.
 #![tactic(auto)]
 
-mod accepted;
 mod closing;
 mod cut;
 mod cut_back;
 mod first_session;
 mod handed;
 mod later_session;
-mod stretch;
 
-pub use accepted::Accepted;
 pub use cut::Cut;
 pub use cut_back::{CutBack, next_cut};
 pub use first_session::start;

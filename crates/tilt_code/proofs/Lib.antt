@@ -3,6 +3,7 @@ pub mod Constancy
 pub mod Counts
 pub mod Fronts
 pub mod Instrs
+pub mod Judged
 pub mod LineText
 pub mod Lines
 pub mod Names

@@ -13,10 +13,10 @@ use Rattle.tilt_lexer.specs.Tokens.{mark_text}
 use Rattle.tilt_lexer.specs.Word.{key_text}
 
 -- the first reserved word of the table with this text
-abbrev key_with : List ℕ → Option Key
+abbrev pub key_with : List ℕ → Option Key
 key_with bytes = find (λ k. bytes_eq (key_text k) bytes) KEYS
 
-key_with-text : (k : Key) → key_with (key_text k) ≡ Some k
+pub key_with-text : (k : Key) → key_with (key_text k) ≡ Some k
 key_with-text key.Input = refl
 key_with-text key.Let = refl
 key_with-text key.Emit = refl

@@ -1,10 +1,12 @@
 pub mod Differ
 pub mod Faults
 pub mod Fronts
+pub mod Next
 pub mod Numbers
 pub mod Reading
 pub mod Signs
 pub mod Sound
 pub mod Texts
 pub mod Unique
+pub mod Whole
 pub mod Words

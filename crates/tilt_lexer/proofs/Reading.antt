@@ -24,12 +24,12 @@ front_some kind n bytes front =
 
 module _ (at n : ℕ) (kind : Tok) (bytes after : List ℕ) (front : IsFront kind n bytes) (behind : drop n bytes ≡ after) where
   -- the token at the front, and then those of the rest
-  tokens_from : (more : List Token) → AreTokens (at + n) after more → AreTokens at bytes (record { kind = kind; start = at; end = at + n } ∷ more)
+  pub tokens_from : (more : List Token) → AreTokens (at + n) after more → AreTokens at bytes (record { kind = kind; start = at; end = at + n } ∷ more)
   tokens_from more =
       let At : ℕ → List ℕ → Type 0 = λ m rest. AreTokens (at + m) rest more → AreTokens at bytes (record { kind = kind; start = at; end = at + m } ∷ more) in
       subst (λ m. At m after) (length-take-le n bytes front.fits) (subst (At (length (take n bytes))) behind (λ are. token front.begins front.within are))
 
-  faults_from : (f : LexFault) → IsFaultyAt (at + n) after f → IsFaultyAt at bytes f
+  pub faults_from : (f : LexFault) → IsFaultyAt (at + n) after f → IsFaultyAt at bytes f
   faults_from f =
       let At : ℕ → List ℕ → Type 0 = λ m rest. IsFaultyAt (at + m) rest f → IsFaultyAt at bytes f in
       subst (λ m. At m after) (length-take-le n bytes front.fits) (subst (At (length (take n bytes))) behind (λ is. behind_token front.begins front.within is))

@@ -10,7 +10,7 @@ use Rattle.tilt_lexer.specs.Tokens.{IsTextOf, IsWithin, IsSound, AreTokens, noth
 use Rattle.tilt_lexer.specs.Word.{IsWord, IsReserved}
 
 -- the token of a text is
-sound_kind : (kind : Tok) (text : List ℕ) → IsTextOf kind text → IsWithin kind → IsSound kind
+pub sound_kind : (kind : Tok) (text : List ℕ) → IsTextOf kind text → IsWithin kind → IsSound kind
 sound_kind (tok.Word name) text h w = (subst IsWord (sym h.2) h.0, λ reserved. h.1 (subst IsReserved h.2 reserved))
 sound_kind (tok.Number n) text h w = (omega (arith, ints, h.1), w)
 sound_kind (tok.Key k) text h w = tt

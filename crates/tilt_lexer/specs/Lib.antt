@@ -1,3 +1,4 @@
 pub mod Front
+pub mod Next
 pub mod Tokens
 pub mod Word

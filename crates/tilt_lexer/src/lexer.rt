@@ -60,7 +60,7 @@ fn push_token(
 }
 
 // Whether the byte stands only between tokens.
-fn is_blank(byte: u8) -> bool
+pub(crate) fn is_blank(byte: u8) -> bool
     ensures { result ≡ is_blank byte }
 {
     matches!(byte, b' ' | b'\t' | b'\n' | b'\r')

@@ -6,6 +6,7 @@
 //! reserved (`IsName`).
 #![tactic(auto)]
 
+mod cursor;
 mod fault;
 mod front;
 mod key;
@@ -15,6 +16,7 @@ mod name;
 mod number;
 mod token;
 
+pub use cursor::next_token;
 pub use fault::LexFault;
 pub use key::{Key, reserved};
 pub use lexer::lex;

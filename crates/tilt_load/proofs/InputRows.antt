@@ -8,14 +8,14 @@ use Rattle.tilt_words.specs.Binding.{Binding}
 use Rattle.tilt_load.specs.Inputs.{file_of}
 
 -- the rows in front of others, where there was no refusal
-record AreBoth (first : Result (List Snapshot) Reason) (others : Result (List (List Snapshot)) Reason) (all : List (List Snapshot)) : Type 0 where
-  one : List Snapshot
-  more : List (List Snapshot)
-  one_is : first ≡ Ok one
-  more_is : others ≡ Ok more
-  all_is : all ≡ one ∷ more
+pub record AreBoth (first : Result (List Snapshot) Reason) (others : Result (List (List Snapshot)) Reason) (all : List (List Snapshot)) : Type 0 where
+  pub one : List Snapshot
+  pub more : List (List Snapshot)
+  pub one_is : first ≡ Ok one
+  pub more_is : others ≡ Ok more
+  pub all_is : all ≡ one ∷ more
 
-both_taken : (first : Result (List Snapshot) Reason) (others : Result (List (List Snapshot)) Reason) (all : List (List Snapshot)) → with_rows first others ≡ Ok all → AreBoth first others all
+pub both_taken : (first : Result (List Snapshot) Reason) (others : Result (List (List Snapshot)) Reason) (all : List (List Snapshot)) → with_rows first others ≡ Ok all → AreBoth first others all
 both_taken (Err why) others all is = cc
 both_taken (Ok rows) (Err why) all is = cc
 both_taken (Ok rows) (Ok others) all is = record { one = rows; more = others; one_is = refl; more_is = refl; all_is = cc }
@@ -23,6 +23,18 @@ both_taken (Ok rows) (Ok others) all is = record { one = rows; more = others; on
 both_more : (first : Result (List Snapshot) Reason) (others : Result (List (List Snapshot)) Reason) (one : List Snapshot) (more : List (List Snapshot)) → first
     ≡ Ok one → others ≡ Ok more → with_rows first others ≡ Ok (one ∷ more)
 both_more first others one more p q = rw (p, q) refl
+
+-- there is a list of rows for each input
+pub read_many : (files : List ℕ → List ℕ) (binds : List Binding) (bounds : ℕ → Bounds) (names : List (List ℕ)) (rows : List (List Snapshot))
+    → inputs_read files binds bounds names ≡ Ok rows → length rows ≡ length names
+read_many files binds bounds [] rows is =
+    let none : rows ≡ [] = cc in
+    rw none refl
+read_many files binds bounds (n ∷ ns) rows is =
+    let behind : ℕ → Bounds = λ place. bounds (suc place) in
+    let both = both_taken (input_read files (bounds 0) (file_of binds n) n) (inputs_read files binds behind ns) rows is in
+    let more = read_many files binds behind ns both.more both.more_is in
+    rw both.all_is (ap suc more)
 
 module _ (files : List ℕ → List ℕ) (binds : List Binding) where
   -- one more input is taken, within the bounds of its place

@@ -1,4 +1,4 @@
-pub mod Framed
+pub mod FileCommands
 pub mod InputNames
 pub mod InputRows
 pub mod Loads
@@ -6,5 +6,7 @@ pub mod OneCheckpoint
 pub mod OneCode
 pub mod OneQuery
 pub mod OneSeries
+pub mod ReadRows
+pub mod Told
 pub mod Turns
 pub mod Within

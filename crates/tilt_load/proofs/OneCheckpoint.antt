@@ -1,12 +1,14 @@
 -- A checkpoint file comes to one checkpoint, or to one reason why it is none.
-use Rattle.std.proofs.Common.{◌≡◌, ◌∙◌, ◌<◌, ◌^◌, List, ℕ, length, refl, sym, ap, subst, arith}
+use Rattle.std.proofs.Common.{◌≡◌, ◌≢◌, ◌∙◌, ◌<◌, ◌≤◌, ◌^◌, ◌⊎◌, List, ℕ, length, inl, inr, refl, sym, ap, subst, arith}
+use Rattle.std.proofs.lemmas.Bool.{cases_lt}
+use Rattle.tilt_base.specs.declared.limits.TheConstants.{FILE}
 use Rattle.std.proofs.lemmas.Option.{same_Some, some_pair_parts}
 use Rattle.tilt_checkpoint.specs.Checkpoint.{CheckpointParts, with_query}
 use Rattle.tilt_checkpoint.specs.Decided.{frame_of}
 use Rattle.tilt_checkpoint.specs.Reading.{query_at}
 use Rattle.tilt_checkpoint.specs.Spelling.{body_lines, spelling}
 use Rattle.tilt_checkpoint.specs.Valid.{IsCheckpoint}
-use Rattle.tilt_checkpoint.proofs.Decoded.{body_of, valid-read}
+use Rattle.tilt_checkpoint.proofs.Decoding.{body_of, valid-read}
 use Rattle.tilt_checkpoint.proofs.Queries.{query-again}
 use Rattle.tilt_lexer.specs.Tokens.{AreTokens}
 use Rattle.tilt_syntax.proofs.Law.{reads_back}
@@ -14,10 +16,10 @@ use Rattle.tilt_syntax.specs.Printing.{query_text}
 use Rattle.tilt_syntax.specs.Query.{IsQuery}
 use Rattle.tilt_syntax.specs.Tree.{StatementTree}
 use Rattle.tilt_types.specs.Checked.{core_of}
-use Rattle.tilt_load.proofs.Framed.{accepted_frame}
+use Rattle.tilt_checkpoint.proofs.Framed.{accepted_frame}
 use Rattle.tilt_load.specs.CheckpointFile.{TakesCheckpoint, RefusesCheckpoint, long, of_none}
 use Rattle.tilt_load.specs.Load.{IsTooLong}
-use Rattle.tilt_report.specs.Report.{Reason}
+use Rattle.tilt_report.specs.Report.{Reason, file_too_long, bad_checkpoint}
 
 -- the lines of a checkpoint behind its query
 abbrev rest_of : CheckpointParts → List ℕ
@@ -68,3 +70,17 @@ module _ (name bytes : List ℕ) where
   -- a file that is too long is no checkpoint
   pub checkpoint_too_long : (why : Reason) → IsTooLong name bytes why → RefusesCheckpoint name bytes why
   checkpoint_too_long why is = rw is.0 (long is.1)
+
+  -- one of the two always, where each text is that of a valid checkpoint or of none
+  module _ (decodes : ((c : CheckpointParts) × IsCheckpoint c × (bytes ≡ spelling c)) ⊎ ((c : CheckpointParts) → IsCheckpoint c → bytes ≢ spelling c)) where
+    by_spelling : length bytes ≤ FILE → ((c : CheckpointParts) × IsCheckpoint c × (bytes ≡ spelling c)) ⊎ ((c : CheckpointParts) → IsCheckpoint c → bytes ≢ spelling c)
+        → ((c : CheckpointParts) × TakesCheckpoint bytes c) ⊎ ((r : Reason) × RefusesCheckpoint name bytes r)
+    by_spelling short (inl (c, valid, spelled)) = inl (c, record { short = short; valid = valid; spelled = spelled })
+    by_spelling short (inr none) = inr (bad_checkpoint, of_none short none)
+
+    by_length : (FILE < length bytes) ⊎ (length bytes ≤ FILE) → ((c : CheckpointParts) × TakesCheckpoint bytes c) ⊎ ((r : Reason) × RefusesCheckpoint name bytes r)
+    by_length (inl over) = inr (file_too_long name, long over)
+    by_length (inr short) = by_spelling short decodes
+
+    pub checkpoint_taken_or_refused : ((c : CheckpointParts) × TakesCheckpoint bytes c) ⊎ ((r : Reason) × RefusesCheckpoint name bytes r)
+    checkpoint_taken_or_refused = by_length (cases_lt FILE (length bytes))

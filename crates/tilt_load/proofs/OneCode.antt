@@ -1,16 +1,21 @@
 -- A code file comes to one code, or to one reason why it is none.
-use Rattle.std.proofs.Common.{◌≡◌, ◌∙◌, ◌≤◌, List, ℕ, length, Result, Ok, Err, Option, None, Some, refl, sym, ap, arith}
+use Rattle.std.proofs.Common.{◌≡◌, ◌∙◌, ◌<◌, ◌≤◌, ◌⊎◌, List, ℕ, length, inl, inr, Result, Ok, Err, Option, None, Some, refl, sym, ap, arith}
 use Rattle.std.specs.Prelude.{⊤}
 use Rattle.tilt_base.specs.declared.limits.TheConstants.{FILE}
+use Rattle.std.proofs.lemmas.Bool.{cases_lt}
+use Rattle.tilt_code.proofs.Judged.{listed_or_bad}
 use Rattle.tilt_code.proofs.Outcomes.{line-bad, code-read, bad-read}
 use Rattle.tilt_code.specs.Code.{CodeParts}
 use Rattle.tilt_code.specs.Fault.{IsBadLine, IsBadReference}
+use Rattle.tilt_code.specs.Listing.{listing}
 use Rattle.tilt_code.specs.Partial.{PartialCode, Progress, code_of, read_text}
 use Rattle.tilt_code.specs.declared.fault.CodeFault.{CodeFault}
 use Rattle.tilt_code.specs.declared.fault.CodeFault.TheVariants as fault
+use Rattle.tilt_code.specs.References.{IsCode}
 use Rattle.tilt_load.specs.CodeFile.{TakesCode, RefusesCode, long, line, reference}
 use Rattle.tilt_load.specs.Load.{IsLoadFault, IsTooLong}
-use Rattle.tilt_report.specs.Report.{Reason, report_of_code}
+use Rattle.tilt_report.specs.Report.{Reason, file_too_long, report_of_code}
+use Rattle.tilt_report.specs.Report as report
 
 same_ok : {p q : Progress} → (let x : Result Progress ℕ = Ok p in x ≡ Ok q) → p ≡ q
 same_ok e = cc
@@ -83,3 +88,26 @@ pub code_refuses : (name bytes : List ℕ) (f : CodeFault) → length bytes ≤ 
 code_refuses name bytes (fault.BadCode n) short bad_line bad_reference = λ _. line n short (bad_line n refl)
 code_refuses name bytes (fault.BadReference i n) short bad_line bad_reference = λ _. reference i n short (bad_reference i n refl)
 code_refuses name bytes fault.OutOfMemory short bad_line bad_reference = tt
+
+-- one of the two always
+module _ (name bytes : List ℕ) where
+  abbrev IsListed : Type 0
+  IsListed = (code : CodeParts) × IsCode code × (bytes ≡ listing code)
+
+  abbrev IsBad : Type 0
+  IsBad = ((n : ℕ) × IsBadLine bytes n) ⊎ ((in_loop : ℕ) × (n : ℕ) × IsBadReference bytes in_loop n)
+
+  abbrev IsEither : Type 0
+  IsEither = ((c : CodeParts) × TakesCode bytes c) ⊎ ((r : Reason) × RefusesCode name bytes r)
+
+  by_listing : length bytes ≤ FILE → IsListed ⊎ IsBad → IsEither
+  by_listing short (inl (c, good, listed)) = inl (c, record { short = short; good = good; listed = listed })
+  by_listing short (inr (inl (n, bad))) = inr (report.bad_code n, line n short bad)
+  by_listing short (inr (inr (in_loop, n, bad))) = inr (report.bad_reference in_loop n, reference in_loop n short bad)
+
+  by_length : (FILE < length bytes) ⊎ (length bytes ≤ FILE) → IsEither
+  by_length (inl over) = inr (file_too_long name, long over)
+  by_length (inr short) = by_listing short (listed_or_bad bytes)
+
+  pub code_taken_or_refused : ((c : CodeParts) × TakesCode bytes c) ⊎ ((r : Reason) × RefusesCode name bytes r)
+  code_taken_or_refused = by_length (cases_lt FILE (length bytes))

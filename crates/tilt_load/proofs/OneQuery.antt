@@ -1,16 +1,28 @@
 -- A query file comes to one core, or to one reason why it has none.
-use Rattle.std.proofs.Common.{◌≡◌, ◌∙◌, List, ℕ, Result, Ok, Err, refl, sym, ap, arith}
+use Rattle.std.proofs.Common.{◌≡◌, ◌∙◌, ◌<◌, ◌≤◌, ◌⊎◌, List, [], ℕ, length, Option, None, Some, Result, Ok, Err, inl, inr, refl, sym, ap, subst, arith}
+use Rattle.std.proofs.lemmas.Bool.{cases_lt}
+use Rattle.tilt_base.specs.declared.limits.TheConstants.{FILE}
+use Rattle.tilt_lexer.proofs.Sound.{sound}
+use Rattle.tilt_lexer.proofs.Whole as whole
 use Rattle.tilt_lexer.proofs.Unique.{same_fault, tokens_or_fault, same_tokens}
-use Rattle.tilt_syntax.specs.Query.{kinds}
+use Rattle.tilt_lexer.specs.Tokens.{AreTokens, IsFaultyAt}
+use Rattle.tilt_lexer.specs.declared.fault.LexFault.{LexFault}
+use Rattle.tilt_lexer.specs.declared.token.Token.{Token}
+use Rattle.tilt_syntax.proofs.Parsing.{sound-kinds}
+use Rattle.tilt_syntax.specs.Query.{AreSound, IsQuery, IsQueryOf, IsRefused, kinds}
+use Rattle.tilt_syntax.proofs.Judged.{query_or_refused}
+use Rattle.tilt_syntax.specs.declared.fault.SyntaxFault.{SyntaxFault}
 use Rattle.tilt_syntax.proofs.Refused.{one_refusal, query-or-refused}
 use Rattle.tilt_syntax.proofs.Unique.{one_query}
 use Rattle.tilt_syntax.specs.Tree.{StatementTree}
 use Rattle.tilt_bounds.specs.Margins.{MarginsParts, margins_of}
-use Rattle.tilt_types.specs.Checked.{checked}
+use Rattle.tilt_types.specs.Checked.{checked, core_of, core_unless}
+use Rattle.tilt_types.specs.WellFormed.{first_fault}
 use Rattle.tilt_core.specs.Core.{CoreParts}
 use Rattle.tilt_core.specs.Needs.{Need}
 use Rattle.tilt_types.specs.declared.fault.CheckFault.{CheckFault}
-use Rattle.tilt_report.specs.Report.{Reason, Report, refusal, report_of_place, report_of_syntax, report_of_check}
+use Rattle.tilt_report.specs.Report.{Reason, Report, refusal, file_too_long, too_far, report_of_place, report_of_syntax, report_of_check}
+use Rattle.tilt_load.proofs.Told.{place_told, refused_told, check_told}
 use Rattle.tilt_load.specs.QueryFile.{HasCore, HasQuery, TakesQuery, HasNoCore, RefusesQuery, no_core, far, long, no_tokens, no_statements, ill_formed}
 
 same_err : {f g : CheckFault} → (let x : Result CoreParts CheckFault = Err f in x ≡ Err g) → f ≡ g
@@ -110,3 +122,55 @@ query_once bytes q p c d has has' =
 pub query_core : (bytes : List ℕ) (q : List StatementTree) (c : CoreParts) → HasQuery bytes q c → HasCore bytes c
 query_core bytes q c has =
     record { short = has.short; tokens = has.tokens; lexed = has.lexed; query = q; parsed = has.parsed; accepted = has.accepted }
+
+-- a text is this query, which is well formed and looks no farther than a query may
+pub record IsQueryFile (bytes : List ℕ) : Type 0 where
+  pub query : List StatementTree
+  pub margins : MarginsParts
+  pub says : HasQuery bytes query (core_of query)
+  pub near : margins_of (core_of query) ≡ Ok margins
+
+-- tokens of a text are those that a text may have
+sounds : {bytes : List ℕ} (tokens : List Token) → AreTokens 0 bytes tokens → AreSound (kinds tokens)
+sounds tokens lexed = sound-kinds tokens (sound lexed)
+
+-- each text is such a query, or it is refused
+module _ (name bytes : List ℕ) where
+  abbrev IsEither : Type 0
+  IsEither = IsQueryFile bytes ⊎ ((r : Reason) × RefusesQuery name bytes r)
+
+  module _ (short : length bytes ≤ FILE) where
+    by_margins : (q : List StatementTree) → HasQuery bytes q (core_of q) → (m : Result MarginsParts Need) → margins_of (core_of q) ≡ m → IsEither
+    by_margins q says (Ok m) near = inl (record { query = q; margins = m; says = says; near = near })
+    by_margins q says (Err widest) is = inr (too_far widest.back widest.ahead, far (core_of q) widest (query_core bytes q (core_of q) says) is)
+
+    module _ (tokens : List Token) (lexed : AreTokens 0 bytes tokens) where
+      by_check : (q : List StatementTree) → IsQueryOf (kinds tokens) q → (found : Option CheckFault) → first_fault 1 [] q ≡ found → IsEither
+      by_check q parsed None is =
+          let good : checked q ≡ Ok (core_of q) = ap (λ (o : Option CheckFault). core_unless o (core_of q)) is in
+          let valid : IsQuery q = record { tokens = kinds tokens; sound = sounds tokens lexed; parsed = parsed } in
+          by_margins q (record { short = short; tokens = tokens; lexed = lexed; parsed = parsed; valid = valid; accepted = good })
+          (margins_of (core_of q)) refl
+      by_check q parsed (Some f) is =
+          let bad : checked q ≡ Err f = ap (λ (o : Option CheckFault). core_unless o (core_of q)) is in
+          let told = check_told q f bad in
+          inr (told.0, no_core (ill_formed tokens q f short lexed parsed bad told.1))
+
+      by_parse : ((q : List StatementTree) × IsQueryOf (kinds tokens) q) ⊎ ((f : SyntaxFault) × IsRefused (kinds tokens) f) → IsEither
+      by_parse (inl (q, parsed)) = by_check q parsed (first_fault 1 [] q) refl
+      by_parse (inr (f, refused)) =
+          let told = refused_told (kinds tokens) f refused in
+          inr (told.0, no_core (no_statements tokens f short lexed refused told.1))
+
+    by_lex : ((tokens : List Token) × AreTokens 0 bytes tokens) ⊎ ((f : LexFault) × IsFaultyAt 0 bytes f) → IsEither
+    by_lex (inl (tokens, lexed)) = by_parse tokens lexed (query_or_refused (kinds tokens) (sounds tokens lexed))
+    by_lex (inr (f, faulty)) =
+        let told = place_told 0 bytes f faulty in
+        inr (told.0, no_core (no_tokens f short faulty told.1))
+
+  by_length : (FILE < length bytes) ⊎ (length bytes ≤ FILE) → IsEither
+  by_length (inl over) = inr (file_too_long name, no_core (long over))
+  by_length (inr short) = by_lex short (whole.tokens_or_fault bytes)
+
+  pub query_taken_or_refused : IsQueryFile bytes ⊎ ((r : Reason) × RefusesQuery name bytes r)
+  query_taken_or_refused = by_length (cases_lt FILE (length bytes))

@@ -16,17 +16,17 @@ use Rattle.tilt_stream.specs.Snap.{Snapshot}
 use Rattle.tilt_load.specs.SeriesFiles.{AreWithin, IsWithin}
 
 -- both steps came to something
-bind_ok : {A B : Type 0} (read : Result A SeriesFault) (next : A → Result B SeriesFault) (b : B) → read >>= next ≡ Ok b
+pub bind_ok : {A B : Type 0} (read : Result A SeriesFault) (next : A → Result B SeriesFault) (b : B) → read >>= next ≡ Ok b
     → (a : A) × (read ≡ Ok a) × (next a ≡ Ok b)
 bind_ok (Ok a) next b e = (a, refl, e)
 bind_ok (Err fault) next b e = cc e
 
 -- a test that finds no fault
-passed : (test : Bool) (fault : SeriesFault) (more : Option SeriesFault) → (if test then Some fault else more) ≡ None → (test ≡ false) × (more ≡ None)
+pub passed : (test : Bool) (fault : SeriesFault) (more : Option SeriesFault) → (if test then Some fault else more) ≡ None → (test ≡ false) × (more ≡ None)
 passed true fault more e = cc e
 passed false fault more e = (refl, e)
 
-not_below : (tick : ℤ) (bound : Option ℤ) → is_below tick bound ≡ false → ForSome bound (λ b. b ≤ℤ tick)
+pub not_below : (tick : ℤ) (bound : Option ℤ) → is_below tick bound ≡ false → ForSome bound (λ b. b ≤ℤ tick)
 not_below tick None h = λ b is. absurd (none-some b is)
 not_below tick (Some bound) h = λ b is. rw (← same_Some bound b is) (grind (arith, ints))
 
@@ -51,7 +51,7 @@ time_within bounds row s e =
     )
 
 -- a row that is taken has no fault
-no_fault : (fault : Option SeriesFault) (row s : Snapshot) → row_unless fault row ≡ Ok s → (fault ≡ None) × (row ≡ s)
+pub no_fault : (fault : Option SeriesFault) (row s : Snapshot) → row_unless fault row ≡ Ok s → (fault ≡ None) × (row ≡ s)
 no_fault None row s e = (refl, cc e)
 no_fault (Some fault) row s e = cc e
 
@@ -77,7 +77,7 @@ later bounds first within some (s ∷ ss) h = (
   later bounds first within some ss h.1,
 )
 
-same_list : (xs ys : List Snapshot) → (let x : Result (List Snapshot) SeriesFault = Ok xs in x ≡ Ok ys) → xs ≡ ys
+pub same_list : (xs ys : List Snapshot) → (let x : Result (List Snapshot) SeriesFault = Ok xs in x ≡ Ok ys) → xs ≡ ys
 same_list xs ys e = cc e
 
 rows_within : (bounds : Bounds) (row : ℕ) (left : List (List (List ℕ))) (rows : List Snapshot) → rows_of bounds row left ≡ Ok rows
@@ -92,11 +92,11 @@ rows_within bounds row (fields ∷ more) rows e =
     rw (← same_list (first.0 ∷ others.0) rows others.2) (one.0, later bounds first.0 one.0 one.1 others.0 next)
 
 -- a result that isn't refused by a test in front
-unless_bad : (test : Bool) (read : Result (List Snapshot) SeriesFault) (rows : List Snapshot) → (if test then Err BadHeader else read) ≡ Ok rows → read ≡ Ok rows
+pub unless_bad : (test : Bool) (read : Result (List Snapshot) SeriesFault) (rows : List Snapshot) → (if test then Err BadHeader else read) ≡ Ok rows → read ≡ Ok rows
 unless_bad true read rows e = cc e
 unless_bad false read rows e = e
 
-where_good : (test : Bool) (read : Result (List Snapshot) SeriesFault) (rows : List Snapshot) → (if test then read else Err BadHeader) ≡ Ok rows → read ≡ Ok rows
+pub where_good : (test : Bool) (read : Result (List Snapshot) SeriesFault) (rows : List Snapshot) → (if test then read else Err BadHeader) ≡ Ok rows → read ≡ Ok rows
 where_good true read rows e = e
 where_good false read rows e = cc e
 

@@ -1,5 +1,7 @@
 pub mod CheckpointFile
 pub mod CodeFile
+pub mod Does
+pub mod FileCommand
 pub mod Inputs
 pub mod Load
 pub mod QueryFile

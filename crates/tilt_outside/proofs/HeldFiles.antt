@@ -1,5 +1,5 @@
 -- Files in a list, by name.
-use Rattle.std.proofs.Common.{◌≡◌, ◌≢◌, ◌≤◌, ◌+◌, ◌-◌, ◌^◌, inl, inr, ℕ, min, length, unwrap_or, Bool, true, false, List, []}
+use Rattle.std.proofs.Common.{◌≡◌, ◌≢◌, inl, inr, ℕ, Bool, true, false, List, []}
 use Rattle.std.proofs.Common.{◌∷◌, ◌++◌, get_or, set, Option, None, Some, find, refl, sym, ◌∙◌, ap, arith, position}
 use Rattle.std.specs.Option.{option_map, option_map_or, option_or}
 use Rattle.std.specs.List.{position_or_len, slice_get}
@@ -11,7 +11,7 @@ use Rattle.std.proofs.lemmas.List.Quantifiers.{position-Some}
 use Rattle.std.proofs.lemmas.List.Sums.{position_or_len_is}
 use Rattle.std.proofs.lemmas.Option.{slice_get-get_or, slice_get_cases}
 use Rattle.std.proofs.lemmas.Slice.Eq.{bytes_eq-Decides}
-use Rattle.tilt_outside.specs.MemShelf.{HeldFile, ShelfState, file_named, bytes_held, content_of, count_from, room_of, HoldsInstead, ReadFails}
+use Rattle.tilt_outside.specs.HeldFiles.{HeldFile, file_named, bytes_held, room_of, HoldsInstead}
 
 -- whether a file has the name
 abbrev pub has_name : List ℕ → HeldFile → Bool
@@ -89,6 +89,9 @@ room_of-at files name i file at is = ap (λ (o : Option HeldFile). option_map_or
 pub bytes_held-none : (files : List HeldFile) (name : List ℕ) → position (has_name name) files ≡ None → bytes_held files name ≡ None
 bytes_held-none files name at = ap (option_map (λ (f : HeldFile). f.bytes)) (file_named-none files name at)
 
+pub room_of-none : (files : List HeldFile) (name : List ℕ) → position (has_name name) files ≡ None → room_of files name ≡ 0
+room_of-none files name at = ap (λ (o : Option HeldFile). option_map_or (λ (f : HeldFile). f.room) o 0) (file_named-none files name at)
+
 -- other bytes in the file of the name
 pub HoldsInstead-bytes : (files : List HeldFile) (name : List ℕ) (i : ℕ) (file : HeldFile) (bytes : List ℕ) → position (has_name name) files ≡ Some i → file
     ≡ get_or files i file → HoldsInstead files (set files i (record file { bytes = bytes })) name bytes (room_of files name)
@@ -96,10 +99,3 @@ HoldsInstead-bytes files name i file bytes at is =
     let there = position-Some (has_name name) files i file at in
     let named : file.name ≡ name = ap (λ (f : HeldFile). f.name) is ∙ (bytes_eq-Decides (get_or files i file).name name).0 there.1 in
     rw (room_of-at files name i file at is) (HoldsInstead-set files (record file { bytes = bytes }) name i named at)
-
--- a read of a name that is held fails where 64 bits don't hold the count of bytes given
-pub ReadFails-full : (shelf : ShelfState) (name bytes : List ℕ) (at room count : ℕ) → Some bytes ≡ bytes_held shelf.files name → count
-    ≡ min room (length bytes - at) → 2 ^ 64 ≤ shelf.given + count → ReadFails shelf name (count_from shelf name at room)
-ReadFails-full shelf name bytes at room count held is full =
-    let content : bytes ≡ content_of shelf.files name = ap (λ (o : Option (List ℕ)). unwrap_or o []) held in
-    inr (inr (rw (← content, ← is) full))

@@ -1,3 +1,4 @@
+pub mod Counts
 pub mod Fronts
 pub mod HeldFiles
 pub mod MoreReads

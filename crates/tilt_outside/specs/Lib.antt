@@ -2,8 +2,11 @@ pub mod Counts
 pub mod DiskShelf
 pub mod Faults
 pub mod Files
+pub mod HeldFiles
 pub mod MemShelf
 pub mod MemSink
 pub mod Reads
 pub mod StdSink
+pub mod SureShelf
+pub mod SureSink
 pub mod Written

@@ -2,7 +2,9 @@
 ghost use Rattle.std.specs.Prelude.{⊤, [], ◌≡◌, ◌≤◌, length, IfOk};
 
 use crate::failed::Failed;
+use crate::replacing::save_whole;
 use crate::shelf::Shelf;
+use crate::uninterrupted::TRIES;
 use std::alloc::Global;
 use std::fs;
 use std::io::{self, ErrorKind, Read, Seek, SeekFrom};
@@ -16,6 +18,7 @@ use std::rt::Files;
 pub struct DiskShelf<'a, R: Files> {
     alloc: Global,
     files: &'a R,
+    program: u32,
     last: Option<OpenedFile<R::File>>,
     read_faults: u64,
     save_faults: u64,
@@ -39,13 +42,15 @@ impl<'a, R: Files> Model for DiskShelf<'a, R> {
 }
 
 impl<'a, R: Files> DiskShelf<'a, R> {
-    /// A shelf with no fault yet, that has given nothing. It takes memory for the name of the file that it keeps open.
-    pub fn new(alloc: Global, files: &'a R) -> DiskShelf<'a, R>
+    /// A shelf with no fault yet, that has given nothing. It takes memory for the names of files. `program` is a number
+    /// that no other running program has, as that of its process: a save makes a new file with this number in its name.
+    pub fn new(alloc: Global, files: &'a R, program: u32) -> DiskShelf<'a, R>
         ensures { result ≡ record { read_faults = 0; save_faults = 0; given = 0 } }
     {
         DiskShelf {
             alloc,
             files,
+            program,
             last: None,
             read_faults: 0,
             save_faults: 0,
@@ -96,7 +101,7 @@ fn open_at<R: Files>(
 fn read_some<F: Read>(file: &mut F, room: &mut [u8]) -> io::Result<usize>
     ensures { IfOk result (λ count. count ≤ length room.old) }
 {
-    for _ in 0..u64::MAX {
+    for _ in 0..TRIES {
         match file.read(room) {
             Err(error) if error.kind() == ErrorKind::Interrupted => {}
             answer => return answer,
@@ -121,10 +126,8 @@ impl<'a, R: Files> Shelf for DiskShelf<'a, R> {
     ghost lends = { λ _. ⊤ };
 
     fn read_at(&mut self, name: &str, at: u64, room: &mut [u8]) -> Result<usize, Failed> {
-        if let Ok(count) = self.read_from(name, at, room)
-            && let Some(given) = self.given.checked_add(count as u64)
-        {
-            self.given = given;
+        if let Ok(count) = self.read_from(name, at, room) {
+            self.given = self.given.saturating_add(count as u64);
             return Ok(count);
         }
         self.read_faults = self.read_faults.saturating_add(1);
@@ -133,13 +136,11 @@ impl<'a, R: Files> Shelf for DiskShelf<'a, R> {
 
     fn save(&mut self, name: &str, bytes: &[u8]) -> Result<(), Failed> {
         self.last = None;
-        match fs::write(self.files, name, bytes) {
-            Ok(()) => Ok(()),
-            Err(_) => {
-                self.save_faults = self.save_faults.saturating_add(1);
-                Err(Failed)
-            }
+        if save_whole(self.alloc, self.files, self.program, name, bytes).is_ok() {
+            return Ok(());
         }
+        self.save_faults = self.save_faults.saturating_add(1);
+        Err(Failed)
     }
 
     ghost takes_fewer = { λ _ _ _ _ _ takes. takes };

@@ -1,4 +1,4 @@
-// A file in memory, for the shelf in memory.
+// A file in memory, for the shelves in memory.
 ghost use Rattle.std.specs.Prelude.{◌≡◌, ◌≤◌, length, max, IfOk};
 ghost use Rattle.std.specs.Str.{bytes_eq};
 
@@ -15,7 +15,7 @@ pub(crate) struct HeldFile {
 
 impl Model for HeldFile {
     ghost use Rattle.std.specs.Prelude.{◌≤◌, string_bytes, vec_capacity};
-    ghost use Rattle.tilt_outside.specs.MemShelf.{HeldFile as FileValue};
+    ghost use Rattle.tilt_outside.specs.HeldFiles.{HeldFile as FileValue};
 
     ghost Value = { FileValue };
 

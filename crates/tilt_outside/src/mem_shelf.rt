@@ -1,16 +1,17 @@
 // A shelf in memory.
-ghost use Rattle.std.specs.Prelude.{◌≡◌, ◌≢◌, ◌⊎◌, ◌<◌, ◌≤◌, ◌+◌, ◌-◌, ◌^◌, ◌++◌, ◌↔◌, ◌∷◌, [], ⊤, List, ℕ};
-ghost use Rattle.std.specs.Prelude.{length, take, drop, min, max, position, option_copied, nat_lt, IfOk, IsErr, OnOk, OnErr, MatchResult};
-ghost use Rattle.std.specs.Bool.{IsFalse, OnTrue, OnFalse};
-ghost use Rattle.std.specs.Str.{bytes_eq};
+ghost use Rattle.std.specs.Prelude.{◌≡◌, ◌≢◌, ◌⊎◌, ◌<◌, ◌≤◌, ◌-◌, ◌++◌, ◌↔◌, ◌∷◌, [], ⊤, List, ℕ};
+ghost use Rattle.std.specs.Prelude.{length, take, drop, min, max, position, option_copied, IfOk, IsErr, OnOk, OnErr, MatchResult};
+ghost use Rattle.tilt_outside.specs.Counts.{added_count};
 ghost use Rattle.tilt_outside.specs.Faults.{HasCause};
 ghost use Rattle.tilt_outside.specs.Files.{IsNextPiece};
 ghost use Rattle.tilt_outside.specs.Reads.{OnlyReads};
-ghost use Rattle.tilt_outside.specs.MemShelf.{bytes_held, content_of, count_from, HasNoRoom, room_of, HoldsInstead, ReadFails, SaveFails};
+ghost use Rattle.tilt_outside.specs.HeldFiles.{bytes_held, content_of, count_in, room_of, HoldsInstead};
+ghost use Rattle.tilt_outside.specs.MemShelf.{ReadFails, SaveFails};
 ghost use Rattle.tilt_outside.specs.MemShelf.{after_call, after_read, after_read_fault, after_save_fault};
 
 use crate::failed::Failed;
 use crate::held_file::HeldFile;
+use crate::held_files::{copy_from, count_from, find_bytes, put_file, replace_bytes};
 use crate::shelf::Shelf;
 use std::alloc::{AllocError as OutOfMemory, Global};
 use std::marker::Model;
@@ -78,7 +79,7 @@ impl MemShelf {
         find_bytes(&self.files, name)
     }
 
-    /// How many bytes the reads have given so far.
+    /// How many bytes the reads have given so far. The count stops at the end of 64 bits.
     pub fn given(&self) -> u64
         ensures { result ≡ self.now.given }
     {
@@ -93,60 +94,6 @@ impl MemShelf {
         self.failing.push(call)?;
         Ok(())
     }
-}
-
-// Where the file of that name stands.
-fn place_of(files: &[HeldFile], name: &str) -> Option<usize>
-    ensures { result ≡ position (λ file. bytes_eq file.name name.now) files.now }
-{
-    files.iter().position(|file| file.is_named(name))
-}
-
-// What the file of that name holds.
-fn find_bytes<'a>(files: &'a [HeldFile], name: &str) -> Option<&'a [u8]>
-    ensures { option_copied result ≡ bytes_held files.now name.now }
-{
-    let place = place_of(files, name)?;
-    let file = &files[place];
-    Some(file.bytes())
-}
-
-// Puts the file in the place of the one of its name, or behind all.
-fn put_file(files: &mut Vec<HeldFile>, name: &str, file: HeldFile) -> Result<(), OutOfMemory>
-    requires { file.name ≡ name.now }
-    ensures held { OnOk result (HoldsInstead files.old.items files.new.items name.now file.bytes file.room) }
-    ensures err { OnErr result (files.new.items ≡ files.old.items) }
-{
-    match place_of(files, name) {
-        Some(place) => files[place] = file,
-        None => files.push(file)?,
-    }
-    Ok(())
-}
-
-// How many bytes there are from a place on, and fit a room of that size.
-fn count_from(bytes: &[u8], at: u64, room: usize) -> usize
-    ensures { result ≡ min room (length bytes.now - at) }
-{
-    let start = bytes.len().min(at as usize);
-    room.min(bytes.len() - start)
-}
-
-// Whether 64 bits hold the count of bytes given, where so many more are given.
-fn can_count(given: u64, count: usize) -> bool
-    ensures { result ≡ nat_lt (given + count) (2 ^ 64) }
-{
-    given.checked_add(count as u64).is_some()
-}
-
-// Puts so many bytes from a place on into the front of the room.
-fn copy_from(bytes: &[u8], at: u64, count: usize, room: &mut [u8])
-    requires in_room { count ≤ length room.old }
-    requires there { count ≤ length bytes.now - at }
-    ensures { room.new ≡ take count (drop at bytes.now) ++ drop count room.old }
-{
-    let start = bytes.len().min(at as usize);
-    room[..count].copy_from_slice(&bytes[start..start + count]);
 }
 
 impl Shelf for MemShelf {
@@ -164,19 +111,19 @@ impl Shelf for MemShelf {
 
     ghost lends = { λ _. ⊤ };
 
-    /// Fails exactly where the name isn't held, the number of the call is listed, or 64 bits don't hold the count of bytes
-    /// given. It gives as many bytes as there are from `at` on and fit the room.
+    /// Fails exactly where the name isn't held or the number of the call is listed. It gives as many bytes as there are
+    /// from `at` on and fit the room.
     fn read_at(&mut self, name: &str, at: u64, room: &mut [u8]) -> Result<usize, Failed>
         requires space { 0 < length room.old }
         ensures count { IfOk result (λ n. n ≤ length room.old) }
         ensures piece { ⊤ → IfOk result (λ n. IsNextPiece (content_of self.old.files name.now) at room.new n) }
-        ensures given { MatchResult result (λ n. self.new.given ≡ self.old.given + n) (λ _. self.new.given ≡ self.old.given) }
+        ensures given { MatchResult result (λ n. self.new.given ≡ added_count self.old.given n) (λ _. self.new.given ≡ self.old.given) }
         ensures cause { HasCause self.old.read_faults self.new.read_faults result }
         ensures rest { OnlyReads (λ shelf. content_of shelf.files) (λ shelf. shelf.read_faults) (λ shelf. shelf.save_faults)
             (λ _ _ _. ⊤) self.old self.new }
 
-        ensures fails { IsErr result ↔ ReadFails self.old name.now (count_from self.old name.now at (length room.old)) }
-        ensures exact { IfOk result (λ n. n ≡ count_from self.old name.now at (length room.old)) }
+        ensures fails { IsErr result ↔ ReadFails self.old name.now }
+        ensures exact { IfOk result (λ n. n ≡ count_in (content_of self.old.files name.now) at (length room.old)) }
         ensures ok { IfOk result (λ n. self.new ≡ after_read self.old n) }
         ensures room { IfOk result (λ n. room.new
             ≡ take n (drop at (content_of self.old.files name.now)) ++ drop n room.old) }
@@ -186,13 +133,12 @@ impl Shelf for MemShelf {
         self.calls = self.calls.saturating_add(1);
         let is_listed = self.failing.contains(&self.calls);
         match find_bytes(&self.files, name) {
-            Some(bytes) if !is_listed && can_count(self.given, count_from(bytes, at, room.len())) =>
-                {
-                    let count = count_from(bytes, at, room.len());
-                    copy_from(bytes, at, count, room);
-                    self.given += count as u64;
-                    Ok(count)
-                }
+            Some(bytes) if !is_listed => {
+                let count = count_from(bytes, at, room.len());
+                copy_from(bytes, at, count, room);
+                self.given = self.given.saturating_add(count as u64);
+                Ok(count)
+            }
             _ => {
                 self.read_faults = self.read_faults.saturating_add(1);
                 Err(Failed)
@@ -230,24 +176,4 @@ impl Shelf for MemShelf {
     }
 
     ghost takes_fewer = { λ _ _ _ _ _ takes. takes };
-}
-
-// Puts the bytes in the place of those that the name holds, where it is held and they fit its room.
-fn replace_bytes(files: &mut Vec<HeldFile>, name: &str, bytes: &[u8]) -> bool
-    ensures refused { IsFalse result ↔ HasNoRoom files.old.items name.now (length bytes.now) }
-    ensures held { OnTrue result (HoldsInstead files.old.items files.new.items name.now bytes.now
-        (room_of files.old.items name.now)) }
-    ensures unchanged { OnFalse result (files.new.items ≡ files.old.items) }
-{
-    match place_of(files, name) {
-        Some(place) => {
-            let file = &mut files[place];
-            if bytes.len() > file.room() {
-                return false;
-            }
-            file.replace(bytes);
-            true
-        }
-        None => false,
-    }
 }

@@ -1,5 +1,6 @@
 // Named files, which are read from a place on and saved whole.
-ghost use Rattle.std.specs.Prelude.{◌≡◌, ◌≢◌, ◌⊎◌, ◌+◌, ◌<◌, ◌≤◌, ◌↔◌, List, ℕ, length, IfOk, OnOk, OnErr, MatchResult};
+ghost use Rattle.std.specs.Prelude.{◌≡◌, ◌≢◌, ◌⊎◌, ◌<◌, ◌≤◌, ◌↔◌, List, ℕ, length, IfOk, OnOk, OnErr, MatchResult};
+ghost use Rattle.tilt_outside.specs.Counts.{added_count};
 ghost use Rattle.tilt_outside.specs.Faults.{HasCause};
 ghost use Rattle.tilt_outside.specs.Files.{IsNextPiece};
 ghost use Rattle.tilt_outside.specs.Reads.{OnlyReads};
@@ -20,7 +21,7 @@ pub trait Shelf {
     /// How often a save has failed. The count never falls.
     ghost save_faults: { Self → ℕ };
 
-    /// How many bytes the reads have given so far.
+    /// How many bytes the reads have given so far. The count stops at the end of 64 bits.
     ghost given: { Self → ℕ };
 
     /// Whether a name takes that many bytes in one save.
@@ -36,7 +37,7 @@ pub trait Shelf {
         requires lent { lends name.now }
         ensures count { IfOk result (λ n. n ≤ length room.old) }
         ensures piece { tells → IfOk result (λ n. IsNextPiece (files self.old name.now) at room.new n) }
-        ensures given { MatchResult result (λ n. given self.new ≡ given self.old + n) (λ _. given self.new ≡ given self.old) }
+        ensures given { MatchResult result (λ n. given self.new ≡ added_count (given self.old) n) (λ _. given self.new ≡ given self.old) }
         ensures cause { HasCause (read_faults self.old) (read_faults self.new) result }
         ensures rest { OnlyReads files read_faults save_faults takes self.old self.new };
 

@@ -5,6 +5,7 @@ ghost use Rattle.tilt_outside.specs.Written.{Puts};
 
 use crate::failed::Failed;
 use crate::sink::Sink;
+use crate::uninterrupted::TRIES;
 use std::io::{ErrorKind, Write};
 use std::marker::Model;
 
@@ -86,7 +87,7 @@ fn write_some<W: Write>(writer: &mut W, bytes: &[u8]) -> Result<usize, Failed>
     ensures bytes { IfOk result (λ count.
         Appends (W.contents writer.old) (W.contents writer.new) (take count bytes.now)) }
 {
-    for _ in 0..u64::MAX {
+    for _ in 0..TRIES {
         match writer.write(bytes) {
             Ok(0) => return Err(Failed),
             Ok(count) => return Ok(count),

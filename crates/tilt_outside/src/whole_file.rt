@@ -1,5 +1,6 @@
 // A whole file, read piece by piece.
 ghost use Rattle.std.specs.Prelude.{◌≡◌, ◌<◌, ◌≤◌, ◌+◌, ◌^◌, ◌++◌, ◌⊎◌, length, take, drop, IfOk, IsErrOf};
+ghost use Rattle.tilt_outside.specs.Counts.{added_count};
 ghost use Rattle.tilt_outside.specs.Faults.{Rose};
 ghost use Rattle.tilt_outside.specs.Reads.{OnlyReads};
 ghost use Rattle.tilt_outside.specs.declared.whole_file.ReadAllFault.TheVariants.{ReadFault, OutOfMemory};
@@ -58,9 +59,9 @@ pub fn read_all<S: Shelf>(
     ensures too_long { S.tells → IsErrOf result ReadAllFault.TooLong → limit < length (S.files shelf.old name.now) }
     ensures read_fault { IsErrOf result ReadAllFault.ReadFault → Rose (S.read_faults shelf.old) (S.read_faults shelf.new) }
 
-    // How many bytes were taken, whether the shelf tells them or not.
-    ensures taken { IfOk result (λ bytes. S.given shelf.new ≡ S.given shelf.old + length bytes.items) }
-    ensures passed { IsErrOf result ReadAllFault.TooLong → S.given shelf.new ≡ S.given shelf.old + (limit + 1) }
+    // How many bytes were taken, whether the shelf tells them or not, as far as the count goes.
+    ensures taken { IfOk result (λ bytes. S.given shelf.new ≡ added_count (S.given shelf.old) (length bytes.items)) }
+    ensures passed { IsErrOf result ReadAllFault.TooLong → S.given shelf.new ≡ added_count (S.given shelf.old) (limit + 1) }
     ensures only_passed { S.given shelf.new ≡ S.given shelf.old + (limit + 1)
         → IsErrOf result ReadAllFault.TooLong ⊎ IsErrOf result ReadAllFault.OutOfMemory }
     ensures most { S.given shelf.new ≤ S.given shelf.old + (limit + 1) }
@@ -98,7 +99,7 @@ fn take_up_to<S: Shelf>(
     ensures bound { IfOk result (λ bytes. length bytes.items ≤ most) }
     ensures too_long { IsErrOf result ReadAllFault.TooLong → ⊥ }
     ensures read_fault { IsErrOf result ReadAllFault.ReadFault → Rose (S.read_faults shelf.old) (S.read_faults shelf.new) }
-    ensures taken { IfOk result (λ bytes. S.given shelf.new ≡ S.given shelf.old + length bytes.items) }
+    ensures taken { IfOk result (λ bytes. S.given shelf.new ≡ added_count (S.given shelf.old) (length bytes.items)) }
     ensures unfinished { IsErrOf result ReadAllFault.ReadFault → S.given shelf.new < S.given shelf.old + most }
     ensures most { S.given shelf.new ≤ S.given shelf.old + most }
     ensures rest { OnlyReads S.files S.read_faults S.save_faults S.takes shelf.old shelf.new }
@@ -131,7 +132,7 @@ fn take_piece<S: Shelf>(
         → length (S.files shelf.old name.now) ≤ length bytes.old.items) }
     ensures too_long { IsErrOf result ReadAllFault.TooLong → ⊥ }
     ensures read_fault { IsErrOf result ReadAllFault.ReadFault → Rose (S.read_faults shelf.old) (S.read_faults shelf.new) }
-    ensures taken { IfOk result (λ n. S.given shelf.new ≡ S.given shelf.old + n) }
+    ensures taken { IfOk result (λ n. S.given shelf.new ≡ added_count (S.given shelf.old) n) }
     ensures nothing { IsErrOf result ReadAllFault.ReadFault → S.given shelf.new ≡ S.given shelf.old }
     ensures most { S.given shelf.new ≤ S.given shelf.old + length room.old }
     ensures rest { OnlyReads S.files S.read_faults S.save_faults S.takes shelf.old shelf.new }

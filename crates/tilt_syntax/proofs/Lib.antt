@@ -3,6 +3,7 @@ pub mod Cuts
 pub mod Cutting
 pub mod Descending
 pub mod Finding
+pub mod Judged
 pub mod Law
 pub mod Operators
 pub mod Parsing
@@ -15,6 +16,7 @@ pub mod Spelling
 pub mod Spelt
 pub mod Statements
 pub mod Steady
+pub mod Total
 pub mod Unique
 pub mod Whole
 pub mod Written

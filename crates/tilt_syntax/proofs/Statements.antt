@@ -141,7 +141,7 @@ end-keeps : (P : Found → Type 0) (ts : List Tok) (plan : Plan) → (ts ≡ Sig
 unfolding end_plan
 end-keeps P ts plan h = (empty-keeps P ts plan h, tt)
 
-statement-keeps : (P : Found → Type 0) (ts : List Tok) (behind : StatementTree → Plan)
+pub statement-keeps : (P : Found → Type 0) (ts : List Tok) (behind : StatementTree → Plan)
     → ((s : StatementTree) → IsStatement ts s → Keeps (behind s) P) → Keeps (statement_plan ts behind) P
 statement-keeps P ts behind h = (
   (λ us input_at. name-keeps P us _ (λ x vs name_at. end-keeps P vs _ (λ end_at. h (Input x) (

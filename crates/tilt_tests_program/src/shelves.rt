@@ -85,7 +85,7 @@ const OTHER: &str = "tilt_outside_other";
 
 #[test]
 fn what_is_saved_is_read_again(rt: HostRuntime) -> Result<(), Fail> {
-    let mut shelf = DiskShelf::new(rt.alloc(), &rt);
+    let mut shelf = DiskShelf::new(rt.alloc(), &rt, PROGRAM);
     for bytes in [b"first bytes".as_slice(), b"", b"second"] {
         assert_eq!(rt; shelf.save(NAME, bytes), Ok(()));
         let read = read_all(rt.alloc(), &mut shelf, NAME, 20)?;
@@ -103,7 +103,7 @@ fn what_is_saved_is_read_again(rt: HostRuntime) -> Result<(), Fail> {
 
 #[test]
 fn reading_on_in_another_file_gives_its_bytes(rt: HostRuntime) -> Result<(), Fail> {
-    let mut shelf = DiskShelf::new(rt.alloc(), &rt);
+    let mut shelf = DiskShelf::new(rt.alloc(), &rt, PROGRAM);
     assert_eq!(rt; shelf.save(NAME, b"first"), Ok(()));
     assert_eq!(rt; shelf.save(OTHER, b"other"), Ok(()));
     let mut room = [0u8; 2];
@@ -125,7 +125,7 @@ fn reading_on_in_another_file_gives_its_bytes(rt: HostRuntime) -> Result<(), Fai
 fn an_interrupted_read_is_begun_again(rt: HostRuntime) -> Result<(), Fail> {
     for interruptions in 0..3 {
         let files = InterruptedFiles { interruptions };
-        let mut shelf = DiskShelf::new(rt.alloc(), &files);
+        let mut shelf = DiskShelf::new(rt.alloc(), &files, PROGRAM);
         let mut room = [0u8; 2];
         let count = shelf.read_at(NAME, 0, &mut room)?;
         assert_eq!(rt; (count, room), (1, *b"x\0"));

@@ -121,8 +121,8 @@ fn with_lines(alloc: Global, lines: &str) -> Result<String, Fail> {
 // The text is the spelling of the checkpoint that it gives.
 fn take(alloc: Global, rt: &impl Abort, text: &str) -> Result<(), Fail> {
     match decode(alloc, text.as_bytes()) {
-        Ok(checkpoint) => {
-            let again = encode(alloc, &checkpoint)?;
+        Ok(decoded) => {
+            let again = encode(alloc, &decoded.checkpoint)?;
             assert_eq!(rt; again.as_slice(), text.as_bytes(), "at {text}");
         }
         Err(fault) => assert!(rt; false, "{fault:?} at {text}"),

@@ -5,9 +5,9 @@ ghost use Rattle.tilt_base.specs.declared.limits.TheConstants.{T};
 use std::alloc::Global;
 use std::process::Abort;
 use std::test::Fail;
-use tilt_bounds::reach;
 use tilt_checkpoint::{Checkpoint, encode};
-use tilt_chunk::{Accepted, Cut, CutBack, next_cut, resume, start};
+use tilt_chunk::{Cut, CutBack, next_cut, resume, start};
+use tilt_compiler::accept;
 use tilt_stream::{Row, Rows, Snap, SnapList};
 use tilt_testing::query_of;
 use tilt_types::check;
@@ -52,13 +52,8 @@ fn a_window_goes_on_over_the_cut(rt: HostRuntime) -> Result<(), Fail> {
     let alloc = rt.alloc();
     let query = query_of(alloc, "input x; emit count(x[t-3:t]) over (0, 10];")?;
     let core = check(alloc, &query)?;
-    let margins = reach(alloc, &core)?;
-    let accepted = Accepted {
-        core: &core,
-        margins: &margins,
-        fuse: true,
-    };
     assert!(rt; core.inputs().len() == 1);
+    let accepted = accept(alloc, core, true)?;
     let rows = one_row(alloc, snap(0, 5, 7))?;
     let session = start(alloc, query, &accepted, rows, 5)?;
     let (printed, checkpoint) = session;
@@ -86,13 +81,8 @@ fn a_snapshot_that_is_open_is_printed_once_at_its_end(rt: HostRuntime) -> Result
     let alloc = rt.alloc();
     let query = query_of(alloc, "emit 1 over (0, 5];")?;
     let core = check(alloc, &query)?;
-    let margins = reach(alloc, &core)?;
-    let accepted = Accepted {
-        core: &core,
-        margins: &margins,
-        fuse: false,
-    };
     assert!(rt; core.inputs().is_empty());
+    let accepted = accept(alloc, core, false)?;
     let session = start(alloc, query, &accepted, Vec::new(alloc), 3)?;
     let (printed, checkpoint) = session;
     has(&rt, &printed, &[]);

@@ -1,5 +1,6 @@
-pub mod Texts
+pub mod Built
 pub mod Clear
 pub mod Distinct
+pub mod NoMemory
 pub mod Places
-pub mod Built
+pub mod Texts

@@ -1,4 +1,4 @@
-use Rattle.tilt_checkpoint.proofs.Decoded.{none-refused, refused-none}
+use Rattle.tilt_checkpoint.proofs.Decoding.{none-refused, refused-none}
 use Rattle.tilt_checkpoint.proofs.decoder.decode.Goals as goal
 
 pub returns-clause-bad : goal.returns-clause-bad

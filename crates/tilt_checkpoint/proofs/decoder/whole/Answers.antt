@@ -17,6 +17,6 @@ returns c =
     let view = c.body.view_is in
     let valid = subst (λ (b : BodyParts). IsCheckpoint (with_query c.args.query b)) (sym view) c.requires in
     let cut = to_z-of_z w64 c.body.inside.cut (time_fits c.body.inside.cut valid.cut.0 valid.cut.1) in
-    c.new.ensures
+    c.new.ensures.value
     ∙ (λ i. record { query = c.args.query; cut = cut i; open_start = c.body.inside.open_start; series = c.body.inside.series.items })
     ∙ ap (with_query c.args.query) view

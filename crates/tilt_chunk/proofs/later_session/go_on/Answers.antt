@@ -4,7 +4,7 @@ use Rattle.std.proofs.lemmas.Int.{ints, to_z-of_z}
 use Rattle.tilt_checkpoint.specs.Decided.{decided}
 use Rattle.tilt_checkpoint.proofs.Rows.{time_fits}
 use Rattle.tilt_chunk.proofs.Sessions.{begun-low, behind-none, decided-low, open-none, passed-max, went-begun, went-earlier, went-printed, wide_fits}
-use Rattle.tilt_chunk.specs.Emitted.{given}
+use Rattle.tilt_compiler.specs.Compiled.{given}
 use Rattle.tilt_chunk.specs.Later.{resumed_at}
 use Rattle.tilt_stream.specs.Pieces.{joined_from}
 use Rattle.tilt_chunk.proofs.later_session.go_on.Goals as goal
@@ -31,7 +31,7 @@ returns-then-decided-frame-clause-begun c =
     let end_fits : FitsSigned w64 frame.end = search rules in
     let t = rw (to_z-of_z w64 frame.end end_fits, to_z-of_z w64 c.decided-decided.result mid_fits, mid) at c.if-decided-frame.true in
     let done : frame.end ≤ℤ decided frame cut = grind (arith, ints) in
-    sym (open-none frame cut c.args.last (joined_from c.args.behind.begun (given c.args.accepted.now.core.now c.args.rows.items (resumed_at frame cut) c.args.last)) done c.requires.onward)
+    sym (open-none frame cut c.args.last (joined_from c.args.behind.begun (given c.args.accepted.now.core c.args.rows.items (resumed_at frame cut) c.args.last)) done c.requires.onward)
 
 pub overflow_sub-decided : goal.overflow_sub-decided
 overflow_sub-decided c =
@@ -61,7 +61,7 @@ join_from-requires-clause-earlier c =
     let from_fits : FitsSigned w64 c.max-from.result = search rules in
     let low = decided-low frame cut c.requires.frame c.requires.cut in
     let from_is : c.max-from.result ≡ int_max frame.start (mid -ℤ pos 1) = passed-max frame.start mid c.max-from.result start_fits mid_fits (rw (← mid_is) at low) c.max-from.ensures.value in
-    went-earlier c.args.accepted.now.core.now frame c.args.rows.items c.args.behind.begun c.in_ok-list.list c.in_ok-list.list cut c.args.last mid c.max-from.result _ _ mid_is from_is
+    went-earlier c.args.accepted.now.core frame c.args.rows.items c.args.behind.begun c.in_ok-list.list c.in_ok-list.list cut c.args.last mid c.max-from.result _ _ mid_is from_is
     (to_z-of_z w64 c.max-from.result from_fits) (to_z-of_z w64 c.args.last c.ranges.last) c.in_ok-list.ensures c.requires.begun
 
 pub returns-clause-printed : goal.returns-clause-printed
@@ -79,7 +79,7 @@ returns-clause-printed c =
     let end_fits : FitsSigned w64 frame.end = search rules in
     let t = rw (to_z-of_z w64 frame.end end_fits, to_z-of_z w64 mid mid_fits) at c.if-decided-frame.false in
     let before : mid <ℤ frame.end = grind (arith, ints) in
-    c.close.ensures.printed ∙ went-printed c.args.accepted.now.core.now frame c.args.rows.items c.args.behind.begun c.in_ok-list.list
+    c.close.ensures.printed ∙ went-printed c.args.accepted.now.core frame c.args.rows.items c.args.behind.begun c.in_ok-list.list
     c.join_from.result cut c.args.last mid c.max-from.result _ _ mid_is from_is
     (to_z-of_z w64 c.max-from.result from_fits) (to_z-of_z w64 c.args.last c.ranges.last) c.in_ok-list.ensures c.join_from.ensures before
 
@@ -95,6 +95,6 @@ returns-clause-begun c =
     let from_fits : FitsSigned w64 c.max-from.result = search rules in
     let low = decided-low frame cut c.requires.frame c.requires.cut in
     let from_is : c.max-from.result ≡ int_max frame.start (mid -ℤ pos 1) = passed-max frame.start mid c.max-from.result start_fits mid_fits (rw (← mid_is) at low) c.max-from.ensures.value in
-    c.close.ensures.begun ∙ went-begun c.args.accepted.now.core.now frame c.args.rows.items c.args.behind.begun c.in_ok-list.list
+    c.close.ensures.begun ∙ went-begun c.args.accepted.now.core frame c.args.rows.items c.args.behind.begun c.in_ok-list.list
     c.join_from.result cut c.args.last mid c.max-from.result _ _ mid_is from_is
     (to_z-of_z w64 c.max-from.result from_fits) (to_z-of_z w64 c.args.last c.ranges.last) c.in_ok-list.ensures c.join_from.ensures

@@ -1,9 +1,12 @@
 use Rattle.std.proofs.Common.{◌∙◌, ap, refl, sym, subst, rules, w64, to_z, of_z, FitsSigned, ℤ, ◌≤ℤ◌, List, length, map, Some}
+use Rattle.std.specs.Prelude.{Option, IfSome}
 use Rattle.std.specs.List.{AllByRecursion}
 use Rattle.std.proofs.lemmas.Int.{to_z-of_z}
 use Rattle.tilt_bounds.specs.Margins.{margins_of}
 use Rattle.tilt_checkpoint.proofs.Rows.{time_fits}
-use Rattle.tilt_checkpoint.specs.Decided.{decided, first_kept}
+use Rattle.tilt_checkpoint.specs.Checkpoint.{CheckpointParts}
+use Rattle.tilt_checkpoint.specs.Decided.{decided, first_kept, frame_of}
+use Rattle.tilt_checkpoint.specs.Valid.{IsCheckpoint}
 use Rattle.tilt_chunk.proofs.OneCut.{decided-most, decided-on, one-cut}
 use Rattle.tilt_chunk.proofs.Lists.{rows_of}
 use Rattle.tilt_chunk.proofs.Sessions.{are-behind, both-counted, later-is, later-left, newly-is, shown-later}
@@ -30,9 +33,9 @@ go_on-requires-clause-inputs c =
     let series = c.into_parts-query.result.1.items in
     let ends = c.in_ok-handed.ensures.ends ∙ ap (λ (ns : List (List Snapshot)). map (λ k. k.last_end) (all_taken_up series ns)) c.deref.ensures.value in
     let known = c.in_ok-handed.ensures.rows ∙ ap (λ (ns : List (List Snapshot)). rows_of (all_taken_up series ns)) c.deref.ensures.value in
-    ap length (shown-later c.args.checkpoint c.args.accepted.now.core.now frame c.args.cut (to_z w64 (of_z w64 c.cut.result)) (to_z w64 (of_z w64 c.decided_by-last.result))
+    ap length (shown-later c.args.checkpoint c.args.accepted.now.core frame c.args.cut (to_z w64 (of_z w64 c.cut.result)) (to_z w64 (of_z w64 c.decided_by-last.result))
     c.args.rows.items c.in_ok-handed.handed.rows.items c.in_ok-handed.handed.rows.items c.in_ok-handed.handed.ends.items series c.open_start.result c.requires.core
-    c.new.ensures.frame old_is last_is c.open_start.ensures.value c.into_parts-query.ensures.series ends known refl)
+    (c.new.ensures.frame ∙ ap frame_of c.core.ensures.value) old_is last_is c.open_start.ensures.value c.into_parts-query.ensures.series ends known refl)
     ∙ both-counted c.args.checkpoint c.args.cut c.args.rows.items c.cut.ensures.valid c.requires.rows
     ∙ sym (ap (λ (core : CoreParts). length core.inputs) c.requires.core)
 
@@ -66,9 +69,9 @@ new-requires-in-Upto c =
     let upto = c.in-Upto.upto in
     let range = subst IsInRange c.in-Upto.is c.requires.range in
     let upto_is = to_z-of_z w64 upto (time_fits upto range.0 range.1) in
-    later-is c.args.checkpoint c.args.accepted.now.core.now frame c.args.cut (to_z w64 (of_z w64 c.cut.result)) (to_z w64 (of_z w64 c.decided_by-last.result))
+    later-is c.args.checkpoint c.args.accepted.now.core frame c.args.cut (to_z w64 (of_z w64 c.cut.result)) (to_z w64 (of_z w64 c.decided_by-last.result))
     c.args.rows.items c.in_ok-handed.handed.rows.items c.in_ok-handed.handed.rows.items c.in_ok-handed.handed.ends.items series c.open_start.result c.requires.core
-    c.new.ensures.frame old_is last_is c.open_start.ensures.value c.into_parts-query.ensures.series ends known refl
+    (c.new.ensures.frame ∙ ap frame_of c.core.ensures.value) old_is last_is c.open_start.ensures.value c.into_parts-query.ensures.series ends known refl
     upto _ (first_kept frame upto) _ c.into_parts-query.result.0 c.in_ok-closed.closed.open_start c.in_ok-kept.kept.items c.in-Upto.is
     upto_is refl (sym (ap (first_kept frame) upto_is)) c.into_parts-query.ensures.query
     c.in_ok-closed.ensures.begun (c.in_ok-kept.ensures.kept upto c.in-Upto.is) c.cut.ensures.valid c.requires.range c.requires.onward c.new.ensures.bounds c.requires.rows
@@ -84,9 +87,9 @@ returns-clause-newly c =
     let series = c.into_parts-query.result.1.items in
     let ends = c.in_ok-handed.ensures.ends ∙ ap (λ (ns : List (List Snapshot)). map (λ k. k.last_end) (all_taken_up series ns)) c.deref.ensures.value in
     let known = c.in_ok-handed.ensures.rows ∙ ap (λ (ns : List (List Snapshot)). rows_of (all_taken_up series ns)) c.deref.ensures.value in
-    newly-is c.args.checkpoint c.args.accepted.now.core.now frame c.args.cut (to_z w64 (of_z w64 c.cut.result)) (to_z w64 (of_z w64 c.decided_by-last.result))
+    newly-is c.args.checkpoint c.args.accepted.now.core frame c.args.cut (to_z w64 (of_z w64 c.cut.result)) (to_z w64 (of_z w64 c.decided_by-last.result))
     c.args.rows.items c.in_ok-handed.handed.rows.items c.in_ok-handed.handed.rows.items c.in_ok-handed.handed.ends.items series c.open_start.result c.requires.core
-    c.new.ensures.frame old_is last_is c.open_start.ensures.value c.into_parts-query.ensures.series ends known refl
+    (c.new.ensures.frame ∙ ap frame_of c.core.ensures.value) old_is last_is c.open_start.ensures.value c.into_parts-query.ensures.series ends known refl
     c.in_ok-closed.closed.printed c.in_ok-closed.ensures.printed
 
 pub returns-clause-next : goal.returns-clause-next
@@ -105,10 +108,10 @@ returns-clause-next c =
           let range = subst IsInRange w.in-Upto.is c.requires.range in
           let upto_is = to_z-of_z w64 upto (time_fits upto range.0 range.1) in
           w.next-is
-          ∙ ap Some (w.new-in-Upto.ensures ∙ later-left c.args.checkpoint c.args.accepted.now.core.now frame c.args.cut
+          ∙ ap Some (w.new-in-Upto.ensures.value ∙ later-left c.args.checkpoint c.args.accepted.now.core frame c.args.cut
           (to_z w64 (of_z w64 c.cut.result)) (to_z w64 (of_z w64 c.decided_by-last.result))
           c.args.rows.items c.in_ok-handed.handed.rows.items c.in_ok-handed.handed.rows.items c.in_ok-handed.handed.ends.items series c.open_start.result c.requires.core
-          c.new.ensures.frame old_is last_is c.open_start.ensures.value c.into_parts-query.ensures.series ends known refl
+          (c.new.ensures.frame ∙ ap frame_of c.core.ensures.value) old_is last_is c.open_start.ensures.value c.into_parts-query.ensures.series ends known refl
           upto _ (first_kept frame upto) _ c.into_parts-query.result.0 c.in_ok-closed.closed.open_start c.in_ok-kept.kept.items w.in-Upto.is
           upto_is refl (sym (ap (first_kept frame) upto_is))
           c.into_parts-query.ensures.query c.in_ok-closed.ensures.begun (c.in_ok-kept.ensures.kept upto w.in-Upto.is))
@@ -116,9 +119,16 @@ returns-clause-next c =
       | in-End w ↦ w.next-is ∙ sym (ap (next_by c.args.checkpoint c.args.rows.items) w.in-End.is)
     ]
 
+pub returns-clause-valid : goal.returns-clause-valid
+returns-clause-valid c =
+    elim c.match-cut.branch [
+      | in-Upto w ↦ subst (λ (o : Option CheckpointParts). IfSome o IsCheckpoint) (sym w.next-is) w.new-in-Upto.ensures.valid
+      | in-End w ↦ subst (λ (o : Option CheckpointParts). IfSome o IsCheckpoint) (sym w.next-is) tt
+    ]
+
 pub returns-clause-law : goal.returns-clause-law
 returns-clause-law c =
     let core = c.requires.core in
-    one-cut c.args.checkpoint c.args.accepted.now.margins.now c.args.cut c.args.rows.items (subst IsCore core c.inputs.ensures.accepted)
-    (sym (ap margins_of core) ∙ c.requires.margins) c.needs.ensures.kept c.requires.onward
+    one-cut c.args.checkpoint c.args.accepted.now.margins c.args.cut c.args.rows.items (subst IsCore core c.core.ensures.kept.valid)
+    (sym (ap margins_of core) ∙ c.core.ensures.kept.near) c.core.ensures.kept.within c.requires.onward
     (subst (AllByRecursion AreRows) c.deref.ensures.value c.in_ok-handed.ensures.in_order) c.requires.rows

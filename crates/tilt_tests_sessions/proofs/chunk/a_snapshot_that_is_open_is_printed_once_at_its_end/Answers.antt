@@ -6,7 +6,4 @@ use Rattle.tilt_tests_sessions.proofs.chunk.a_snapshot_that_is_open_is_printed_o
 
 pub resume-requires-clause-core : goal.resume-requires-clause-core
 resume-requires-clause-core g c =
-    sym (checked-core c.in_ok-query.query c.in_ok-core.core c.in_ok-core.ensures) ∙ ap (λ (d : CheckpointParts). core_of d.query) (sym c.in_ok-session.ensures.left)
-
-pub resume-requires-clause-margins : goal.resume-requires-clause-margins
-resume-requires-clause-margins g c = c.in_ok-margins.ensures.margins
+    c.in_ok-accepted.ensures.core ∙ sym (checked-core c.in_ok-query.query c.in_ok-core.core c.in_ok-core.ensures) ∙ ap (λ (d : CheckpointParts). core_of d.query) (sym c.in_ok-session.ensures.left)

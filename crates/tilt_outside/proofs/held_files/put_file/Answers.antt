@@ -1,6 +1,6 @@
 use Rattle.std.proofs.Common.{sym}
 use Rattle.tilt_outside.proofs.HeldFiles.{HoldsInstead-set, HoldsInstead-push}
-use Rattle.tilt_outside.proofs.mem_shelf.put_file.Goals as goal
+use Rattle.tilt_outside.proofs.held_files.put_file.Goals as goal
 
 pub returns-in-Some-clause-held : goal.returns-in-Some-clause-held
 returns-in-Some-clause-held c =

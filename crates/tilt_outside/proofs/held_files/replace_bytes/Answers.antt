@@ -1,7 +1,7 @@
 use Rattle.std.proofs.Common.{◌<◌, inl, inr, refl, sym, arith, length}
-use Rattle.tilt_outside.specs.MemShelf.{room_of}
+use Rattle.tilt_outside.specs.HeldFiles.{room_of}
 use Rattle.tilt_outside.proofs.HeldFiles.{bytes_held-at, bytes_held-none, room_of-at, HoldsInstead-bytes}
-use Rattle.tilt_outside.proofs.mem_shelf.replace_bytes.Goals as goal
+use Rattle.tilt_outside.proofs.held_files.replace_bytes.Goals as goal
 
 pub returns-then-bytes-room-clause-refused : goal.returns-then-bytes-room-clause-refused
 returns-then-bytes-room-clause-refused c =

@@ -1,6 +1,6 @@
 use Rattle.std.proofs.Common.{◌∙◌, sym, ap, Some}
 use Rattle.tilt_outside.proofs.HeldFiles.{bytes_held-at, bytes_held-none}
-use Rattle.tilt_outside.proofs.mem_shelf.find_bytes.Goals as goal
+use Rattle.tilt_outside.proofs.held_files.find_bytes.Goals as goal
 
 pub returns-in_err-place : goal.returns-in_err-place
 returns-in_err-place c = rw c.from_residual.ensures (sym (bytes_held-none c.args.files.now c.args.name.now (sym c.in_err-place.ensures)))

@@ -1,0 +1,15 @@
+-- The next token of a text (our own rule).
+use Rattle.std.specs.Prelude.{ℕ, ◌+◌, List, ◌∷◌, length, IsTrue}
+use Rattle.tilt_lexer.specs.Tokens.{is_blank, Begins, IsWithin}
+use Rattle.tilt_lexer.specs.declared.token.Tok.{Tok}
+use Rattle.tilt_lexer.specs.declared.token.Token.{Token}
+
+-- of the bytes, the first of which is at the place `at`, the token is the first, after blanks where there are any, and the rest
+-- stands after it
+pub data IsNext : ℕ → List ℕ → Token → List ℕ → Type 0 where
+  -- the longest token there
+  here : {at : ℕ} {kind : Tok} {bytes text rest : List ℕ} → Begins kind bytes text rest → IsWithin kind
+      → IsNext at bytes (record { kind = kind; start = at; end = at + length text }) rest
+  -- a blank, and the token is after it
+  after_blank : {at b : ℕ} {bytes : List ℕ} {token : Token} {rest : List ℕ} → IsTrue (is_blank b)
+      → IsNext (at + 1) bytes token rest → IsNext at (b ∷ bytes) token rest

@@ -1,0 +1,58 @@
+// Where the links of a name lead.
+use crate::uninterrupted::again;
+use std::alloc::Global;
+use std::fs::Metadata;
+use std::io::{self, ErrorKind};
+use std::path::PathBuf;
+use std::rt::Files;
+
+/// How many links a name may lead through.
+const MOST_LINKS: u32 = 40;
+
+/// The path that the name leads to: it is no link, but where it is a file that the program was handed open.
+pub(crate) fn followed<R: Files>(alloc: Global, files: &R, name: &str) -> io::Result<PathBuf> {
+    let mut path = PathBuf::from_str(alloc, name)?;
+    for _ in 0..MOST_LINKS {
+        if is_descriptor(&path) || !is_link(files, path.as_str())? {
+            return Ok(path);
+        }
+        path = next_path(alloc, files, &path)?;
+    }
+    Err(io::Error::from(ErrorKind::FilesystemLoop))
+}
+
+/// Whether the path is that of a file that the program was handed open, as `/dev/stdout` leads to.
+pub(crate) fn is_descriptor(path: &PathBuf) -> bool {
+    let is_of_the_system = path.starts_with("/proc") || path.starts_with("/dev");
+    match path.parent() {
+        Some(folder) => is_of_the_system && folder.ends_with("fd"),
+        None => false,
+    }
+}
+
+/// What the system says of the path, with its links followed, and `None` where nothing is there.
+pub(crate) fn find<R: Files>(files: &R, path: &str) -> io::Result<Option<Metadata>> {
+    found(again(|| files.metadata(path)))
+}
+
+fn found(answer: io::Result<Metadata>) -> io::Result<Option<Metadata>> {
+    match answer {
+        Ok(metadata) => Ok(Some(metadata)),
+        Err(error) if error.kind() == ErrorKind::NotFound => Ok(None),
+        Err(error) => Err(error),
+    }
+}
+
+fn is_link<R: Files>(files: &R, path: &str) -> io::Result<bool> {
+    let metadata = found(again(|| files.symlink_metadata(path)))?;
+    Ok(metadata.is_some_and(|metadata| metadata.is_symlink()))
+}
+
+// What the link says begins at the link's folder.
+fn next_path<R: Files>(alloc: Global, files: &R, link: &PathBuf) -> io::Result<PathBuf> {
+    let text = again(|| files.read_link(alloc, link.as_str()))?;
+    match link.parent() {
+        Some(folder) => Ok(folder.join(alloc, text.as_str())?),
+        None => Ok(text),
+    }
+}
