@@ -8,5 +8,6 @@ pub mod Pieces
 pub mod Queries
 pub mod QueryLines
 pub mod Rows
+pub mod Spelled
 pub mod Steps
 pub mod Words

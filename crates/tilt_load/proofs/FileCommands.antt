@@ -1,16 +1,18 @@
 -- A command that is given a file and binds has one outcome, and what makes the clauses of a function that does it.
-use Rattle.std.proofs.Common.{◌≡◌, ◌+◌, ◌⊎◌, ◌≤◌, ℕ, List, length, refl, inl, inr, ap, sym, subst, ◌∙◌}
+use Rattle.std.proofs.Common.{◌≡◌, ◌+◌, ◌⊎◌, ◌≤◌, ℕ, List, [], length, Err, refl, inl, inr, ap, sym, subst, ◌∙◌, arith}
 use Rattle.tilt_load.proofs.InputRows.{read_many}
 use Rattle.tilt_load.proofs.Loads.{load_fault_weaker}
 use Rattle.tilt_load.proofs.OneSeries.{inputs_once, inputs_refused_once, inputs_refused_or_taken, inputs_taken_or_refused}
-use Rattle.tilt_load.specs.Does.{IsRead, IsUndone, Reading}
-use Rattle.tilt_load.specs.FileCommand.{FileCommand, IsFileOutcome, no_file, no_inputs, done, HasFileTurn, own_turn, input_turn, input_bytes}
+use Rattle.tilt_load.specs.Does.{Does, IsRead, IsUndone, Reading}
+use Rattle.tilt_load.specs.FileCommand.{FileCommand, IsFileOutcome, no_file, no_inputs, done, HasFileTurn, own_turn, input_turn}
+use Rattle.tilt_load.specs.Inputs.{bytes_of_inputs}
 use Rattle.tilt_load.specs.Load.{IsLoadFault, HasSessionTurn}
 use Rattle.tilt_load.specs.SeriesFiles.{TakesSession, RefusesSession}
 use Rattle.tilt_outside.proofs.Counts.{added-twice}
 use Rattle.tilt_outside.proofs.Puts.{rose_from}
-use Rattle.tilt_outside.specs.Counts.{added_count}
-use Rattle.tilt_report.specs.Report.{Reason, Outcome, refused, Report, refusal, usage}
+use Rattle.tilt_outside.specs.Counts.{added_count, last_count}
+use Rattle.tilt_report.specs.Report.{Reason, Outcome, refused, Report, refusal, usage, report_of}
+use Rattle.tilt_report.specs.declared.fault.Fault.{Fault}
 use Rattle.tilt_stream.specs.Snap.{Snapshot}
 use Rattle.tilt_words.specs.Binding.{Binding}
 
@@ -133,11 +135,26 @@ module _ (command : FileCommand) (file : List ℕ) (binds : List Binding) (shelf
   -- the file and its inputs were read
   pub both_read : (says : command.Says) (mid : ℕ) → command.takes (shelf.files file) says
       → mid ≡ added_count shelf.given_before (length (shelf.files file))
-      → shelf.given_after ≡ added_count mid (input_bytes shelf.files binds (command.inputs says))
+      → (mid ≤ last_count → shelf.given_after ≡ added_count mid (bytes_of_inputs shelf.files binds (command.inputs says)))
       → IsRead command file binds shelf
   both_read says mid taken first then =
-      let all = input_bytes shelf.files binds (command.inputs says) in record {
+      let all = bytes_of_inputs shelf.files binds (command.inputs says) in
+      let low : mid ≤ last_count = omega arith in
+      record {
         count = length (shelf.files file) + all;
         bytes = record { says = says; taken = taken; is = refl };
-        given = then ∙ ap (λ (m : ℕ). added_count m all) first ∙ added-twice shelf.given_before (length (shelf.files file)) all;
+        given = then low ∙ ap (λ (m : ℕ). added_count m all) first ∙ added-twice shelf.given_before (length (shelf.files file)) all;
       }
+
+  -- the file was read, which has no inputs
+  pub one_read : (says : command.Says) → command.takes (shelf.files file) says → command.inputs says ≡ []
+      → shelf.given_after ≡ added_count shelf.given_before (length (shelf.files file)) → IsRead command file binds shelf
+  one_read says taken none first =
+      let is : length (shelf.files file) ≡ length (shelf.files file) + bytes_of_inputs shelf.files binds (command.inputs says) = rw none (omega arith) in
+      record { count = length (shelf.files file); bytes = record { says = says; taken = taken; is = is }; given = first }
+
+-- a command that isn't done
+pub not_done : {T W : Type 0} {command : W → FileCommand} {comes : W → T → Outcome} {keeps : T → Type 0} {file : List ℕ} {binds : List Binding} {shelf : Reading}
+    (fault : Fault) → ((beside : W) → IsUndone (command beside) file binds shelf (report_of fault)) → shelf.rest
+    → Does command comes keeps file binds shelf (Err fault)
+not_done fault undone rest = record { made = λ told. tt; kept = tt; fault = undone; read = λ told. tt; rest = rest }

@@ -1,52 +1,14 @@
 -- A checkpoint file comes to one checkpoint, or to one reason why it is none.
-use Rattle.std.proofs.Common.{◌≡◌, ◌≢◌, ◌∙◌, ◌<◌, ◌≤◌, ◌^◌, ◌⊎◌, List, ℕ, length, inl, inr, refl, sym, ap, subst, arith}
+use Rattle.std.proofs.Common.{◌≡◌, ◌≢◌, ◌<◌, ◌≤◌, ◌^◌, ◌⊎◌, List, ℕ, length, inl, inr, refl, arith}
 use Rattle.std.proofs.lemmas.Bool.{cases_lt}
 use Rattle.tilt_base.specs.declared.limits.TheConstants.{FILE}
-use Rattle.std.proofs.lemmas.Option.{same_Some, some_pair_parts}
-use Rattle.tilt_checkpoint.specs.Checkpoint.{CheckpointParts, with_query}
-use Rattle.tilt_checkpoint.specs.Decided.{frame_of}
-use Rattle.tilt_checkpoint.specs.Reading.{query_at}
-use Rattle.tilt_checkpoint.specs.Spelling.{body_lines, spelling}
+use Rattle.tilt_checkpoint.proofs.Spelled.{spelled_once}
+use Rattle.tilt_checkpoint.specs.Checkpoint.{CheckpointParts}
+use Rattle.tilt_checkpoint.specs.Spelling.{spelling}
 use Rattle.tilt_checkpoint.specs.Valid.{IsCheckpoint}
-use Rattle.tilt_checkpoint.proofs.Decoding.{body_of, valid-read}
-use Rattle.tilt_checkpoint.proofs.Queries.{query-again}
-use Rattle.tilt_lexer.specs.Tokens.{AreTokens}
-use Rattle.tilt_syntax.proofs.Law.{reads_back}
-use Rattle.tilt_syntax.specs.Printing.{query_text}
-use Rattle.tilt_syntax.specs.Query.{IsQuery}
-use Rattle.tilt_syntax.specs.Tree.{StatementTree}
-use Rattle.tilt_types.specs.Checked.{core_of}
-use Rattle.tilt_checkpoint.proofs.Framed.{accepted_frame}
 use Rattle.tilt_load.specs.CheckpointFile.{TakesCheckpoint, RefusesCheckpoint, long, of_none}
 use Rattle.tilt_load.specs.Load.{IsTooLong}
 use Rattle.tilt_report.specs.Report.{Reason, file_too_long, bad_checkpoint}
-
--- the lines of a checkpoint behind its query
-abbrev rest_of : CheckpointParts → List ℕ
-rest_of c = body_lines c.cut c.open_start c.series
-
--- queries that are printed the same are the same
-one_printed : (query other : List StatementTree) → IsQuery query → IsQuery other → query_text query ≡ query_text other → other ≡ query
-one_printed query other is is' same =
-    let back = reads_back query is in
-    let back' = reads_back other is' in
-    back.only back'.tokens other (subst (λ (t : List ℕ). AreTokens 0 t back'.tokens) (sym same) back'.are) back'.parsed
-
--- valid checkpoints that are spelled the same are the same
-spelled_once : (c d : CheckpointParts) (bytes : List ℕ) → IsCheckpoint c → IsCheckpoint d → length bytes < 2 ^ 63 → bytes ≡ spelling c → bytes ≡ spelling d → c ≡ d
-spelled_once c d bytes is is' small e e' =
-    let again = query-again c.query (rest_of c) is.query.parsed in
-    let again' = query-again d.query (rest_of d) is'.query.parsed in
-    let both = some_pair_parts (length c.query, query_text c.query) (length d.query, query_text d.query) (rest_of c) (rest_of d) (sym again ∙ ap query_at (sym e ∙ e') ∙ again') in
-    let text = ap (λ (p : ℕ × List ℕ). p.1) both.0 in
-    let query = one_printed c.query d.query is.query.parsed is'.query.parsed text in
-    let frame = frame_of (core_of c.query) in
-    let inputs = length (core_of c.query).inputs in
-    let within = accepted_frame c.query is.query in
-    let read = valid-read c c.query frame inputs bytes (rest_of c) is (within, refl) refl (refl, refl) e small in
-    let read' = valid-read d c.query frame inputs bytes (rest_of c) is' (within, refl) refl (sym query, both.1) e' small in
-    let body = same_Some (body_of c) (body_of d) (sym read ∙ read') in
-    λ i. with_query (sym query i) (body i)
 
 module _ (name bytes : List ℕ) where
   -- a checkpoint file that is taken has one checkpoint

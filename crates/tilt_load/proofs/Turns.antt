@@ -1,9 +1,12 @@
 -- Whose turn it is, among the inputs of a query.
 use Rattle.std.proofs.Common.{arith, ◌≡◌, ◌<◌, ◌≤◌, ◌+◌, List, [], ◌∷◌, ◌++◌, ℕ, length, get_or, take, drop, Ok, Err, None, sym, ap, ◌∙◌, subst}
 use Rattle.std.proofs.lemmas.List.{drop_more, take-append-drop, take_more, take_all, length-take-le}
+use Rattle.std.proofs.lemmas.List.Sums.{sum_by_push}
 use Rattle.tilt_stream.specs.Snap.{Snapshot}
+use Rattle.tilt_outside.proofs.Counts.{added-twice}
 use Rattle.tilt_outside.proofs.Puts.{rose_from}
-use Rattle.tilt_load.specs.Inputs.{faulty_name, file_of}
+use Rattle.tilt_outside.specs.Counts.{added_count}
+use Rattle.tilt_load.specs.Inputs.{bytes_of_inputs, faulty_name, file_of}
 use Rattle.tilt_load.specs.Load.{IsLoadFault, HasSessionTurn}
 use Rattle.tilt_load.specs.SeriesFiles.{input_read, inputs_read}
 use Rattle.tilt_report.specs.Report.{Reason, Report}
@@ -55,6 +58,18 @@ module _ (files : List ℕ → List ℕ) (binds : List Binding) (bounds : ℕ �
       ap (inputs_read files binds bounds) more ∙ read_more files binds bounds (take i inputs) rows name new read
       (subst (λ (b : Bounds). input_read files b (file_of binds name) name ≡ Ok new) (place_of_it here own) taken)
 
+  -- and its bytes are counted
+  pub counted_at : (now : List ℕ → List ℕ) (file : List ℕ) (before mid after : ℕ) → now ≡ files → file ≡ file_of binds name
+      → mid ≡ added_count before (bytes_of_inputs files binds (take i inputs)) → after ≡ added_count mid (length (now file))
+      → after ≡ added_count before (bytes_of_inputs files binds (take (i + 1) inputs))
+  counted_at now file before mid after same bound so_far rose =
+      let more = take_more inputs i name low ∙ ap (λ (x : List ℕ). take i inputs ++ x ∷ []) (sym is) in
+      let all = ap (bytes_of_inputs files binds) more ∙ sum_by_push (λ (x : List ℕ). length (files (file_of binds x))) (take i inputs) name in
+      rose
+      ∙ (λ j. added_count (so_far j) (length (same j (bound j))))
+      ∙ added-twice before (bytes_of_inputs files binds (take i inputs)) (length (files (file_of binds name)))
+      ∙ ap (added_count before) (sym all)
+
   -- it is refused, and so are all
   pub refused_at : (here : Bounds) → here ≡ bounds i → (rows : List (List Snapshot)) (why : Reason) → inputs_read files binds bounds (take i inputs) ≡ Ok rows
       → input_read files here (file_of binds name) name ≡ Err why → inputs_read files binds bounds inputs ≡ Err why
@@ -78,3 +93,8 @@ module _ (files : List ℕ → List ℕ) (binds : List Binding) (bounds : ℕ �
 pub all_taken : (files : List ℕ → List ℕ) (binds : List Binding) (bounds : ℕ → Bounds) (inputs : List (List ℕ)) (rows : List (List Snapshot)) (i : ℕ)
     → length inputs ≤ i → inputs_read files binds bounds (take i inputs) ≡ Ok rows → inputs_read files binds bounds inputs ≡ Ok rows
 all_taken files binds bounds inputs rows i high read = rw (take_all i inputs high) at read
+
+-- and all bytes are counted
+pub all_counted : (files : List ℕ → List ℕ) (binds : List Binding) (inputs : List (List ℕ)) (before after i : ℕ) → length inputs ≤ i
+    → after ≡ added_count before (bytes_of_inputs files binds (take i inputs)) → after ≡ added_count before (bytes_of_inputs files binds inputs)
+all_counted files binds inputs before after i high is = rw (take_all i inputs high) at is

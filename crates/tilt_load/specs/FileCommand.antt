@@ -1,7 +1,7 @@
 -- What a command is that is given a file and binds, and what it does: its file declares inputs, and the series of each input is read in
 -- order. The first refusal counts: that of the file, then of the input names, then of the series.
-use Rattle.std.specs.Prelude.{◌≡◌, ℕ, ◌+◌, List, Contains, length, sum_by}
-use Rattle.tilt_load.specs.Inputs.{file_of}
+use Rattle.std.specs.Prelude.{◌≡◌, ℕ, ◌+◌, List, Contains, length}
+use Rattle.tilt_load.specs.Inputs.{bytes_of_inputs}
 use Rattle.tilt_load.specs.SeriesFiles.{IsNextOfSession, RefusesSession, TakesSession}
 use Rattle.tilt_report.specs.Report.{Reason, Outcome, refused, refusal}
 use Rattle.tilt_series.specs.Series.{Bounds}
@@ -22,10 +22,6 @@ pub record FileCommand : Type 1 where
   pub within : Says → ℕ → Bounds
   -- what the command comes to on the rows of its inputs
   pub gives : Says → List (List Snapshot) → Outcome → Type 0
-
--- how many bytes the files that are bound to these inputs have
-abbrev pub input_bytes : (List ℕ → List ℕ) → List Binding → List (List ℕ) → ℕ
-input_bytes files binds inputs = sum_by (λ name. length (files (file_of binds name))) inputs
 
 -- Of the command: what each name holds, the name of its file, and its binds.
 module _ (command : FileCommand) (files : List ℕ → List ℕ) (file : List ℕ) (binds : List Binding) where
@@ -48,7 +44,7 @@ module _ (command : FileCommand) (files : List ℕ → List ℕ) (file : List �
   pub record HasBytes (count : ℕ) : Type 0 where
     pub says : command.Says
     pub taken : command.takes (files file) says
-    pub is : count ≡ length (files file) + input_bytes files binds (command.inputs says)
+    pub is : count ≡ length (files file) + bytes_of_inputs files binds (command.inputs says)
 
 -- it is a file's turn to be read: the command's own, or that of an input
 pub data HasFileTurn (command : FileCommand) (tells : Type 0) (files : List ℕ → List ℕ) (file : List ℕ) (binds : List Binding)

@@ -1,5 +1,5 @@
 -- Which input names are faulty: those of the words against those of the query.
-use Rattle.std.specs.Prelude.{ℕ, Bool, not, ◌||◌, if◌then◌else◌, List, [], ◌∷◌, Option, Some, None, map}
+use Rattle.std.specs.Prelude.{ℕ, Bool, not, ◌||◌, if◌then◌else◌, List, [], ◌∷◌, Option, Some, None, length, map, sum_by}
 use Rattle.std.specs.List.{list_any, slice_index_or}
 use Rattle.std.specs.Str.{bytes_eq}
 use Rattle.tilt_words.specs.Binding.{Binding}
@@ -38,6 +38,10 @@ faulty_name declared binds = first_of_two (first_unexpected declared [] (bound_n
 abbrev pub file_of : List Binding → List ℕ → List ℕ
 file_of [] name = []
 file_of (bind ∷ binds) name = if bytes_eq bind.name name then bind.file else file_of binds name
+
+-- how many bytes the files have that are bound to names
+abbrev pub bytes_of_inputs : (List ℕ → List ℕ) → List Binding → List (List ℕ) → ℕ
+bytes_of_inputs files binds names = sum_by (λ name. length (files (file_of binds name))) names
 
 -- the name that is told: a bound one itself, or that of the input at a place
 abbrev pub name_told : List (List ℕ) → FaultyName → List ℕ

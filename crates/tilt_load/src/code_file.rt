@@ -1,7 +1,8 @@
 // A code file, from the shelf to the loop code whose listing it is.
-ghost use Rattle.std.specs.Prelude.{◌≡◌, IfOk, IfErr};
+ghost use Rattle.std.specs.Prelude.{◌≡◌, IfOk, IfErr, length};
 ghost use Rattle.tilt_load.specs.CodeFile.{TakesCode, RefusesCode};
 ghost use Rattle.tilt_load.specs.Load.{IsLoadFault};
+ghost use Rattle.tilt_outside.specs.Counts.{added_count};
 ghost use Rattle.tilt_outside.specs.Reads.{OnlyReads};
 ghost use Rattle.tilt_report.specs.Report.{report_of};
 
@@ -21,6 +22,7 @@ pub fn load_code<'a, S: Shelf>(
     ensures taken { S.tells → IfOk result (λ code. TakesCode (S.files shelf.old name.now) code) }
     ensures fault { IfErr result (λ fault. IsLoadFault S.tells (RefusesCode name.now (S.files shelf.old name.now))
         (λ which. which ≡ name.now) (S.read_faults shelf.old) (S.read_faults shelf.new) (report_of fault)) }
+    ensures given { S.tells → IfOk result (λ _. S.given shelf.new ≡ added_count (S.given shelf.old) (length (S.files shelf.old name.now))) }
     ensures rest { OnlyReads S.files S.read_faults S.save_faults S.takes shelf.old shelf.new }
 {
     let bytes = load(alloc, shelf, name)?;

@@ -2,6 +2,7 @@
 ghost use Rattle.std.specs.Prelude.{◌≡◌, ◌≤◌, length, IfOk, IfErr};
 ghost use Rattle.tilt_base.specs.declared.limits.TheConstants.{FILE};
 ghost use Rattle.tilt_load.specs.Load.{IsLoadFault, IsTooLong};
+ghost use Rattle.tilt_outside.specs.Counts.{added_count};
 ghost use Rattle.tilt_outside.specs.Reads.{OnlyReads};
 ghost use Rattle.tilt_report.specs.Report.{report_of};
 
@@ -21,6 +22,7 @@ pub(crate) fn load<'a, S: Shelf>(
     ensures short { IfOk result (λ bytes. length bytes.items ≤ FILE) }
     ensures fault { IfErr result (λ fault. IsLoadFault S.tells (IsTooLong name.now (S.files shelf.old name.now))
         (λ which. which ≡ name.now) (S.read_faults shelf.old) (S.read_faults shelf.new) (report_of fault)) }
+    ensures given { IfOk result (λ bytes. S.given shelf.new ≡ added_count (S.given shelf.old) (length bytes.items)) }
     ensures rest { OnlyReads S.files S.read_faults S.save_faults S.takes shelf.old shelf.new }
 {
     match read_all(alloc, shelf, name, FILE) {

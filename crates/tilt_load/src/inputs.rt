@@ -1,7 +1,8 @@
 // The inputs of a query or of a code, each from the file that is bound to it.
-ghost use Rattle.std.specs.Prelude.{◌≡◌, List, [], ◌∷◌, ◌++◌, ℕ, Ok, Err, None, length, IfOk, IfErr, OnOk, MatchResult};
+ghost use Rattle.std.specs.Prelude.{◌≡◌, ◌≤◌, List, [], ◌∷◌, ◌++◌, ℕ, Ok, Err, None, length, IfOk, IfErr, OnOk, MatchResult};
+ghost use Rattle.tilt_outside.specs.Counts.{added_count, last_count};
 ghost use Rattle.tilt_outside.specs.Reads.{OnlyReads};
-ghost use Rattle.tilt_load.specs.Inputs.{faulty_name};
+ghost use Rattle.tilt_load.specs.Inputs.{bytes_of_inputs, faulty_name};
 ghost use Rattle.tilt_load.specs.Load.{HasInputTurn, HasSessionTurn, IsLoadFault, IsNameFault};
 ghost use Rattle.tilt_load.specs.SeriesFiles.{AreWithin, TakesInputs, TakesSession, RefusesInputs, RefusesSession, inputs_read};
 ghost use Rattle.tilt_load.specs.Sessions.{bounds_of};
@@ -34,6 +35,8 @@ pub fn load_inputs<'a, S: Shelf>(
         (RefusesInputs (S.files shelf.old) (bindings_of binds.now) inputs.now)
         (HasInputTurn S.tells (S.files shelf.old) (bindings_of binds.now) inputs.now)
         (S.read_faults shelf.old) (S.read_faults shelf.new) (report_of fault)) }
+    ensures given { S.tells → S.given shelf.old ≤ last_count → IfOk result (λ _. S.given shelf.new
+        ≡ added_count (S.given shelf.old) (bytes_of_inputs (S.files shelf.old) (bindings_of binds.now) inputs.now)) }
     ensures rest { OnlyReads S.files S.read_faults S.save_faults S.takes shelf.old shelf.new }
 {
     let session = Session {
@@ -63,6 +66,8 @@ pub fn load_session_inputs<'a, S: Shelf>(
         (RefusesSession (S.files shelf.old) (bindings_of binds.now) (bounds_of session.now) inputs.now)
         (HasSessionTurn S.tells (S.files shelf.old) (bindings_of binds.now) (bounds_of session.now) inputs.now)
         (S.read_faults shelf.old) (S.read_faults shelf.new) (report_of fault)) }
+    ensures given { S.tells → S.given shelf.old ≤ last_count → IfOk result (λ _. S.given shelf.new
+        ≡ added_count (S.given shelf.old) (bytes_of_inputs (S.files shelf.old) (bindings_of binds.now) inputs.now)) }
     ensures rest { OnlyReads S.files S.read_faults S.save_faults S.takes shelf.old shelf.new }
 {
     check_names(inputs, binds)?;
@@ -104,6 +109,8 @@ fn read_inputs<'a, S: Shelf>(
         (λ why. inputs_read (S.files shelf.old) (bindings_of binds.now) (bounds_of session.now) inputs.now ≡ Err why)
         (HasSessionTurn S.tells (S.files shelf.old) (bindings_of binds.now) (bounds_of session.now) inputs.now)
         (S.read_faults shelf.old) (S.read_faults shelf.new) (report_of fault)) }
+    ensures given { S.tells → S.given shelf.old ≤ last_count → IfOk result (λ _. S.given shelf.new
+        ≡ added_count (S.given shelf.old) (bytes_of_inputs (S.files shelf.old) (bindings_of binds.now) inputs.now)) }
     ensures rest { OnlyReads S.files S.read_faults S.save_faults S.takes shelf.old shelf.new }
 {
     let mut all = Vec::new(alloc);

@@ -3,7 +3,8 @@
 //! What comes in is a shelf, names of files and binds; what goes out is the query, the checkpoint, the code or the rows, or the
 //! first fault. The clauses `taken` say what was read, by `specs/QueryFile`, `specs/CheckpointFile`, `specs/CodeFile` and
 //! `specs/SeriesFiles`, and the clauses `fault` why nothing was, by `specs/Load`: a read fault only where its count rose, a refusal
-//! only where it is the outcome.
+//! only where it is the outcome. The clauses `given` say that each file that is taken was read once and to its end. A query comes as
+//! what the compiler accepted, with fusion or without.
 #![tactic(auto)]
 
 mod binds;

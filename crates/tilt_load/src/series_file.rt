@@ -1,8 +1,9 @@
 // The series file of an input, from the shelf to its rows.
-ghost use Rattle.std.specs.Prelude.{◌≡◌, Ok, Err, IfOk, IfErr};
+ghost use Rattle.std.specs.Prelude.{◌≡◌, Ok, Err, IfOk, IfErr, length};
 ghost use Rattle.tilt_load.specs.Load.{IsLoadFault};
 ghost use Rattle.std.specs.List.{AllByRecursion};
 ghost use Rattle.tilt_load.specs.SeriesFiles.{IsWithin, input_read};
+ghost use Rattle.tilt_outside.specs.Counts.{added_count};
 ghost use Rattle.tilt_outside.specs.Reads.{OnlyReads};
 ghost use Rattle.tilt_report.specs.Report.{report_of};
 
@@ -28,6 +29,7 @@ pub(crate) fn load_input<'a, S: Shelf>(
     ensures fault { IfErr result (λ fault. IsLoadFault S.tells
         (λ why. input_read (S.files shelf.old) bounds file.now input.now ≡ Err why)
         (λ which. which ≡ file.now) (S.read_faults shelf.old) (S.read_faults shelf.new) (report_of fault)) }
+    ensures given { S.tells → IfOk result (λ _. S.given shelf.new ≡ added_count (S.given shelf.old) (length (S.files shelf.old file.now))) }
     ensures rest { OnlyReads S.files S.read_faults S.save_faults S.takes shelf.old shelf.new }
 {
     let bytes = load(alloc, shelf, file)?;

@@ -1,5 +1,5 @@
 use Rattle.std.proofs.Common.{◌≡◌, ◌∙◌}
-use Rattle.std.proofs.lemmas.Result.{err_from_is_err_and, IfOk-weaker, IfErr-weaker}
+use Rattle.std.proofs.lemmas.Result.{err_from_is_err_and}
 use Rattle.tilt_load.specs.CheckpointFile.{RefusesCheckpoint, of_none}
 use Rattle.tilt_load.specs.Load.{IsTooLong}
 use Rattle.tilt_load.proofs.Loads.{load_fault_weaker}
@@ -23,19 +23,13 @@ returns-in-Err-BadCheckpoint-clause-fault g c =
     let none = c.in-Err-BadCheckpoint.ensures.bad c.in-Err-BadCheckpoint.field-0-is in
     of_none (rw whole at c.in_ok-bytes.ensures.short) (λ k is e. none k is (c.deref.ensures.value ∙ whole ∙ e))
 
-pub returns-in-Ok-clause-taken : goal.returns-in-Ok-clause-taken
-returns-in-Ok-clause-taken g c =
+pub returns-clause-taken : goal.returns-clause-taken
+returns-clause-taken g c =
     λ told.
     let whole = c.in_ok-bytes.ensures.whole told in
     let read = c.in-Ok.ensures.checkpoint in
-    IfOk-weaker c.with_core.result _ _ (λ loaded same. rw same (record {
+    record {
       short = rw whole at c.in_ok-bytes.ensures.short;
       valid = read.0;
       spelled = rw (c.deref.ensures.value, whole) at read.1;
-    })) c.with_core.ensures.same
-
-pub returns-in-Ok-clause-valid : goal.returns-in-Ok-clause-valid
-returns-in-Ok-clause-valid g c = IfOk-weaker c.with_core.result _ _ (λ loaded same. rw same c.in-Ok.ensures.checkpoint.0) c.with_core.ensures.same
-
-pub returns-in-Ok-clause-fault : goal.returns-in-Ok-clause-fault
-returns-in-Ok-clause-fault g c = IfErr-weaker c.with_core.result _ _ (λ fault memory. rw memory tt) c.with_core.ensures.memory
+    }

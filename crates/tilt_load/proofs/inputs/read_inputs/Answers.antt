@@ -8,7 +8,7 @@ use Rattle.tilt_load.specs.Sessions.{bounds_of}
 use Rattle.tilt_series.specs.Series.{Bounds}
 use Rattle.tilt_outside.proofs.MoreReads.{reads-then}
 use Rattle.tilt_load.proofs.Within.{within_more}
-use Rattle.tilt_load.proofs.Turns.{turn_at, taken_at, fault_at, all_taken}
+use Rattle.tilt_load.proofs.Turns.{turn_at, taken_at, counted_at, fault_at, all_taken, all_counted}
 use Rattle.tilt_load.proofs.inputs.read_inputs.Goals as goal
 
 pub load_input-requires : goal.load_input-requires
@@ -44,6 +44,11 @@ loop-input-preserved g c =
       within = rw c.in_ok-add.ensures (within_more bounds c.loop-input.all.items c.in_ok-rows.rows c.loop-input.invariant.within
           (subst (λ (b : Bounds). AllByRecursion (IsWithin b) c.in_ok-rows.rows) (c.bounds_at-bounds.ensures ∙ ap bounds (c.len.ensures ∙ stored)) c.in_ok-rows.ensures.within));
       many = rw c.in_ok-add.ensures (omega (arith, length-append c.loop-input.all.items (c.in_ok-rows.rows ∷ []), c.loop-input.invariant.many));
+      given = λ t small.
+          counted_at files binds bounds c.args.inputs.now c.input-item.result c.loop-input.input-index c.loop-input-test.true c.input-item.is
+          (g.S.Shelf.files c.loop-input.shelf) c.file_bound.result.now (g.S.Shelf.given c.args.shelf.now) (g.S.Shelf.given c.loop-input.shelf)
+          (g.S.Shelf.given c.load_input.new.shelf) c.loop-input.invariant.rest.same_files c.file_bound.ensures
+          (c.loop-input.invariant.given t small) (c.in_ok-rows.ensures.given t);
       rest = reads-then c.loop-input.invariant.rest c.load_input.ensures.rest;
     }
 
@@ -51,3 +56,8 @@ pub returns-clause-taken : goal.returns-clause-taken
 returns-clause-taken g c =
     λ t. all_taken (g.S.Shelf.files c.args.shelf.now) (bindings_of c.args.binds.now) (bounds_of c.args.session.now) c.args.inputs.now c.loop-input.all.items
     c.loop-input.input-index c.loop-input-test.false (c.loop-input.invariant.read t)
+
+pub returns-clause-given : goal.returns-clause-given
+returns-clause-given g c =
+    λ t small. all_counted (g.S.Shelf.files c.args.shelf.now) (bindings_of c.args.binds.now) c.args.inputs.now (g.S.Shelf.given c.args.shelf.now)
+    (g.S.Shelf.given c.loop-input.shelf) c.loop-input.input-index c.loop-input-test.false (c.loop-input.invariant.given t small)

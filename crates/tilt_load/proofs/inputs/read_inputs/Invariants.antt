@@ -1,5 +1,7 @@
-use Rattle.std.proofs.Common.{◌≡◌, length, take, Ok}
+use Rattle.std.proofs.Common.{◌≡◌, ◌≤◌, length, take, Ok}
+use Rattle.tilt_outside.specs.Counts.{added_count, last_count}
 use Rattle.tilt_outside.specs.Reads.{OnlyReads}
+use Rattle.tilt_load.specs.Inputs.{bytes_of_inputs}
 use Rattle.tilt_load.specs.SeriesFiles.{AreWithin, inputs_read}
 use Rattle.tilt_load.specs.Sessions.{bounds_of}
 use Rattle.tilt_words.specs.Binding.{bindings_of}
@@ -10,5 +12,7 @@ invariant-loop-input g l = record {
   read : g.S.Shelf.tells → inputs_read (g.S.Shelf.files l.initial.shelf) (bindings_of l.binds) (bounds_of l.session) (take l.input-index l.inputs) ≡ Ok l.all.items;
   within : AreWithin (bounds_of l.session) l.all.items;
   many : length l.all.items ≡ l.input-index;
+  given : g.S.Shelf.tells → g.S.Shelf.given l.initial.shelf ≤ last_count → g.S.Shelf.given l.shelf
+      ≡ added_count (g.S.Shelf.given l.initial.shelf) (bytes_of_inputs (g.S.Shelf.files l.initial.shelf) (bindings_of l.binds) (take l.input-index l.inputs));
   rest : OnlyReads g.S.Shelf.files g.S.Shelf.read_faults g.S.Shelf.save_faults g.S.Shelf.takes l.initial.shelf l.shelf;
 }

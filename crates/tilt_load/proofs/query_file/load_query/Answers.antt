@@ -1,6 +1,6 @@
 use Rattle.std.proofs.Common.{◌≡◌}
 use Rattle.std.specs.Prelude.{⊤}
-use Rattle.std.proofs.lemmas.Result.{err_from_is_err_and, IfErr-weaker}
+use Rattle.std.proofs.lemmas.Result.{err_from_is_err_and, IfErr-weaker, IfOk-weaker}
 use Rattle.tilt_load.specs.Load.{IsTooLong}
 use Rattle.tilt_load.specs.QueryFile.{RefusesQuery}
 use Rattle.tilt_report.specs.Report.{report_of}
@@ -25,3 +25,7 @@ returns-clause-fault g c =
     IfErr-weaker c.read_query.result _ _ (λ fault is. load_fault_weaker ⊤ g.S.Shelf.tells (RefusesQuery name bytes) (RefusesQuery name file) (λ _. ⊥)
     (λ which. which ≡ name) 0 0 (g.S.Shelf.read_faults c.args.shelf.now) (g.S.Shelf.read_faults c.load.new.shelf) (λ t. tt)
     (λ report t refuses. rw (c.deref.ensures.value, c.in_ok-bytes.ensures.whole t) at refuses) (λ which rose never. absurd never) (report_of fault) is) (c.read_query.ensures.fault name)
+
+pub returns-clause-given : goal.returns-clause-given
+returns-clause-given g c =
+    λ t. IfOk-weaker c.read_query.result _ _ (λ query _. rw (c.in_ok-bytes.ensures.whole t) at c.in_ok-bytes.ensures.given) c.read_query.ensures.valid

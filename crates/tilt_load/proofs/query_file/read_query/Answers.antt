@@ -22,11 +22,11 @@ returns-in_err-core-clause-fault c =
     rw (p.1, p.2) (check_refuses name c.args.bytes.now c.in_ok-tokens.tokens.items c.in_ok-query.query c.in_err-core.field-0.0 c.requires
     c.in_ok-tokens.ensures.tokens (rw c.deref.ensures.value at c.in_ok-query.ensures.query) c.in_err-core.ensures)
 
-pub returns-in_err-margins-clause-fault : goal.returns-in_err-margins-clause-fault
-returns-in_err-margins-clause-fault c =
+pub returns-in_err-accepted-clause-fault : goal.returns-in_err-accepted-clause-fault
+returns-in_err-accepted-clause-fault c =
     λ name.
-    let p = err_from_is_err_and c.from_residual-in_err-margins.result c.from_residual-in_err-margins.ensures.1 in
-    rw (p.1, p.2) (reach_refuses name c.args.bytes.now c.in_ok-core.core c.in_err-margins.field-0.0
+    let p = err_from_is_err_and c.from_residual-in_err-accepted.result c.from_residual-in_err-accepted.ensures.1 in
+    rw (p.1, p.2) (reach_refuses name c.args.bytes.now c.in_ok-core.core c.in_err-accepted.field-0.0
     (record {
       short = c.requires;
       tokens = c.in_ok-tokens.tokens.items;
@@ -35,4 +35,20 @@ returns-in_err-margins-clause-fault c =
       parsed = rw c.deref.ensures.value at c.in_ok-query.ensures.query;
       accepted = c.in_ok-core.ensures;
     })
-    c.in_err-margins.ensures.margins)
+    c.in_err-accepted.ensures.refused)
+
+pub returns-clause-taken : goal.returns-clause-taken
+returns-clause-taken c =
+    rw c.in_ok-accepted.ensures.core (record {
+      has_core =
+          record {
+            short = c.requires;
+            tokens = c.in_ok-tokens.tokens.items;
+            lexed = c.in_ok-tokens.ensures.tokens;
+            query = c.in_ok-query.query;
+            parsed = rw c.deref.ensures.value at c.in_ok-query.ensures.query;
+            accepted = c.in_ok-core.ensures;
+          };
+      margins = c.in_ok-accepted.accepted.margins;
+      reach = c.in_ok-accepted.ensures.margins;
+    })
