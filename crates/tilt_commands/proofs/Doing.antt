@@ -23,7 +23,7 @@ use Rattle.tilt_printed.specs.Rings.{rings_line, rings_text}
 use Rattle.tilt_printed.specs.Show.{shown_of}
 use Rattle.tilt_printed.specs.Text.{IsFresh, IsStreamed}
 use Rattle.tilt_printed.specs.declared.printed.Printed.{Printed}
-use Rattle.tilt_report.specs.Report.{Reason, Outcome, printed, refused, Report, refusal, report_of, out_of_memory}
+use Rattle.tilt_report.specs.Report.{Outcome, printed, refused, Report, refusal, report_of, out_of_memory}
 use Rattle.tilt_report.specs.declared.fault.Fault.{Fault}
 use Rattle.tilt_stream.specs.Snap.{Snapshot}
 use Rattle.tilt_stream.specs.Text.{text_of}

@@ -1,7 +1,7 @@
 -- Each command is lawful: files have one outcome for it, and always one.
-use Rattle.std.proofs.Common.{◌≡◌, ◌≤◌, ◌∙◌, ◌++◌, ◌⊎◌, Bool, List, [], ◌∷◌, ℕ, ◌*◌, ◌+◌, length, Option, Some, Result, Ok, inl, inr, refl, sym, ap, subst, arith}
+use Rattle.std.proofs.Common.{◌≡◌, ◌≤◌, ◌∙◌, ◌++◌, ◌⊎◌, Bool, List, ℕ, ◌*◌, ◌+◌, length, Option, Some, Result, Ok, inl, inr, refl, sym, ap}
 use Rattle.tilt_base.specs.declared.span.Span.{Span}
-use Rattle.tilt_bounds.specs.Margins.{MarginsParts, margins_of}
+use Rattle.tilt_bounds.specs.Margins.{MarginsParts}
 use Rattle.tilt_code.specs.Code.{CodeParts}
 use Rattle.tilt_code.specs.Listing.{listing}
 use Rattle.tilt_code.specs.Run.{run_of}
@@ -16,7 +16,7 @@ use Rattle.tilt_commands.specs.Run.{run_row}
 use Rattle.tilt_commands.specs.Try.{IsTryOutcome, made_inputs, summed}
 use Rattle.tilt_commands.specs.Watch.{watch_row}
 use Rattle.tilt_compiler.specs.Compiled.{IsCodeOf}
-use Rattle.tilt_core.specs.Core.{CoreParts, domain_of}
+use Rattle.tilt_core.specs.Core.{CoreParts}
 use Rattle.tilt_core.specs.Meaning.{output_of}
 use Rattle.tilt_core.specs.Needs.{Need}
 use Rattle.tilt_explain.specs.Explain.{explained}

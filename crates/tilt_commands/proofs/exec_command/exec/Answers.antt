@@ -1,4 +1,4 @@
-use Rattle.std.proofs.Common.{◌≤◌, List, None, ap, arith, refl}
+use Rattle.std.proofs.Common.{List, ap, refl}
 use Rattle.std.proofs.lemmas.Result.{err_from_is_err_and}
 use Rattle.tilt_commands.proofs.Doing.{fits_unsaved, none_shown}
 use Rattle.tilt_commands.specs.Exec.{exec_row}
@@ -6,7 +6,6 @@ use Rattle.tilt_load.proofs.FileCommands.{both_read, file_undone, inputs_undone,
 use Rattle.tilt_load.specs.Does.{reading}
 use Rattle.tilt_load.specs.FileCommand.{done, own_turn}
 use Rattle.tilt_outside.proofs.MoreReads.{reads-then}
-use Rattle.tilt_outside.specs.Counts.{last_count}
 use Rattle.tilt_printed.specs.declared.printed.Printed.TheVariants.{Whole}
 use Rattle.tilt_printed.specs.declared.whole_text.WholeText.TheVariants.{Snapshots}
 use Rattle.tilt_report.specs.Report.{printed, report_of}
@@ -62,10 +61,9 @@ returns g c =
       fault = λ w. tt;
       read = λ t w.
           let first = c.in_ok-code.ensures.given t in
-          let bound : g.S.Shelf.given c.load_code.new.shelf ≤ last_count = omega arith in
           both_read (exec_row c.args.code.now) c.args.code.now (bindings_of c.args.binds.now)
           (reading g.S.Shelf.tells g.S.Shelf.files g.S.Shelf.read_faults g.S.Shelf.save_faults g.S.Shelf.takes g.S.Shelf.given c.args.shelf.now c.load_inputs.new.shelf)
           c.in_ok-code.code (g.S.Shelf.given c.load_code.new.shelf) (c.in_ok-code.ensures.taken t) first
-          (rw (c.load_code.ensures.rest.same_files, c.inputs.ensures.names) at (c.in_ok-rows.ensures.given t bound));
+          (rw (c.load_code.ensures.rest.same_files, c.inputs.ensures.names) at (c.in_ok-rows.ensures.given t));
       rest = reads-then c.load_code.ensures.rest c.load_inputs.ensures.rest;
     })

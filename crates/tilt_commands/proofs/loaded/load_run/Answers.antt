@@ -1,11 +1,9 @@
-use Rattle.std.proofs.Common.{◌≤◌, arith}
 use Rattle.std.proofs.lemmas.Result.{err_from_is_err_and}
 use Rattle.tilt_commands.specs.Loaded.{refusing_row}
 use Rattle.tilt_load.proofs.FileCommands.{both_read, file_undone, inputs_undone, turn_of_input}
 use Rattle.tilt_load.specs.Does.{reading}
 use Rattle.tilt_load.specs.FileCommand.{own_turn}
 use Rattle.tilt_outside.proofs.MoreReads.{reads-then}
-use Rattle.tilt_outside.specs.Counts.{last_count}
 use Rattle.tilt_report.specs.Report.{report_of}
 use Rattle.tilt_words.specs.Binding.{bindings_of}
 use Rattle.tilt_commands.proofs.loaded.load_run.Goals as goal
@@ -61,9 +59,8 @@ returns-clause-loads g c = record {
   fault = tt;
   read = λ t.
       let first = c.in_ok-loaded.ensures.given t in
-      let bound : g.S.Shelf.given c.load_query.new.shelf ≤ last_count = omega arith in
       both_read (refusing_row c.args.query.now) c.args.query.now (bindings_of c.args.binds.now) (reading g.S.Shelf.tells g.S.Shelf.files g.S.Shelf.read_faults g.S.Shelf.save_faults
       g.S.Shelf.takes g.S.Shelf.given c.args.shelf.now c.load_inputs.new.shelf) c.in_ok-loaded.loaded.accepted.core (g.S.Shelf.given c.load_query.new.shelf) (c.in_ok-loaded.ensures.taken t) first
-      (rw (c.load_query.ensures.rest.same_files, c.inputs.ensures.names, c.core.ensures.value) at (c.in_ok-rows.ensures.given t bound));
+      (rw (c.load_query.ensures.rest.same_files, c.inputs.ensures.names, c.core.ensures.value) at (c.in_ok-rows.ensures.given t));
   rest = reads-then c.load_query.ensures.rest c.load_inputs.ensures.rest;
 }

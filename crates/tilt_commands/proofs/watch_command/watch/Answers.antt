@@ -1,13 +1,13 @@
 use Rattle.std.proofs.Common.{[], List, None, refl}
 use Rattle.std.proofs.lemmas.Result.{err_from_is_err_and}
-use Rattle.std.specs.Prelude.{◌≡◌, ⊤}
-use Rattle.tilt_commands.proofs.Doing.{does_made, does_undone, fits_unsaved, none_shown, turn_any}
+use Rattle.std.specs.Prelude.{⊤}
+use Rattle.tilt_commands.proofs.Doing.{does_made, does_undone, fits_unsaved, turn_any}
 use Rattle.tilt_commands.specs.Query.{IsMadeOfQuery}
 use Rattle.tilt_printed.specs.Figures.{watched_text}
 use Rattle.tilt_report.specs.Report.{printed}
 use Rattle.tilt_load.specs.Does.{reading}
 use Rattle.tilt_printed.specs.Answer.{Fits, comes_to}
-use Rattle.tilt_printed.specs.declared.printed.Printed.TheVariants.{Whole, Rings}
+use Rattle.tilt_printed.specs.declared.printed.Printed.TheVariants.{Whole}
 use Rattle.tilt_printed.specs.declared.whole_text.WholeText.TheVariants.{Watched}
 use Rattle.tilt_watch.specs.Watch.{Watch}
 use Rattle.tilt_words.specs.Binding.{bindings_of}
