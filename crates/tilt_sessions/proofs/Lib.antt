@@ -1,11 +1,11 @@
+pub mod Beyond
 pub mod Counted
 pub mod Cuts
 pub mod Handed
+pub mod Lawful
 pub mod Lists
-pub mod Once
 pub mod Parts
 pub mod Printed
 pub mod Resumed
-pub mod SessionFiles
 pub mod Started
 pub mod Steps

@@ -2,7 +2,6 @@
 use Rattle.std.proofs.Common.{◌≡◌, ◌++◌, ℕ, ℤ, List, length, map, None, Some, refl, sym, ap, ◌∙◌, subst}
 use Rattle.std.proofs.lemmas.List.{length-map}
 use Rattle.std.specs.List.{AllByRecursion}
-use Rattle.tilt_bounds.specs.Margins.{MarginsParts}
 use Rattle.tilt_checkpoint.specs.Checkpoint.{CheckpointParts}
 use Rattle.tilt_checkpoint.specs.Decided.{IsFrame, frame_of, first_kept}
 use Rattle.tilt_checkpoint.specs.Spelling.{spelling}
@@ -54,8 +53,8 @@ pub one-next : {c d : CheckpointParts} → Some c ≡ Some d → c ≡ d
 one-next same = cc same
 
 -- A session behind one that handed on its checkpoint.
-module _ (query : List StatementTree) (core : CoreParts) (margins : MarginsParts) (rows parts : List (List Snapshot)) (old : ℤ) (printed : List Snapshot) (bytes : List ℕ) (found : CheckpointParts)
-    (run : IsRun query core margins rows) (joined : AreJoined query core rows old printed bytes) (in_order : AllByRecursion AreRows rows)
+module _ (query : List StatementTree) (core : CoreParts) (rows parts : List (List Snapshot)) (old : ℤ) (printed : List Snapshot) (bytes : List ℕ) (found : CheckpointParts)
+    (run : IsRun query core rows) (joined : AreJoined query core rows old printed bytes) (in_order : AllByRecursion AreRows rows)
     (is_found : found ≡ checkpoint_at query (map (early (Upto old)) rows) old) where
   pub core-found : core ≡ core_of found.query
   core-found = rw is_found (sym (checked-core query core run.well_formed))

@@ -1,4 +1,5 @@
+pub mod HandsOn
 pub mod Parts
 pub mod Resume
-pub mod SessionFile
+pub mod SavedCut
 pub mod Start

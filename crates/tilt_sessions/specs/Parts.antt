@@ -10,7 +10,6 @@ use Rattle.tilt_stream.specs.Snap.{Snapshot}
 use Rattle.tilt_syntax.specs.Tree.{StatementTree}
 use Rattle.tilt_types.specs.Checked.{checked}
 use Rattle.tilt_core.specs.Core.{CoreParts}
-use Rattle.tilt_bounds.specs.Margins.{MarginsParts, margins_of}
 use Rattle.tilt_syntax.specs.Query.{IsQuery}
 
 -- whether a row starts before a session ends
@@ -37,11 +36,10 @@ left_by (Some cut) rows = behind cut rows
 abbrev pub part_of : Option ℤ → Cut → List Snapshot → List Snapshot
 part_of from cut rows = early cut (left_by from rows)
 
--- a query that is accepted, with its core and its margins, and its rows, one list for each input
-pub record IsRun (query : List StatementTree) (core : CoreParts) (margins : MarginsParts) (rows : List (List Snapshot)) : Type 0 where
+-- a query that is well formed, with its core, and its rows, one list for each input
+pub record IsRun (query : List StatementTree) (core : CoreParts) (rows : List (List Snapshot)) : Type 0 where
   pub parsed : IsQuery query
   pub well_formed : checked query ≡ Ok core
-  pub near : margins_of core ≡ Ok margins
   pub counted : length rows ≡ length core.inputs
 
 -- what sessions up to a cut have printed of a query, and the bytes that the last one handed on

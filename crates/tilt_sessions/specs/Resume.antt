@@ -1,4 +1,4 @@
--- What a session behind a checkpoint does, given its checkpoint, its binds, where it ends and what each name holds.
+-- What a session after a checkpoint does, given its checkpoint file, its binds, where it ends and what each name holds.
 use Rattle.std.specs.Prelude.{◌≡◌, ◌<ℤ◌, ℕ, ℤ, List, Option, Some, None}
 use Rattle.tilt_checkpoint.specs.Checkpoint.{CheckpointParts}
 use Rattle.tilt_checkpoint.specs.Spelling.{spelling}
@@ -7,48 +7,56 @@ use Rattle.tilt_chunk.specs.Later.{newly, next}
 use Rattle.tilt_chunk.specs.declared.cut.Cut.{Cut}
 use Rattle.tilt_chunk.specs.declared.cut.Cut.TheVariants.{Upto, End}
 use Rattle.tilt_load.specs.CheckpointFile.{TakesCheckpoint, RefusesCheckpoint}
+use Rattle.tilt_load.specs.FileCommand.{FileCommand}
 use Rattle.tilt_load.specs.SeriesFiles.{session_bounds}
+use Rattle.tilt_printed.specs.Saving.{SaveValue}
 use Rattle.tilt_report.specs.Report.{Reason, Outcome, printed, printed_and_saved, cut_back}
 use Rattle.tilt_series.specs.Series.{Bounds}
-use Rattle.tilt_sessions.specs.SessionFile.{IsSessionOutcome, HasFileTurn}
+use Rattle.tilt_sessions.specs.SavedCut.{SavedCutValue, cut_of}
 use Rattle.tilt_stream.specs.Snap.{Snapshot}
 use Rattle.tilt_stream.specs.Text.{lines_of}
 use Rattle.tilt_types.specs.Checked.{core_of}
-use Rattle.tilt_words.specs.Binding.{Binding}
 
 -- the text is the spelling of this checkpoint, and the session doesn't end before its cut
-pub record GoesOn (bytes : List ℕ) (cut : Cut) (c : CheckpointParts) : Type 0 where
+pub record GoesOn (cut : Cut) (bytes : List ℕ) (c : CheckpointParts) : Type 0 where
   pub taken : TakesCheckpoint bytes c
   pub onward : IsOnward c.cut cut
 
 -- why a session doesn't go on after the checkpoint file of a name: the file is refused, or the session would end before the checkpoint's
 -- cut
-pub data RefusesToGoOn (name bytes : List ℕ) (cut : Cut) : Reason → Type 0 where
-  no_checkpoint : {why : Reason} → RefusesCheckpoint name bytes why → RefusesToGoOn name bytes cut why
+pub data RefusesToGoOn (name : List ℕ) (cut : Cut) (bytes : List ℕ) : Reason → Type 0 where
+  no_checkpoint : {why : Reason} → RefusesCheckpoint name bytes why → RefusesToGoOn name cut bytes why
   back : (c : CheckpointParts) (upto : ℤ) → TakesCheckpoint bytes c → cut ≡ Upto upto → upto <ℤ c.cut
-      → RefusesToGoOn name bytes cut (cut_back c.cut upto)
+      → RefusesToGoOn name cut bytes (cut_back c.cut upto)
 
 -- the tick below which rows start, where there is one
 abbrev pub limit_of : Cut → Option ℤ
 limit_of (Upto cut) = Some cut
 limit_of End = None
 
--- the rows of each input start at the checkpoint's cut or behind it, not before the last row ended, and before the session ends
+-- the rows of each input start at the checkpoint's cut or after it, not before the last row ended, and before the session ends
 abbrev pub later_bounds : Cut → CheckpointParts → ℕ → Bounds
 later_bounds cut c = session_bounds c.series (Some c.cut) (limit_of cut)
 
--- the lines of what is printed newly; where the session ends by a cut, the spelling of its checkpoint is saved under a name
-abbrev pub resumed : Cut → List ℕ → CheckpointParts → List (List Snapshot) → Outcome
-resumed (Upto cut) save c rows = printed_and_saved (lines_of (newly c rows (Upto cut))) save (spelling (next c rows cut))
-resumed End save c rows = printed (lines_of (newly c rows End))
+-- the lines of what is printed newly; where the session ends by a cut, the spelling of its checkpoint is saved under the name
+abbrev pub resumed : Option SavedCutValue → CheckpointParts → List (List Snapshot) → Outcome
+resumed None c rows = printed (lines_of (newly c rows End))
+resumed (Some cut) c rows =
+    printed_and_saved (lines_of (newly c rows (Upto cut.upto))) cut.save (spelling (next c rows cut.upto))
 
--- what the session does
-abbrev pub IsResumeOutcome : (List ℕ → List ℕ) → List ℕ → List Binding → Cut → List ℕ → Outcome → Type 0
-IsResumeOutcome files checkpoint binds cut save outcome =
-    IsSessionOutcome (GoesOn (files checkpoint) cut) (RefusesToGoOn checkpoint (files checkpoint) cut) (λ c. (core_of c.query).inputs)
-    (later_bounds cut) (resumed cut save) files binds outcome
+-- the spelling of a checkpoint under the name, where there are both
+abbrev pub saved_of : Option SavedCutValue → Option CheckpointParts → Option SaveValue
+saved_of None next = None
+saved_of (Some cut) None = None
+saved_of (Some cut) (Some c) = Some (record { name = cut.save; bytes = spelling c })
 
--- it is a file's turn to be read: the checkpoint's, or that of an input
-abbrev pub HasResumeTurn : Type 0 → (List ℕ → List ℕ) → List ℕ → List Binding → Cut → List ℕ → Type 0
-HasResumeTurn tells files checkpoint binds cut name =
-    HasFileTurn (GoesOn (files checkpoint) cut) (λ c. (core_of c.query).inputs) (later_bounds cut) tells files checkpoint binds name
+-- what the session is, with the checkpoint file of a name
+abbrev pub resume_row : Option SavedCutValue → List ℕ → FileCommand
+resume_row ending checkpoint = record {
+  Says = CheckpointParts;
+  takes = GoesOn (cut_of ending);
+  refuses = RefusesToGoOn checkpoint (cut_of ending);
+  inputs = λ c. (core_of c.query).inputs;
+  within = later_bounds (cut_of ending);
+  gives = λ c rows outcome. outcome ≡ resumed ending c rows;
+}

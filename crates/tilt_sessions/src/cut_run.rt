@@ -7,7 +7,7 @@ ghost use Rattle.tilt_words.specs.Number.{RiseFrom};
 
 use crate::joined::Joined;
 use std::alloc::{AllocError as OutOfMemory, Global};
-use tilt_chunk::Accepted;
+use tilt_compiler::Accepted;
 use tilt_stream::{Rows, SnapList};
 use tilt_syntax::Query;
 
@@ -18,17 +18,17 @@ use tilt_syntax::Query;
 pub fn run_cut(
     alloc: Global,
     query: Query,
-    accepted: &Accepted<'_>,
+    accepted: &Accepted,
     rows: &[Rows],
     first: i64,
     later: &[i64],
 ) -> Result<SnapList, OutOfMemory>
-    requires run { IsRun query accepted.now.core.now accepted.now.margins.now rows.now }
+    requires run { IsRun query accepted.now.core rows.now }
     requires cuts { RiseFrom (neg_ℤ T) T (first ∷ later.now) }
-    ensures whole { IfOk result (λ list. output_of accepted.now.core.now rows.now ≡ Some list) }
+    ensures whole { IfOk result (λ list. output_of accepted.now.core rows.now ≡ Some list) }
 {
     // The output domain is known from here on.
-    let _ = accepted.core.domain();
+    let _ = accepted.domain();
     let mut joined = Joined::first(alloc, query, accepted, rows, first)?;
     for cut in later {
         joined = joined.go_on(alloc, accepted, rows, *cut)?;

@@ -12,7 +12,8 @@ ghost use Rattle.tilt_syntax.specs.Tree.{StatementTree};
 use crate::part::session_rows;
 use std::alloc::{AllocError as OutOfMemory, Global};
 use tilt_checkpoint::{Checkpoint, Frame, decode, encode};
-use tilt_chunk::{Accepted, Cut, resume, start};
+use tilt_chunk::{Cut, resume, start};
+use tilt_compiler::Accepted;
 use tilt_stream::{Rows, SnapList};
 use tilt_syntax::Query;
 
@@ -29,13 +30,13 @@ impl Joined {
     pub(crate) fn first(
         alloc: Global,
         query: Query,
-        accepted: &Accepted<'_>,
+        accepted: &Accepted,
         rows: &[Rows],
         cut: i64,
     ) -> Result<Joined, OutOfMemory>
-        requires run { IsRun query accepted.now.core.now accepted.now.margins.now rows.now }
+        requires run { IsRun query accepted.now.core rows.now }
         requires cut { IsCut cut }
-        ensures joined { IfOk result (λ joined. AreJoined query accepted.now.core.now rows.now cut joined.printed joined.bytes.items) }
+        ensures joined { IfOk result (λ joined. AreJoined query accepted.now.core rows.now cut joined.printed joined.bytes.items) }
         ensures cut { IfOk result (λ joined. joined.cut ≡ cut) }
     {
         let part = session_rows(alloc, rows, None, Cut::Upto(cut))?;
@@ -52,21 +53,21 @@ impl Joined {
     pub(crate) fn go_on(
         self,
         alloc: Global,
-        accepted: &Accepted<'_>,
+        accepted: &Accepted,
         rows: &[Rows],
         cut: i64,
     ) -> Result<Joined, OutOfMemory>
-        requires run { (query : List StatementTree) × IsRun query accepted.now.core.now accepted.now.margins.now rows.now
-            × AreJoined query accepted.now.core.now rows.now self.cut self.printed self.bytes.items }
+        requires run { (query : List StatementTree) × IsRun query accepted.now.core rows.now
+            × AreJoined query accepted.now.core rows.now self.cut self.printed self.bytes.items }
         requires onward { self.cut ≤ℤ cut }
         requires cut { IsCut cut }
-        ensures joined { (query : List StatementTree) → IsRun query accepted.now.core.now accepted.now.margins.now rows.now
-            → AreJoined query accepted.now.core.now rows.now self.cut self.printed self.bytes.items
-            → IfOk result (λ joined. AreJoined query accepted.now.core.now rows.now cut joined.printed joined.bytes.items) }
+        ensures joined { (query : List StatementTree) → IsRun query accepted.now.core rows.now
+            → AreJoined query accepted.now.core rows.now self.cut self.printed self.bytes.items
+            → IfOk result (λ joined. AreJoined query accepted.now.core rows.now cut joined.printed joined.bytes.items) }
         ensures cut { IfOk result (λ joined. joined.cut ≡ cut) }
     {
         // The bounds of the output are known from here on.
-        let _ = Frame::new(accepted.core, accepted.margins);
+        let _ = Frame::new(accepted.core(), accepted.margins());
         let part = session_rows(alloc, rows, Some(self.cut), Cut::Upto(cut))?;
         let checkpoint = handed_on(alloc, &self.bytes)?;
         let (list, next) = resume(alloc, checkpoint, accepted, part, Cut::Upto(cut))?;
@@ -84,16 +85,16 @@ impl Joined {
     pub(crate) fn finish(
         self,
         alloc: Global,
-        accepted: &Accepted<'_>,
+        accepted: &Accepted,
         rows: &[Rows],
     ) -> Result<SnapList, OutOfMemory>
-        requires run { (query : List StatementTree) × IsRun query accepted.now.core.now accepted.now.margins.now rows.now
-            × AreJoined query accepted.now.core.now rows.now self.cut self.printed self.bytes.items }
+        requires run { (query : List StatementTree) × IsRun query accepted.now.core rows.now
+            × AreJoined query accepted.now.core rows.now self.cut self.printed self.bytes.items }
         requires cut { IsCut self.cut }
-        ensures { IfOk result (λ list. list ≡ emitted accepted.now.core.now rows.now End) }
+        ensures { IfOk result (λ list. list ≡ emitted accepted.now.core rows.now End) }
     {
         // The bounds of the output are known from here on.
-        let _ = Frame::new(accepted.core, accepted.margins);
+        let _ = Frame::new(accepted.core(), accepted.margins());
         let part = session_rows(alloc, rows, Some(self.cut), Cut::End)?;
         let checkpoint = handed_on(alloc, &self.bytes)?;
         let (list, _) = resume(alloc, checkpoint, accepted, part, Cut::End)?;
@@ -108,7 +109,7 @@ fn handed_on(alloc: Global, bytes: &[u8]) -> Result<Checkpoint, OutOfMemory>
         → IfOk result (λ found. found ≡ checkpoint) }
 {
     match decode(alloc, bytes) {
-        Ok(checkpoint) => Ok(checkpoint),
+        Ok(decoded) => Ok(decoded.checkpoint),
         // The bytes are those of a checkpoint, so that memory alone can be missing.
         Err(_) => Err(OutOfMemory),
     }

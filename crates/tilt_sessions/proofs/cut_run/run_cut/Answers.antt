@@ -27,4 +27,4 @@ loop-cut-preserved c =
     }
 
 pub returns : goal.returns
-returns c = record { whole = all-output c.args.accepted.now.core.now c.args.rows.now c.domain.result c.finish.result c.domain.ensures.span c.requires.run.counted c.finish.ensures }
+returns c = record { whole = all-output c.args.accepted.now.core c.args.rows.now c.domain.result c.finish.result c.domain.ensures.value c.requires.run.counted c.finish.ensures }

@@ -6,6 +6,6 @@ use Rattle.tilt_sessions.proofs.cut_run.run_cut.Given as goal
 
 abbrev pub invariant-loop-cut : goal.invariant-loop-cut
 invariant-loop-cut l = record {
-  joined : AreJoined l.fn.query l.accepted.core.now l.rows l.joined.cut l.joined.printed l.joined.bytes.items;
+  joined : AreJoined l.fn.query l.accepted.core l.rows l.joined.cut l.joined.printed l.joined.bytes.items;
   rise : RiseFrom l.joined.cut T (drop l.cut-index l.later);
 }

@@ -15,7 +15,7 @@ returns-in_err-loaded-clause-fault g c =
     let tells = g.S.Shelf.tells in
     let name = c.args.name.now in
     let file = g.S.Shelf.files c.args.shelf.now name in
-    rw (p.1, p.2) (load_fault_weaker tells tells (RefusesCheckpoint name file) (RefusesToGoOn name file c.args.cut) (λ which. which ≡ name) (λ which. which ≡ name)
+    rw (p.1, p.2) (load_fault_weaker tells tells (RefusesCheckpoint name file) (RefusesToGoOn name c.args.cut file) (λ which. which ≡ name) (λ which. which ≡ name)
     _ _ _ _ (λ t. t) (λ why t is. no_checkpoint is) (λ which rose same. (rose, same)) (report_of c.in_err-loaded.field-0.0) c.in_err-loaded.ensures.fault)
 
 pub returns-clause-fault : goal.returns-clause-fault

@@ -10,7 +10,7 @@ pub resume-requires-clause-core : goal.resume-requires-clause-core
 resume-requires-clause-core c =
     let run = c.requires.run in
     let found = c.in_ok-checkpoint.ensures _ run.2.valid (c.deref.ensures.value ∙ run.2.handed_on) in
-    core-found run.0 c.args.accepted.now.core.now c.args.accepted.now.margins.now c.args.rows.now c.in_ok-part.part.items c.args.self.cut c.args.self.printed
+    core-found run.0 c.args.accepted.now.core c.args.rows.now c.in_ok-part.part.items c.args.self.cut c.args.self.printed
     c.args.self.bytes.items c.in_ok-checkpoint.checkpoint run.1 run.2 c.in_ok-part.ensures.in_order found
 
 pub resume-requires-clause-rows : goal.resume-requires-clause-rows
@@ -21,7 +21,7 @@ resume-requires-clause-rows c =
     let high = run.2.valid.cut.1 in
     let fits : FitsSigned w64 c.args.self.cut = record { sfits = omega (arith, ints, low, high) } in
     let parts = rw (to_z-of_z w64 c.args.self.cut fits) at c.in_ok-part.ensures.parts in
-    new-handed run.0 c.args.accepted.now.core.now c.args.accepted.now.margins.now c.args.rows.now c.in_ok-part.part.items c.args.self.cut c.args.self.printed
+    new-handed run.0 c.args.accepted.now.core c.args.rows.now c.in_ok-part.part.items c.args.self.cut c.args.self.printed
     c.args.self.bytes.items c.in_ok-checkpoint.checkpoint run.1 run.2 c.in_ok-part.ensures.in_order found End tt parts
 
 pub with_list-requires : goal.with_list-requires
@@ -32,7 +32,7 @@ with_list-requires c =
     let high = run.2.valid.cut.1 in
     let fits : FitsSigned w64 c.args.self.cut = record { sfits = omega (arith, ints, low, high) } in
     let parts = rw (to_z-of_z w64 c.args.self.cut fits) at c.in_ok-part.ensures.parts in
-    both-snapshots run.0 c.args.accepted.now.core.now c.args.accepted.now.margins.now c.args.rows.now c.in_ok-part.part.items c.args.self.cut
+    both-snapshots run.0 c.args.accepted.now.core c.args.rows.now c.in_ok-part.part.items c.args.self.cut
     c.args.self.printed c.args.self.bytes.items c.in_ok-checkpoint.checkpoint run.1 run.2 c.in_ok-part.ensures.in_order found End tt parts
     c.in_ok-list.ensures.law c.in_ok-list.list c.in_ok-list.ensures.newly (rw c.new.ensures.frame at c.new.ensures.bounds)
 
@@ -44,7 +44,7 @@ returns c =
     let high = run.2.valid.cut.1 in
     let fits : FitsSigned w64 c.args.self.cut = record { sfits = omega (arith, ints, low, high) } in
     let parts = rw (to_z-of_z w64 c.args.self.cut fits) at c.in_ok-part.ensures.parts in
-    let whole = both-printed run.0 c.args.accepted.now.core.now c.args.accepted.now.margins.now c.args.rows.now c.in_ok-part.part.items c.args.self.cut
+    let whole = both-printed run.0 c.args.accepted.now.core c.args.rows.now c.in_ok-part.part.items c.args.self.cut
     c.args.self.printed c.args.self.bytes.items c.in_ok-checkpoint.checkpoint run.1 run.2 c.in_ok-part.ensures.in_order found End tt parts
     c.in_ok-list.ensures.law c.in_ok-list.list c.in_ok-list.ensures.newly in
     rw (← all-end c.args.rows.now, ← whole) c.with_list.ensures

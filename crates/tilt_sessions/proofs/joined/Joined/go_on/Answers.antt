@@ -11,7 +11,7 @@ pub resume-requires-clause-core : goal.resume-requires-clause-core
 resume-requires-clause-core c =
     let run = c.requires.run in
     let found = c.in_ok-checkpoint.ensures _ run.2.valid (c.deref.ensures.value ∙ run.2.handed_on) in
-    core-found run.0 c.args.accepted.now.core.now c.args.accepted.now.margins.now c.args.rows.now c.in_ok-part.part.items c.args.self.cut c.args.self.printed
+    core-found run.0 c.args.accepted.now.core c.args.rows.now c.in_ok-part.part.items c.args.self.cut c.args.self.printed
     c.args.self.bytes.items c.in_ok-checkpoint.checkpoint run.1 run.2 c.in_ok-part.ensures.in_order found
 
 pub resume-requires-clause-rows : goal.resume-requires-clause-rows
@@ -22,7 +22,7 @@ resume-requires-clause-rows c =
     let high = run.2.valid.cut.1 in
     let fits : FitsSigned w64 c.args.self.cut = record { sfits = omega (arith, ints, low, high) } in
     let parts = rw (to_z-of_z w64 c.args.self.cut fits, to_z-of_z w64 c.args.cut c.ranges.cut) at c.in_ok-part.ensures.parts in
-    rw (to_z-of_z w64 c.args.cut c.ranges.cut) (new-handed run.0 c.args.accepted.now.core.now c.args.accepted.now.margins.now c.args.rows.now
+    rw (to_z-of_z w64 c.args.cut c.ranges.cut) (new-handed run.0 c.args.accepted.now.core c.args.rows.now
     c.in_ok-part.part.items c.args.self.cut c.args.self.printed c.args.self.bytes.items c.in_ok-checkpoint.checkpoint run.1 run.2
     c.in_ok-part.ensures.in_order found (Upto c.args.cut) c.requires.onward parts)
 
@@ -31,7 +31,7 @@ resume-requires-clause-onward c =
     let run = c.requires.run in
     let found = c.in_ok-checkpoint.ensures _ run.2.valid (c.deref.ensures.value ∙ run.2.handed_on) in
     rw (
-      cut-found run.0 c.args.accepted.now.core.now c.args.accepted.now.margins.now c.args.rows.now c.in_ok-part.part.items c.args.self.cut c.args.self.printed
+      cut-found run.0 c.args.accepted.now.core c.args.rows.now c.in_ok-part.part.items c.args.self.cut c.args.self.printed
           c.args.self.bytes.items c.in_ok-checkpoint.checkpoint run.1 run.2 c.in_ok-part.ensures.in_order found,
       to_z-of_z w64 c.args.cut c.ranges.cut,
     ) c.requires.onward
@@ -46,7 +46,7 @@ with_list-requires c =
     let parts = rw (to_z-of_z w64 c.args.self.cut fits, to_z-of_z w64 c.args.cut c.ranges.cut) at c.in_ok-part.ensures.parts in
     let law = rw (to_z-of_z w64 c.args.cut c.ranges.cut) at c.in_ok-list.ensures.law in
     let new = rw (to_z-of_z w64 c.args.cut c.ranges.cut) at c.in_ok-list.ensures.newly in
-    both-snapshots run.0 c.args.accepted.now.core.now c.args.accepted.now.margins.now c.args.rows.now c.in_ok-part.part.items c.args.self.cut
+    both-snapshots run.0 c.args.accepted.now.core c.args.rows.now c.in_ok-part.part.items c.args.self.cut
     c.args.self.printed c.args.self.bytes.items c.in_ok-checkpoint.checkpoint run.1 run.2 c.in_ok-part.ensures.in_order found (Upto c.args.cut)
     c.requires.onward parts law c.in_ok-list.list new (rw c.new.ensures.frame at c.new.ensures.bounds)
 
@@ -60,11 +60,11 @@ returns-clause-joined c = λ query run joined.
     let law = rw (to_z-of_z w64 c.args.cut c.ranges.cut) at c.in_ok-list.ensures.law in
     let new = rw (to_z-of_z w64 c.args.cut c.ranges.cut) at c.in_ok-list.ensures.newly in
     let next = rw (to_z-of_z w64 c.args.cut c.ranges.cut) at c.in_ok-list.ensures.next in
-    let left = one-next (sym c.unwrap-next.ensures ∙ next) ∙ both-left query c.args.accepted.now.core.now c.args.accepted.now.margins.now c.args.rows.now
+    let left = one-next (sym c.unwrap-next.ensures ∙ next) ∙ both-left query c.args.accepted.now.core c.args.rows.now
     c.in_ok-part.part.items c.args.self.cut c.args.self.printed c.args.self.bytes.items c.in_ok-checkpoint.checkpoint run joined
     c.in_ok-part.ensures.in_order found (Upto c.args.cut) c.requires.onward parts law c.args.cut refl in
     record {
-      is_printed = c.in_ok-printed.ensures ∙ both-printed query c.args.accepted.now.core.now c.args.accepted.now.margins.now c.args.rows.now
+      is_printed = c.in_ok-printed.ensures ∙ both-printed query c.args.accepted.now.core c.args.rows.now
           c.in_ok-part.part.items c.args.self.cut c.args.self.printed c.args.self.bytes.items c.in_ok-checkpoint.checkpoint run joined
           c.in_ok-part.ensures.in_order found (Upto c.args.cut) c.requires.onward parts law c.in_ok-list.list new;
       handed_on = c.in_ok-bytes.ensures.text ∙ ap spelling left;
