@@ -25,5 +25,7 @@ pub returns : goal.returns
 returns g c =
     rw c.unsaved.ensures (lone_made c.args.query.now (λ (w : List Watch). IsExplained) comes_to (Fits ⊥ ⊥ ⊥)
     (reading g.S.Shelf.tells g.S.Shelf.files g.S.Shelf.read_faults g.S.Shelf.save_faults g.S.Shelf.takes g.S.Shelf.given c.args.shelf.now c.load_query.new.shelf)
-    c.in_ok-loaded.loaded.accepted.core (record { printed = Whole (Text c.in_ok-lines.lines); save = None }) c.in_ok-loaded.ensures.taken c.in_ok-loaded.ensures.given c.load_query.ensures.rest
-    (λ w. (c.in_ok-loaded.loaded.accepted.margins, c.core.ensures.kept.near, ap printed (rw (c.core.ensures.value, c.margins.ensures.value) at c.in_ok-lines.ensures.text))) (fits_unsaved ⊥ ⊥ (Whole (Text c.in_ok-lines.lines)) tt (λ no. no, λ no. no) (none_shown _ refl)))
+    c.in_ok-loaded.loaded.accepted.core (record { printed = Whole (Text c.in_ok-lines.lines); save = None }) c.in_ok-loaded.ensures.taken
+    c.in_ok-loaded.ensures.given c.load_query.ensures.rest
+    (λ w. (c.in_ok-loaded.loaded.accepted.margins, c.core.ensures.kept.near, ap printed (rw (c.core.ensures.value, c.margins.ensures.value) at c.in_ok-lines.ensures.text)))
+    (fits_unsaved ⊥ ⊥ (Whole (Text c.in_ok-lines.lines)) tt (λ no. no, λ no. no) (none_shown _ refl)))

@@ -15,7 +15,8 @@ use Rattle.tilt_commands.proofs.watch_command.watch.Goals as goal
 
 pub load_run-requires : goal.load_run-requires
 load_run-requires g c =
-    λ name turn. c.requires name (turn_any c.args.query.now (IsMadeOfQuery (λ list. printed (watched_text [] list))) g.S.Shelf.tells (g.S.Shelf.files c.args.shelf.now) c.args.query.now (bindings_of c.args.binds.now) name turn)
+    λ name turn. c.requires name (turn_any c.args.query.now (IsMadeOfQuery (λ list. printed (watched_text [] list)))
+    g.S.Shelf.tells (g.S.Shelf.files c.args.shelf.now) c.args.query.now (bindings_of c.args.binds.now) name turn)
 
 pub returns-in_err-loaded : goal.returns-in_err-loaded
 returns-in_err-loaded g c =
