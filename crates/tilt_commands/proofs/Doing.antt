@@ -1,15 +1,32 @@
 -- What makes the clauses of a command on a query: from the query and the rows that were loaded.
-use Rattle.std.proofs.Common.{◌≡◌, List, ℕ, Result, Ok, Err}
+use Rattle.std.proofs.Common.{◌≡◌, ◌++◌, Bool, List, [], ℕ, length, Option, None, Some, Result, Ok, Err, refl, ap, arith}
+use Rattle.std.specs.Prelude.{◌↔◌, IsSome}
+use Rattle.tilt_code.specs.Run.{run_of}
 use Rattle.tilt_commands.specs.Loaded.{Loads, refusing_row}
-use Rattle.tilt_commands.specs.Query.{query_row}
+use Rattle.tilt_commands.specs.Pipe.{IsPiped}
+use Rattle.tilt_commands.specs.Query.{lone_row, query_row}
 use Rattle.tilt_commands.specs.declared.loaded.LoadedRun.{LoadedRun}
+use Rattle.tilt_compiler.specs.Compiled.{IsCodeOf}
 use Rattle.tilt_core.specs.Core.{CoreParts}
+use Rattle.tilt_core.specs.Meaning.{output_of}
+use Rattle.tilt_load.proofs.FileCommands.{file_undone}
 use Rattle.tilt_load.proofs.Loads.{load_fault_weaker}
 use Rattle.tilt_load.specs.Does.{Does, IsRead, IsUndone, Reading}
 use Rattle.tilt_load.specs.FileCommand.{IsFileOutcome, no_file, no_inputs, done, HasFileTurn, own_turn, input_turn}
-use Rattle.tilt_report.specs.Report.{Reason, Outcome, refused, Report, refusal, report_of, out_of_memory}
+use Rattle.tilt_load.specs.Load.{IsLoadFault}
+use Rattle.tilt_load.specs.QueryFile.{TakesQuery, RefusesQuery}
+use Rattle.tilt_outside.specs.Counts.{added_count}
+use Rattle.tilt_pipe.specs.Rings.{most_ever}
+use Rattle.tilt_pipe.specs.Value.{PipeParts}
+use Rattle.tilt_printed.specs.Answer.{Fits}
+use Rattle.tilt_printed.specs.Rings.{rings_line, rings_text}
+use Rattle.tilt_printed.specs.Show.{shown_of}
+use Rattle.tilt_printed.specs.Text.{IsFresh, IsStreamed}
+use Rattle.tilt_printed.specs.declared.printed.Printed.{Printed}
+use Rattle.tilt_report.specs.Report.{Outcome, printed, refused, Report, refusal, report_of, out_of_memory}
 use Rattle.tilt_report.specs.declared.fault.Fault.{Fault}
 use Rattle.tilt_stream.specs.Snap.{Snapshot}
+use Rattle.tilt_stream.specs.Text.{text_of}
 use Rattle.tilt_words.specs.Binding.{Binding}
 
 -- What a command on a query comes to.
@@ -79,3 +96,59 @@ module _ {T W : Type 0} (query : List ℕ) (gives : W → CoreParts → List (Li
     read = λ t w. read_any query (gives w) query binds shelf (loads.read t);
     rest = loads.rest;
   }
+
+-- A command on a query alone.
+module _ {T W : Type 0} (query : List ℕ) (gives : W → CoreParts → Outcome → Type 0) (comes : W → T → Outcome) (keeps : T → Type 0) (shelf : Reading) where
+  -- the query wasn't loaded
+  pub lone_undone : (fault : Fault) (told : Result T Fault) → told ≡ Err fault
+      → IsLoadFault shelf.tells (RefusesQuery query (shelf.files query)) (λ which. which ≡ query) shelf.faults_before shelf.faults_after (report_of fault) → shelf.rest
+      → Does (λ w. lone_row query (gives w)) comes keeps query [] shelf told
+  lone_undone fault told same is rest = rw same (record {
+    made = λ t. tt;
+    kept = tt;
+    fault = λ w. file_undone (lone_row query (gives w)) query [] shelf (report_of fault) is;
+    read = λ t. tt;
+    rest = rest;
+  })
+
+  lone_read : (w : W) (core : CoreParts) → TakesQuery (shelf.files query) core → shelf.given_after ≡ added_count shelf.given_before (length (shelf.files query))
+      → IsRead (lone_row query (gives w)) query [] shelf
+  lone_read w core taken given = record {
+    count = length (shelf.files query);
+    bytes = record { says = core; taken = taken; is = omega arith };
+    given = given;
+  }
+
+  -- it was made
+  pub lone_made : (core : CoreParts) (x : T) → (shelf.tells → TakesQuery (shelf.files query) core)
+      → (shelf.tells → shelf.given_after ≡ added_count shelf.given_before (length (shelf.files query))) → shelf.rest → ((w : W) → gives w core (comes w x)) → keeps x
+      → Does (λ w. lone_row query (gives w)) comes keeps query [] shelf (Ok x)
+  lone_made core x taken given rest is fits = record {
+    made = λ t w. done core [] (taken t) (record { names = refl; read = refl }) (is w);
+    kept = fits;
+    fault = λ w. tt;
+    read = λ t w. lone_read w core (taken t) (given t);
+    rest = rest;
+  }
+
+-- nothing is shown
+pub none_shown : (shown : Option (List Snapshot)) → shown ≡ None → IsSome shown ↔ ⊥
+none_shown None is = (λ some. cc some, λ no. absurd no)
+none_shown (Some list) is = absurd (cc is)
+
+-- what is printed, where nothing is saved
+pub fits_unsaved : (streams shows : Type 0) (text : Printed) → IsFresh text → IsStreamed text ↔ streams → IsSome (shown_of text) ↔ shows
+    → Fits streams shows ⊥ (record { printed = text; save = None })
+fits_unsaved streams shows text fresh streamed shown =
+    record { fresh = fresh; streamed = streamed; shown = shown; saved = (λ some. cc some, λ no. absurd no) }
+
+-- a pipe of a query prints what `pipe` prints
+pub pipe_made : (fuse : Bool) (core : CoreParts) (rows : List (List Snapshot)) (pipe : PipeParts) → IsCodeOf core fuse pipe.code → pipe.inputs ≡ rows
+    → output_of core rows ≡ Some (run_of pipe.code pipe.inputs) → IsPiped fuse core rows (printed (rings_text pipe.code pipe.inputs))
+pipe_made fuse core rows pipe code inputs means = record {
+  list = run_of pipe.code pipe.inputs;
+  code = pipe.code;
+  means = means;
+  code_is = code;
+  is = ap (λ (r : List (List Snapshot)). printed (text_of (run_of pipe.code pipe.inputs) ++ rings_line (most_ever pipe.code r))) inputs;
+}

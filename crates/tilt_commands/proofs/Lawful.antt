@@ -1,7 +1,7 @@
 -- Each command is lawful: files have one outcome for it, and always one.
-use Rattle.std.proofs.Common.{◌≡◌, ◌≤◌, ◌∙◌, ◌++◌, ◌⊎◌, Bool, List, [], ◌∷◌, ℕ, ◌*◌, ◌+◌, length, Option, Some, Result, Ok, Err, refl, sym, ap, subst, arith}
+use Rattle.std.proofs.Common.{◌≡◌, ◌≤◌, ◌∙◌, ◌++◌, ◌⊎◌, Bool, List, ℕ, ◌*◌, ◌+◌, length, Option, Some, Result, Ok, inl, inr, refl, sym, ap}
 use Rattle.tilt_base.specs.declared.span.Span.{Span}
-use Rattle.tilt_bounds.specs.Margins.{MarginsParts, margins_of}
+use Rattle.tilt_bounds.specs.Margins.{MarginsParts}
 use Rattle.tilt_code.specs.Code.{CodeParts}
 use Rattle.tilt_code.specs.Listing.{listing}
 use Rattle.tilt_code.specs.Run.{run_of}
@@ -16,15 +16,14 @@ use Rattle.tilt_commands.specs.Run.{run_row}
 use Rattle.tilt_commands.specs.Try.{IsTryOutcome, made_inputs, summed}
 use Rattle.tilt_commands.specs.Watch.{watch_row}
 use Rattle.tilt_compiler.specs.Compiled.{IsCodeOf}
-use Rattle.tilt_core.specs.Core.{CoreParts, domain_of}
+use Rattle.tilt_core.specs.Core.{CoreParts}
 use Rattle.tilt_core.specs.Meaning.{output_of}
 use Rattle.tilt_core.specs.Needs.{Need}
 use Rattle.tilt_explain.specs.Explain.{explained}
 use Rattle.tilt_fuse.specs.Plan.{plan_of}
 use Rattle.tilt_load.proofs.FileCommands.{IsLawful}
-use Rattle.tilt_load.proofs.OneCode.{code_once, code_refused_once, code_refused_or_taken}
-use Rattle.tilt_load.proofs.OneQuery.{taken_once, refused_once, refused_or_taken}
-use Rattle.tilt_load.specs.CodeFile.{TakesCode, RefusesCode}
+use Rattle.tilt_load.proofs.OneCode.{code_once, code_refused_once, code_refused_or_taken, code_taken_or_refused}
+use Rattle.tilt_load.proofs.OneQuery.{IsQueryFile, query_core, query_taken_or_refused, refused_once, refused_or_taken, taken_once}
 use Rattle.tilt_load.specs.QueryFile.{TakesQuery, RefusesQuery}
 use Rattle.tilt_lower.specs.Lowering.{code_of}
 use Rattle.tilt_made.specs.Summary.{summary_text}
@@ -35,6 +34,7 @@ use Rattle.tilt_printed.specs.Rings.{rings_line}
 use Rattle.tilt_report.specs.Report.{Reason, Outcome, printed, refused, usage}
 use Rattle.tilt_stream.specs.Snap.{Snapshot}
 use Rattle.tilt_stream.specs.Text.{text_of}
+use Rattle.tilt_types.specs.Checked.{core_of}
 use Rattle.tilt_watch.specs.Watch.{Watch}
 
 printed_usage : (text : List ℕ) → printed text ≡ refused usage → ⊥
@@ -49,108 +49,112 @@ same_margins e = cc
 same_domain : {d e : Span} → (let x : Option Span = Some d in x ≡ Some e) → d ≡ e
 same_domain e = cc
 
--- Each text is a query that is taken, or is refused.
-module _ (queries : (name bytes : List ℕ) → ((core : CoreParts) × TakesQuery bytes core) ⊎ ((why : Reason) × RefusesQuery name bytes why)) where
-  -- a command on queries
-  query_lawful : (query : List ℕ) (gives : CoreParts → List (List Snapshot) → Outcome → Type 0)
-      → ((c : CoreParts) (rows : List (List Snapshot)) (o p : Outcome) → gives c rows o → gives c rows p → o ≡ p)
-      → ((bytes : List ℕ) (c : CoreParts) (rows : List (List Snapshot)) → TakesQuery bytes c → length rows ≡ length c.inputs → (o : Outcome) × gives c rows o)
-      → ((c : CoreParts) (rows : List (List Snapshot)) → gives c rows (refused usage) → ⊥) → IsLawful (query_row query gives)
-  query_lawful query gives once some none = record {
-    one = taken_once;
-    once = refused_once query;
-    either = refused_or_taken query;
-    some = queries query;
-    given_once = once;
-    given_some = some;
-    no_usage = none;
-  }
+-- each text is a query that is taken, or is refused
+queries : (name bytes : List ℕ) → ((c : CoreParts) × TakesQuery bytes c) ⊎ ((why : Reason) × RefusesQuery name bytes why)
+queries name bytes = from (query_taken_or_refused name bytes) where
+  from : IsQueryFile bytes ⊎ ((why : Reason) × RefusesQuery name bytes why) → ((c : CoreParts) × TakesQuery bytes c) ⊎ ((why : Reason) × RefusesQuery name bytes why)
+  from (inl is) =
+      inl (core_of is.query, record { has_core = query_core bytes is.query (core_of is.query) is.says; margins = is.margins; reach = is.near })
+  from (inr refuses) = inr refuses
 
-  -- a command on queries alone
-  lone_lawful : (query : List ℕ) (gives : CoreParts → Outcome → Type 0) → ((c : CoreParts) (o p : Outcome) → gives c o → gives c p → o ≡ p)
-      → ((bytes : List ℕ) (c : CoreParts) → TakesQuery bytes c → (o : Outcome) × gives c o) → ((c : CoreParts) → gives c (refused usage) → ⊥)
-      → IsLawful (lone_row query gives)
-  lone_lawful query gives once some none = record {
-    one = taken_once;
-    once = refused_once query;
-    either = refused_or_taken query;
-    some = queries query;
-    given_once = λ c rows o p is is'. once c o p is is';
-    given_some = λ bytes c rows taken many. some bytes c taken;
-    no_usage = λ c rows is. none c is;
-  }
+-- a command on queries
+query_lawful : (query : List ℕ) (gives : CoreParts → List (List Snapshot) → Outcome → Type 0)
+    → ((c : CoreParts) (rows : List (List Snapshot)) (o p : Outcome) → gives c rows o → gives c rows p → o ≡ p)
+    → ((bytes : List ℕ) (c : CoreParts) (rows : List (List Snapshot)) → TakesQuery bytes c → length rows ≡ length c.inputs → (o : Outcome) × gives c rows o)
+    → ((c : CoreParts) (rows : List (List Snapshot)) → gives c rows (refused usage) → ⊥) → IsLawful (query_row query gives)
+query_lawful query gives once some none = record {
+  one = taken_once;
+  once = refused_once query;
+  either = refused_or_taken query;
+  some = queries query;
+  given_once = once;
+  given_some = some;
+  no_usage = none;
+}
 
-  -- what makes a text of the snapshots of a query's meaning
-  made_lawful : (query : List ℕ) (text : List Snapshot → List ℕ) → IsLawful (query_row query (IsMadeOfQuery (λ list. printed (text list))))
-  made_lawful query text =
-      query_lawful query (IsMadeOfQuery (λ list. printed (text list)))
-      (λ c rows o p is is'. is.2 ∙ ap (λ (l : List Snapshot). printed (text l)) (same_some (output_of c rows) is.0 is'.0 is.1 is'.1) ∙ sym is'.2)
-      (λ bytes c rows taken many. let given = taken_gives bytes c taken rows many in (printed (text given.0), (given.0, given.1, refl)))
-      (λ c rows is. printed_usage (text is.0) (sym is.2))
+-- a command on queries alone
+lone_lawful : (query : List ℕ) (gives : CoreParts → Outcome → Type 0) → ((c : CoreParts) (o p : Outcome) → gives c o → gives c p → o ≡ p)
+    → ((bytes : List ℕ) (c : CoreParts) → TakesQuery bytes c → (o : Outcome) × gives c o) → ((c : CoreParts) → gives c (refused usage) → ⊥)
+    → IsLawful (lone_row query gives)
+lone_lawful query gives once some none = record {
+  one = taken_once;
+  once = refused_once query;
+  either = refused_or_taken query;
+  some = queries query;
+  given_once = λ c rows o p is is'. once c o p is is';
+  given_some = λ bytes c rows taken many. some bytes c taken;
+  no_usage = λ c rows is. none c is;
+}
 
-  pub run_lawful : (query : List ℕ) → IsLawful (run_row query)
-  run_lawful query = made_lawful query text_of
+-- what makes a text of the snapshots of a query's meaning
+made_lawful : (query : List ℕ) (text : List Snapshot → List ℕ) → IsLawful (query_row query (IsMadeOfQuery (λ list. printed (text list))))
+made_lawful query text =
+    query_lawful query (IsMadeOfQuery (λ list. printed (text list)))
+    (λ c rows o p is is'. is.2 ∙ ap (λ (l : List Snapshot). printed (text l)) (same_some (output_of c rows) is.0 is'.0 is.1 is'.1) ∙ sym is'.2)
+    (λ bytes c rows taken many. let given = taken_gives bytes c taken rows many in (printed (text given.0), (given.0, given.1, refl)))
+    (λ c rows is. printed_usage (text is.0) (sym is.2))
 
-  pub watch_lawful : (query : List ℕ) (watchers : List Watch) → IsLawful (watch_row query watchers)
-  watch_lawful query watchers = made_lawful query (watched_text watchers)
+pub run_lawful : (query : List ℕ) → IsLawful (run_row query)
+run_lawful query = made_lawful query text_of
 
-  same_code : (fuse : Bool) (c : CoreParts) (code code' : CodeParts) → IsCodeOf c fuse code → IsCodeOf c fuse code' → code ≡ code'
-  same_code fuse c code code' is is' =
-      let margins = same_margins (sym is.near ∙ is'.near) in
-      let domain = same_domain (sym is.stretch ∙ is'.stretch) in
-      is.is ∙ (λ i. code_of (plan_of c fuse) c (margins i) (domain i).start (domain i).end) ∙ sym is'.is
+pub watch_lawful : (query : List ℕ) (watchers : List Watch) → IsLawful (watch_row query watchers)
+watch_lawful query watchers = made_lawful query (watched_text watchers)
 
-  some_code : (fuse : Bool) (bytes : List ℕ) (c : CoreParts) → TakesQuery bytes c → (code : CodeParts) × IsCodeOf c fuse code
-  some_code fuse bytes c taken =
-      let domain = taken_domain bytes c taken in (
-        code_of (plan_of c fuse) c taken.margins domain.0.start domain.0.end,
-        record { margins = taken.margins; domain = domain.0; near = taken.reach; stretch = domain.1; is = refl },
-      )
+same_code : (fuse : Bool) (c : CoreParts) (code code' : CodeParts) → IsCodeOf c fuse code → IsCodeOf c fuse code' → code ≡ code'
+same_code fuse c code code' is is' =
+    let margins = same_margins (sym is.near ∙ is'.near) in
+    let domain = same_domain (sym is.stretch ∙ is'.stretch) in
+    is.is ∙ (λ i. code_of (plan_of c fuse) c (margins i) (domain i).start (domain i).end) ∙ sym is'.is
 
-  same_piped : (fuse : Bool) (c : CoreParts) (rows : List (List Snapshot)) (o p : Outcome) → IsPiped fuse c rows o → IsPiped fuse c rows p → o ≡ p
-  same_piped fuse c rows o p is is' =
-      let lists = same_some (output_of c rows) is.list is'.list is.means is'.means in
-      let codes = same_code fuse c is.code is'.code is.code_is is'.code_is in
-      is.is ∙ (λ i. printed (text_of (lists i) ++ rings_line (most_ever (codes i) rows))) ∙ sym is'.is
+some_code : (fuse : Bool) (bytes : List ℕ) (c : CoreParts) → TakesQuery bytes c → (code : CodeParts) × IsCodeOf c fuse code
+some_code fuse bytes c taken =
+    let domain = taken_domain bytes c taken in (
+      code_of (plan_of c fuse) c taken.margins domain.0.start domain.0.end,
+      record { margins = taken.margins; domain = domain.0; near = taken.reach; stretch = domain.1; is = refl },
+    )
 
-  some_piped : (fuse : Bool) (bytes : List ℕ) (c : CoreParts) (rows : List (List Snapshot)) → TakesQuery bytes c → length rows ≡ length c.inputs
-      → (o : Outcome) × IsPiped fuse c rows o
-  some_piped fuse bytes c rows taken many =
-      let given = taken_gives bytes c taken rows many in
-      let code = some_code fuse bytes c taken in (
-        printed (text_of given.0 ++ rings_line (most_ever code.0 rows)),
-        record { list = given.0; code = code.0; means = given.1; code_is = code.1; is = refl },
-      )
+same_piped : (fuse : Bool) (c : CoreParts) (rows : List (List Snapshot)) (o p : Outcome) → IsPiped fuse c rows o → IsPiped fuse c rows p → o ≡ p
+same_piped fuse c rows o p is is' =
+    let lists = same_some (output_of c rows) is.list is'.list is.means is'.means in
+    let codes = same_code fuse c is.code is'.code is.code_is is'.code_is in
+    is.is ∙ (λ i. printed (text_of (lists i) ++ rings_line (most_ever (codes i) rows))) ∙ sym is'.is
 
-  pub pipe_lawful : (query : List ℕ) (fuse : Bool) → IsLawful (pipe_row query fuse)
-  pipe_lawful query fuse = query_lawful query (IsPiped fuse) (same_piped fuse) (some_piped fuse) (λ c rows is. printed_usage _ (sym is.is))
+some_piped : (fuse : Bool) (bytes : List ℕ) (c : CoreParts) (rows : List (List Snapshot)) → TakesQuery bytes c → length rows ≡ length c.inputs
+    → (o : Outcome) × IsPiped fuse c rows o
+some_piped fuse bytes c rows taken many =
+    let given = taken_gives bytes c taken rows many in
+    let code = some_code fuse bytes c taken in (
+      printed (text_of given.0 ++ rings_line (most_ever code.0 rows)),
+      record { list = given.0; code = code.0; means = given.1; code_is = code.1; is = refl },
+    )
 
-  pub compile_lawful : (query : List ℕ) (fuse : Bool) → IsLawful (compile_row query fuse)
-  compile_lawful query fuse =
-      lone_lawful query (IsCompiled fuse)
-      (λ c o p is is'. is.2 ∙ ap (λ (code : CodeParts). printed (listing code)) (same_code fuse c is.0 is'.0 is.1 is'.1) ∙ sym is'.2)
-      (λ bytes c taken. let code = some_code fuse bytes c taken in (printed (listing code.0), (code.0, code.1, refl)))
-      (λ c is. printed_usage (listing is.0) (sym is.2))
+pub pipe_lawful : (query : List ℕ) (fuse : Bool) → IsLawful (pipe_row query fuse)
+pipe_lawful query fuse = query_lawful query (IsPiped fuse) (same_piped fuse) (some_piped fuse) (λ c rows is. printed_usage _ (sym is.is))
 
-  pub explain_lawful : (query : List ℕ) → IsLawful (explain_row query)
-  explain_lawful query =
-      lone_lawful query IsExplained
-      (λ c o p is is'. is.2 ∙ ap (λ (m : MarginsParts). printed (explained c m)) (same_margins (sym is.1 ∙ is'.1)) ∙ sym is'.2)
-      (λ bytes c taken. (printed (explained c taken.margins), (taken.margins, taken.reach, refl)))
-      (λ c is. printed_usage (explained c is.0) (sym is.2))
+pub compile_lawful : (query : List ℕ) (fuse : Bool) → IsLawful (compile_row query fuse)
+compile_lawful query fuse =
+    lone_lawful query (IsCompiled fuse)
+    (λ c o p is is'. is.2 ∙ ap (λ (code : CodeParts). printed (listing code)) (same_code fuse c is.0 is'.0 is.1 is'.1) ∙ sym is'.2)
+    (λ bytes c taken. let code = some_code fuse bytes c taken in (printed (listing code.0), (code.0, code.1, refl)))
+    (λ c is. printed_usage (listing is.0) (sym is.2))
 
--- Each text is a code that is taken, or is refused.
-module _ (codes : (name bytes : List ℕ) → ((code : CodeParts) × TakesCode bytes code) ⊎ ((why : Reason) × RefusesCode name bytes why)) where
-  pub exec_lawful : (file : List ℕ) → IsLawful (exec_row file)
-  exec_lawful file = record {
-    one = code_once;
-    once = code_refused_once file;
-    either = code_refused_or_taken file;
-    some = codes file;
-    given_once = λ c rows o p is is'. is ∙ sym is';
-    given_some = λ bytes c rows taken many. (printed (text_of (run_of c rows)), refl);
-    no_usage = λ c rows is. printed_usage (text_of (run_of c rows)) (sym is);
-  }
+pub explain_lawful : (query : List ℕ) → IsLawful (explain_row query)
+explain_lawful query =
+    lone_lawful query IsExplained
+    (λ c o p is is'. is.2 ∙ ap (λ (m : MarginsParts). printed (explained c m)) (same_margins (sym is.1 ∙ is'.1)) ∙ sym is'.2)
+    (λ bytes c taken. (printed (explained c taken.margins), (taken.margins, taken.reach, refl)))
+    (λ c is. printed_usage (explained c is.0) (sym is.2))
+
+pub exec_lawful : (file : List ℕ) → IsLawful (exec_row file)
+exec_lawful file = record {
+  one = code_once;
+  once = code_refused_once file;
+  either = code_refused_or_taken file;
+  some = code_taken_or_refused file;
+  given_once = λ c rows o p is is'. is ∙ sym is';
+  given_some = λ bytes c rows taken many. (printed (text_of (run_of c rows)), refl);
+  no_usage = λ c rows is. printed_usage (text_of (run_of c rows)) (sym is);
+}
 
 -- `try` has one outcome
 pub try_once : (seed count : ℕ) (o p : Outcome) → IsTryOutcome seed count o → IsTryOutcome seed count p → o ≡ p

@@ -1,18 +1,17 @@
 -- What a query that is taken has.
-use Rattle.std.proofs.Common.{◌≡◌, ◌∙◌, ◌==◌, List, ℕ, length, true, Option, Some, None, Result, Ok, Err, refl, sym, ap, subst, arith}
+use Rattle.std.proofs.Common.{◌≡◌, ◌==◌, List, ℕ, [], length, true, Option, Some, None, Ok, refl, subst, arith}
 use Rattle.std.specs.Prelude.{IsSome}
 use Rattle.tilt_base.specs.declared.span.Span.{Span}
 use Rattle.tilt_core.specs.Core.{CoreParts, domain_of, emitted_number}
-use Rattle.tilt_core.specs.Meaning.{emitted, meaning, output_of}
+use Rattle.tilt_core.specs.Meaning.{meaning, output_of}
 use Rattle.tilt_lexer.proofs.Sound.{sound}
-use Rattle.tilt_load.specs.QueryFile.{HasCore, TakesQuery}
+use Rattle.tilt_load.specs.QueryFile.{TakesQuery}
 use Rattle.tilt_stream.specs.Snap.{Snapshot}
 use Rattle.tilt_stream.specs.Snapshots.{snapshots}
 use Rattle.tilt_syntax.proofs.Parsing.{sound-kinds}
 use Rattle.tilt_syntax.specs.Query.{IsQuery, kinds}
-use Rattle.tilt_syntax.specs.Tree.{StatementTree}
 use Rattle.tilt_types.proofs.Texts.{query-ends}
-use Rattle.tilt_types.specs.Checked.{checked, core_of, core_unless, source_names}
+use Rattle.tilt_types.specs.Checked.{core_of, core_unless, source_names}
 use Rattle.tilt_types.specs.WellFormed.{first_fault}
 use Rattle.tilt_types.specs.declared.fault.CheckFault.{CheckFault}
 

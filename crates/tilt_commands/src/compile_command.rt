@@ -21,7 +21,7 @@ pub fn compile<'a, S: Shelf>(
     fuse: bool,
 ) -> Result<Answered<'a>, Fault<'a>>
     requires { (name : List ℕ)
-        → HasFileTurn (compile_row query.now fuse) (S.files shelf.old) query.now [] S.tells name → S.lends name }
+        → HasFileTurn (compile_row query.now fuse) S.tells (S.files shelf.old) query.now [] name → S.lends name }
     ensures { Does (λ (watchers : List Watch). compile_row query.now fuse) comes_to (Fits ⊥ ⊥ ⊥) query.now []
         (reading S.tells S.files S.read_faults S.save_faults S.takes S.given shelf.old shelf.new) result }
 {

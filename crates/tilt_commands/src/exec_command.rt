@@ -23,7 +23,7 @@ pub fn exec<'a, S: Shelf>(
     binds: &'a [Bind],
 ) -> Result<Answered<'a>, Fault<'a>>
     requires { (name : List ℕ)
-        → HasFileTurn (exec_row code.now) (S.files shelf.old) code.now (bindings_of binds.now) S.tells name → S.lends name }
+        → HasFileTurn (exec_row code.now) S.tells (S.files shelf.old) code.now (bindings_of binds.now) name → S.lends name }
     ensures { Does (λ (watchers : List Watch). exec_row code.now) comes_to (Fits ⊥ ⊥ ⊥) code.now (bindings_of binds.now)
         (reading S.tells S.files S.read_faults S.save_faults S.takes S.given shelf.old shelf.new) result }
 {

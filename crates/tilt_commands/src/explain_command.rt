@@ -21,7 +21,7 @@ pub fn explain<'a, S: Shelf>(
     query: &'a str,
 ) -> Result<Answered<'a>, Fault<'a>>
     requires { (name : List ℕ)
-        → HasFileTurn (explain_row query.now) (S.files shelf.old) query.now [] S.tells name → S.lends name }
+        → HasFileTurn (explain_row query.now) S.tells (S.files shelf.old) query.now [] name → S.lends name }
     ensures { Does (λ (watchers : List Watch). explain_row query.now) comes_to (Fits ⊥ ⊥ ⊥) query.now []
         (reading S.tells S.files S.read_faults S.save_faults S.takes S.given shelf.old shelf.new) result }
 {

@@ -37,7 +37,7 @@ pub(crate) fn load_run<'a, S: Shelf>(
     fuse: bool,
 ) -> Result<LoadedRun, Fault<'a>>
     requires { (name : List ℕ)
-        → HasFileTurn (refusing_row query.now) (S.files shelf.old) query.now (bindings_of binds.now) S.tells name → S.lends name }
+        → HasFileTurn (refusing_row query.now) S.tells (S.files shelf.old) query.now (bindings_of binds.now) name → S.lends name }
     ensures loads { Loads query.now (bindings_of binds.now)
         (reading S.tells S.files S.read_faults S.save_faults S.takes S.given shelf.old shelf.new) result }
     ensures fuse { IfOk result (λ run. run.accepted.fuse ≡ fuse) }

@@ -23,7 +23,7 @@ pub fn pipe<'a, S: Shelf>(
     fuse: bool,
 ) -> Result<Answered<'a>, Fault<'a>>
     requires { (name : List ℕ)
-        → HasFileTurn (pipe_row query.now fuse) (S.files shelf.old) query.now (bindings_of binds.now) S.tells name → S.lends name }
+        → HasFileTurn (pipe_row query.now fuse) S.tells (S.files shelf.old) query.now (bindings_of binds.now) name → S.lends name }
     ensures { Does (λ (watchers : List Watch). pipe_row query.now fuse) comes_to (Fits ⊤ ⊥ ⊥) query.now (bindings_of binds.now)
         (reading S.tells S.files S.read_faults S.save_faults S.takes S.given shelf.old shelf.new) result }
 {

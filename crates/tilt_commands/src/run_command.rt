@@ -43,7 +43,7 @@ pub fn run<'a, S: Shelf>(
     manner: Manner<'_>,
 ) -> Result<Answered<'a>, Fault<'a>>
     requires lent { (name : List ℕ)
-        → HasFileTurn (run_row query.now) (S.files shelf.old) query.now (bindings_of binds.now) S.tells name → S.lends name }
+        → HasFileTurn (run_row query.now) S.tells (S.files shelf.old) query.now (bindings_of binds.now) name → S.lends name }
     requires cuts { RiseFrom (neg_ℤ T) T manner.cuts.now }
     ensures { Does (λ (watchers : List Watch). run_row query.now) comes_to (Fits (manner.entry.cuts.now ≡ []) ⊥ ⊥)
         query.now (bindings_of binds.now)

@@ -23,7 +23,7 @@ pub fn watch<'a, S: Shelf>(
     fuse: bool,
 ) -> Result<Answered<'a>, Fault<'a>>
     requires { (name : List ℕ)
-        → HasFileTurn (watch_row query.now []) (S.files shelf.old) query.now (bindings_of binds.now) S.tells name → S.lends name }
+        → HasFileTurn (watch_row query.now []) S.tells (S.files shelf.old) query.now (bindings_of binds.now) name → S.lends name }
     ensures { Does (watch_row query.now) comes_to (Fits ⊥ ⊤ ⊥) query.now (bindings_of binds.now)
         (reading S.tells S.files S.read_faults S.save_faults S.takes S.given shelf.old shelf.new) result }
 {

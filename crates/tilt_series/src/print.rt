@@ -7,7 +7,7 @@ use tilt_outside::{Failed, Sink};
 use tilt_stream::{Row, Snap, SnapList};
 use tilt_text::{append, append_number};
 
-/// Puts the header line by one put.
+/// Puts the header line.
 pub fn put_header<O: Sink>(sink: &mut O) -> Result<(), Failed>
     requires { O.takes sink.old (length (codes "start,end,value\n")) }
     ensures { Puts O.tells O.written O.faults O.takes sink.old sink.new (codes "start,end,value\n") result }
@@ -15,7 +15,7 @@ pub fn put_header<O: Sink>(sink: &mut O) -> Result<(), Failed>
     sink.put(b"start,end,value\n")
 }
 
-/// Puts the line of each snapshot that isn't null, in order, by one put a line.
+/// Puts the line of each snapshot that isn't null, in order.
 pub fn put_rows<O: Sink>(sink: &mut O, list: &SnapList) -> Result<(), Failed>
     requires { O.takes sink.old (length (lines_of list.now)) }
     ensures { Puts O.tells O.written O.faults O.takes sink.old sink.new (lines_of list.now) result }
@@ -26,7 +26,7 @@ pub fn put_rows<O: Sink>(sink: &mut O, list: &SnapList) -> Result<(), Failed>
     Ok(())
 }
 
-/// Puts the line of a snapshot by one put, and nothing for a null one.
+/// Puts the line of a snapshot, and nothing for a null one.
 pub fn put_snap<O: Sink>(sink: &mut O, snap: &Snap) -> Result<(), Failed>
     requires { O.takes sink.old (length (lines_of (snap.now ∷ []))) }
     ensures { Puts O.tells O.written O.faults O.takes sink.old sink.new (lines_of (snap.now ∷ [])) result }
@@ -38,7 +38,7 @@ pub fn put_snap<O: Sink>(sink: &mut O, snap: &Snap) -> Result<(), Failed>
     }
 }
 
-// Puts the line of a row by one put.
+// Puts the line of a row.
 fn put_row<O: Sink>(sink: &mut O, row: &Row) -> Result<(), Failed>
     requires { O.takes sink.old (length (row_text row.now)) }
     ensures { Puts O.tells O.written O.faults O.takes sink.old sink.new (row_text row.now) result }

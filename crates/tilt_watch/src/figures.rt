@@ -7,7 +7,7 @@ use crate::watcher::Watcher;
 use tilt_outside::{Failed, Sink};
 use tilt_text::{append, append_number};
 
-/// Puts the line `figures A B` of each watcher's pair, in order, by one put a line. Takes no memory.
+/// Puts the line `figures A B` of each watcher's pair, in order. Takes no memory.
 pub fn put_figures<O: Sink>(out: &mut O, list: &[Box<dyn Watcher>]) -> Result<(), Failed>
     requires { O.takes out.old (length (figures_text (pairs_of (watches pair step list.now)))) }
     ensures { Puts O.tells O.written O.faults O.takes out.old out.new
@@ -27,7 +27,7 @@ fn put_watcher<O: Sink>(out: &mut O, watcher: &Box<dyn Watcher>) -> Result<(), F
     put_pair(out, watcher.figures())
 }
 
-// Puts the line of a pair by one put.
+// Puts the line of a pair.
 fn put_pair<O: Sink>(out: &mut O, pair: (i64, i64)) -> Result<(), Failed>
     requires { O.takes out.old (length (figures_line pair)) }
     ensures { Puts O.tells O.written O.faults O.takes out.old out.new (figures_line pair) result }

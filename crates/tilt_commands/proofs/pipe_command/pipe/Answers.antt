@@ -1,0 +1,30 @@
+use Rattle.std.proofs.Common.{List, None, refl}
+use Rattle.std.proofs.lemmas.Result.{err_from_is_err_and}
+use Rattle.std.specs.Prelude.{⊤}
+use Rattle.tilt_commands.proofs.Doing.{does_made, does_undone, fits_unsaved, none_shown, pipe_made, turn_any}
+use Rattle.tilt_commands.specs.Pipe.{IsPiped}
+use Rattle.tilt_load.specs.Does.{reading}
+use Rattle.tilt_printed.specs.Answer.{Fits, comes_to}
+use Rattle.tilt_printed.specs.declared.printed.Printed.TheVariants.{Rings}
+use Rattle.tilt_watch.specs.Watch.{Watch}
+use Rattle.tilt_words.specs.Binding.{bindings_of}
+use Rattle.tilt_commands.proofs.pipe_command.pipe.Goals as goal
+
+pub load_run-requires : goal.load_run-requires
+load_run-requires g c =
+    λ name turn. c.requires name (turn_any c.args.query.now (IsPiped c.args.fuse) g.S.Shelf.tells (g.S.Shelf.files c.args.shelf.now) c.args.query.now (bindings_of c.args.binds.now) name turn)
+
+pub returns-in_err-loaded : goal.returns-in_err-loaded
+returns-in_err-loaded g c =
+    let p = err_from_is_err_and c.from_residual.result c.from_residual.ensures.1 in
+    rw (p.1, p.2) (does_undone c.args.query.now (λ (w : List Watch). IsPiped c.args.fuse) comes_to (Fits ⊤ ⊥ ⊥) (bindings_of c.args.binds.now)
+    (reading g.S.Shelf.tells g.S.Shelf.files g.S.Shelf.read_faults g.S.Shelf.save_faults g.S.Shelf.takes g.S.Shelf.given c.args.shelf.now c.load_run.new.shelf)
+    c.in_err-loaded.field-0.0 _ refl c.in_err-loaded.ensures.loads)
+
+pub returns : goal.returns
+returns g c =
+    rw c.unsaved.ensures (does_made c.args.query.now (λ (w : List Watch). IsPiped c.args.fuse) comes_to (Fits ⊤ ⊥ ⊥) (bindings_of c.args.binds.now)
+    (reading g.S.Shelf.tells g.S.Shelf.files g.S.Shelf.read_faults g.S.Shelf.save_faults g.S.Shelf.takes g.S.Shelf.given c.args.shelf.now c.load_run.new.shelf)
+    c.in_ok-loaded.loaded (record { printed = Rings c.in_ok-pipe.pipe; save = None }) (λ w. pipe_made c.args.fuse c.in_ok-loaded.loaded.accepted.core c.in_ok-loaded.loaded.rows.items c.in_ok-pipe.pipe
+    (rw c.in_ok-loaded.ensures.fuse at c.in_ok-pipe.ensures.code) c.in_ok-pipe.ensures.inputs c.in_ok-pipe.ensures.means)
+    (fits_unsaved ⊤ ⊥ (Rings c.in_ok-pipe.pipe) c.in_ok-pipe.ensures.fresh (λ all. all, λ all. all) (none_shown _ refl)) c.in_ok-loaded.ensures.loads)
