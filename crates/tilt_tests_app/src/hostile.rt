@@ -253,36 +253,26 @@ fn numbers_out_of_their_range_are_told(rt: HostRuntime) -> Result<(), Fail> {
 
 const CODE: &[u8] = b"tilt 1\ninput x\nloop 0 6 2 0\nr0 = port b0 0\nend\n";
 
-// After which byte each line of the code ends: a text that is cut at that byte lacks the line after it, and one that is cut before has a
-// bad last line.
-const ENDS: &[(usize, usize, &[u8])] = &[
-    (0, 7, b"tilt: 40 bad code in line 1\n"),
-    (7, 15, b"tilt: 40 bad code in line 2\n"),
-    (15, 28, b"tilt: 40 bad code in line 3\n"),
-    (28, 43, b"tilt: 40 bad code in line 4\n"),
-    (43, 47, b"tilt: 40 bad code in line 5\n"),
-];
-
-// Ends the test unless the code that is cut at each of the lengths is told so.
-fn assert_cut(
-    rt: &impl Abort,
-    alloc: Global,
-    from: usize,
-    to: usize,
-    line: &[u8],
-) -> Result<(), Fail> {
-    for length in from..to {
-        let files = [("c", &CODE[..length]), ("s", SERIES)];
-        let end = end_of(alloc, "exec\nc\nx=s", &files, NONE)?;
-        assert_end(rt, &end, 1, b"", line, length);
+// The number of the line that the text ends in.
+fn last_line(text: &[u8]) -> u64 {
+    let mut line = 1_u64;
+    for byte in text {
+        if *byte == b'\n' {
+            line = line.saturating_add(1);
+        }
     }
-    Ok(())
+    line
 }
 
 #[test]
 fn a_code_that_is_cut_is_bad_where_it_ends(rt: HostRuntime) -> Result<(), Fail> {
-    for (from, to, line) in ENDS {
-        assert_cut(&rt, rt.alloc(), *from, *to, line)?;
+    for length in 0..CODE.len() {
+        let prefix = &CODE[..length];
+        let line = last_line(prefix);
+        let told = format!(in rt.alloc(); "tilt: 40 bad code in line {line}\n")?;
+        let files = [("c", prefix), ("s", SERIES)];
+        let end = end_of(rt.alloc(), "exec\nc\nx=s", &files, NONE)?;
+        assert_end(&rt, &end, 1, b"", told.as_bytes(), length);
     }
     Ok(())
 }
