@@ -7,6 +7,7 @@
 mod atom;
 mod clauses;
 mod cut;
+mod every;
 mod expr;
 mod expression;
 mod fault;
@@ -19,6 +20,7 @@ mod reader;
 mod statement;
 mod tree;
 
+pub use every::Every;
 pub use expr::Expr;
 pub use fault::SyntaxFault;
 pub use parser::{parse, parse_expression};
