@@ -21,12 +21,13 @@ use Rattle.tilt_lexer.specs.declared.mark.Mark.TheVariants as mark
 use Rattle.tilt_lexer.specs.declared.token.Tok.{Tok}
 use Rattle.tilt_lexer.specs.declared.token.Tok.TheVariants.{Mark as Sign}
 use Rattle.tilt_syntax.proofs.Sounds.{EachSound, sound_parts, statement_sound, statements_sound}
-use Rattle.tilt_syntax.proofs.Written.{bound_tokens, domain_tokens, expr_tokens, offset_tokens, operands_tokens, period_tokens, place_tokens, span_tokens, statement_tokens}
+use Rattle.tilt_syntax.proofs.Written.{bound_tokens, domain_tokens, expr_tokens, from_tokens, grid_tokens, offset_tokens, operands_tokens, place_tokens, span_tokens, statement_tokens}
 use Rattle.tilt_syntax.specs.Grammar.{Infix, infix_of, reducer_key}
-use Rattle.tilt_syntax.specs.Printing.{domain_text, expr_text, in_place, level_of, offset_text, operands_text, period_text, query_text, sign_text, span_text, statement_text}
+use Rattle.tilt_syntax.specs.Printing.{domain_text, expr_text, from_text, grid_text, in_place, level_of, offset_text, operands_text, query_text, sign_text, span_text, statement_text}
 use Rattle.tilt_syntax.specs.Query.{AreGood, AreSound, IsQuery, statements}
 use Rattle.tilt_syntax.specs.Tree.{Num, Truth, Read, Reduce, ExprTree, StatementTree, Input, Let, Emit}
 use Rattle.tilt_base.specs.declared.span.Span.{Span}
+use Rattle.tilt_syntax.specs.declared.every.Every.{Every}
 use Rattle.tilt_checkpoint.specs.Reading.{behind_line, times}
 
 -- text without LF
@@ -176,9 +177,16 @@ domain_plain : (domain : Option Span) → AreSound (domain_tokens domain) → On
 domain_plain None s = refl
 domain_plain (Some span) s = span_plain span s
 
-period_plain : (period : Option ℤ) → AreSound (period_tokens period) → OneLine (period_text period)
-period_plain None s = refl
-period_plain (Some p) s = join (codes " every ") (signed_decimal p) refl (number_plain p (sound_fits p s.1.0))
+from_plain : (o : ℤ) → AreSound (from_tokens o) → OneLine (from_text o)
+from_plain (pos zero) s = refl
+from_plain (pos (suc n)) s = join (codes " from ") (signed_decimal (pos (suc n))) refl (number_plain (pos (suc n)) (sound_fits (pos (suc n)) s.1.0))
+from_plain (negsuc n) s = join (codes " from ") (signed_decimal (negsuc n)) refl (number_plain (negsuc n) (sound_fits (negsuc n) s.1.0))
+
+grid_plain : (grid : Option Every) → AreSound (grid_tokens grid) → OneLine (grid_text grid)
+grid_plain None s = refl
+grid_plain (Some every) s =
+    let period = join (codes " every ") (signed_decimal every.period) refl (number_plain every.period (sound_fits every.period s.1.0)) in
+    join (codes " every " ++ signed_decimal every.period) (from_text every.offset) period (from_plain every.offset s.1.1)
 
 -- a line of its own
 record IsLine (text : List ℕ) : Type 0 where
@@ -191,24 +199,24 @@ line_of front h = record { line = front ++ codes ";"; plain = join front (codes 
 
 statement_line : (s : StatementTree) → AreSound (statement_tokens s) → IsLine (statement_text s)
 statement_line (Input x) s = line_of (codes "input " ++ x) (join (codes "input ") x refl (name_plain x s.1.0.0))
-statement_line (Let x e domain period) s =
+statement_line (Let x e domain grid) s =
     let first = sound_parts (expr_tokens e) _ s.1.1.1 in
     let second = sound_parts (domain_tokens domain) _ first.1 in
-    let third = sound_parts (period_tokens period) _ second.1 in
+    let third = sound_parts (grid_tokens grid) _ second.1 in
     let name = join (codes "let ") x refl (name_plain x s.1.0.0) in
     let sign = join (codes "let " ++ x) (codes " = ") name refl in
     let body = join (codes "let " ++ x ++ codes " = ") (expr_text e) sign (expr_plain e first.0) in
     let over = join (codes "let " ++ x ++ codes " = " ++ expr_text e) (domain_text domain) body (domain_plain domain second.0) in
-    line_of (codes "let " ++ x ++ codes " = " ++ expr_text e ++ domain_text domain ++ period_text period)
-    (join (codes "let " ++ x ++ codes " = " ++ expr_text e ++ domain_text domain) (period_text period) over (period_plain period third.0))
-statement_line (Emit e span period) s =
+    line_of (codes "let " ++ x ++ codes " = " ++ expr_text e ++ domain_text domain ++ grid_text grid)
+    (join (codes "let " ++ x ++ codes " = " ++ expr_text e ++ domain_text domain) (grid_text grid) over (grid_plain grid third.0))
+statement_line (Emit e span grid) s =
     let first = sound_parts (expr_tokens e) _ s.1 in
     let second = sound_parts (span_tokens span) _ first.1 in
-    let third = sound_parts (period_tokens period) _ second.1 in
+    let third = sound_parts (grid_tokens grid) _ second.1 in
     let body = join (codes "emit ") (expr_text e) refl (expr_plain e first.0) in
     let over = join (codes "emit " ++ expr_text e) (span_text span) body (span_plain span second.0) in
-    line_of (codes "emit " ++ expr_text e ++ span_text span ++ period_text period)
-    (join (codes "emit " ++ expr_text e ++ span_text span) (period_text period) over (period_plain period third.0))
+    line_of (codes "emit " ++ expr_text e ++ span_text span ++ grid_text grid)
+    (join (codes "emit " ++ expr_text e ++ span_text span) (grid_text grid) over (grid_plain grid third.0))
 
 line-again : (text : List ℕ) → IsLine text → (more : List ℕ) → behind_line (text ++ more) ≡ Some more
 line-again text h more =

@@ -28,7 +28,7 @@ use Rattle.tilt_syntax.proofs.Spelt.{query_spells}
 use Rattle.tilt_syntax.proofs.Written.{statement_tokens, statement_is}
 use Rattle.tilt_types.specs.Checked.{checked, core_of}
 use Rattle.tilt_core.specs.Core.{CoreParts}
-use Rattle.tilt_types.specs.WellFormed.{domain_fault, first_fault, is_domain, is_stretch, multiples}
+use Rattle.tilt_types.specs.WellFormed.{domain_fault, first_fault, grid_of, is_domain, is_stretch}
 use Rattle.std.specs.Fmt.{decimal}
 use Rattle.std.specs.List.{flat_map}
 use Rattle.std.proofs.lemmas.Fmt.{decimal_digit, decimal_step, length-decimal-le}
@@ -45,7 +45,7 @@ abbrev pub tree : ℕ → List StatementTree
 tree end =
     Input (codes "a")
     ∷ Input (codes "b")
-    ∷ Let (codes "m") (Leaf (Reduce reducer.Avg (codes "a") (negsuc 9) (pos 0))) None (Some (pos 10))
+    ∷ Let (codes "m") (Leaf (Reduce reducer.Avg (codes "a") (negsuc 9) (pos 0))) None (Some (record { period = pos 10; offset = pos 0 }))
     ∷ Let (codes "d") (Two op2.Sub (Leaf (Read (codes "a") (pos 0))) (Leaf (Read (codes "m") (pos 0)))) None None
     ∷ Emit (Two op2.Add (Two op2.IfNull (Leaf (Read (codes "d") (pos 0))) (Leaf (Num (pos 0)))) (Two op2.IfNull (Leaf (Read (codes "b") (pos 0))) (Leaf (Num (pos 0))))) (domain end) None
     ∷ []
@@ -115,7 +115,7 @@ good end = (
 -- its domain is one
 stretch : (end : ℕ) → 0 < end → end ≤ 10000010 → is_domain (Some (domain end)) None ≡ true
 stretch end some few =
-    let grid : GridPoints = multiples (pos 1) in
+    let grid : GridPoints = grid_of None in
     let first : is_point grid (pos 0) ≡ true = (is_point-Decides grid (pos 0) (omega (arith, ints))).1 (pos 0, refl) in
     let last : is_point grid (pos end) ≡ true = (is_point-Decides grid (pos end) (omega (arith, ints))).1 (pos end, omega (arith, ints)) in
     let within : is_stretch (Some (domain end)) ≡ true = grind (arith, ints) in

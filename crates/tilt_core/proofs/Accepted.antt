@@ -1,4 +1,4 @@
--- A query whose core keeps what cores keep: `input x; emit x over (0, 5]`. So the law of cores isn't empty.
+-- A query whose core keeps what cores keep: `input x; emit x over (2, 12] every 5 from 2`. So the law of cores isn't empty.
 use Rattle.std.proofs.Common.{◌≡◌, ℕ, pos, List, [], ◌∷◌, Some, refl, ap, get_or, arith, codes}
 use Rattle.std.proofs.lemmas.Int.{ints}
 use Rattle.tilt_lexer.specs.Word.{key_text}
@@ -16,7 +16,7 @@ emits_input : CoreParts
 emits_input = record {
   inputs = codes "x" ∷ [];
   names = [];
-  defs = record { body = Leaf (Read 0 (pos 0)); over = Some (record { start = pos 0; end = pos 5 }); grid = record { period = pos 1; offset = pos 0 } } ∷ [];
+  defs = record { body = Leaf (Read 0 (pos 0)); over = Some (record { start = pos 2; end = pos 12 }); grid = record { period = pos 5; offset = pos 2 } } ∷ [];
 }
 
 emits_input_is_accepted : IsCore emits_input
@@ -32,7 +32,6 @@ emits_input_is_accepted = record {
       small = omega arith;
       stretch = (omega (arith, ints), omega (arith, ints), omega (arith, ints));
       grid = record { period_low = omega (arith, ints); period_high = omega (arith, ints); offset_low = omega (arith, ints); offset_high = omega (arith, ints) };
-      on_multiples = refl;
     },
     tt,
   );

@@ -1,5 +1,5 @@
 -- What a query's core keeps: the names and the definitions of a query that was accepted.
-use Rattle.std.specs.Prelude.{◌≡◌, ℕ, suc, ◌+◌, ◌≤◌, ◌<◌, pos, neg_ℤ, ◌<ℤ◌, ◌≤ℤ◌, List, [], ◌∷◌, ◌++◌, length, Option, Some, None}
+use Rattle.std.specs.Prelude.{◌≡◌, ℕ, suc, ◌+◌, ◌≤◌, ◌<◌, neg_ℤ, ◌<ℤ◌, ◌≤ℤ◌, List, [], ◌∷◌, ◌++◌, length, Option, Some, None}
 use Rattle.std.specs.Prelude.{IsSome, ⊤, refl}
 use Rattle.std.specs.Coded.{Coded, code_by, coded×, coded_ℕ, coded_list}
 use Rattle.std.specs.List.{AllByRecursion}
@@ -39,13 +39,12 @@ abbrev pub IsStretch : Option Span → Type 0
 IsStretch None = ⊤
 IsStretch (Some span) = (neg_ℤ T ≤ℤ span.start) × (span.start <ℤ span.end) × (span.end ≤ℤ T)
 
--- a definition of an accepted query, before which stand so many sources; grids have no offset for now
+-- a definition of an accepted query, before which stand so many sources
 pub record IsDefinition (before : ℕ) (def : Definition) : Type 0 where
   pub reads : ReadsBelow before def.body
   pub small : nodes def.body ≤ 256
   pub stretch : IsStretch def.over
   pub grid : IsGrid def.grid
-  pub on_multiples : def.grid.offset ≡ pos 0
 
 -- each definition names only what stands before it
 abbrev pub AreDefinitions : ℕ → List Definition → Type 0

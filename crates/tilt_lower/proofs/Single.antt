@@ -124,7 +124,7 @@ module _ (lo hi : ℤ) (number : ℕ) (n : Need) (ys xs : List Stream) (ys_is : 
     free = record { body = def.body; over = None; grid = def.grid }
 
     free_is : IsDefinition number free
-    free_is = record { reads = is.reads; small = is.small; stretch = tt; grid = is.grid; on_multiples = is.on_multiples }
+    free_is = record { reads = is.reads; small = is.small; stretch = tt; grid = is.grid }
 
     bodies : Agree (on_grid def.grid (body_of ys def.body)) (on_grid def.grid (body_of xs def.body)) from to
     bodies = definitions-agree free free_is h

@@ -16,8 +16,9 @@ use Rattle.tilt_syntax.specs.Printing.{level_of}
 use Rattle.tilt_syntax.specs.Query.{with_first, statements}
 use Rattle.tilt_syntax.specs.Tree.{Atom, Num, Truth, Read, Reduce, ExprTree, StatementTree, Input, Let, Emit}
 use Rattle.tilt_base.specs.declared.span.Span.{Span}
+use Rattle.tilt_syntax.specs.declared.every.Every.{Every}
 use Rattle.tilt_syntax.proofs.Written.{place_tokens, offset_tokens, reading_tokens, atom_tokens, operands_tokens, expr_tokens}
-use Rattle.tilt_syntax.proofs.Written.{bound_tokens, span_tokens, domain_tokens, period_tokens, body_tokens, statement_tokens}
+use Rattle.tilt_syntax.proofs.Written.{bound_tokens, span_tokens, domain_tokens, from_tokens, grid_tokens, body_tokens, statement_tokens}
 
 -- whether a token is no `;`
 abbrev goes_on : Tok → Bool
@@ -110,23 +111,28 @@ domain_goes_on : (domain : Option Span) → NoneEnds (domain_tokens domain)
 domain_goes_on None = refl
 domain_goes_on (Some span) = span_goes_on span
 
-period_goes_on : (period : Option ℤ) → NoneEnds (period_tokens period)
-period_goes_on None = refl
-period_goes_on (Some p) = refl
+from_goes_on : (o : ℤ) → NoneEnds (from_tokens o)
+from_goes_on (pos zero) = refl
+from_goes_on (pos (suc n)) = refl
+from_goes_on (negsuc n) = refl
+
+grid_goes_on : (grid : Option Every) → NoneEnds (grid_tokens grid)
+grid_goes_on None = refl
+grid_goes_on (Some every) = from_goes_on every.offset
 
 body_goes_on : (s : StatementTree) → NoneEnds (body_tokens s)
 body_goes_on (Input x) = refl
-body_goes_on (Let x e domain period) =
-    joined (expr_tokens e) (domain_tokens domain ++ period_tokens period) (expr_goes_on e)
-    (joined (domain_tokens domain) (period_tokens period) (domain_goes_on domain) (period_goes_on period))
-body_goes_on (Emit e span period) =
-    joined (expr_tokens e) (span_tokens span ++ period_tokens period) (expr_goes_on e)
-    (joined (span_tokens span) (period_tokens period) (span_goes_on span) (period_goes_on period))
+body_goes_on (Let x e domain grid) =
+    joined (expr_tokens e) (domain_tokens domain ++ grid_tokens grid) (expr_goes_on e)
+    (joined (domain_tokens domain) (grid_tokens grid) (domain_goes_on domain) (grid_goes_on grid))
+body_goes_on (Emit e span grid) =
+    joined (expr_tokens e) (span_tokens span ++ grid_tokens grid) (expr_goes_on e)
+    (joined (span_tokens span) (grid_tokens grid) (span_goes_on span) (grid_goes_on grid))
 
 body_and_end : (s : StatementTree) → statement_tokens s ≡ body_tokens s ++ (tok.Mark mark.Semicolon ∷ [])
 body_and_end (Input x) = refl
-body_and_end (Let x e domain period) = simp append_assoc
-body_and_end (Emit e span period) = simp append_assoc
+body_and_end (Let x e domain grid) = simp append_assoc
+body_and_end (Emit e span grid) = simp append_assoc
 
 -- the tokens of a query are cut into those of its statements
 pub query_cut : (query : List StatementTree) → statements (flat_map statement_tokens query) ≡ map statement_tokens query

@@ -1,6 +1,6 @@
 -- The steps of the parser over plain tokens.
 use Rattle.std.proofs.Common.{◌≡◌, ◌≢◌, ◌<◌, ℕ, suc, List, [], ◌∷◌, ◌++◌, length, take, drop, map, All}
-use Rattle.std.proofs.Common.{Bool, true, false, not, IsTrue, ◌==◌, Option, Some, None, ℤ, refl, ap, ◌∙◌, ◌↔◌, append_assoc, append-nil, arith}
+use Rattle.std.proofs.Common.{Bool, true, false, not, IsTrue, ◌==◌, Option, Some, None, refl, ap, ◌∙◌, ◌↔◌, append_assoc, append-nil, arith}
 use Rattle.std.proofs.lemmas.List.{length-map, map-append}
 use Rattle.std.proofs.lemmas.List.Elements.{All-map, recursion_from_All}
 use Rattle.tilt_lexer.specs.Tokens.{IsSound}
@@ -14,6 +14,7 @@ use Rattle.tilt_syntax.specs.Rest.{Finds}
 use Rattle.tilt_syntax.specs.Tree.{ExprTree, StatementTree, Input, Let, Emit, statement_tree}
 use Rattle.tilt_syntax.specs.declared.level.Level.TheVariants.{Choice}
 use Rattle.tilt_base.specs.declared.span.Span.{Span}
+use Rattle.tilt_syntax.specs.declared.every.Every.{Every}
 use Rattle.tilt_syntax.specs.declared.statement.Statement.{Statement}
 use Rattle.tilt_syntax.proofs.Cutting.{cut}
 use Rattle.tilt_syntax.proofs.Sound.{fits}
@@ -49,7 +50,7 @@ some-statement ts some =
 not-zero : (n : ℕ) → (suc n == 0) ≡ false
 not-zero n = grind arith
 
-pub emit-in-place : (ts : List Token) (r : Bool) (e : ExprTree) (o : Span) (p : Option ℤ) → r ≡ (length ts == 0)
+pub emit-in-place : (ts : List Token) (r : Bool) (e : ExprTree) (o : Span) (p : Option Every) → r ≡ (length ts == 0)
     → IsTrue r ↔ IsInPlace (statements (kinds ts)) (Emit e o p)
 emit-in-place [] r e o p is = (λ h. tt, λ h. is)
 emit-in-place (t ∷ ts) r e o p is =
@@ -61,7 +62,7 @@ input-in-place [] r x is = (λ h. (let no : not r ≡ false = rw is refl in absu
 input-in-place (t ∷ ts) r x is =
     rw (first-statement (t ∷ ts) (omega arith)) (λ h. tt, λ h. (let no : r ≡ false = is ∙ not-zero (length ts) in rw no refl))
 
-pub let-in-place : (ts : List Token) (r : Bool) (x : List ℕ) (e : ExprTree) (o : Option Span) (p : Option ℤ) → r ≡ (length ts == 0)
+pub let-in-place : (ts : List Token) (r : Bool) (x : List ℕ) (e : ExprTree) (o : Option Span) (p : Option Every) → r ≡ (length ts == 0)
     → IsTrue (not r) ↔ IsInPlace (statements (kinds ts)) (Let x e o p)
 let-in-place [] r x e o p is = (λ h. (let no : not r ≡ false = rw is refl in absurd (cc)), λ h. absurd h)
 let-in-place (t ∷ ts) r x e o p is =

@@ -9,13 +9,14 @@ use Rattle.tilt_lexer.specs.declared.token.Tok.{Tok}
 use Rattle.tilt_lexer.specs.declared.token.Tok.TheVariants.{Key as Reserved, Mark as Sign}
 use Rattle.tilt_syntax.specs.Grammar.{Infix, infix_of, SpellsOffset, now, later, earlier, IsExpr, tighter, choice, between, negation, minus}
 use Rattle.tilt_syntax.specs.Grammar.{number, true_word, false_word, name, reading, window, is_null, if_null, enclosed}
-use Rattle.tilt_syntax.specs.Grammar.{IsBound, from_zero, below_zero, IsSpan, over, MayBeSpan, no_span, some_span, MayBePeriod, no_period, some_period, IsStatement, input, definition, emission}
+use Rattle.tilt_syntax.specs.Grammar.{IsBound, from_zero, below_zero, IsSpan, over, MayBeSpan, no_span, some_span, MayBeGrid, no_grid, on_multiples, with_offset, IsStatement, input, definition, emission}
 use Rattle.tilt_syntax.specs.Printing.{level_of, level2}
 use Rattle.tilt_syntax.specs.Query.{AreSound}
 use Rattle.tilt_syntax.specs.Tree.{ExprTree, StatementTree}
 use Rattle.tilt_base.specs.declared.span.Span.{Span}
+use Rattle.tilt_syntax.specs.declared.every.Every.{Every}
 use Rattle.tilt_syntax.proofs.Sounds.{sound_parts}
-use Rattle.tilt_syntax.proofs.Written.{place_tokens, offset_tokens, reading_tokens, operands_tokens, expr_tokens, bound_tokens, span_tokens, domain_tokens, period_tokens, statement_tokens}
+use Rattle.tilt_syntax.proofs.Written.{place_tokens, offset_tokens, reading_tokens, operands_tokens, expr_tokens, bound_tokens, span_tokens, domain_tokens, from_tokens, grid_tokens, statement_tokens}
 
 -- parentheses are two tokens at most, and none where the place asks for no tighter level
 place_most : (place level : ℕ) (ts : List Tok) → length (place_tokens place level ts) ≤ length ts + 2
@@ -152,9 +153,15 @@ domain_shortest : {ts : List Tok} {domain : Option Span} → MayBeSpan ts domain
 domain_shortest no_span s = omega arith
 domain_shortest (some_span h) s = span_shortest h s
 
-period_shortest : {ts : List Tok} {period : Option ℤ} → MayBePeriod ts period → length (period_tokens period) ≤ length ts
-period_shortest no_period = omega arith
-period_shortest some_period = omega arith
+from_most : (o : ℤ) → length (from_tokens o) ≤ 2
+from_most (pos zero) = omega arith
+from_most (pos (suc n)) = omega arith
+from_most (negsuc n) = omega arith
+
+grid_shortest : {ts : List Tok} {grid : Option Every} → MayBeGrid ts grid → length (grid_tokens grid) ≤ length ts
+grid_shortest no_grid = omega arith
+grid_shortest on_multiples = omega arith
+grid_shortest (with_offset {p = p} {o = o}) = omega (arith, from_most o)
 
 -- an expression, and what stands behind it in a statement
 parts_shortest : (es ds ps ts us vs : List Tok) → length es ≤ length ts → length ds ≤ length us → length ps ≤ length vs
@@ -165,15 +172,15 @@ parts_shortest es ds ps ts us vs he hd hp =
 
 pub statement_shortest : {us : List Tok} {s : StatementTree} → IsStatement us s → AreSound us → length (statement_tokens s) ≤ length us
 statement_shortest input s = omega arith
-statement_shortest (definition {ts = ts} {us = us} {vs = vs} {e = e} {over = domain} {every = period} he hd hp) s =
+statement_shortest (definition {ts = ts} {us = us} {vs = vs} {e = e} {over = domain} {every = grid} he hd hp) s =
     let first = sound_parts ts (us ++ (vs ++ (Sign mark.Semicolon ∷ []))) s.1.1.1 in
     let second = sound_parts us (vs ++ (Sign mark.Semicolon ∷ [])) first.1 in
-    let all = parts_shortest (expr_tokens e) (domain_tokens domain) (period_tokens period) ts us vs
-    (whole_shortest he) (domain_shortest hd second.0) (period_shortest hp) in
+    let all = parts_shortest (expr_tokens e) (domain_tokens domain) (grid_tokens grid) ts us vs
+    (whole_shortest he) (domain_shortest hd second.0) (grid_shortest hp) in
     omega (arith, all)
-statement_shortest (emission {ts = ts} {us = us} {vs = vs} {e = e} {over = span} {every = period} he hs hp) s =
+statement_shortest (emission {ts = ts} {us = us} {vs = vs} {e = e} {over = span} {every = grid} he hs hp) s =
     let first = sound_parts ts (us ++ (vs ++ (Sign mark.Semicolon ∷ []))) s.1 in
     let second = sound_parts us (vs ++ (Sign mark.Semicolon ∷ [])) first.1 in
-    let all = parts_shortest (expr_tokens e) (span_tokens span) (period_tokens period) ts us vs
-    (whole_shortest he) (span_shortest hs second.0) (period_shortest hp) in
+    let all = parts_shortest (expr_tokens e) (span_tokens span) (grid_tokens grid) ts us vs
+    (whole_shortest he) (span_shortest hs second.0) (grid_shortest hp) in
     omega (arith, all)

@@ -3,18 +3,20 @@ use Rattle.std.proofs.Common.{◌≡◌, inl, inr, ℕ, zero, suc, ℤ, pos, neg
 use Rattle.std.specs.List.{AllByRecursion}
 use Rattle.std.proofs.lemmas.Bool.{cases_Bool}
 use Rattle.std.proofs.lemmas.Int.{ints}
+use Rattle.tilt_lexer.specs.declared.key.Key.TheVariants as key
 use Rattle.tilt_lexer.specs.declared.mark.Mark.TheVariants as mark
 use Rattle.tilt_lexer.specs.declared.token.Tok.{Tok}
-use Rattle.tilt_lexer.specs.declared.token.Tok.TheVariants.{Word, Mark as Sign}
+use Rattle.tilt_lexer.specs.declared.token.Tok.TheVariants.{Word, Number, Key as Reserved, Mark as Sign}
 use Rattle.tilt_lexer.specs.Tokens.{IsSound}
 use Rattle.tilt_syntax.specs.Grammar.{Infix, infix_of, SpellsOffset, now, later, earlier, IsExpr, tighter, choice, between, negation, minus}
 use Rattle.tilt_syntax.specs.Grammar.{number, true_word, false_word, name, reading, window, is_null, if_null, enclosed}
-use Rattle.tilt_syntax.specs.Grammar.{IsBound, from_zero, below_zero, IsSpan, over, MayBeSpan, no_span, some_span, MayBePeriod, no_period, some_period, IsStatement, input, definition, emission}
+use Rattle.tilt_syntax.specs.Grammar.{IsBound, from_zero, below_zero, IsSpan, over, MayBeSpan, no_span, some_span, MayBeGrid, no_grid, on_multiples, with_offset, IsStatement, input, definition, emission}
 use Rattle.tilt_syntax.specs.Printing.{level_of}
 use Rattle.tilt_syntax.specs.Query.{AreSound, with_first, statements}
 use Rattle.tilt_syntax.specs.Tree.{ExprTree, StatementTree}
 use Rattle.tilt_base.specs.declared.span.Span.{Span}
-use Rattle.tilt_syntax.proofs.Written.{place_tokens, offset_tokens, reading_tokens, operands_tokens, expr_tokens, bound_tokens, span_tokens, domain_tokens, period_tokens, statement_tokens}
+use Rattle.tilt_syntax.specs.declared.every.Every.{Every}
+use Rattle.tilt_syntax.proofs.Written.{place_tokens, offset_tokens, reading_tokens, operands_tokens, expr_tokens, bound_tokens, span_tokens, domain_tokens, from_tokens, grid_tokens, statement_tokens}
 
 -- tokens one after another are sound where both are
 pub sound_parts : (ts us : List Tok) → AreSound (ts ++ us) → AreSound ts × AreSound us
@@ -111,21 +113,27 @@ domain_sound : {ts : List Tok} {domain : Option Span} → MayBeSpan ts domain �
 domain_sound no_span s = s
 domain_sound (some_span h) s = span_sound h s
 
-period_sound : {ts : List Tok} {period : Option ℤ} → MayBePeriod ts period → AreSound ts → AreSound (period_tokens period)
-period_sound no_period s = s
-period_sound some_period s = s
+from_sound : (o : ℤ) → AreSound (Reserved key.From ∷ Number o ∷ []) → AreSound (from_tokens o)
+from_sound (pos zero) s = tt
+from_sound (pos (suc n)) s = s
+from_sound (negsuc n) s = s
+
+grid_sound : {ts : List Tok} {grid : Option Every} → MayBeGrid ts grid → AreSound ts → AreSound (grid_tokens grid)
+grid_sound no_grid s = s
+grid_sound on_multiples s = s
+grid_sound (with_offset {p = p} {o = o}) s = (tt, (s.1.0, from_sound o s.1.1))
 
 pub statement_sound : {ts : List Tok} {s : StatementTree} → IsStatement ts s → AreSound ts → AreSound (statement_tokens s)
 statement_sound input s = s
-statement_sound (definition {ts = ts} {us = us} {vs = vs} {e = e} {over = domain} {every = period} he hd hp) s =
+statement_sound (definition {ts = ts} {us = us} {vs = vs} {e = e} {over = domain} {every = grid} he hd hp) s =
     let first = sound_parts ts _ s.1.1.1 in
     let second = sound_parts us _ first.1 in
     let third = sound_parts vs _ second.1 in
-    let end = both (period_tokens period) (Sign mark.Semicolon ∷ []) (period_sound hp third.0) (tt, tt) in
+    let end = both (grid_tokens grid) (Sign mark.Semicolon ∷ []) (grid_sound hp third.0) (tt, tt) in
     (tt, (s.1.0, (tt, both (expr_tokens e) _ (expr_sound he first.0) (both (domain_tokens domain) _ (domain_sound hd second.0) end))))
-statement_sound (emission {ts = ts} {us = us} {vs = vs} {e = e} {over = span} {every = period} he hs hp) s =
+statement_sound (emission {ts = ts} {us = us} {vs = vs} {e = e} {over = span} {every = grid} he hs hp) s =
     let first = sound_parts ts _ s.1 in
     let second = sound_parts us _ first.1 in
     let third = sound_parts vs _ second.1 in
-    let end = both (period_tokens period) (Sign mark.Semicolon ∷ []) (period_sound hp third.0) (tt, tt) in
+    let end = both (grid_tokens grid) (Sign mark.Semicolon ∷ []) (grid_sound hp third.0) (tt, tt) in
     (tt, both (expr_tokens e) _ (expr_sound he first.0) (both (span_tokens span) _ (span_sound hs second.0) end))

@@ -10,12 +10,13 @@ use Rattle.tilt_lexer.specs.declared.mark.Mark.TheVariants as mark
 use Rattle.tilt_lexer.specs.declared.token.Tok.{Tok}
 use Rattle.tilt_lexer.specs.declared.token.Tok.TheVariants.{Word, Number, Key as Reserved, Mark as Sign}
 use Rattle.tilt_syntax.specs.Grammar.{Infix, infix_of, reducer_key}
-use Rattle.tilt_syntax.specs.Printing.{level_of, in_place, offset_text, reading_text, atom_text, sign_text, operands_text, expr_text, span_text, domain_text, period_text, statement_text, query_text}
+use Rattle.tilt_syntax.specs.Printing.{level_of, in_place, offset_text, reading_text, atom_text, sign_text, operands_text, expr_text, span_text, domain_text, from_text, grid_text, statement_text, query_text}
 use Rattle.tilt_syntax.specs.Tree.{Atom, Num, Truth, Read, Reduce, ExprTree, StatementTree, Input, Let, Emit}
 use Rattle.tilt_base.specs.declared.span.Span.{Span}
+use Rattle.tilt_syntax.specs.declared.every.Every.{Every}
 use Rattle.tilt_syntax.proofs.Spelling.{closes, is_alone, ends_before, Spells, end, blank, token}
 use Rattle.tilt_syntax.proofs.Written.{place_tokens, offset_tokens, reading_tokens, atom_tokens, operands_tokens, expr_tokens}
-use Rattle.tilt_syntax.proofs.Written.{bound_tokens, span_tokens, domain_tokens, period_tokens, statement_tokens}
+use Rattle.tilt_syntax.proofs.Written.{bound_tokens, span_tokens, domain_tokens, from_tokens, grid_tokens, statement_tokens}
 
 -- bytes that spell the tokens, and before which any token ends
 record Tail (rest : List ℕ) (ks : List Tok) : Type 0 where
@@ -152,11 +153,23 @@ module _ {rest : List ℕ} {ks : List Tok} (tail : Tail rest ks) where
   domain_tail None = tail
   domain_tail (Some span) = span_tail span
 
-  period_tail : (period : Option ℤ) → Tail (period_text period ++ rest) (period_tokens period ++ ks)
-  period_tail None = tail
-  period_tail (Some p) = record {
+  from_tail : (o : ℤ) → Tail (from_text o ++ rest) (from_tokens o ++ ks)
+  from_tail (pos zero) = tail
+  from_tail (pos (suc n)) = record {
     closed = refl;
-    spelt = blank refl (token (Reserved key.Every) refl (blank refl (token (Number p) tail.closed tail.spelt)));
+    spelt = blank refl (token (Reserved key.From) refl (blank refl (token (Number (pos (suc n))) tail.closed tail.spelt)));
+  }
+  from_tail (negsuc n) = record {
+    closed = refl;
+    spelt = blank refl (token (Reserved key.From) refl (blank refl (token (Number (negsuc n)) tail.closed tail.spelt)));
+  }
+
+  grid_tail : (grid : Option Every) → Tail (grid_text grid ++ rest) (grid_tokens grid ++ ks)
+  grid_tail None = tail
+  grid_tail (Some every) = record {
+    closed = refl;
+    spelt = simp append_assoc (blank refl (token (Reserved key.Every) refl (blank refl
+        (token (Number every.period) (from_tail every.offset).closed (from_tail every.offset).spelt))));
   }
 
 -- the end of a line, and then the rest
@@ -174,12 +187,12 @@ statement_spells : (s : StatementTree) (rest : List ℕ) (ks : List Tok) → Spe
     → Spells (statement_text s ++ rest) (statement_tokens s ++ ks)
 statement_spells (Input x) rest ks more =
     simp append_assoc (token (Reserved key.Input) refl (blank refl (token (Word x) refl (line_end rest ks more).spelt)))
-statement_spells (Let x e domain period) rest ks more =
+statement_spells (Let x e domain grid) rest ks more =
     simp append_assoc (token (Reserved key.Let) refl (blank refl (token (Word x) refl (blank refl (token (Sign mark.Assign) refl (blank refl
-    ((expr_spelt e).go_on (domain_tail (period_tail (line_end rest ks more) period) domain))))))))
-statement_spells (Emit e span period) rest ks more =
-    emission_spells (expr_text e) (span_text span) (period_text period) rest (expr_tokens e) (span_tokens span) (period_tokens period) ks
-    (expr_spelt e) (span_tail (period_tail (line_end rest ks more) period) span)
+    ((expr_spelt e).go_on (domain_tail (grid_tail (line_end rest ks more) grid) domain))))))))
+statement_spells (Emit e span grid) rest ks more =
+    emission_spells (expr_text e) (span_text span) (grid_text grid) rest (expr_tokens e) (span_tokens span) (grid_tokens grid) ks
+    (expr_spelt e) (span_tail (grid_tail (line_end rest ks more) grid) span)
 
 pub query_spells : (query : List StatementTree) → Spells (query_text query) (flat_map statement_tokens query)
 query_spells [] = end

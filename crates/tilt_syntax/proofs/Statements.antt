@@ -8,12 +8,13 @@ use Rattle.tilt_lexer.specs.declared.mark.Mark.TheVariants as mark
 use Rattle.tilt_lexer.specs.declared.token.Tok.{Tok}
 use Rattle.tilt_lexer.specs.declared.token.Tok.TheVariants.{Key as Reserved, Mark as Sign}
 use Rattle.tilt_syntax.specs.Descent.{Plan, Done, Test, Found, Comes, done, met, missed, found}
-use Rattle.tilt_syntax.specs.Grammar.{IsBound, from_zero, below_zero, IsSpan, over, MayBeSpan, no_span, some_span, MayBePeriod, no_period, some_period, IsStatement, input, definition, emission}
-use Rattle.tilt_syntax.specs.Statements.{bound_plan, span_plan, domain_plan, period_plan, empty_plan, end_plan, statement_plan}
+use Rattle.tilt_syntax.specs.Grammar.{IsBound, from_zero, below_zero, IsSpan, over, MayBeSpan, no_span, some_span, MayBeGrid, no_grid, on_multiples, with_offset, IsStatement, input, definition, emission}
+use Rattle.tilt_syntax.specs.Statements.{bound_plan, span_plan, domain_plan, from_plan, grid_plan, empty_plan, end_plan, statement_plan}
 use Rattle.tilt_syntax.specs.Stored.{stored_statement, stored_statement_inj}
 use Rattle.tilt_syntax.specs.Tree.{Num, Truth, ExprTree, StatementTree, Input, Let, Emit}
 use Rattle.tilt_syntax.specs.declared.level.Level.TheVariants.{Choice}
 use Rattle.tilt_base.specs.declared.span.Span.{Span}
+use Rattle.tilt_syntax.specs.declared.every.Every.{Every}
 use Rattle.tilt_syntax.proofs.Complete.{complete, met-append, Stops, stops-at}
 use Rattle.tilt_syntax.proofs.Descending.{end-comes}
 use Rattle.tilt_syntax.proofs.Sound.{Keeps, kept, number-keeps, name-keeps}
@@ -45,30 +46,34 @@ unfolding domain_plan
 domain-comes ts o no_span rest behind r fails k = missed fails k
 domain-comes ts o (some_span {span = span} h) rest behind r fails k = span-comes ts span h rest (λ s. behind (Some s)) _ r k
 
-period-comes : (ts : List Tok) (p : Option ℤ) → MayBePeriod ts p
-    → (rest : List Tok) (behind : Option ℤ → List Tok → Plan) (r : Option Found)
-    → ((us : List Tok) → rest ≢ Reserved key.Every ∷ us) → Comes (behind p rest) r → Comes (period_plan (ts ++ rest) behind) r
-unfolding period_plan
-period-comes ts p no_period rest behind r fails k = missed fails k
-period-comes ts p some_period rest behind r fails k = met refl k
+grid-comes : (ts : List Tok) (p : Option Every) → MayBeGrid ts p
+    → (rest : List Tok) (behind : Option Every → List Tok → Plan) (r : Option Found)
+    → ((us : List Tok) → rest ≢ Reserved key.Every ∷ us) → ((us : List Tok) → rest ≢ Reserved key.From ∷ us)
+    → Comes (behind p rest) r → Comes (grid_plan (ts ++ rest) behind) r
+unfolding from_plan grid_plan
+grid-comes ts p no_grid rest behind r no_every no_from k = missed no_every k
+grid-comes ts p on_multiples rest behind r no_every no_from k = met refl (missed no_from k)
+grid-comes ts p with_offset rest behind r no_every no_from k = met refl (met refl k)
 
 -- an expression ends before what stands behind it in a statement
 
-period-stops : (ts : List Tok) (p : Option ℤ) → MayBePeriod ts p → Stops 1 (ts ++ (Sign mark.Semicolon ∷ []))
-period-stops ts p no_period = stops-at 1 _ _ refl (λ e. cc)
-period-stops ts p some_period = stops-at 1 _ _ refl (λ e. cc)
+grid-stops : (ts : List Tok) (p : Option Every) → MayBeGrid ts p → Stops 1 (ts ++ (Sign mark.Semicolon ∷ []))
+grid-stops ts p no_grid = stops-at 1 _ _ refl (λ e. cc)
+grid-stops ts p on_multiples = stops-at 1 _ _ refl (λ e. cc)
+grid-stops ts p with_offset = stops-at 1 _ _ refl (λ e. cc)
 
-period-begins : (ts : List Tok) (p : Option ℤ) → MayBePeriod ts p → (us : List Tok)
+grid-begins : (ts : List Tok) (p : Option Every) → MayBeGrid ts p → (us : List Tok)
     → ts ++ (Sign mark.Semicolon ∷ []) ≢ Reserved key.Over ∷ us
-period-begins ts p no_period us = λ e. cc
-period-begins ts p some_period us = λ e. cc
+grid-begins ts p no_grid us = λ e. cc
+grid-begins ts p on_multiples us = λ e. cc
+grid-begins ts p with_offset us = λ e. cc
 
 span-stops : (ts : List Tok) (span : Span) → IsSpan ts span → (rest : List Tok) → Stops 1 (ts ++ rest)
 span-stops ts span (over hs he) rest = stops-at 1 _ _ refl (λ e. cc)
 
-domain-stops : (ts us : List Tok) (o : Option Span) (p : Option ℤ) → MayBeSpan ts o → MayBePeriod us p
+domain-stops : (ts us : List Tok) (o : Option Span) (p : Option Every) → MayBeSpan ts o → MayBeGrid us p
     → Stops 1 (ts ++ (us ++ (Sign mark.Semicolon ∷ [])))
-domain-stops ts us o p no_span h = period-stops us p h
+domain-stops ts us o p no_span h = grid-stops us p h
 domain-stops ts us o p (some_span {span = span} k) h = span-stops ts span k _
 
 pub statement-comes : (ts : List Tok) (s : StatementTree) → IsStatement ts s → (behind : StatementTree → Plan) (r : Option Found)
@@ -79,12 +84,12 @@ statement-comes ts s (definition {x = x} {ts = us} {us = vs} {vs = ws} {e = e} {
     missed (λ us e. cc) (met refl (met refl (
     found (complete Choice 0 us e he refl _ (Some (record { tree = e; rest = vs ++ (ws ++ (Sign mark.Semicolon ∷ [])) })) (
     domain-stops vs ws o p ho hp) done) (
-    domain-comes vs o ho _ _ r (period-begins ws p hp) (period-comes ws p hp _ _ r (λ us e. cc) (end-comes _ _ r refl k))))))
+    domain-comes vs o ho _ _ r (grid-begins ws p hp) (grid-comes ws p hp _ _ r (λ us e. cc) (λ us e. cc) (end-comes _ _ r refl k))))))
 statement-comes ts s (emission {ts = us} {us = vs} {vs = ws} {e = e} {over = o} {every = p} he ho hp) behind r k =
     missed (λ us e. cc) (missed (λ us e. cc) (met refl (
     found (complete Choice 0 us e he refl _ (Some (record { tree = e; rest = vs ++ (ws ++ (Sign mark.Semicolon ∷ [])) })) (
     span-stops vs o ho _) done) (
-    span-comes vs o ho _ _ _ r (period-comes ws p hp _ _ r (λ us e. cc) (end-comes _ _ r refl k))))))
+    span-comes vs o ho _ _ _ r (grid-comes ws p hp _ _ r (λ us e. cc) (λ us e. cc) (end-comes _ _ r refl k))))))
 
 -- what is read is in the grammar
 
@@ -122,13 +127,16 @@ domain-keeps P ts behind h = (
   h None [] ts refl no_span,
 )
 
-period-keeps : (P : Found → Type 0) (ts : List Tok) (behind : Option ℤ → List Tok → Plan)
-    → ((p : Option ℤ) (front rest : List Tok) → ts ≡ front ++ rest → MayBePeriod front p → Keeps (behind p rest) P)
-    → Keeps (period_plan ts behind) P
-unfolding period_plan
-period-keeps P ts behind h = (
-  (λ us at. number-keeps P us (λ p. behind (Some p)) (λ n vs is. h (Some n) _ vs (rw (at, is) refl) some_period)),
-  h None [] ts refl no_period,
+grid-keeps : (P : Found → Type 0) (ts : List Tok) (behind : Option Every → List Tok → Plan)
+    → ((p : Option Every) (front rest : List Tok) → ts ≡ front ++ rest → MayBeGrid front p → Keeps (behind p rest) P)
+    → Keeps (grid_plan ts behind) P
+unfolding from_plan grid_plan
+grid-keeps P ts behind h = (
+  (λ us at. number-keeps P us _ (λ p vs is. (
+    (λ ws from_at. number-keeps P ws _ (λ o xs o_is. h (Some (record { period = p; offset = o })) _ xs (rw (at, is, from_at, o_is) refl) with_offset)),
+    h (Some (record { period = p; offset = pos 0 })) _ vs (rw (at, is) refl) on_multiples,
+  ))),
+  h None [] ts refl no_grid,
 )
 
 empty-keeps : (P : Found → Type 0) (ts : List Tok) (plan : Plan) → (ts ≡ Sign mark.Semicolon ∷ [] → Keeps plan P)
@@ -149,13 +157,13 @@ statement-keeps P ts behind h = (
   (
     (λ us let_at. name-keeps P us _ (λ x vs name_at. (
       (λ ws assign_at e he. domain-keeps P e.rest _ (λ o front xs o_at ho.
-          period-keeps P xs _ (λ p back ys p_at hp. end-keeps P ys _ (λ end_at.
+          grid-keeps P xs _ (λ p back ys p_at hp. end-keeps P ys _ (λ end_at.
           h (Let x e.tree o p) (rw (let_at, name_at, assign_at, he.split, o_at, p_at, end_at) (definition he.is ho hp)))))),
       tt,
     ))),
     (
       (λ us emit_at e he. (
-        (λ vs over_at. span-keeps P vs _ (λ o front xs o_at ho. period-keeps P xs _ (
+        (λ vs over_at. span-keeps P vs _ (λ o front xs o_at ho. grid-keeps P xs _ (
             λ p back ys p_at hp. end-keeps P ys _ (λ end_at.
             h (Emit e.tree o p) (rw (emit_at, he.split, over_at, o_at, p_at, end_at) (emission he.is ho hp)))))),
         tt,

@@ -12,10 +12,11 @@ use Rattle.tilt_lexer.specs.declared.token.Tok.{Tok}
 use Rattle.tilt_lexer.specs.declared.token.Tok.TheVariants.{Word, Number, Key as Reserved, Mark as Sign}
 use Rattle.tilt_syntax.specs.Grammar.{Infix, infix_of, reducer_key, SpellsOffset, now, later, earlier, IsExpr, tighter, choice, between, negation, minus}
 use Rattle.tilt_syntax.specs.Grammar.{number, true_word, false_word, name, reading, window, is_null, if_null, enclosed}
-use Rattle.tilt_syntax.specs.Grammar.{IsBound, from_zero, below_zero, IsSpan, over, MayBeSpan, no_span, some_span, MayBePeriod, no_period, some_period, IsStatement, input, definition, emission}
+use Rattle.tilt_syntax.specs.Grammar.{IsBound, from_zero, below_zero, IsSpan, over, MayBeSpan, no_span, some_span, MayBeGrid, no_grid, on_multiples, with_offset, IsStatement, input, definition, emission}
 use Rattle.tilt_syntax.specs.Printing.{level_of, level2}
 use Rattle.tilt_syntax.specs.Tree.{Atom, Num, Truth, Read, Reduce, ExprTree, StatementTree, Input, Let, Emit}
 use Rattle.tilt_base.specs.declared.span.Span.{Span}
+use Rattle.tilt_syntax.specs.declared.every.Every.{Every}
 
 -- tokens in parentheses where their level is lower than the one that their place asks for
 abbrev pub place_tokens : ℕ → ℕ → List Tok → List Tok
@@ -64,24 +65,28 @@ abbrev pub domain_tokens : Option Span → List Tok
 domain_tokens None = []
 domain_tokens (Some span) = span_tokens span
 
-abbrev pub period_tokens : Option ℤ → List Tok
-period_tokens None = []
-period_tokens (Some p) = Reserved key.Every ∷ Number p ∷ []
+abbrev pub from_tokens : ℤ → List Tok
+from_tokens (pos zero) = []
+from_tokens offset = Reserved key.From ∷ Number offset ∷ []
+
+abbrev pub grid_tokens : Option Every → List Tok
+grid_tokens None = []
+grid_tokens (Some every) = Reserved key.Every ∷ Number every.period ∷ from_tokens every.offset
 
 -- the tokens of a statement before its `;`
 abbrev pub body_tokens : StatementTree → List Tok
 body_tokens (Input x) = Reserved key.Input ∷ Word x ∷ []
-body_tokens (Let x e domain period) =
-    Reserved key.Let ∷ Word x ∷ Sign mark.Assign ∷ (expr_tokens e ++ (domain_tokens domain ++ period_tokens period))
-body_tokens (Emit e span period) = Reserved key.Emit ∷ (expr_tokens e ++ (span_tokens span ++ period_tokens period))
+body_tokens (Let x e domain grid) =
+    Reserved key.Let ∷ Word x ∷ Sign mark.Assign ∷ (expr_tokens e ++ (domain_tokens domain ++ grid_tokens grid))
+body_tokens (Emit e span grid) = Reserved key.Emit ∷ (expr_tokens e ++ (span_tokens span ++ grid_tokens grid))
 
 abbrev pub statement_tokens : StatementTree → List Tok
 statement_tokens (Input x) = Reserved key.Input ∷ Word x ∷ Sign mark.Semicolon ∷ []
-statement_tokens (Let x e domain period) =
+statement_tokens (Let x e domain grid) =
     Reserved key.Let ∷ Word x ∷ Sign mark.Assign
-    ∷ (expr_tokens e ++ (domain_tokens domain ++ (period_tokens period ++ (Sign mark.Semicolon ∷ []))))
-statement_tokens (Emit e span period) =
-    Reserved key.Emit ∷ (expr_tokens e ++ (span_tokens span ++ (period_tokens period ++ (Sign mark.Semicolon ∷ []))))
+    ∷ (expr_tokens e ++ (domain_tokens domain ++ (grid_tokens grid ++ (Sign mark.Semicolon ∷ []))))
+statement_tokens (Emit e span grid) =
+    Reserved key.Emit ∷ (expr_tokens e ++ (span_tokens span ++ (grid_tokens grid ++ (Sign mark.Semicolon ∷ []))))
 
 loosen : {ts : List Tok} {e : ExprTree} (gap level : ℕ) → IsExpr (level + gap) ts e → IsExpr level ts e
 loosen {ts = ts} {e = e} zero level h = let same : level + 0 ≡ level = omega arith in subst (λ n. IsExpr n ts e) same h
@@ -165,12 +170,17 @@ domain_is : (domain : Option Span) → MayBeSpan (domain_tokens domain) domain
 domain_is None = no_span
 domain_is (Some span) = some_span (span_is span)
 
-period_is : (period : Option ℤ) → MayBePeriod (period_tokens period) period
-period_is None = no_period
-period_is (Some p) = some_period
+every_is : (p o : ℤ) → MayBeGrid (Reserved key.Every ∷ Number p ∷ from_tokens o) (Some (record { period = p; offset = o }))
+every_is p (pos zero) = on_multiples
+every_is p (pos (suc n)) = with_offset
+every_is p (negsuc n) = with_offset
+
+grid_is : (grid : Option Every) → MayBeGrid (grid_tokens grid) grid
+grid_is None = no_grid
+grid_is (Some every) = every_is every.period every.offset
 
 -- the tokens of a statement are the statement
 pub statement_is : (s : StatementTree) → IsStatement (statement_tokens s) s
 statement_is (Input x) = input
-statement_is (Let x e domain period) = definition (whole_is e) (domain_is domain) (period_is period)
-statement_is (Emit e span period) = emission (whole_is e) (span_is span) (period_is period)
+statement_is (Let x e domain grid) = definition (whole_is e) (domain_is domain) (grid_is grid)
+statement_is (Emit e span grid) = emission (whole_is e) (span_is span) (grid_is grid)

@@ -14,6 +14,7 @@ use Rattle.tilt_lexer.specs.declared.token.Tok.{Tok}
 use Rattle.tilt_lexer.specs.declared.token.Tok.TheVariants.{Word, Number, Key as Reserved, Mark as Sign}
 use Rattle.tilt_syntax.specs.Tree.{Num, Truth, Read, Reduce, ExprTree, StatementTree, Input, Let, Emit}
 use Rattle.tilt_base.specs.declared.span.Span.{Span}
+use Rattle.tilt_syntax.specs.declared.every.Every.{Every}
 
 -- an operator that stands between its operands: its sign, its level, and the levels that the places of its operands ask for
 pub record Infix : Type 0 where
@@ -113,18 +114,20 @@ pub data MayBeSpan : List Tok → Option Span → Type 0 where
   no_span : MayBeSpan [] None
   some_span : {ts : List Tok} {span : Span} → IsSpan ts span → MayBeSpan ts (Some span)
 
--- `every p`, or nothing
-pub data MayBePeriod : List Tok → Option ℤ → Type 0 where
-  no_period : MayBePeriod [] None
-  some_period : {p : ℤ} → MayBePeriod (Reserved key.Every ∷ Number p ∷ []) (Some p)
+-- `every p`, which is `every p from 0`, or `every p from o`, or nothing
+pub data MayBeGrid : List Tok → Option Every → Type 0 where
+  no_grid : MayBeGrid [] None
+  on_multiples : {p : ℤ} → MayBeGrid (Reserved key.Every ∷ Number p ∷ []) (Some (record { period = p; offset = pos 0 }))
+  with_offset : {p o : ℤ}
+      → MayBeGrid (Reserved key.Every ∷ Number p ∷ Reserved key.From ∷ Number o ∷ []) (Some (record { period = p; offset = o }))
 
 -- the tokens are the statement
 pub data IsStatement : List Tok → StatementTree → Type 0 where
   input : {x : List ℕ} → IsStatement (Reserved key.Input ∷ Word x ∷ Sign mark.Semicolon ∷ []) (Input x)
-  definition : {x : List ℕ} {ts us vs : List Tok} {e : ExprTree} {over : Option Span} {every : Option ℤ}
-      → IsExpr 0 ts e → MayBeSpan us over → MayBePeriod vs every
+  definition : {x : List ℕ} {ts us vs : List Tok} {e : ExprTree} {over : Option Span} {every : Option Every}
+      → IsExpr 0 ts e → MayBeSpan us over → MayBeGrid vs every
       → IsStatement (Reserved key.Let ∷ Word x ∷ Sign mark.Assign ∷ (ts ++ (us ++ (vs ++ (Sign mark.Semicolon ∷ [])))))
       (Let x e over every)
-  emission : {ts us vs : List Tok} {e : ExprTree} {over : Span} {every : Option ℤ}
-      → IsExpr 0 ts e → IsSpan us over → MayBePeriod vs every
+  emission : {ts us vs : List Tok} {e : ExprTree} {over : Span} {every : Option Every}
+      → IsExpr 0 ts e → IsSpan us over → MayBeGrid vs every
       → IsStatement (Reserved key.Emit ∷ (ts ++ (us ++ (vs ++ (Sign mark.Semicolon ∷ []))))) (Emit e over every)

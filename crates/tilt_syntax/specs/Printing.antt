@@ -13,6 +13,7 @@ use Rattle.tilt_syntax.specs.Grammar.{Infix, infix_of, reducer_key, IsStatement}
 use Rattle.tilt_syntax.specs.Query.{kinds, AreSound, statements, IsQueryOf}
 use Rattle.tilt_syntax.specs.Tree.{Atom, Num, Truth, Read, Reduce, ExprTree, StatementTree, Input, Let, Emit}
 use Rattle.tilt_base.specs.declared.span.Span.{Span}
+use Rattle.tilt_syntax.specs.declared.every.Every.{Every}
 
 -- the level of an operator on two operands; `ifnull` is written as a call
 abbrev pub level2 : Option Infix → ℕ
@@ -82,17 +83,22 @@ abbrev pub domain_text : Option Span → List ℕ
 domain_text None = []
 domain_text (Some span) = span_text span
 
--- ` every p` where it stands
-abbrev pub period_text : Option ℤ → List ℕ
-period_text None = []
-period_text (Some p) = codes " every " ++ signed_decimal p
+-- ` from o`; nothing for the offset 0
+abbrev pub from_text : ℤ → List ℕ
+from_text (pos zero) = []
+from_text offset = codes " from " ++ signed_decimal offset
+
+-- ` every p` or ` every p from o` where it stands
+abbrev pub grid_text : Option Every → List ℕ
+grid_text None = []
+grid_text (Some every) = codes " every " ++ signed_decimal every.period ++ from_text every.offset
 
 -- a line
 abbrev pub statement_text : StatementTree → List ℕ
 statement_text (Input x) = codes "input " ++ x ++ codes ";\n"
 statement_text (Let x e over every) =
-    codes "let " ++ x ++ codes " = " ++ expr_text e ++ domain_text over ++ period_text every ++ codes ";\n"
-statement_text (Emit e over every) = codes "emit " ++ expr_text e ++ span_text over ++ period_text every ++ codes ";\n"
+    codes "let " ++ x ++ codes " = " ++ expr_text e ++ domain_text over ++ grid_text every ++ codes ";\n"
+statement_text (Emit e over every) = codes "emit " ++ expr_text e ++ span_text over ++ grid_text every ++ codes ";\n"
 
 -- the text of a query
 abbrev pub query_text : List StatementTree → List ℕ

@@ -1,5 +1,5 @@
 -- How a statement is read from left to right, in the manner of the descent. The grammar is laid down apart from it.
-use Rattle.std.specs.Prelude.{ℤ, neg_ℤ, List, [], ◌∷◌, Option, Some, None}
+use Rattle.std.specs.Prelude.{ℤ, pos, neg_ℤ, List, [], ◌∷◌, Option, Some, None}
 use Rattle.tilt_lexer.specs.declared.key.Key.TheVariants as key
 use Rattle.tilt_lexer.specs.declared.mark.Mark.TheVariants as mark
 use Rattle.tilt_lexer.specs.declared.token.Tok.{Tok}
@@ -8,6 +8,7 @@ use Rattle.tilt_syntax.specs.Descent.{Plan, Test, Ask, Reading, nothing, expect,
 use Rattle.tilt_syntax.specs.Tree.{StatementTree, Input, Let, Emit}
 use Rattle.tilt_syntax.specs.declared.level.Level.TheVariants.{Choice}
 use Rattle.tilt_base.specs.declared.span.Span.{Span}
+use Rattle.tilt_syntax.specs.declared.every.Every.{Every}
 
 -- a bound has to come
 unfoldable pub bound_plan : List Tok → (ℤ → List Tok → Plan) → Plan
@@ -22,9 +23,14 @@ span_plan ts behind = expect (Sign mark.OpenParen) ts (λ us. bound_plan us (λ 
 unfoldable pub domain_plan : List Tok → (Option Span → List Tok → Plan) → Plan
 domain_plan ts behind = Test (Reserved key.Over) ts (λ us. span_plan us (λ span. behind (Some span))) (behind None ts)
 
--- a period that may be left out
-unfoldable pub period_plan : List Tok → (Option ℤ → List Tok → Plan) → Plan
-period_plan ts behind = Test (Reserved key.Every) ts (λ us. number_plan us (λ p. behind (Some p))) (behind None ts)
+-- an offset that may be left out, and then is 0
+unfoldable pub from_plan : List Tok → (ℤ → List Tok → Plan) → Plan
+from_plan ts behind = Test (Reserved key.From) ts (λ us. number_plan us behind) (behind (pos 0) ts)
+
+-- a grid that may be left out
+unfoldable pub grid_plan : List Tok → (Option Every → List Tok → Plan) → Plan
+grid_plan ts behind = Test (Reserved key.Every) ts
+    (λ us. number_plan us (λ p vs. from_plan vs (λ o. behind (Some (record { period = p; offset = o }))))) (behind None ts)
 
 -- no token may come
 abbrev pub empty_plan : List Tok → Plan → Plan
@@ -42,12 +48,12 @@ input_plan ts behind = name_plan ts (λ x us. end_plan us (behind (Input x)))
 -- what stands behind `let`
 abbrev pub let_plan : List Tok → (StatementTree → Plan) → Plan
 let_plan ts behind = name_plan ts (λ x us. expect (Sign mark.Assign) us (λ vs. Ask (Reading Choice vs) (λ e.
-    domain_plan e.rest (λ over ws. period_plan ws (λ every xs. end_plan xs (behind (Let x e.tree over every)))))))
+    domain_plan e.rest (λ over ws. grid_plan ws (λ every xs. end_plan xs (behind (Let x e.tree over every)))))))
 
 -- what stands behind `emit`
 abbrev pub emit_plan : List Tok → (StatementTree → Plan) → Plan
 emit_plan ts behind = Ask (Reading Choice ts) (λ e. expect (Reserved key.Over) e.rest (λ us.
-    span_plan us (λ over vs. period_plan vs (λ every ws. end_plan ws (behind (Emit e.tree over every))))))
+    span_plan us (λ over vs. grid_plan vs (λ every ws. end_plan ws (behind (Emit e.tree over every))))))
 
 -- a statement has to come
 abbrev pub statement_plan : List Tok → (StatementTree → Plan) → Plan

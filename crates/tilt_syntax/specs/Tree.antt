@@ -5,6 +5,7 @@ use Rattle.tilt_base.specs.declared.reducer.Reducer.{Reducer}
 use Rattle.tilt_syntax.specs.declared.expr.Expr.{Expr}
 use Rattle.tilt_syntax.specs.declared.expr.Expr.TheVariants as expr
 use Rattle.tilt_base.specs.declared.span.Span.{Span}
+use Rattle.tilt_syntax.specs.declared.every.Every.{Every}
 use Rattle.tilt_syntax.specs.declared.statement.Statement.{Statement}
 use Rattle.tilt_syntax.specs.declared.statement.Statement.TheVariants as statement
 
@@ -22,8 +23,8 @@ ExprTree = Expression Atom
 -- a statement
 pub data StatementTree : Type 0 where
   Input : (name : List ℕ) → StatementTree
-  Let : (name : List ℕ) (expr : ExprTree) (over : Option Span) (every : Option ℤ) → StatementTree
-  Emit : (expr : ExprTree) (over : Span) (every : Option ℤ) → StatementTree
+  Let : (name : List ℕ) (expr : ExprTree) (over : Option Span) (every : Option Every) → StatementTree
+  Emit : (expr : ExprTree) (over : Span) (every : Option Every) → StatementTree
 
 -- the tree of an expression in memory
 abbrev pub expr_tree : Expr → ExprTree

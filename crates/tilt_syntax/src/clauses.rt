@@ -3,8 +3,9 @@ ghost use Rattle.std.specs.Prelude.{◌≡◌, ◌↔◌, [], ◌∷◌, IsTrue}
 ghost use Rattle.tilt_lexer.specs.declared.token.Tok.{Tok};
 ghost use Rattle.tilt_syntax.specs.Query.{kinds, AreSound};
 ghost use Rattle.tilt_syntax.specs.Rest.{FindsPart};
-ghost use Rattle.tilt_syntax.specs.Statements.{bound_plan, domain_plan, period_plan, span_plan};
+ghost use Rattle.tilt_syntax.specs.Statements.{bound_plan, domain_plan, from_plan, grid_plan, span_plan};
 
+use crate::every::Every;
 use crate::front::{behind_key, behind_mark, front_number};
 use tilt_base::Span;
 use tilt_lexer::{Key, Mark, Token};
@@ -46,16 +47,28 @@ pub(crate) fn domain(tokens: &[Token]) -> Option<(Option<Span>, &[Token])>
     Some((Some(over), rest))
 }
 
-// The period at the front, where `every` stands there, and what stands behind it.
-pub(crate) fn period(tokens: &[Token]) -> Option<(Option<i64>, &[Token])>
+// The offset with which the tokens begin, 0 where they don't begin with `from`, and what stands after it.
+fn offset(tokens: &[Token]) -> Option<(i64, &[Token])>
     requires { AreSound (kinds tokens.now) }
-    ensures { FindsPart (period_plan (kinds tokens.now)) (kinds tokens.now) result }
+    ensures { FindsPart (from_plan (kinds tokens.now)) (kinds tokens.now) result }
+{
+    let Some(behind) = behind_key(tokens, Key::From) else {
+        return Some((0, tokens));
+    };
+    front_number(behind)
+}
+
+// The grid with which the tokens begin, where they begin with `every`, and what stands after it.
+pub(crate) fn grid(tokens: &[Token]) -> Option<(Option<Every>, &[Token])>
+    requires { AreSound (kinds tokens.now) }
+    ensures { FindsPart (grid_plan (kinds tokens.now)) (kinds tokens.now) result }
 {
     let Some(behind) = behind_key(tokens, Key::Every) else {
         return Some((None, tokens));
     };
-    let (every, rest) = front_number(behind)?;
-    Some((Some(every), rest))
+    let (period, left) = front_number(behind)?;
+    let (offset, rest) = offset(left)?;
+    Some((Some(Every { period, offset }), rest))
 }
 
 // Whether the tokens are the `;` alone.

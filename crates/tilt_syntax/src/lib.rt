@@ -8,6 +8,7 @@
 mod atom;
 mod clauses;
 mod cut;
+mod every;
 mod expr;
 mod expression;
 mod fault;
@@ -22,6 +23,7 @@ mod statement;
 mod text;
 mod tree;
 
+pub use every::Every;
 pub use expr::Expr;
 pub use fault::{SyntaxFault, TextFault};
 pub use parser::{parse, parse_expression};

@@ -5,9 +5,10 @@ ghost use Rattle.tilt_lexer.specs.Word.{key_text};
 ghost use Rattle.tilt_syntax.specs.Grammar.{infix_of, reducer_key};
 ghost use Rattle.tilt_syntax.specs.Sign.{IsWritten};
 ghost use Rattle.tilt_syntax.specs.Printing.{atom_text, level_of, in_place, offset_text, reading_text, expr_text};
-ghost use Rattle.tilt_syntax.specs.Printing.{span_text, domain_text, period_text, statement_text, query_text, ReadsBack};
+ghost use Rattle.tilt_syntax.specs.Printing.{span_text, domain_text, from_text, grid_text, statement_text, query_text, ReadsBack};
 ghost use Rattle.tilt_syntax.specs.Tree.{Reduce, expr_tree, statement_tree};
 
+use crate::every::Every;
 use crate::expr::Expr;
 use crate::query::Query;
 use crate::statement::Statement;
@@ -51,13 +52,13 @@ fn put_statement(text: &mut Vec<u8>, statement: &Statement) -> Result<(), OutOfM
             put(text, b" = ")?;
             put_expr(text, expr)?;
             put_domain(text, over)?;
-            put_period(text, *every)?;
+            put_grid(text, *every)?;
         }
         Statement::Emit { expr, over, every } => {
             put(text, b"emit ")?;
             put_expr(text, expr)?;
             put_span(text, over)?;
-            put_period(text, *every)?;
+            put_grid(text, *every)?;
         }
     }
     put(text, b";\n")
@@ -84,17 +85,29 @@ fn put_span(text: &mut Vec<u8>, span: &Span) -> Result<(), OutOfMemory>
     put(text, b"]")
 }
 
-// Puts ` every p` where it stands.
-fn put_period(text: &mut Vec<u8>, every: Option<i64>) -> Result<(), OutOfMemory>
-    ensures { OnOk result (text.new.items ≡ text.old.items ++ period_text every) }
+// Puts ` every p` or ` every p from o` where it stands.
+fn put_grid(text: &mut Vec<u8>, every: Option<Every>) -> Result<(), OutOfMemory>
+    ensures { OnOk result (text.new.items ≡ text.old.items ++ grid_text every) }
 {
     match every {
-        Some(period) => {
+        Some(every) => {
             put(text, b" every ")?;
-            put_number(text, period)
+            put_number(text, every.period)?;
+            put_from(text, every.offset)
         }
         None => Ok(()),
     }
+}
+
+// Puts ` from o` where the offset isn't 0.
+fn put_from(text: &mut Vec<u8>, offset: i64) -> Result<(), OutOfMemory>
+    ensures { OnOk result (text.new.items ≡ text.old.items ++ from_text offset) }
+{
+    if offset == 0 {
+        return Ok(());
+    }
+    put(text, b" from ")?;
+    put_number(text, offset)
 }
 
 // Puts an expression, without parentheses around it.

@@ -5,7 +5,7 @@ ghost use Rattle.tilt_syntax.specs.Query.{kinds, AreSound};
 ghost use Rattle.tilt_syntax.specs.Statements.{emit_plan, input_plan, let_plan, statement_plan};
 ghost use Rattle.tilt_syntax.specs.Tree.{StatementTree, statement_tree};
 
-use crate::clauses::{domain, is_end, period, span};
+use crate::clauses::{domain, grid, is_end, span};
 use crate::expression::expression;
 use crate::front::{behind_key, behind_mark, front_name};
 use crate::level::Level;
@@ -74,7 +74,7 @@ fn read_let(alloc: Global, tokens: &[Token]) -> Result<Option<Statement>, OutOfM
     let Some((over, last)) = domain(behind) else {
         return Ok(None);
     };
-    let Some((every, rest)) = period(last) else {
+    let Some((every, rest)) = grid(last) else {
         return Ok(None);
     };
     if !is_end(rest) {
@@ -106,7 +106,7 @@ fn read_emit(alloc: Global, tokens: &[Token]) -> Result<Option<Statement>, OutOf
     let Some((over, last)) = span(bounds) else {
         return Ok(None);
     };
-    let Some((every, rest)) = period(last) else {
+    let Some((every, rest)) = grid(last) else {
         return Ok(None);
     };
     if !is_end(rest) {

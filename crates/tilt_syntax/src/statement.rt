@@ -1,3 +1,4 @@
+use crate::every::Every;
 use crate::expr::Expr;
 use tilt_base::Span;
 use tilt_lexer::Name;
@@ -9,17 +10,17 @@ pub enum Statement {
     Input {
         name: Name,
     },
-    /// `let name = expr;` defines a stream, with the ticks behind `over` and the period behind `every`, where they stand.
+    /// `let name = expr;` defines a stream, with the ticks after `over` and the grid after `every`, where they stand.
     Let {
         name: Name,
         expr: Expr,
         over: Option<Span>,
-        every: Option<i64>,
+        every: Option<Every>,
     },
     /// `emit expr over (start, end];` is what the query gives on these ticks.
     Emit {
         expr: Expr,
         over: Span,
-        every: Option<i64>,
+        every: Option<Every>,
     },
 }

@@ -94,6 +94,50 @@ const MEANINGS: &[(&str, &str, &str, &str)] = &[
         "0,18,25 18,40,26",
         "10,18,5 18,20,4 20,30,1",
     ),
+    // Grids with an offset, which run through the ticks below 0, and the greatest of them.
+    (
+        "input x; emit sum(x[t-5:t]) over (2, 12] every 5 from 2;",
+        "0,5,1 5,8,2",
+        "",
+        "2,7,3 7,12,2",
+    ),
+    (
+        "input x; emit x over (-1, 9] every 5 from 4;",
+        "0,4,7 4,6,-2 8,10,3",
+        "",
+        "-1,4,7 4,9,3",
+    ),
+    (
+        "input x; emit sum(x[t-4:t]) over (-5, 4] every 3 from 1;",
+        "-7,-4,1 -3,0,2 0,2,5",
+        "",
+        "-5,-2,3 -2,1,7 1,4,5",
+    ),
+    (
+        "input x; emit x over (-1, 1000000000000] every 1000000000001 from 1000000000000;",
+        "999999999999,1000000000000,7",
+        "",
+        "-1,1000000000000,7",
+    ),
+    // A grid on another, with the bounds of its own span, and one of each tick beside a definition that is merged.
+    (
+        "input x; let a = x every 4 from 1; emit a over (-1, 7] every 4 from 3;",
+        "0,2,1 4,5,2 8,9,3",
+        "",
+        "-1,3,2 3,7,3",
+    ),
+    (
+        "input x; let a = x over (1, 9] every 4 from 1; emit ifnull(a, 0) over (3, 11] every 4 from 3;",
+        "4,5,2 8,9,3 11,13,4",
+        "",
+        "3,7,3 7,11,0",
+    ),
+    (
+        "input x; let a = x + 1; let b = x * 2 every 1 from 0; emit a[t-1] + b over (0, 5] every 5 from 0;",
+        "0,5,3",
+        "",
+        "0,5,10",
+    ),
     // Spans of definitions, and an input after a definition.
     (
         "input x; let y = x over (2, 4]; emit ifnull(y, 0) over (0, 6];",

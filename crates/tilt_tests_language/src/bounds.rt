@@ -67,6 +67,15 @@ const QUERIES: &[(&str, &str)] = &[
         "input x; let y = x every 10; emit y[t-1] over (0, 5];",
         "1 9: 1,9 1,0 0,0",
     ),
+    // A grid looks as far ahead from any offset.
+    (
+        "input x; emit sum(x[t-5:t]) over (2, 12] every 5 from 2;",
+        "4 4: 4,4 0,0",
+    ),
+    (
+        "input x; let a = x every 4 from 1; emit a over (-1, 7] every 4 from 3;",
+        "0 6: 0,6 0,3 0,0",
+    ),
     // The widest of two users, and what no user reaches.
     (
         "input x; let y = x; let z = y[t-7] + y[t+1]; emit y[t-3] + z[t-1] over (0, 5];",

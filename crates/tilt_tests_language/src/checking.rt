@@ -5,7 +5,8 @@ use tilt_core::Core;
 use tilt_testing::{name_text, query_of};
 use tilt_types::check;
 
-// The names of the inputs, and then each definition: its expression, and its period where that isn't 1.
+// The names of the inputs, and then each definition: its expression, its period where that isn't 1, and its offset where
+// that isn't 0.
 fn show(alloc: Global, core: &Core) -> Result<String, Fail> {
     let mut shown = String::new(alloc);
     for name in core.inputs() {
@@ -15,10 +16,14 @@ fn show(alloc: Global, core: &Core) -> Result<String, Fail> {
     for def in core.defs() {
         let body = format!(in alloc; "{:?}; ", def.body)?;
         shown.push_str(body.as_str())?;
-        let period = def.grid.period;
+        let (period, offset) = (def.grid.period, def.grid.offset);
         if period != 1 {
             let every = format!(in alloc; "every {period}; ")?;
             shown.push_str(every.as_str())?;
+        }
+        if offset != 0 {
+            let from = format!(in alloc; "from {offset}; ")?;
+            shown.push_str(from.as_str())?;
         }
     }
     Ok(shown)
@@ -83,6 +88,24 @@ const CORES: &[(&str, &str)] = &[
     (
         "emit 1 over (-4000000000000000000, 4000000000000000000];",
         "Const(1); ",
+    ),
+    // Grids with an offset, up to the greatest, and bounds on them at and below 0.
+    (
+        "let a = 1 every 2 from 1; emit 1 over (-3, 12] every 5 from 2;",
+        "Const(1); every 2; from 1; Const(1); every 5; from 2; ",
+    ),
+    (
+        "let a = 1 every 5 from 0; emit 1 over (0, 5] every 1 from 0;",
+        "Const(1); every 5; Const(1); ",
+    ),
+    (
+        "emit 1 over (-1, 1000000000000] every 1000000000001 from 1000000000000;",
+        "Const(1); every 1000000000001; from 1000000000000; ",
+    ),
+    // Bounds that are grid points of one definition, and not of the one that reads it.
+    (
+        "let a = 1 over (1, 9] every 4 from 1; emit a over (3, 11] every 4 from 3;",
+        "Const(1); every 4; from 1; Read { source: 0, offset: 0 }; every 4; from 3; ",
     ),
 ];
 
@@ -177,6 +200,39 @@ const FAULTS: &[(&str, &str)] = &[
     ("emit 1 over (0, 5] every 0;", "BadDomain { statement: 1 }"),
     (
         "let y = 1 every 1000000000002; emit y over (0, 5];",
+        "BadDomain { statement: 1 }",
+    ),
+    // Offsets that aren't below the period, and bounds off a grid with one.
+    (
+        "emit 1 over (5, 10] every 5 from 5;",
+        "BadDomain { statement: 1 }",
+    ),
+    (
+        "emit 1 over (1, 2] every 1 from 1;",
+        "BadDomain { statement: 1 }",
+    ),
+    (
+        "let a = 1 every 5 from 7; emit a over (0, 5];",
+        "BadDomain { statement: 1 }",
+    ),
+    (
+        "emit 1 over (0, 5] every 1000000000002 from 1;",
+        "BadDomain { statement: 1 }",
+    ),
+    (
+        "emit 1 over (0, 10] every 5 from 2;",
+        "BadDomain { statement: 1 }",
+    ),
+    (
+        "emit 1 over (2, 10] every 5 from 2;",
+        "BadDomain { statement: 1 }",
+    ),
+    (
+        "emit 1 over (-2, 12] every 5 from 2;",
+        "BadDomain { statement: 1 }",
+    ),
+    (
+        "let a = 1 over (3, 11] every 4 from 1; emit a over (3, 11] every 4 from 3;",
         "BadDomain { statement: 1 }",
     ),
     // The first fault of several in one statement.

@@ -100,21 +100,41 @@ fn small_queries_mean_what_the_rules_say(rt: HostRuntime) -> Result<(), Fail> {
     Ok(())
 }
 
-#[test]
-fn a_checked_query_gives_its_output(rt: HostRuntime) -> Result<(), Fail> {
-    let alloc = rt.alloc();
-    let core = core_of(alloc, "input x; emit sum(x[t-5:t]) over (0, 10] every 5;")?;
-    assert!(rt; core.names().is_empty());
-    let rows: &[Piece] = &[(0, 5, Some(1)), (5, 8, Some(2))];
+// Queries of one input, its rows, and what they give on their output domain.
+const TEXTS: &[(&str, &[Piece], &[Piece])] = &[
+    (
+        "input x; emit sum(x[t-5:t]) over (0, 10] every 5;",
+        &[(0, 5, Some(1)), (5, 8, Some(2))],
+        &[(0, 5, Some(1)), (5, 10, Some(2))],
+    ),
+    (
+        "input x; emit sum(x[t-5:t]) over (2, 12] every 5 from 2;",
+        &[(0, 5, Some(1)), (5, 8, Some(2))],
+        &[(2, 7, Some(3)), (7, 12, Some(2))],
+    ),
+    (
+        "input x; let a = x every 4 from 1; emit a over (-1, 7] every 4 from 3;",
+        &[(0, 2, Some(1)), (4, 5, Some(2)), (8, 9, Some(3))],
+        &[(-1, 3, Some(2)), (3, 7, Some(3))],
+    ),
+];
+
+// What a query of one input gives on its output domain.
+fn output_of_text(alloc: Global, text: &str, rows: &[Piece]) -> Result<Vec<Piece>, Fail> {
+    let core = core_of(alloc, text)?;
     let inputs = inputs_of(alloc, &[rows])?;
     if inputs.len() != core.inputs().len() {
         return Err("another number of inputs".into());
     }
     let list = evaluate_query(alloc, &core, &inputs)?;
-    let pieces = pieces_of(alloc, &list)?;
-    assert_eq!(rt;
-        pieces.as_slice(),
-        [(0, 5, Some(1)), (5, 10, Some(2))].as_slice()
-    );
+    pieces_of(alloc, &list)
+}
+
+#[test]
+fn checked_queries_give_their_output(rt: HostRuntime) -> Result<(), Fail> {
+    for (text, rows, want) in TEXTS {
+        let output = output_of_text(rt.alloc(), text, rows)?;
+        assert_eq!(rt; output.as_slice(), *want, "at {text}");
+    }
     Ok(())
 }

@@ -12,7 +12,7 @@ fn told(alloc: Global, query: &str) -> Result<Vec<u8>, Fail> {
     Ok(explain_text(alloc, &core, &margins)?)
 }
 
-const QUERIES: [(&str, &str); 3] = [
+const QUERIES: [(&str, &str); 4] = [
     (
         "input x; let y = x[t-2]; emit sum(y[t-3:t]) over (0, 5];",
         "reach 4 0\ninput x 4 0\nlet y merged 2 0\nemit loop 0 0\nloops 1 2\n",
@@ -21,6 +21,11 @@ const QUERIES: [(&str, &str); 3] = [
     (
         "input temp; input limit; let avg10 = avg(temp[t-10:t]) every 10; emit avg10 - limit when avg10 > limit over (0, 30];",
         "reach 9 9\ninput temp 9 9\ninput limit 0 0\nlet avg10 loop 0 0\nemit loop 0 0\nloops 2 2\n",
+    ),
+    // But on the grid of each tick it is.
+    (
+        "input x; let a = x + 1; let b = x * 2 every 1 from 0; emit a[t-1] + b over (0, 5] every 5 from 0;",
+        "reach 1 4\ninput x 1 4\nlet a merged 1 4\nlet b merged 0 4\nemit loop 0 0\nloops 1 3\n",
     ),
     (
         "input x; input y; let u = y; emit x[t+1] over (0, 5];",

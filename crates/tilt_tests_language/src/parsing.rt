@@ -4,7 +4,7 @@ use std::test::Fail;
 use tilt_base::Span;
 use tilt_lexer::{LexFault, lex};
 use tilt_syntax::{
-    Expr, Query, Statement, SyntaxFault, TextFault, parse, parse_expression, read_text,
+    Every, Expr, Query, Statement, SyntaxFault, TextFault, parse, parse_expression, read_text,
 };
 use tilt_testing::{name_text, query_of, repeated};
 
@@ -129,9 +129,9 @@ fn show_over(alloc: Global, over: Option<Span>) -> Result<String, Fail> {
     })
 }
 
-fn show_every(alloc: Global, every: Option<i64>) -> Result<String, Fail> {
+fn show_every(alloc: Global, every: Option<Every>) -> Result<String, Fail> {
     Ok(match every {
-        Some(every) => format!(in alloc; " every {every}")?,
+        Some(Every { period, offset }) => format!(in alloc; " every {period} from {offset}")?,
         None => String::new(alloc),
     })
 }
@@ -178,7 +178,11 @@ fn statements_are_read_in_order(rt: HostRuntime) -> Result<(), Fail> {
         ("emit 1 over (0, 5];", "emit 1 over 0 5;"),
         (
             "input x; let y = x over (-10, 10] every 5; let z = y every 2; emit z over (5, -0] every 3;",
-            "input x;let y x over -10 10 every 5;let z y every 2;emit z over 5 0 every 3;",
+            "input x;let y x over -10 10 every 5 from 0;let z y every 2 from 0;emit z over 5 0 every 3 from 0;",
+        ),
+        (
+            "input x; let y = x every 5 from 0; let z = y over (1, 2] every 2 from 7; emit z over (5, 6] every 3 from 02;",
+            "input x;let y x every 5 from 0;let z y over 1 2 every 2 from 7;emit z over 5 6 every 3 from 2;",
         ),
         (
             "let a = 1; input b; let c = a when b; emit c over (0, 1];",
@@ -235,6 +239,35 @@ fn the_first_faulty_statement_is_refused(rt: HostRuntime) -> Result<(), Fail> {
         (
             "emit 1 over (0, 5] every -5;",
             SyntaxFault::Syntax { statement: 1 },
+        ),
+        // An offset is a number after a period, and its word is no name.
+        (
+            "emit 1 over (0, 5] every 5 from;",
+            SyntaxFault::Syntax { statement: 1 },
+        ),
+        (
+            "emit 1 over (0, 5] every 5 from -1;",
+            SyntaxFault::Syntax { statement: 1 },
+        ),
+        (
+            "emit 1 over (0, 5] every from 1;",
+            SyntaxFault::Syntax { statement: 1 },
+        ),
+        (
+            "emit 1 over (0, 5] from 1;",
+            SyntaxFault::Syntax { statement: 1 },
+        ),
+        (
+            "emit 1 over (0, 5] every 5 from 1 from 2;",
+            SyntaxFault::Syntax { statement: 1 },
+        ),
+        (
+            "input from; emit 1 over (0, 5];",
+            SyntaxFault::Syntax { statement: 1 },
+        ),
+        (
+            "input x; emit from over (0, 5];",
+            SyntaxFault::Syntax { statement: 2 },
         ),
     ] {
         let tokens = lex(rt.alloc(), text.as_bytes())?;

@@ -15,6 +15,10 @@ const QUERIES: &[(&str, &str)] = &[
         "let a = 1 over (0, 9];\nlet b = 2 every 3;\nlet c = 3 over (-9, -4] every 7;\nemit a over (0, 9];\n",
     ),
     (
+        "let a=1 every 7 from 003;let b=2 over(1,9]every 5from 0;emit a over(-1,9]every 010 from 9;",
+        "let a = 1 every 7 from 3;\nlet b = 2 over (1, 9] every 5;\nemit a over (-1, 9] every 10 from 9;\n",
+    ),
+    (
         "emit --5-(3-2)over(-5,0]every 5;",
         "emit --5 - (3 - 2) over (-5, 0] every 5;\n",
     ),

@@ -44,6 +44,12 @@ const QUERIES: &[(&str, bool, &str)] = &[
          loop 0 5 1 0\nr0 = port b2 0\nr1 = isnull r0\nr2 = port b4 -1\nr3 = port b3 -4\nr4 = add r2 r3\n\
          r5 = port b2 0\nr6 = neg r5\nr7 = if r1 r4 r6\nend\n",
     ),
+    // A grid with an offset.
+    (
+        "input x; emit sum(x[t-5:t]) over (2, 12] every 5 from 2;",
+        false,
+        "tilt 1\ninput x\nloop 2 12 5 2\nr0 = win sum b0 -5 0\nend\n",
+    ),
     // With fusion: a window that is moved, two windows by maps of their own, and a loop after which a definition is merged.
     (
         "input x; let y = x[t-2]; emit sum(y[t-3:t]) over (0, 5];",

@@ -94,6 +94,8 @@ const OTHER_TAKEN: &[&str] = &[
     "tilt checkpoint 1\nquery 4\ninput temp;\ninput limit;\nlet avg10 = avg(temp[t-10:t]) every 10;\n\
      emit avg10 - limit when avg10 > limit over (0, 30];\ncut 20\nopen 10\nlast none rows 0\nlast 25 rows 2\n\
      1,2,5\n19,25,4\nend\n",
+    // A grid with an offset.
+    "tilt checkpoint 1\nquery 1\nemit 1 over (2, 12] every 5 from 2;\ncut 8\nopen 2\nend\n",
 ];
 
 // Whole texts that are refused: another version, and queries that are spelled otherwise, counted wrong, faulty, or look too far.
@@ -102,6 +104,7 @@ const OTHER_REFUSED: &[&str] = &[
     "tilt checkpoint 1\nquery 2\ninput x;\nemit count(x[t-3:t]) over (0, 10 ];\ncut 5\nopen 2\nlast 5 rows 1\n0,5,7\nend\n",
     "tilt checkpoint 1\nquery 1\nemit 1 over (0, 5];\r\ncut 3\nopen 0\nend\n",
     "tilt checkpoint 1\nquery 1\nemit (1) over (0, 5];\ncut 3\nopen 0\nend\n",
+    "tilt checkpoint 1\nquery 1\nemit 1 over (0, 10] every 5 from 0;\ncut 8\nopen 0\nend\n",
     "tilt checkpoint 1\nquery 2\nemit 1 over (0, 5];\ncut 3\nopen 0\nend\n",
     "tilt checkpoint 1\nquery 0\nemit 1 over (0, 5];\ncut 3\nopen 0\nend\n",
     "tilt checkpoint 1\nquery 1\ninput x;\nemit 1 over (0, 5];\ncut 3\nopen 0\nlast none rows 0\nend\n",

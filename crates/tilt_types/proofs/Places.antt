@@ -13,14 +13,15 @@ use Rattle.tilt_base.proofs.Comparisons.{same_bytes}
 use Rattle.tilt_base.specs.Expression.{Leaf, One, Two, If}
 use Rattle.tilt_syntax.specs.Tree.{Num, Truth, Read, Reduce, ExprTree, StatementTree, Input, Let, Emit}
 use Rattle.tilt_base.specs.declared.span.Span.{Span}
-use Rattle.tilt_types.proofs.Clear.{IsClear, neither, expr-clear, domain-clear, domain-period, domain-stretch, multiples-IsGrid, stretch-IsStretch}
+use Rattle.tilt_syntax.specs.declared.every.Every.{Every}
+use Rattle.tilt_types.proofs.Clear.{IsClear, neither, expr-clear, domain-clear, domain-grid, domain-stretch, stretch-IsStretch, tested-IsGrid}
 use Rattle.tilt_types.proofs.Distinct.{is_declared-push}
 use Rattle.tilt_types.proofs.Texts.{IsOfText}
 use Rattle.tilt_types.specs.Checked.{definition, definitions, input_names, let_names, numbered, place_of, source_names}
 use Rattle.tilt_core.specs.Core.{AreDefinitions, IsDefinition, ReadsBelow}
 use Rattle.tilt_core.specs.CoreTree.{nodes}
 use Rattle.tilt_types.specs.Types.{type_of}
-use Rattle.tilt_types.specs.WellFormed.{declared_as, declared_by, domain_fault, expr_fault, fault_of, first_fault, has_windows, is_declared, is_domain, knows_names, name_fault, period_of}
+use Rattle.tilt_types.specs.WellFormed.{declared_as, declared_by, domain_fault, expr_fault, fault_of, first_fault, grid_of, has_windows, is_declared, is_domain, knows_names, name_fault}
 use Rattle.tilt_types.specs.declared.declared.Declared.{Declared}
 use Rattle.tilt_types.specs.declared.value_type.ValueType.{ValueType}
 use Rattle.tilt_types.specs.declared.value_type.ValueType.TheVariants as value
@@ -111,14 +112,13 @@ numbered-nodes names (Two op a b) = omega (arith, numbered-nodes names a, number
 numbered-nodes names (If c a b) = omega (arith, numbered-nodes names c, numbered-nodes names a, numbered-nodes names b)
 
 module _ (names : List (List ℕ)) (declared : List Declared) (bound : ℕ) (below : AreBelow names declared bound) where
-  definition-IsDefinition : (emitted : Bool) (e : ExprTree) (over : Option Span) (every : Option ℤ) → IsClear declared emitted e
+  definition-IsDefinition : (emitted : Bool) (e : ExprTree) (over : Option Span) (every : Option Every) → IsClear declared emitted e
       → is_domain over every ≡ true → nodes e ≤ 256 → IsDefinition bound (definition names e over every)
   definition-IsDefinition emitted e over every clear domain small = record {
     reads = numbered-reads names declared bound below e clear.known clear.windows;
     small = omega (arith, numbered-nodes names e, small);
     stretch = stretch-IsStretch over (domain-stretch over every domain);
-    grid = multiples-IsGrid (period_of every) (domain-period over every domain);
-    on_multiples = refl;
+    grid = tested-IsGrid (grid_of every) (domain-grid over every domain);
   }
 
 -- the definitions of statements, behind which these names have been met, each over what stands before it; `low` is the number of the inputs

@@ -5,9 +5,10 @@ use Rattle.std.specs.Str.{bytes_eq}
 use Rattle.tilt_base.specs.Expression.{Leaf, One, Two, If}
 use Rattle.tilt_syntax.specs.Tree.{Num, Truth, Read, Reduce, ExprTree, StatementTree, Input, Let, Emit}
 use Rattle.tilt_base.specs.declared.span.Span.{Span}
+use Rattle.tilt_syntax.specs.declared.every.Every.{Every}
 use Rattle.tilt_core.specs.Core.{CoreParts}
 use Rattle.tilt_core.specs.CoreTree.{CoreTree, Definition, Const, Read as CoreRead, Reduce as CoreReduce}
-use Rattle.tilt_types.specs.WellFormed.{first_fault, multiples, period_of}
+use Rattle.tilt_types.specs.WellFormed.{first_fault, grid_of}
 use Rattle.tilt_types.specs.declared.fault.CheckFault.{CheckFault}
 use Rattle.tilt_types.specs.declared.fault.CheckFault.TheVariants.{OutOfMemory}
 
@@ -44,9 +45,9 @@ numbered names (One op a) = One op (numbered names a)
 numbered names (Two op a b) = Two op (numbered names a) (numbered names b)
 numbered names (If c a b) = If (numbered names c) (numbered names a) (numbered names b)
 
--- a definition with this expression, span and period
-abbrev pub definition : List (List ℕ) → ExprTree → Option Span → Option ℤ → Definition
-definition names e over every = record { body = numbered names e; over = over; grid = multiples (period_of every) }
+-- a definition with this expression, span and grid
+abbrev pub definition : List (List ℕ) → ExprTree → Option Span → Option Every → Definition
+definition names e over every = record { body = numbered names e; over = over; grid = grid_of every }
 
 -- the definitions, in order
 abbrev pub definitions : List (List ℕ) → List StatementTree → List Definition

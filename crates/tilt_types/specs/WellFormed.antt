@@ -1,5 +1,5 @@
 -- Which queries are well formed, and the first fault of the others (our own rule): a statement is looked at behind those before it.
-use Rattle.std.specs.Prelude.{◌≡◌, ℕ, ◌+◌, ℤ, pos, neg_ℤ, Bool, true, false, not, ◌&&◌, int_lt, int_le, if◌then◌else◌}
+use Rattle.std.specs.Prelude.{◌≡◌, ℕ, ◌+◌, pos, neg_ℤ, Bool, true, false, not, ◌&&◌, int_lt, int_le, if◌then◌else◌}
 use Rattle.std.specs.Prelude.{List, [], ◌∷◌, ◌++◌, Option, Some, None, is_some}
 use Rattle.std.specs.Option.{option_or}
 use Rattle.tilt_base.specs.Expression.{Leaf, One, Two, If}
@@ -7,6 +7,7 @@ use Rattle.tilt_base.specs.Grid.{GridPoints, is_point}
 use Rattle.tilt_base.specs.declared.limits.TheConstants.{T, PERIOD}
 use Rattle.tilt_syntax.specs.Tree.{Num, Truth, Read, Reduce, ExprTree, StatementTree, Input, Let, Emit}
 use Rattle.tilt_base.specs.declared.span.Span.{Span}
+use Rattle.tilt_syntax.specs.declared.every.Every.{Every}
 use Rattle.tilt_types.specs.Types.{same_type, type_declared, type_of}
 use Rattle.tilt_types.specs.declared.declared.Declared.{Declared}
 use Rattle.tilt_types.specs.declared.fault.CheckFault.{CheckFault}
@@ -38,38 +39,34 @@ has_windows (One op a) = has_windows a
 has_windows (Two op a b) = has_windows a && has_windows b
 has_windows (If c a b) = has_windows c && has_windows a && has_windows b
 
--- the period that is written behind `every`; 1 where none is
-abbrev pub period_of : Option ℤ → ℤ
-period_of None = pos 1
-period_of (Some period) = period
+-- the grid that is written after `every`; where none is, each tick is a point
+abbrev pub grid_of : Option Every → GridPoints
+grid_of None = record { period = pos 1; offset = pos 0 }
+grid_of (Some every) = record { period = every.period; offset = every.offset }
 
--- the period of a statement; 1 where none is written
-abbrev pub statement_period : StatementTree → ℤ
-statement_period (Input name) = pos 1
-statement_period (Let name e over every) = period_of every
-statement_period (Emit e over every) = period_of every
+-- the grid of a statement; an input has a point at each tick
+abbrev pub statement_grid : StatementTree → GridPoints
+statement_grid (Input name) = grid_of None
+statement_grid (Let name e over every) = grid_of every
+statement_grid (Emit e over every) = grid_of every
 
--- the multiples of a period
-abbrev pub multiples : ℤ → GridPoints
-multiples period = record { period = period; offset = pos 0 }
-
--- whether a period is one that a grid may have
-abbrev pub is_period : ℤ → Bool
-is_period period = int_le (pos 1) period && int_le period PERIOD
+-- whether a period is one that a grid may have, and an offset is below it
+abbrev pub is_grid : GridPoints → Bool
+is_grid grid = int_le (pos 1) grid.period && int_le grid.period PERIOD && int_le (pos 0) grid.offset && int_lt grid.offset grid.period
 
 -- whether a span, where one is written, bounds a stretch of time within `-T..T`
 abbrev pub is_stretch : Option Span → Bool
 is_stretch None = true
 is_stretch (Some span) = int_le (neg_ℤ T) span.start && int_lt span.start span.end && int_le span.end T
 
--- whether the bounds of a span, where one is written, are multiples of a period
-abbrev pub has_bounds_on : Option Span → ℤ → Bool
-has_bounds_on None period = true
-has_bounds_on (Some span) period = is_point (multiples period) span.start && is_point (multiples period) span.end
+-- whether the bounds of a span, where one is written, are points of a grid
+abbrev pub has_bounds_on : Option Span → GridPoints → Bool
+has_bounds_on None grid = true
+has_bounds_on (Some span) grid = is_point grid span.start && is_point grid span.end
 
--- whether a span and a period, where they are written, may stand together
-abbrev pub is_domain : Option Span → Option ℤ → Bool
-is_domain over every = is_period (period_of every) && is_stretch over && has_bounds_on over (period_of every)
+-- whether a span and a grid, where they are written, may stand together
+abbrev pub is_domain : Option Span → Option Every → Bool
+is_domain over every = is_grid (grid_of every) && is_stretch over && has_bounds_on over (grid_of every)
 
 -- whether an expression of this type, where it has one, may stand in a definition: an emitted one gives numbers
 abbrev pub is_fitting : Bool → Option ValueType → Bool
@@ -84,8 +81,8 @@ expr_fault n declared emitted e =
     else if not (has_windows e) then Some (fault.BadWindow n)
     else None
 
--- the fault of its span and its period
-abbrev pub domain_fault : ℕ → Option Span → Option ℤ → Option CheckFault
+-- the fault of its span and its grid
+abbrev pub domain_fault : ℕ → Option Span → Option Every → Option CheckFault
 domain_fault n over every = if not (is_domain over every) then Some (fault.BadDomain n) else None
 
 -- the fault of the name that it declares

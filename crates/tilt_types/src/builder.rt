@@ -5,13 +5,14 @@ ghost use Rattle.tilt_lexer.specs.Word.{IsWord};
 ghost use Rattle.tilt_syntax.specs.Tree.{expr_tree, statement_tree};
 ghost use Rattle.tilt_types.specs.Checked.{core_of, definition, definitions, input_names, let_names, numbered, place_of};
 ghost use Rattle.tilt_core.specs.CoreTree.{tree_of};
-ghost use Rattle.tilt_types.specs.WellFormed.{IsWellFormed, is_period, period_of, statement_period};
+ghost use Rattle.tilt_types.specs.WellFormed.{IsWellFormed, grid_of, is_grid, statement_grid};
 
+use crate::grid::grid_of;
 use std::alloc::{AllocError as OutOfMemory, Global};
-use tilt_base::{Grid, Span};
+use tilt_base::Span;
 use tilt_core::{Core, Def, Tree};
 use tilt_lexer::{Name, is_word};
-use tilt_syntax::{Expr, Query, Statement};
+use tilt_syntax::{Every, Expr, Query, Statement};
 
 // The core of the query, which is well formed.
 pub(crate) fn build(alloc: Global, query: &Query) -> Result<Core, OutOfMemory>
@@ -107,7 +108,7 @@ fn push_definition(
     statement: &Statement,
 ) -> Result<(), OutOfMemory>
     requires few { length sources.now ≤ 256 }
-    requires period { IsTrue (is_period (statement_period (statement_tree statement.now))) }
+    requires grid { IsTrue (is_grid (statement_grid (statement_tree statement.now))) }
     ensures { OnOk result (defs.new.items ≡ defs.old.items ++ definitions sources.now (statement_tree statement.now ∷ [])) }
 {
     match statement {
@@ -125,22 +126,21 @@ fn push_definition(
     Ok(())
 }
 
-// The definition with this expression, span and period.
+// The definition with this expression, span and grid.
 fn definition(
     alloc: Global,
     sources: &[Name],
     expr: &Expr,
     over: Option<Span>,
-    every: Option<i64>,
+    every: Option<Every>,
 ) -> Result<Def, OutOfMemory>
     requires few { length sources.now ≤ 256 }
-    requires period { IsTrue (is_period (period_of every)) }
+    requires grid { IsTrue (is_grid (grid_of every)) }
     ensures { IfOk result (λ def. def ≡ definition sources.now (expr_tree expr.now) over every) }
 {
     let body = numbered(alloc, sources, expr)?;
-    let grid = Grid {
-        period: every.unwrap_or(1),
-        offset: 0,
+    let Some(grid) = grid_of(every) else {
+        unreachable!()
     };
     Ok(Def { body, over, grid })
 }

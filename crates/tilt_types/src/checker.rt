@@ -9,19 +9,21 @@ ghost use Rattle.tilt_types.specs.WellFormed.{has_windows, is_declared, is_domai
 use crate::builder::build;
 use crate::declared::Declared;
 use crate::fault::CheckFault;
+use crate::grid::grid_of;
 use crate::types::{same_type, type_declared, type_of};
 use crate::value_type::ValueType;
 use std::alloc::{AllocError as OutOfMemory, Global};
 use tilt_base::{Grid, Span, T};
 use tilt_core::Core;
 use tilt_lexer::Name;
-use tilt_syntax::{Expr, Query, Statement};
+use tilt_syntax::{Every, Expr, Query, Statement};
 
 /// The core of the query, where it is well formed; else the fault of its first faulty statement, counted from 1, and of
 /// several in one the first of these. `NameTaken`: it declares a name that was declared before. `UnknownName`: a name in
 /// its expression isn't declared before it. `TypeMismatch`: its expression has no type, or it is emitted and gives truth
 /// values. `BadWindow`: a window in its expression doesn't end behind its start. `BadDomain`: its period is none that a
-/// grid may have, its span bounds no stretch of time from `-T` to `T`, or a bound is no multiple of the period.
+/// grid may have, its offset isn't below its period, its span bounds no stretch of time from `-T` to `T`, or a bound is no
+/// grid point.
 pub fn check(alloc: Global, query: &Query) -> Result<Core, CheckFault>
     ensures { Gives result (checked query.now) }
 {
@@ -130,8 +132,8 @@ fn expr_fault(
     }
 }
 
-// The fault of the statement's span and period.
-fn domain_fault(statement: u32, over: Option<Span>, every: Option<i64>) -> Option<CheckFault>
+// The fault of the statement's span and grid.
+fn domain_fault(statement: u32, over: Option<Span>, every: Option<Every>) -> Option<CheckFault>
     ensures { result ≡ domain_fault statement over every }
 {
     if !is_domain(over, every) {
@@ -185,11 +187,11 @@ fn has_windows(expr: &Expr) -> bool
     }
 }
 
-// Whether the span and the period, where they are written, may stand together.
-fn is_domain(over: Option<Span>, every: Option<i64>) -> bool
+// Whether the span and the grid, where they are written, may stand together.
+fn is_domain(over: Option<Span>, every: Option<Every>) -> bool
     ensures { result ≡ is_domain over every }
 {
-    let Some(grid) = Grid::new(every.unwrap_or(1), 0) else {
+    let Some(grid) = grid_of(every) else {
         return false;
     };
     match over {

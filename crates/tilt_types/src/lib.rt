@@ -9,6 +9,7 @@ mod builder;
 mod checker;
 mod declared;
 mod fault;
+mod grid;
 mod types;
 mod value_type;
 

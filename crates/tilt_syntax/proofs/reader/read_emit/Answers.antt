@@ -15,17 +15,17 @@ pub returns-in_default-span : goal.returns-in_default-span
 returns-in_default-span c = λ behind.
     found-comes (rw c.in-Some.is at c.in_ok-expr.ensures) (met c.in-Some-behind_key.ensures.front (c.in_default-span.ensures _))
 
-pub returns-in_default-period : goal.returns-in_default-period
-returns-in_default-period c = λ behind.
+pub returns-in_default-grid : goal.returns-in_default-grid
+returns-in_default-grid c = λ behind.
     found-comes (rw c.in-Some.is at c.in_ok-expr.ensures) (met c.in-Some-behind_key.ensures.front (c.in-Some-span.ensures.goes_on _ _ (
-    c.in_default-period.ensures _)))
+    c.in_default-grid.ensures _)))
 
 pub returns-then-not-is_end : goal.returns-then-not-is_end
 returns-then-not-is_end c = λ behind.
     found-comes (rw c.in-Some.is at c.in_ok-expr.ensures) (met c.in-Some-behind_key.ensures.front (c.in-Some-span.ensures.goes_on _ _ (
-    c.in-Some-period.ensures.goes_on _ _ (end-none _ _ (λ e. (let at_end = c.if-not-is_end.ensures.1 e in cc))))))
+    c.in-Some-grid.ensures.goes_on _ _ (end-none _ _ (λ e. (let at_end = c.if-not-is_end.ensures.1 e in cc))))))
 
 pub returns : goal.returns
 returns c = λ behind r h.
     found-comes (rw c.in-Some.is at c.in_ok-expr.ensures) (met c.in-Some-behind_key.ensures.front (c.in-Some-span.ensures.goes_on _ _ (
-    c.in-Some-period.ensures.goes_on _ _ (end-comes _ _ r (c.if-not-is_end.ensures.0 refl) h))))
+    c.in-Some-grid.ensures.goes_on _ _ (end-comes _ _ r (c.if-not-is_end.ensures.0 refl) h))))
