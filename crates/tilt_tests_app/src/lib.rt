@@ -7,6 +7,8 @@
 #[cfg(test)]
 mod call;
 #[cfg(test)]
+mod chained;
+#[cfg(test)]
 mod codes;
 #[cfg(test)]
 mod faults;
