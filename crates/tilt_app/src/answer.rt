@@ -33,15 +33,65 @@ pub(crate) fn answer<'a, S: Shelf>(
         → Continues (S.files shelf.old) (command_of command.now) (comes_to watchers answer)) }
 {
     match command {
-        Command::Run { query, binds, plain, cuts } => run(alloc, shelf, query, binds, Manner { fuse: !*plain, cuts }),
+        Command::Run {
+            query,
+            binds,
+            plain,
+            cuts,
+        } => run(
+            alloc,
+            shelf,
+            query,
+            binds,
+            Manner {
+                fuse: !*plain,
+                cuts,
+            },
+        ),
         Command::Compile { query, plain } => compile(alloc, shelf, query, !*plain),
         Command::Exec { code, binds } => exec(alloc, shelf, code, binds),
         Command::Explain { query } => explain(alloc, shelf, query),
-        Command::Pipe { query, binds, plain } => pipe(alloc, shelf, query, binds, !*plain),
-        Command::Watch { query, binds, plain } => watch(alloc, shelf, query, binds, !*plain),
+        Command::Pipe {
+            query,
+            binds,
+            plain,
+        } => pipe(alloc, shelf, query, binds, !*plain),
+        Command::Watch {
+            query,
+            binds,
+            plain,
+        } => watch(alloc, shelf, query, binds, !*plain),
         Command::Try { seed, count } => try_(alloc, *seed, *count),
-        Command::Start { query, binds, plain, upto, save } => start_session(alloc, shelf, query, binds, !*plain, SavedCut { upto: *upto, save }),
-        Command::ResumeUpto { file, binds, plain, upto, save } => resume_session(alloc, shelf, file, binds, !*plain, Some(SavedCut { upto: *upto, save })),
-        Command::ResumeEnd { file, binds, plain } => resume_session(alloc, shelf, file, binds, !*plain, None),
+        Command::Start {
+            query,
+            binds,
+            plain,
+            upto,
+            save,
+        } => start_session(
+            alloc,
+            shelf,
+            query,
+            binds,
+            !*plain,
+            SavedCut { upto: *upto, save },
+        ),
+        Command::ResumeUpto {
+            file,
+            binds,
+            plain,
+            upto,
+            save,
+        } => resume_session(
+            alloc,
+            shelf,
+            file,
+            binds,
+            !*plain,
+            Some(SavedCut { upto: *upto, save }),
+        ),
+        Command::ResumeEnd { file, binds, plain } => resume_session(
+            alloc, shelf, file, binds, !*plain, None,
+        ),
     }
 }

@@ -54,12 +54,11 @@ returns-in-Ok-clause-reported g c =
     let words = texts c.args.words.now in
     let files = g.S.Shelf.files c.args.shelf.now in
     let command = command_of c.in-Ok.command in
-    let tells = g.S.Shelf.tells in
-    (
+    let tells = g.S.Shelf.tells in (
       (report_of c.in-Err-done.fault),
       c.tell.ensures.status,
       (wider_cause (IsRowOutcome files _ (row_of command)) (IsOutcome words files _) (λ name. (any : List Watch) × HasRowTurn tells files any (row_of command) name) (HasTurn tells words files) (shelf_change g.S.Shelf.tells g.S.Shelf.files g.S.Shelf.read_faults g.S.Shelf.save_faults c.args.shelf.now c.done.new.shelf) (sink_change g.O.Sink.tells g.O.Sink.written g.O.Sink.faults g.O.Sink.takes c.args.out.now c.done.new.out)
-    (λ o out. does command c.in-Ok.ensures.command out) (λ name turn. (command, c.in-Ok.ensures.command, turn)) (report_of c.in-Err-done.fault) c.in-Err-done.ensures.cause),
+          (λ o out. does command c.in-Ok.ensures.command out) (λ name turn. (command, c.in-Ok.ensures.command, turn)) (report_of c.in-Err-done.fault) c.in-Err-done.ensures.cause),
       c.tell.ensures.line,
     )
 
