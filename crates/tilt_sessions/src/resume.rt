@@ -60,7 +60,13 @@ pub fn resume_session<'a, S: Shelf>(
         from: Some(loaded.checkpoint.cut()),
         upto: limit_of(cut),
     };
-    let rows = load_session_inputs(alloc, shelf, loaded.accepted.core().inputs(), binds, &bounds)?;
+    let rows = load_session_inputs(
+        alloc,
+        shelf,
+        loaded.accepted.core().inputs(),
+        binds,
+        &bounds,
+    )?;
     let LoadedCheckpoint {
         checkpoint: before,
         accepted,
