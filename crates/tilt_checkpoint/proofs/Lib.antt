@@ -10,4 +10,5 @@ pub mod QueryLines
 pub mod Rows
 pub mod Spelled
 pub mod Steps
+pub mod Whole
 pub mod Words

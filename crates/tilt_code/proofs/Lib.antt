@@ -4,6 +4,7 @@ pub mod Counts
 pub mod Fronts
 pub mod Instrs
 pub mod Judged
+pub mod Known
 pub mod LineText
 pub mod Lines
 pub mod Names

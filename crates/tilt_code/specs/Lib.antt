@@ -5,6 +5,7 @@ pub mod Grammar
 pub mod Line
 pub mod Listing
 pub mod Meaning
+pub mod Names
 pub mod Partial
 pub mod Reading
 pub mod References

@@ -34,7 +34,7 @@ pub record PartialCode : Type 0 where
 abbrev pub parts_of : Partial → PartialCode
 parts_of p = record {
   stage = p.stage;
-  inputs = p.inputs.items;
+  inputs = p.inputs;
   loops = p.loops.items;
   lo = p.lo;
   hi = p.hi;

@@ -13,6 +13,7 @@
 mod code;
 mod fault;
 mod form;
+mod inputs;
 mod instr;
 mod law;
 mod line;

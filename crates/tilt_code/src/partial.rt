@@ -1,12 +1,11 @@
 // A code of which the lines so far were read.
-ghost use Rattle.std.specs.Prelude.{◌≡◌};
-ghost use Rattle.std.specs.List.{list_any};
-ghost use Rattle.std.specs.Str.{bytes_eq};
+ghost use Rattle.std.specs.Prelude.{◌≡◌, ◌++◌, [], ◌∷◌, OnOk};
 ghost use Rattle.tilt_code.specs.Grammar.{stands_in_body, stands_in_map};
 ghost use Rattle.tilt_code.specs.Partial.{closed, is_new, nothing, parts_of, stands_in, with_end};
 ghost use Rattle.tilt_code.specs.Partial.{with_head, with_input, with_line, with_map, with_step};
 ghost use Rattle.tilt_code.specs.Partial.{with_title, Takes};
 
+use crate::inputs::InputNames;
 use crate::instr::Instr;
 use crate::line::Line;
 use crate::loops::Loop;
@@ -20,7 +19,7 @@ use tilt_lexer::Name;
 #[derive(Drop)]
 pub(crate) struct Partial {
     pub(crate) stage: Stage,
-    pub(crate) inputs: Vec<Name>,
+    pub(crate) inputs: InputNames,
     pub(crate) loops: Vec<Loop>,
     pub(crate) lo: i64,
     pub(crate) hi: i64,
@@ -36,7 +35,7 @@ impl Partial {
     {
         Partial {
             stage: Stage::Before,
-            inputs: Vec::new(alloc),
+            inputs: InputNames::new(alloc),
             loops: Vec::new(alloc),
             lo: 0,
             hi: 0,
@@ -55,7 +54,7 @@ impl Partial {
     {
         match line {
             Line::Title => self.take_title(),
-            Line::Input(name) => self.take_input(name),
+            Line::Input(name) => self.take_input(alloc, name),
             Line::Head { lo, hi, grid } => self.take_head(lo, hi, grid),
             Line::Map => self.take_map(),
             Line::Step { register, instr } => self.take_step(register, instr),
@@ -77,7 +76,7 @@ impl Partial {
     }
 
     // Goes on by the line of an input.
-    fn take_input(&mut self, name: Name) -> Result<bool, OutOfMemory>
+    fn take_input(&mut self, alloc: Global, name: Name) -> Result<bool, OutOfMemory>
         ensures { Takes (with_input self.old.stage name (parts_of self.old)) result (parts_of self.new) }
     {
         match self.stage {
@@ -85,7 +84,7 @@ impl Partial {
                 if !is_new(&self.loops, &self.inputs, &name) {
                     return Ok(false);
                 }
-                self.inputs.push(name)?;
+                self.inputs.push(alloc, name)?;
                 Ok(true)
             }
             Stage::Before | Stage::InMap | Stage::InBody => Ok(false),
@@ -131,7 +130,7 @@ impl Partial {
         if !stands_in(self.stage, instr) || register as usize != self.block.len() {
             return Ok(false);
         }
-        self.block.push(instr)?;
+        push_instr(&mut self.block, instr)?;
         Ok(true)
     }
 
@@ -144,7 +143,7 @@ impl Partial {
                 if self.block.is_empty() {
                     return Ok(false);
                 }
-                let block = mem::replace(&mut self.block, Vec::new(alloc));
+                let block = self.take_block(alloc);
                 self.stage = Stage::InBody;
                 self.maps.push(block)?;
                 Ok(true)
@@ -164,7 +163,7 @@ impl Partial {
         ensures { Takes (closed (parts_of self.old)) result (parts_of self.new) }
     {
         let maps = mem::replace(&mut self.maps, Vec::new(alloc));
-        let body = mem::replace(&mut self.block, Vec::new(alloc));
+        let body = self.take_block(alloc);
         self.stage = Stage::Outside;
         self.loops.push(Loop {
             lo: self.lo,
@@ -175,6 +174,27 @@ impl Partial {
         })?;
         Ok(true)
     }
+
+    // The open block, with no room for more, after which none is open.
+    fn take_block(&mut self, alloc: Global) -> Vec<Instr>
+        ensures block { result.items ≡ (parts_of self.old).block }
+        ensures rest { parts_of self.new ≡ record (parts_of self.old) { block = [] } }
+    {
+        let mut block = mem::replace(&mut self.block, Vec::new(alloc));
+        block.shrink_to_fit();
+        block
+    }
+}
+
+// Adds an instruction to a block. Room for one comes first, since listings of many blocks have short ones.
+fn push_instr(block: &mut Vec<Instr>, instr: Instr) -> Result<(), OutOfMemory>
+    ensures { OnOk result (block.new.items ≡ block.old.items ++ instr ∷ []) }
+{
+    if block.is_empty() {
+        block.reserve_exact(1)?;
+    }
+    block.push(instr)?;
+    Ok(())
 }
 
 // Whether an instruction may stand in the open block.
@@ -220,15 +240,8 @@ fn stands_in_body(instr: Instr) -> bool
 }
 
 // Whether an input may follow with that name.
-fn is_new(loops: &[Loop], inputs: &[Name], name: &Name) -> bool
+fn is_new(loops: &[Loop], inputs: &InputNames, name: &Name) -> bool
     ensures { result ≡ is_new loops.now inputs.now name.now }
 {
-    loops.is_empty() && !has_name(inputs, name)
-}
-
-// Whether the name is one of these.
-fn has_name(names: &[Name], name: &Name) -> bool
-    ensures { result ≡ list_any (λ other. bytes_eq other name.now) names.now }
-{
-    names.iter().any(|other| other.bytes() == name.bytes())
+    loops.is_empty() && !inputs.has(name.bytes())
 }

@@ -57,7 +57,7 @@ fn read(alloc: Global, bytes: &[u8]) -> Result<Code, CodeFault>
             in_loop: place.in_loop,
             line: place.line,
         }),
-        None => Ok(Code::new(progress.code.inputs, progress.code.loops)),
+        None => Ok(Code::new(progress.code.inputs.into_list(), progress.code.loops)),
     }
 }
 

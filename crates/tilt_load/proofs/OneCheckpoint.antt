@@ -3,6 +3,7 @@ use Rattle.std.proofs.Common.{◌≡◌, ◌≢◌, ◌<◌, ◌≤◌, ◌^◌,
 use Rattle.std.proofs.lemmas.Bool.{cases_lt}
 use Rattle.tilt_base.specs.declared.limits.TheConstants.{FILE}
 use Rattle.tilt_checkpoint.proofs.Spelled.{spelled_once}
+use Rattle.tilt_checkpoint.proofs.Whole.{spelled_or_not}
 use Rattle.tilt_checkpoint.specs.Checkpoint.{CheckpointParts}
 use Rattle.tilt_checkpoint.specs.Spelling.{spelling}
 use Rattle.tilt_checkpoint.specs.Valid.{IsCheckpoint}
@@ -33,16 +34,20 @@ module _ (name bytes : List ℕ) where
   pub checkpoint_too_long : (why : Reason) → IsTooLong name bytes why → RefusesCheckpoint name bytes why
   checkpoint_too_long why is = rw is.0 (long is.1)
 
-  -- one of the two always, where each text is that of a valid checkpoint or of none
-  module _ (decodes : ((c : CheckpointParts) × IsCheckpoint c × (bytes ≡ spelling c)) ⊎ ((c : CheckpointParts) → IsCheckpoint c → bytes ≢ spelling c)) where
-    by_spelling : length bytes ≤ FILE → ((c : CheckpointParts) × IsCheckpoint c × (bytes ≡ spelling c)) ⊎ ((c : CheckpointParts) → IsCheckpoint c → bytes ≢ spelling c)
-        → ((c : CheckpointParts) × TakesCheckpoint bytes c) ⊎ ((r : Reason) × RefusesCheckpoint name bytes r)
-    by_spelling short (inl (c, valid, spelled)) = inl (c, record { short = short; valid = valid; spelled = spelled })
-    by_spelling short (inr none) = inr (bad_checkpoint, of_none short none)
+  -- one of the two always
+  abbrev IsEither : Type 0
+  IsEither = ((c : CheckpointParts) × TakesCheckpoint bytes c) ⊎ ((r : Reason) × RefusesCheckpoint name bytes r)
 
-    by_length : (FILE < length bytes) ⊎ (length bytes ≤ FILE) → ((c : CheckpointParts) × TakesCheckpoint bytes c) ⊎ ((r : Reason) × RefusesCheckpoint name bytes r)
-    by_length (inl over) = inr (file_too_long name, long over)
-    by_length (inr short) = by_spelling short decodes
+  by_spelling : length bytes ≤ FILE → ((c : CheckpointParts) × IsCheckpoint c × (bytes ≡ spelling c)) ⊎ ((c : CheckpointParts) → IsCheckpoint c → bytes ≢ spelling c)
+      → IsEither
+  by_spelling short (inl (c, valid, spelled)) = inl (c, record { short = short; valid = valid; spelled = spelled })
+  by_spelling short (inr none) = inr (bad_checkpoint, of_none short none)
 
-    pub checkpoint_taken_or_refused : ((c : CheckpointParts) × TakesCheckpoint bytes c) ⊎ ((r : Reason) × RefusesCheckpoint name bytes r)
-    checkpoint_taken_or_refused = by_length (cases_lt FILE (length bytes))
+  by_length : (FILE < length bytes) ⊎ (length bytes ≤ FILE) → IsEither
+  by_length (inl over) = inr (file_too_long name, long over)
+  by_length (inr short) =
+      let small : length bytes < 2 ^ 63 = omega (arith, short) in
+      by_spelling short (spelled_or_not bytes small)
+
+  pub checkpoint_taken_or_refused : ((c : CheckpointParts) × TakesCheckpoint bytes c) ⊎ ((r : Reason) × RefusesCheckpoint name bytes r)
+  checkpoint_taken_or_refused = by_length (cases_lt FILE (length bytes))

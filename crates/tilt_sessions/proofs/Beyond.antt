@@ -25,9 +25,10 @@ use Rattle.tilt_load.proofs.InputRows.{read_many}
 use Rattle.tilt_load.proofs.OneCheckpoint.{checkpoint_once}
 use Rattle.tilt_load.proofs.ReadRows.{AreNumbers, inputs_good, inputs_no_checkpoint}
 use Rattle.tilt_load.specs.CheckpointFile.{RefusesCheckpoint, TakesCheckpoint, long, of_none}
+use Rattle.tilt_load.specs.Does.{IsUndone, Reading}
 use Rattle.tilt_load.specs.FileCommand.{IsFileOutcome, no_file, no_inputs, done}
 use Rattle.tilt_load.specs.SeriesFiles.{RefusesSession, TakesSession, by_names, by_series}
-use Rattle.tilt_report.specs.Report.{Outcome, Reason, bad_checkpoint, refused, refusal}
+use Rattle.tilt_report.specs.Report.{Outcome, Reason, Report, bad_checkpoint, printed_and_saved, refused, refusal, usage, read_fault, write_fault, save_fault, out_of_memory}
 use Rattle.tilt_sessions.proofs.Handed.{first_handed, later_handed}
 use Rattle.tilt_sessions.specs.HandsOn.{AreHanded, HandsOn, IsBegun, IsBeyond, beyond_outcome}
 use Rattle.tilt_sessions.specs.Resume.{GoesOn, RefusesToGoOn, no_checkpoint, back, later_bounds, resume_row, resumed}
@@ -36,6 +37,7 @@ use Rattle.tilt_sessions.specs.Start.{StartsFrom, first_bounds, started}
 use Rattle.tilt_stream.proofs.Order.{InOrder-after}
 use Rattle.tilt_stream.specs.Pieces.{kept}
 use Rattle.tilt_stream.specs.Snap.{Snapshot, AreRows, last_end}
+use Rattle.tilt_stream.specs.Text.{lines_of}
 use Rattle.tilt_syntax.specs.Tree.{StatementTree}
 use Rattle.tilt_types.specs.Checked.{core_of}
 use Rattle.tilt_words.specs.Binding.{Binding}
@@ -152,7 +154,9 @@ beyond_is : (ending : Option SavedCutValue) (q : List StatementTree) (rows new :
     → ((upto : ℤ) → cut_of ending ≡ Upto upto → checkpoint_at q (added rows new) upto ≡ next (checkpoint_at q rows old) new upto)
     → resumed ending (checkpoint_at q rows old) new ≡ beyond_outcome ending q (added rows new) (newly (checkpoint_at q rows old) new (cut_of ending))
 beyond_is None q rows new old left = refl
-beyond_is (Some cut) q rows new old left = rw (left cut.upto refl) refl
+beyond_is (Some cut) q rows new old left =
+    let same = sym (left cut.upto refl) in
+    λ i. printed_and_saved (lines_of (newly (checkpoint_at q rows old) new (Upto cut.upto))) cut.save (spelling (same i))
 
 module _ (files : List ℕ → List ℕ) (checkpoint : List ℕ) (binds : List Binding) (ending : Option SavedCutValue) (q : List StatementTree)
     (rows : List (List Snapshot)) (old : ℤ) (hands : HandsOn (files checkpoint) q rows old) where
@@ -223,3 +227,15 @@ module _ (files : List ℕ → List ℕ) (checkpoint : List ℕ) (binds : List B
 
   pub never_refused : (why : Reason) → IsFileOutcome (resume_row ending checkpoint) files checkpoint binds (refused (refusal why)) → why ≢ bad_checkpoint
   never_refused why is bad = refused_why (refused (refusal why)) why is refl bad
+
+  -- whatever is told
+  pub never_bad_report : (shelf : Reading) → shelf.files ≡ files → shelf.tells → (report : Report) → IsUndone (resume_row ending checkpoint) checkpoint binds shelf report
+      → report ≡ refusal bad_checkpoint → ⊥
+  never_bad_report shelf same told usage undone is = cc is
+  never_bad_report shelf same told (refusal why) undone is =
+      let bad : why ≡ bad_checkpoint = cc is in
+      never_refused why (subst (λ (held : List ℕ → List ℕ). IsFileOutcome (resume_row ending checkpoint) held checkpoint binds (refused (refusal why))) same (undone told)) bad
+  never_bad_report shelf same told (read_fault name) undone is = cc is
+  never_bad_report shelf same told write_fault undone is = cc is
+  never_bad_report shelf same told (save_fault name) undone is = cc is
+  never_bad_report shelf same told out_of_memory undone is = cc is

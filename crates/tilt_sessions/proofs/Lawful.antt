@@ -1,9 +1,7 @@
 -- The rows of the two sessions are lawful: files have exactly one outcome for each.
-use Rattle.std.proofs.Common.{◌≡◌, ◌≢◌, ◌∙◌, ◌⊎◌, ◌<ℤ◌, ℕ, ℤ, List, Option, None, Some, inl, inr, refl, sym, ap, arith}
+use Rattle.std.proofs.Common.{◌≡◌, ◌∙◌, ◌⊎◌, ◌<ℤ◌, ℕ, ℤ, List, Option, None, Some, inl, inr, refl, sym, ap, arith}
 use Rattle.std.proofs.lemmas.Int.{by_lt_z, ints}
 use Rattle.tilt_checkpoint.specs.Checkpoint.{CheckpointParts}
-use Rattle.tilt_checkpoint.specs.Spelling.{spelling}
-use Rattle.tilt_checkpoint.specs.Valid.{IsCheckpoint}
 use Rattle.tilt_chunk.specs.Cuts.{IsOnward}
 use Rattle.tilt_chunk.specs.declared.cut.Cut.{Cut}
 use Rattle.tilt_chunk.specs.declared.cut.Cut.TheVariants.{Upto, End}
@@ -32,7 +30,7 @@ refused_or_starts name bytes r q is starts =
 starts_or_refused : (name bytes : List ℕ) → IsQueryFile bytes ⊎ ((r : Reason) × RefusesQuery name bytes r)
     → ((q : List StatementTree) × StartsFrom bytes q) ⊎ ((r : Reason) × RefusesQuery name bytes r)
 starts_or_refused name bytes (inl is) = inl (is.query, record { says = is.says; margins = is.margins; near = is.near })
-starts_or_refused name bytes (inr refused) = inr refused
+starts_or_refused name bytes (inr (r, is)) = inr (r, is)
 
 -- a first session
 pub start_lawful : (cut : SavedCutValue) (query : List ℕ) → IsLawful (start_row cut query)
@@ -95,13 +93,12 @@ resumed_not (Some cut) c rows e = cc e
 resumed_not None c rows e = cc e
 
 -- a session after a checkpoint, that which ends by a cut and the last one
-pub resume_lawful : ((bytes : List ℕ) → ((c : CheckpointParts) × IsCheckpoint c × (bytes ≡ spelling c)) ⊎ ((c : CheckpointParts) → IsCheckpoint c → bytes ≢ spelling c))
-    → (ending : Option SavedCutValue) (checkpoint : List ℕ) → IsLawful (resume_row ending checkpoint)
-resume_lawful decodes ending checkpoint = record {
+pub resume_lawful : (ending : Option SavedCutValue) (checkpoint : List ℕ) → IsLawful (resume_row ending checkpoint)
+resume_lawful ending checkpoint = record {
   one = goes_once checkpoint (cut_of ending);
   once = refused_to_go_once checkpoint (cut_of ending);
   either = refused_or_goes checkpoint (cut_of ending);
-  some = λ bytes. goes_or_refused checkpoint (cut_of ending) bytes (checkpoint_taken_or_refused checkpoint bytes (decodes bytes));
+  some = λ bytes. goes_or_refused checkpoint (cut_of ending) bytes (checkpoint_taken_or_refused checkpoint bytes);
   given_once = λ c rows o p is is'. is ∙ sym is';
   given_some = λ bytes c rows taken many. (resumed ending c rows, refl);
   no_usage = resumed_not ending;

@@ -2,7 +2,8 @@
 use Rattle.std.proofs.Common.{◌≡◌, ◌==◌, true, false, int_lt, List, length, Some, refl, arith}
 use Rattle.std.proofs.lemmas.Int.{ints}
 use Rattle.tilt_checkpoint.specs.Decided.{frame_of}
-use Rattle.tilt_chunk.specs.Emitted.{given, emitted}
+use Rattle.tilt_chunk.specs.Emitted.{emitted}
+use Rattle.tilt_compiler.specs.Compiled.{given}
 use Rattle.tilt_chunk.specs.declared.cut.Cut.TheVariants.{End}
 use Rattle.tilt_stream.specs.Snap.{Snapshot}
 use Rattle.tilt_base.specs.declared.span.Span.{Span}

@@ -1,10 +1,10 @@
 -- What a session after a checkpoint does, where its checkpoint and its inputs are taken.
-use Rattle.std.proofs.Common.{◌≡◌, ◌∙◌, ◌≤◌, ◌<ℤ◌, ℕ, ℤ, List, Option, Some, None, is_some, length, refl, ap}
+use Rattle.std.proofs.Common.{◌≡◌, ◌∙◌, ◌≤◌, ◌<ℤ◌, ℕ, ℤ, List, Option, Some, None, is_some, length, refl, sym, ap, subst}
 use Rattle.tilt_checkpoint.specs.Checkpoint.{CheckpointParts, KeptParts}
 use Rattle.tilt_chunk.specs.Later.{newly, next_by}
 use Rattle.tilt_chunk.specs.declared.cut.Cut.{Cut}
 use Rattle.tilt_chunk.specs.declared.cut.Cut.TheVariants.{Upto}
-use Rattle.tilt_load.proofs.FileCommands.{both_read, inputs_undone, turn_of_input}
+use Rattle.tilt_load.proofs.FileCommands.{both_read, file_undone, inputs_undone, turn_of_input}
 use Rattle.tilt_load.specs.CheckpointFile.{TakesCheckpoint}
 use Rattle.tilt_load.specs.Does.{IsRead, IsUndone, Reading}
 use Rattle.tilt_load.specs.FileCommand.{HasFileTurn}
@@ -12,6 +12,9 @@ use Rattle.tilt_load.specs.Inputs.{bytes_of_inputs}
 use Rattle.tilt_load.specs.Load.{IsLoadFault, HasSessionTurn}
 use Rattle.tilt_load.specs.SeriesFiles.{RefusesSession, TakesSession, session_bounds}
 use Rattle.tilt_outside.specs.Counts.{added_count, last_count}
+use Rattle.std.specs.Prelude.{IsSome, ◌↔◌}
+use Rattle.tilt_printed.specs.Answer.{save_of}
+use Rattle.tilt_printed.specs.declared.save.Save.{Save}
 use Rattle.tilt_printed.specs.Saving.{SaveValue, outcome_of}
 use Rattle.tilt_report.specs.Report.{Outcome, Report, cut_back}
 use Rattle.tilt_series.specs.Series.{Bounds}
@@ -43,10 +46,28 @@ is_resumed (Some cut) c rows list next save printed left saved =
     λ i. outcome_of (lines_of (printed i)) (named i)
 
 -- something is saved exactly where it ends by a cut
-pub is_saved : (ending : Option SavedCutValue) (c : CheckpointParts) (rows : List (List Snapshot)) (next : Option CheckpointParts) (save : Option SaveValue)
-    → next ≡ next_by c rows (cut_of ending) → save ≡ saved_of ending next → is_some save ≡ is_some ending
-is_saved None c rows next save left saved = ap is_some saved
-is_saved (Some cut) c rows next save left saved = ap is_some (saved ∙ ap (saved_of (Some cut)) left)
+some_saved : (save : Option Save) → is_some (save_of save) ≡ is_some save
+some_saved None = refl
+some_saved (Some save) = refl
+
+some_left : (ending : Option SavedCutValue) (c : CheckpointParts) (rows : List (List Snapshot)) → is_some (saved_of ending (next_by c rows (cut_of ending))) ≡ is_some ending
+some_left None c rows = refl
+some_left (Some cut) c rows = refl
+
+pub fits_saved : (ending : Option SavedCutValue) (c : CheckpointParts) (rows : List (List Snapshot)) (next : Option CheckpointParts) (save : Option Save)
+    → next ≡ next_by c rows (cut_of ending) → save_of save ≡ saved_of ending next → IsSome save ↔ IsSome ending
+fits_saved ending c rows next save left saved =
+    let same : is_some save ≡ is_some ending =
+    sym (some_saved save) ∙ ap is_some (saved ∙ ap (saved_of ending) left) ∙ some_left ending c rows in
+    (λ some. sym same ∙ some, λ some. same ∙ some)
+
+-- its checkpoint isn't taken, or it would end before that; where it ends was passed on
+pub undone_at : (ending : Option SavedCutValue) (cut : Cut) (checkpoint : List ℕ) (binds : List Binding) (shelf : Reading) → cut ≡ cut_of ending → (report : Report)
+    → IsLoadFault shelf.tells (RefusesToGoOn checkpoint cut (shelf.files checkpoint)) (λ which. which ≡ checkpoint) shelf.faults_before shelf.faults_after report
+    → IsUndone (resume_row ending checkpoint) checkpoint binds shelf report
+undone_at ending cut checkpoint binds shelf same report fault =
+    file_undone (resume_row ending checkpoint) checkpoint binds shelf report (subst (λ (k : Cut).
+    IsLoadFault shelf.tells (RefusesToGoOn checkpoint k (shelf.files checkpoint)) (λ which. which ≡ checkpoint) shelf.faults_before shelf.faults_after report) same fault)
 
 -- Of a checkpoint: the bounds of the session, and the names of its inputs, as they were passed on.
 module _ (ending : Option SavedCutValue) (c : CheckpointParts) (now : List ℕ → List ℕ) (checkpoint : List ℕ) (binds : List Binding) (bounds : ℕ → Bounds)

@@ -1,10 +1,7 @@
 // A session after the checkpoint in a file.
-ghost use Rattle.std.specs.Prelude.{◌≡◌, ◌≢◌, ℕ, ℤ, List, IfOk, IfErr, IsSome};
+ghost use Rattle.std.specs.Prelude.{◌≡◌, ◌≢◌, ℕ, ℤ, List, IfOk, IfErr, IsSome, length};
 ghost use Rattle.tilt_checkpoint.specs.Valid.{IsCheckpoint};
 ghost use Rattle.tilt_chunk.specs.Cuts.{IsInRange, IsOnward};
-ghost use Rattle.tilt_chunk.specs.Law.{IsOneCut};
-ghost use Rattle.tilt_chunk.specs.Later.{newly, next_by};
-ghost use Rattle.tilt_chunk.specs.NewRows.{AreNewRows};
 ghost use Rattle.tilt_load.specs.Does.{Does, reading};
 ghost use Rattle.tilt_load.specs.FileCommand.{HasFileTurn};
 ghost use Rattle.tilt_load.specs.Load.{IsLoadFault};
@@ -63,15 +60,22 @@ pub fn resume_session<'a, S: Shelf>(
         from: Some(loaded.checkpoint.cut()),
         upto: limit_of(cut),
     };
-    let rows = load_session_inputs(alloc, shelf, loaded.accepted.core().inputs(), binds, &bounds)?;
+    let rows = load_session_inputs(
+        alloc,
+        shelf,
+        loaded.accepted.core().inputs(),
+        binds,
+        &bounds,
+    )?;
     let LoadedCheckpoint {
-        checkpoint,
+        checkpoint: before,
         accepted,
     } = loaded;
-    let (list, next) = resume(alloc, checkpoint, &accepted, rows, cut)?;
+    let (list, next) = resume(alloc, before, &accepted, rows, cut)?;
+    let save = saved(alloc, ending, next)?;
     Ok(Answered {
         printed: Printed::Whole(WholeText::Lines(list)),
-        save: saved(alloc, ending, next)?,
+        save,
     })
 }
 

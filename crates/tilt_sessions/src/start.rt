@@ -52,7 +52,13 @@ pub fn start_session<'a, S: Shelf>(
         from: None,
         upto: Some(cut.upto),
     };
-    let rows = load_session_inputs(alloc, shelf, loaded.accepted.core().inputs(), binds, &bounds)?;
+    let rows = load_session_inputs(
+        alloc,
+        shelf,
+        loaded.accepted.core().inputs(),
+        binds,
+        &bounds,
+    )?;
     let (list, bytes) = first_session(alloc, loaded, rows, cut.upto)?;
     Ok(Answered {
         printed: Printed::Whole(WholeText::Snapshots(list)),

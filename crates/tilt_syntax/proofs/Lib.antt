@@ -4,6 +4,7 @@ pub mod Cutting
 pub mod Descending
 pub mod Finding
 pub mod Judged
+pub mod Keeping
 pub mod Law
 pub mod Operators
 pub mod Parsing
@@ -16,7 +17,9 @@ pub mod Spelling
 pub mod Spelt
 pub mod Statements
 pub mod Steady
+pub mod Texts
 pub mod Total
+pub mod Trimming
 pub mod Unique
 pub mod Whole
 pub mod Written

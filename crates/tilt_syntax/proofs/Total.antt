@@ -103,9 +103,9 @@ operator_if level t us (Some x) e =
         is = subst (λ (l : Level). operator_of t ≡ Some (l, x.1)) (same_level x.0 level same) e;
       })
       | inr other ↦ inr (λ u vs op split is. (
-        let same : t ≡ u = cc in
-        let both : x ≡ (level, op) = cc in
-        other (ap (λ (y : Level × Op2). level_number y.0) both)))
+          let same : t ≡ u = cc in
+          let both : x ≡ (level, op) = cc in
+          other (ap (λ (y : Level × Op2). level_number y.0) both)))
     ]
 
 operator_or_none : (level : Level) (ts : List Tok) → BeginsWithOperator level ts ⊎ BeginsWithNone level ts
@@ -178,11 +178,11 @@ reading-falls n x ts = ((λ us open_at. offset-falls n us _ (λ d vs. ((λ ws cl
 window-falls : (n : ℕ) (r : Reducer) (ts : List Tok) → Falls n (window_plan r ts)
 window-falls n r ts = (
   (λ us open_at. name-falls n us _ (λ x vs le. (
-      (λ ws bracket_at. offset-falls n ws _ (λ l xs. (
-          (λ ys colon_at. offset-falls n ys _ (λ h zs. ((λ ps close_at. ((λ qs end_at. tt), tt)), tt))),
-          tt,
-      ))),
+    (λ ws bracket_at. offset-falls n ws _ (λ l xs. (
+      (λ ys colon_at. offset-falls n ys _ (λ h zs. ((λ ps close_at. ((λ qs end_at. tt), tt)), tt))),
       tt,
+    ))),
+    tt,
   ))),
   tt,
 )
@@ -198,14 +198,14 @@ pair-falls : (n : ℕ) (ts : List Tok) (behind : ExprTree → ExprTree → List 
     → ((a b : ExprTree) (us : List Tok) → Falls n (behind a b us)) → Falls n (pair_plan ts behind)
 pair-falls n ts behind le h = (
   (λ us open_at. (
-      omega (arith, ap length open_at),
-      λ a less. (
-        (λ vs comma_at. (
-            omega (arith, ap length open_at, ap length comma_at),
-            λ b fewer. ((λ ws close_at. h a.tree b.tree ws), tt),
-        )),
-        tt,
-      ),
+    omega (arith, ap length open_at),
+    λ a less. (
+      (λ vs comma_at. (
+        omega (arith, ap length open_at, ap length comma_at),
+        λ b fewer. ((λ ws close_at. h a.tree b.tree ws), tt),
+      )),
+      tt,
+    ),
   )),
   tt,
 )
@@ -236,17 +236,17 @@ atom-falls (Sign m ∷ ts) = enclosed-falls _ (Sign m ∷ ts) give (omega arith)
 choice-falls : (ts : List Tok) → Falls (11 * length ts + 10) (plan_of (Reading Choice ts))
 choice-falls ts = (
   (λ us if_at. (
-      omega (arith, ap length if_at),
-      λ c c_less. (
-        (λ vs then_at. (
-            omega (arith, ap length if_at, ap length then_at),
-            λ a a_less. (
-              (λ ws else_at. (omega (arith, ap length if_at, ap length then_at, ap length else_at), λ b b_less. tt)),
-              tt,
-            ),
-        )),
-        tt,
-      ),
+    omega (arith, ap length if_at),
+    λ c c_less. (
+      (λ vs then_at. (
+        omega (arith, ap length if_at, ap length then_at),
+        λ a a_less. (
+          (λ ws else_at. (omega (arith, ap length if_at, ap length then_at, ap length else_at), λ b b_less. tt)),
+          tt,
+        ),
+      )),
+      tt,
+    ),
   )),
   (omega arith, λ f less. tt),
 )
@@ -288,8 +288,8 @@ rank-bounded Atom = omega arith
 going-falls : (level : Level) (left : ExprTree) (ts : List Tok) → Falls (11 * length ts) (going_plan level left ts)
 going-falls level left ts = (
   (λ t us op split is. (
-      omega (arith, ap length split, rank-bounded (tighter level)),
-      λ b less. operand-falls (11 * length ts) level _ b.rest (omega (arith, ap length split)),
+    omega (arith, ap length split, rank-bounded (tighter level)),
+    λ b less. operand-falls (11 * length ts) level _ b.rest (omega (arith, ap length split)),
   )),
   tt,
 )
@@ -314,11 +314,10 @@ span-falls : (n : ℕ) (ts : List Tok) (behind : Span → List Tok → Plan) →
 unfolding span_plan bound_plan
 span-falls n ts behind h =
     let bound : (us : List Tok) (next : ℤ → List Tok → Plan) → ((b : ℤ) (vs : List Tok) → Falls n (next b vs)) → Falls n (bound_plan us next) =
-    λ us next k. ((λ vs minus. number-falls n vs _ (λ v ws. k _ ws)), number-falls n us next k) in
-    (
+    λ us next k. ((λ vs minus. number-falls n vs _ (λ v ws. k _ ws)), number-falls n us next k) in (
       (λ us open_at. bound us _ (λ s vs. (
-          (λ ws comma_at. bound ws _ (λ e xs. ((λ ys close_at. h _ ys), tt))),
-          tt,
+        (λ ws comma_at. bound ws _ (λ e xs. ((λ ys close_at. h _ ys), tt))),
+        tt,
       ))),
       tt,
     )
@@ -344,21 +343,20 @@ end-falls n ts plan h = ((λ us end_at. empty-falls n us plan h), tt)
 statement-falls : (ts : List Tok) (behind : StatementTree → Plan) → ((n : ℕ) (s : StatementTree) → Falls n (behind s))
     → Falls (11 * length ts) (statement_plan ts behind)
 statement-falls ts behind h =
-    let n = 11 * length ts in
-    (
+    let n = 11 * length ts in (
       (λ us input_at. name-falls n us _ (λ x vs le. end-falls n vs _ (h n _))),
       (
         (λ us let_at. name-falls n us _ (λ x vs le. (
-            (λ ws assign_at. (
-                omega (arith, ap length let_at, ap length assign_at),
-                λ e less. domain-falls n e.rest _ (λ o xs. period-falls n xs _ (λ p ys. end-falls n ys _ (h n _))),
-            )),
-            tt,
+          (λ ws assign_at. (
+            omega (arith, ap length let_at, ap length assign_at),
+            λ e less. domain-falls n e.rest _ (λ o xs. period-falls n xs _ (λ p ys. end-falls n ys _ (h n _))),
+          )),
+          tt,
         ))),
         (
           (λ us emit_at. (
-              omega (arith, ap length emit_at),
-              λ e less. ((λ vs over_at. span-falls n vs _ (λ o xs. period-falls n xs _ (λ p ys. end-falls n ys _ (h n _)))), tt),
+            omega (arith, ap length emit_at),
+            λ e less. ((λ vs over_at. span-falls n vs _ (λ o xs. period-falls n xs _ (λ p ys. end-falls n ys _ (h n _)))), tt),
           )),
           tt,
         ),

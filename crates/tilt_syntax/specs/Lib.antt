@@ -8,4 +8,6 @@ pub mod Rest
 pub mod Sign
 pub mod Statements
 pub mod Stored
+pub mod Text
 pub mod Tree
+pub mod Trimmed

@@ -3,6 +3,7 @@ ghost use Rattle.tilt_syntax.specs.declared.fault.SyntaxFault.TheVariants.{OutOf
 
 use std::alloc::AllocError;
 use thiserror::Error;
+use tilt_lexer::LexFault;
 
 /// Why tokens are no query. Statements are counted from 1.
 #[derive(Debug, Drop, PartialEq, Eq, Error)]
@@ -30,5 +31,57 @@ impl From<AllocError> for SyntaxFault {
 
     fn from(_: AllocError) -> Self {
         SyntaxFault::OutOfMemory
+    }
+}
+
+/// Why a text is no query.
+#[derive(Debug, Drop, PartialEq, Eq, Error)]
+pub enum TextFault {
+    /// The text has no tokens: its first faulty place. It is no want of memory.
+    #[error("{0}")]
+    Lexical(LexFault),
+    /// The text has tokens, which are no query. It is no want of memory.
+    #[error("{0}")]
+    Refused(SyntaxFault),
+    /// There was no memory for the query.
+    #[error("out of memory")]
+    OutOfMemory,
+}
+
+impl From<LexFault> for TextFault {
+    ghost use Rattle.std.specs.Prelude.{◌≡◌};
+    ghost use Rattle.tilt_syntax.specs.Text.{of_place};
+
+    ghost from_gives = { λ place fault. fault ≡ of_place place };
+
+    fn from(place: LexFault) -> Self {
+        match place {
+            LexFault::BadByte { at } => TextFault::Lexical(LexFault::BadByte { at }),
+            LexFault::BigNumber { at } => TextFault::Lexical(LexFault::BigNumber { at }),
+            LexFault::OutOfMemory => TextFault::OutOfMemory,
+        }
+    }
+}
+
+impl From<SyntaxFault> for TextFault {
+    ghost use Rattle.std.specs.Prelude.{◌≡◌};
+    ghost use Rattle.tilt_syntax.specs.Text.{of_tokens};
+
+    ghost from_gives = { λ syntax fault. fault ≡ of_tokens syntax };
+
+    fn from(syntax: SyntaxFault) -> Self {
+        match syntax {
+            SyntaxFault::TooManyStatements => TextFault::Refused(SyntaxFault::TooManyStatements),
+            SyntaxFault::StatementTooLong { statement } => {
+                TextFault::Refused(SyntaxFault::StatementTooLong { statement })
+            }
+            SyntaxFault::Syntax { statement } => {
+                TextFault::Refused(SyntaxFault::Syntax { statement })
+            }
+            SyntaxFault::EmitPlace { statement } => {
+                TextFault::Refused(SyntaxFault::EmitPlace { statement })
+            }
+            SyntaxFault::OutOfMemory => TextFault::OutOfMemory,
+        }
     }
 }

@@ -20,7 +20,7 @@ use std::alloc::{AllocError as OutOfMemory, Global};
 use tilt_lexer::Token;
 
 // The most statements that a query may have, and the most tokens that a statement may have, its `;` counted.
-const MOST: usize = 256;
+pub(crate) const MOST: usize = 256;
 
 /// The query that the tokens are. They are cut into statements behind each `;`; what stands behind the last `;` is a
 /// statement too. Refused are, in this order: `TooManyStatements`, where there are more than 256; then the first faulty

@@ -2,8 +2,10 @@
 use std::alloc::Global;
 use std::test::Fail;
 use tilt_base::Span;
-use tilt_lexer::lex;
-use tilt_syntax::{Expr, Query, Statement, SyntaxFault, parse, parse_expression};
+use tilt_lexer::{LexFault, lex};
+use tilt_syntax::{
+    Expr, Query, Statement, SyntaxFault, TextFault, parse, parse_expression, read_text,
+};
 use tilt_testing::{name_text, query_of, repeated};
 
 // Expressions, and their trees with each operator before its operands; nothing where the text is none.
@@ -293,4 +295,57 @@ fn sizes_are_bounded(rt: HostRuntime) -> Result<(), Fail> {
         assert_eq!(rt; parse(alloc, &tokens).err(), want, "at {start}");
     }
     Ok(())
+}
+
+#[test]
+fn a_text_may_have_more_tokens_than_a_query(rt: HostRuntime) -> Result<(), Fail> {
+    let alloc = rt.alloc();
+    let many = TextFault::Refused(SyntaxFault::TooManyStatements);
+    for (start, part, times, end, want) in [
+        // 256 and 257 statements, and tokens of one statement, with a `;` and without.
+        ("", "input x;", 255, "emit 1 over (0, 5];", None),
+        ("", "input x;", 256, "emit 1 over (0, 5];", Some(many)),
+        ("emit ", "-", 247, "1 over (0, 5];", None),
+        ("emit ", "-", 248, "1 over (0, 5];", too_long(1)),
+        ("emit ", "-", 255, "", refused(1)),
+        ("emit ", "-", 256, "", too_long(1)),
+        ("emit ", "-", 254, ";", refused(1)),
+        ("emit ", "-", 255, ";", too_long(1)),
+        ("input x;emit ", "-", 600, ";input y;", too_long(2)),
+        ("input;emit ", "-", 600, ";", refused(1)),
+        // A faulty place is told before all of them.
+        ("", ";", 600, "@", Some(TextFault::Lexical(LexFault::BadByte { at: 600 }))),
+        (
+            "emit ",
+            "-",
+            600,
+            " 9223372036854775808",
+            Some(TextFault::Lexical(LexFault::BigNumber { at: 606 })),
+        ),
+        // No tokens.
+        (
+            "",
+            " ",
+            600,
+            "",
+            Some(TextFault::Refused(SyntaxFault::EmitPlace { statement: 1 })),
+        ),
+    ] {
+        let text = repeated(alloc, start, part, times, end)?;
+        let found = read_text(alloc, text.as_bytes()).err();
+        assert_eq!(rt; found, want, "at {start}{part}{end} with {times}");
+    }
+    Ok(())
+}
+
+// That the statement is too long.
+fn too_long(statement: u32) -> Option<TextFault> {
+    Some(TextFault::Refused(SyntaxFault::StatementTooLong {
+        statement,
+    }))
+}
+
+// That the statement isn't in the grammar.
+fn refused(statement: u32) -> Option<TextFault> {
+    Some(TextFault::Refused(SyntaxFault::Syntax { statement }))
 }

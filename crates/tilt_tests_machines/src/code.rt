@@ -91,6 +91,28 @@ fn the_first_fault_is_told(rt: HostRuntime) -> Result<(), Fail> {
     Ok(())
 }
 
+// The title and so many inputs with names of their own, and then one with the name of that number.
+fn inputs_and(alloc: Global, count: u32, again: u32) -> Result<String, Fail> {
+    let mut text = String::from_str(alloc, "tilt 1\n")?;
+    for number in 0..count {
+        let line = format!(in alloc; "input x{number}\n")?;
+        text.push_str(line.as_str())?;
+    }
+    let last = format!(in alloc; "input x{again}\n")?;
+    text.push_str(last.as_str())?;
+    Ok(text)
+}
+
+#[test]
+fn a_name_that_stands_twice_is_told_among_many(rt: HostRuntime) -> Result<(), Fail> {
+    for (again, line) in [(0, 302), (150, 302), (299, 302), (300, 303)] {
+        let text = inputs_and(rt.alloc(), 300, again)?;
+        let fault = fault_of(rt.alloc(), text.as_bytes());
+        assert_eq!(rt; fault, Some(CodeFault::BadCode { line }), "at {again}");
+    }
+    Ok(())
+}
+
 // The fault of the small code with its instruction replaced.
 fn fault_with(alloc: Global, step: &str) -> Result<Option<CodeFault>, Fail> {
     let text = format!(in alloc; "tilt 1\ninput x\nloop 0 6 2 0\n{step}\nend\n")?;

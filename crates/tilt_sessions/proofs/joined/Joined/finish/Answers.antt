@@ -34,7 +34,7 @@ with_list-requires c =
     let parts = rw (to_z-of_z w64 c.args.self.cut fits) at c.in_ok-part.ensures.parts in
     both-snapshots run.0 c.args.accepted.now.core c.args.rows.now c.in_ok-part.part.items c.args.self.cut
     c.args.self.printed c.args.self.bytes.items c.in_ok-checkpoint.checkpoint run.1 run.2 c.in_ok-part.ensures.in_order found End tt parts
-    c.in_ok-list.ensures.law c.in_ok-list.list c.in_ok-list.ensures.newly (rw c.new.ensures.frame at c.new.ensures.bounds)
+    c.in_ok-list.ensures.law c.in_ok-list.list c.in_ok-list.ensures.newly (rw (c.new.ensures.frame, c.core.ensures.value) at c.new.ensures.bounds)
 
 pub returns : goal.returns
 returns c =

@@ -48,7 +48,7 @@ with_list-requires c =
     let new = rw (to_z-of_z w64 c.args.cut c.ranges.cut) at c.in_ok-list.ensures.newly in
     both-snapshots run.0 c.args.accepted.now.core c.args.rows.now c.in_ok-part.part.items c.args.self.cut
     c.args.self.printed c.args.self.bytes.items c.in_ok-checkpoint.checkpoint run.1 run.2 c.in_ok-part.ensures.in_order found (Upto c.args.cut)
-    c.requires.onward parts law c.in_ok-list.list new (rw c.new.ensures.frame at c.new.ensures.bounds)
+    c.requires.onward parts law c.in_ok-list.list new (rw (c.new.ensures.frame, c.core.ensures.value) at c.new.ensures.bounds)
 
 pub returns-clause-joined : goal.returns-clause-joined
 returns-clause-joined c = λ query run joined.

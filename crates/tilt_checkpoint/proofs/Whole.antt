@@ -1,0 +1,142 @@
+-- Bytes are the spelling of a valid checkpoint, or of none: they are read.
+use Rattle.std.proofs.Common.{◌≡◌, ◌≢◌, ◌⊎◌, inl, inr, ◌∙◌, ℕ, ◌^◌, ◌<◌, List, [], length, Option, Some, None, Result, Ok, Err, refl, sym, ap, subst}
+use Rattle.std.specs.Str.{bytes_eq}
+use Rattle.std.proofs.lemmas.Bool.{cases_Bool, cases_eq, false≢true}
+use Rattle.std.proofs.lemmas.Option.{none-some, some_pair_parts}
+use Rattle.tilt_base.proofs.Comparisons.{bytes_same, same_bytes}
+use Rattle.tilt_bounds.specs.Margins.{MarginsParts, margins_of}
+use Rattle.tilt_core.specs.Core.{CoreParts}
+use Rattle.tilt_core.specs.Needs.{Need}
+use Rattle.tilt_lexer.proofs.Sound.{sound}
+use Rattle.tilt_lexer.proofs.Unique as unique
+use Rattle.tilt_lexer.proofs.Unique.{same_tokens}
+use Rattle.tilt_lexer.proofs.Whole.{tokens_or_fault}
+use Rattle.tilt_lexer.specs.Tokens.{AreTokens}
+use Rattle.tilt_lexer.specs.declared.token.Token.{Token}
+use Rattle.tilt_syntax.proofs.Judged.{query_or_refused}
+use Rattle.tilt_syntax.proofs.Law.{reads_back}
+use Rattle.tilt_syntax.proofs.Parsing.{sound-kinds}
+use Rattle.tilt_syntax.proofs.Refused.{query-or-refused}
+use Rattle.tilt_syntax.specs.Printing.{query_text}
+use Rattle.tilt_syntax.specs.Query.{AreSound, IsQuery, IsQueryOf, kinds}
+use Rattle.tilt_syntax.specs.Tree.{StatementTree}
+use Rattle.tilt_types.specs.Checked.{checked, core_of, core_unless}
+use Rattle.tilt_types.specs.WellFormed.{first_fault}
+use Rattle.tilt_types.specs.declared.fault.CheckFault.{CheckFault}
+use Rattle.tilt_checkpoint.specs.Checkpoint.{BodyParts, CheckpointParts, with_query}
+use Rattle.tilt_checkpoint.specs.Reading.{query_at}
+use Rattle.tilt_checkpoint.specs.Spelling.{spelling}
+use Rattle.tilt_checkpoint.specs.Valid.{IsAccepted, IsCheckpoint}
+use Rattle.tilt_checkpoint.proofs.Decoding.{body_behind, body_of, read-spelled, read-valid, rest_of, valid-read}
+use Rattle.tilt_checkpoint.proofs.Queries.{lines-spelled, query-again}
+use Rattle.tilt_checkpoint.proofs.Spelled.{one_printed}
+
+-- a query is accepted, or not
+core-made : (fault : Option CheckFault) (made core : CoreParts) → core_unless fault made ≡ Ok core → made ≡ core
+core-made None made core e = cc e
+core-made (Some fault) made core e = absurd (cc e)
+
+near-or-not : (query : List StatementTree) → IsQuery query → checked query ≡ Ok (core_of query) → (answer : Result MarginsParts Need)
+    → margins_of (core_of query) ≡ answer → IsAccepted query ⊎ (¬ (IsAccepted query))
+near-or-not query parsed well (Ok margins) near = inl (record { parsed = parsed; well_formed = well; margins = margins; near = near })
+near-or-not query parsed well (Err widest) far = inr (λ is. let both : Err widest ≡ Ok is.margins = sym far ∙ is.near in cc)
+
+accepted-or-not : (query : List StatementTree) → IsQuery query → (answer : Result CoreParts CheckFault) → checked query ≡ answer
+    → IsAccepted query ⊎ (¬ (IsAccepted query))
+accepted-or-not query parsed (Ok core) well =
+    let own = core-made (first_fault 1 [] query) (core_of query) core well in
+    near-or-not query parsed (well ∙ ap (λ (c : CoreParts). Ok c) (sym own)) (margins_of (core_of query)) refl
+accepted-or-not query parsed (Err fault) ill =
+    inr (λ is. let both : Err fault ≡ Ok (core_of query) = sym ill ∙ is.well_formed in cc)
+
+-- a text is the printing of an accepted query of so many statements
+record IsAsked (count : ℕ) (text : List ℕ) (query : List StatementTree) : Type 0 where
+  accepted : IsAccepted query
+  counted : length query ≡ count
+  printed : text ≡ query_text query
+
+-- it is that of one, or of none
+abbrev Asks : ℕ → List ℕ → Type 0
+Asks count text = ((query : List StatementTree) × IsAsked count text query) ⊎ ((query : List StatementTree) → ¬ (IsAsked count text query))
+
+module _ (count : ℕ) (text : List ℕ) (tokens : List Token) (are : AreTokens 0 text tokens) where
+  -- its tokens are those of the query
+  tokens-of : (query : List StatementTree) → IsAsked count text query → IsQueryOf (kinds tokens) query
+  tokens-of query is =
+      let back = reads_back query is.accepted.parsed in
+      subst (λ (ts : List Token). IsQueryOf (kinds ts) query) (same_tokens back.are are refl (sym is.printed)) back.parsed
+
+  same-query : (query other : List StatementTree) → IsQueryOf (kinds tokens) query → IsAsked count text other → query ≡ other
+  same-query query other parsed is =
+      let back = reads_back other is.accepted.parsed in
+      back.only tokens query (subst (λ (t : List ℕ). AreTokens 0 t tokens) is.printed are) parsed
+
+  asked-by : (query : List StatementTree) → IsQueryOf (kinds tokens) query → IsAccepted query ⊎ (¬ (IsAccepted query)) → Asks count text
+  asked-by query parsed (inr none) = inr (λ other is. none (subst IsAccepted (sym (same-query query other parsed is)) is.accepted))
+  asked-by query parsed (inl accepted) =
+      elim (cases_eq (length query) count) [
+        | inr fewer ↦ inr (λ other is. fewer (ap length (same-query query other parsed is) ∙ is.counted))
+        | inl many ↦ elim (cases_Bool (bytes_eq text (query_text query))) [
+          | inl same ↦ inl (query, record { accepted = accepted; counted = many; printed = bytes_same text (query_text query) same })
+          | inr differs ↦ inr (λ other is.
+              let printed : text ≡ query_text query = is.printed ∙ ap query_text (sym (same-query query other parsed is)) in
+              false≢true (sym differs ∙ ap (bytes_eq text) (sym printed) ∙ same_bytes text))
+        ]
+      ]
+
+  asks-tokens : Asks count text
+  asks-tokens =
+      let good : AreSound (kinds tokens) = sound-kinds tokens (sound are) in
+      elim (query_or_refused (kinds tokens) good) [
+        | inl found ↦ (let is : IsQuery found.0 = record { tokens = kinds tokens; sound = good; parsed = found.1 } in
+            asked-by found.0 found.1 (accepted-or-not found.0 is (checked found.0) refl))
+        | inr refused ↦ inr (λ other is. query-or-refused (kinds tokens) other refused.0 (tokens-of other is) refused.1)
+      ]
+
+asks : (count : ℕ) (text : List ℕ) → Asks count text
+asks count text =
+    elim (tokens_or_fault text) [
+      | inl read ↦ asks-tokens count text read.0 read.1
+      | inr faulty ↦ inr (λ other is. unique.tokens_or_fault (reads_back other is.accepted.parsed).are faulty.1 (sym is.printed))
+    ]
+
+-- bytes are the spelling of a valid checkpoint, or of none
+abbrev pub Spells : List ℕ → Type 0
+Spells bytes = ((c : CheckpointParts) × IsCheckpoint c × (bytes ≡ spelling c)) ⊎ ((c : CheckpointParts) → IsCheckpoint c → bytes ≢ spelling c)
+
+module _ (bytes : List ℕ) (small : length bytes < 2 ^ 63) where
+  -- what is read of the query's lines where the bytes are the spelling
+  lines-of : (c : CheckpointParts) → IsCheckpoint c → bytes ≡ spelling c
+      → query_at bytes ≡ Some ((length c.query, query_text c.query), rest_of c)
+  lines-of c valid same = ap query_at same ∙ query-again c.query (rest_of c) valid.query.parsed
+
+  module _ (count : ℕ) (text left : List ℕ) (e : query_at bytes ≡ Some ((count, text), left)) where
+    spells-body : (query : List StatementTree) → IsAsked count text query → (body : Option BodyParts) → body_behind query left ≡ body → Spells bytes
+    spells-body query is (Some body) read =
+        let lines = lines-spelled bytes count text left query e is.counted is.printed in
+        inl (with_query query body, read-valid query left body is.accepted read, read-spelled query bytes left body lines read)
+    spells-body query is None none =
+        inr (λ c valid same.
+        let p = some_pair_parts (count, text) (length c.query, query_text c.query) left (rest_of c) (sym e ∙ lines-of c valid same) in
+        let printed = sym (sym (ap (λ (q : ℕ × List ℕ). q.1) p.0) ∙ is.printed) in
+        let own = one_printed query c.query is.accepted.parsed valid.query.parsed printed in
+        none-some (body_of c) (sym none ∙ (λ i. body_behind (sym own i) (p.1 i)) ∙ valid-read c bytes valid same small))
+
+    spells-lines : Asks count text → Spells bytes
+    spells-lines (inl asked) = spells-body asked.0 asked.1 (body_behind asked.0 left) refl
+    spells-lines (inr none) =
+        inr (λ c valid same.
+        let p = some_pair_parts (count, text) (length c.query, query_text c.query) left (rest_of c) (sym e ∙ lines-of c valid same) in
+        none c.query (record {
+          accepted = valid.query;
+          counted = sym (ap (λ (q : ℕ × List ℕ). q.0) p.0);
+          printed = ap (λ (q : ℕ × List ℕ). q.1) p.0;
+        }))
+
+  spells-behind : (at : Option ((ℕ × List ℕ) × List ℕ)) → query_at bytes ≡ at → Spells bytes
+  spells-behind None none =
+      inr (λ c valid same. none-some ((length c.query, query_text c.query), rest_of c) (sym none ∙ lines-of c valid same))
+  spells-behind (Some found) e = spells-lines found.0.0 found.0.1 found.1 e (asks found.0.0 found.0.1)
+
+  pub spelled_or_not : Spells bytes
+  spelled_or_not = spells-behind (query_at bytes) refl
