@@ -1,11 +1,12 @@
 // What a command comes to.
-ghost use Rattle.std.specs.Prelude.{List, ℕ, IfOk};
+ghost use Rattle.std.specs.Prelude.{◌≡◌, not, List, ℕ, Some, IfOk};
 ghost use Rattle.tilt_app.specs.Answered.{IsAnswered};
 ghost use Rattle.tilt_app.specs.Continued.{Continues};
 ghost use Rattle.tilt_app.specs.Outcome.{HasRowTurn};
 ghost use Rattle.tilt_app.specs.Table.{row_of};
 ghost use Rattle.tilt_load.specs.Does.{reading};
 ghost use Rattle.tilt_printed.specs.Answer.{comes_to};
+ghost use Rattle.tilt_sessions.specs.SavedCut.{ending_of};
 ghost use Rattle.tilt_watch.specs.Watch.{Watch};
 ghost use Rattle.tilt_words.specs.Command.{IsWithin, command_of};
 
@@ -38,16 +39,7 @@ pub(crate) fn answer<'a, S: Shelf>(
             binds,
             plain,
             cuts,
-        } => run(
-            alloc,
-            shelf,
-            query,
-            binds,
-            Manner {
-                fuse: !*plain,
-                cuts,
-            },
-        ),
+        } => run(alloc, shelf, query, binds, manner(*plain, cuts)),
         Command::Compile { query, plain } => compile(alloc, shelf, query, !*plain),
         Command::Exec { code, binds } => exec(alloc, shelf, code, binds),
         Command::Explain { query } => explain(alloc, shelf, query),
@@ -68,30 +60,39 @@ pub(crate) fn answer<'a, S: Shelf>(
             plain,
             upto,
             save,
-        } => start_session(
-            alloc,
-            shelf,
-            query,
-            binds,
-            !*plain,
-            SavedCut { upto: *upto, save },
-        ),
+        } => start_session(alloc, shelf, query, binds, !*plain, cut(*upto, save)),
         Command::ResumeUpto {
             file,
             binds,
             plain,
             upto,
             save,
-        } => resume_session(
-            alloc,
-            shelf,
-            file,
-            binds,
-            !*plain,
-            Some(SavedCut { upto: *upto, save }),
-        ),
-        Command::ResumeEnd { file, binds, plain } => resume_session(
-            alloc, shelf, file, binds, !*plain, None,
-        ),
+        } => resume_session(alloc, shelf, file, binds, !*plain, ending(*upto, save)),
+        Command::ResumeEnd { file, binds, plain } => {
+            resume_session(alloc, shelf, file, binds, !*plain, None)
+        }
     }
+}
+
+// How a query is run, without fusion where it is to be plain.
+fn manner(plain: bool, cuts: &[i64]) -> Manner<'_>
+    ensures fuse { result.fuse ≡ not plain }
+    ensures cuts { result.cuts.now ≡ cuts.now }
+{
+    Manner { fuse: !plain, cuts }
+}
+
+// Where a session ends, and the name under which it saves.
+fn cut(upto: i64, save: &str) -> SavedCut<'_>
+    ensures upto { result.upto ≡ upto }
+    ensures save { result.save.now ≡ save.now }
+{
+    SavedCut { upto, save }
+}
+
+// The same of a session that may end with the last row, as this one doesn't.
+fn ending(upto: i64, save: &str) -> Option<SavedCut<'_>>
+    ensures { ending_of result ≡ Some (record { upto = upto; save = save.now }) }
+{
+    Some(SavedCut { upto, save })
 }

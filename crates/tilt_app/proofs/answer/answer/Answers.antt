@@ -1,5 +1,5 @@
-use Rattle.std.proofs.Common.{◌≡◌, ◌≤ℤ◌, ℤ, [], arith, w64, neg_ℤ, ap}
 use Rattle.std.specs.Prelude.{string_bytes}
+use Rattle.std.proofs.Common.{[], arith, w64}
 use Rattle.std.proofs.lemmas.Int.{ints, to_z-of_z}
 use Rattle.tilt_sessions.proofs.Cuts.{cut-fits}
 use Rattle.tilt_app.proofs.Shown.{does_weaker, fits_saved, fits_unsaved}
@@ -10,34 +10,37 @@ run-requires-clause-lent g c =
     λ name turn. c.requires.lent [] name (rw c.in-Run.is (rw (c.deref.ensures, c.deref-in-Run.ensures.value) at turn))
 
 pub compile-requires : goal.compile-requires
-compile-requires g c = λ name turn. c.requires.lent [] name (rw c.in-Compile.is (rw c.deref-in-Compile.ensures at turn))
+compile-requires g c =
+    λ name turn. c.requires.lent [] name (rw c.in-Compile.is (rw c.deref-in-Compile.ensures at turn))
 
 pub exec-requires : goal.exec-requires
-exec-requires g c = λ name turn. c.requires.lent [] name (rw c.in-Exec.is (rw (c.deref-in-Exec.ensures, c.deref-in-Exec-2.ensures.value) at turn))
+exec-requires g c =
+    λ name turn. c.requires.lent [] name (rw c.in-Exec.is (rw (c.deref-in-Exec.ensures, c.deref-in-Exec-2.ensures.value) at turn))
 
 pub explain-requires : goal.explain-requires
-explain-requires g c = λ name turn. c.requires.lent [] name (rw c.in-Explain.is (rw c.deref-in-Explain.ensures at turn))
+explain-requires g c =
+    λ name turn. c.requires.lent [] name (rw c.in-Explain.is (rw c.deref-in-Explain.ensures at turn))
 
 pub pipe-requires : goal.pipe-requires
-pipe-requires g c = λ name turn. c.requires.lent [] name (rw c.in-Pipe.is (rw (c.deref-in-Pipe.ensures, c.deref-in-Pipe-2.ensures.value) at turn))
+pipe-requires g c =
+    λ name turn. c.requires.lent [] name (rw c.in-Pipe.is (rw (c.deref-in-Pipe.ensures, c.deref-in-Pipe-2.ensures.value) at turn))
 
 pub watch-requires : goal.watch-requires
-watch-requires g c = λ name turn. c.requires.lent [] name (rw c.in-Watch.is (rw (c.deref-in-Watch.ensures, c.deref-in-Watch-2.ensures.value) at turn))
+watch-requires g c =
+    λ name turn. c.requires.lent [] name (rw c.in-Watch.is (rw (c.deref-in-Watch.ensures, c.deref-in-Watch-2.ensures.value) at turn))
 
 pub start_session-requires-clause-lent : goal.start_session-requires-clause-lent
 start_session-requires-clause-lent g c =
     let within = rw c.in-Start.is at c.requires.within in
     let fits = cut-fits c.in-Start.upto c.in-Start.upto within.0 (omega (arith, ints)) within.1 in
     λ name turn. c.requires.lent [] name
-    (rw c.in-Start.is (rw (c.deref-in-Start.ensures, c.deref-in-Start-2.ensures.value, c.deref-in-Start-3.ensures, to_z-of_z w64 c.in-Start.upto fits) at turn))
+    (rw c.in-Start.is (rw (c.cut.ensures.upto, c.cut.ensures.save, c.deref-in-Start.ensures, c.deref-in-Start-2.ensures.value, c.deref-in-Start-3.ensures, to_z-of_z w64 c.in-Start.upto fits) at turn))
 
 pub resume_session-requires-clause-lent : goal.resume_session-requires-clause-lent
 resume_session-requires-clause-lent g c =
     let within = rw c.in-ResumeUpto.is at c.requires.within in
     let fits = cut-fits c.in-ResumeUpto.upto c.in-ResumeUpto.upto within.0 (omega (arith, ints)) within.1 in
-    λ name turn. c.requires.lent [] name
-    (rw c.in-ResumeUpto.is
-    (rw (c.deref-in-ResumeUpto.ensures, c.deref-in-ResumeUpto-2.ensures.value, c.deref-in-ResumeUpto-3.ensures, to_z-of_z w64 c.in-ResumeUpto.upto fits) at turn))
+    λ name turn. c.requires.lent [] name (rw c.in-ResumeUpto.is (rw (c.ending.ensures, c.deref-in-ResumeUpto.ensures, c.deref-in-ResumeUpto-2.ensures.value, c.deref-in-ResumeUpto-3.ensures, to_z-of_z w64 c.in-ResumeUpto.upto fits) at turn))
 
 pub resume_session-requires-in-ResumeEnd-clause-lent : goal.resume_session-requires-in-ResumeEnd-clause-lent
 resume_session-requires-in-ResumeEnd-clause-lent g c =
@@ -47,17 +50,14 @@ pub returns-in-ResumeUpto-clause-does : goal.returns-in-ResumeUpto-clause-does
 returns-in-ResumeUpto-clause-does g c =
     let within = rw c.in-ResumeUpto.is at c.requires.within in
     let fits = cut-fits c.in-ResumeUpto.upto c.in-ResumeUpto.upto within.0 (omega (arith, ints)) within.1 in
-    let does = rw (c.deref-in-ResumeUpto.ensures, c.deref-in-ResumeUpto-2.ensures.value, c.deref-in-ResumeUpto-3.ensures, to_z-of_z w64 c.in-ResumeUpto.upto fits)
-    at c.resume_session.ensures.does in
+    let does = rw (c.ending.ensures, c.deref-in-ResumeUpto.ensures, c.deref-in-ResumeUpto-2.ensures.value, c.deref-in-ResumeUpto-3.ensures, to_z-of_z w64 c.in-ResumeUpto.upto fits) at c.resume_session.ensures.does in
     rw c.in-ResumeUpto.is (does_weaker _ _ _ _ _ _ _ (fits_saved ⊥ ⊥ (record { upto = c.in-ResumeUpto.upto; save = string_bytes c.in-ResumeUpto.save })) does)
 
 pub returns-in-ResumeUpto-clause-continues : goal.returns-in-ResumeUpto-clause-continues
 returns-in-ResumeUpto-clause-continues g c =
     let within = rw c.in-ResumeUpto.is at c.requires.within in
     let fits = cut-fits c.in-ResumeUpto.upto c.in-ResumeUpto.upto within.0 (omega (arith, ints)) within.1 in
-    λ told. rw c.in-ResumeUpto.is
-    (rw (c.deref-in-ResumeUpto.ensures, c.deref-in-ResumeUpto-2.ensures.value, c.deref-in-ResumeUpto-3.ensures, to_z-of_z w64 c.in-ResumeUpto.upto fits)
-    at (c.resume_session.ensures.beyond told))
+    λ told. rw c.in-ResumeUpto.is (rw (c.ending.ensures, c.deref-in-ResumeUpto.ensures, c.deref-in-ResumeUpto-2.ensures.value, c.deref-in-ResumeUpto-3.ensures, to_z-of_z w64 c.in-ResumeUpto.upto fits) at (c.resume_session.ensures.beyond told))
 
 pub returns-in-ResumeEnd-clause-does : goal.returns-in-ResumeEnd-clause-does
 returns-in-ResumeEnd-clause-does g c =
