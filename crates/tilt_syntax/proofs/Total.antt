@@ -24,8 +24,9 @@ use Rattle.tilt_syntax.specs.Descent.{number_plan, name_plan, offset_plan, readi
 use Rattle.tilt_syntax.specs.Descent.{chain_plan, behind_operand, going_plan, give}
 use Rattle.tilt_syntax.specs.Grammar.{IsStatement}
 use Rattle.tilt_syntax.specs.Levels.{level_number, operator_of, tighter}
-use Rattle.tilt_syntax.specs.Statements.{bound_plan, span_plan, domain_plan, period_plan, empty_plan, end_plan, statement_plan}
+use Rattle.tilt_syntax.specs.Statements.{bound_plan, span_plan, domain_plan, from_plan, grid_plan, empty_plan, end_plan, statement_plan}
 use Rattle.tilt_syntax.specs.Tree.{ExprTree, StatementTree}
+use Rattle.tilt_syntax.specs.declared.every.Every.{Every}
 use Rattle.tilt_syntax.specs.declared.level.Level.{Level}
 use Rattle.tilt_syntax.specs.declared.level.Level.TheVariants.{Choice, When, Or, And, Negation, Comparison, Sum, Product, Minus, Atom}
 use Rattle.tilt_syntax.proofs.Operators.{same_level}
@@ -327,10 +328,15 @@ domain-falls : (n : ℕ) (ts : List Tok) (behind : Option Span → List Tok → 
 unfolding domain_plan
 domain-falls n ts behind h = ((λ us at. span-falls n us _ (λ s vs. h (Some s) vs)), h None ts)
 
-period-falls : (n : ℕ) (ts : List Tok) (behind : Option ℤ → List Tok → Plan) → ((p : Option ℤ) (us : List Tok) → Falls n (behind p us))
-    → Falls n (period_plan ts behind)
-unfolding period_plan
-period-falls n ts behind h = ((λ us at. number-falls n us _ (λ v vs. h (Some v) vs)), h None ts)
+from-falls : (n : ℕ) (ts : List Tok) (behind : ℤ → List Tok → Plan) → ((o : ℤ) (us : List Tok) → Falls n (behind o us)) → Falls n (from_plan ts behind)
+unfolding from_plan
+from-falls n ts behind h = ((λ us at. number-falls n us _ (λ v vs. h v vs)), h (pos 0) ts)
+
+grid-falls : (n : ℕ) (ts : List Tok) (behind : Option Every → List Tok → Plan) → ((every : Option Every) (us : List Tok) → Falls n (behind every us))
+    → Falls n (grid_plan ts behind)
+unfolding grid_plan
+grid-falls n ts behind h =
+    ((λ us at. number-falls n us _ (λ p vs. from-falls n vs _ (λ o ws. h (Some (record { period = p; offset = o })) ws))), h None ts)
 
 empty-falls : (n : ℕ) (ts : List Tok) (plan : Plan) → Falls n plan → Falls n (empty_plan ts plan)
 empty-falls n [] plan h = h
@@ -349,14 +355,14 @@ statement-falls ts behind h =
         (λ us let_at. name-falls n us _ (λ x vs le. (
           (λ ws assign_at. (
             omega (arith, ap length let_at, ap length assign_at),
-            λ e less. domain-falls n e.rest _ (λ o xs. period-falls n xs _ (λ p ys. end-falls n ys _ (h n _))),
+            λ e less. domain-falls n e.rest _ (λ o xs. grid-falls n xs _ (λ p ys. end-falls n ys _ (h n _))),
           )),
           tt,
         ))),
         (
           (λ us emit_at. (
             omega (arith, ap length emit_at),
-            λ e less. ((λ vs over_at. span-falls n vs _ (λ o xs. period-falls n xs _ (λ p ys. end-falls n ys _ (h n _)))), tt),
+            λ e less. ((λ vs over_at. span-falls n vs _ (λ o xs. grid-falls n xs _ (λ p ys. end-falls n ys _ (h n _)))), tt),
           )),
           tt,
         ),
