@@ -13,10 +13,9 @@ use crate::file::load;
 use std::alloc::Global;
 use tilt_bounds::{Margins, reach};
 use tilt_core::Core;
-use tilt_lexer::lex;
 use tilt_outside::Shelf;
 use tilt_report::Fault;
-use tilt_syntax::{Query, parse};
+use tilt_syntax::{Query, read_text};
 use tilt_types::check;
 
 /// A query that was accepted, its core, and how far it looks.
@@ -57,8 +56,7 @@ pub fn read_query<'a>(alloc: Global, bytes: &[u8]) -> Result<LoadedQuery, Fault<
     ensures margins { IfOk result (λ query. margins_of query.core ≡ Ok query.margins) }
     ensures fault { (name : List ℕ) → IfErr result (λ fault. IsLoadFault ⊤ (RefusesQuery name bytes.now) (λ _. ⊥) 0 0 (report_of fault)) }
 {
-    let tokens = lex(alloc, bytes)?;
-    let query = parse(alloc, &tokens)?;
+    let query = read_text(alloc, bytes)?;
     let core = check(alloc, &query)?;
     let margins = reach(alloc, &core)?;
     let _parsed = query.statements();
