@@ -11,6 +11,9 @@ use Rattle.tilt_syntax.specs.Query.{IsQueryOf, IsRefused, kinds}
 use Rattle.tilt_syntax.specs.Tree.{StatementTree}
 use Rattle.tilt_syntax.specs.declared.fault.SyntaxFault.{SyntaxFault}
 use Rattle.tilt_syntax.specs.declared.fault.SyntaxFault.TheVariants as syntax
+use Rattle.tilt_syntax.specs.Text.{IsRefusedText, no_tokens as no_place, no_query}
+use Rattle.tilt_syntax.specs.declared.fault.TextFault.{TextFault}
+use Rattle.tilt_syntax.specs.declared.fault.TextFault.TheVariants as text
 use Rattle.tilt_bounds.specs.Margins.{IsTold, margins_of}
 use Rattle.tilt_bounds.specs.declared.fault.ReachFault.{ReachFault}
 use Rattle.tilt_bounds.specs.declared.fault.ReachFault.TheVariants as reach
@@ -21,7 +24,7 @@ use Rattle.tilt_types.specs.declared.fault.CheckFault.TheVariants as check
 use Rattle.tilt_load.specs.Load.{IsLoadFault, IsTooLong, IsNameFault}
 use Rattle.tilt_load.specs.QueryFile.{RefusesQuery, no_core, far, long, no_tokens, no_statements, ill_formed, HasCore}
 use Rattle.tilt_load.specs.SeriesFiles.{RefusesSession, by_names}
-use Rattle.tilt_report.specs.Report.{Reason, Report, usage, refusal, read_fault, write_fault, save_fault, out_of_memory, report_of_place, report_of_syntax, report_of_check, report_of_reach}
+use Rattle.tilt_report.specs.Report.{Reason, Report, usage, refusal, read_fault, write_fault, save_fault, out_of_memory, report_of_place, report_of_syntax, report_of_text, report_of_check, report_of_reach}
 use Rattle.tilt_series.specs.Series.{Bounds}
 use Rattle.tilt_words.specs.Binding.{Binding}
 
@@ -79,6 +82,18 @@ pub syntax_refuses : (name bytes : List ℕ) (tokens : List Token) (fault : Synt
     → (fault ≢ syntax.OutOfMemory → IsRefused (kinds tokens) fault) → IsLoadFault ⊤ (RefusesQuery name bytes) (λ _. ⊥) 0 0 (report_of_syntax fault)
 syntax_refuses name bytes tokens fault short lexed faulty =
     loads_by name bytes (report_of_syntax fault) (syntax_report fault) (λ why is. no_core (no_statements tokens fault short lexed (faulty (λ same. let e = ap report_of_syntax same in cc)) is))
+
+-- a text that is no query is refused
+text_refused : (name bytes : List ℕ) (f : TextFault) → length bytes ≤ FILE → IsRefusedText bytes f
+    → IsLoadFault ⊤ (RefusesQuery name bytes) (λ _. ⊥) 0 0 (report_of_text f)
+text_refused name bytes f short (no_place {f = place} is) = place_refuses name bytes place short (λ other. is)
+text_refused name bytes f short (no_query {f = why} tokens lexed is) = syntax_refuses name bytes tokens why short lexed (λ other. is)
+
+pub text_refuses : (name bytes : List ℕ) (f : TextFault) → length bytes ≤ FILE → (f ≢ text.OutOfMemory → IsRefusedText bytes f)
+    → IsLoadFault ⊤ (RefusesQuery name bytes) (λ _. ⊥) 0 0 (report_of_text f)
+text_refuses name bytes (text.Lexical place) short faulty = text_refused name bytes (text.Lexical place) short (faulty (λ e. cc))
+text_refuses name bytes (text.Refused why) short faulty = text_refused name bytes (text.Refused why) short (faulty (λ e. cc))
+text_refuses name bytes text.OutOfMemory short faulty = tt
 
 -- a query that isn't well formed is refused
 pub check_refuses : (name bytes : List ℕ) (tokens : List Token) (query : List StatementTree) (fault : CheckFault) → length bytes ≤ FILE

@@ -12,10 +12,9 @@ ghost use Rattle.tilt_types.specs.Checked.{checked};
 use crate::file::load;
 use std::alloc::Global;
 use tilt_compiler::{Accepted, accept};
-use tilt_lexer::lex;
 use tilt_outside::Shelf;
 use tilt_report::Fault;
-use tilt_syntax::{Query, parse};
+use tilt_syntax::{Query, read_text};
 use tilt_types::check;
 
 /// A query that was accepted, as it is written, and what the compiler knows of it.
@@ -57,8 +56,7 @@ pub fn read_query<'a>(alloc: Global, bytes: &[u8], fuse: bool) -> Result<LoadedQ
     ensures fuse { IfOk result (λ query. query.accepted.fuse ≡ fuse) }
     ensures fault { (name : List ℕ) → IfErr result (λ fault. IsLoadFault ⊤ (RefusesQuery name bytes.now) (λ _. ⊥) 0 0 (report_of fault)) }
 {
-    let tokens = lex(alloc, bytes)?;
-    let query = parse(alloc, &tokens)?;
+    let query = read_text(alloc, bytes)?;
     let core = check(alloc, &query)?;
     let accepted = accept(alloc, core, fuse)?;
     let _parsed = query.statements();

@@ -7,6 +7,8 @@ use Rattle.tilt_series.specs.declared.fault.SeriesFault.{SeriesFault}
 use Rattle.tilt_series.specs.declared.fault.SeriesFault.TheVariants as series
 use Rattle.tilt_syntax.specs.declared.fault.SyntaxFault.{SyntaxFault}
 use Rattle.tilt_syntax.specs.declared.fault.SyntaxFault.TheVariants as syntax
+use Rattle.tilt_syntax.specs.declared.fault.TextFault.{TextFault}
+use Rattle.tilt_syntax.specs.declared.fault.TextFault.TheVariants as text
 use Rattle.tilt_types.specs.declared.fault.CheckFault.{CheckFault}
 use Rattle.tilt_types.specs.declared.fault.CheckFault.TheVariants as check
 use Rattle.tilt_bounds.specs.declared.fault.ReachFault.{ReachFault}
@@ -96,6 +98,12 @@ report_of_syntax (syntax.StatementTooLong n) = refusal (bad_statement statement.
 report_of_syntax (syntax.Syntax n) = refusal (bad_statement statement.NoReading n)
 report_of_syntax (syntax.EmitPlace n) = refusal (bad_statement statement.EmitPlace n)
 report_of_syntax syntax.OutOfMemory = out_of_memory
+
+-- the report of a text that is no query
+abbrev pub report_of_text : TextFault → Report
+report_of_text (text.Lexical place) = report_of_place place
+report_of_text (text.Refused tokens) = report_of_syntax tokens
+report_of_text text.OutOfMemory = out_of_memory
 
 -- the report of a query that isn't well formed
 abbrev pub report_of_check : CheckFault → Report

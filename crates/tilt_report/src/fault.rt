@@ -9,7 +9,7 @@ use tilt_bounds::ReachFault;
 use tilt_code::CodeFault;
 use tilt_lexer::LexFault;
 use tilt_outside::{Failed, Sink};
-use tilt_syntax::SyntaxFault;
+use tilt_syntax::{SyntaxFault, TextFault};
 use tilt_types::CheckFault;
 use tilt_words::WordsFault;
 
@@ -90,6 +90,21 @@ impl From<SyntaxFault> for Fault<'_> {
                 bad_statement(StatementFault::EmitPlace, statement)
             }
             SyntaxFault::OutOfMemory => Fault::OutOfMemory,
+        }
+    }
+}
+
+impl From<TextFault> for Fault<'_> {
+    ghost use Rattle.std.specs.Prelude.{◌≡◌};
+    ghost use Rattle.tilt_report.specs.Report.{report_of, report_of_text};
+
+    ghost from_gives = { λ text fault. report_of fault ≡ report_of_text text };
+
+    fn from(text: TextFault) -> Self {
+        match text {
+            TextFault::Lexical(place) => Fault::from(place),
+            TextFault::Refused(syntax) => Fault::from(syntax),
+            TextFault::OutOfMemory => Fault::OutOfMemory,
         }
     }
 }
