@@ -24,7 +24,7 @@ abbrev pub DoesRow : Row → (Answered → Type 0) → Reading → Result Answer
 DoesRow (reads file binds command) keeps shelf result = Does command comes_to keeps file binds shelf result
 DoesRow (makes is_outcome) keeps shelf result = Makes is_outcome keeps shelf result
 
--- a command was done, which puts its snapshots as they are made, shows them, and saves exactly where it is to
+-- a command was done, and it gives its text out by a pipe, shows snapshots, and saves exactly where it is to
 abbrev pub IsAnswered : CommandValue → Reading → Result Answered Fault → Type 0
 IsAnswered command shelf result =
     DoesRow (row_of command) (Fits (Streams command) (Shows command) (Saves command)) shelf result

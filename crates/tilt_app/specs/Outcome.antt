@@ -54,7 +54,7 @@ Saves command = ⊥
 abbrev pub IsSaving : List (List ℕ) → Type 0
 IsSaving words = (command : CommandValue) × IsCommand words command × Saves command
 
--- whether a command prints each snapshot as soon as it is made: `run` without cuts, and `pipe`
+-- whether a command's text is given out by a pipe, which takes memory between puts: that of `run` without cuts, and of `pipe`
 abbrev pub Streams : CommandValue → Type 0
 Streams (run query binds plain cuts) = cuts ≡ []
 Streams (pipe query binds plain) = ⊤

@@ -136,9 +136,9 @@ fn tell<E: Sink>(err: &mut E, fault: &Fault<'_>) -> u8
 /// fault of `err` changes nothing.
 ///
 /// The first refusal is told: that of the words, then of the query, the code or the checkpoint, then of the cut, then of the
-/// names that are bound, then of the series in the order in which the inputs are declared. `run` without cuts and `pipe` put each
-/// snapshot as soon as it is made, so that memory may be wanting after a prefix of the text. All other commands take all memory
-/// before the first put.
+/// names that are bound, then of the series in the order in which the inputs are declared. `run` without cuts and `pipe` take
+/// memory between puts, so that it may be wanting after a prefix of the text. All other commands take all memory before the first
+/// put.
 ///
 /// The answer is the status that the program ends with: 0 done, 1 refused, 2 the words are no command, 3 a read failed, 4 a
 /// put or the flush failed, 5 there was no memory, 6 the save failed.
@@ -182,7 +182,7 @@ pub fn tilt<S: Shelf, O: Sink, E: Sink>(
         × IsLineWritten (sink_change E.tells E.written E.faults E.takes err.old err.new) (line_of report) }
     ensures told { (result ≡ 0 → ⊥) → (E.held_back err.new ≡ 0) ⊎ Rose (E.faults err.old) (E.faults err.new) }
 
-    // Nothing is written but under status 0, 4 and 6, and under 5 by a command that prints each snapshot as soon as it is made.
+    // Nothing is written but under status 0, 4 and 6, and under 5 by a command that takes memory between puts.
     ensures unwritten { (result ≡ 0 → ⊥) → (result ≡ 4 → ⊥) → (result ≡ 6 → ⊥)
         → ((result ≡ 5) × IsStreaming (texts words.now) → ⊥) → out.new ≡ out.old }
     ensures usage { result ≡ 2 → ¬ (IsRunnable (texts words.now)) }
