@@ -49,17 +49,6 @@ module _ (is_outcome : Outcome → Type 0) (once : (o p : Outcome) → is_outcom
     the_refusal out_of_memory other cause outcome = inr refl
 
 module _ (is_outcome : Outcome → Type 0) (has_turn : List ℕ → Type 0) (shelf : ShelfChange) (out : SinkChange) where
-  -- where no count rose, the status is that of words, of a refusal, or of want of memory
-  pub status_faultless : (report : Report) → IsCause is_outcome has_turn shelf out report → (Rose shelf.reads_before shelf.reads_after → ⊥)
-      → (Rose shelf.saves_before shelf.saves_after → ⊥) → (Rose out.before out.after → ⊥)
-      → (status_of report ≡ 1) ⊎ ((status_of report ≡ 2) ⊎ (status_of report ≡ 5))
-  status_faultless usage cause no_read no_save no_put = inr (inl refl)
-  status_faultless (refusal why) cause no_read no_save no_put = inl refl
-  status_faultless (read_fault name) cause no_read no_save no_put = absurd (no_read cause.0)
-  status_faultless write_fault cause no_read no_save no_put = absurd (no_put cause.0)
-  status_faultless (save_fault name) cause no_read no_save no_put = absurd (no_save cause.0)
-  status_faultless out_of_memory cause no_read no_save no_put = inr (inr refl)
-
   -- usage is reported only where it is the outcome
   pub cause_of_usage : (report : Report) → report ≡ usage → IsCause is_outcome has_turn shelf out report → is_outcome (refused usage)
   cause_of_usage usage is cause = cause
@@ -137,15 +126,6 @@ status_of_write_fault write_fault is = refl
 status_of_write_fault (save_fault name) is = absurd (omega arith)
 status_of_write_fault out_of_memory is = absurd (omega arith)
 
--- the status of a save fault is that of no other report
-pub status_of_save_fault : (report : Report) → status_of report ≡ 6 → IsSaveFault report
-status_of_save_fault usage is = absurd (omega arith)
-status_of_save_fault (refusal why) is = absurd (omega arith)
-status_of_save_fault (read_fault name) is = absurd (omega arith)
-status_of_save_fault write_fault is = absurd (omega arith)
-status_of_save_fault (save_fault name) is = tt
-status_of_save_fault out_of_memory is = absurd (omega arith)
-
 -- the status of a save fault
 pub status_of_save : (report : Report) → IsSaveFault report → status_of report ≡ 6
 status_of_save usage is = absurd is
@@ -154,12 +134,3 @@ status_of_save (read_fault name) is = absurd is
 status_of_save write_fault is = absurd is
 status_of_save (save_fault name) is = refl
 status_of_save out_of_memory is = absurd is
-
--- a report has another status than 0
-pub status_not_0 : (report : Report) → status_of report ≡ 0 → ⊥
-status_not_0 usage is = absurd (omega arith)
-status_not_0 (refusal why) is = absurd (omega arith)
-status_not_0 (read_fault name) is = absurd (omega arith)
-status_not_0 write_fault is = absurd (omega arith)
-status_not_0 (save_fault name) is = absurd (omega arith)
-status_not_0 out_of_memory is = absurd (omega arith)

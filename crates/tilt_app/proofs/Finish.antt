@@ -1,9 +1,9 @@
 -- What puts and a save leave, from what each of them did.
-use Rattle.std.proofs.Common.{◌≡◌, ◌++◌, ◌+◌, List, ℕ, Option, None, Some, Result, Ok, Err, length, inr, refl, subst}
+use Rattle.std.proofs.Common.{◌≡◌, ◌++◌, ◌+◌, List, ℕ, Option, None, Some, Result, Ok, Err, inr, refl, subst}
 use Rattle.std.specs.Prelude.{MatchResult, OnOk}
-use Rattle.tilt_app.specs.Cause.{IsCause, IsSaveFault}
+use Rattle.tilt_app.specs.Cause.{IsCause}
 use Rattle.tilt_app.specs.Change.{ShelfChange, SinkChange}
-use Rattle.tilt_app.specs.Continued.{Continues, IsContinued, IsLeft}
+use Rattle.tilt_app.specs.Continued.{Continues, IsContinued}
 use Rattle.tilt_app.specs.Saving.{IsSaved, IsUnsaved}
 use Rattle.tilt_outside.specs.Faults.{Rose}
 use Rattle.tilt_outside.specs.Written.{AppendsFront}
@@ -13,7 +13,7 @@ use Rattle.tilt_printed.specs.Unput.{report_of_unput}
 use Rattle.tilt_printed.specs.declared.save.Save.{Save}
 use Rattle.tilt_printed.specs.declared.unput.Unput.{Unput}
 use Rattle.tilt_printed.specs.declared.unput.Unput.TheVariants.{Failed, OutOfMemory}
-use Rattle.tilt_report.specs.Report.{Outcome, Report, usage, refusal, read_fault, write_fault, save_fault, out_of_memory}
+use Rattle.tilt_report.specs.Report.{Outcome, Report, save_fault}
 use Rattle.tilt_words.specs.Command.{CommandValue, start, resume_upto, resume_end}
 
 -- what holds where a call didn't fail
@@ -53,17 +53,6 @@ module _ (is_outcome : Outcome → Type 0) (has_turn : List ℕ → Type 0) (she
       → IsCause is_outcome has_turn shelf out report
   unput_cause text save Failed report is outcome front rose = rw is (rose refl, (text, save, record { outcome = outcome; front = front }))
   unput_cause text save OutOfMemory report is outcome front rose = rw is (inr (text, save, record { outcome = outcome; front = front }))
-
--- no save failed where a text wasn't put whole
-pub unput_no_save : (unput : Unput) (report : Report) → report ≡ report_of_unput unput → IsSaveFault report → ⊥
-unput_no_save Failed report is fault = rw is at fault
-unput_no_save OutOfMemory report is fault = rw is at fault
-
--- it is a write fault, or memory was wanting where the text is put as it is made
-pub unput_either : (unput : Unput) (report : Report) (streams : Type 0) → report ≡ report_of_unput unput → (unput ≡ OutOfMemory → streams)
-    → (report ≡ write_fault → ⊥) → ((report ≡ out_of_memory) × streams → ⊥) → ⊥
-unput_either Failed report streams is streamed no_fault no_stream = no_fault is
-unput_either OutOfMemory report streams is streamed no_fault no_stream = no_stream (is, streamed refl)
 
 -- what holds of a result that isn't a failure
 pub on_match : {E P : Type 0} (Q : Type 0) (r : Result (Unit {0}) E) → ((e : E) → r ≡ Err e → ⊥) → MatchResult r (λ _. P) (λ _. Q) → P

@@ -1,6 +1,6 @@
 -- Words and files have one outcome, and always have one.
 use Rattle.std.proofs.Common.{◌≡◌, ◌⊎◌, inl, inr, List, ℕ, refl, subst, sym}
-use Rattle.tilt_app.proofs.Rows.{IsLawfulRow, rows_lawful, row_once, row_some, row_no_usage}
+use Rattle.tilt_app.proofs.Rows.{rows_lawful, row_once, row_some, row_no_usage}
 use Rattle.tilt_app.specs.Outcome.{IsOutcome, IsRowOutcome, no_command, does}
 use Rattle.tilt_app.specs.Table.{row_of}
 use Rattle.tilt_report.specs.Report.{Outcome, refused, usage}

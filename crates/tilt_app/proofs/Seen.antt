@@ -1,5 +1,5 @@
 -- How the watchers stand after the call.
-use Rattle.std.proofs.Common.{◌≡◌, List, [], ℕ, Bool, true, false, Option, None, Some, refl, sym, subst}
+use Rattle.std.proofs.Common.{◌≡◌, List, ℕ, Bool, Option, Some, refl, subst}
 use Rattle.tilt_app.specs.Cause.{IsUnanswered}
 use Rattle.tilt_app.specs.Change.{ShelfChange}
 use Rattle.tilt_app.specs.Show.{IsShow, SeeOfFault, WatchesRun}

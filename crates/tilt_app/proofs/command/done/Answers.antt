@@ -1,17 +1,16 @@
-use Rattle.std.proofs.Common.{◌≡◌, List, [], ℕ, None, Some, Ok, Err, length, refl, sym, subst}
+use Rattle.std.proofs.Common.{List, [], None, Some, length, refl, sym, subst}
 use Rattle.std.proofs.lemmas.Result.{err_from_is_err_and, IfErr-weaker}
 use Rattle.tilt_app.proofs.Complete.{no_save_fault, unanswered_cause}
-use Rattle.tilt_app.proofs.Finish.{continued, made_none, made_some, on_match, on_ok, on_ok_so, on_ok_then, unput_cause, unput_either, unput_no_save, unsaved_cause}
+use Rattle.tilt_app.proofs.Finish.{continued, made_none, made_some, on_match, on_ok, on_ok_so, on_ok_then, unput_cause, unsaved_cause}
 use Rattle.tilt_app.proofs.Seen.{unanswered_seen, unput_seen}
 use Rattle.tilt_app.proofs.Shown.{answer_fits, answer_made, answer_read, answer_rest, answer_shows, answer_undone, load_unanswered}
 use Rattle.tilt_app.specs.Continued.{Continues}
 use Rattle.tilt_app.specs.Change.{shelf_change, sink_change}
-use Rattle.tilt_app.specs.Outcome.{HasRowTurn, IsRowOutcome, IsRowRead}
+use Rattle.tilt_app.specs.Outcome.{HasRowTurn, IsRowOutcome}
 use Rattle.tilt_app.specs.Show.{IsShow}
 use Rattle.tilt_app.specs.Table.{row_of}
 use Rattle.tilt_load.specs.Does.{reading}
 use Rattle.tilt_printed.specs.Answer.{save_of}
-use Rattle.tilt_printed.specs.Left.{left_of}
 use Rattle.tilt_printed.specs.Show.{shown_of}
 use Rattle.tilt_printed.specs.declared.save.Save.{Save}
 use Rattle.tilt_report.specs.Report.{report_of}

@@ -1,4 +1,4 @@
-use Rattle.std.proofs.Common.{◌∙◌, List, refl, sym, subst, ap, inl, inr}
+use Rattle.std.proofs.Common.{◌∙◌, List, refl, sym, ap, inl, inr}
 use Rattle.tilt_app.proofs.Complete.{cause_of_usage, cause_of_words, only_memory, printed_or_refused, status_of_save, status_of_usage, status_of_write_fault, the_refusal, wider_cause}
 use Rattle.tilt_app.proofs.Once.{no_usage, outcome_once}
 use Rattle.tilt_app.proofs.Seen.{all_shown, part_shown}
