@@ -1,9 +1,10 @@
 -- A query is never refused for want of memory: that is no fault of its own.
-use Rattle.std.proofs.Common.{◌≡◌, ◌+◌, ◌++◌, ℕ, ℤ, Bool, true, false, not, if◌then◌else◌, List, [], ◌∷◌, Option, None, Some, Err}
+use Rattle.std.proofs.Common.{◌≡◌, ◌+◌, ◌++◌, ℕ, Bool, true, false, not, if◌then◌else◌, List, [], ◌∷◌, Option, None, Some, Err}
 use Rattle.std.specs.Option.{option_or}
 use Rattle.tilt_base.specs.declared.span.Span.{Span}
 use Rattle.tilt_core.specs.Core.{CoreParts}
 use Rattle.tilt_syntax.specs.Tree.{ExprTree, StatementTree, Input, Let, Emit}
+use Rattle.tilt_syntax.specs.declared.every.Every.{Every}
 use Rattle.tilt_types.specs.Checked.{checked, core_of, core_unless}
 use Rattle.tilt_types.specs.Types.{type_of}
 use Rattle.tilt_types.specs.WellFormed.{declared_by, domain_fault, expr_fault, fault_of, first_fault, has_windows, is_declared, is_domain, is_fitting, knows_names, name_fault}
@@ -32,7 +33,7 @@ expr_other n declared emitted e =
     (if_other (not (is_fitting emitted (type_of declared e))) (fault.TypeMismatch n) _ (λ e. cc e)
     (if_other (not (has_windows e)) (fault.BadWindow n) None (λ e. cc e) (λ e. cc e)))
 
-domain_other : (n : ℕ) (over : Option Span) (every : Option ℤ) → IsOther (domain_fault n over every)
+domain_other : (n : ℕ) (over : Option Span) (every : Option Every) → IsOther (domain_fault n over every)
 domain_other n over every = if_other (not (is_domain over every)) (fault.BadDomain n) None (λ e. cc e) (λ e. cc e)
 
 statement_other : (n : ℕ) (declared : List Declared) (s : StatementTree) → IsOther (fault_of n declared s)
