@@ -129,8 +129,10 @@ module _ (command : FileCommand) (file : List ℕ) (binds : List Binding) (shelf
       load_fault_weaker shelf.tells shelf.tells (RefusesSession shelf.files binds (command.within says) (command.inputs says)) IsRefused
       (HasSessionTurn shelf.tells shelf.files binds (command.within says) (command.inputs says)) IsTurn
       mid shelf.faults_after shelf.faults_before shelf.faults_after (λ t. t) (λ why t r. no_inputs says why (taken t) r)
-      (λ name rose turn. (rose_from shelf.faults_before mid shelf.faults_after low rose,
-      turn_of_input command shelf.tells shelf.files file binds says taken name turn)) report fault
+      (λ name rose turn. (
+        rose_from shelf.faults_before mid shelf.faults_after low rose,
+        turn_of_input command shelf.tells shelf.files file binds says taken name turn,
+      )) report fault
 
   -- the file and its inputs were read
   pub both_read : (says : command.Says) (mid : ℕ) → command.takes (shelf.files file) says

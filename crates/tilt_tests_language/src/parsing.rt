@@ -347,7 +347,13 @@ fn a_text_may_have_more_tokens_than_a_query(rt: HostRuntime) -> Result<(), Fail>
         ("input x;emit ", "-", 600, ";input y;", too_long(2)),
         ("input;emit ", "-", 600, ";", refused(1)),
         // A faulty place is told before all of them.
-        ("", ";", 600, "@", Some(TextFault::Lexical(LexFault::BadByte { at: 600 }))),
+        (
+            "",
+            ";",
+            600,
+            "@",
+            Some(TextFault::Lexical(LexFault::BadByte { at: 600 })),
+        ),
         (
             "emit ",
             "-",
@@ -373,9 +379,7 @@ fn a_text_may_have_more_tokens_than_a_query(rt: HostRuntime) -> Result<(), Fail>
 
 // That the statement is too long.
 fn too_long(statement: u32) -> Option<TextFault> {
-    Some(TextFault::Refused(SyntaxFault::StatementTooLong {
-        statement,
-    }))
+    Some(TextFault::Refused(SyntaxFault::StatementTooLong { statement }))
 }
 
 // That the statement isn't in the grammar.
