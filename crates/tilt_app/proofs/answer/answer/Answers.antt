@@ -40,7 +40,8 @@ pub resume_session-requires-clause-lent : goal.resume_session-requires-clause-le
 resume_session-requires-clause-lent g c =
     let within = rw c.in-ResumeUpto.is at c.requires.within in
     let fits = cut-fits c.in-ResumeUpto.upto c.in-ResumeUpto.upto within.0 (omega (arith, ints)) within.1 in
-    λ name turn. c.requires.lent [] name (rw c.in-ResumeUpto.is (rw (c.ending.ensures, c.deref-in-ResumeUpto.ensures, c.deref-in-ResumeUpto-2.ensures.value, c.deref-in-ResumeUpto-3.ensures, to_z-of_z w64 c.in-ResumeUpto.upto fits) at turn))
+    λ name turn. c.requires.lent [] name (rw c.in-ResumeUpto.is
+    (rw (c.ending.ensures, c.deref-in-ResumeUpto.ensures, c.deref-in-ResumeUpto-2.ensures.value, c.deref-in-ResumeUpto-3.ensures, to_z-of_z w64 c.in-ResumeUpto.upto fits) at turn))
 
 pub resume_session-requires-in-ResumeEnd-clause-lent : goal.resume_session-requires-in-ResumeEnd-clause-lent
 resume_session-requires-in-ResumeEnd-clause-lent g c =
@@ -50,14 +51,18 @@ pub returns-in-ResumeUpto-clause-does : goal.returns-in-ResumeUpto-clause-does
 returns-in-ResumeUpto-clause-does g c =
     let within = rw c.in-ResumeUpto.is at c.requires.within in
     let fits = cut-fits c.in-ResumeUpto.upto c.in-ResumeUpto.upto within.0 (omega (arith, ints)) within.1 in
-    let does = rw (c.ending.ensures, c.deref-in-ResumeUpto.ensures, c.deref-in-ResumeUpto-2.ensures.value, c.deref-in-ResumeUpto-3.ensures, to_z-of_z w64 c.in-ResumeUpto.upto fits) at c.resume_session.ensures.does in
+    let does =
+    rw (c.ending.ensures, c.deref-in-ResumeUpto.ensures, c.deref-in-ResumeUpto-2.ensures.value, c.deref-in-ResumeUpto-3.ensures, to_z-of_z w64 c.in-ResumeUpto.upto fits)
+    at c.resume_session.ensures.does in
     rw c.in-ResumeUpto.is (does_weaker _ _ _ _ _ _ _ (fits_saved ⊥ ⊥ (record { upto = c.in-ResumeUpto.upto; save = string_bytes c.in-ResumeUpto.save })) does)
 
 pub returns-in-ResumeUpto-clause-continues : goal.returns-in-ResumeUpto-clause-continues
 returns-in-ResumeUpto-clause-continues g c =
     let within = rw c.in-ResumeUpto.is at c.requires.within in
     let fits = cut-fits c.in-ResumeUpto.upto c.in-ResumeUpto.upto within.0 (omega (arith, ints)) within.1 in
-    λ told. rw c.in-ResumeUpto.is (rw (c.ending.ensures, c.deref-in-ResumeUpto.ensures, c.deref-in-ResumeUpto-2.ensures.value, c.deref-in-ResumeUpto-3.ensures, to_z-of_z w64 c.in-ResumeUpto.upto fits) at (c.resume_session.ensures.beyond told))
+    λ told. rw c.in-ResumeUpto.is
+    (rw (c.ending.ensures, c.deref-in-ResumeUpto.ensures, c.deref-in-ResumeUpto-2.ensures.value, c.deref-in-ResumeUpto-3.ensures, to_z-of_z w64 c.in-ResumeUpto.upto fits)
+    at (c.resume_session.ensures.beyond told))
 
 pub returns-in-ResumeEnd-clause-does : goal.returns-in-ResumeEnd-clause-does
 returns-in-ResumeEnd-clause-does g c =

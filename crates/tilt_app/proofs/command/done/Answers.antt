@@ -24,10 +24,13 @@ returns-in_err-answered-clause-cause g c =
     let tells = g.S.Shelf.tells in
     let files = g.S.Shelf.files c.args.shelf.now in
     let command = command_of c.args.command.now in
+    let shelf = shelf_change g.S.Shelf.tells g.S.Shelf.files g.S.Shelf.read_faults g.S.Shelf.save_faults c.args.shelf.now c.answer.new.shelf in
+    let out = sink_change g.O.Sink.tells g.O.Sink.written g.O.Sink.faults g.O.Sink.takes c.args.out.now c.args.out.now in
+    let read = reading g.S.Shelf.tells g.S.Shelf.files g.S.Shelf.read_faults g.S.Shelf.save_faults g.S.Shelf.takes g.S.Shelf.given c.args.shelf.now c.answer.new.shelf in
     let fault = c.in_err-answered.field-0.0 in
-    rw (p.1, p.2) (unanswered_cause (IsRowOutcome files _ (row_of command)) (λ name. (any : List Watch) × HasRowTurn tells files any (row_of command) name) (shelf_change g.S.Shelf.tells g.S.Shelf.files g.S.Shelf.read_faults g.S.Shelf.save_faults c.args.shelf.now c.answer.new.shelf) (sink_change g.O.Sink.tells g.O.Sink.written g.O.Sink.faults g.O.Sink.takes c.args.out.now c.args.out.now) (report_of fault) refl
-    (load_unanswered (IsRowOutcome files _ (row_of command)) (HasRowTurn tells files _ (row_of command)) (λ name. (any : List Watch) × HasRowTurn tells files any (row_of command) name) (shelf_change g.S.Shelf.tells g.S.Shelf.files g.S.Shelf.read_faults g.S.Shelf.save_faults c.args.shelf.now c.answer.new.shelf)
-    (λ name turn. (_, turn)) (report_of fault) (answer_undone command (reading g.S.Shelf.tells g.S.Shelf.files g.S.Shelf.read_faults g.S.Shelf.save_faults g.S.Shelf.takes g.S.Shelf.given c.args.shelf.now c.answer.new.shelf) fault c.in_err-answered.ensures.does _)))
+    rw (p.1, p.2) (unanswered_cause (IsRowOutcome files _ (row_of command)) (λ name. (any : List Watch) × HasRowTurn tells files any (row_of command) name) shelf out (report_of fault) refl
+    (load_unanswered (IsRowOutcome files _ (row_of command)) (HasRowTurn tells files _ (row_of command)) (λ name. (any : List Watch) × HasRowTurn tells files any (row_of command) name) shelf
+    (λ name turn. (_, turn)) (report_of fault) (answer_undone command read fault c.in_err-answered.ensures.does _)))
 
 pub returns-in_err-answered-clause-handed_on : goal.returns-in_err-answered-clause-handed_on
 returns-in_err-answered-clause-handed_on g c =
@@ -35,10 +38,13 @@ returns-in_err-answered-clause-handed_on g c =
     let tells = g.S.Shelf.tells in
     let files = g.S.Shelf.files c.args.shelf.now in
     let command = command_of c.args.command.now in
+    let shelf = shelf_change g.S.Shelf.tells g.S.Shelf.files g.S.Shelf.read_faults g.S.Shelf.save_faults c.args.shelf.now c.answer.new.shelf in
+    let out = sink_change g.O.Sink.tells g.O.Sink.written g.O.Sink.faults g.O.Sink.takes c.args.out.now c.args.out.now in
+    let read = reading g.S.Shelf.tells g.S.Shelf.files g.S.Shelf.read_faults g.S.Shelf.save_faults g.S.Shelf.takes g.S.Shelf.given c.args.shelf.now c.answer.new.shelf in
     let fault = c.in_err-answered.field-0.0 in
-    rw (p.1, p.2) (λ is. absurd (no_save_fault (IsRowOutcome files [] (row_of command)) (λ name. (any : List Watch) × HasRowTurn tells files any (row_of command) name) (shelf_change g.S.Shelf.tells g.S.Shelf.files g.S.Shelf.read_faults g.S.Shelf.save_faults c.args.shelf.now c.answer.new.shelf) (sink_change g.O.Sink.tells g.O.Sink.written g.O.Sink.faults g.O.Sink.takes c.args.out.now c.args.out.now) (report_of fault)
-    (load_unanswered (IsRowOutcome files [] (row_of command)) (HasRowTurn tells files [] (row_of command)) (λ name. (any : List Watch) × HasRowTurn tells files any (row_of command) name) (shelf_change g.S.Shelf.tells g.S.Shelf.files g.S.Shelf.read_faults g.S.Shelf.save_faults c.args.shelf.now c.answer.new.shelf)
-    (λ name turn. ([], turn)) (report_of fault) (answer_undone command (reading g.S.Shelf.tells g.S.Shelf.files g.S.Shelf.read_faults g.S.Shelf.save_faults g.S.Shelf.takes g.S.Shelf.given c.args.shelf.now c.answer.new.shelf) fault c.in_err-answered.ensures.does [])) is))
+    rw (p.1, p.2) (λ is. absurd (no_save_fault (IsRowOutcome files [] (row_of command)) (λ name. (any : List Watch) × HasRowTurn tells files any (row_of command) name) shelf out (report_of fault)
+    (load_unanswered (IsRowOutcome files [] (row_of command)) (HasRowTurn tells files [] (row_of command)) (λ name. (any : List Watch) × HasRowTurn tells files any (row_of command) name) shelf
+    (λ name turn. ([], turn)) (report_of fault) (answer_undone command read fault c.in_err-answered.ensures.does [])) is))
 
 pub returns-in_err-answered-clause-seen : goal.returns-in_err-answered-clause-seen
 returns-in_err-answered-clause-seen g c =
@@ -46,10 +52,13 @@ returns-in_err-answered-clause-seen g c =
     let tells = g.S.Shelf.tells in
     let files = g.S.Shelf.files c.args.shelf.now in
     let command = command_of c.args.command.now in
+    let shelf = shelf_change g.S.Shelf.tells g.S.Shelf.files g.S.Shelf.read_faults g.S.Shelf.save_faults c.args.shelf.now c.answer.new.shelf in
+    let read = reading g.S.Shelf.tells g.S.Shelf.files g.S.Shelf.read_faults g.S.Shelf.save_faults g.S.Shelf.takes g.S.Shelf.given c.args.shelf.now c.answer.new.shelf in
     let fault = c.in_err-answered.field-0.0 in
-    rw (p.1, p.2) (unanswered_seen (IsRowOutcome files [] (row_of command)) (λ name. (any : List Watch) × HasRowTurn tells files any (row_of command) name) (shelf_change g.S.Shelf.tells g.S.Shelf.files g.S.Shelf.read_faults g.S.Shelf.save_faults c.args.shelf.now c.answer.new.shelf) _ (IsShow tells files command) (report_of fault) refl
-    (load_unanswered (IsRowOutcome files [] (row_of command)) (HasRowTurn tells files [] (row_of command)) (λ name. (any : List Watch) × HasRowTurn tells files any (row_of command) name) (shelf_change g.S.Shelf.tells g.S.Shelf.files g.S.Shelf.read_faults g.S.Shelf.save_faults c.args.shelf.now c.answer.new.shelf)
-    (λ name turn. ([], turn)) (report_of fault) (answer_undone command (reading g.S.Shelf.tells g.S.Shelf.files g.S.Shelf.read_faults g.S.Shelf.save_faults g.S.Shelf.takes g.S.Shelf.given c.args.shelf.now c.answer.new.shelf) fault c.in_err-answered.ensures.does [])))
+    rw (p.1, p.2) (unanswered_seen (IsRowOutcome files [] (row_of command)) (λ name. (any : List Watch) × HasRowTurn tells files any (row_of command) name)
+    shelf _ (IsShow tells files command) (report_of fault) refl
+    (load_unanswered (IsRowOutcome files [] (row_of command)) (HasRowTurn tells files [] (row_of command)) (λ name. (any : List Watch) × HasRowTurn tells files any (row_of command) name) shelf
+    (λ name turn. ([], turn)) (report_of fault) (answer_undone command read fault c.in_err-answered.ensures.does [])))
 
 pub returns-in_err-answered-clause-saving : goal.returns-in_err-answered-clause-saving
 returns-in_err-answered-clause-saving g c =
@@ -57,39 +66,47 @@ returns-in_err-answered-clause-saving g c =
     let tells = g.S.Shelf.tells in
     let files = g.S.Shelf.files c.args.shelf.now in
     let command = command_of c.args.command.now in
+    let shelf = shelf_change g.S.Shelf.tells g.S.Shelf.files g.S.Shelf.read_faults g.S.Shelf.save_faults c.args.shelf.now c.answer.new.shelf in
+    let out = sink_change g.O.Sink.tells g.O.Sink.written g.O.Sink.faults g.O.Sink.takes c.args.out.now c.args.out.now in
+    let read = reading g.S.Shelf.tells g.S.Shelf.files g.S.Shelf.read_faults g.S.Shelf.save_faults g.S.Shelf.takes g.S.Shelf.given c.args.shelf.now c.answer.new.shelf in
     let fault = c.in_err-answered.field-0.0 in
-    rw (p.1, p.2) (λ is. absurd (no_save_fault (IsRowOutcome files [] (row_of command)) (λ name. (any : List Watch) × HasRowTurn tells files any (row_of command) name) (shelf_change g.S.Shelf.tells g.S.Shelf.files g.S.Shelf.read_faults g.S.Shelf.save_faults c.args.shelf.now c.answer.new.shelf) (sink_change g.O.Sink.tells g.O.Sink.written g.O.Sink.faults g.O.Sink.takes c.args.out.now c.args.out.now) (report_of fault)
-    (load_unanswered (IsRowOutcome files [] (row_of command)) (HasRowTurn tells files [] (row_of command)) (λ name. (any : List Watch) × HasRowTurn tells files any (row_of command) name) (shelf_change g.S.Shelf.tells g.S.Shelf.files g.S.Shelf.read_faults g.S.Shelf.save_faults c.args.shelf.now c.answer.new.shelf)
-    (λ name turn. ([], turn)) (report_of fault) (answer_undone command (reading g.S.Shelf.tells g.S.Shelf.files g.S.Shelf.read_faults g.S.Shelf.save_faults g.S.Shelf.takes g.S.Shelf.given c.args.shelf.now c.answer.new.shelf) fault c.in_err-answered.ensures.does [])) is))
+    rw (p.1, p.2) (λ is. absurd (no_save_fault (IsRowOutcome files [] (row_of command)) (λ name. (any : List Watch) × HasRowTurn tells files any (row_of command) name) shelf out (report_of fault)
+    (load_unanswered (IsRowOutcome files [] (row_of command)) (HasRowTurn tells files [] (row_of command)) (λ name. (any : List Watch) × HasRowTurn tells files any (row_of command) name) shelf
+    (λ name turn. ([], turn)) (report_of fault) (answer_undone command read fault c.in_err-answered.ensures.does [])) is))
 
 pub put-requires-clause-room : goal.put-requires-clause-room
 put-requires-clause-room g c =
     let tells = g.S.Shelf.tells in
     let files = g.S.Shelf.files c.args.shelf.now in
     let command = command_of c.args.command.now in
+    let read = reading g.S.Shelf.tells g.S.Shelf.files g.S.Shelf.read_faults g.S.Shelf.save_faults g.S.Shelf.takes g.S.Shelf.given c.args.shelf.now c.answer.new.shelf in
     let answered = c.in_ok-answered.answered in
     let does = c.in_ok-answered.ensures.does in
-    c.requires.room _ (save_of answered.save) (λ t. answer_made command (reading g.S.Shelf.tells g.S.Shelf.files g.S.Shelf.read_faults g.S.Shelf.save_faults g.S.Shelf.takes g.S.Shelf.given c.args.shelf.now c.answer.new.shelf) answered does t _)
+    c.requires.room _ (save_of answered.save) (λ t. answer_made command read answered does t _)
 
 pub returns-in-Err-clause-cause : goal.returns-in-Err-clause-cause
 returns-in-Err-clause-cause g c =
     let tells = g.S.Shelf.tells in
     let files = g.S.Shelf.files c.args.shelf.now in
     let command = command_of c.args.command.now in
+    let shelf = shelf_change g.S.Shelf.tells g.S.Shelf.files g.S.Shelf.read_faults g.S.Shelf.save_faults c.args.shelf.now c.answer.new.shelf in
+    let out = sink_change g.O.Sink.tells g.O.Sink.written g.O.Sink.faults g.O.Sink.takes c.args.out.now c.put.new.out in
+    let read = reading g.S.Shelf.tells g.S.Shelf.files g.S.Shelf.read_faults g.S.Shelf.save_faults g.S.Shelf.takes g.S.Shelf.given c.args.shelf.now c.answer.new.shelf in
     let answered = c.in_ok-answered.answered in
     let does = c.in_ok-answered.ensures.does in
-    unput_cause (IsRowOutcome files _ (row_of command)) (λ name. (any : List Watch) × HasRowTurn tells files any (row_of command) name) (shelf_change g.S.Shelf.tells g.S.Shelf.files g.S.Shelf.read_faults g.S.Shelf.save_faults c.args.shelf.now c.answer.new.shelf) (sink_change g.O.Sink.tells g.O.Sink.written g.O.Sink.faults g.O.Sink.takes c.args.out.now c.put.new.out) _ (save_of answered.save) c.in-Err.unput
-    (report_of c.fault.result) c.fault.ensures (λ t. answer_made command (reading g.S.Shelf.tells g.S.Shelf.files g.S.Shelf.read_faults g.S.Shelf.save_faults g.S.Shelf.takes g.S.Shelf.given c.args.shelf.now c.answer.new.shelf) answered does t _) c.in-Err.ensures.prints.front c.in-Err.ensures.prints.rose
+    unput_cause (IsRowOutcome files _ (row_of command)) (λ name. (any : List Watch) × HasRowTurn tells files any (row_of command) name) shelf out _ (save_of answered.save) c.in-Err.unput
+    (report_of c.fault.result) c.fault.ensures (λ t. answer_made command read answered does t _) c.in-Err.ensures.prints.front c.in-Err.ensures.prints.rose
 
 pub returns-in-Err-clause-seen : goal.returns-in-Err-clause-seen
 returns-in-Err-clause-seen g c =
     let tells = g.S.Shelf.tells in
     let files = g.S.Shelf.files c.args.shelf.now in
     let command = command_of c.args.command.now in
+    let read = reading g.S.Shelf.tells g.S.Shelf.files g.S.Shelf.read_faults g.S.Shelf.save_faults g.S.Shelf.takes g.S.Shelf.given c.args.shelf.now c.answer.new.shelf in
     let answered = c.in_ok-answered.answered in
     let does = c.in_ok-answered.ensures.does in
     unput_seen _ (IsShow tells files command) answered.printed c.in-Err.unput (report_of c.fault.result) c.fault.ensures
-    (answer_shows tells files command answered (answer_fits command (reading g.S.Shelf.tells g.S.Shelf.files g.S.Shelf.read_faults g.S.Shelf.save_faults g.S.Shelf.takes g.S.Shelf.given c.args.shelf.now c.answer.new.shelf) answered does) (answer_made command (reading g.S.Shelf.tells g.S.Shelf.files g.S.Shelf.read_faults g.S.Shelf.save_faults g.S.Shelf.takes g.S.Shelf.given c.args.shelf.now c.answer.new.shelf) answered does))
+    (answer_shows tells files command answered (answer_fits command read answered does) (answer_made command read answered does))
     c.in-Err.ensures.streamed c.in-Err.ensures.seen
 
 pub save-requires : goal.save-requires
@@ -97,12 +114,13 @@ save-requires g c =
     let tells = g.S.Shelf.tells in
     let files = g.S.Shelf.files c.args.shelf.now in
     let command = command_of c.args.command.now in
+    let read = reading g.S.Shelf.tells g.S.Shelf.files g.S.Shelf.read_faults g.S.Shelf.save_faults g.S.Shelf.takes g.S.Shelf.given c.args.shelf.now c.answer.new.shelf in
     let answered = c.in_ok-answered.answered in
     let does = c.in_ok-answered.ensures.does in
-    let rest = answer_rest command (reading g.S.Shelf.tells g.S.Shelf.files g.S.Shelf.read_faults g.S.Shelf.save_faults g.S.Shelf.takes g.S.Shelf.given c.args.shelf.now c.answer.new.shelf) answered does in
+    let rest = answer_rest command read answered does in
     let bytes = c.in-Some.bytes in
     let taken = (rest.same_takes bytes.name.now (length bytes.bytes.items)).0 (c.requires.saves _ (record { name = bytes.name.now; bytes = bytes.bytes.items })
-    (λ t. made_some (IsRowOutcome files _ (row_of command)) _ answered.save bytes c.in-Some.is (answer_made command (reading g.S.Shelf.tells g.S.Shelf.files g.S.Shelf.read_faults g.S.Shelf.save_faults g.S.Shelf.takes g.S.Shelf.given c.args.shelf.now c.answer.new.shelf) answered does t _))) in
+    (λ t. made_some (IsRowOutcome files _ (row_of command)) _ answered.save bytes c.in-Some.is (answer_made command read answered does t _))) in
     subst (λ (s : Save). g.S.Shelf.takes c.answer.new.shelf s.name.now (length s.bytes.items)) (sym c.in-Some.bytes-is) taken
 
 pub returns-in-None-clause-done : goal.returns-in-None-clause-done
@@ -110,14 +128,15 @@ returns-in-None-clause-done g c =
     let tells = g.S.Shelf.tells in
     let files = g.S.Shelf.files c.args.shelf.now in
     let command = command_of c.args.command.now in
+    let read = reading g.S.Shelf.tells g.S.Shelf.files g.S.Shelf.read_faults g.S.Shelf.save_faults g.S.Shelf.takes g.S.Shelf.given c.args.shelf.now c.answer.new.shelf in
     let answered = c.in_ok-answered.answered in
     let does = c.in_ok-answered.ensures.does in
     let fine = c.in_default.not-Err in
-    let rest = answer_rest command (reading g.S.Shelf.tells g.S.Shelf.files g.S.Shelf.read_faults g.S.Shelf.save_faults g.S.Shelf.takes g.S.Shelf.given c.args.shelf.now c.answer.new.shelf) answered does in
+    let rest = answer_rest command read answered does in
     record {
       text = _;
       save = None;
-      outcome = λ t. made_none (IsRowOutcome files _ (row_of command)) _ answered.save c.in-None.is (answer_made command (reading g.S.Shelf.tells g.S.Shelf.files g.S.Shelf.read_faults g.S.Shelf.save_faults g.S.Shelf.takes g.S.Shelf.given c.args.shelf.now c.answer.new.shelf) answered does t _);
+      outcome = λ t. made_none (IsRowOutcome files _ (row_of command)) _ answered.save c.in-None.is (answer_made command read answered does t _);
       written = λ t. on_ok c.put.result fine (c.put.ensures.prints.whole t);
       saved = λ t. rest.same_files;
       room = on_ok c.put.result fine c.put.ensures.prints.room;
@@ -128,11 +147,14 @@ returns-in-None-clause-continued g c =
     let tells = g.S.Shelf.tells in
     let files = g.S.Shelf.files c.args.shelf.now in
     let command = command_of c.args.command.now in
+    let shelf = shelf_change g.S.Shelf.tells g.S.Shelf.files g.S.Shelf.read_faults g.S.Shelf.save_faults c.args.shelf.now c.answer.new.shelf in
+    let out = sink_change g.O.Sink.tells g.O.Sink.written g.O.Sink.faults g.O.Sink.takes c.args.out.now c.put.new.out in
+    let read = reading g.S.Shelf.tells g.S.Shelf.files g.S.Shelf.read_faults g.S.Shelf.save_faults g.S.Shelf.takes g.S.Shelf.given c.args.shelf.now c.answer.new.shelf in
     let answered = c.in_ok-answered.answered in
     let does = c.in_ok-answered.ensures.does in
     let fine = c.in_default.not-Err in
-    let rest = answer_rest command (reading g.S.Shelf.tells g.S.Shelf.files g.S.Shelf.read_faults g.S.Shelf.save_faults g.S.Shelf.takes g.S.Shelf.given c.args.shelf.now c.answer.new.shelf) answered does in
-    λ told. continued command (shelf_change g.S.Shelf.tells g.S.Shelf.files g.S.Shelf.read_faults g.S.Shelf.save_faults c.args.shelf.now c.answer.new.shelf) (sink_change g.O.Sink.tells g.O.Sink.written g.O.Sink.faults g.O.Sink.takes c.args.out.now c.put.new.out) _ None
+    let rest = answer_rest command read answered does in
+    λ told. continued command shelf out _ None
     (made_none (Continues files command) _ answered.save c.in-None.is (c.in_ok-answered.ensures.continues told _)) (λ t. on_ok c.put.result fine (c.put.ensures.prints.whole t)) (λ t. rest.same_files)
 
 pub returns-in-None-clause-seen : goal.returns-in-None-clause-seen
@@ -140,35 +162,41 @@ returns-in-None-clause-seen g c =
     let tells = g.S.Shelf.tells in
     let files = g.S.Shelf.files c.args.shelf.now in
     let command = command_of c.args.command.now in
+    let read = reading g.S.Shelf.tells g.S.Shelf.files g.S.Shelf.read_faults g.S.Shelf.save_faults g.S.Shelf.takes g.S.Shelf.given c.args.shelf.now c.answer.new.shelf in
     let answered = c.in_ok-answered.answered in
     let does = c.in_ok-answered.ensures.does in
     let fine = c.in_default.not-Err in
-    let rest = answer_rest command (reading g.S.Shelf.tells g.S.Shelf.files g.S.Shelf.read_faults g.S.Shelf.save_faults g.S.Shelf.takes g.S.Shelf.given c.args.shelf.now c.answer.new.shelf) answered does in
-    (shown_of answered.printed, (answer_shows tells files command answered (answer_fits command (reading g.S.Shelf.tells g.S.Shelf.files g.S.Shelf.read_faults g.S.Shelf.save_faults g.S.Shelf.takes g.S.Shelf.given c.args.shelf.now c.answer.new.shelf) answered does) (answer_made command (reading g.S.Shelf.tells g.S.Shelf.files g.S.Shelf.read_faults g.S.Shelf.save_faults g.S.Shelf.takes g.S.Shelf.given c.args.shelf.now c.answer.new.shelf) answered does)), on_match _ c.put.result fine c.put.ensures.seen)
+    let rest = answer_rest command read answered does in (
+      shown_of answered.printed,
+      (answer_shows tells files command answered (answer_fits command read answered does) (answer_made command read answered does)),
+      on_match _ c.put.result fine c.put.ensures.seen,
+    )
 
 pub returns-in-None-clause-read : goal.returns-in-None-clause-read
 returns-in-None-clause-read g c =
     let tells = g.S.Shelf.tells in
     let files = g.S.Shelf.files c.args.shelf.now in
     let command = command_of c.args.command.now in
+    let read = reading g.S.Shelf.tells g.S.Shelf.files g.S.Shelf.read_faults g.S.Shelf.save_faults g.S.Shelf.takes g.S.Shelf.given c.args.shelf.now c.answer.new.shelf in
     let answered = c.in_ok-answered.answered in
     let does = c.in_ok-answered.ensures.does in
-    λ told. answer_read command (reading g.S.Shelf.tells g.S.Shelf.files g.S.Shelf.read_faults g.S.Shelf.save_faults g.S.Shelf.takes g.S.Shelf.given c.args.shelf.now c.answer.new.shelf) answered does told
+    λ told. answer_read command read answered does told
 
 pub returns-in-Some-clause-done : goal.returns-in-Some-clause-done
 returns-in-Some-clause-done g c =
     let tells = g.S.Shelf.tells in
     let files = g.S.Shelf.files c.args.shelf.now in
     let command = command_of c.args.command.now in
+    let read = reading g.S.Shelf.tells g.S.Shelf.files g.S.Shelf.read_faults g.S.Shelf.save_faults g.S.Shelf.takes g.S.Shelf.given c.args.shelf.now c.answer.new.shelf in
     let answered = c.in_ok-answered.answered in
     let does = c.in_ok-answered.ensures.does in
     let fine = c.in_default.not-Err in
-    let rest = answer_rest command (reading g.S.Shelf.tells g.S.Shelf.files g.S.Shelf.read_faults g.S.Shelf.save_faults g.S.Shelf.takes g.S.Shelf.given c.args.shelf.now c.answer.new.shelf) answered does in
+    let rest = answer_rest command read answered does in
     let bytes = c.in-Some.bytes in
     on_ok_then c.save.result (λ saved. record {
       text = _;
       save = Some (record { name = bytes.name.now; bytes = bytes.bytes.items });
-      outcome = (λ t. made_some (IsRowOutcome files _ (row_of command)) _ answered.save bytes c.in-Some.is (answer_made command (reading g.S.Shelf.tells g.S.Shelf.files g.S.Shelf.read_faults g.S.Shelf.save_faults g.S.Shelf.takes g.S.Shelf.given c.args.shelf.now c.answer.new.shelf) answered does t _));
+      outcome = (λ t. made_some (IsRowOutcome files _ (row_of command)) _ answered.save bytes c.in-Some.is (answer_made command read answered does t _));
       written = λ t. on_ok c.put.result fine (c.put.ensures.prints.whole t);
       saved = saved;
       room = on_ok c.put.result fine c.put.ensures.prints.room;
@@ -179,14 +207,18 @@ returns-in-Some-clause-cause g c =
     let tells = g.S.Shelf.tells in
     let files = g.S.Shelf.files c.args.shelf.now in
     let command = command_of c.args.command.now in
+    let shelf = shelf_change g.S.Shelf.tells g.S.Shelf.files g.S.Shelf.read_faults g.S.Shelf.save_faults c.args.shelf.now c.save.new.shelf in
+    let out = sink_change g.O.Sink.tells g.O.Sink.written g.O.Sink.faults g.O.Sink.takes c.args.out.now c.put.new.out in
+    let read = reading g.S.Shelf.tells g.S.Shelf.files g.S.Shelf.read_faults g.S.Shelf.save_faults g.S.Shelf.takes g.S.Shelf.given c.args.shelf.now c.answer.new.shelf in
     let answered = c.in_ok-answered.answered in
     let does = c.in_ok-answered.ensures.does in
     let fine = c.in_default.not-Err in
-    let rest = answer_rest command (reading g.S.Shelf.tells g.S.Shelf.files g.S.Shelf.read_faults g.S.Shelf.save_faults g.S.Shelf.takes g.S.Shelf.given c.args.shelf.now c.answer.new.shelf) answered does in
+    let rest = answer_rest command read answered does in
     let bytes = c.in-Some.bytes in
-    IfErr-weaker c.save.result _ _ (λ fault is. unsaved_cause (IsRowOutcome files _ (row_of command)) (λ name. (any : List Watch) × HasRowTurn tells files any (row_of command) name) (shelf_change g.S.Shelf.tells g.S.Shelf.files g.S.Shelf.read_faults g.S.Shelf.save_faults c.args.shelf.now c.save.new.shelf) (sink_change g.O.Sink.tells g.O.Sink.written g.O.Sink.faults g.O.Sink.takes c.args.out.now c.put.new.out) _ bytes.name.now bytes.bytes.items
+    IfErr-weaker c.save.result _ _ (λ fault is. unsaved_cause (IsRowOutcome files _ (row_of command)) (λ name. (any : List Watch) × HasRowTurn tells files any (row_of command) name)
+    shelf out _ bytes.name.now bytes.bytes.items
     (report_of fault) is.0 is.1
-    (λ t. made_some (IsRowOutcome files _ (row_of command)) _ answered.save bytes c.in-Some.is (answer_made command (reading g.S.Shelf.tells g.S.Shelf.files g.S.Shelf.read_faults g.S.Shelf.save_faults g.S.Shelf.takes g.S.Shelf.given c.args.shelf.now c.answer.new.shelf) answered does t _))
+    (λ t. made_some (IsRowOutcome files _ (row_of command)) _ answered.save bytes c.in-Some.is (answer_made command read answered does t _))
     (λ t. on_ok c.put.result fine (c.put.ensures.prints.whole t)) is.2)
     (rw (c.in-Some.bytes-is, rest.same_files, rest.same_save_faults) at c.save.ensures.fault)
 
@@ -195,12 +227,15 @@ returns-in-Some-clause-continued g c =
     let tells = g.S.Shelf.tells in
     let files = g.S.Shelf.files c.args.shelf.now in
     let command = command_of c.args.command.now in
+    let shelf = shelf_change g.S.Shelf.tells g.S.Shelf.files g.S.Shelf.read_faults g.S.Shelf.save_faults c.args.shelf.now c.save.new.shelf in
+    let out = sink_change g.O.Sink.tells g.O.Sink.written g.O.Sink.faults g.O.Sink.takes c.args.out.now c.put.new.out in
+    let read = reading g.S.Shelf.tells g.S.Shelf.files g.S.Shelf.read_faults g.S.Shelf.save_faults g.S.Shelf.takes g.S.Shelf.given c.args.shelf.now c.answer.new.shelf in
     let answered = c.in_ok-answered.answered in
     let does = c.in_ok-answered.ensures.does in
     let fine = c.in_default.not-Err in
-    let rest = answer_rest command (reading g.S.Shelf.tells g.S.Shelf.files g.S.Shelf.read_faults g.S.Shelf.save_faults g.S.Shelf.takes g.S.Shelf.given c.args.shelf.now c.answer.new.shelf) answered does in
+    let rest = answer_rest command read answered does in
     let bytes = c.in-Some.bytes in
-    λ told. on_ok_then c.save.result (λ saved. continued command (shelf_change g.S.Shelf.tells g.S.Shelf.files g.S.Shelf.read_faults g.S.Shelf.save_faults c.args.shelf.now c.save.new.shelf) (sink_change g.O.Sink.tells g.O.Sink.written g.O.Sink.faults g.O.Sink.takes c.args.out.now c.put.new.out) _ (Some (record { name = bytes.name.now; bytes = bytes.bytes.items }))
+    λ told. on_ok_then c.save.result (λ saved. continued command shelf out _ (Some (record { name = bytes.name.now; bytes = bytes.bytes.items }))
     (made_some (Continues files command) _ answered.save bytes c.in-Some.is (c.in_ok-answered.ensures.continues told _))
     (λ t. on_ok c.put.result fine (c.put.ensures.prints.whole t)) saved)
     (rw (c.in-Some.bytes-is, rest.same_files) at c.save.ensures.saved)
@@ -210,8 +245,9 @@ returns-in-Some-clause-read g c =
     let tells = g.S.Shelf.tells in
     let files = g.S.Shelf.files c.args.shelf.now in
     let command = command_of c.args.command.now in
+    let read = reading g.S.Shelf.tells g.S.Shelf.files g.S.Shelf.read_faults g.S.Shelf.save_faults g.S.Shelf.takes g.S.Shelf.given c.args.shelf.now c.answer.new.shelf in
     let answered = c.in_ok-answered.answered in
     let does = c.in_ok-answered.ensures.does in
     let fine = c.in_default.not-Err in
-    let rest = answer_rest command (reading g.S.Shelf.tells g.S.Shelf.files g.S.Shelf.read_faults g.S.Shelf.save_faults g.S.Shelf.takes g.S.Shelf.given c.args.shelf.now c.answer.new.shelf) answered does in
-    λ told. on_ok_so c.save.result (rw c.save.ensures.counts.2 (answer_read command (reading g.S.Shelf.tells g.S.Shelf.files g.S.Shelf.read_faults g.S.Shelf.save_faults g.S.Shelf.takes g.S.Shelf.given c.args.shelf.now c.answer.new.shelf) answered does told))
+    let rest = answer_rest command read answered does in
+    λ told. on_ok_so c.save.result (rw c.save.ensures.counts.2 (answer_read command read answered does told))

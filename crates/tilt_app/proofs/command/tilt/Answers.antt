@@ -54,10 +54,13 @@ returns-in-Ok-clause-reported g c =
     let words = texts c.args.words.now in
     let files = g.S.Shelf.files c.args.shelf.now in
     let command = command_of c.in-Ok.command in
-    let tells = g.S.Shelf.tells in (
+    let tells = g.S.Shelf.tells in
+    let shelf = shelf_change g.S.Shelf.tells g.S.Shelf.files g.S.Shelf.read_faults g.S.Shelf.save_faults c.args.shelf.now c.done.new.shelf in
+    let out = sink_change g.O.Sink.tells g.O.Sink.written g.O.Sink.faults g.O.Sink.takes c.args.out.now c.done.new.out in (
       (report_of c.in-Err-done.fault),
       c.tell.ensures.status,
-      (wider_cause (IsRowOutcome files _ (row_of command)) (IsOutcome words files _) (λ name. (any : List Watch) × HasRowTurn tells files any (row_of command) name) (HasTurn tells words files) (shelf_change g.S.Shelf.tells g.S.Shelf.files g.S.Shelf.read_faults g.S.Shelf.save_faults c.args.shelf.now c.done.new.shelf) (sink_change g.O.Sink.tells g.O.Sink.written g.O.Sink.faults g.O.Sink.takes c.args.out.now c.done.new.out)
+      (wider_cause (IsRowOutcome files _ (row_of command)) (IsOutcome words files _) (λ name. (any : List Watch) × HasRowTurn tells files any (row_of command) name) (HasTurn tells words files)
+          shelf out
           (λ o out. does command c.in-Ok.ensures.command out) (λ name turn. (command, c.in-Ok.ensures.command, turn)) (report_of c.in-Err-done.fault) c.in-Err-done.ensures.cause),
       c.tell.ensures.line,
     )
@@ -77,9 +80,12 @@ returns-in-Ok-clause-usage g c =
     let files = g.S.Shelf.files c.args.shelf.now in
     let command = command_of c.in-Ok.command in
     let tells = g.S.Shelf.tells in
+    let shelf = shelf_change g.S.Shelf.tells g.S.Shelf.files g.S.Shelf.read_faults g.S.Shelf.save_faults c.args.shelf.now c.done.new.shelf in
+    let out = sink_change g.O.Sink.tells g.O.Sink.written g.O.Sink.faults g.O.Sink.takes c.args.out.now c.done.new.out in
     let report = status_of_usage (report_of c.in-Err-done.fault) (sym c.tell.ensures.status ∙ two) in
     no_usage words files _ command c.in-Ok.ensures.command
-    (cause_of_usage (IsRowOutcome files _ (row_of command)) (λ name. (any : List Watch) × HasRowTurn tells files any (row_of command) name) (shelf_change g.S.Shelf.tells g.S.Shelf.files g.S.Shelf.read_faults g.S.Shelf.save_faults c.args.shelf.now c.done.new.shelf) (sink_change g.O.Sink.tells g.O.Sink.written g.O.Sink.faults g.O.Sink.takes c.args.out.now c.done.new.out) (report_of c.in-Err-done.fault) report c.in-Err-done.ensures.cause)
+    (cause_of_usage (IsRowOutcome files _ (row_of command)) (λ name. (any : List Watch) × HasRowTurn tells files any (row_of command) name)
+    shelf out (report_of c.in-Err-done.fault) report c.in-Err-done.ensures.cause)
 
 pub returns-in-Ok-clause-complete : goal.returns-in-Ok-clause-complete
 returns-in-Ok-clause-complete g c =
@@ -88,9 +94,12 @@ returns-in-Ok-clause-complete g c =
     let files = g.S.Shelf.files c.args.shelf.now in
     let command = command_of c.in-Ok.command in
     let tells = g.S.Shelf.tells in
-    let cause = wider_cause (IsRowOutcome files _ (row_of command)) (IsOutcome words files _) (λ name. (any : List Watch) × HasRowTurn tells files any (row_of command) name) (HasTurn tells words files) (shelf_change g.S.Shelf.tells g.S.Shelf.files g.S.Shelf.read_faults g.S.Shelf.save_faults c.args.shelf.now c.done.new.shelf) (sink_change g.O.Sink.tells g.O.Sink.written g.O.Sink.faults g.O.Sink.takes c.args.out.now c.done.new.out)
+    let shelf = shelf_change g.S.Shelf.tells g.S.Shelf.files g.S.Shelf.read_faults g.S.Shelf.save_faults c.args.shelf.now c.done.new.shelf in
+    let out = sink_change g.O.Sink.tells g.O.Sink.written g.O.Sink.faults g.O.Sink.takes c.args.out.now c.done.new.out in
+    let cause = wider_cause (IsRowOutcome files _ (row_of command)) (IsOutcome words files _) (λ name. (any : List Watch) × HasRowTurn tells files any (row_of command) name)
+    (HasTurn tells words files) shelf out
     (λ o out. does command c.in-Ok.ensures.command out) (λ name turn. (command, c.in-Ok.ensures.command, turn)) (report_of c.in-Err-done.fault) c.in-Err-done.ensures.cause in
-    let memory = only_memory (IsOutcome words files _) (outcome_once words files _) (HasTurn tells words files) (shelf_change g.S.Shelf.tells g.S.Shelf.files g.S.Shelf.read_faults g.S.Shelf.save_faults c.args.shelf.now c.done.new.shelf) (sink_change g.O.Sink.tells g.O.Sink.written g.O.Sink.faults g.O.Sink.takes c.args.out.now c.done.new.out) told no_read
+    let memory = only_memory (IsOutcome words files _) (outcome_once words files _) (HasTurn tells words files) shelf out told no_read
     (report_of c.in-Err-done.fault) text save cause outcome no_save no_put in
     inr (c.tell.ensures.status ∙ ap status_of memory)
 
@@ -101,9 +110,12 @@ returns-in-Ok-clause-complete_refusal g c =
     let files = g.S.Shelf.files c.args.shelf.now in
     let command = command_of c.in-Ok.command in
     let tells = g.S.Shelf.tells in
-    let cause = wider_cause (IsRowOutcome files _ (row_of command)) (IsOutcome words files _) (λ name. (any : List Watch) × HasRowTurn tells files any (row_of command) name) (HasTurn tells words files) (shelf_change g.S.Shelf.tells g.S.Shelf.files g.S.Shelf.read_faults g.S.Shelf.save_faults c.args.shelf.now c.done.new.shelf) (sink_change g.O.Sink.tells g.O.Sink.written g.O.Sink.faults g.O.Sink.takes c.args.out.now c.done.new.out)
+    let shelf = shelf_change g.S.Shelf.tells g.S.Shelf.files g.S.Shelf.read_faults g.S.Shelf.save_faults c.args.shelf.now c.done.new.shelf in
+    let out = sink_change g.O.Sink.tells g.O.Sink.written g.O.Sink.faults g.O.Sink.takes c.args.out.now c.done.new.out in
+    let cause = wider_cause (IsRowOutcome files _ (row_of command)) (IsOutcome words files _) (λ name. (any : List Watch) × HasRowTurn tells files any (row_of command) name)
+    (HasTurn tells words files) shelf out
     (λ o out. does command c.in-Ok.ensures.command out) (λ name turn. (command, c.in-Ok.ensures.command, turn)) (report_of c.in-Err-done.fault) c.in-Err-done.ensures.cause in
-    elim (the_refusal (IsOutcome words files _) (outcome_once words files _) (HasTurn tells words files) (shelf_change g.S.Shelf.tells g.S.Shelf.files g.S.Shelf.read_faults g.S.Shelf.save_faults c.args.shelf.now c.done.new.shelf) (sink_change g.O.Sink.tells g.O.Sink.written g.O.Sink.faults g.O.Sink.takes c.args.out.now c.done.new.out) told no_read
+    elim (the_refusal (IsOutcome words files _) (outcome_once words files _) (HasTurn tells words files) shelf out told no_read
     (report_of c.in-Err-done.fault) report cause outcome) [
       | inl same ↦ inl (c.tell.ensures.status ∙ ap status_of same)
       | inr memory ↦ inr (c.tell.ensures.status ∙ ap status_of memory)
