@@ -1,0 +1,52 @@
+"""What the tests share: the repository, the built program, and a call of a command."""
+from __future__ import annotations
+
+import csv
+import os
+import pathlib
+import subprocess
+import sys
+from typing import Callable
+
+import pytest
+
+PYTHON = pathlib.Path(__file__).resolve().parent.parent
+TOP = PYTHON.parent
+PROGRAM = pathlib.Path(os.environ.get("TILT", TOP / "crates" / "tilt" / "out" / "tilt"))
+sys.path.insert(0, str(PYTHON))
+
+from tilt_data.cli import main  # noqa: E402
+
+
+@pytest.fixture
+def tilt() -> str:
+    """The program; a test that needs it is left out where it isn't built."""
+    if not os.access(PROGRAM, os.X_OK):
+        pytest.skip("the program isn't built")
+    return str(PROGRAM)
+
+
+@pytest.fixture
+def told(tmp_path: pathlib.Path, monkeypatch: pytest.MonkeyPatch, capsys: pytest.CaptureFixture[str]) -> Callable[..., tuple[int, str, str]]:
+    """Calls a command in an empty folder: its status, its output and what it tells."""
+    monkeypatch.chdir(tmp_path)
+
+    def call(*words: str) -> tuple[int, str, str]:
+        status = main([str(word) for word in words])
+        out, err = capsys.readouterr()
+        return status, out, err
+
+    return call
+
+
+def rows_in(path: str) -> list[tuple[int, int, int | None]]:
+    with open(path, newline="") as file:
+        found = list(csv.reader(file))
+    assert found[0] == ["start", "end", "value"]
+    return [(int(start), int(end), int(value) if value else None) for start, end, value in found[1:]]
+
+
+def run_program(program: str, query: str, *words: str, folder: str = ".") -> str:
+    """What the program prints for a query given as text."""
+    pathlib.Path(folder, "q.tilt").write_text(query)
+    return subprocess.run([program, "run", "q.tilt", *words], cwd=folder, check=True, capture_output=True, text=True).stdout

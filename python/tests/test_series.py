@@ -1,0 +1,293 @@
+"""`tilt-data series`: moments to ticks by each convention, decimals to whole numbers, and what is refused."""
+from __future__ import annotations
+
+import datetime
+import io
+import json
+import os
+import pathlib
+import random
+import sys
+
+import pytest
+from conftest import rows_in, run_program
+from tilt_data.clock import Clock, Moments, moment_text, zone_of
+from tilt_data.scales import Scale, decimal_text, digits_after_point
+
+READINGS = "time,temp\n2026-03-01T06:00:05,20.5\n2026-03-01T06:01:05,20.25\n2026-03-01T06:03:05,21\n"
+SIX = 6 * 3600
+
+
+def put(text: str, name: str = "raw.csv") -> str:
+    pathlib.Path(name).write_text(text)
+    return name
+
+
+def series(told, text: str, *words: str) -> tuple[list, str]:
+    """The rows of the one series `temp`, and what was told."""
+    status, out, err = told("series", put(text), "--time", "time", *words)
+    assert (status, out) == (0, ""), err
+    return rows_in("temp.csv"), err
+
+
+def refused(told, text: str, *words: str) -> str:
+    """What is told where a file is refused; nothing is written then."""
+    put(text)
+    before = sorted(os.listdir())
+    status, out, err = told("series", "raw.csv", "--time", "time", *words)
+    assert (status, out) == (1, "")
+    assert sorted(os.listdir()) == before
+    assert err.startswith("tilt-data: ") and err.count("\n") == 1
+    return err[len("tilt-data: "):-1]
+
+
+# The conventions
+
+
+def test_a_reading_holds_until_the_next_one(told):
+    rows, err = series(told, READINGS, "--tick", "1s", "--scale", "100")
+    assert rows == [(SIX + 5, SIX + 65, 2050), (SIX + 65, SIX + 185, 2025), (SIX + 185, SIX + 186, 2100)]
+    assert "temp.csv: 3 rows over (21605, 21786], values times 100" in err
+
+
+def test_a_reading_holds_no_longer_than_its_age_and_until_the_end(told):
+    rows, err = series(told, READINGS, "--tick", "1s", "--scale", "100", "--max-age", "1min")
+    assert rows == [(SIX + 5, SIX + 65, 2050), (SIX + 65, SIX + 125, 2025), (SIX + 185, SIX + 245, 2100)]
+    assert "gaps after --max-age: 1" in err
+    rows, _ = series(told, READINGS, "--tick", "1s", "--scale", "100", "--until", "2026-03-01T06:10")
+    assert rows[-1] == (SIX + 185, SIX + 600, 2100)
+
+
+@pytest.mark.parametrize("closed, row", [("left", (SIX + 5, SIX + 6, 7)), ("right", (SIX + 4, SIX + 5, 7))])
+def test_an_event_on_the_edge_of_a_tick(told, closed, row):
+    rows, _ = series(told, "time,temp\n2026-03-01T06:00:05,7\n", "--tick", "1s", "--event", "--closed", closed)
+    assert rows == [row]
+
+
+@pytest.mark.parametrize("closed", ["left", "right"])
+def test_an_event_within_a_tick_lies_in_it_by_both(told, closed):
+    rows, _ = series(told, "time,temp\n2026-03-01T06:00:05.3,7\n", "--tick", "1s", "--event", "--closed", closed)
+    assert rows == [(SIX + 5, SIX + 6, 7)]
+
+
+def test_ties(told):
+    text = "time,temp\n2026-03-01T00:00:01.1,1\n2026-03-01T00:00:01.2,2\n2026-03-01T00:00:01.3,3\n2026-03-01T00:00:02,4\n"
+    common = ("--tick", "1s", "--event", "--ties")
+    assert series(told, text, *common, "last")[0] == [(1, 2, 3), (2, 3, 4)]
+    assert series(told, text, *common, "first")[0] == [(1, 2, 1), (2, 3, 4)]
+    rows, err = series(told, text, *common, "spread")
+    assert rows == [(1, 2, 1), (2, 3, 2), (3, 4, 3), (4, 5, 4)]
+    assert "moved to the next free tick: 3" in err
+    assert refused(told, text, *common, "refuse").startswith("raw.csv:3: a second reading of temp in the tick of line 2")
+
+
+def test_nulls(told):
+    text = "time,temp\n2026-03-01T00:00:01,1\n2026-03-01T00:00:02,\n2026-03-01T00:00:03,NaN\n2026-03-01T00:00:04,-1\n"
+    rows, _ = series(told, text, "--tick", "1s", "--null", "NaN,-1")
+    assert rows == [(1, 2, 1), (2, 3, None), (3, 4, None), (4, 5, None)]
+    rows, _ = series(told, text, "--tick", "1s", "--null", "NaN,-1", "--skip-empty")
+    assert rows == [(1, 2, 1)]
+    assert refused(told, text, "--tick", "1s").startswith("raw.csv:4: temp: 'NaN' is no number; where it means")
+
+
+# Times
+
+
+@pytest.mark.parametrize("text", [
+    "2026-03-01T06:00:05.250Z", "2026-03-01 06:00:05.25", "2026-03-01T07:00:05.250+01:00", "2026-03-01T01:30:05,25-0430",
+    "2026-03-01T08:00:05.250000000+02"])
+def test_texts_of_one_moment(text):
+    assert Moments().read(text) == Moments("ms").read("1772344805250") == Moments("s").read("1772344805.25")
+
+
+def test_moments_are_exact():
+    assert Moments("s").read("1772344805.123456789") == 1772344805123456789
+    assert moment_text(1772344805123456789, 9) == "2026-03-01T06:00:05.123456789Z"
+    for text in ("1.0000000001", "inf", "x", ""):
+        with pytest.raises(ValueError):
+            Moments("s").read(text)
+    for text in ("2026-02-30", "2026-03-01T25:00", "2026-03-01T06:00:60", "2026-03-01T06:00:05.1234567891", "1772344805", "06:00"):
+        with pytest.raises(ValueError):
+            Moments().read(text)
+
+
+def test_local_times():
+    zone = zone_of("Europe/Zurich")
+    assert Moments(None, zone).read("2026-07-01T08:00") == Moments().read("2026-07-01T06:00Z")
+    for twice_or_never in ("2026-10-25T02:30", "2026-03-29T02:30"):
+        with pytest.raises(ValueError, match="twice or not at all"):
+            Moments(None, zone).read(twice_or_never)
+    assert Moments(None, zone).read("2026-10-25T02:30+01:00") == Moments().read("2026-10-25T01:30Z")
+
+
+def test_moments_and_texts_there_and_back():
+    draws = random.Random(1)
+    for _ in range(2000):
+        moment = draws.randrange(-10**18, 10**19 // 3)
+        assert Moments().read(moment_text(moment, 9)) == moment
+        shown = datetime.datetime.fromtimestamp(moment // 10**9, datetime.timezone.utc).strftime("%Y-%m-%dT%H:%M:%S")
+        assert moment_text(moment, 0) == shown + "Z"
+
+
+def test_the_tick_of_a_moment_is_the_one_that_it_lies_in():
+    draws = random.Random(2)
+    for _ in range(5000):
+        length, origin, moment = draws.choice([1, 7, 1000]), draws.randrange(-50, 50), draws.randrange(-5000, 5000)
+        left, right = (Clock(length, origin, closed).start(moment) for closed in ("left", "right"))
+        assert origin + left * length <= moment < origin + (left + 1) * length
+        assert origin + right * length < moment <= origin + (right + 1) * length
+
+
+def test_origins(told):
+    assert series(told, "time,temp\n2026-03-01T06:00:05,7\n", "--tick", "1s", "--origin", "2026-03-01T06:00")[0] == [(5, 6, 7)]
+    assert series(told, "time,temp\n2026-03-01T00:30,7\n", "--tick", "1s", "--zone", "Europe/Zurich")[0] == [(1800, 1801, 7)]
+    pathlib.Path("temp.csv").rename("first.csv")
+    pathlib.Path("temp.json").rename("first.json")
+    assert series(told, "time,temp\n2026-03-01T23:30Z,7\n", "--like", "first.csv")[0] == [(88200, 88201, 7)]
+
+
+# Values
+
+
+def test_scales():
+    assert Scale(10).whole("20.5") == 205 and Scale(100).whole("-0.05") == -5 and Scale(8).whole("0.125") == 1 and Scale(1).whole("1e3") == 1000
+    assert [digits_after_point(text) for text in ("1", "1.50", "1e3", "1.25e-3", "0.0", "x", "100e-1")] == [0, 1, 0, 5, 0, 0, 0]
+    assert [decimal_text(-5, 100), decimal_text(2050, 100), decimal_text(1, 8), decimal_text(-7, 1)] == ["-0.05", "20.50", "0.125", "-7"]
+    for text, what in (("20.55", "--scale 100"), ("9223372036854775807", "64 bits"), ("Infinity", "no number"), ("", "no number")):
+        with pytest.raises(ValueError, match=what):
+            Scale(10).whole(text)
+
+
+def test_scale_and_back():
+    draws = random.Random(3)
+    for _ in range(5000):
+        scale, value = 10**draws.randrange(0, 12), draws.randrange(-2**63, 2**63)
+        assert Scale(scale).whole(decimal_text(value, scale)) == value
+
+
+def test_auto_is_one_scale_for_the_columns_that_have_none_of_their_own(told):
+    text = "time,temp,limit,volume\n2026-03-01T00:00:01,20.5,23.75,7\n2026-03-01T00:00:02,20,24,1.125\n"
+    status, _, err = told("series", put(text), "--time", "time", "--tick", "1s", "--scale", "auto", "volume=1000")
+    assert status == 0, err
+    assert [rows_in(name)[0][2] for name in ("temp.csv", "limit.csv", "volume.csv")] == [2050, 2375, 7000]
+    assert json.loads(pathlib.Path("temp.json").read_text()) == {
+        "tilt-data": 1, "name": "temp", "tick": "1s", "origin": "2026-03-01T00:00:00Z", "closed": "left", "kind": "hold", "scale": 100}
+
+
+# Files
+
+
+def test_tall_files_and_keys(told):
+    text = ("time,station,sensor,value\n2026-03-01T00:00:01,north/1,temp,1\n2026-03-01T00:00:01,south,temp,2\n"
+            "2026-03-01T00:00:03,north/1,hum,3\n2026-03-01T00:00:04,north/1,temp,4\n")
+    words = ("series", put(text), "--time", "time", "--tick", "1s", "--key", "station", "--name", "sensor", "--value", "value")
+    assert told(*words)[0] == 0
+    assert rows_in("north%2F1/temp.csv") == [(1, 4, 1), (4, 5, 4)] and rows_in("south/temp.csv") == [(1, 2, 2)]
+    assert json.loads(pathlib.Path("north%2F1/hum.json").read_text())["key"] == "north/1"
+    assert told(*words, "--prefix", "--out", "flat")[0] == 0
+    assert sorted(name for name in os.listdir("flat") if name.endswith(".csv")) == ["north%2F1_hum.csv", "north%2F1_temp.csv", "south_temp.csv"]
+
+
+@pytest.mark.parametrize("key", ["..", ".", "/", "a/../../b"])
+def test_a_key_never_leaves_the_folder(told, tmp_path, key):
+    put(f"time,k,temp\n2026-03-01T00:00:01,{key},1\n")
+    assert told("series", "raw.csv", "--time", "time", "--tick", "1s", "--key", "k", "--out", "in")[0] == 0
+    assert sorted(os.listdir(tmp_path)) == ["in", "raw.csv"] and len(os.listdir("in")) == 1
+
+
+def test_what_comes_from_a_pipe(told, monkeypatch):
+    for words in (("--scale", "100"), ("--scale", "auto"), ("--scale", "auto", "--sort")):
+        monkeypatch.setattr(sys, "stdin", io.TextIOWrapper(io.BytesIO(READINGS.encode())))
+        assert told("series", "-", "--time", "time", "--tick", "1s", *words)[0] == 0
+        assert rows_in("temp.csv")[0] == (SIX + 5, SIX + 65, 2050)
+
+
+def test_sorting_is_by_time_and_then_by_line(told):
+    draws = random.Random(4)
+    moments = [draws.randrange(0, 3000) for _ in range(5000)]
+    text = "time,temp\n" + "".join(f"{moment},{line}\n" for line, moment in enumerate(moments))
+    common = ("--unit", "s", "--tick", "1s", "--origin", "1970-01-01", "--event", "--ties", "last")
+    assert "--sort" in refused(told, text, *common)
+    rows, _ = series(told, text, *common, "--sort")
+    last = {moment: line for line, moment in enumerate(moments)}
+    assert rows == [(moment, moment + 1, last[moment]) for moment in sorted(last)]
+
+
+def test_sorting_in_parts(tmp_path):
+    from tilt_data.series import in_order
+    draws = random.Random(5)
+    readings = [(draws.randrange(50), line, "", "x", "1") for line in range(1000)]
+    assert list(in_order(readings, str(tmp_path), 64)) == sorted(readings)
+
+
+@pytest.mark.parametrize("text, words, what", [
+    ("", ["--tick", "1s"], "raw.csv:1: the column 'time' is not in the header"),
+    ("when,temp\n", ["--tick", "1s"], "raw.csv:1: the column 'time' is not in the header; there are: when, temp"),
+    ("time,time,temp\n", ["--tick", "1s"], "raw.csv:1: the column 'time' is more than once in the header"),
+    ("time\n", ["--tick", "1s"], "raw.csv:1: no column of values"),
+    ("time,temp\nyesterday,1\n", ["--tick", "1s"], "raw.csv:2: 'yesterday' is no time: ISO 8601 was expected"),
+    ("time,temp\n1772344805,1\n", ["--tick", "1s"], "for numbers since 1970 say --unit"),
+    ("time,temp\n2026-03-01,1,2\n", ["--tick", "1s"], "raw.csv:2: 2 fields were expected as in the header, not 3"),
+    ("time,temp\n2026-03-01,1\n", [], "how long is a tick?"),
+    ("time,temp\n2026-03-01,1\n", ["--tick", "1x"], "'1x' is no duration"),
+    ("time,temp\n2026-03-01,1\n", ["--tick", "1s", "--max-age", "1500ms"], "--max-age 1500ms is no whole number of ticks of 1s"),
+    ("time,temp\n2026-03-01,1\n", ["--tick", "1s", "--scale", "0"], "--scale 0: a whole number above 0"),
+    ("time,temp\n2026-03-01,1\n", ["--tick", "1s", "--zone", "Zurich"], "'Zurich' is no time zone"),
+    ("time,temp\n2026-03-01,1\n", ["--tick", "1s", "--event", "--hold", "next"], "--event is a reading of one tick"),
+    ("time,temp\n2026-03-01,1\n2026-03-02,x\n", ["--tick", "1s"], "raw.csv:3: temp: 'x' is no number"),
+    ("time,temp\n2026-03-02,1\n2026-03-01,2\n", ["--tick", "1s"], "raw.csv:3: this reading of temp lies before that of line 2: --sort"),
+    ("time,temp\n2026-03-02,1\n", ["--like", "other.csv"], "other.csv: there is no other.json beside it"),
+])
+def test_what_is_refused(told, text, words, what):
+    assert what in refused(told, text, *words)
+
+
+def test_a_refusal_leaves_the_old_files(told):
+    rows, _ = series(told, READINGS, "--tick", "1s", "--scale", "100")
+    assert refused(told, READINGS + "x,1\n", "--tick", "1s", "--scale", "100").startswith("raw.csv:5: ")
+    assert rows_in("temp.csv") == rows
+    assert told("series", "nowhere.csv", "--time", "time", "--tick", "1s") == (1, "", "tilt-data: nowhere.csv: No such file or directory\n")
+
+
+# pandas, on windows
+
+
+@pytest.mark.parametrize("closed", ["left", "right"])
+def test_pandas_has_the_same_windows_of_events(told, tilt, closed):
+    pandas = pytest.importorskip("pandas")
+    draws = random.Random(6)
+    # Whole and half seconds, many of them on the edges of windows of 10 s, each tick once.
+    moments = sorted({draws.randrange(0, 1200) * 1000 // 2 for _ in range(700)})
+    frame = pandas.DataFrame({"time": pandas.to_datetime(moments, unit="ms"), "temp": [draws.randrange(-99, 99) for _ in moments]})
+    frame.to_csv("raw.csv", index=False)
+    words = ("--time", "time", "--tick", "500ms", "--origin", "1970-01-01", "--event", "--closed", closed)
+    assert told("series", "raw.csv", *words)[0] == 0
+    wanted = frame.set_index("time")["temp"].resample("10s", closed=closed, label="right").agg(["count", "sum", "min", "max", "first", "last"])
+    for reducer in wanted.columns:
+        out = run_program(tilt, f"input temp; emit {reducer}(temp[t-20:t]) over (-20, 1220] every 20;", "temp=temp.csv")
+        got = {int(line.split(",")[1]): int(line.split(",")[2]) for line in expand(out, 20)}
+        there = wanted[wanted["count"] > 0][reducer]
+        assert got == {int(label.timestamp() * 2): int(value) for label, value in there.items()}, reducer
+
+
+def test_pandas_has_the_same_value_at_each_moment_where_readings_hold(told, tilt):
+    pandas = pytest.importorskip("pandas")
+    draws = random.Random(7)
+    moments = sorted(draws.sample(range(0, 5000), 300))
+    frame = pandas.DataFrame({"time": pandas.to_datetime(moments, unit="s"), "temp": [draws.randrange(100) for _ in moments]})
+    frame.to_csv("raw.csv", index=False)
+    assert told("series", "raw.csv", "--time", "time", "--tick", "1s", "--origin", "1970-01-01", "--max-age", "20s")[0] == 0
+    out = run_program(tilt, "input temp; emit temp over (0, 5000];", "temp=temp.csv")
+    got = {int(line.split(",")[1]) - 1: int(line.split(",")[2]) for line in expand(out, 1)}
+    seconds = pandas.DataFrame({"time": pandas.to_datetime(range(5000), unit="s")})
+    wanted = pandas.merge_asof(seconds, frame, on="time", tolerance=pandas.Timedelta("19s"))["temp"]
+    assert got == {second: int(value) for second, value in wanted.items() if value == value}
+
+
+def expand(out: str, period: int) -> list[str]:
+    """The rows of an output, cut at each multiple of the period."""
+    cut = []
+    for line in out.splitlines()[1:]:
+        start, end, value = map(int, line.split(","))
+        cut += [f"{at},{at + period},{value}" for at in range(start, end, period)]
+    return cut

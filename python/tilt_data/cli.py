@@ -1,0 +1,39 @@
+"""The command line: `tilt-data COMMAND ..`."""
+from __future__ import annotations
+
+import argparse
+import os
+import sys
+
+from . import series
+from .errors import Refused
+
+COMMANDS = [series]
+
+
+def parser_of() -> argparse.ArgumentParser:
+    parser = argparse.ArgumentParser(
+        prog="tilt-data", description="From a file of readings to series of tilt, and from its output to tables and pictures.")
+    commands = parser.add_subparsers(metavar="COMMAND", required=True)
+    for command in COMMANDS:
+        command.add(commands)
+    return parser
+
+
+def main(words: list[str] | None = None) -> int:
+    parsed = parser_of().parse_args(words)
+    try:
+        return parsed.main(parsed)
+    except Refused as refused:
+        print(f"tilt-data: {refused}", file=sys.stderr)
+        return refused.status
+    except BrokenPipeError:
+        # The reader of the output has gone: nothing more is written, also not at the end.
+        os.dup2(os.open(os.devnull, os.O_WRONLY), 1)
+        return 1
+    except KeyboardInterrupt:
+        return 130
+
+
+if __name__ == "__main__":
+    sys.exit(main())

@@ -1,0 +1,199 @@
+"""Files: they are read in a stream, and written beside their names, which they take at the end."""
+from __future__ import annotations
+
+import contextlib
+import csv
+import dataclasses
+import json
+import os
+import shutil
+import sys
+import tempfile
+from typing import IO, Iterator
+
+from .clock import Clock, Moments, duration_of, duration_text, moment_text
+from .errors import Refused, refused_at
+
+Row = tuple[int, int, "int | None"]
+HEADER = ["start", "end", "value"]
+
+
+@contextlib.contextmanager
+def reading(path: str) -> Iterator[IO[str]]:
+    """The text of a file, or of standard input where the path is `-`."""
+    try:
+        if path == "-":
+            sys.stdin.reconfigure(encoding="utf-8-sig", newline="")  # type: ignore[union-attr]
+            yield sys.stdin
+        else:
+            with open(path, encoding="utf-8-sig", newline="") as file:
+                yield file
+    except BrokenPipeError:
+        raise
+    except OSError as error:
+        raise Refused(f"{path}: {error.strerror}") from error
+    except UnicodeDecodeError as error:
+        raise Refused(f"{path}: it is no UTF-8 text") from error
+
+
+def records(path: str, file: IO[str], delimiter: str = ",") -> Iterator[tuple[int, list[str]]]:
+    """Each record that isn't empty, with the number of the line on which it ends, from 1."""
+    reader = csv.reader(file, delimiter=delimiter)
+    try:
+        for record in reader:
+            if record:
+                yield reader.line_num, record
+    except csv.Error as error:
+        raise refused_at(path, reader.line_num, f"a record of CSV was expected: {error}") from error
+
+
+def rows_of(path: str, file: IO[str]) -> Iterator[Row]:
+    """The rows of a series or an output: start, end and value of each, in ticks and whole numbers; null is None."""
+    found = records(path, file)
+    line, header = next(found, (1, []))
+    if header != HEADER:
+        raise refused_at(path, line, "the header start,end,value was expected")
+    before = None
+    for line, record in found:
+        try:
+            start, end, value = record
+            row = int(start), int(end), int(value) if value else None
+        except ValueError as error:
+            raise refused_at(path, line, f"a row start,end,value of whole numbers was expected, not {','.join(record)}") from error
+        if row[0] >= row[1] or before is not None and row[0] < before:
+            raise refused_at(path, line, "rows in order were expected, each with its start below its end")
+        before = row[1]
+        yield row
+
+
+def spooled(path: str, folder: str) -> str:
+    """A file that may be read twice: the file itself, or a copy of what comes from a pipe, in the folder."""
+    if path != "-" and (os.path.isfile(path) or not os.path.exists(path)):
+        return path
+    copy = os.path.join(folder, "spooled")
+    with open(copy, "wb") as file:
+        if path == "-":
+            shutil.copyfileobj(sys.stdin.buffer, file)
+        else:
+            with open(path, "rb") as source:
+                shutil.copyfileobj(source, file)
+    return copy
+
+
+class Outputs:
+    """Files that are written beside their names. All take their names at `commit`; without it they go away, and what stood under the
+    names stays. `write` appends to what is held, and brings it to the files from time to time, so that many files need few handles."""
+
+    def __init__(self, most: int = 100000) -> None:
+        self.held: dict[str, list[str]] = {}
+        self.count = 0
+        self.most = most
+        self.begun: set[str] = set()
+
+    def __enter__(self) -> Outputs:
+        return self
+
+    def __exit__(self, kind: object, *_: object) -> None:
+        for path in self.begun:
+            with contextlib.suppress(OSError):
+                os.unlink(beside(path))
+
+    def write(self, path: str, text: str) -> None:
+        self.held.setdefault(path, []).append(text)
+        self.count += 1
+        if self.count >= self.most:
+            self.flush()
+
+    def flush(self) -> None:
+        for path, texts in self.held.items():
+            try:
+                if path not in self.begun:
+                    os.makedirs(os.path.dirname(path) or ".", exist_ok=True)
+                with open(beside(path), "a" if path in self.begun else "w", encoding="utf-8", newline="") as file:
+                    self.begun.add(path)
+                    file.write("".join(texts))
+            except OSError as error:
+                raise Refused(f"{path}: it can't be written: {error.strerror}") from error
+        self.held.clear()
+        self.count = 0
+
+    def commit(self) -> None:
+        self.flush()
+        for path in sorted(self.begun):
+            try:
+                os.replace(beside(path), path)
+            except OSError as error:
+                raise Refused(f"{path}: it can't be written: {error.strerror}") from error
+            self.begun.discard(path)
+
+
+def beside(path: str) -> str:
+    folder, name = os.path.split(path)
+    return os.path.join(folder, f".{name}.{os.getpid()}.tilt-data")
+
+
+@contextlib.contextmanager
+def writing(path: str | None) -> Iterator[IO[str]]:
+    """A text that is written to standard output, or beside a file whose name it takes at the end."""
+    if path is None:
+        yield sys.stdout
+        sys.stdout.flush()
+        return
+    new = beside(path)
+    try:
+        with open(new, "w", encoding="utf-8", newline="") as file:
+            yield file
+        os.replace(new, path)
+    except BrokenPipeError:
+        raise
+    except OSError as error:
+        raise Refused(f"{path}: it can't be written: {error.strerror}") from error
+    finally:
+        with contextlib.suppress(OSError):
+            os.unlink(new)
+
+
+@dataclasses.dataclass(frozen=True)
+class Notes:
+    """What stands in the JSON file beside a series: its clock, its scale, its convention (`hold` or `event`), and its name and key."""
+
+    clock: Clock
+    scale: int = 1
+    kind: str = "hold"
+    name: str = ""
+    key: str | None = None
+    zone: str | None = None
+
+    def text(self) -> str:
+        fields = {
+            "tilt-data": 1, "name": self.name, "key": self.key, "tick": duration_text(self.clock.tick),
+            "origin": moment_text(self.clock.origin, 9 if self.clock.origin % 10**9 else 0), "zone": self.zone,
+            "closed": self.clock.closed, "kind": self.kind, "scale": self.scale,
+        }
+        return json.dumps({name: value for name, value in fields.items() if value is not None}, indent=1, ensure_ascii=False) + "\n"
+
+
+def notes_path(series: str) -> str:
+    """The JSON file beside a series: `a/x.json` for `a/x.csv`."""
+    return os.path.splitext(series)[0] + ".json"
+
+
+def notes_of(series: str) -> Notes | None:
+    """What stands beside a series, or None where there is no such file."""
+    path = notes_path(series)
+    if series == "-" or not os.path.exists(path):
+        return None
+    try:
+        with open(path, encoding="utf-8") as file:
+            found = json.load(file)
+        clock = Clock(duration_of(found["tick"]), Moments().read(found["origin"]), found.get("closed", "left"))
+        return Notes(clock, int(found["scale"]), found.get("kind", "hold"), found.get("name", ""), found.get("key"), found.get("zone"))
+    except (OSError, ValueError, KeyError, TypeError, AttributeError) as error:
+        raise Refused(f"{path}: the JSON that `tilt-data series` writes was expected: {error}") from error
+
+
+@contextlib.contextmanager
+def scratch() -> Iterator[str]:
+    """A folder that goes away at the end."""
+    with tempfile.TemporaryDirectory(prefix="tilt-data-") as folder:
+        yield folder

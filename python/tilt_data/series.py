@@ -1,0 +1,369 @@
+"""`tilt-data series`: a CSV of readings, tall or wide, to series files, each with a small JSON file beside that says its clock and scale."""
+from __future__ import annotations
+
+import argparse
+import dataclasses
+import heapq
+import os
+import pickle
+import sys
+import urllib.parse
+from typing import Any, Iterable, Iterator
+
+from .clock import Clock, Moments, duration_of, duration_text, moment_text, zone_of
+from .convert import TIES, Converter, Late, Rule, Tie, row_text
+from .errors import Refused, refused_at
+from .files import Notes, Outputs, notes_of, notes_path, reading, records, scratch, spooled
+from .progress import shown
+from .scales import Scale, digits_after_point
+
+HELP = """Reads a CSV with a header: a column of times, and one column of values for each series (wide), or a column that names the series (tall,
+--name). It writes a series file NAME.csv for each, and beside it NAME.json with the length of a tick, the origin and the scale. Readings are
+in order of time, or --sort puts them in order. What was dropped, moved and scaled is told on standard error."""
+Reading = tuple[int, int, str, str, str]
+
+
+@dataclasses.dataclass(frozen=True)
+class Columns:
+    """Where in a record stand the time, the key, the name of the series, and the values: their places and the names of their series."""
+
+    width: int
+    time: int
+    key: int | None
+    name: int | None
+    values: list[tuple[int, str]]
+
+
+@dataclasses.dataclass
+class Nulls:
+    """The texts that mean that there is no value. The empty text always does."""
+
+    texts: set[str]
+
+    def has(self, text: str) -> bool:
+        return not text or text in self.texts or not text.strip()
+
+
+def add(commands: Any) -> None:
+    parser = commands.add_parser("series", help="readings of a CSV to series files", description=HELP)
+    add_source(parser)
+    add_time(parser)
+    add_convention(parser)
+    parser.add_argument("--key", metavar="COL", help="the column of a key, as a station or a patient: a folder of series for each key")
+    parser.add_argument("--prefix", action="store_true", help="KEY_NAME.csv in place of KEY/NAME.csv")
+    parser.add_argument("--out", metavar="FOLDER", default=".", help="where the files are written (.)")
+    parser.add_argument("--sort", action="store_true", help="put the readings in order of time first")
+    parser.set_defaults(main=main)
+
+
+def add_source(parser: argparse.ArgumentParser) -> None:
+    parser.add_argument("file", metavar="FILE", help="the CSV, or - for standard input")
+    parser.add_argument("--time", metavar="COL", required=True, help="the column of times")
+    parser.add_argument("--value", metavar="COL", nargs="+", help="the columns of values; all others where it is left out")
+    parser.add_argument("--name", metavar="COL", help="a tall file: the column that names the series; --value is then the one value column")
+    parser.add_argument("--delimiter", default=",", help="what parts the fields (,)")
+    parser.add_argument("--decimal", default=".", help="what stands before the fraction of a value (.)")
+
+
+def add_time(parser: argparse.ArgumentParser) -> None:
+    parser.add_argument("--unit", choices=["s", "ms", "us", "ns"], help="times are numbers since 1970 in this unit, and not ISO 8601")
+    parser.add_argument("--zone", help="the zone of times without an offset, as Europe/Zurich (UTC)")
+    parser.add_argument("--tick", help="the length of a tick, as 1s, 1ms, 1min")
+    parser.add_argument("--origin", help="the moment at which the first tick begins (the midnight before the first reading)")
+    parser.add_argument("--like", metavar="SERIES", help="take tick, origin and scale from the JSON file beside this series")
+    parser.add_argument("--scale", nargs="+", metavar="N", help="values times N are whole; auto for the least power of ten that makes them "
+                        "whole; NAME=N for one column")
+
+
+def add_convention(parser: argparse.ArgumentParser) -> None:
+    parser.add_argument("--hold", choices=["next"], help="a reading holds until the next one (so it is where --event isn't given)")
+    parser.add_argument("--max-age", metavar="DURATION", help="it holds no longer than this, as 5min")
+    parser.add_argument("--until", metavar="TIME", help="until when the last reading holds (one tick, or --max-age)")
+    parser.add_argument("--event", action="store_true", help="a reading is an event of one tick")
+    parser.add_argument("--closed", choices=["left", "right"], help="which edge of a tick belongs to it, as in pandas (left)")
+    parser.add_argument("--ties", choices=TIES, default="refuse", help="which of the readings in one tick stands: the last, the first, or "
+                        "each, in ticks one after another (refuse)")
+    parser.add_argument("--null", metavar="TEXTS", default="", help="texts with commas between them that mean no value, as NaN,-1; empty "
+                        "fields always do")
+    parser.add_argument("--skip-empty", action="store_true", help="a field without a value is no reading, and not one that there is no value")
+
+
+def column(header: list[str], name: str, path: str) -> int:
+    if header.count(name) != 1:
+        many = "more than once" if name in header else "not"
+        raise refused_at(path, 1, f"the column {name!r} is {many} in the header; there are: {', '.join(header)}")
+    return header.index(name)
+
+
+def columns_of(header: list[str], words: argparse.Namespace, path: str) -> Columns:
+    """The columns that the words name."""
+    time = column(header, words.time, path)
+    key = None if getattr(words, "key", None) is None else column(header, words.key, path)
+    name = None if words.name is None else column(header, words.name, path)
+    taken = {time, key, name}
+    values = [column(header, value, path) for value in words.value or []]
+    values = values or [at for at in range(len(header)) if at not in taken]
+    if not values or name is not None and len(values) != 1:
+        raise refused_at(path, 1, "one column of values was expected: name it by --value" if name is not None else "no column of values")
+    return Columns(len(header), time, key, name, [(at, header[at].strip()) for at in values])
+
+
+def readings_of(source: str, words: argparse.Namespace) -> Iterator[Reading]:
+    """Each reading: its moment, its line, its key, the name of its series, and the text of its value. The source is the file of the words,
+    or a copy of it."""
+    path, moments = words.file, Moments(words.unit, zone_of(words.zone))
+    with reading(source) as file:
+        found = records(path, file, words.delimiter)
+        _, header = next(found, (1, []))
+        columns = columns_of(header, words, path)
+        for line, record in shown(found, "readings"):
+            if len(record) != columns.width:
+                raise refused_at(path, line, f"{columns.width} fields were expected as in the header, not {len(record)}")
+            try:
+                moment = moments.read(record[columns.time])
+            except ValueError as error:
+                raise refused_at(path, line, str(error)) from error
+            key = "" if columns.key is None else record[columns.key]
+            for at, title in columns.values:
+                yield moment, line, key, title if columns.name is None else record[columns.name].strip(), record[at]
+
+
+def in_order(readings: Iterable[Reading], folder: str, most: int = 100000) -> Iterator[Reading]:
+    """The readings by time, those of one moment by line: parts are put in order in memory, and merged from the folder."""
+    parts: list[str] = []
+    part: list[Reading] = []
+    for one in readings:
+        part.append(one)
+        if len(part) == most:
+            parts.append(put_part(sorted(part, key=by_time), os.path.join(folder, f"part{len(parts)}")))
+            part = []
+    part.sort(key=by_time)
+    yield from heapq.merge(*map(part_of, parts), part, key=by_time)
+
+
+def by_time(one: Reading) -> tuple[int, int]:
+    return one[0], one[1]
+
+
+def put_part(part: list[Reading], path: str) -> str:
+    with open(path, "wb") as file:
+        for at in range(0, len(part), 1000):
+            pickle.dump(part[at:at + 1000], file)
+    return path
+
+
+def part_of(path: str) -> Iterator[Reading]:
+    with open(path, "rb") as file:
+        while True:
+            try:
+                yield from pickle.load(file)
+            except EOFError:
+                return
+
+
+class Converting:
+    """All series of a file while it is read: a converter and a count of rows for each, by key and name."""
+
+    def __init__(self, words: argparse.Namespace, path: str, outputs: Outputs) -> None:
+        self.words = words
+        self.path = path
+        self.outputs = outputs
+        self.nulls = Nulls({text for text in words.null.split(",") if text})
+        self.like = None if words.like is None else notes_of(words.like)
+        if words.like is not None and self.like is None:
+            raise Refused(f"{words.like}: there is no {notes_path(words.like)} beside it; `tilt-data series` writes one")
+        self.clock: Clock | None = None
+        self.rule = Rule(not words.event, None, words.ties)
+        self.scales = Scales({}, Scale(1))
+        self.series: dict[tuple[str, str], Converter] = {}
+        self.files: dict[tuple[str, str], str] = {}
+        self.rows: dict[tuple[str, str], list[int]] = {}
+        self.lines: dict[tuple[str, str], int] = {}
+
+    def begin(self, moment: int) -> None:
+        """The clock and the rule, which may rest on the first reading."""
+        self.clock = clock_of(self.words, self.like, moment)
+        age = self.words.max_age
+        ticks = None if age is None else self.clock.ticks(duration_of(age), "--max-age")
+        self.rule = Rule(not self.words.event, ticks, self.words.ties)
+
+    def take(self, one: Reading) -> None:
+        moment, line, key, name, text = one
+        if self.clock is None:
+            self.begin(moment)
+        place = key, name
+        converter = self.series.get(place)
+        if converter is None:
+            converter = self.new(place, line)
+        if self.nulls.has(text):
+            if self.words.skip_empty:
+                return
+            value = None
+        else:
+            value = self.value(name, text, line)
+        try:
+            row = converter.push(moment, value)
+        except Tie as error:
+            raise refused_at(self.path, line, f"a second reading of {name} in the tick of line {self.lines[place]}: --ties last, first or "
+                             "spread, or a shorter --tick") from error
+        except Late as error:
+            raise refused_at(self.path, line, f"this reading of {name} lies before that of line {self.lines[place]}: --sort") from error
+        self.lines[place] = line
+        if row is not None:
+            self.put(place, row)
+
+    def value(self, name: str, text: str, line: int) -> int:
+        try:
+            return self.scales.of(name).whole(text if self.words.decimal == "." else text.replace(self.words.decimal, "."))
+        except ValueError as error:
+            raise refused_at(self.path, line, f"{name}: {error}") from error
+
+    def new(self, place: tuple[str, str], line: int) -> Converter:
+        key, name = place
+        if not name:
+            raise refused_at(self.path, line, "a name of the series was expected")
+        if self.words.key is not None and not key:
+            raise refused_at(self.path, line, f"a key was expected in the column {self.words.key}")
+        converter = self.series[place] = Converter(self.clock, self.rule)
+        path = os.path.join(self.words.out, file_of(key, name, self.words.prefix))
+        self.files[place] = path
+        self.rows[place] = [0, 0, 0, 0]
+        self.outputs.write(path, "start,end,value\n")
+        return converter
+
+    def put(self, place: tuple[str, str], row: tuple[int, int, int | None]) -> None:
+        figures = self.rows[place]
+        if not figures[0]:
+            figures[1] = row[0]
+        figures[0] += 1
+        figures[2] = row[1]
+        figures[3] += row[2] is None
+        self.outputs.write(self.files[place], row_text(row))
+
+    def finish(self) -> None:
+        until = None
+        if self.words.until is not None and self.clock is not None:
+            until = self.clock.start(moment_of(self.words.until, self.words))
+        for place, converter in self.series.items():
+            row = converter.finish(until)
+            if row is not None:
+                self.put(place, row)
+            self.outputs.write(notes_path(self.files[place]), self.notes(place).text())
+
+    def notes(self, place: tuple[str, str]) -> Notes:
+        key, name = place
+        kind = "hold" if self.rule.hold else "event"
+        return Notes(self.clock, self.scales.of(name).scale, kind, name, key if self.words.key else None, self.words.zone)
+
+    def told(self, most: int = 10) -> Iterator[str]:
+        """What is told of each series, and of those after the tenth how many they are."""
+        if self.clock is None:
+            yield "no reading, and no series"
+            return
+        yield f"a tick is {duration_text(self.clock.tick)}, closed {self.clock.closed}, from {moment_text(self.clock.origin, 0)}"
+        for place in list(self.series)[:most]:
+            yield f"{self.files[place]}: {self.figures(place)}"
+        if len(self.series) > most:
+            yield f"and {len(self.series) - most} more series"
+
+    def figures(self, place: tuple[str, str]) -> str:
+        rows, start, end, nulls = self.rows[place]
+        converter = self.series[place]
+        text = f"{rows} rows over ({start}, {end}]" if rows else "no rows"
+        scale = self.scales.of(place[1]).scale
+        notes = ("without a value", nulls), ("dropped, in one tick with another", converter.dropped), (
+            "moved to the next free tick", converter.moved), ("gaps after --max-age", converter.gaps)
+        return ", ".join([text, *([f"values times {scale}"] if scale != 1 else []), *(f"{what}: {count}" for what, count in notes if count)])
+
+
+def file_of(key: str, name: str, prefix: bool) -> str:
+    """The file of a series: signs that no file's name has are written as %XX."""
+    name = safe(name) + ".csv"
+    return name if not key else f"{safe(key)}_{name}" if prefix else os.path.join(safe(key), name)
+
+
+def safe(text: str) -> str:
+    quoted = urllib.parse.quote(text, safe=" +,=@()äöüÄÖÜéèà")
+    return quoted.replace(".", "%2E") if quoted.strip(".") == "" else quoted
+
+
+def moment_of(text: str, words: argparse.Namespace) -> int:
+    try:
+        return Moments(None, zone_of(words.zone)).iso(text)
+    except ValueError as error:
+        raise Refused(str(error)) from error
+
+
+def clock_of(words: argparse.Namespace, like: Notes | None, first: int) -> Clock:
+    """The clock that the words tell, or the series that they name; else it begins with the midnight before the first reading."""
+    if words.tick is None and like is None:
+        raise Refused("how long is a tick? --tick 1s, 1ms, 1min, .. or --like a series that was written before")
+    tick = like.clock.tick if words.tick is None else duration_of(words.tick)
+    closed = words.closed or (like.clock.closed if like is not None else "left")
+    if words.origin is not None:
+        origin = moment_of(words.origin, words)
+    elif like is not None:
+        origin = like.clock.origin
+    else:
+        day = moment_text(first, 0, zone_of(words.zone))[:10]
+        origin = moment_of(day, words)
+    return Clock(tick, origin, closed)
+
+
+@dataclasses.dataclass
+class Scales:
+    """The scale of each series: its own where the words name one, and else that of all others."""
+
+    named: dict[str, Scale]
+    others: Scale
+
+    def of(self, name: str) -> Scale:
+        return self.named.get(name, self.others)
+
+
+def scales_of(words: argparse.Namespace, path: str, nulls: Nulls, like: Notes | None) -> Scales:
+    """The scales that the words name. An `auto` without a name is one scale for all series that have none of their own."""
+    given: dict[str, str] = {}
+    for word in words.scale or []:
+        name, _, text = word.rpartition("=")
+        if text != "auto" and not (text.isdigit() and int(text)):
+            raise Refused(f"--scale {word}: a whole number above 0, auto, or NAME=N was expected")
+        given[name] = text
+    digits = digits_of(path, words, nulls) if "auto" in given.values() else {}
+    most = max((count for name, count in digits.items() if name not in given), default=0)
+    scales = {name: Scale(10**(digits.get(name, 0) if name else most) if text == "auto" else int(text)) for name, text in given.items()}
+    others = scales.pop("", None) or Scale(1 if like is None else like.scale)
+    return Scales(scales, others)
+
+
+def digits_of(path: str, words: argparse.Namespace, nulls: Nulls) -> dict[str, int]:
+    """The most digits after the point in each series: the file is read once for it."""
+    most: dict[str, int] = {}
+    known: dict[str, int] = {}
+    for _, _, _, name, text in readings_of(path, words):
+        if nulls.has(text):
+            continue
+        if text not in known:
+            if len(known) > 50000:
+                known.clear()
+            known[text] = digits_after_point(text.replace(words.decimal, "."))
+        if known[text] > most.get(name, -1):
+            most[name] = known[text]
+    return most
+
+
+def main(words: argparse.Namespace) -> int:
+    if words.event and (words.hold or words.max_age or words.until):
+        raise Refused("--event is a reading of one tick: --hold, --max-age and --until are for readings that hold")
+    with scratch() as folder, Outputs() as outputs:
+        path = spooled(words.file, folder) if "auto" in str(words.scale) else words.file
+        converting = Converting(words, words.file, outputs)
+        converting.scales = scales_of(words, path, converting.nulls, converting.like)
+        readings = readings_of(path, words)
+        for one in in_order(readings, folder) if words.sort else readings:
+            converting.take(one)
+        converting.finish()
+        outputs.commit()
+    for line in converting.told():
+        print(f"tilt-data: {line}", file=sys.stderr)
+    return 0
