@@ -5,10 +5,10 @@ import argparse
 import os
 import sys
 
-from . import series
+from . import series, why
 from .errors import Refused
 
-COMMANDS = [series]
+COMMANDS = [series, why]
 
 
 def parser_of() -> argparse.ArgumentParser:
@@ -21,9 +21,14 @@ def parser_of() -> argparse.ArgumentParser:
 
 
 def main(words: list[str] | None = None) -> int:
-    parsed = parser_of().parse_args(words)
+    words = sys.argv[1:] if words is None else words
     try:
-        return parsed.main(parsed)
+        # The words of `run` are the program's, whatever they are.
+        if words[:1] == ["run"] and words[1:] not in (["--help"], ["-h"]):
+            return why.run(words[1:])
+        parsed = parser_of().parse_args(words)
+        status: int = parsed.main(parsed)
+        return status
     except Refused as refused:
         print(f"tilt-data: {refused}", file=sys.stderr)
         return refused.status

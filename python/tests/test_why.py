@@ -1,0 +1,187 @@
+"""`tilt-data run` and `why`: the program's bytes and status, and places that never say otherwise than the program."""
+from __future__ import annotations
+
+import concurrent.futures
+import pathlib
+import subprocess
+import sys
+
+import pytest
+import queries
+from conftest import PYTHON, run_program
+from tilt_data.forms import fault_of
+from tilt_data.tokens import place_of
+from tilt_data.why import placed
+
+QUERY = "input x;\nemit x over (0, 10];\n"
+ROWS = "start,end,value\n0,5,7\n6,8,9\n"
+
+
+def put(**files: str) -> None:
+    for name, text in files.items():
+        pathlib.Path(name).write_text(text)
+
+
+def marked(text: str) -> tuple[str, str]:
+    """The line that is told of a text, and what is marked of it."""
+    fault = fault_of(text.encode())
+    assert fault is not None
+    return fault.line, text.encode()[fault.begin:fault.end].decode()
+
+
+@pytest.mark.parametrize("text, line, mark", [
+    ("input x; emit x < 1 < 2 over (0, 5];", "24 statement 2: syntax", "<"),
+    ("input x; emit x over (0, 10);", "24 statement 2: syntax", ")"),
+    ("input x\nemit x over (0, 10];", "24 statement 1: syntax", "emit"),
+    ("input x; emit x & 1 over (0, 10];", "20 bad byte at 16", "&"),
+    ("input é; emit 1 over (0, 10];", "20 bad byte at 6", "é"),
+    ("emit 9223372036854775808 over (0, 10];", "21 big number at 5", "9223372036854775808"),
+    ("input x; let y = x;", "25 statement 2: place of emit", "let"),
+    ("input x; let x = 1; emit x over (0, 10];", "26 statement 2: name taken", "x"),
+    ("input x; emit y over (0, 10];", "27 statement 2: unknown name", "y"),
+    ("input x; emit 1 when x + 1 over (0, 10];", "28 statement 2: type mismatch", "x + 1"),
+    ("input x; emit (x > 1) over (0, 10];", "28 statement 2: type mismatch", "(x > 1)"),
+    ("input x; emit any(x[t-3:t]) over (0, 10];", "28 statement 2: type mismatch", "x"),
+    ("input x; emit sum(x[t:t-3]) over (0, 10];", "29 statement 2: bad window", "sum(x[t:t-3])"),
+    ("input x; emit x over (0, 10] every 4;", "30 statement 2: bad domain", "10"),
+    ("input x; emit x over (-7, -9];", "30 statement 2: bad domain", "-9"),
+    ("input x; emit x[t-1000000000001] over (0, 10];", "31 too far: back 1000000000001 ahead 0", "x[t-1000000000001]"),
+])
+def test_what_is_marked(text, line, mark):
+    assert marked(text) == (line, mark)
+
+
+@pytest.mark.parametrize("text, cure", [
+    ("input x; emit 1 < x < 9 over (0, 5];", "a < x and x < b"),
+    ("input x; emit x[-2] over (0, 5];", "x[t-2]"),
+    ("input x; emit avg(x) over (0, 5];", "avg(x[t-10:t])"),
+    ("input x; emit avg(x + 1) over (0, 5];", "by `let`"),
+    ("input count; emit 1 over (0, 5];", "reserved word"),
+    ("input x; emit x * 1.5 over (0, 5];", "scale values"),
+    ("input x; emit X OVER (0, 5];", "small letters: over"),
+    ("input temperature; emit temprature over (0, 5];", "did you mean `temperature`?"),
+    ("input x; emit x every 5 over (0, 5];", "`over` comes before `every`"),
+    ("# a comment\ninput x; emit x over (0, 5];", "sed"),
+    ("input x; emit 1 when x = 1 over (0, 5];", "`==`"),
+    ("input x; emit stddev(x[t-5:t]) over (0, 5];", "the reducers are sum"),
+    ("input x; emit x[t-5s] over (0, 5];", "no units"),
+])
+def test_cures(text, cure):
+    fault = fault_of(text.encode())
+    assert fault is not None and cure in fault.cure, fault
+
+
+def test_the_caret_stands_under_the_place():
+    text = "input x;\r\n\temit é x over (0, 10];".encode()
+    lines = list(placed("q", text, fault_of(text)).lines())
+    assert lines[0].startswith("q:2:7: ") and lines[1] == "     emit é x over (0, 10];" and lines[2] == "    " + " " * 6 + "^"
+    long = ("input x;" * 1 + " " * 300 + "emit y over (0, 10];").encode()
+    lines = list(placed("q", long, fault_of(long)).lines())
+    assert lines[1][lines[2].index("^")] == "y" and len(lines[1]) <= 124
+    assert place_of(b"a\nb", 2).line == 2
+
+
+# With the program
+
+
+def explained(program: str, texts: list[bytes], folder: pathlib.Path) -> list[str]:
+    """The program's line of each text; empty where it takes it."""
+
+    def one(numbered: tuple[int, bytes]) -> str:
+        number, text = numbered
+        path = folder / f"{number}.tilt"
+        path.write_bytes(text)
+        done = subprocess.run([program, "explain", str(path)], capture_output=True, text=True)
+        assert (done.returncode == 0) == (done.stderr == "")
+        return done.stderr.removeprefix("tilt: ").rstrip("\n")
+
+    with concurrent.futures.ThreadPoolExecutor(2) as pool:
+        return list(pool.map(one, enumerate(texts)))
+
+
+def compare(program: str, texts: list[bytes], folder: pathlib.Path) -> dict[str, int]:
+    """Holds the reading here and the program's together; how often each line's number came."""
+    seen: dict[str, int] = {}
+    for text, line in zip(texts, explained(program, texts, folder)):
+        fault = fault_of(text)
+        assert (fault.line if fault else "") == line, text
+        seen[line[:2]] = seen.get(line[:2], 0) + 1
+    return seen
+
+
+def test_texts_of_the_repository(tilt, tmp_path):
+    texts = queries.of_repository()
+    assert len(texts) > 100
+    seen = compare(tilt, texts, tmp_path)
+    assert {"", "20", "21", "24", "25", "26", "27", "28", "29", "30", "31"} <= set(seen)
+
+
+def test_2000_random_texts(tilt, tmp_path):
+    draw = queries.Draw(1)
+    texts = [draw.mistaken(draw.query()) for _ in range(2000)]
+    seen = compare(tilt, texts, tmp_path)
+    assert {"", "20", "21", "24", "25", "26", "27", "28", "29", "30", "31"} <= set(seen), seen
+
+
+def test_long_texts(tilt, tmp_path):
+    texts = [b"let a = 1;" * 256 + b"emit 1 over (0, 1];", b"let a = 1;" * 257, b"emit 1" + b" + 1" * 125 + b" over (0, 1];",
+             b"emit 1" + b" + 1" * 124 + b" over (0, 1];", b"emit " + b"(" * 120 + b"1" + b")" * 120 + b" over (0, 1];",
+             b"emit " + b"(" * 124 + b"1" + b")" * 124 + b" over (0, 1];", b"emit " + b"-" * 247 + b"1 over (0, 1];", b"", b" \n", b";", b";;"]
+    compare(tilt, texts, tmp_path)
+
+
+@pytest.mark.parametrize("words", [
+    ["q", "x=x"], ["q", "x=x", "--plain"], ["q", "x=x", "--cut", "3,7"], ["q"], [], ["q", "x=x", "x=x"], ["q", "y=x"], ["nowhere", "x=x"],
+    ["q", "x=nowhere"], ["q", "x=x", "--save", "state"], ["wrong", "x=x"], ["q", "x=unsorted"], ["q", "x=headless"], ["q", "x=decimal"],
+    ["--plain", "q", "x=x"], ["q", "x=x", "--help"]])
+def test_run_has_the_programs_bytes_and_status(tilt, tmp_path, monkeypatch, words):
+    monkeypatch.chdir(tmp_path)
+    put(q=QUERY, x=ROWS, wrong="input x; emit y over (0, 10];", unsorted="start,end,value\n0,5,7\n\n4,8,9\n", headless="0,5,7\n",
+        decimal="start,end,value\n0,5,7.5\n")
+    plain = subprocess.run([tilt, "run", *words], capture_output=True, cwd=tmp_path)
+    ours = subprocess.run([sys.executable, "-m", "tilt_data", "run", *words], capture_output=True, cwd=tmp_path,
+                          env={"PYTHONPATH": str(PYTHON), "TILT": tilt})
+    assert (ours.returncode, ours.stdout) == (plain.returncode, plain.stdout)
+    assert ours.stderr.startswith(plain.stderr)
+    if words in (["q", "x=x"], ["q", "x=x", "--plain"], ["q", "x=x", "--cut", "3,7"]):
+        assert ours.stderr == b""
+
+
+@pytest.mark.parametrize("words, what", [
+    (["wrong", "x=x"], "wrong:1:15: no statement before it declares `y`\n    input x; emit y over (0, 10];\n                  ^\n"),
+    (["q", "x=unsorted"], "unsorted:4: out of order in row 2\n    4,8,9\n    a start at the end of the row before or later was expected: sort the rows, "
+     "and let none overlap; the row before is 0,5,7\n"),
+    (["q", "x=decimal"], "decimal:2: bad field 3 in row 1\n    0,5,7.5\n"),
+    (["q", "x=headless"], "headless:1: bad header\n    0,5,7\n"),
+    (["q", "y=x"], "q: the query has no input y\n"),
+    (["q"], "q: the input x is bound to no file\n    add x=FILE\n"),
+    (["q", "x=x", "x=x"], "q: x is bound more than once\n"),
+    (["q", "x=unsortd"], "unsortd: No such file or directory\n    did you mean unsorted?\n"),
+])
+def test_what_run_adds(tilt, tmp_path, monkeypatch, capfd, words, what):
+    from tilt_data.cli import main
+    monkeypatch.chdir(tmp_path)
+    put(q=QUERY, x=ROWS, wrong="input x; emit y over (0, 10];", unsorted="start,end,value\n0,5,7\n\n4,8,9\n", headless="0,5,7\n",
+        decimal="start,end,value\n0,5,7.5\n")
+    assert main(["run", *words]) in (1, 3)
+    first, _, rest = capfd.readouterr().err.partition("\n")
+    assert first.startswith("tilt: ") and rest.startswith(what)
+
+
+def test_why_of_a_query_alone(tilt, tmp_path, monkeypatch, capfd):
+    from tilt_data.cli import main
+    monkeypatch.chdir(tmp_path)
+    put(q=QUERY, wrong="input x; emit y over (0, 10];")
+    assert main(["why", "q"]) == 0
+    assert capfd.readouterr().out.startswith("reach 0 0\n")
+    assert main(["why", "wrong"]) == 1
+    assert "wrong:1:15: " in capfd.readouterr().err
+
+
+def test_series_of_other_clocks_are_told(tilt, told, capfd):
+    put(q="input x; input y; emit x + y over (0, 10];", raw="time,x,y\n2026-03-01T00:00:01,1,2\n2026-03-01T00:00:03,1,2\n")
+    for name, tick in (("x", "1s"), ("y", "1ms")):
+        assert told("series", "raw", "--time", "time", "--value", name, "--tick", tick)[0] == 0
+    assert told("run", "q", "x=x.csv", "y=y.csv")[0] == 0
+    assert told("run", "q", "x=x.csv", "y=x.csv")[2] == ""
+    assert run_program(tilt, "input x; emit x over (0, 10];", "x=x.csv") != ""

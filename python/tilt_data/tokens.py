@@ -1,0 +1,101 @@
+"""The tokens of a query, each with its place, by the rules of docs/LANGUAGE.md."""
+from __future__ import annotations
+
+import dataclasses
+import re
+
+REDUCERS = ("sum", "avg", "min", "max", "count", "first", "last", "any", "all")
+RESERVED = frozenset(
+    ("input", "let", "emit", "over", "every", "from", "if", "then", "else", "when", "or", "and", "not", "true", "false", "isnull", "ifnull",
+     "t") + REDUCERS)
+BLANKS = re.compile(rb"[ \t\n\r]*")
+TOKEN = re.compile(rb"([A-Za-z_][A-Za-z0-9_]*)|([0-9]+)|==|!=|<=|>=|[;=<>+\-*/%()\[\],:]")
+GREATEST_NUMBER = 2**63 - 1
+
+
+@dataclasses.dataclass(frozen=True)
+class Token:
+    """A token: its kind (`name`, `number`, or its own text), its text, and the first byte and the one after the last."""
+
+    kind: str
+    text: str
+    begin: int
+    end: int
+
+
+@dataclasses.dataclass(frozen=True)
+class Fault:
+    """Why a query is refused: the program's line without `tilt: `, the bytes that are to blame, what was expected, and a cure."""
+
+    line: str
+    begin: int
+    end: int
+    expected: str
+    cure: str = ""
+
+
+class Faulty(Exception):
+    """Ends the reading of a query at its first fault."""
+
+    def __init__(self, line: str, token: Token, expected: str, cure: str = "") -> None:
+        super().__init__(line)
+        self.fault = Fault(line, token.begin, token.end, expected, cure)
+
+
+SIGNS = {
+    "&": "`and` is written in letters", "|": "`or` is written in letters", "!": "`not a` is written in letters; `!=` compares",
+    "#": "there are no comments: take them out, as by sed 's/#.*//'", ".": "numbers are whole: scale values, as 20.5 degrees to 205 tenths",
+    "'": "there are no texts, only numbers", '"': "there are no texts, only numbers", "{": "blocks aren't in the language",
+    "}": "blocks aren't in the language", "^": "there is no power: write x * x", "?": "choices are written `if c then a else b`",
+    "$": "a name has letters, digits and _",
+}
+
+
+def tokens_of(text: bytes) -> list[Token]:
+    """All tokens, or the first faulty place."""
+    tokens = []
+    at = BLANKS.match(text).end()  # type: ignore[union-attr]
+    while at < len(text):
+        found = TOKEN.match(text, at)
+        if found is None:
+            raise unknown_byte(text, at)
+        token = token_of(found)
+        if token.kind == "number" and int(token.text.lstrip("0")[:20] or 0) > GREATEST_NUMBER:
+            raise Faulty(f"21 big number at {at}", token, f"a number up to {GREATEST_NUMBER} was expected")
+        tokens.append(token)
+        at = BLANKS.match(text, token.end).end()  # type: ignore[union-attr]
+    return tokens
+
+
+def token_of(found: re.Match[bytes]) -> Token:
+    text = found.group().decode("ascii")
+    kind = "number" if found[2] is not None else "name" if found[1] is not None and text not in RESERVED else text
+    return Token(kind, text, *found.span())
+
+
+def unknown_byte(text: bytes, at: int) -> Faulty:
+    sign = chr(text[at])
+    cure = SIGNS.get(sign, "")
+    if text[at] >= 128:
+        end = at + 1
+        while end < len(text) and text[end] & 0xC0 == 0x80:
+            end += 1
+        return Faulty(f"20 bad byte at {at}", Token("", "", at, end), "a letter or sign of ASCII was expected", "write names without accents")
+    return Faulty(f"20 bad byte at {at}", Token("", sign, at, at + 1), f"the language has no {sign!r}", cure)
+
+
+@dataclasses.dataclass(frozen=True)
+class Place:
+    """Where a byte stands: its line and its column, from 1, and the text of its line."""
+
+    line: int
+    column: int
+    text: str
+
+
+def place_of(text: bytes, at: int) -> Place:
+    begin = text.rfind(b"\n", 0, at) + 1
+    end = text.find(b"\n", at)
+    whole = text[begin:len(text) if end < 0 else end].rstrip(b"\r")
+    before = text[begin:at].decode("utf-8", "replace")
+    return Place(text.count(b"\n", 0, at) + 1, len(before) + 1, whole.decode("utf-8", "replace"))

@@ -1,0 +1,244 @@
+"""`tilt-data run` and `tilt-data why`: what `tilt` says, and where it refuses the place of the mistake, what was expected and a cure.
+
+The program's own line stands first, and nothing is added that says otherwise: a place is told only where the reading here comes to the
+line of the program."""
+from __future__ import annotations
+
+import argparse
+import csv
+import dataclasses
+import difflib
+import os
+import re
+import subprocess
+import sys
+from typing import Any, Iterator
+
+from .errors import Refused
+from .files import notes_of
+from .forms import fault_of
+from .program import program
+from .tokens import Fault, place_of
+
+SERIES_LINE = re.compile(r"(1[0-7]) series (\S+): (.*)")
+ROW = re.compile(r" in row (\d+)$")
+CURES = {
+    10: "the first line has to be start,end,value; a CSV of readings becomes a series by `tilt-data series`",
+    11: "a row has three fields: start,end,value",
+    12: "whole numbers without blanks were expected, and only the value may be empty; `tilt-data series --scale` makes decimals whole",
+    13: "times lie from -4000000000000000000 to 4000000000000000000: take a nearer origin",
+    14: "a start below the end was expected: the start is the tick before the first one",
+    15: "a start at the end of the row before or later was expected: sort the rows, and let none overlap",
+    16: "it starts before the cut of the session before",
+    17: "it starts at the cut of this session or later",
+}
+
+
+@dataclasses.dataclass(frozen=True)
+class Refusal:
+    """What a refusal says besides its line: the file, the line and the column from 1 where they are known, the text of that line, how many
+    signs are marked, what was expected, and a cure."""
+
+    file: str
+    line: int | None = None
+    column: int | None = None
+    text: str = ""
+    width: int = 1
+    expected: str = ""
+    cure: str = ""
+
+    def lines(self) -> Iterator[str]:
+        place = ":".join(str(part) for part in (self.file, self.line, self.column) if part is not None)
+        yield f"{place}: {self.expected}"
+        if self.text:
+            # Only what lies around the place of a long line is shown.
+            begin = max(0, (self.column or 1) - 60)
+            yield "    " + self.text[begin:begin + 120].replace("\t", " ")
+        if self.column is not None:
+            begin = max(0, self.column - 60)
+            room = max(1, len(self.text) - self.column + 1)
+            yield "    " + " " * (self.column - 1 - begin) + "^" * max(1, min(self.width, room, 80))
+        if self.cure:
+            yield f"    {self.cure}"
+
+
+def placed(file: str, text: bytes, fault: Fault) -> Refusal:
+    """The place of a fault. At the end of a text it is after the last token."""
+    at = fault.begin
+    place = place_of(text, at)
+    width = len(text[fault.begin:fault.end].decode("utf-8", "replace"))
+    return Refusal(file, place.line, place.column, place.text, width, fault.expected, fault.cure)
+
+
+def query_refusal(file: str, line: str) -> Refusal | None:
+    """The place in a query, where reading it here comes to the same line."""
+    try:
+        with open(file, "rb") as opened:
+            text = opened.read()
+    except OSError:
+        return None
+    fault = fault_of(text)
+    return placed(file, text, fault) if fault is not None and fault.line == line else None
+
+
+def bound(words: list[str]) -> dict[str, str]:
+    """The files of the inputs, by the words of `run`."""
+    found: dict[str, str] = {}
+    at = 1
+    while at < len(words):
+        name, sign, file = words[at].partition("=")
+        if words[at] == "--cut":
+            at += 1
+        elif sign and not words[at].startswith("--"):
+            found.setdefault(name, file)
+        at += 1
+    return found
+
+
+def series_refusal(found: re.Match[str], files: dict[str, str]) -> Refusal | None:
+    """The line of a series file, by the row that the program counted."""
+    file = files.get(found[2])
+    if file is None or not os.path.isfile(file):
+        return None
+    row = ROW.search(found[3])
+    line, text, before = record_of(file, int(row[1]) if row else 0)
+    if line is None:
+        return None
+    cure = CURES[int(found[1])]
+    if int(found[1]) == 15 and before:
+        cure += f"; the row before is {before}"
+    return Refusal(file, line, None, text, 1, found[3], cure)
+
+
+def record_of(file: str, row: int) -> tuple[int | None, str, str]:
+    """The line of a row of a series, counted as the program does, its text, and that of the row before; row 0 is the header."""
+    before = ""
+    try:
+        with open(file, encoding="utf-8-sig", errors="replace", newline="") as opened:
+            reader = csv.reader(opened)
+            count = -1
+            for record in reader:
+                if record:
+                    count += 1
+                    if count == row:
+                        return reader.line_num, ",".join(record), before
+                    before = ",".join(record) if count else ""
+    except (OSError, csv.Error):
+        return None, "", ""
+    return (1, "", "") if row == 0 else (None, "", "")
+
+
+def names_refusal(query: str, name: str, words: list[str]) -> Refusal:
+    """Which name is bound twice, not at all, or is no input."""
+    bindings = [word.partition("=")[0] for word in words[1:] if "=" in word and not word.startswith("--")]
+    inputs = inputs_of(query)
+    if bindings.count(name) > 1:
+        return Refusal(query, expected=f"{name} is bound more than once", cure="bind each input once")
+    if name in inputs:
+        return Refusal(query, expected=f"the input {name} is bound to no file", cure=f"add {name}=FILE")
+    near = difflib.get_close_matches(name, inputs, 1, 0.5)
+    cure = f"did you mean {near[0]}?" if near else f"its inputs are {', '.join(inputs) or 'none'}"
+    return Refusal(query, expected=f"the query has no input {name}", cure=cure)
+
+
+def inputs_of(query: str) -> list[str]:
+    try:
+        with open(query, encoding="ascii", errors="replace") as file:
+            return re.findall(r"\binput\s+([A-Za-z_]\w*)\s*;", file.read())
+    except OSError:
+        return []
+
+
+def fault_refusal(file: str) -> Refusal | None:
+    """Why a file can't be read, as far as the system tells."""
+    try:
+        with open(file, "rb") as opened:
+            opened.read(1)
+    except OSError as error:
+        folder, name = os.path.split(file)
+        try:
+            near = difflib.get_close_matches(name, os.listdir(folder or "."), 1)
+        except OSError:
+            near = []
+        return Refusal(file, expected=str(error.strerror), cure=f"did you mean {os.path.join(folder, near[0])}?" if near else "")
+    return None
+
+
+def refusal_of(told: str, words: list[str]) -> Refusal | None:
+    """What there is to say of the program's line, given the words of `run` after it."""
+    line = told.removeprefix("tilt: ").rstrip("\n")
+    query = words[0] if words else ""
+    if re.match(r"(2\d|3[01]) ", line):
+        return query_refusal(query, line)
+    found = SERIES_LINE.fullmatch(line)
+    if found:
+        return series_refusal(found, bound(words))
+    if line.startswith("2 input names: "):
+        return names_refusal(query, line[len("2 input names: "):], words)
+    return fault_refusal(line[len("4 read fault: "):]) if line.startswith("4 read fault: ") else None
+
+
+def clashes(words: list[str]) -> str | None:
+    """Inputs whose JSON files tell another clock or another scale than the first one's."""
+    known = []
+    for name, file in bound(words).items():
+        try:
+            notes = notes_of(file)
+        except Refused:
+            continue
+        if notes is not None:
+            known.append((name, notes))
+    for name, notes in known[1:]:
+        first, other = known[0][1].clock, notes.clock
+        if (first.tick, first.origin) != (other.tick, other.origin):
+            return f"the series {known[0][0]} and {name} have other ticks or origins: write one --like the other"
+    return None
+
+
+def call(words: list[str]) -> tuple[int, bytes]:
+    """Runs the program on the streams of the caller: its status, and what it told."""
+    try:
+        done = subprocess.run([program(), *words], stderr=subprocess.PIPE)
+    except OSError as error:
+        raise Refused(f"the program can't be run: {error.strerror}") from error
+    return (done.returncode if done.returncode >= 0 else 128 - done.returncode), done.stderr
+
+
+def run(words: list[str]) -> int:
+    """`tilt run` with these words: its status and its bytes."""
+    status, told = call(["run", *words])
+    sys.stdout.flush()
+    sys.stderr.write(told.decode("utf-8", "replace"))
+    if status:
+        tell(refusal_of(told.decode("utf-8", "replace"), words))
+    else:
+        clash = clashes(words)
+        if clash:
+            print(f"tilt-data: note: {clash}", file=sys.stderr)
+    return status
+
+
+def tell(refusal: Refusal | None) -> None:
+    for line in refusal.lines() if refusal is not None else ():
+        print(line, file=sys.stderr)
+
+
+def why(words: argparse.Namespace) -> int:
+    """The same for a query alone; where it is taken, what `tilt explain` prints."""
+    status, told = call(["explain", words.query])
+    sys.stderr.write(told.decode("utf-8", "replace"))
+    if status:
+        tell(refusal_of(told.decode("utf-8", "replace"), [words.query]))
+    return status
+
+
+def add(commands: Any) -> None:
+    parser = commands.add_parser(
+        "run", help="tilt run, and the place of a mistake", usage="tilt-data run QUERY NAME=FILE .. [--plain] [--cut TIME,..]",
+        description="Runs `tilt run` with the same words: its output, its line and its status. Where it refuses, the place stands after its line.")
+    parser.add_argument("words", nargs="*")
+    parser.set_defaults(main=lambda parsed: run(parsed.words))
+    parser = commands.add_parser("why", help="why a query is refused", description="Tells why a query is refused, and where; else what `tilt "
+                                 "explain` prints.")
+    parser.add_argument("query", metavar="QUERY")
+    parser.set_defaults(main=why)
