@@ -5,10 +5,10 @@ import argparse
 import os
 import sys
 
-from . import series, why
+from . import series, table, why
 from .errors import Refused
 
-COMMANDS = [series, why]
+COMMANDS = [series, table, why]
 
 
 def parser_of() -> argparse.ArgumentParser:

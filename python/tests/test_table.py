@@ -1,0 +1,124 @@
+"""`tilt-data table`: dates and decimals, joined rows, episodes, and files side by side."""
+from __future__ import annotations
+
+import csv
+import io
+import os
+import pathlib
+import random
+
+import pytest
+from tilt_data.clock import Clock, moment_text
+from tilt_data.files import Notes
+from tilt_data.scales import decimal_text
+
+
+def put(name: str, rows: str, tick: int = 10**9, scale: int = 10, origin: int = 0) -> str:
+    pathlib.Path(f"{name}.csv").write_text("start,end,value\n" + rows)
+    pathlib.Path(f"{name}.json").write_text(Notes(Clock(tick, origin), scale, name=name).text())
+    return f"{name}.csv"
+
+
+def table(told, *words: str) -> list[list[str]]:
+    status, out, err = told("table", *words)
+    assert (status, err) == (0, "")
+    return list(csv.reader(io.StringIO(out)))
+
+
+def test_dates_and_decimals(told):
+    put("x", "0,60,205\n60,61,\n3600,7200,-5\n")
+    assert table(told, "x.csv") == [
+        ["start", "end", "value"], ["1970-01-01T00:00:00Z", "1970-01-01T00:01:00Z", "20.5"],
+        ["1970-01-01T00:01:00Z", "1970-01-01T00:01:01Z", ""], ["1970-01-01T01:00:00Z", "1970-01-01T02:00:00Z", "-0.5"]]
+    assert table(told, "x.csv", "--zone", "Europe/Zurich", "--scale", "1")[1] == [
+        "1970-01-01T01:00:00+01:00", "1970-01-01T01:01:00+01:00", "205"]
+
+
+def test_an_output_is_like_a_series(told):
+    put("x", "0,1,205\n", tick=10**6)
+    pathlib.Path("out.csv").write_text("start,end,value\n0,250,7\n")
+    assert table(told, "out.csv", "--like", "x.csv")[1] == ["1970-01-01T00:00:00.000Z", "1970-01-01T00:00:00.250Z", "0.7"]
+    status, _, err = told("table", "out.csv")
+    assert status == 1 and "--like" in err
+
+
+def test_equal_neighbours_are_joined(told):
+    put("x", "0,5,7\n5,8,7\n9,10,7\n10,11,\n11,12,\n12,13,8\n", scale=1)
+    assert [row[2] for row in table(told, "x.csv", "--merge")[1:]] == ["7", "7", "", "8"]
+    assert table(told, "x.csv", "--merge")[1][1] == "1970-01-01T00:00:08Z"
+
+
+def test_a_key_stays_in_front(told):
+    put("x", "", scale=1)
+    pathlib.Path("all.csv").write_text("key,start,end,value\na,0,5,7\na,5,6,7\nb,6,7,7\n")
+    assert [[row[0], row[-1]] for row in table(told, "all.csv", "--like", "x.csv", "--merge")[1:]] == [["a", "7"], ["b", "7"]]
+
+
+def test_episodes(told):
+    put("alarm", "10,20,1\n20,30,5\n40,50,1\n50,60,\n100,110,2\n")
+    put("temp", "0,15,100\n15,25,200\n25,45,\n45,48,-7\n105,200,3\n")
+    rows = table(told, "alarm.csv", "--episodes", "--of", "temp.csv", "--scale", "temp=10")
+    assert rows[0] == ["start", "end", "seconds", "temp_min", "temp_max", "temp_mean"]
+    assert [row[2:] for row in rows[1:]] == [
+        ["20", "10.0", "20.0", "16.667"], ["10", "-0.7", "-0.7", "-0.700"], ["10", "0.3", "0.3", "0.300"]]
+    assert [row[2] for row in table(told, "alarm.csv", "--episodes", "--gap", "10s")[1:]] == ["40", "10"]
+
+
+def test_side_by_side(told):
+    put("a", "0,10,1\n10,20,2\n30,40,3\n", scale=1)
+    put("b", "5,15,7\n15,35,\n", scale=1)
+    rows = [[row[0][14:19], row[1][14:19], *row[2:]] for row in table(told, "a.csv", "other=b.csv", "--wide")]
+    assert rows[1:] == [["00:00", "00:05", "1", ""], ["00:05", "00:10", "1", "7"], ["00:10", "00:15", "2", "7"], ["00:15", "00:20", "2", ""],
+                        ["00:30", "00:35", "3", ""], ["00:35", "00:40", "3", ""]]
+
+
+def test_side_by_side_is_what_each_is_at_each_tick(told):
+    draws = random.Random(8)
+    cells = []
+    for name in "abc":
+        edges = sorted(draws.sample(range(200), 40))
+        rows = [(lo, hi, draws.choice(["", "1", "2"])) for lo, hi in zip(edges, edges[1:]) if draws.random() < 0.8]
+        put(name, "".join(f"{lo},{hi},{value}\n" for lo, hi, value in rows), scale=1)
+        cells.append({tick: value for lo, hi, value in rows for tick in range(lo, hi)})
+    got: dict[int, list[str]] = {}
+    for start, end, *values in table(told, "a.csv", "b.csv", "c.csv", "--wide")[1:]:
+        lo, hi = (int(text[14:16]) * 60 + int(text[17:19]) for text in (start, end))
+        got.update({tick: values for tick in range(lo, hi)})
+    for tick in range(200):
+        assert got.get(tick, ["", "", ""]) == [cell.get(tick, "") for cell in cells]
+
+
+@pytest.mark.parametrize("closed", ["left", "right"])
+@pytest.mark.parametrize("kind", ["--event", "--hold"])
+def test_series_and_then_table_gives_the_readings_back(told, closed, kind):
+    draws = random.Random(9)
+    for tick, unit in ((10**9, 0), (10**6, 3), (1, 9)):
+        moments = sorted({draws.randrange(10**6) for _ in range(300)})
+        scale = 10**draws.randrange(4)
+        values = [draws.choice([None, draws.randrange(-10**6, 10**6)]) for _ in moments]
+        texts = ["" if value is None else decimal_text(value, scale) for value in values]
+        times = [moment_text(1772323200 * 10**9 + moment * tick, unit) for moment in moments]
+        pathlib.Path("raw.csv").write_text("time,temp\n" + "".join(f"{time},{text}\n" for time, text in zip(times, texts)))
+        words = ["--time", "time", "--tick", f"{tick}ns", "--scale", str(scale), "--closed", closed, kind, *(["next"] if kind == "--hold" else [])]
+        assert told("series", "raw.csv", *words)[0] == 0
+        rows = table(told, "temp.csv")[1:]
+        at = 1 if closed == "right" and kind == "--event" else 0
+        if closed == "right" and kind == "--hold":
+            # A value that holds from a moment on the edge of a tick holds for the tick that ends there too.
+            assert [row[2] for row in rows] == texts
+        else:
+            assert [(row[at], row[2]) for row in rows] == list(zip(times, texts))
+
+
+@pytest.mark.parametrize("text, what", [
+    ("a,b\n", "x.csv:1: the header start,end,value or key,start,end,value was expected"),
+    ("start,end,value\n0,5,7.5\n", "x.csv:2: a row of whole numbers as in the header was expected, not 0,5,7.5"),
+    ("start,end,value\n0,5\n", "x.csv:2: a row of whole numbers as in the header was expected, not 0,5"),
+])
+def test_bad_files(told, text, what):
+    put("x", "")
+    pathlib.Path("x.csv").write_text(text)
+    pathlib.Path("out").write_text("old")
+    status, _, err = told("table", "x.csv", "-o", "out")
+    assert status == 1 and err == f"tilt-data: {what}\n" and pathlib.Path("out").read_text() == "old"
+    assert sorted(os.listdir()) == ["out", "x.csv", "x.json"]

@@ -1,0 +1,274 @@
+"""`tilt-data table`: outputs and series back to dates and decimals; also joined, as episodes, and side by side."""
+from __future__ import annotations
+
+import argparse
+import contextlib
+import csv
+import dataclasses
+import datetime
+import decimal
+import itertools
+import os
+from typing import IO, Any, Iterable, Iterator
+
+from .clock import Clock, duration_of, zone_of
+from .errors import Refused, refused_at
+from .files import HEADER, Notes, Row, notes_of, reading, records, rows_of, writing
+from .progress import shown
+from .scales import decimal_text
+
+HELP = """Prints outputs of tilt, or series, with dates and decimals. The clock and the scale are those of the JSON file beside the file, or of the
+series that --like names. A row start,end is the stretch of time from the first to the second; which of its ends belongs to it is the
+`closed` of the series. Where a file begins with key,start,end,value, as of `tilt-data by`, the key stays in front."""
+
+
+@dataclasses.dataclass
+class Look:
+    """How times and values are written: the clock, the zone (None for UTC), and the scale."""
+
+    clock: Clock
+    zone: datetime.tzinfo | None
+    scale: int
+
+    def time(self, tick: int) -> str:
+        return self.clock.text(tick, self.zone)
+
+    def value(self, value: int | None) -> str:
+        return "" if value is None else decimal_text(value, self.scale)
+
+
+def add(commands: Any) -> None:
+    parser = commands.add_parser("table", help="outputs back to dates and decimals", description=HELP)
+    parser.add_argument("files", nargs="+", metavar="[NAME=]FILE", help="outputs of tilt or series; - for standard input")
+    parser.add_argument("--like", metavar="SERIES", help="the series whose clock and scale these files have")
+    parser.add_argument("--scale", nargs="+", metavar="[NAME=]N", default=[], help="values are divided by N, as 1 for a count")
+    parser.add_argument("--zone", help="the time zone of the dates (that of the series, or UTC)")
+    parser.add_argument("--merge", action="store_true", help="join equal neighbours")
+    parser.add_argument("--episodes", action="store_true", help="one row for each stretch of rows that follow one another: start, end, duration")
+    parser.add_argument("--gap", metavar="DURATION", help="with --episodes: stretches no farther apart are one")
+    parser.add_argument("--of", nargs="+", metavar="NAME=FILE", default=[], help="with --episodes: the least, the greatest and the mean (weighted by "
+                        "time) of these in each episode")
+    parser.add_argument("--wide", action="store_true", help="several files side by side, cut where one of them changes")
+    parser.add_argument("-o", "--out", metavar="FILE", help="where the table is written (standard output)")
+    parser.set_defaults(main=main)
+
+
+def named(word: str) -> tuple[str, str]:
+    """The name and the file of a word; the name is the file's own where none is given."""
+    name, sign, file = word.partition("=")
+    if sign and not os.path.exists(word):
+        return name, file
+    return os.path.splitext(os.path.basename(word))[0], word
+
+
+class Looks:
+    """How each file is written: by its own JSON file, or as the series that is named."""
+
+    def __init__(self, words: argparse.Namespace) -> None:
+        self.like = None if words.like is None else notes_of(words.like)
+        if words.like is not None and self.like is None:
+            raise Refused(f"{words.like}: there is no JSON file beside it; `tilt-data series` writes one")
+        self.zone = words.zone
+        self.scales = dict(word.rpartition("=")[::2] for word in words.scale)
+        for text in self.scales.values():
+            if not text.isdigit() or int(text) == 0:
+                raise Refused(f"--scale {text}: a whole number above 0 was expected")
+
+    def of(self, name: str, file: str) -> Look:
+        notes: Notes | None = notes_of(file) or self.like
+        if notes is None:
+            raise Refused(f"{file}: its ticks and scale aren't known: there is no JSON file beside it; --like SERIES names a series that has one")
+        scale = int(self.scales.get(name, self.scales.get("", notes.scale)))
+        return Look(notes.clock, zone_of(self.zone or notes.zone), scale)
+
+
+def merged(rows: Iterable[Row]) -> Iterator[Row]:
+    """Equal neighbours as one row."""
+    held: Row | None = None
+    for row in rows:
+        if held is not None and held[1] == row[0] and held[2] == row[2]:
+            held = held[0], row[1], held[2]
+        else:
+            if held is not None:
+                yield held
+            held = row
+    if held is not None:
+        yield held
+
+
+def put(out: IO[str], fields: Iterable[Iterable[str]]) -> None:
+    csv.writer(out, lineterminator="\n").writerows(fields)
+
+
+def main(words: argparse.Namespace) -> int:
+    if words.of and not words.episodes or words.gap and not words.episodes:
+        raise Refused("--of and --gap go with --episodes")
+    if len(words.files) > 1 and not words.wide:
+        raise Refused("several files were named: --wide puts them side by side")
+    looks = Looks(words)
+    with writing(words.out) as out:
+        if words.wide:
+            put(out, wide([named(word) for word in words.files], looks, words.merge))
+        elif words.episodes:
+            put(out, episodes(words, looks))
+        else:
+            put(out, plain(words, looks))
+    return 0
+
+
+def plain(words: argparse.Namespace, looks: Looks) -> Iterator[list[str]]:
+    """A row of text for each row, or for each stretch of equal neighbours; with a key in front where the file has one."""
+    name, file = named(words.files[0])
+    look = looks.of(name, file)
+    with reading(file) as opened:
+        found = records(file, opened)
+        line, header = next(found, (1, []))
+        if header not in (HEADER, ["key", *HEADER]):
+            raise refused_at(file, line, "the header start,end,value or key,start,end,value was expected")
+        yield header
+        for key, rows in by_key(file, shown(found, "rows"), len(header)):
+            for start, end, value in merged(rows) if words.merge else rows:
+                yield [*key, look.time(start), look.time(end), look.value(value)]
+
+
+def by_key(file: str, found: Iterable[tuple[int, list[str]]], width: int) -> Iterator[tuple[list[str], Iterator[Row]]]:
+    """The rows of each key that follow one another."""
+    def parsed() -> Iterator[tuple[list[str], Row]]:
+        for line, record in found:
+            try:
+                start, end, value = record[-3:]
+                if len(record) != width:
+                    raise ValueError
+                yield record[:-3], (int(start), int(end), int(value) if value else None)
+            except ValueError as error:
+                raise refused_at(file, line, f"a row of whole numbers as in the header was expected, not {','.join(record)}") from error
+
+    for key, group in itertools.groupby(parsed(), lambda one: one[0]):
+        yield key, (row for _, row in group)
+
+
+# Side by side
+
+
+class Cursor:
+    """The rows of one file, of which the one that isn't passed yet is at hand."""
+
+    def __init__(self, rows: Iterator[Row]) -> None:
+        self.rows = rows
+        self.row = next(rows, None)
+
+    def at(self, tick: int) -> tuple[int | None, int | None]:
+        """The value after a tick, and the next tick at which it may change; ticks don't go back."""
+        while self.row is not None and self.row[1] <= tick:
+            self.row = next(self.rows, None)
+        if self.row is None:
+            return None, None
+        return (self.row[2], self.row[1]) if self.row[0] <= tick else (None, self.row[0])
+
+
+def pieces(cursors: list[Cursor]) -> Iterator[tuple[int, int, list[int | None]]]:
+    """The stretches on which no file changes, and the value of each file there; those where all are null are left out."""
+    tick = min((cursor.row[0] for cursor in cursors if cursor.row is not None), default=None)
+    while tick is not None:
+        found = [cursor.at(tick) for cursor in cursors]
+        following = min((change for _, change in found if change is not None), default=None)
+        if following is not None and any(value is not None for value, _ in found):
+            yield tick, following, [value for value, _ in found]
+        tick = following
+
+
+def wide(files: list[tuple[str, str]], looks: Looks, merge: bool) -> Iterator[list[str]]:
+    shapes = [looks.of(name, file) for name, file in files]
+    if len({(shape.clock.tick, shape.clock.origin) for shape in shapes}) > 1:
+        raise Refused("these files have other ticks or origins: they have no common pieces")
+    yield ["start", "end", *(name for name, _ in files)]
+    with contextlib.ExitStack() as stack:
+        opened = [rows_of(file, stack.enter_context(reading(file))) for _, file in files]
+        cursors = [Cursor(merged(rows) if merge else rows) for rows in opened]
+        for start, end, values in shown(pieces(cursors), "rows"):
+            yield [shapes[0].time(start), shapes[0].time(end), *(shape.value(value) for shape, value in zip(shapes, values))]
+
+
+# Episodes
+
+
+def stretches(rows: Iterable[Row], gap: int) -> Iterator[tuple[int, int]]:
+    """Where rows with a value follow one another, with gaps of so many ticks at most."""
+    begin = end = None
+    for start, stop, value in rows:
+        if value is None:
+            continue
+        if end is not None and start - end <= gap:
+            end = stop
+            continue
+        if begin is not None and end is not None:
+            yield begin, end
+        begin, end = start, stop
+    if begin is not None and end is not None:
+        yield begin, end
+
+
+@dataclasses.dataclass
+class Within:
+    """The rows of a series, of which those within each of several stretches in order are looked at."""
+
+    rows: Iterator[Row]
+    held: Row | None = None
+
+    def figures(self, lo: int, hi: int) -> tuple[int | None, int | None, int, int]:
+        """The least and the greatest value of the ticks in `(lo, hi]`, the sum over these ticks, and how many of them have a value."""
+        least: int | None = None
+        greatest: int | None = None
+        total = ticks = 0
+        while True:
+            if self.held is None or self.held[1] <= lo:
+                self.held = next(self.rows, None)
+                if self.held is None:
+                    return least, greatest, total, ticks
+                continue
+            start, end, value = self.held
+            if start >= hi:
+                return least, greatest, total, ticks
+            if value is not None:
+                length = min(end, hi) - max(start, lo)
+                least = value if least is None else min(least, value)
+                greatest = value if greatest is None else max(greatest, value)
+                total, ticks = total + length * value, ticks + length
+            if end > hi:
+                return least, greatest, total, ticks
+            self.held = None
+
+
+def mean_text(total: int, ticks: int, scale: int) -> str:
+    """The mean, rounded half to even at two digits more than the scale has."""
+    if not ticks:
+        return ""
+    digits = len(str(scale)) + 1
+    mean = decimal.Context(prec=60).divide(decimal.Decimal(total), decimal.Decimal(ticks * scale))
+    return str(mean.quantize(decimal.Decimal(1).scaleb(-digits), decimal.ROUND_HALF_EVEN, decimal.Context(prec=60)))
+
+
+def length_text(clock: Clock, ticks: int) -> str:
+    """A duration in seconds, with the digits of the clock."""
+    digits = clock.digits
+    seconds, rest = divmod(ticks * clock.tick, 10**9)
+    return f"{seconds}" + (f".{rest:09d}"[:digits + 1] if digits else "")
+
+
+def episodes(words: argparse.Namespace, looks: Looks) -> Iterator[list[str]]:
+    name, file = named(words.files[0])
+    look = looks.of(name, file)
+    others = [named(word) for word in words.of]
+    shapes = [looks.of(*other) for other in others]
+    gap = 0 if words.gap is None else look.clock.ticks(duration_of(words.gap), "--gap")
+    if any((shape.clock.tick, shape.clock.origin) != (look.clock.tick, look.clock.origin) for shape in shapes):
+        raise Refused("the files of --of have other ticks or origins than the episodes")
+    yield ["start", "end", "seconds", *(f"{other}_{what}" for other, _ in others for what in ("min", "max", "mean"))]
+    with contextlib.ExitStack() as stack:
+        within = [Within(rows_of(other, stack.enter_context(reading(other)))) for _, other in others]
+        for start, end in stretches(rows_of(file, stack.enter_context(reading(file))), gap):
+            fields = [look.time(start), look.time(end), length_text(look.clock, end - start)]
+            for one, shape in zip(within, shapes):
+                least, greatest, total, ticks = one.figures(start, end)
+                fields += [shape.value(least), shape.value(greatest), mean_text(total, ticks, shape.scale)]
+            yield fields
