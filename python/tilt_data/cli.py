@@ -5,10 +5,10 @@ import argparse
 import os
 import sys
 
-from . import series, table, why
+from . import by, series, table, ticks, why
 from .errors import Refused
 
-COMMANDS = [series, table, why]
+COMMANDS = [series, table, why, ticks, by]
 
 
 def parser_of() -> argparse.ArgumentParser:

@@ -1,0 +1,74 @@
+"""`tilt-data ticks`: each tick, periods, trading hours and weekdays."""
+from __future__ import annotations
+
+import datetime
+import pathlib
+import zoneinfo
+
+import pytest
+from conftest import rows_in, run_program
+from tilt_data.clock import Clock, Moments
+from tilt_data.files import Notes, notes_of
+
+
+def made(told, *words: str, tick: int = 10**9, origin: str = "2026-03-01", closed: str = "left") -> list:
+    clock = Clock(tick, Moments().read(origin), closed)
+    pathlib.Path("x.csv").write_text("start,end,value\n")
+    pathlib.Path("x.json").write_text(Notes(clock).text())
+    status, out, err = told("ticks", words[0], "out.csv", "--like", "x.csv", *words[1:])
+    assert (status, out, err) == (0, "", "")
+    assert notes_of("out.csv").clock == clock
+    return rows_in("out.csv")
+
+
+def test_each_tick(told):
+    assert made(told, "each", "--from", "2026-03-01T00:00:02", "--to", "2026-03-01T00:00:05") == [(2, 3, 0), (3, 4, 0), (4, 5, 0)]
+    assert made(told, "now", "--from", "2", "--to", "5") == [(2, 3, 3), (3, 4, 4), (4, 5, 5)]
+    assert made(told, "now", "--from", "2026-03-01T00:00:02", "--to", "5", closed="right") == [(2, 3, 3), (3, 4, 4), (4, 5, 5)]
+    assert made(told, "periods", "--from", "0", "--to", "25", "--every", "10s") == [(0, 10, 0), (10, 20, 1), (20, 25, 2)]
+
+
+def test_hours_in_a_zone(told):
+    rows = made(told, "hours", "--from", "2026-03-05", "--to", "2026-03-11", "--open", "09:30", "--close", "16:00", "--zone", "America/New_York",
+                "--closed-on", "2026-03-06", tick=60 * 10**9)
+    new_york = zoneinfo.ZoneInfo("America/New_York")
+    origin = datetime.datetime(2026, 3, 1, tzinfo=datetime.timezone.utc)
+    wanted = []
+    # The clock goes forward on Sunday the 8th.
+    for day in (5, 9, 10):
+        ends = [datetime.datetime(2026, 3, day, *time, tzinfo=new_york) for time in ((9, 30), (16, 0))]
+        wanted.append((*((end - origin) // datetime.timedelta(minutes=1) for end in ends), 1))
+    assert rows == wanted
+    assert wanted[0][0] % 1440 == 14 * 60 + 30 and wanted[1][0] % 1440 == 13 * 60 + 30
+
+
+def test_weekdays_in_a_zone(told):
+    rows = made(told, "weekdays", "--from", "2026-03-28", "--to", "2026-03-31", "--zone", "Europe/Zurich", tick=3600 * 10**9, origin="2026-03-28")
+    # Zurich's midnight is 23:00 in UTC and, after the clock went forward, 22:00; Sunday has 23 hours.
+    assert rows == [(-1, 23, 6), (23, 46, 7), (46, 70, 1)]
+
+
+def test_an_average_weighted_by_time(told, tilt):
+    made(told, "each", "--from", "0", "--to", "10")
+    pathlib.Path("x.csv").write_text("start,end,value\n0,8,10\n8,10,20\n")
+    query = "input x; input each; let w = x + each; emit avg(w[t-10:t]) over (0, 10] every 10;"
+    assert run_program(tilt, query, "x=x.csv", "each=out.csv") == "start,end,value\n0,10,12\n"
+    made(told, "now", "--from", "0", "--to", "10")
+    pathlib.Path("x.csv").write_text("start,end,value\n2,3,1\n7,8,1\n")
+    query = "input x; input now; let at = now when not isnull(x); emit now - last(at[t-100:t]) over (0, 10];"
+    out = run_program(tilt, query, "x=x.csv", "now=out.csv")
+    assert [line.split(",")[2] for line in out.splitlines()[1:]] == ["0", "1", "2", "3", "4", "0", "1", "2"]
+
+
+@pytest.mark.parametrize("words, what", [
+    (["periods", "out.csv", "--like", "x.csv", "--from", "0", "--to", "9"], "how long is a period?"),
+    (["hours", "out.csv", "--like", "x.csv", "--from", "0", "--to", "9"], "when is it open?"),
+    (["hours", "out.csv", "--like", "x.csv", "--from", "0", "--to", "9", "--open", "9:30", "--close", "16:00"], "'9:30' is no time of day"),
+    (["each", "out.csv", "--like", "x.csv", "--from", "9", "--to", "9"], "has no tick"),
+    (["each", "out.csv", "--like", "y.csv", "--from", "0", "--to", "9"], "there is no y.json beside it"),
+    (["each", "out.csv", "--like", "x.csv", "--from", "morning", "--to", "9"], "'morning' is no time"),
+])
+def test_what_is_refused(told, words, what):
+    pathlib.Path("x.json").write_text(Notes(Clock(10**9, 0)).text())
+    status, out, err = told("ticks", *words)
+    assert (status, out) == (1, "") and what in err and not pathlib.Path("out.csv").exists()

@@ -1,0 +1,149 @@
+"""`tilt-data ticks`: helper series for a stretch of time."""
+from __future__ import annotations
+
+import argparse
+import datetime
+import re
+from typing import Any, Iterator
+
+from .clock import Clock, Moments, duration_of, moment_text, zone_of
+from .convert import row_text
+from .errors import Refused
+from .files import Notes, Outputs, Row, notes_of, notes_path
+from .progress import shown
+
+HELP = """Writes a helper series, with its JSON file beside, on the clock of the series that --like names. KIND is one of these:
+each: a row of 0 for each tick, so that avg of x + each is weighted by time.
+now: each tick as a value, so that now - last(when[t-100:t]) is an age.
+periods: a row for each period, its value the number of the period from 0.
+hours: 1 while trading is open, as by --open 09:30 --close 16:00 in a time zone, on --days, but for the days of --closed-on.
+weekdays: the day of the week in a time zone, from 1 (Monday) to 7."""
+DAYS = ("mon", "tue", "wed", "thu", "fri", "sat", "sun")
+
+
+def add(commands: Any) -> None:
+    parser = commands.add_parser("ticks", help="helper series: each tick, periods, trading hours, weekdays", description=HELP,
+                                 formatter_class=argparse.RawDescriptionHelpFormatter)
+    parser.add_argument("kind", choices=["each", "now", "periods", "hours", "weekdays"], metavar="KIND")
+    parser.add_argument("out", metavar="OUT.csv")
+    parser.add_argument("--like", metavar="SERIES", required=True, help="the series whose clock it has")
+    parser.add_argument("--from", dest="begin", metavar="TIME", required=True, help="ISO 8601, or a tick")
+    parser.add_argument("--to", dest="end", metavar="TIME", required=True)
+    parser.add_argument("--every", metavar="DURATION", help="periods: how long one is")
+    parser.add_argument("--open", metavar="HH:MM", help="hours")
+    parser.add_argument("--close", metavar="HH:MM", help="hours; 24:00 for midnight")
+    parser.add_argument("--days", default="mon-fri", help="hours: as mon-fri or mon,wed (mon-fri)")
+    parser.add_argument("--closed-on", metavar="DATE", nargs="+", default=[], help="hours: days without trading")
+    parser.add_argument("--zone", help="the time zone of hours and weekdays, as America/New_York (UTC)")
+    parser.set_defaults(main=main)
+
+
+def main(words: argparse.Namespace) -> int:
+    notes = notes_of(words.like)
+    if notes is None:
+        raise Refused(f"{words.like}: there is no {notes_path(words.like)} beside it; `tilt-data series` writes one")
+    clock = notes.clock
+    lo, hi = (tick_of(text, clock, words.zone) for text in (words.begin, words.end))
+    if lo >= hi:
+        raise Refused(f"the stretch from {words.begin} to {words.end} has no tick")
+    with Outputs() as outputs:
+        outputs.write(words.out, "start,end,value\n")
+        for row in shown(rows_of_kind(words, clock, lo, hi), "rows"):
+            outputs.write(words.out, row_text(row))
+        outputs.write(notes_path(words.out), Notes(clock, 1, "hold", words.kind, None, words.zone).text())
+        outputs.commit()
+    return 0
+
+
+def tick_of(text: str, clock: Clock, zone: str | None) -> int:
+    if re.fullmatch(r"-?\d+", text):
+        return int(text)
+    try:
+        return clock.start(Moments(None, zone_of(zone)).iso(text)) + (clock.closed == "right")
+    except ValueError as error:
+        raise Refused(str(error)) from error
+
+
+def rows_of_kind(words: argparse.Namespace, clock: Clock, lo: int, hi: int) -> Iterator[Row]:
+    if words.kind == "each":
+        return ((tick, tick + 1, 0) for tick in range(lo, hi))
+    if words.kind == "now":
+        return ((tick, tick + 1, tick + 1) for tick in range(lo, hi))
+    if words.kind == "periods":
+        if words.every is None:
+            raise Refused("how long is a period? --every 10min")
+        length = clock.ticks(duration_of(words.every), "--every")
+        return ((start, min(start + length, hi), at) for at, start in enumerate(range(lo, hi, length)))
+    if words.kind == "weekdays":
+        return cut(weekdays(clock, words.zone, lo, hi), lo, hi)
+    if words.open is None or words.close is None:
+        raise Refused("when is it open? --open 09:30 --close 16:00")
+    return cut(hours(words, clock, lo, hi), lo, hi)
+
+
+def cut(rows: Iterator[Row], lo: int, hi: int) -> Iterator[Row]:
+    for start, end, value in rows:
+        if max(start, lo) < min(end, hi):
+            yield max(start, lo), min(end, hi), value
+
+
+def days_of(clock: Clock, zone: str | None, lo: int, hi: int) -> Iterator[datetime.date]:
+    """The days of a zone that have to do with a stretch of ticks, in order."""
+    first, last = (datetime.date.fromisoformat(moment_text(clock.moment(tick), 0, zone_of(zone))[:10]) for tick in (lo, hi))
+    for number in range(first.toordinal() - 1, last.toordinal() + 2):
+        yield datetime.date.fromordinal(number)
+
+
+def moment_on(day: datetime.date, minutes: int, zone: str | None) -> int:
+    """The moment at which the clock of the zone shows so many minutes after midnight. Where it is put forward over that, the moment is
+    the one that would have been; where it shows it twice, the first."""
+    local = datetime.datetime.combine(day, datetime.time(), zone_of(zone) or datetime.timezone.utc) + datetime.timedelta(minutes=minutes)
+    since = local - datetime.datetime(1970, 1, 1, tzinfo=datetime.timezone.utc)
+    return since // datetime.timedelta(microseconds=1) * 1000
+
+
+def edge(clock: Clock, moment: int) -> int:
+    """The last tick that ends at a moment or before it."""
+    return (moment - clock.origin) // clock.tick
+
+
+def weekdays(clock: Clock, zone: str | None, lo: int, hi: int) -> Iterator[Row]:
+    for day in days_of(clock, zone, lo, hi):
+        following = datetime.date.fromordinal(day.toordinal() + 1)
+        yield edge(clock, moment_on(day, 0, zone)), edge(clock, moment_on(following, 0, zone)), day.isoweekday()
+
+
+def hours(words: argparse.Namespace, clock: Clock, lo: int, hi: int) -> Iterator[Row]:
+    begin, end = (minutes_of(text) for text in (words.open, words.close))
+    if begin >= end:
+        raise Refused(f"--close {words.close} isn't after --open {words.open}")
+    days, closed = days_named(words.days), {date_of(text) for text in words.closed_on}
+    for day in days_of(clock, words.zone, lo, hi):
+        if day.weekday() in days and day not in closed:
+            yield edge(clock, moment_on(day, begin, words.zone)), edge(clock, moment_on(day, end, words.zone)), 1
+
+
+def minutes_of(text: str) -> int:
+    found = re.fullmatch(r"(\d\d):(\d\d)", text)
+    if found is None or int(found[2]) > 59 or int(found[1]) * 60 + int(found[2]) > 1440:
+        raise Refused(f"{text!r} is no time of day: HH:MM was expected, as 09:30")
+    return int(found[1]) * 60 + int(found[2])
+
+
+def days_named(text: str) -> set[int]:
+    """The days that a text as `mon-fri,sun` names, Monday as 0."""
+    days: set[int] = set()
+    for part in text.lower().split(","):
+        first, _, last = part.partition("-")
+        if first not in DAYS or last and last not in DAYS:
+            raise Refused(f"{text!r} names no days: mon-fri or mon,wed was expected")
+        begin, end = DAYS.index(first), DAYS.index(last or first)
+        days |= {day % 7 for day in range(begin, end + 1 if end >= begin else end + 8)}
+    return days
+
+
+def date_of(text: str) -> datetime.date:
+    try:
+        return datetime.date.fromisoformat(text)
+    except ValueError as error:
+        raise Refused(f"{text!r} is no day: 2026-12-25 was expected") from error
