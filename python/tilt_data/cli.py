@@ -5,10 +5,10 @@ import argparse
 import os
 import sys
 
-from . import by, series, table, ticks, why
+from . import by, plot, series, table, ticks, why
 from .errors import Refused
 
-COMMANDS = [series, table, why, ticks, by]
+COMMANDS = [series, table, why, ticks, by, plot]
 
 
 def parser_of() -> argparse.ArgumentParser:

@@ -77,7 +77,7 @@ def add_time(parser: argparse.ArgumentParser) -> None:
 
 def add_convention(parser: argparse.ArgumentParser) -> None:
     parser.add_argument("--hold", choices=["next"], help="a reading holds until the next one (so it is where --event isn't given)")
-    parser.add_argument("--max-age", metavar="DURATION", help="it holds no longer than this, as 5min")
+    parser.add_argument("--max-age", nargs="+", metavar="DURATION", default=[], help="it holds no longer than this, as 5min; NAME=5min for one series")
     parser.add_argument("--until", metavar="TIME", help="until when the last reading holds (one tick, or --max-age)")
     parser.add_argument("--event", action="store_true", help="a reading is an event of one tick")
     parser.add_argument("--closed", choices=["left", "right"], help="which edge of a tick belongs to it, as in pandas (left)")
@@ -173,7 +173,7 @@ class Converting:
         if words.like is not None and self.like is None:
             raise Refused(f"{words.like}: there is no {notes_path(words.like)} beside it; `tilt-data series` writes one")
         self.clock: Clock | None = None
-        self.rule = Rule(not words.event, None, words.ties)
+        self.ages: dict[str, int | None] = {}
         self.scales = Scales({}, Scale(1))
         self.series: dict[tuple[str, str], Converter] = {}
         self.files: dict[tuple[str, str], str] = {}
@@ -181,11 +181,15 @@ class Converting:
         self.lines: dict[tuple[str, str], int] = {}
 
     def begin(self, moment: int) -> None:
-        """The clock and the rule, which may rest on the first reading."""
+        """The clock, which may rest on the first reading, and how long readings hold."""
         self.clock = clock_of(self.words, self.like, moment)
-        age = self.words.max_age
-        ticks = None if age is None else self.clock.ticks(duration_of(age), "--max-age")
-        self.rule = Rule(not self.words.event, ticks, self.words.ties)
+        for word in self.words.max_age:
+            name, _, age = word.rpartition("=")
+            self.ages[name] = self.clock.ticks(duration_of(age), "--max-age")
+
+    def rule(self, name: str) -> Rule:
+        """The convention of a series."""
+        return Rule(not self.words.event, self.ages.get(name, self.ages.get("")), self.words.ties)
 
     def take(self, one: Reading) -> None:
         moment, line, key, name, text = one
@@ -224,7 +228,7 @@ class Converting:
             raise refused_at(self.path, line, "a name of the series was expected")
         if self.words.key is not None and not key:
             raise refused_at(self.path, line, f"a key was expected in the column {self.words.key}")
-        converter = self.series[place] = Converter(self.clock, self.rule)
+        converter = self.series[place] = Converter(self.clock, self.rule(name))
         path = os.path.join(self.words.out, file_of(key, name, self.words.prefix))
         self.files[place] = path
         self.rows[place] = [0, 0, 0, 0]
@@ -252,7 +256,7 @@ class Converting:
 
     def notes(self, place: tuple[str, str]) -> Notes:
         key, name = place
-        kind = "hold" if self.rule.hold else "event"
+        kind = "event" if self.words.event else "hold"
         return Notes(self.clock, self.scales.of(name).scale, kind, name, key if self.words.key else None, self.words.zone)
 
     def told(self, most: int = 10) -> Iterator[str]:

@@ -41,12 +41,12 @@ def add(commands: Any) -> None:
     parser = commands.add_parser("table", help="outputs back to dates and decimals", description=HELP)
     parser.add_argument("files", nargs="+", metavar="[NAME=]FILE", help="outputs of tilt or series; - for standard input")
     parser.add_argument("--like", metavar="SERIES", help="the series whose clock and scale these files have")
-    parser.add_argument("--scale", nargs="+", metavar="[NAME=]N", default=[], help="values are divided by N, as 1 for a count")
+    parser.add_argument("--scale", action="append", metavar="[NAME=]N", default=[], help="values are divided by N, as 1 for a count")
     parser.add_argument("--zone", help="the time zone of the dates (that of the series, or UTC)")
     parser.add_argument("--merge", action="store_true", help="join equal neighbours")
     parser.add_argument("--episodes", action="store_true", help="one row for each stretch of rows that follow one another: start, end, duration")
     parser.add_argument("--gap", metavar="DURATION", help="with --episodes: stretches no farther apart are one")
-    parser.add_argument("--of", nargs="+", metavar="NAME=FILE", default=[], help="with --episodes: the least, the greatest and the mean (weighted by "
+    parser.add_argument("--of", nargs="+", action="extend", metavar="NAME=FILE", default=[], help="with --episodes: the least, the greatest and the mean (weighted by "
                         "time) of these in each episode")
     parser.add_argument("--wide", action="store_true", help="several files side by side, cut where one of them changes")
     parser.add_argument("-o", "--out", metavar="FILE", help="where the table is written (standard output)")

@@ -33,7 +33,7 @@ def add(commands: Any) -> None:
     parser.add_argument("--open", metavar="HH:MM", help="hours")
     parser.add_argument("--close", metavar="HH:MM", help="hours; 24:00 for midnight")
     parser.add_argument("--days", default="mon-fri", help="hours: as mon-fri or mon,wed (mon-fri)")
-    parser.add_argument("--closed-on", metavar="DATE", nargs="+", default=[], help="hours: days without trading")
+    parser.add_argument("--closed-on", metavar="DATE", nargs="+", action="extend", default=[], help="hours: days without trading")
     parser.add_argument("--zone", help="the time zone of hours and weekdays, as America/New_York (UTC)")
     parser.set_defaults(main=main)
 

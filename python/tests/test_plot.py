@@ -1,0 +1,101 @@
+"""`tilt-data plot`: what is drawn where, and what is refused."""
+from __future__ import annotations
+
+import os
+import pathlib
+import random
+
+import pytest
+from tilt_data.clock import Clock
+from tilt_data.files import Notes
+from tilt_data.plot import axis_of, clipped, joined, steps, thinned
+
+MINUTE = 60 * 10**9
+
+
+def put(name: str, rows: str, kind: str = "hold", origin: int = 0) -> None:
+    pathlib.Path(f"{name}.csv").write_text("start,end,value\n" + rows)
+    pathlib.Path(f"{name}.json").write_text(Notes(Clock(10**9, origin), 10, kind, name).text())
+
+
+def test_steps_break_where_there_is_a_gap():
+    times, values = steps([(0, 5, 10), (5, 6, 20), (8, 9, 30)], 10)
+    assert times == [0, 5, 5, 6, 6, 8, 9] and values[:4] == [1, 1, 2, 2] and values[4] != values[4] and values[5:] == [3, 3]
+
+
+def test_rows_are_clipped():
+    assert list(clipped([(0, 5, 1), (5, 8, None), (8, 20, 2), (20, 30, 3)], 3, 15)) == [(3, 5, 1), (8, 15, 2)]
+
+
+def test_thinning_keeps_the_extremes_of_each_pixel():
+    draws = random.Random(10)
+    rows = [(at, at + 1, draws.randrange(1000)) for at in range(100000)]
+    rows[54321] = (54321, 54322, 5000)
+    rows[54399] = (54399, 54400, -5000)
+    kept = list(thinned(rows, 0, 100000, 100))
+    assert len(kept) <= 4 * 101 and kept == sorted(kept) and set(kept) <= set(rows)
+    for lo in range(0, 100000, 1000):
+        whole, part = ([row[2] for row in some if lo <= row[0] < lo + 1000] for some in (rows, kept))
+        assert (min(whole), max(whole)) == (min(part), max(part))
+    few = rows[:150]
+    assert list(thinned(few, 0, 150, 1800)) == few
+
+
+def test_bands():
+    assert list(joined([(0, 5, 1), (5, 8, 2), (8, 9, 0), (9, 10, 1), (30, 31, 1)], 0)) == [(0, 8), (9, 10), (30, 31)]
+    assert list(joined([(0, 5, 1), (8, 9, 1), (30, 31, 1)], 3)) == [(0, 9), (30, 31)]
+
+
+@pytest.mark.parametrize("tick, lo, hi, marks, texts, label", [
+    (10**9, 0, 3600, 7, ["00:00", "00:10", "00:20"], "1970-01-01 (UTC)"), (10**6, 0, 5000, 6, ["00:00:00", "00:00:01"], "1970-01-01 (UTC)"),
+    (MINUTE, 0, 10 * 1440, 6, ["1970-01-01", "1970-01-03"], "1970-01-01 to 1970-01-10 (UTC)"),
+    (1, 0, 5000, 6, ["00:00:00.000000", "00:00:00.000001"], "1970-01-01 (UTC)"),
+])
+def test_the_axis_of_a_clock(tick, lo, hi, marks, texts, label):
+    places, shown, its = axis_of(Clock(tick, 0), lo, hi, None, "UTC")
+    assert len(places) == marks and shown[:len(texts)] == texts and its == label and places[0] == 0
+
+
+def test_the_axis_of_ticks():
+    assert axis_of(None, 50, 850, None, "") == ([50.0, 150.0, 250.0, 350.0, 450.0, 550.0, 650.0, 750.0],
+                                                ["100", "200", "300", "400", "500", "600", "700", "800"], "ticks")
+
+
+def test_a_picture(told):
+    pytest.importorskip("matplotlib")
+    put("temp", "0,600,205\n600,1200,213\n1800,2400,220\n")
+    put("trade", "30,31,200\n1500,1501,210\n", "event")
+    pathlib.Path("alarm.csv").write_text("start,end,value\n600,1200,3\n")
+    words = ["temp=temp.csv", "+limit:limit=temp.csv", "+band:alarm=alarm.csv", "trade=trade.csv", "--like", "temp.csv", "--unit", "temp=°C"]
+    for name in ("a.svg", "b.svg", "c.png"):
+        assert told("plot", name, *words) == (0, "", "")
+    text = pathlib.Path("a.svg").read_text()
+    for shown in (">temp<", ">limit<", ">alarm<", ">trade<", "(°C)", ">00:10<", "1970-01-01 (UTC)"):
+        assert shown in text, shown
+    # The same words draw the same picture, and nothing is left beside it.
+    assert text == pathlib.Path("b.svg").read_text() and pathlib.Path("c.png").read_bytes().startswith(b"\x89PNG")
+    assert not [name for name in os.listdir() if name.startswith(".")]
+
+
+def test_a_picture_without_a_clock_has_ticks(told):
+    pytest.importorskip("matplotlib")
+    pathlib.Path("x.csv").write_text("start,end,value\n0,600,205\n")
+    assert told("plot", "a.svg", "x=x.csv")[0] == 0
+    assert ">ticks<" in pathlib.Path("a.svg").read_text()
+
+
+@pytest.mark.parametrize("words, what", [
+    (["a.pdf", "x=x.csv"], "a.pdf: a name that ends in .svg or .png was expected"),
+    (["a.svg", "+x=x.csv"], "'+x=x.csv': NAME=FILE was expected, and + only after a panel"),
+    (["a.svg", "x=nowhere.csv"], "nowhere.csv: No such file or directory"),
+    (["a.svg", "x=x.csv", "y=y.csv"], "these files have other ticks or origins"),
+    (["a.svg", "x=x.csv", "--from", "5", "--to", "5"], "there is nothing between --from and --to"),
+    (["a.svg", "x=bad.csv"], "bad.csv:2: a row start,end,value of whole numbers was expected, not 0,5"),
+])
+def test_what_is_refused(told, words, what):
+    pytest.importorskip("matplotlib")
+    put("x", "0,5,1\n")
+    put("y", "0,5,1\n", origin=10**9)
+    pathlib.Path("bad.csv").write_text("start,end,value\n0,5\n")
+    status, out, err = told("plot", *words)
+    assert (status, out) == (1, "") and err.startswith(f"tilt-data: {what}") and not os.path.exists("a.svg")

@@ -1,0 +1,280 @@
+"""`tilt-data plot`: series and outputs over one clock axis, as SVG or PNG, drawn by matplotlib."""
+from __future__ import annotations
+
+import argparse
+import dataclasses
+import datetime
+import os
+import re
+from typing import Any, Iterable, Iterator
+
+from .clock import Clock, Moments, moment_text, zone_of
+from .errors import Refused
+from .files import Notes, Row, beside, notes_of, reading, rows_of
+from .progress import shown
+
+HELP = """Draws series and outputs. NAME=FILE has a panel of its own, and after it +NAME=FILE is drawn into the same panel, +limit:NAME=FILE as a
+dashed line, and +band:NAME=FILE as a shaded band where FILE has a value other than 0. A value that holds is a step, events are dots, and null
+is a gap. One name has one colour in all panels. The clock and the scale are those of the JSON file beside each file, or of the series that
+--like names; where neither is there, the axis has ticks."""
+COLOURS = ["#1f5fa8", "#2a7f4f", "#7a3e9d", "#8a6d1d", "#137c86", "#5b5b5b"]
+LIMIT, BAND = "#b3261e", "#f2a33a"
+WORD = re.compile(r"(\+?)(?:(band|limit|dots):)?([^=]+)=(.+)")
+WIDTH = 900
+# Steps of the axis in nanoseconds, by unit.
+STEPS = [step * unit for unit, steps in (
+    (1, (1, 2, 5, 10, 20, 50, 100, 200, 500)), (10**3, (1, 2, 5, 10, 20, 50, 100, 200, 500)), (10**6, (1, 2, 5, 10, 20, 50, 100, 200, 500)),
+    (10**9, (1, 2, 5, 10, 15, 30, 60, 120, 300, 600, 900, 1800, 3600, 7200, 10800, 21600, 43200)),
+    (86400 * 10**9, (1, 2, 7, 14, 30, 60, 120, 365, 730, 3650))) for step in steps]
+
+
+@dataclasses.dataclass
+class Drawn:
+    """What is drawn: a name, its file, how (`step`, `dots`, `limit`, `band`), its clock and scale, and its unit."""
+
+    name: str
+    file: str
+    form: str
+    notes: Notes | None
+    scale: int
+    unit: str = ""
+
+
+def add(commands: Any) -> None:
+    parser = commands.add_parser("plot", help="a picture with a clock axis", description=HELP)
+    parser.add_argument("out", metavar="OUT.svg", help="or OUT.png")
+    parser.add_argument("words", nargs="+", metavar="[+][band:|limit:|dots:]NAME=FILE")
+    parser.add_argument("--from", dest="begin", metavar="TIME", help="ISO 8601, or a tick")
+    parser.add_argument("--to", dest="end", metavar="TIME")
+    parser.add_argument("--like", metavar="SERIES", help="the series whose clock and scale the files without a JSON file have")
+    parser.add_argument("--scale", action="append", metavar="[NAME=]N", default=[], help="values are divided by N")
+    parser.add_argument("--unit", action="append", metavar="NAME=TEXT", default=[], help="the unit of values, as temperature=°C")
+    parser.add_argument("--zone", help="the time zone of the axis")
+    parser.add_argument("--title")
+    parser.set_defaults(main=main)
+
+
+def panels_of(words: argparse.Namespace) -> list[list[Drawn]]:
+    like = None if words.like is None else notes_of(words.like)
+    units = dict(word.partition("=")[::2] for word in words.unit)
+    scales = dict(word.rpartition("=")[::2] for word in words.scale)
+    if not all(text.isdigit() and int(text) for text in scales.values()):
+        raise Refused("--scale: a whole number above 0 was expected")
+    panels: list[list[Drawn]] = []
+    for word in words.words:
+        found = WORD.fullmatch(word)
+        if found is None or found[1] and not panels:
+            raise Refused(f"{word!r}: NAME=FILE was expected, and + only after a panel")
+        notes = notes_of(found[4]) or like
+        scale = int(scales.get(found[3], scales.get("", notes.scale if notes is not None else 1)))
+        # What isn't the series itself has its clock alone, and holds.
+        event = notes is not like and notes is not None and notes.kind == "event"
+        form = found[2] or ("dots" if event else "step")
+        drawn = Drawn(found[3], found[4], form, notes, scale, units.get(found[3], ""))
+        if found[1]:
+            panels[-1].append(drawn)
+        else:
+            panels.append([drawn])
+    return panels
+
+
+def clock_of(panels: list[list[Drawn]]) -> Clock | None:
+    """The one clock of all files, or None where none is known."""
+    clocks = {(one.notes.clock.tick, one.notes.clock.origin) for panel in panels for one in panel if one.notes is not None}
+    if len(clocks) > 1:
+        raise Refused("these files have other ticks or origins: they have no common axis")
+    return Clock(*clocks.pop()) if clocks else None
+
+
+def bounds_of(words: argparse.Namespace, panels: list[list[Drawn]], clock: Clock | None) -> tuple[int, int]:
+    """The stretch of ticks that is drawn: what the words say, else from the first start to the last end of all files."""
+    lo, hi = (None if text is None else tick_of(text, clock, words.zone) for text in (words.begin, words.end))
+    if lo is None or hi is None:
+        first: int | None = None
+        last: int | None = None
+        for file in {one.file for panel in panels for one in panel}:
+            with reading(file) as opened:
+                for start, end, _ in rows_of(file, opened):
+                    first = start if first is None else min(first, start)
+                    last = end if last is None else max(last, end)
+        lo = (first or 0) if lo is None else lo
+        hi = (lo + 1 if last is None else last) if hi is None else hi
+    if lo >= hi:
+        raise Refused("there is nothing between --from and --to")
+    return lo, hi
+
+
+def tick_of(text: str, clock: Clock | None, zone: str | None) -> int:
+    if re.fullmatch(r"-?\d+", text) or clock is None:
+        try:
+            return int(text)
+        except ValueError as error:
+            raise Refused(f"{text!r} is no tick, and no file tells a clock: --like SERIES names one") from error
+    try:
+        return clock.start(Moments(None, zone_of(zone)).iso(text))
+    except ValueError as error:
+        raise Refused(str(error)) from error
+
+
+def clipped(rows: Iterable[Row], lo: int, hi: int) -> Iterator[tuple[int, int, int]]:
+    """The parts of rows with a value that lie in `(lo, hi]`."""
+    for start, end, value in rows:
+        if start >= hi:
+            return
+        if end > lo and value is not None:
+            yield max(start, lo), min(end, hi), value
+
+
+def thinned(rows: Iterable[tuple[int, int, int]], lo: int, hi: int, pixels: int = 2 * WIDTH) -> Iterator[tuple[int, int, int]]:
+    """The rows, where some lie within one pixel only the first, the least, the greatest and the last of them."""
+    span = hi - lo
+    held: list[tuple[int, int, int]] = []
+    column = None
+    for row in rows:
+        its = (row[0] - lo) * pixels // span
+        if its != column or (row[1] - 1 - lo) * pixels // span != its:
+            yield from outline(held)
+            held, column = [], its
+        held.append(row)
+        if len(held) > 4:
+            held = outline(held)
+    yield from outline(held)
+
+
+def outline(rows: list[tuple[int, int, int]]) -> list[tuple[int, int, int]]:
+    if len(rows) <= 4:
+        return rows
+    least, greatest = min(rows, key=lambda row: row[2]), max(rows, key=lambda row: row[2])
+    return sorted({rows[0], least, greatest, rows[-1]})
+
+
+def joined(rows: Iterable[tuple[int, int, int]], near: int) -> Iterator[tuple[int, int]]:
+    """Stretches with a value other than 0, as bands; those that lie nearer than so many ticks are one."""
+    held: tuple[int, int] | None = None
+    for start, end, value in rows:
+        if value == 0:
+            continue
+        if held is not None and start - held[1] <= near:
+            held = held[0], end
+        else:
+            if held is not None:
+                yield held
+            held = start, end
+    if held is not None:
+        yield held
+
+
+def steps(rows: Iterable[tuple[int, int, int]], scale: int) -> tuple[list[float], list[float]]:
+    """The corners of the steps, with a break where there is a gap."""
+    times: list[float] = []
+    values: list[float] = []
+    before = None
+    for start, end, value in rows:
+        if before is not None and before != start:
+            times.append(float(before))
+            values.append(float("nan"))
+        times += [float(start), float(end)]
+        values += [value / scale] * 2
+        before = end
+    return times, values
+
+
+def colours_of(panels: list[list[Drawn]]) -> dict[tuple[str, bool], str]:
+    """One colour for each name; limits and bands have their own."""
+    colours: dict[tuple[str, bool], str] = {}
+    for panel in panels:
+        for one in panel:
+            if one.form in ("step", "dots") and (one.name, True) not in colours:
+                colours[one.name, True] = COLOURS[len(colours) % len(COLOURS)]
+    return colours
+
+
+def draw_one(axes: Any, one: Drawn, lo: int, hi: int, colour: str) -> None:
+    with reading(one.file) as opened:
+        rows = clipped(shown(rows_of(one.file, opened), "rows"), lo, hi)  # type: ignore[arg-type]
+        if one.form == "band":
+            for at, (start, end) in enumerate(joined(rows, (hi - lo) // WIDTH)):
+                axes.axvspan(start - lo, end - lo, color=BAND, alpha=0.35, linewidth=0, label=None if at else one.name)
+            return
+        kept = list(thinned(rows, lo, hi))
+    if one.form == "dots":
+        axes.plot([start - lo for start, _, _ in kept], [value / one.scale for _, _, value in kept], ".", markersize=4, color=colour, label=one.name)
+        return
+    times, values = steps(kept, one.scale)
+    style = {"color": LIMIT, "linestyle": "--", "linewidth": 1.2} if one.form == "limit" else {"color": colour, "linewidth": 1.2}
+    axes.plot([time - lo for time in times], values, label=one.name, **style)
+
+
+def axis_of(clock: Clock | None, lo: int, hi: int, zone: datetime.tzinfo | None, zone_name: str) -> tuple[list[float], list[str], str]:
+    """Where the marks of the axis stand, in ticks after `lo`, their texts, and the text of the axis."""
+    if clock is None:
+        length = max(1, (hi - lo) // 8)
+        power = 10**(len(str(length)) - 1)
+        step = next(power * many for many in (1, 2, 5, 10) if power * many >= length)
+        marks = range(-(-lo // step) * step, hi + 1, step)
+        return [float(mark - lo) for mark in marks], [f"{mark:,}" for mark in marks], "ticks"
+    begin, end = clock.moment(lo), clock.moment(hi)
+    step = next((step for step in STEPS if (end - begin) // step <= 9), STEPS[-1])
+    shift = 0
+    if zone is not None:
+        offset = datetime.datetime.fromtimestamp(begin // 10**9, zone).utcoffset()
+        shift = (offset or datetime.timedelta()) // datetime.timedelta(seconds=1) * 10**9
+    moments = range(-(-(begin + shift) // step) * step - shift, end + 1, step)
+    digits = 0 if step % 10**9 == 0 else 3 if step % 10**6 == 0 else 6 if step % 10**3 == 0 else 9
+    texts = [moment_text(moment, digits, zone) for moment in moments]
+    first, last = (moment_text(moment, 0, zone)[:10] for moment in (begin, end - 1))
+    part = slice(0, 10) if step >= 86400 * 10**9 else slice(11, 16) if step % (60 * 10**9) == 0 else slice(11, 20 + digits if digits else 19)
+    day = first if first == last else f"{first} to {last}"
+    return [(moment - begin) / clock.tick for moment in moments], [text[part] for text in texts], f"{day} ({zone_name})"
+
+
+def draw(words: argparse.Namespace, panels: list[list[Drawn]], form: str) -> Any:
+    """The figure; matplotlib is there."""
+    import matplotlib
+    matplotlib.use("Agg")
+    from matplotlib import pyplot
+    matplotlib.rcParams.update({"svg.fonttype": "none", "svg.hashsalt": "tilt-data", "font.size": 9})
+    clock = clock_of(panels)
+    lo, hi = bounds_of(words, panels, clock)
+    notes = next((one.notes for panel in panels for one in panel if one.notes is not None), None)
+    name = words.zone or (notes.zone if notes is not None else None)
+    colours = colours_of(panels)
+    figure, rows = pyplot.subplots(len(panels), 1, sharex=True, squeeze=False, figsize=(WIDTH / 100, 0.6 + 1.7 * len(panels)), dpi=100)
+    for axes, panel in zip(rows[:, 0], panels):
+        for one in panel:
+            draw_one(axes, one, lo, hi, colours.get((one.name, True), LIMIT))
+        axes.grid(color="#e0e0e0", linewidth=0.6)
+        axes.set_ylabel(panel[0].name + (f"\n({panel[0].unit})" if panel[0].unit else ""))
+        if axes.get_legend_handles_labels()[0]:
+            axes.legend(loc="lower left", bbox_to_anchor=(0, 1), ncol=5, frameon=False, borderaxespad=0.1, handlelength=1.6)
+        axes.spines[["top", "right"]].set_visible(False)
+    marks, texts, label = axis_of(clock, lo, hi, zone_of(name), name or "UTC")
+    last = rows[-1, 0]
+    last.set_xlim(0, hi - lo)
+    last.set_xticks(marks, texts)
+    last.set_xlabel(label)
+    if words.title:
+        figure.suptitle(words.title)
+    figure.tight_layout()
+    return figure
+
+
+def main(words: argparse.Namespace) -> int:
+    form = os.path.splitext(words.out)[1].lower().lstrip(".")
+    if form not in ("svg", "png"):
+        raise Refused(f"{words.out}: a name that ends in .svg or .png was expected")
+    try:
+        import matplotlib  # noqa: F401
+    except ImportError as error:
+        raise Refused("matplotlib isn't there: apt-get install python3-matplotlib, or pip install matplotlib") from error
+    figure = draw(words, panels_of(words), form)
+    new = beside(words.out)
+    try:
+        figure.savefig(new, format=form, metadata={"Date": None} if form == "svg" else {})
+        os.replace(new, words.out)
+    except OSError as error:
+        raise Refused(f"{words.out}: it can't be written: {error.strerror}") from error
+    finally:
+        if os.path.exists(new):
+            os.unlink(new)
+    return 0
