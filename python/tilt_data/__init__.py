@@ -1,1 +1,7 @@
-"""From a file of readings to series of tilt, and from its output to tables and pictures."""
+"""From a file of readings to series of tilt, and from its output to tables and pictures.
+
+`run` and `Query` are for programs; they need pandas when they are called, and not before."""
+from .errors import Refused, TiltError
+from .frames import Convention, Explained, Live, Query, run
+
+__all__ = ["Convention", "Explained", "Live", "Query", "Refused", "TiltError", "run"]

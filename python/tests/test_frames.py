@@ -1,0 +1,130 @@
+"""Queries from Python: pandas in and out, keys, sessions, and errors that carry the place."""
+from __future__ import annotations
+
+import decimal
+import pathlib
+import random
+
+import pytest
+
+pandas = pytest.importorskip("pandas")
+
+from conftest import PROGRAM  # noqa: E402
+from tilt_data import Query, Refused, TiltError, run  # noqa: E402
+
+AVERAGE = "input temp; emit avg(temp[t-600:t]) over (0, 3600] every 600;"
+
+
+@pytest.fixture(autouse=True)
+def the_program(tilt, monkeypatch):
+    monkeypatch.setenv("TILT", str(PROGRAM))
+
+
+def readings(count: int = 60, seed: int = 11, zone: str | None = None):
+    draws = random.Random(seed)
+    index = pandas.date_range("2026-03-01", periods=count, freq="1min", tz=zone)
+    return pandas.Series([draws.randrange(150, 300) / 10 for _ in range(count)], index, name="temp")
+
+
+def test_averages_are_those_of_pandas():
+    temp = readings()
+    got = run(AVERAGE, temp, max_age="1min", scale=1000)
+    wanted = temp.resample("10min").mean()
+    assert list(got.index.left) == list(wanted.index) and got.index.closed == "left"
+    assert all(abs(ours - theirs) < 0.001 for ours, theirs in zip(got["value"], wanted))
+
+
+@pytest.mark.parametrize("reducer", ["min", "max", "first", "last", "count", "sum"])
+def test_other_reducers_are_those_of_pandas(reducer):
+    temp = readings().drop(readings().index[7:25])
+    query = f"input temp; emit {reducer}(temp[t-600:t]) over (0, 3600] every 600;"
+    got = run(query, temp.to_frame(), event=True, index="start", output_scale=1 if reducer == "count" else None)
+    wanted = temp.resample("10min").agg(reducer)[temp.resample("10min").count() > 0]
+    assert list(got.index) == list(wanted.index) and [round(value, 6) for value in got["value"]] == [round(value, 6) for value in wanted]
+
+
+def test_decimals_are_exact():
+    temp = pandas.Series([decimal.Decimal("0.1"), decimal.Decimal("1234567890123.12345")], pandas.to_datetime(["2026-03-01 00:01", "2026-03-01 00:02"]))
+    got = run("input temp; emit temp over (0, 600];", temp, exact=True)
+    assert list(got["value"]) == [decimal.Decimal("0.1"), decimal.Decimal("1234567890123.12345")]
+
+
+def test_missing_values_and_zones():
+    temp = readings(zone="Europe/Zurich")
+    temp.iloc[3] = float("nan")
+    got = run("input temp; emit 1 when isnull(temp) over (0, 3600];", temp, origin="2026-03-01T00:00+01:00", until="2026-03-01T01:00+01:00",
+              output_scale=1)
+    assert list(got.index.left) == [temp.index[3]] and list(got["value"]) == [1] and str(got.index.left.tz) == "Europe/Zurich"
+
+
+def test_merged_rows_and_intervals_again():
+    temp = readings(6).round(0) * 0 + 7
+    got = run("input temp; emit temp over (0, 600];", temp, max_age="1min", merge=True)
+    assert len(got) == 1 and got.index[0].length == pandas.Timedelta("6min")
+    again = run("input x; emit x over (0, 600];", inputs={"x": got["value"]}, origin="2026-03-01")
+    assert again.equals(got) or list(again["value"]) == list(got["value"]) and list(again.index) == list(got.index)
+
+
+def test_keys():
+    frames = []
+    for seed, key in enumerate("cab"):
+        frames.append(readings(seed=seed).to_frame().assign(station=key))
+    data = pandas.concat(frames)
+    got = run(AVERAGE, data, by="station", max_age="1min", scale=1000)
+    assert list(got.index.get_level_values(0).unique()) == ["a", "b", "c"]
+    for seed, key in enumerate("cab"):
+        assert got.loc[key].equals(run(AVERAGE, readings(seed=seed), max_age="1min", scale=1000))
+
+
+def test_files(told):
+    readings().to_csv("raw.csv", index_label="time")
+    assert told("series", "raw.csv", "--time", "time", "--tick", "1s", "--scale", "1000", "--max-age", "1min")[0] == 0
+    pathlib.Path("q.tilt").write_text(AVERAGE)
+    assert run(pathlib.Path("q.tilt"), inputs={"temp": "temp.csv"}).equals(run(AVERAGE, readings(), max_age="1min", scale=1000))
+
+
+def test_explain():
+    explained = Query("input x; input y; let a = avg(x[t-5:t]) every 5; let u = y; emit a over (0, 10];").explain()
+    assert (explained.back, explained.ahead, explained.loops[0]) == (4, 4, 2)
+    assert explained.inputs == {"x": (4, 4), "y": None} and explained.definitions == {"a": ("loop", 0, 0), "u": None}
+
+
+def test_errors_carry_line_status_and_place():
+    with pytest.raises(TiltError) as caught:
+        run("input temp;\nemit tmep over (0, 10];", readings())
+    error = caught.value
+    assert (error.line, error.status) == ("tilt: 27 statement 2: unknown name", 1)
+    assert (error.place.file, error.place.line, error.place.column) == ("query", 2, 6) and "did you mean `temp`?" in str(error)
+    with pytest.raises(TiltError):
+        Query("emit 1;").explain()
+
+
+@pytest.mark.parametrize("call, what", [
+    (lambda: run(AVERAGE), "temp isn't given"), (lambda: run(AVERAGE, readings(), inputs={"x": readings()}), "not x"),
+    (lambda: run(AVERAGE, readings().iloc[::-1]), "sort_index"), (lambda: run(AVERAGE, readings(), tick="1h"), "two readings in one tick"),
+    (lambda: run(AVERAGE, readings(), scale=1), "digits would be lost"), (lambda: run(AVERAGE, readings(), unit="s"), "the options are tick"),
+    (lambda: run(AVERAGE, readings().reset_index(drop=True)), "a DatetimeIndex was expected"), (lambda: run(AVERAGE, 7), "a Series or a DataFrame"),
+    (lambda: Query(AVERAGE).live(), "origin and its scale"), (lambda: run(AVERAGE, readings(), by="k"), "a DataFrame with this column"),
+])
+def test_what_is_refused(call, what):
+    with pytest.raises(Refused, match=what):
+        call()
+
+
+def test_sessions_print_together_what_one_run_prints():
+    draws = random.Random(12)
+    query = "input temp; input limit; let a = avg(temp[t-600:t]) every 600; emit a - limit when a > limit over (0, 7200];"
+    temp, limit = readings(120), pandas.Series([20, 22.5, 21], pandas.to_datetime(["2026-03-01", "2026-03-01 00:40", "2026-03-01 01:30"]))
+    common = {"tick": "1s", "origin": "2026-03-01", "scale": 10}
+    whole = run(query, inputs={"temp": temp, "limit": limit}, **common)
+    for _ in range(3):
+        parts, at = [], 0
+        with Query(query).live(**common) as live:
+            while at < len(temp):
+                before, at = at, at + draws.randrange(1, 40)
+                some = temp.iloc[before:at]
+                its = limit[(limit.index >= some.index[0]) & (limit.index <= some.index[-1])]
+                parts.append(live.push(temp=some, limit=its))
+            parts.append(live.end())
+        joined = pandas.concat([part for part in parts if len(part)])
+        assert list(joined.index) == list(whole.index) and list(joined["value"]) == list(whole["value"])

@@ -1,0 +1,55 @@
+"""Sessions of `tilt`: each is handed the rows that start below its cut, and goes on from the checkpoint of the one before."""
+from __future__ import annotations
+
+import os
+import subprocess
+from typing import Iterable
+
+from .convert import row_text
+from .errors import TiltError
+from .files import Row
+from .program import program
+from .why import refusal_of
+
+
+def call(words: list[str], out: str) -> None:
+    """Calls the program, with its output in a file. What it refuses is an error that carries its line, its status and the place."""
+    with open(out, "wb") as file:
+        done = subprocess.run([program(), *words], stdin=subprocess.DEVNULL, stdout=file, stderr=subprocess.PIPE)
+    if done.returncode:
+        told = done.stderr.decode("utf-8", "replace").rstrip("\n")
+        raise TiltError(told, done.returncode, refusal_of(told, words[1:]))
+
+
+def put_rows(folder: str, rows: dict[str, Iterable[Row]]) -> list[str]:
+    """A series file for each input, and the words that bind them."""
+    words = []
+    for name, its in rows.items():
+        path = os.path.join(folder, f"rows.{name}.csv")
+        with open(path, "w", encoding="ascii") as file:
+            file.write("start,end,value\n")
+            file.writelines(map(row_text, its))
+        words.append(f"{name}={path}")
+    return words
+
+
+def first(query: str, binds: list[str], cut: int, save: str, out: str) -> None:
+    call(["start", query, *binds, "--upto", str(cut), "--save", save], out)
+
+
+def following(checkpoint: str, binds: list[str], cut: int, save: str, out: str) -> None:
+    call(["resume", checkpoint, *binds, "--upto", str(cut), "--save", save], out)
+
+
+def last(checkpoint: str, binds: list[str], out: str) -> None:
+    call(["resume", checkpoint, *binds, "--end"], out)
+
+
+def whole(query: str, binds: list[str], out: str) -> None:
+    call(["run", query, *binds], out)
+
+
+def below(rows: list[Row], cut: int) -> tuple[list[Row], list[Row]]:
+    """The rows that start below a cut, and the others."""
+    count = next((at for at, row in enumerate(rows) if row[0] >= cut), len(rows))
+    return rows[:count], rows[count:]
