@@ -3,13 +3,15 @@ from __future__ import annotations
 
 import concurrent.futures
 import pathlib
+import re
 import subprocess
 import sys
 
 import pytest
 import queries
-from conftest import PYTHON, run_program
+from conftest import PYTHON, TOP, run_program
 from tilt_data.forms import fault_of
+from tilt_data.grammar import statements_of
 from tilt_data.tokens import place_of
 from tilt_data.why import placed
 
@@ -185,3 +187,35 @@ def test_series_of_other_clocks_are_told(tilt, told, capfd):
     assert told("run", "q", "x=x.csv", "y=y.csv")[0] == 0
     assert told("run", "q", "x=x.csv", "y=x.csv")[2] == ""
     assert run_program(tilt, "input x; emit x over (0, 10];", "x=x.csv") != ""
+
+
+def causes() -> list[tuple[str, list[str], list[str]]]:
+    """The table of the causes of line 24 in docs/COMMANDS.md: each cause, what is wrong and what is right."""
+    lines = (TOP / "docs" / "COMMANDS.md").read_text().splitlines()
+    begin = lines.index("| cause | wrong | right |") + 2
+    rows = []
+    for line in lines[begin:lines.index("", begin)]:
+        cause, wrong, right = (cell.strip() for cell in line.strip("|").split("|"))
+        rows.append((cause, re.findall(r"`([^`]+)`", wrong), re.findall(r"`([^`]+)`", right)))
+    return rows
+
+
+def whole(part: str) -> bytes:
+    """A query around a part of one: a statement, a span and a grid, or an expression."""
+    before = "" if part.startswith("input") else "input x; input y; input a; input b; input s; let c = x > 0; "
+    if part.startswith(("over", "every")):
+        return (before + f"emit x {part if part.startswith('over') else 'over (0, 10] ' + part};").encode()
+    if not part.endswith(";"):
+        return (before + f"let z = {part}; emit x over (0, 5];").encode()
+    before = before.replace("input s; ", "") if part.startswith("let s") else before
+    return (before + part + ("" if "emit" in part else "emit 1 over (0, 5];")).encode()
+
+
+def test_the_causes_of_line_24_in_the_page():
+    rows = causes()
+    assert len(rows) > 15
+    for cause, wrong, right in rows:
+        for part in wrong:
+            assert re.fullmatch(r"24 statement \d: syntax", fault_of(whole(part)).line), (cause, part)
+        for part in right:
+            statements_of(whole(part))
