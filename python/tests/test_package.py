@@ -1,0 +1,84 @@
+"""The package of Debian: it is installed into a fresh root, and the first example is run with it, with no toolchain on the path."""
+from __future__ import annotations
+
+import os
+import pathlib
+import shutil
+import subprocess
+
+import pytest
+from conftest import TOP
+
+
+@pytest.fixture(scope="module")
+def root(tmp_path_factory: pytest.TempPathFactory) -> pathlib.Path:
+    """A fresh root with the package in it."""
+    if not os.access(TOP / "crates" / "tilt" / "out" / "tilt", os.X_OK):
+        pytest.skip("the program isn't built")
+    if shutil.which("dpkg-deb") is None:
+        pytest.skip("dpkg-deb is missing")
+    folder = tmp_path_factory.mktemp("package")
+    made = subprocess.run([str(TOP / "tools" / "package"), str(folder)], capture_output=True, text=True)
+    assert made.returncode == 0, made.stderr
+    package = made.stdout.strip()
+    assert os.path.basename(package).startswith("tilt-stream_") and package.endswith(".deb")
+    root = folder / "root"
+    for name in ("var/lib/dpkg/info", "var/lib/dpkg/updates", "var/lib/dpkg/alternatives", "etc/alternatives"):
+        os.makedirs(root / name)
+    (root / "var/lib/dpkg/status").write_text("")
+    if os.geteuid() == 0:
+        words = ["dpkg", f"--root={root}", "--force-depends", "--force-script-chrootless", "--install", package]
+    else:
+        words = ["dpkg-deb", "-x", package, str(root)]
+    done = subprocess.run(words, capture_output=True, text=True)
+    assert done.returncode == 0, done.stdout + done.stderr
+    return root
+
+
+def called(root: pathlib.Path, *words: str, folder: str | pathlib.Path = "/") -> str:
+    """What a program of the root prints, with the root and the system's own programs alone on the path."""
+    python = root / "usr/lib/python3/dist-packages"
+    environment = {"PATH": f"{root}/usr/bin:/usr/bin:/bin", "PYTHONPATH": str(python), "PYTHONDONTWRITEBYTECODE": "1"}
+    assert shutil.which("rt", path=environment["PATH"]) is None
+    return subprocess.run(words, cwd=folder, env=environment, check=True, capture_output=True, text=True).stdout
+
+
+def test_the_first_example(root):
+    first = "usr/share/doc/tilt-stream/examples/first"
+    assert called(root, "tilt-stream", "run", f"{first}/query.tilt", f"x={first}/x.csv", folder=root) == "start,end,value\n0,5,7\n6,8,9\n"
+    assert called(root, "tilt-data", "run", f"{first}/query.tilt", f"x={first}/x.csv", folder=root) == "start,end,value\n0,5,7\n6,8,9\n"
+
+
+def test_from_a_raw_file_to_a_table(root, tmp_path):
+    shutil.copytree(root / "usr/share/doc/tilt-stream/examples/clinical", tmp_path / "clinical")
+    folder = tmp_path / "clinical"
+    called(root, "tilt-data", "series", "raw/monitor.csv", "--time", "time", "--tick", "1s", "--max-age", "1s", "--null", "-1", "--out", "data",
+           "--origin", "2026-03-02T22:00", folder=folder)
+    out = called(root, "tilt-data", "run", "desaturation.tilt", "saturation=data/saturation.csv", folder=folder)
+    assert out == (folder / "expected/desaturation.csv").read_text()
+
+
+def test_tilt_is_an_alternative(root):
+    if os.geteuid() != 0:
+        pytest.skip("only root installs by dpkg")
+    assert os.readlink(root / "usr/bin/tilt") == "/etc/alternatives/tilt"
+    assert os.readlink(root / "etc/alternatives/tilt") == "/usr/bin/tilt-stream"
+    assert os.readlink(root / "etc/alternatives/tilt.1.gz") == "/usr/share/man/man1/tilt-stream.1.gz"
+
+
+def test_what_is_in_it(root):
+    for name in ("man/man1/tilt-stream.1.gz", "man/man1/tilt-data.1.gz", "doc/tilt-stream/copyright", "doc/tilt-stream/docs/DATA.md",
+                 "bash-completion/completions/tilt-data", "doc/tilt-stream/examples/sensors/raw/readings.csv"):
+        assert (root / "usr/share" / name).stat().st_size > 0, name
+    done = subprocess.run(["bash", "-c", ". usr/share/bash-completion/completions/tilt; COMP_WORDS=(tilt ex); COMP_CWORD=1; _tilt; echo ${COMPREPLY[*]}"],
+                          cwd=root, capture_output=True, text=True)
+    assert done.stdout == "exec explain\n"
+
+
+def test_it_goes_away_again(root):
+    if os.geteuid() != 0:
+        pytest.skip("only root installs by dpkg")
+    words = ["dpkg", f"--root={root}", "--force-script-chrootless", "--remove", "tilt-stream"]
+    done = subprocess.run(words, capture_output=True, text=True)
+    assert done.returncode == 0, done.stderr
+    assert not os.path.lexists(root / "usr/bin/tilt") and not (root / "usr/bin/tilt-stream").exists()
