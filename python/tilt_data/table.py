@@ -29,9 +29,13 @@ class Look:
     clock: Clock
     zone: datetime.tzinfo | None
     scale: int
+    known: tuple[int, str] | None = None
 
     def time(self, tick: int) -> str:
-        return self.clock.text(tick, self.zone)
+        # Where a row ends the next one mostly begins.
+        if self.known is None or self.known[0] != tick:
+            self.known = tick, self.clock.text(tick, self.zone)
+        return self.known[1]
 
     def value(self, value: int | None) -> str:
         return "" if value is None else decimal_text(value, self.scale)
