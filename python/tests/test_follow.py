@@ -81,8 +81,9 @@ def test_calls_one_after_another_go_on(tilt, tmp_path):
 def test_an_input_from_a_file(tilt, tmp_path):
     lines, wanted = lay_out(tmp_path)
     given = "".join(line + "\n" for line in lines if line.startswith("temp")).encode()
-    for part in (given[:given.rindex(b"\n", 0, 5000) + 1], given[given.rindex(b"\n", 0, 5000) + 1:]):
-        words = ["limit=limit.csv", "--state", "s", "--rows", "50", *(["--end"] if part is not given[:len(part)] and part != given[:len(part)] else [])]
+    middle = given.index(b"\n", 5000) + 1
+    for part, end in ((given[:middle], []), (given[middle:], ["--end"])):
+        words = ["limit=limit.csv", "--state", "s", "--rows", "50", *end]
         assert done(follow(tmp_path, *words, stdin=subprocess.PIPE), part)[::2] == (0, "")
     assert (tmp_path / "s" / "output.csv").read_text() == wanted
 
@@ -119,7 +120,8 @@ def test_readings_become_rows_as_in_series(tilt, tmp_path):
     (tmp_path / "q").write_text("input temp; emit avg(temp[t-60:t]) over (0, 3060] every 60;")
     (tmp_path / "raw.csv").write_text("time,temp\n" + "".join(f"{at},{value}\n" for at, (_, value) in zip(times, readings)))
     options = ["--tick", "1s", "--origin", "2026-03-01", "--scale", "10", "--max-age", "30s"]
-    assert subprocess.run([sys.executable, "-m", "tilt_data", "series", "raw.csv", "--time", "time", *options], cwd=tmp_path, env=BEGUN).returncode == 0
+    made = [sys.executable, "-m", "tilt_data", "series", "raw.csv", "--time", "time", *options]
+    assert subprocess.run(made, cwd=tmp_path, env=BEGUN).returncode == 0
     wanted = run_program(tilt, (tmp_path / "q").read_text(), "temp=temp.csv", folder=str(tmp_path))
     lines = [f"temp,{at},{value}\n" for at, (_, value) in zip(times, readings)]
     (tmp_path / "q").write_text("input temp; emit avg(temp[t-60:t]) over (0, 3060] every 60;")
@@ -130,8 +132,10 @@ def test_readings_become_rows_as_in_series(tilt, tmp_path):
 
 
 @pytest.mark.parametrize("line, what", [
-    ("temp,5", "line 2: NAME,start,end,value or NAME,time,value was expected"), ("temp,5,5,1", "line 2: a start below the end 5 was expected"),
-    ("temp,0,5,1", "line 2: it starts before 3, up to where temp was known: it came too late"), ("temp,5,6,1.5", "with whole numbers was expected"),
+    ("temp,5", "line 2: NAME,start,end,value or NAME,time,value was expected"),
+    ("temp,5,5,1", "line 2: a start below the end 5 was expected"),
+    ("temp,0,5,1", "line 2: it starts before 3, up to where temp was known: it came too late"),
+    ("temp,5,6,1.5", "with whole numbers was expected"),
     ("temp,2026-03-01,5", "readings need a clock"), ("limit,5,6,1", "limit is given by a file"),
 ])
 def test_bad_lines(tilt, tmp_path, line, what):
@@ -188,7 +192,7 @@ def test_a_broker(tilt, tmp_path):
     begun = [subprocess.Popen([broker, "-c", str(tmp_path / "conf")], **quiet)]
     try:
         wait_for(lambda: subprocess.run([publish, *at[:4], "-t", "other", "-m", "x"], **quiet).returncode == 0)
-        # The subscriber puts what comes to a file, which is followed from its first line on: so nothing is lost where the follower is killed.
+        # The subscriber puts what comes to a file, which is followed from its first line on: nothing is lost where the follower is killed.
         with open(tmp_path / "log", "ab") as log:
             begun.append(subprocess.Popen([subscribe, *at, "-i", "follower", "-c", "-C", str(len(lines))], stdout=log))
         time.sleep(0.5)

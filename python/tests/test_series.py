@@ -242,6 +242,18 @@ def test_what_is_refused(told, text, words, what):
     assert what in refused(told, text, *words)
 
 
+def test_two_keys_never_share_a_file(told):
+    text = "time,k,sensor,value\n2026-03-01T00:00:01,a_b,c,1\n2026-03-01T00:00:01,a,b_c,2\n"
+    words = ("--tick", "1s", "--key", "k", "--name", "sensor", "--value", "value")
+    assert "raw.csv:3: the key a with b_c and another key have one file, ./a_b_c.csv" in refused(told, text, *words, "--prefix")
+    assert told("series", "raw.csv", "--time", "time", *words)[0] == 0
+
+
+def test_a_text_that_is_no_utf_8(told):
+    pathlib.Path("raw.csv").write_bytes(b"time,temp\n2026-03-01T00:00:01,1\n2026-03-01T00:00:02,\xff\n")
+    assert told("series", "raw.csv", "--time", "time", "--tick", "1s")[2] == "tilt-data: raw.csv:3: a text in UTF-8 was expected\n"
+
+
 def test_a_refusal_leaves_the_old_files(told):
     rows, _ = series(told, READINGS, "--tick", "1s", "--scale", "100")
     assert refused(told, READINGS + "x,1\n", "--tick", "1s", "--scale", "100").startswith("raw.csv:5: ")

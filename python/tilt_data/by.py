@@ -19,9 +19,10 @@ from .program import program
 from .progress import shown
 from .why import refusal_of
 
-HELP = """Runs a query for each key. A word NAME=FILE whose FILE has {key} in it is another file for each key, as temperature=data/{key}/temperature.csv
-for what `tilt-data series --key` writes, or data/{key}_temperature.csv for --prefix; the keys are those for which the first such file is
-there. The other inputs are the same for all. The output has the key in front: key,start,end,value."""
+HELP = """Runs a query for each key. A word NAME=FILE whose FILE has {key} in it is another file for each key, as
+temperature=data/{key}/temperature.csv for what `tilt-data series --key` writes, or data/{key}_temperature.csv for --prefix; the keys are
+those for which the first such file is there. The other inputs are the same for all. The output has the key in front:
+key,start,end,value."""
 
 
 @dataclasses.dataclass(frozen=True)

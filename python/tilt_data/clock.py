@@ -74,12 +74,12 @@ class Moments:
     expected. Times without an offset are in the zone, or UTC where there is none."""
 
     def __init__(self, unit: str | None = None, zone: zoneinfo.ZoneInfo | None = None) -> None:
-        self.unit = None if unit is None else UNITS[unit]
+        self.unit = 0 if unit is None else UNITS[unit]
         self.zone = zone
         self.known: dict[tuple[str, str | None, str | None], int] = {}
 
     def read(self, text: str) -> int:
-        return self.iso(text) if self.unit is None else self.number(text)
+        return self.number(text) if self.unit else self.iso(text)
 
     def number(self, text: str) -> int:
         try:

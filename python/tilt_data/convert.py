@@ -52,7 +52,8 @@ class Converter:
         self.moment = moment
         if start <= self.start:
             if self.rule.ties != "spread":
-                return self.settle(value)
+                self.settle(value)
+                return None
             start = self.start + 1
             self.moved += 1
         row = self.row(start)

@@ -4,12 +4,13 @@ from __future__ import annotations
 import contextlib
 import csv
 import dataclasses
+import io
 import json
 import os
 import shutil
 import sys
 import tempfile
-from typing import IO, Iterator
+from typing import IO, Iterator, cast
 
 from .clock import Clock, Moments, duration_of, duration_text, moment_text
 from .errors import Refused, refused_at
@@ -23,7 +24,7 @@ def reading(path: str) -> Iterator[IO[str]]:
     """The text of a file, or of standard input where the path is `-`."""
     try:
         if path == "-":
-            sys.stdin.reconfigure(encoding="utf-8-sig", newline="")  # type: ignore[union-attr]
+            cast(io.TextIOWrapper, sys.stdin).reconfigure(encoding="utf-8-sig", newline="")
             yield sys.stdin
         else:
             with open(path, encoding="utf-8-sig", newline="") as file:
@@ -33,7 +34,21 @@ def reading(path: str) -> Iterator[IO[str]]:
     except OSError as error:
         raise Refused(f"{path}: {error.strerror}") from error
     except UnicodeDecodeError as error:
-        raise Refused(f"{path}: it is no UTF-8 text") from error
+        line = undecodable(path)
+        raise Refused(f"{path}{'' if line is None else f':{line}'}: a text in UTF-8 was expected") from error
+
+
+def undecodable(path: str) -> int | None:
+    """The first line of a file that is no UTF-8, from 1; None where it can't be read again."""
+    if not os.path.isfile(path):
+        return None
+    with open(path, "rb") as file:
+        for number, line in enumerate(file, 1):
+            try:
+                line.decode("utf-8")
+            except UnicodeDecodeError:
+                return number
+    return None
 
 
 def records(path: str, file: IO[str], delimiter: str = ",") -> Iterator[tuple[int, list[str]]]:

@@ -25,11 +25,11 @@ from .files import Row, notes_of, notes_path, reading, rows_of
 from .scales import Scale
 from .series import Nulls, clock_of
 
-HELP = """Runs a query over lines that keep coming on standard input, as from `mosquitto_sub` or `tail -F`: NAME,start,end,value with ticks, or
-NAME,time,value with readings, which become rows as `tilt-data series` has it. A session is run every --every, or after --rows lines; it is cut at
-the last moment that all inputs have reached. The lines that it decides are printed, and put to the end of output.csv in the folder --state. Killed
-at any moment and called again with the same words it goes on, and no line of output.csv is lost or doubled. A word NAME=FILE gives an input whole,
-from a series file."""
+HELP = """Runs a query over lines that keep coming on standard input, as from `mosquitto_sub` or `tail -F`: NAME,start,end,value with
+ticks, or NAME,time,value with readings, which become rows as `tilt-data series` has it. A session is run every --every, or after --rows
+lines; it is cut at the last moment that all inputs have reached. The lines that it decides are printed, and put to the end of output.csv
+in the folder --state. Killed at any moment and called again with the same words it goes on, and no line of output.csv is lost or doubled.
+A word NAME=FILE gives an input whole, from a series file."""
 Taken = dict[str, Any]
 
 
@@ -40,8 +40,8 @@ def add(commands: Any) -> None:
     parser.add_argument("--state", metavar="FOLDER", required=True, help="where all is kept")
     parser.add_argument("--every", metavar="DURATION", default="60s", help="how often a session is run (60s)")
     parser.add_argument("--rows", type=int, metavar="N", help="run one after so many lines too")
-    parser.add_argument("--again", action="store_true", help="the source begins with its first line whenever this is called again, as `tail -n +1 "
-                        "-F`: the lines that were taken before are passed over")
+    parser.add_argument("--again", action="store_true", help="the source begins with its first line whenever this is called again, as "
+                        "`tail -n +1 -F`: the lines that were taken before are passed over")
     parser.add_argument("--end", action="store_true", help="where standard input ends, print all that is left: no more lines will come")
     parser.add_argument("--skip-bad", action="store_true", help="a line that can't be taken is told and passed over")
     parser.add_argument("--quiet", action="store_true", help="print nothing: output.csv has it")
@@ -131,7 +131,7 @@ class Reader:
         if self.clock is None:
             raise Refused("readings need a clock: --tick and --origin, or --like a series")
         if source.converter is None:
-            source.converter = Converter(self.clock, self.rule())
+            source.converter = Converter(self.clock, self.rule(self.clock))
         try:
             value = None if self.nulls.has(fields[2]) else self.scale.whole(fields[2])
             row = source.converter.push(self.moments.read(fields[1]), value)
@@ -145,8 +145,8 @@ class Reader:
             source.rows.append(row)
         source.reached = source.converter.start
 
-    def rule(self) -> Rule:
-        age = None if self.words.max_age is None else self.clock.ticks(duration_of(self.words.max_age), "--max-age")
+    def rule(self, clock: Clock) -> Rule:
+        age = None if self.words.max_age is None else clock.ticks(duration_of(self.words.max_age), "--max-age")
         return Rule(not self.words.event, age, self.words.ties)
 
     def finish(self) -> None:
@@ -169,7 +169,7 @@ class Reader:
         if kept["converter"] is not None:
             if self.clock is None:
                 raise Refused("readings were taken before: --tick and --origin, or --like, are needed again")
-            source.converter = Converter(self.clock, self.rule())
+            source.converter = Converter(self.clock, self.rule(self.clock))
             source.converter.load(kept["converter"])
 
 
@@ -431,7 +431,8 @@ class Follower:
 
 
 def chunks(number: int, due: Any) -> Iterator[list[bytes]]:
-    """The whole lines that are there, without their ends; none when it is time for a session. A last line without an end is taken at the end."""
+    """The whole lines that are there, without their ends; none when it is time for a session. A last line without an end is taken at the
+    end."""
     rest = b""
     while True:
         ready, _, _ = select.select([number], [], [], max(0.0, due() - time.monotonic()))

@@ -1,11 +1,12 @@
-"""Names, types, windows, spans and grids, and how far a query looks: the faults of docs/MEANING.md, "Well-formed queries", with their places."""
+"""Names, types, windows, spans and grids, and how far a query looks: the faults of docs/MEANING.md, "Well-formed queries", with their
+places."""
 from __future__ import annotations
 
 import difflib
 from typing import Iterator
 
 from .grammar import COMPARISONS, Node, Statement, statements_of
-from .tokens import Fault, Faulty, Token
+from .tokens import NOTHING, Fault, Faulty, Token
 
 MOST_TIME = 4 * 10**18
 MOST_PERIOD = 10**12 + 1
@@ -42,45 +43,45 @@ def span_of(node: Node) -> Token:
 def check(statement: Statement, types: dict[str, str]) -> None:
     """The faults of one statement, in their order, given the types of the names before it, to which its own is added."""
     number, name = statement.number, statement.name
-    if name is not None and name.text in types:
+    if name.kind and name.text in types:
         raise Faulty(f"26 statement {number}: name taken", name, f"`{name.text}` is declared before", "take another name")
     kind = "int"
     if statement.body is not None:
-        check_names(statement, types)
+        check_names(statement.body, number, types)
         kind = Types(number, types).of(statement.body)
         if statement.form == "emit" and kind == "bool":
-            raise Faulty(f"28 statement {number}: type mismatch", span_of(statement.body), "a number was expected, and this is a truth value",
-                         "emit 1 when it is true, or if it then 1 else 0")
-        check_windows(statement)
+            raise Faulty(f"28 statement {number}: type mismatch", span_of(statement.body),
+                         "a number was expected, and this is a truth value", "emit 1 when it is true, or if it then 1 else 0")
+        check_windows(statement.body, number)
         check_domain(statement)
-    if name is not None:
+    if name.kind:
         types[name.text] = kind
 
 
-def check_names(statement: Statement, types: dict[str, str]) -> None:
-    for node in walk(statement.body):
-        if node.name is not None and node.name.text not in types:
+def check_names(body: Node, number: int, types: dict[str, str]) -> None:
+    for node in walk(body):
+        if node.name.kind and node.name.text not in types:
             near = difflib.get_close_matches(node.name.text, types, 1, 0.5)
-            known = f"did you mean `{near[0]}`?" if near else f"the names before it are {', '.join(types)}" if types else "no name is before it"
-            raise Faulty(f"27 statement {statement.number}: unknown name", node.name, f"no statement before it declares `{node.name.text}`",
-                         known)
+            before = f"the names before it are {', '.join(types)}" if types else "no name is before it"
+            known = f"did you mean `{near[0]}`?" if near else before
+            raise Faulty(f"27 statement {number}: unknown name", node.name, f"no statement before it declares `{node.name.text}`", known)
 
 
-def check_windows(statement: Statement) -> None:
-    for node in walk(statement.body):
+def check_windows(body: Node, number: int) -> None:
+    for node in walk(body):
         if node.form == "window" and node.low >= node.high:
-            raise Faulty(f"29 statement {statement.number}: bad window", span_of(node), "a window that ends after its start was expected",
+            raise Faulty(f"29 statement {number}: bad window", span_of(node), "a window that ends after its start was expected",
                          "write the earlier end first, as x[t-3:t]")
 
 
 def check_domain(statement: Statement) -> None:
     number = statement.number
-    period, offset = (statement.period or (1, None))[0], (statement.offset or (0, None))[0]
+    (period, period_token), (offset, offset_token) = statement.period, statement.offset
     line = f"30 statement {number}: bad domain"
     if not 1 <= period <= MOST_PERIOD:
-        raise Faulty(line, statement.period[1], f"a period from 1 to {MOST_PERIOD} was expected")
+        raise Faulty(line, period_token, f"a period from 1 to {MOST_PERIOD} was expected")
     if offset >= period:
-        raise Faulty(line, statement.offset[1], f"an offset below its period {period} was expected")
+        raise Faulty(line, offset_token, f"an offset below its period {period} was expected")
     for bound, token in statement.bounds:
         if abs(bound) > MOST_TIME:
             raise Faulty(line, token, f"a time from -{MOST_TIME} to {MOST_TIME} was expected")
@@ -137,13 +138,13 @@ class Types:
 
     def ask(self, node: Node, at: int, parts: list[str], kind: str) -> None:
         if parts[at] != kind:
-            raise Faulty(self.line, span_of(node.parts[at]), f"{WORDS[kind]} was expected by `{node.token.text}`, and this is {WORDS[parts[at]]}",
-                         CURES[kind])
+            expected = f"{WORDS[kind]} was expected by `{node.token.text}`, and this is {WORDS[parts[at]]}"
+            raise Faulty(self.line, span_of(node.parts[at]), expected, CURES[kind])
 
     def same(self, node: Node, one: int, other: int, parts: list[str]) -> str:
         if parts[one] != parts[other]:
-            raise Faulty(self.line, span_of(node.parts[other]), f"{WORDS[parts[one]]} was expected by `{node.token.text}` as on its other side, "
-                         f"and this is {WORDS[parts[other]]}", CURES[parts[one]])
+            expected = f"{WORDS[parts[one]]} was expected by `{node.token.text}` as on its other side, and this is {WORDS[parts[other]]}"
+            raise Faulty(self.line, span_of(node.parts[other]), expected, CURES[parts[one]])
         return parts[one]
 
 
@@ -156,7 +157,7 @@ CURES = {
 def far(statements: list[Statement]) -> None:
     """How far the query looks: needs are added up from the emit to the inputs, over what is used."""
     needs: dict[str, tuple[int, int]] = {}
-    farthest, place = (0, 0), statements[-1].body
+    farthest, place = (0, 0), NOTHING
     most = 0
     for statement in reversed(statements):
         need = (0, 0) if statement.form == "emit" else needs.get(statement.name.text)
@@ -164,16 +165,16 @@ def far(statements: list[Statement]) -> None:
             continue
         back, ahead = need
         if statement.body is not None:
-            ahead += (statement.period or (1, None))[0] - 1
+            ahead += statement.period[0] - 1
         farthest = max(farthest[0], back), max(farthest[1], ahead)
         for node in walk(statement.body) if statement.body is not None else ():
-            if node.name is not None:
+            if node.name.kind:
                 low = node.low + 1 if node.form == "window" else node.low
                 asked = back + max(0, -low), ahead + max(0, node.high)
                 before = needs.get(node.name.text, (0, 0))
                 needs[node.name.text] = max(before[0], asked[0]), max(before[1], asked[1])
                 if max(-low, node.high) > most:
-                    most, place = max(-low, node.high), node
+                    most, place = max(-low, node.high), span_of(node)
     if max(farthest) > FARTHEST:
-        raise Faulty(f"31 too far: back {farthest[0]} ahead {farthest[1]}", span_of(place), f"a query looks at most {FARTHEST} ticks back and "
+        raise Faulty(f"31 too far: back {farthest[0]} ahead {farthest[1]}", place, f"a query looks at most {FARTHEST} ticks back and "
                      "ahead", "shorten windows and offsets, which add up over definitions; or take a longer tick")

@@ -1,7 +1,7 @@
 """Queries from Python: pandas' Series and DataFrames, or files, in; a DataFrame with an IntervalIndex, or with timestamps, out.
 
-Values are whole numbers for the program: a float is taken by its shortest decimal text, as pandas shows it, times the scale. Times are those
-of pandas, in nanoseconds; without a zone they are UTC."""
+Values are whole numbers for the program: a float is taken by its shortest decimal text, as pandas shows it, times the scale. Times are
+those of pandas, in nanoseconds; without a zone they are UTC."""
 from __future__ import annotations
 
 import dataclasses
@@ -30,9 +30,9 @@ if TYPE_CHECKING:
 
 @dataclasses.dataclass(frozen=True)
 class Convention:
-    """How readings become rows, as the options of `tilt-data series` have it. `tick` and `max_age` are durations as `1s`; `origin` a time, by
-    default the midnight before the first reading; `scale` a number, or `auto`. `output_scale` divides the values of the output, by default
-    the scale; a count has 1."""
+    """How readings become rows, as the options of `tilt-data series` have it. `tick` and `max_age` are durations as `1s`; `origin` a time,
+    by default the midnight before the first reading; `scale` a number, or `auto`. `output_scale` divides the values of the output, by
+    default the scale; a count has 1."""
 
     tick: str = "1s"
     origin: str | None = None
@@ -97,7 +97,8 @@ class Query:
                 rows = list(rows_of(out, file))
         return shape.frame(rows, merge, index, exact)
 
-    def by_key(self, data: Any, by: str, merge: bool, index: str, exact: bool, convention: Convention, named: dict[str, Any]) -> pandas.DataFrame:
+    def by_key(self, data: Any, by: str, merge: bool, index: str, exact: bool, convention: Convention,
+               named: dict[str, Any]) -> pandas.DataFrame:
         """One run for each key of a column, one after another; the keys are the first level of the index."""
         import pandas
         if not isinstance(data, pandas.DataFrame) or by not in data.columns:
@@ -122,8 +123,9 @@ def run(query: str | os.PathLike[str] | Query, data: Any = None, **options: Any)
     """Runs a query. The inputs are the columns of `data`, a DataFrame with a DatetimeIndex, or stand in `inputs={name: Series or file}`.
 
     A Series with a DatetimeIndex has readings, which become rows as `tilt-data series` makes them (`tick`, `origin`, `closed`, `event`,
-    `max_age`, `until`, `ties`, `scale`); one with an IntervalIndex has rows; a file is a series with its JSON file beside. `by` is a column of
-    keys, `merge` joins equal neighbours, `index` is `interval`, `start` or `end`, and `exact` gives Decimals in place of floats."""
+    `max_age`, `until`, `ties`, `scale`); one with an IntervalIndex has rows; a file is a series with its JSON file beside. `by` is a
+    column of keys, `merge` joins equal neighbours, `index` is `interval`, `start` or `end`, and `exact` gives Decimals in place of
+    floats."""
     return (query if isinstance(query, Query) else Query(query)).run(data, **options)
 
 
@@ -141,8 +143,8 @@ def renamed(place: Any, name: str) -> Any:
 
 @dataclasses.dataclass(frozen=True)
 class Explained:
-    """What `tilt explain` says: the look-back and look-ahead in ticks; each input's, None where it isn't used; each definition's, with whether
-    it has a loop; and how many loops there are, fused and plain."""
+    """What `tilt explain` says: the look-back and look-ahead in ticks; each input's, None where it isn't used; each definition's, with
+    whether it has a loop; and how many loops there are, fused and plain."""
 
     back: int
     ahead: int
@@ -153,8 +155,9 @@ class Explained:
     @staticmethod
     def of(text: str) -> Explained:
         lines = [line.split() for line in text.splitlines()]
-        inputs = {words[1]: None if words[2] == "unused" else (int(words[2]), int(words[3])) for words in lines if words[0] == "input"}
-        lets = {words[1]: None if words[2] == "unused" else (words[2], int(words[3]), int(words[4])) for words in lines if words[0] == "let"}
+        inputs = {name: None if rest[0] == "unused" else (int(rest[0]), int(rest[1])) for form, name, *rest in lines if form == "input"}
+        found = {name: rest for form, name, *rest in lines if form == "let"}
+        lets = {name: None if rest[0] == "unused" else (rest[0], int(rest[1]), int(rest[2])) for name, rest in found.items()}
         reach = next(words for words in lines if words[0] == "reach")
         loops = next(words for words in lines if words[0] == "loops")
         return Explained(int(reach[1]), int(reach[2]), inputs, lets, (int(loops[1]), int(loops[2])))
@@ -229,7 +232,7 @@ class Shape:
         import pandas
         from .table import merged
         kept = list(merged(rows) if merge else rows)
-        starts, ends = (self.times([row[at] for row in kept]) for at in (0, 1))
+        starts, ends = self.times([row[0] for row in kept]), self.times([row[1] for row in kept])
         if index == "interval":
             shown: Any = pandas.IntervalIndex.from_arrays(starts, ends, closed=self.clock.closed)
         elif index in ("start", "end"):
@@ -259,7 +262,8 @@ def bind(query: Query, named: dict[str, Any], convention: Convention) -> tuple[d
     missing = [name for name in query.inputs if name not in named]
     other = [name for name in named if name not in query.inputs]
     if missing or other:
-        raise Refused(f"the query reads {', '.join(query.inputs) or 'no inputs'}: " + (f"{missing[0]} isn't given" if missing else f"not {other[0]}"))
+        what = f"{missing[0]} isn't given" if missing else f"not {other[0]}"
+        raise Refused(f"the query reads {', '.join(query.inputs) or 'no inputs'}: {what}")
     files = {name: os.fspath(one) for name, one in named.items() if isinstance(one, (str, os.PathLike))}
     series = {name: one for name, one in named.items() if isinstance(one, pandas.Series)}
     for name in named:
@@ -341,7 +345,8 @@ def pushed(name: str, converter: Converter, moment: int, value: int | None) -> R
     try:
         return converter.push(moment, value)
     except Tie as error:
-        raise Refused(f"the input {name}: two readings in one tick at {moment_text(moment, 9)}: ties='last', 'first' or 'spread'") from error
+        what = f"two readings in one tick at {moment_text(moment, 9)}: ties='last', 'first' or 'spread'"
+        raise Refused(f"the input {name}: {what}") from error
     except Late as error:
         raise Refused(f"the input {name}: the reading at {moment_text(moment, 9)} lies before the one before it: sort_index()") from error
 
@@ -424,7 +429,7 @@ class Live:
         out, state = self.path("out"), self.path("state")
         if self.cut is None and cut is None:
             sessions.whole(self.query.put(self.folder.name), binds, out)
-        elif self.cut is None:
+        elif self.cut is None and cut is not None:
             sessions.first(self.query.put(self.folder.name), binds, cut, state, out)
         elif cut is None:
             sessions.last(state, binds, out)

@@ -4,7 +4,7 @@ from __future__ import annotations
 import dataclasses
 from typing import NoReturn
 
-from .tokens import REDUCERS, RESERVED, Faulty, Token, tokens_of
+from .tokens import NOTHING, REDUCERS, RESERVED, Faulty, Token, tokens_of
 
 MOST_STATEMENTS = 256
 MOST_TOKENS = 256
@@ -25,22 +25,23 @@ class Node:
     begin: int
     end: int
     parts: list[Node] = dataclasses.field(default_factory=list)
-    name: Token | None = None
+    name: Token = NOTHING
     low: int = 0
     high: int = 0
 
 
 @dataclasses.dataclass
 class Statement:
-    """A statement: its number from 1, its form (`input`, `let`, `emit`), its name, its expression, its span and its grid with their tokens."""
+    """A statement: its number from 1, its form (`input`, `let`, `emit`), its name, its expression, its span and its grid with their
+    tokens."""
 
     number: int
     form: str
-    name: Token | None = None
+    name: Token = NOTHING
     body: Node | None = None
     bounds: list[tuple[int, Token]] = dataclasses.field(default_factory=list)
-    period: tuple[int, Token] | None = None
-    offset: tuple[int, Token] | None = None
+    period: tuple[int, Token] = (1, NOTHING)
+    offset: tuple[int, Token] = (0, NOTHING)
 
 
 def statements_of(text: bytes) -> list[Statement]:
@@ -55,7 +56,8 @@ def statements_of(text: bytes) -> list[Statement]:
             begun = []
     parts += [begun] if begun else []
     if len(parts) > MOST_STATEMENTS:
-        raise Faulty("22 too many statements", parts[MOST_STATEMENTS][0], f"at most {MOST_STATEMENTS} statements", "put definitions together")
+        first = parts[MOST_STATEMENTS][0]
+        raise Faulty("22 too many statements", first, f"at most {MOST_STATEMENTS} statements were expected", "put definitions together")
     if not parts:
         end = Token("", "", len(text.rstrip()), len(text.rstrip()))
         raise Faulty("25 statement 1: place of emit", end, "a query was expected, which ends with `emit EXPRESSION over (S, E];`")
@@ -64,7 +66,7 @@ def statements_of(text: bytes) -> list[Statement]:
 
 def statement_of(tokens: list[Token], number: int, last: bool) -> Statement:
     if len(tokens) > MOST_TOKENS:
-        raise Faulty(f"23 statement {number}: too long", tokens[MOST_TOKENS], f"at most {MOST_TOKENS} tokens in a statement",
+        raise Faulty(f"23 statement {number}: too long", tokens[MOST_TOKENS], f"at most {MOST_TOKENS} tokens were expected",
                      "name a part of it by `let`")
     statement = Reader(tokens, number).statement()
     if (statement.form == "emit") != last:
@@ -113,7 +115,9 @@ class Reader:
         if token.kind in ("input", "let", "emit") and before is not None:
             return f"end the statement before it by `;`, after `{before.text}`"
         if token.kind == "the end":
-            return "a statement ends with `;`" if expected != "an operator or `over`" else "an emit says for which ticks it prints, as over (0, 100]; and ends with `;`"
+            if expected == "an operator or `over`":
+                return "an emit says for which ticks it prints, as over (0, 100]; and ends with `;`"
+            return "a statement ends with `;`"
         if token.text in RESERVED and expected == NAMES["name"]:
             return f"`{token.text}` is a reserved word: take another name"
         if token.kind in COMPARISONS:
@@ -166,7 +170,7 @@ class Reader:
             statement.body = self.expression()
             self.domain(statement)
         if self.next.kind != ";":
-            self.refuse("`;`" if statement.bounds or statement.period or form == "input" else "an operator, `over`, `every` or `;`")
+            self.refuse("`;`" if statement.bounds or statement.period[1].kind or form == "input" else "an operator, `over`, `every` or `;`")
         self.at += 1
         if self.next.kind != "the end":
             self.refuse("the end of the statement")

@@ -13,10 +13,10 @@ from .errors import Refused
 from .files import Notes, Row, beside, notes_of, reading, rows_of
 from .progress import shown
 
-HELP = """Draws series and outputs. NAME=FILE has a panel of its own, and after it +NAME=FILE is drawn into the same panel, +limit:NAME=FILE as a
-dashed line, and +band:NAME=FILE as a shaded band where FILE has a value other than 0. A value that holds is a step, events are dots, and null
-is a gap. One name has one colour in all panels. The clock and the scale are those of the JSON file beside each file, or of the series that
---like names; where neither is there, the axis has ticks."""
+HELP = """Draws series and outputs. NAME=FILE has a panel of its own, and after it +NAME=FILE is drawn into the same panel,
++limit:NAME=FILE as a dashed line, and +band:NAME=FILE as a shaded band where FILE has a value other than 0. A value that holds is a step,
+events are dots, and null is a gap. One name has one colour in all panels. The clock and the scale are those of the JSON file beside each
+file, or of the series that --like names; where neither is there, the axis has ticks."""
 COLOURS = ["#1f5fa8", "#2a7f4f", "#7a3e9d", "#8a6d1d", "#137c86", "#5b5b5b"]
 LIMIT, BAND = "#b3261e", "#f2a33a"
 WORD = re.compile(r"(\+?)(?:(band|limit|dots):)?([^=]+)=(.+)")
@@ -191,18 +191,19 @@ def colours_of(panels: list[list[Drawn]]) -> dict[tuple[str, bool], str]:
 
 def draw_one(axes: Any, one: Drawn, lo: int, hi: int, colour: str) -> None:
     with reading(one.file) as opened:
-        rows = clipped(shown(rows_of(one.file, opened), "rows"), lo, hi)  # type: ignore[arg-type]
+        rows = clipped(shown(rows_of(one.file, opened), "rows"), lo, hi)
         if one.form == "band":
             for at, (start, end) in enumerate(joined(rows, (hi - lo) // WIDTH)):
                 axes.axvspan(start - lo, end - lo, color=BAND, alpha=0.35, linewidth=0, label=None if at else one.name)
             return
         kept = list(thinned(rows, lo, hi))
     if one.form == "dots":
-        axes.plot([start - lo for start, _, _ in kept], [value / one.scale for _, _, value in kept], ".", markersize=4, color=colour, label=one.name)
+        times, values = [start - lo for start, _, _ in kept], [value / one.scale for _, _, value in kept]
+        axes.plot(times, values, ".", markersize=4, color=colour, label=one.name)
         return
-    times, values = steps(kept, one.scale)
+    corners, heights = steps(kept, one.scale)
     style = {"color": LIMIT, "linestyle": "--", "linewidth": 1.2} if one.form == "limit" else {"color": colour, "linewidth": 1.2}
-    axes.plot([time - lo for time in times], values, label=one.name, **style)
+    axes.plot([time - lo for time in corners], heights, label=one.name, **style)
 
 
 def axis_of(clock: Clock | None, lo: int, hi: int, zone: datetime.tzinfo | None, zone_name: str) -> tuple[list[float], list[str], str]:
@@ -223,7 +224,9 @@ def axis_of(clock: Clock | None, lo: int, hi: int, zone: datetime.tzinfo | None,
     digits = 0 if step % 10**9 == 0 else 3 if step % 10**6 == 0 else 6 if step % 10**3 == 0 else 9
     texts = [moment_text(moment, digits, zone) for moment in moments]
     first, last = (moment_text(moment, 0, zone)[:10] for moment in (begin, end - 1))
-    part = slice(0, 10) if step >= 86400 * 10**9 else slice(11, 16) if step % (60 * 10**9) == 0 else slice(11, 20 + digits if digits else 19)
+    part = slice(11, 20 + digits if digits else 19)
+    if step % (60 * 10**9) == 0:
+        part = slice(0, 10) if step >= 86400 * 10**9 else slice(11, 16)
     day = first if first == last else f"{first} to {last}"
     return [(moment - begin) / clock.tick for moment in moments], [text[part] for text in texts], f"{day} ({zone_name})"
 

@@ -1,4 +1,5 @@
-"""`tilt-data series`: a CSV of readings, tall or wide, to series files, each with a small JSON file beside that says its clock and scale."""
+"""`tilt-data series`: a CSV of readings, tall or wide, to series files, each with a small JSON file beside that says its clock and
+scale."""
 from __future__ import annotations
 
 import argparse
@@ -17,9 +18,9 @@ from .files import Notes, Outputs, notes_of, notes_path, reading, records, scrat
 from .progress import shown
 from .scales import Scale, digits_after_point
 
-HELP = """Reads a CSV with a header: a column of times, and one column of values for each series (wide), or a column that names the series (tall,
---name). It writes a series file NAME.csv for each, and beside it NAME.json with the length of a tick, the origin and the scale. Readings are
-in order of time, or --sort puts them in order. What was dropped, moved and scaled is told on standard error."""
+HELP = """Reads a CSV with a header: a column of times, and one column of values for each series (wide), or a column that names the series
+(tall, --name). It writes a series file NAME.csv for each, and beside it NAME.json with the length of a tick, the origin and the scale.
+Readings are in order of time, or --sort puts them in order. What was dropped, moved and scaled is told on standard error."""
 Reading = tuple[int, int, str, str, str]
 
 
@@ -77,7 +78,8 @@ def add_time(parser: argparse.ArgumentParser) -> None:
 
 def add_convention(parser: argparse.ArgumentParser) -> None:
     parser.add_argument("--hold", choices=["next"], help="a reading holds until the next one (so it is where --event isn't given)")
-    parser.add_argument("--max-age", nargs="+", metavar="DURATION", default=[], help="it holds no longer than this, as 5min; NAME=5min for one series")
+    parser.add_argument("--max-age", nargs="+", metavar="DURATION", default=[], help="it holds no longer than this, as 5min; "
+                        "NAME=5min for one series")
     parser.add_argument("--until", metavar="TIME", help="until when the last reading holds (one tick, or --max-age)")
     parser.add_argument("--event", action="store_true", help="a reading is an event of one tick")
     parser.add_argument("--closed", choices=["left", "right"], help="which edge of a tick belongs to it, as in pandas (left)")
@@ -85,7 +87,7 @@ def add_convention(parser: argparse.ArgumentParser) -> None:
                         "each, in ticks one after another (refuse)")
     parser.add_argument("--null", metavar="TEXTS", default="", help="texts with commas between them that mean no value, as NaN,-1; empty "
                         "fields always do")
-    parser.add_argument("--skip-empty", action="store_true", help="a field without a value is no reading, and not one that there is no value")
+    parser.add_argument("--skip-empty", action="store_true", help="a field without a value is no reading at all")
 
 
 def column(header: list[str], name: str, path: str) -> int:
@@ -114,7 +116,7 @@ def readings_of(source: str, words: argparse.Namespace) -> Iterator[Reading]:
     path, moments = words.file, Moments(words.unit, zone_of(words.zone))
     with reading(source) as file:
         found = records(path, file, words.delimiter)
-        _, header = next(found, (1, []))
+        _, header = next(found, (1, [""]))
         columns = columns_of(header, words, path)
         for line, record in shown(found, "readings"):
             if len(record) != columns.width:
@@ -172,16 +174,19 @@ class Converting:
         self.like = None if words.like is None else notes_of(words.like)
         if words.like is not None and self.like is None:
             raise Refused(f"{words.like}: there is no {notes_path(words.like)} beside it; `tilt-data series` writes one")
-        self.clock: Clock | None = None
+        self.clock = Clock(1, 0)
+        self.begun = False
         self.ages: dict[str, int | None] = {}
         self.scales = Scales({}, Scale(1))
         self.series: dict[tuple[str, str], Converter] = {}
         self.files: dict[tuple[str, str], str] = {}
+        self.paths: set[str] = set()
         self.rows: dict[tuple[str, str], list[int]] = {}
         self.lines: dict[tuple[str, str], int] = {}
 
     def begin(self, moment: int) -> None:
         """The clock, which may rest on the first reading, and how long readings hold."""
+        self.begun = True
         self.clock = clock_of(self.words, self.like, moment)
         for word in self.words.max_age:
             name, _, age = word.rpartition("=")
@@ -193,7 +198,7 @@ class Converting:
 
     def take(self, one: Reading) -> None:
         moment, line, key, name, text = one
-        if self.clock is None:
+        if not self.begun:
             self.begin(moment)
         place = key, name
         converter = self.series.get(place)
@@ -230,6 +235,9 @@ class Converting:
             raise refused_at(self.path, line, f"a key was expected in the column {self.words.key}")
         converter = self.series[place] = Converter(self.clock, self.rule(name))
         path = os.path.join(self.words.out, file_of(key, name, self.words.prefix))
+        if path in self.paths:
+            raise refused_at(self.path, line, f"the key {key} with {name} and another key have one file, {path}: leave --prefix out")
+        self.paths.add(path)
         self.files[place] = path
         self.rows[place] = [0, 0, 0, 0]
         self.outputs.write(path, "start,end,value\n")
@@ -246,7 +254,7 @@ class Converting:
 
     def finish(self) -> None:
         until = None
-        if self.words.until is not None and self.clock is not None:
+        if self.words.until is not None and self.begun:
             until = self.clock.start(moment_of(self.words.until, self.words))
         for place, converter in self.series.items():
             row = converter.finish(until)
@@ -261,7 +269,7 @@ class Converting:
 
     def told(self, most: int = 10) -> Iterator[str]:
         """What is told of each series, and of those after the tenth how many they are."""
-        if self.clock is None:
+        if not self.begun:
             yield "no reading, and no series"
             return
         yield f"a tick is {duration_text(self.clock.tick)}, closed {self.clock.closed}, from {moment_text(self.clock.origin, 0)}"
@@ -277,7 +285,8 @@ class Converting:
         scale = self.scales.of(place[1]).scale
         notes = ("without a value", nulls), ("dropped, in one tick with another", converter.dropped), (
             "moved to the next free tick", converter.moved), ("gaps after --max-age", converter.gaps)
-        return ", ".join([text, *([f"values times {scale}"] if scale != 1 else []), *(f"{what}: {count}" for what, count in notes if count)])
+        scaled = [f"values times {scale}"] if scale != 1 else []
+        return ", ".join([text, *scaled, *(f"{what}: {count}" for what, count in notes if count)])
 
 
 def file_of(key: str, name: str, prefix: bool) -> str:
@@ -300,9 +309,12 @@ def moment_of(text: str, words: argparse.Namespace) -> int:
 
 def clock_of(words: argparse.Namespace, like: Notes | None, first: int) -> Clock:
     """The clock that the words tell, or the series that they name; else it begins with the midnight before the first reading."""
-    if words.tick is None and like is None:
+    if words.tick is not None:
+        tick = duration_of(words.tick)
+    elif like is not None:
+        tick = like.clock.tick
+    else:
         raise Refused("how long is a tick? --tick 1s, 1ms, 1min, .. or --like a series that was written before")
-    tick = like.clock.tick if words.tick is None else duration_of(words.tick)
     closed = words.closed or (like.clock.closed if like is not None else "left")
     if words.origin is not None:
         origin = moment_of(words.origin, words)

@@ -3,7 +3,7 @@ from __future__ import annotations
 
 import os
 import subprocess
-from typing import Iterable
+from typing import Iterable, Mapping
 
 from .convert import row_text
 from .errors import TiltError
@@ -21,7 +21,7 @@ def call(words: list[str], out: str) -> None:
         raise TiltError(told, done.returncode, refusal_of(told, words[1:]))
 
 
-def put_rows(folder: str, rows: dict[str, Iterable[Row]]) -> list[str]:
+def put_rows(folder: str, rows: Mapping[str, Iterable[Row]]) -> list[str]:
     """A series file for each input, and the words that bind them."""
     words = []
     for name, its in rows.items():

@@ -17,9 +17,9 @@ from .files import HEADER, Notes, Row, notes_of, reading, records, rows_of, writ
 from .progress import shown
 from .scales import decimal_text
 
-HELP = """Prints outputs of tilt, or series, with dates and decimals. The clock and the scale are those of the JSON file beside the file, or of the
-series that --like names. A row start,end is the stretch of time from the first to the second; which of its ends belongs to it is the
-`closed` of the series. Where a file begins with key,start,end,value, as of `tilt-data by`, the key stays in front."""
+HELP = """Prints outputs of tilt, or series, with dates and decimals. The clock and the scale are those of the JSON file beside the file,
+or of the series that --like names. A row start,end is the stretch of time from the first to the second; which of its ends belongs to it is
+the `closed` of the series. Where a file begins with key,start,end,value, as of `tilt-data by`, the key stays in front."""
 
 
 @dataclasses.dataclass
@@ -48,10 +48,10 @@ def add(commands: Any) -> None:
     parser.add_argument("--scale", action="append", metavar="[NAME=]N", default=[], help="values are divided by N, as 1 for a count")
     parser.add_argument("--zone", help="the time zone of the dates (that of the series, or UTC)")
     parser.add_argument("--merge", action="store_true", help="join equal neighbours")
-    parser.add_argument("--episodes", action="store_true", help="one row for each stretch of rows that follow one another: start, end, duration")
+    parser.add_argument("--episodes", action="store_true", help="a row for each stretch of rows that follow one another")
     parser.add_argument("--gap", metavar="DURATION", help="with --episodes: stretches no farther apart are one")
-    parser.add_argument("--of", nargs="+", action="extend", metavar="NAME=FILE", default=[], help="with --episodes: the least, the greatest and the mean (weighted by "
-                        "time) of these in each episode")
+    parser.add_argument("--of", nargs="+", action="extend", metavar="NAME=FILE", default=[], help="with --episodes: the least, greatest "
+                        "and mean value (weighted by time) of these in each episode")
     parser.add_argument("--wide", action="store_true", help="several files side by side, cut where one of them changes")
     parser.add_argument("-o", "--out", metavar="FILE", help="where the table is written (standard output)")
     parser.set_defaults(main=main)
@@ -81,7 +81,7 @@ class Looks:
     def of(self, name: str, file: str) -> Look:
         notes: Notes | None = notes_of(file) or self.like
         if notes is None:
-            raise Refused(f"{file}: its ticks and scale aren't known: there is no JSON file beside it; --like SERIES names a series that has one")
+            raise Refused(f"{file}: its ticks and scale aren't known: no JSON file is beside it; --like SERIES names a series that has one")
         scale = int(self.scales.get(name, self.scales.get("", notes.scale)))
         return Look(notes.clock, zone_of(self.zone or notes.zone), scale)
 
@@ -126,7 +126,7 @@ def plain(words: argparse.Namespace, looks: Looks) -> Iterator[list[str]]:
     look = looks.of(name, file)
     with reading(file) as opened:
         found = records(file, opened)
-        line, header = next(found, (1, []))
+        line, header = next(found, (1, [""]))
         if header not in (HEADER, ["key", *HEADER]):
             raise refused_at(file, line, "the header start,end,value or key,start,end,value was expected")
         yield header

@@ -23,6 +23,10 @@ class Token:
     end: int
 
 
+# In place of a name where a statement or an expression has none.
+NOTHING = Token("", "", 0, 0)
+
+
 @dataclasses.dataclass(frozen=True)
 class Fault:
     """Why a query is refused: the program's line without `tilt: `, the bytes that are to blame, what was expected, and a cure."""
@@ -80,7 +84,8 @@ def unknown_byte(text: bytes, at: int) -> Faulty:
         end = at + 1
         while end < len(text) and text[end] & 0xC0 == 0x80:
             end += 1
-        return Faulty(f"20 bad byte at {at}", Token("", "", at, end), "a letter or sign of ASCII was expected", "write names without accents")
+        return Faulty(f"20 bad byte at {at}", Token("", "", at, end), "a letter or sign of ASCII was expected",
+                      "write names without accents")
     return Faulty(f"20 bad byte at {at}", Token("", sign, at, at + 1), f"the language has no {sign!r}", cure)
 
 

@@ -235,10 +235,10 @@ def why(words: argparse.Namespace) -> int:
 def add(commands: Any) -> None:
     parser = commands.add_parser(
         "run", help="tilt run, and the place of a mistake", usage="tilt-data run QUERY NAME=FILE .. [--plain] [--cut TIME,..]",
-        description="Runs `tilt run` with the same words: its output, its line and its status. Where it refuses, the place stands after its line.")
+        description="Runs `tilt run` with the same words: its output, line and status. Where it refuses, the place stands after its line.")
     parser.add_argument("words", nargs="*")
     parser.set_defaults(main=lambda parsed: run(parsed.words))
-    parser = commands.add_parser("why", help="why a query is refused", description="Tells why a query is refused, and where; else what `tilt "
-                                 "explain` prints.")
+    parser = commands.add_parser("why", help="why a query is refused", description="Tells why a query is refused, and where; else what "
+                                 "`tilt explain` prints.")
     parser.add_argument("query", metavar="QUERY")
     parser.set_defaults(main=why)
