@@ -222,6 +222,7 @@ def test_sorting_in_parts(tmp_path):
 
 @pytest.mark.parametrize("text, words, what", [
     ("", ["--tick", "1s"], "raw.csv:1: the column 'time' is not in the header"),
+    ("time,temp\n", ["--tick", "1s", "--value", "hum"], "raw.csv:1: the column 'hum' is not in the header; there are: time, temp"),
     ("when,temp\n", ["--tick", "1s"], "raw.csv:1: the column 'time' is not in the header; there are: when, temp"),
     ("time,time,temp\n", ["--tick", "1s"], "raw.csv:1: the column 'time' is more than once in the header"),
     ("time\n", ["--tick", "1s"], "raw.csv:1: no column of values"),
@@ -245,7 +246,7 @@ def test_what_is_refused(told, text, words, what):
 def test_two_keys_never_share_a_file(told):
     text = "time,k,sensor,value\n2026-03-01T00:00:01,a_b,c,1\n2026-03-01T00:00:01,a,b_c,2\n"
     words = ("--tick", "1s", "--key", "k", "--name", "sensor", "--value", "value")
-    assert "raw.csv:3: the key a with b_c and another key have one file, ./a_b_c.csv" in refused(told, text, *words, "--prefix")
+    assert "raw.csv:3: the key a with b_c and another key have one file, a_b_c.csv" in refused(told, text, *words, "--prefix")
     assert told("series", "raw.csv", "--time", "time", *words)[0] == 0
 
 

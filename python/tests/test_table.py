@@ -64,6 +64,17 @@ def test_episodes(told):
     assert [row[2] for row in table(told, "alarm.csv", "--episodes", "--gap", "10s")[1:]] == ["40", "10"]
 
 
+def test_episodes_of_keys(told):
+    for key in ("a", "b%2F"):
+        os.makedirs(key)
+        put(f"{key}/temp", "0,15,100\n15,45,200\n" if key == "a" else "0,100,7\n")
+    pathlib.Path("all.csv").write_text("key,start,end,value\na,10,20,1\na,20,30,5\nb/,6,7,7\nb/,9,10,7\n")
+    rows = table(told, "all.csv", "--like", "a/temp.csv", "--episodes", "--of", "temp={key}/temp.csv")
+    assert rows[0][:4] == ["key", "start", "end", "seconds"]
+    assert [[row[0], *row[3:]] for row in rows[1:]] == [
+        ["a", "20", "10.0", "20.0", "17.500"], ["b/", "1", "0.7", "0.7", "0.700"], ["b/", "1", "0.7", "0.7", "0.700"]]
+
+
 def test_side_by_side(told):
     put("a", "0,10,1\n10,20,2\n30,40,3\n", scale=1)
     put("b", "5,15,7\n15,35,\n", scale=1)

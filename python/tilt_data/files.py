@@ -10,6 +10,7 @@ import os
 import shutil
 import sys
 import tempfile
+import urllib.parse
 from typing import IO, Iterator, cast
 
 from .clock import Clock, Moments, duration_of, duration_text, moment_text
@@ -93,6 +94,12 @@ def spooled(path: str, folder: str) -> str:
             with open(path, "rb") as source:
                 shutil.copyfileobj(source, file)
     return copy
+
+
+def safe(text: str) -> str:
+    """A text as the name of a file or a folder: signs that no such name has are written as %XX."""
+    quoted = urllib.parse.quote(text, safe=" +,=@()äöüÄÖÜéèà")
+    return quoted.replace(".", "%2E") if quoted.strip(".") == "" else quoted
 
 
 class Outputs:

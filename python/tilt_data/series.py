@@ -8,13 +8,12 @@ import heapq
 import os
 import pickle
 import sys
-import urllib.parse
 from typing import Any, Iterable, Iterator
 
 from .clock import Clock, Moments, duration_of, duration_text, moment_text, zone_of
 from .convert import TIES, Converter, Late, Rule, Tie, row_text
 from .errors import Refused, refused_at
-from .files import Notes, Outputs, notes_of, notes_path, reading, records, scratch, spooled
+from .files import Notes, Outputs, notes_of, notes_path, reading, records, safe, scratch, spooled
 from .progress import shown
 from .scales import Scale, digits_after_point
 
@@ -59,7 +58,7 @@ def add(commands: Any) -> None:
 
 def add_source(parser: argparse.ArgumentParser) -> None:
     parser.add_argument("file", metavar="FILE", help="the CSV, or - for standard input")
-    parser.add_argument("--time", metavar="COL", required=True, help="the column of times")
+    parser.add_argument("--time", metavar="COL", help="the column of times")
     parser.add_argument("--value", metavar="COL", nargs="+", help="the columns of values; all others where it is left out")
     parser.add_argument("--name", metavar="COL", help="a tall file: the column that names the series; --value is then the one value column")
     parser.add_argument("--delimiter", default=",", help="what parts the fields (,)")
@@ -99,6 +98,8 @@ def column(header: list[str], name: str, path: str) -> int:
 
 def columns_of(header: list[str], words: argparse.Namespace, path: str) -> Columns:
     """The columns that the words name."""
+    if words.time is None:
+        raise refused_at(path, 1, f"which column has the times? --time COL; there are: {', '.join(header)}")
     time = column(header, words.time, path)
     key = None if getattr(words, "key", None) is None else column(header, words.key, path)
     name = None if words.name is None else column(header, words.name, path)
@@ -234,7 +235,7 @@ class Converting:
         if self.words.key is not None and not key:
             raise refused_at(self.path, line, f"a key was expected in the column {self.words.key}")
         converter = self.series[place] = Converter(self.clock, self.rule(name))
-        path = os.path.join(self.words.out, file_of(key, name, self.words.prefix))
+        path = os.path.normpath(os.path.join(self.words.out, file_of(key, name, self.words.prefix)))
         if path in self.paths:
             raise refused_at(self.path, line, f"the key {key} with {name} and another key have one file, {path}: leave --prefix out")
         self.paths.add(path)
@@ -293,11 +294,6 @@ def file_of(key: str, name: str, prefix: bool) -> str:
     """The file of a series: signs that no file's name has are written as %XX."""
     name = safe(name) + ".csv"
     return name if not key else f"{safe(key)}_{name}" if prefix else os.path.join(safe(key), name)
-
-
-def safe(text: str) -> str:
-    quoted = urllib.parse.quote(text, safe=" +,=@()äöüÄÖÜéèà")
-    return quoted.replace(".", "%2E") if quoted.strip(".") == "" else quoted
 
 
 def moment_of(text: str, words: argparse.Namespace) -> int:

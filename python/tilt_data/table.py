@@ -13,7 +13,7 @@ from typing import IO, Any, Iterable, Iterator
 
 from .clock import Clock, duration_of, zone_of
 from .errors import Refused, refused_at
-from .files import HEADER, Notes, Row, notes_of, reading, records, rows_of, writing
+from .files import HEADER, Notes, Row, notes_of, reading, records, rows_of, safe, writing
 from .progress import shown
 from .scales import decimal_text
 
@@ -125,14 +125,20 @@ def plain(words: argparse.Namespace, looks: Looks) -> Iterator[list[str]]:
     name, file = named(words.files[0])
     look = looks.of(name, file)
     with reading(file) as opened:
-        found = records(file, opened)
-        line, header = next(found, (1, [""]))
-        if header not in (HEADER, ["key", *HEADER]):
-            raise refused_at(file, line, "the header start,end,value or key,start,end,value was expected")
-        yield header
-        for key, rows in by_key(file, shown(found, "rows"), len(header)):
+        keyed, groups = keyed_rows(file, opened)
+        yield [*keyed, *HEADER]
+        for key, rows in groups:
             for start, end, value in merged(rows) if words.merge else rows:
                 yield [*key, look.time(start), look.time(end), look.value(value)]
+
+
+def keyed_rows(file: str, opened: IO[str]) -> tuple[list[str], Iterator[tuple[list[str], Iterator[Row]]]]:
+    """The head of the key, where the file has one, and the rows of each key."""
+    found = records(file, opened)
+    line, header = next(found, (1, [""]))
+    if header not in (HEADER, ["key", *HEADER]):
+        raise refused_at(file, line, "the header start,end,value or key,start,end,value was expected")
+    return header[:-3], by_key(file, shown(found, "rows"), len(header))
 
 
 def by_key(file: str, found: Iterable[tuple[int, list[str]]], width: int) -> Iterator[tuple[list[str], Iterator[Row]]]:
@@ -260,17 +266,27 @@ def length_text(clock: Clock, ticks: int) -> str:
 
 
 def episodes(words: argparse.Namespace, looks: Looks) -> Iterator[list[str]]:
+    """A row of text for each stretch. Where the file has keys, {key} in a file of --of stands for the key."""
     name, file = named(words.files[0])
     look = looks.of(name, file)
     others = [named(word) for word in words.of]
-    shapes = [looks.of(*other) for other in others]
     gap = 0 if words.gap is None else look.clock.ticks(duration_of(words.gap), "--gap")
+    with reading(file) as opened:
+        keyed, groups = keyed_rows(file, opened)
+        yield [*keyed, "start", "end", "seconds", *(f"{other}_{what}" for other, _ in others for what in ("min", "max", "mean"))]
+        for key, rows in groups:
+            of_key = [(other, path.replace("{key}", safe(key[0])) if key else path) for other, path in others]
+            for fields in episodes_of(rows, look, of_key, looks, gap):
+                yield [*key, *fields]
+
+
+def episodes_of(rows: Iterator[Row], look: Look, others: list[tuple[str, str]], looks: Looks, gap: int) -> Iterator[list[str]]:
+    shapes = [looks.of(*other) for other in others]
     if any((shape.clock.tick, shape.clock.origin) != (look.clock.tick, look.clock.origin) for shape in shapes):
         raise Refused("the files of --of have other ticks or origins than the episodes")
-    yield ["start", "end", "seconds", *(f"{other}_{what}" for other, _ in others for what in ("min", "max", "mean"))]
     with contextlib.ExitStack() as stack:
         within = [Within(rows_of(other, stack.enter_context(reading(other)))) for _, other in others]
-        for start, end in stretches(rows_of(file, stack.enter_context(reading(file))), gap):
+        for start, end in stretches(rows, gap):
             fields = [look.time(start), look.time(end), length_text(look.clock, end - start)]
             for one, shape in zip(within, shapes):
                 least, greatest, total, ticks = one.figures(start, end)
