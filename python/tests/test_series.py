@@ -224,6 +224,8 @@ def test_sorting_in_parts(tmp_path):
     ("", ["--tick", "1s"], "raw.csv:1: the column 'time' is not in the header"),
     ("time,temp\n", ["--tick", "1s", "--value", "hum"], "raw.csv:1: the column 'hum' is not in the header; there are: time, temp"),
     ("when,temp\n", ["--tick", "1s"], "raw.csv:1: the column 'time' is not in the header; there are: when, temp"),
+    ("time;temp\n2026-03-01;1\n", ["--tick", "1s"], "are its fields parted by ';'? --delimiter ';'"),
+    ("time,temp\n2026-03-01,\"1,5\"\n", ["--tick", "1s"], "for a decimal comma: --decimal ,"),
     ("time,time,temp\n", ["--tick", "1s"], "raw.csv:1: the column 'time' is more than once in the header"),
     ("time\n", ["--tick", "1s"], "raw.csv:1: no column of values"),
     ("time,temp\nyesterday,1\n", ["--tick", "1s"], "raw.csv:2: 'yesterday' is no time: ISO 8601 was expected"),

@@ -345,7 +345,7 @@ def pushed(name: str, converter: Converter, moment: int, value: int | None) -> R
     try:
         return converter.push(moment, value)
     except Tie as error:
-        what = f"two readings in one tick at {moment_text(moment, 9)}: ties='last', 'first' or 'spread'"
+        what = f"two readings in one tick at {moment_text(moment, 9)}: ties='last', 'first' or 'spread', or a shorter tick"
         raise Refused(f"the input {name}: {what}") from error
     except Late as error:
         raise Refused(f"the input {name}: the reading at {moment_text(moment, 9)} lies before the one before it: sort_index()") from error

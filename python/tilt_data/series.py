@@ -7,6 +7,8 @@ import dataclasses
 import heapq
 import os
 import pickle
+import re
+import shlex
 import sys
 from typing import Any, Iterable, Iterator
 
@@ -20,6 +22,7 @@ from .scales import Scale, digits_after_point
 HELP = """Reads a CSV with a header: a column of times, and one column of values for each series (wide), or a column that names the series
 (tall, --name). It writes a series file NAME.csv for each, and beside it NAME.json with the length of a tick, the origin and the scale.
 Readings are in order of time, or --sort puts them in order. What was dropped, moved and scaled is told on standard error."""
+DECIMAL_COMMA = re.compile(r"-?\d+,\d+")
 Reading = tuple[int, int, str, str, str]
 
 
@@ -92,7 +95,9 @@ def add_convention(parser: argparse.ArgumentParser) -> None:
 def column(header: list[str], name: str, path: str) -> int:
     if header.count(name) != 1:
         many = "more than once" if name in header else "not"
-        raise refused_at(path, 1, f"the column {name!r} is {many} in the header; there are: {', '.join(header)}")
+        other = next((sign for sign in (";", "\t", "|") if len(header) == 1 and sign in header[0]), None)
+        cure = f"there are: {', '.join(header)}" if other is None else f"are its fields parted by {other!r}? --delimiter {shlex.quote(other)}"
+        raise refused_at(path, 1, f"the column {name!r} is {many} in the header; {cure}")
     return header.index(name)
 
 
@@ -226,7 +231,8 @@ class Converting:
         try:
             return self.scales.of(name).whole(text if self.words.decimal == "." else text.replace(self.words.decimal, "."))
         except ValueError as error:
-            raise refused_at(self.path, line, f"{name}: {error}") from error
+            cure = "; for a decimal comma: --decimal ," if DECIMAL_COMMA.fullmatch(text.strip()) and self.words.decimal == "." else ""
+            raise refused_at(self.path, line, f"{name}: {error}{cure}") from error
 
     def new(self, place: tuple[str, str], line: int) -> Converter:
         key, name = place
