@@ -20,8 +20,8 @@ use Rattle.tilt_syntax.proofs.Refused.{query-or-refused}
 use Rattle.tilt_syntax.specs.Printing.{query_text}
 use Rattle.tilt_syntax.specs.Query.{AreSound, IsQuery, IsQueryOf, kinds}
 use Rattle.tilt_syntax.specs.Tree.{StatementTree}
-use Rattle.tilt_types.specs.Checked.{checked, core_of, core_unless}
-use Rattle.tilt_types.specs.WellFormed.{first_fault}
+use Rattle.tilt_types.proofs.CheckedCore.{checked-core}
+use Rattle.tilt_types.specs.Checked.{checked, core_of}
 use Rattle.tilt_types.specs.declared.fault.CheckFault.{CheckFault}
 use Rattle.tilt_checkpoint.specs.Checkpoint.{BodyParts, CheckpointParts, with_query}
 use Rattle.tilt_checkpoint.specs.Reading.{query_at}
@@ -32,10 +32,6 @@ use Rattle.tilt_checkpoint.proofs.Queries.{lines-spelled, query-again}
 use Rattle.tilt_checkpoint.proofs.Spelled.{one_printed}
 
 -- a query is accepted, or not
-core-made : (fault : Option CheckFault) (made core : CoreParts) → core_unless fault made ≡ Ok core → made ≡ core
-core-made None made core e = cc e
-core-made (Some fault) made core e = absurd (cc e)
-
 near-or-not : (query : List StatementTree) → IsQuery query → checked query ≡ Ok (core_of query) → (answer : Result MarginsParts Need)
     → margins_of (core_of query) ≡ answer → IsAccepted query ⊎ (¬ (IsAccepted query))
 near-or-not query parsed well (Ok margins) near = inl (record { parsed = parsed; well_formed = well; margins = margins; near = near })
@@ -44,7 +40,7 @@ near-or-not query parsed well (Err widest) far = inr (λ is. let both : Err wide
 accepted-or-not : (query : List StatementTree) → IsQuery query → (answer : Result CoreParts CheckFault) → checked query ≡ answer
     → IsAccepted query ⊎ (¬ (IsAccepted query))
 accepted-or-not query parsed (Ok core) well =
-    let own = core-made (first_fault 1 [] query) (core_of query) core well in
+    let own = checked-core query core well in
     near-or-not query parsed (well ∙ ap (λ (c : CoreParts). Ok c) (sym own)) (margins_of (core_of query)) refl
 accepted-or-not query parsed (Err fault) ill =
     inr (λ is. let both : Err fault ≡ Ok (core_of query) = sym ill ∙ is.well_formed in cc)

@@ -19,13 +19,12 @@ use Rattle.tilt_stream.specs.Snapshots.{cut_behind, snapshots, snapshots_from}
 use Rattle.tilt_stream.specs.Stream.{Stream}
 use Rattle.tilt_syntax.specs.Query.{IsQuery}
 use Rattle.tilt_syntax.specs.Tree.{StatementTree}
-use Rattle.tilt_types.specs.Checked.{checked, core_of, core_unless}
+use Rattle.tilt_types.proofs.CheckedCore.{checked-core}
+use Rattle.tilt_types.specs.Checked.{checked, core_of}
 use Rattle.tilt_base.specs.declared.span.Span.{Span}
 use Rattle.tilt_core.specs.Core.{CoreParts, domain_of, emitted_number}
 use Rattle.tilt_core.specs.Needs.{reach}
 use Rattle.tilt_core.specs.Meaning.{meaning}
-use Rattle.tilt_types.specs.WellFormed.{first_fault}
-use Rattle.tilt_types.specs.declared.fault.CheckFault.{CheckFault}
 use Rattle.tilt_chunk.proofs.Lists.{kept_at-again, kept_at-first, last_or-none, length-added, length-kept_again, new-counted, rows-taken_up, rows_of}
 use Rattle.tilt_chunk.proofs.OneCut.{decided-most, decided-on, first-on}
 use Rattle.tilt_chunk.proofs.Valid.{StartsIn, all-series, ends-where, is-open, series-again}
@@ -39,14 +38,6 @@ use Rattle.tilt_chunk.specs.NewRows.{AreFirstRows, AreNewRows, IsNewRow, StartsB
 use Rattle.tilt_stream.specs.Pieces.{joined_from, kept}
 use Rattle.tilt_chunk.specs.declared.cut.Cut.{Cut}
 use Rattle.tilt_chunk.specs.declared.cut.Cut.TheVariants.{Upto}
-
--- the core of a query that is accepted is its core
-core-unless : (fault : Option CheckFault) (made core : CoreParts) → core_unless fault made ≡ Ok core → made ≡ core
-core-unless None made core e = cc e
-core-unless (Some fault) made core e = absurd (cc e)
-
-pub checked-core : (query : List StatementTree) (core : CoreParts) → checked query ≡ Ok core → core_of query ≡ core
-checked-core query core e = core-unless (first_fault 1 [] query) (core_of query) core e
 
 pub accepted : (query : List StatementTree) (core : CoreParts) (margins : MarginsParts) → IsQuery query → checked query ≡ Ok core
     → margins_of core ≡ Ok margins → IsAccepted query

@@ -1,5 +1,5 @@
 -- What a query that is taken has.
-use Rattle.std.proofs.Common.{◌≡◌, ◌==◌, List, ℕ, [], length, true, Option, Some, None, Ok, refl, subst, arith}
+use Rattle.std.proofs.Common.{◌≡◌, ◌==◌, List, ℕ, [], length, true, Option, Some, None, refl, subst, arith}
 use Rattle.std.specs.Prelude.{IsSome}
 use Rattle.tilt_base.specs.declared.span.Span.{Span}
 use Rattle.tilt_core.specs.Core.{CoreParts, domain_of, emitted_number}
@@ -10,15 +10,9 @@ use Rattle.tilt_stream.specs.Snap.{Snapshot}
 use Rattle.tilt_stream.specs.Snapshots.{snapshots}
 use Rattle.tilt_syntax.proofs.Parsing.{sound-kinds}
 use Rattle.tilt_syntax.specs.Query.{IsQuery, kinds}
+use Rattle.tilt_types.proofs.CheckedCore.{checked-core}
 use Rattle.tilt_types.proofs.Texts.{query-ends}
-use Rattle.tilt_types.specs.Checked.{core_of, core_unless, source_names}
-use Rattle.tilt_types.specs.WellFormed.{first_fault}
-use Rattle.tilt_types.specs.declared.fault.CheckFault.{CheckFault}
-
--- the core that was checked is that of the query
-core_unless-Ok : (found : Option CheckFault) (c core : CoreParts) → core_unless found c ≡ Ok core → c ≡ core
-core_unless-Ok None c core is = cc
-core_unless-Ok (Some f) c core is = absurd (cc is)
+use Rattle.tilt_types.specs.Checked.{core_of, source_names}
 
 some_is : (o : Option Span) → IsSome o → (domain : Span) × (o ≡ Some domain)
 some_is None some = absurd (cc some)
@@ -29,7 +23,7 @@ pub taken_domain : (bytes : List ℕ) (core : CoreParts) → TakesQuery bytes co
 taken_domain bytes core taken =
     let has = taken.has_core in
     let valid : IsQuery has.query = record { tokens = kinds has.tokens; sound = sound-kinds has.tokens (sound has.lexed); parsed = has.parsed } in
-    let same : core_of has.query ≡ core = core_unless-Ok (first_fault 1 [] has.query) (core_of has.query) core has.accepted in
+    let same : core_of has.query ≡ core = checked-core has.query core has.accepted in
     some_is (domain_of core.defs) (subst (λ (c : CoreParts). IsSome (domain_of c.defs)) same (query-ends (source_names has.query) has.query valid).1)
 
 -- and gives something, where there is one list of rows for each input

@@ -2,7 +2,7 @@
 use Rattle.std.proofs.Common.{◌≡◌, ◌∙◌, ◌≤◌, ℕ, ℤ, List, Ok, length, sym, ap, subst}
 use Rattle.tilt_bounds.specs.Margins.{margins_of}
 use Rattle.tilt_checkpoint.specs.Spelling.{spelling}
-use Rattle.tilt_chunk.proofs.Sessions.{checked-core}
+use Rattle.tilt_types.proofs.CheckedCore.{checked-core}
 use Rattle.tilt_chunk.specs.Emitted.{emitted}
 use Rattle.tilt_chunk.specs.Kept.{checkpoint_at}
 use Rattle.tilt_chunk.specs.declared.cut.Cut.TheVariants.{Upto}

@@ -15,7 +15,7 @@ use Rattle.tilt_chunk.specs.NewRows.{AreFirstRows, AreNewRows, added}
 use Rattle.tilt_chunk.specs.declared.cut.Cut.{Cut}
 use Rattle.tilt_chunk.specs.declared.cut.Cut.TheVariants.{Upto}
 use Rattle.tilt_sessions.proofs.Parts.{all-first, all-start, all-order, all-new, all-added}
-use Rattle.tilt_chunk.proofs.Sessions.{checked-core}
+use Rattle.tilt_types.proofs.CheckedCore.{checked-core}
 use Rattle.tilt_chunk.proofs.Printed.{emitted-AreSnapshots}
 use Rattle.tilt_sessions.specs.Parts.{AreJoined, IsRun, early, part_of}
 use Rattle.tilt_stream.specs.Snap.{Snapshot, AreRows, AreSnapshots}

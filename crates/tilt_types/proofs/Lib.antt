@@ -1,4 +1,5 @@
 pub mod Built
+pub mod CheckedCore
 pub mod Clear
 pub mod Distinct
 pub mod NoMemory
