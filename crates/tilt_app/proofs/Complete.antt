@@ -67,14 +67,15 @@ module _ (is_outcome : Outcome → Type 0) (has_turn : List ℕ → Type 0) (she
   unanswered_cause (save_fault name) same fault = absurd fault
   unanswered_cause out_of_memory same fault = inl (λ _. same)
 
-  -- where nothing was answered, no save failed
-  pub no_save_fault : (report : Report) → IsUnanswered is_outcome has_turn shelf report → IsSaveFault report → ⊥
-  no_save_fault usage fault is = is
-  no_save_fault (refusal why) fault is = is
-  no_save_fault (read_fault name) fault is = is
-  no_save_fault write_fault fault is = is
-  no_save_fault (save_fault name) fault is = fault
-  no_save_fault out_of_memory fault is = is
+-- where nothing was answered, no save failed
+pub no_save_fault : (is_outcome : Outcome → Type 0) (has_turn : List ℕ → Type 0) (shelf : ShelfChange) (report : Report) → IsUnanswered is_outcome has_turn shelf report
+    → IsSaveFault report → ⊥
+no_save_fault is_outcome has_turn shelf usage fault is = is
+no_save_fault is_outcome has_turn shelf (refusal why) fault is = is
+no_save_fault is_outcome has_turn shelf (read_fault name) fault is = is
+no_save_fault is_outcome has_turn shelf write_fault fault is = is
+no_save_fault is_outcome has_turn shelf (save_fault name) fault is = fault
+no_save_fault is_outcome has_turn shelf out_of_memory fault is = is
 
 -- a cause for a command is one for the words that are it
 pub wider_cause : (is_outcome is_outcome' : Outcome → Type 0) (has_turn has_turn' : List ℕ → Type 0) (shelf : ShelfChange) (out : SinkChange)

@@ -4,3 +4,4 @@ pub mod Once
 pub mod Rows
 pub mod Seen
 pub mod Shown
+pub mod Unanswered

@@ -1,8 +1,9 @@
 -- Words and files have one outcome, and always have one.
 use Rattle.std.proofs.Common.{◌≡◌, ◌⊎◌, inl, inr, List, ℕ, refl, subst, sym}
-use Rattle.tilt_app.proofs.Rows.{rows_lawful, row_once, row_some, row_no_usage}
+use Rattle.tilt_app.proofs.Rows.{row_once, row_some, row_no_usage}
 use Rattle.tilt_app.specs.Outcome.{IsOutcome, IsRowOutcome, no_command, does}
-use Rattle.tilt_app.specs.Table.{row_of}
+use Rattle.tilt_commands.proofs.Lawful.{rows_lawful}
+use Rattle.tilt_commands.specs.Table.{row_of}
 use Rattle.tilt_report.specs.Report.{Outcome, refused, usage}
 use Rattle.tilt_watch.specs.Watch.{Watch}
 use Rattle.tilt_words.proofs.Decided.{command_or_none}
@@ -16,7 +17,8 @@ command_once : (words : List (List ℕ)) (files : List ℕ → List ℕ) (watche
 command_once words files watchers c is o p = row_once files watchers (row_of c) (rows_lawful c (within words c is)) o p
 
 -- words and files have one outcome, since words are one command at most
-pub outcome_once : (words : List (List ℕ)) (files : List ℕ → List ℕ) (watchers : List Watch) → (o p : Outcome) → IsOutcome words files watchers o → IsOutcome words files watchers p → o ≡ p
+pub outcome_once : (words : List (List ℕ)) (files : List ℕ → List ℕ) (watchers : List Watch) (o p : Outcome)
+    → IsOutcome words files watchers o → IsOutcome words files watchers p → o ≡ p
 outcome_once words files watchers o p (no_command none) (no_command none') = refl
 outcome_once words files watchers o p (no_command none) (does c is outcome) = absurd (none c is)
 outcome_once words files watchers o p (does c is outcome) (no_command none) = absurd (none c is)
@@ -24,7 +26,8 @@ outcome_once words files watchers o p (does c is outcome) (does d is' outcome') 
     command_once words files watchers c is o p outcome (subst (λ (e : CommandValue). IsRowOutcome files watchers (row_of e) p) (sym (one_command words c d is is')) outcome')
 
 -- a command has another outcome than that of words that are none
-pub no_usage : (words : List (List ℕ)) (files : List ℕ → List ℕ) (watchers : List Watch) (c : CommandValue) → IsCommand words c → IsRowOutcome files watchers (row_of c) (refused usage) → ⊥
+pub no_usage : (words : List (List ℕ)) (files : List ℕ → List ℕ) (watchers : List Watch) (c : CommandValue) → IsCommand words c
+    → IsRowOutcome files watchers (row_of c) (refused usage) → ⊥
 no_usage words files watchers c is outcome = row_no_usage files watchers (row_of c) (rows_lawful c (within words c is)) outcome
 
 some_outcome : (words : List (List ℕ)) (files : List ℕ → List ℕ) (watchers : List Watch)

@@ -8,9 +8,7 @@ use Rattle.tilt_app.specs.Cause.{IsUnanswered}
 use Rattle.tilt_app.specs.Change.{ShelfChange}
 use Rattle.tilt_app.specs.Outcome.{HasRowTurn, IsRowOutcome, IsRowRead, Saves, Shows, Streams}
 use Rattle.tilt_app.specs.Show.{IsShow}
-use Rattle.tilt_app.specs.Table.{Row, reads, makes, row_of}
-use Rattle.tilt_commands.specs.Run.{run_row}
-use Rattle.tilt_commands.specs.Watch.{watch_row}
+use Rattle.tilt_commands.specs.Table.{Row, reads, makes, row_of, run_row, watch_row}
 use Rattle.tilt_load.specs.Does.{Does, Reading}
 use Rattle.tilt_load.specs.FileCommand.{FileCommand, IsFileOutcome, no_file, no_inputs, done}
 use Rattle.tilt_load.specs.Load.{IsLoadFault}

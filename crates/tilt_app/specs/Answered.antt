@@ -1,7 +1,7 @@
 -- What a command's answer says, by its row.
 use Rattle.std.specs.Prelude.{◌≡◌, List, Result, IfOk, IfErr}
 use Rattle.tilt_app.specs.Outcome.{Saves, Shows, Streams}
-use Rattle.tilt_app.specs.Table.{Row, reads, makes, row_of}
+use Rattle.tilt_commands.specs.Table.{Row, reads, makes, row_of}
 use Rattle.tilt_load.specs.Does.{Does, Reading}
 use Rattle.tilt_printed.specs.Answer.{Fits, comes_to}
 use Rattle.tilt_printed.specs.declared.answered.Answered.{Answered}

@@ -6,4 +6,3 @@ pub mod Done
 pub mod Outcome
 pub mod Saving
 pub mod Show
-pub mod Table

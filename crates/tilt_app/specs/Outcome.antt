@@ -1,7 +1,7 @@
 -- What words come to, given what each name holds and who watches: the text that is printed, or why nothing is. What each command does is
 -- a row of the table.
 use Rattle.std.specs.Prelude.{◌≡◌, ⊤, List, [], ℕ}
-use Rattle.tilt_app.specs.Table.{Row, reads, makes, row_of}
+use Rattle.tilt_commands.specs.Table.{Row, reads, makes, row_of}
 use Rattle.tilt_load.specs.FileCommand.{IsFileOutcome, HasFileTurn, HasBytes}
 use Rattle.tilt_outside.specs.Counts.{added_count}
 use Rattle.tilt_report.specs.Report.{Outcome, refused, usage}

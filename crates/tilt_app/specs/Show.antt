@@ -1,6 +1,6 @@
 -- What the watchers are shown, and how they stand then.
 use Rattle.std.specs.Prelude.{◌≡◌, List, ℕ, Bool, Option, None, Some}
-use Rattle.tilt_commands.specs.Run.{run_row}
+use Rattle.tilt_commands.specs.Table.{run_row}
 use Rattle.tilt_load.specs.FileCommand.{IsFileOutcome}
 use Rattle.tilt_printed.specs.Left.{Left}
 use Rattle.tilt_printed.specs.Show.{SeePart}

@@ -1,9 +1,9 @@
 // What a command comes to.
-ghost use Rattle.std.specs.Prelude.{◌≡◌, not, List, ℕ, Some, IfOk};
+ghost use Rattle.std.specs.Prelude.{◌≡◌, List, ℕ, Some, IfOk};
 ghost use Rattle.tilt_app.specs.Answered.{IsAnswered};
 ghost use Rattle.tilt_app.specs.Continued.{Continues};
 ghost use Rattle.tilt_app.specs.Outcome.{HasRowTurn};
-ghost use Rattle.tilt_app.specs.Table.{row_of};
+ghost use Rattle.tilt_commands.specs.Table.{row_of};
 ghost use Rattle.tilt_load.specs.Does.{reading};
 ghost use Rattle.tilt_printed.specs.Answer.{comes_to};
 ghost use Rattle.tilt_sessions.specs.SavedCut.{ending_of};
@@ -33,53 +33,46 @@ pub(crate) fn answer<'a, S: Shelf>(
     ensures continues { S.tells → IfOk result (λ answer. (watchers : List Watch)
         → Continues (S.files shelf.old) (command_of command.now) (comes_to watchers answer)) }
 {
+    let fuse = !command.is_plain();
     match command {
         Command::Run {
             query,
             binds,
-            plain,
             cuts,
-        } => run(alloc, shelf, query, binds, manner(*plain, cuts)),
-        Command::Compile { query, plain } => compile(alloc, shelf, query, !*plain),
+            ..
+        } => run(alloc, shelf, query, binds, manner(fuse, cuts)),
+        Command::Compile { query, .. } => compile(alloc, shelf, query, fuse),
         Command::Exec { code, binds } => exec(alloc, shelf, code, binds),
         Command::Explain { query } => explain(alloc, shelf, query),
-        Command::Pipe {
-            query,
-            binds,
-            plain,
-        } => pipe(alloc, shelf, query, binds, !*plain),
-        Command::Watch {
-            query,
-            binds,
-            plain,
-        } => watch(alloc, shelf, query, binds, !*plain),
+        Command::Pipe { query, binds, .. } => pipe(alloc, shelf, query, binds, fuse),
+        Command::Watch { query, binds, .. } => watch(alloc, shelf, query, binds, fuse),
         Command::Try { seed, count } => try_(alloc, *seed, *count),
         Command::Start {
             query,
             binds,
-            plain,
             upto,
             save,
-        } => start_session(alloc, shelf, query, binds, !*plain, cut(*upto, save)),
+            ..
+        } => start_session(alloc, shelf, query, binds, fuse, cut(*upto, save)),
         Command::ResumeUpto {
             file,
             binds,
-            plain,
             upto,
             save,
-        } => resume_session(alloc, shelf, file, binds, !*plain, ending(*upto, save)),
-        Command::ResumeEnd { file, binds, plain } => {
-            resume_session(alloc, shelf, file, binds, !*plain, None)
+            ..
+        } => resume_session(alloc, shelf, file, binds, fuse, ending(*upto, save)),
+        Command::ResumeEnd { file, binds, .. } => {
+            resume_session(alloc, shelf, file, binds, fuse, None)
         }
     }
 }
 
-// How a query is run, without fusion where it is to be plain.
-fn manner(plain: bool, cuts: &[i64]) -> Manner<'_>
-    ensures fuse { result.fuse ≡ not plain }
+// How a query is run.
+fn manner(fuse: bool, cuts: &[i64]) -> Manner<'_>
+    ensures fuse { result.fuse ≡ fuse }
     ensures cuts { result.cuts.now ≡ cuts.now }
 {
-    Manner { fuse: !plain, cuts }
+    Manner { fuse, cuts }
 }
 
 // Where a session ends, and the name under which it saves.

@@ -8,7 +8,7 @@ ghost use Rattle.tilt_app.specs.Outcome.{HasRowTurn, HasTurn, HaveRead, IsOutcom
 ghost use Rattle.tilt_app.specs.Outcome.{IsRunnable, IsSaving, IsStreaming, Saves, Streams};
 ghost use Rattle.tilt_app.specs.Saving.{IsSaved, IsUnsaved};
 ghost use Rattle.tilt_app.specs.Show.{IsShow, IsWatch, IsWatchOf, SeeOfFault, WatchesRun};
-ghost use Rattle.tilt_app.specs.Table.{row_of};
+ghost use Rattle.tilt_commands.specs.Table.{row_of};
 ghost use Rattle.tilt_outside.specs.Faults.{Rose};
 ghost use Rattle.tilt_outside.specs.Reads.{OnlyReads};
 ghost use Rattle.tilt_printed.specs.Saving.{SaveValue, outcome_of};

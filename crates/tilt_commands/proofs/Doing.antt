@@ -3,8 +3,8 @@ use Rattle.std.proofs.Common.{◌≡◌, ◌++◌, Bool, List, [], ℕ, length, 
 use Rattle.std.specs.Prelude.{◌↔◌, IsSome}
 use Rattle.tilt_code.specs.Run.{run_of}
 use Rattle.tilt_commands.specs.Loaded.{Loads, refusing_row}
-use Rattle.tilt_commands.specs.Pipe.{IsPiped}
 use Rattle.tilt_commands.specs.Query.{lone_row, query_row}
+use Rattle.tilt_commands.specs.Table.{IsPiped}
 use Rattle.tilt_commands.specs.declared.loaded.LoadedRun.{LoadedRun}
 use Rattle.tilt_compiler.specs.Compiled.{IsCodeOf}
 use Rattle.tilt_core.specs.Core.{CoreParts}

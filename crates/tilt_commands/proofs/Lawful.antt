@@ -1,5 +1,5 @@
--- Each command is lawful: files have one outcome for it, and always one.
-use Rattle.std.proofs.Common.{◌≡◌, ◌≤◌, ◌∙◌, ◌++◌, ◌⊎◌, Bool, List, ℕ, ◌*◌, ◌+◌, length, Option, Some, Result, Ok, inl, inr, refl, sym, ap}
+-- Each row of the table is lawful: files have one outcome for it, and always one.
+use Rattle.std.proofs.Common.{◌≡◌, ◌≤◌, ◌∙◌, ◌++◌, ◌⊎◌, not, Bool, List, ℕ, ◌*◌, ◌+◌, length, Option, None, Some, Result, Ok, inl, inr, refl, sym, ap}
 use Rattle.tilt_base.specs.declared.span.Span.{Span}
 use Rattle.tilt_bounds.specs.Margins.{MarginsParts}
 use Rattle.tilt_code.specs.Code.{CodeParts}
@@ -7,14 +7,8 @@ use Rattle.tilt_code.specs.Listing.{listing}
 use Rattle.tilt_code.specs.Run.{run_of}
 use Rattle.tilt_commands.proofs.MadeQuery.{core, made_taken, two_inputs}
 use Rattle.tilt_commands.proofs.Taken.{taken_domain, taken_gives}
-use Rattle.tilt_commands.specs.Compile.{IsCompiled, compile_row}
-use Rattle.tilt_commands.specs.Exec.{exec_row}
-use Rattle.tilt_commands.specs.Explain.{IsExplained, explain_row}
-use Rattle.tilt_commands.specs.Pipe.{IsPiped, pipe_row}
 use Rattle.tilt_commands.specs.Query.{IsMadeOfQuery, lone_row, query_row}
-use Rattle.tilt_commands.specs.Run.{run_row}
-use Rattle.tilt_commands.specs.Try.{IsTryOutcome, made_inputs, summed}
-use Rattle.tilt_commands.specs.Watch.{watch_row}
+use Rattle.tilt_commands.specs.Table.{IsCompiled, compile_row, exec_row, IsExplained, explain_row, IsPiped, pipe_row, run_row, IsTryOutcome, made_inputs, summed, watch_row, Row, reads, makes, row_of}
 use Rattle.tilt_compiler.specs.Compiled.{IsCodeOf}
 use Rattle.tilt_core.specs.Core.{CoreParts}
 use Rattle.tilt_core.specs.Meaning.{output_of}
@@ -32,10 +26,12 @@ use Rattle.tilt_pipe.specs.Rings.{most_ever}
 use Rattle.tilt_printed.specs.Figures.{watched_text}
 use Rattle.tilt_printed.specs.Rings.{rings_line}
 use Rattle.tilt_report.specs.Report.{Reason, Outcome, printed, refused, usage}
+use Rattle.tilt_sessions.proofs.Lawful.{start_lawful, resume_lawful}
 use Rattle.tilt_stream.specs.Snap.{Snapshot}
 use Rattle.tilt_stream.specs.Text.{text_of}
 use Rattle.tilt_types.specs.Checked.{core_of}
 use Rattle.tilt_watch.specs.Watch.{Watch}
+use Rattle.tilt_words.specs.Command.{CommandValue, IsWithin, run, compile, exec, explain, start, resume_upto, resume_end, pipe, watch, try}
 
 printed_usage : (text : List ℕ) → printed text ≡ refused usage → ⊥
 printed_usage text same = cc
@@ -94,10 +90,10 @@ made_lawful query text =
     (λ bytes c rows taken many. let given = taken_gives bytes c taken rows many in (printed (text given.0), (given.0, given.1, refl)))
     (λ c rows is. printed_usage (text is.0) (sym is.2))
 
-pub run_lawful : (query : List ℕ) → IsLawful (run_row query)
+run_lawful : (query : List ℕ) → IsLawful (run_row query)
 run_lawful query = made_lawful query text_of
 
-pub watch_lawful : (query : List ℕ) (watchers : List Watch) → IsLawful (watch_row query watchers)
+watch_lawful : (query : List ℕ) (watchers : List Watch) → IsLawful (watch_row query watchers)
 watch_lawful query watchers = made_lawful query (watched_text watchers)
 
 same_code : (fuse : Bool) (c : CoreParts) (code code' : CodeParts) → IsCodeOf c fuse code → IsCodeOf c fuse code' → code ≡ code'
@@ -128,24 +124,24 @@ some_piped fuse bytes c rows taken many =
       record { list = given.0; code = code.0; means = given.1; code_is = code.1; is = refl },
     )
 
-pub pipe_lawful : (query : List ℕ) (fuse : Bool) → IsLawful (pipe_row query fuse)
+pipe_lawful : (query : List ℕ) (fuse : Bool) → IsLawful (pipe_row query fuse)
 pipe_lawful query fuse = query_lawful query (IsPiped fuse) (same_piped fuse) (some_piped fuse) (λ c rows is. printed_usage _ (sym is.is))
 
-pub compile_lawful : (query : List ℕ) (fuse : Bool) → IsLawful (compile_row query fuse)
+compile_lawful : (query : List ℕ) (fuse : Bool) → IsLawful (compile_row query fuse)
 compile_lawful query fuse =
     lone_lawful query (IsCompiled fuse)
     (λ c o p is is'. is.2 ∙ ap (λ (code : CodeParts). printed (listing code)) (same_code fuse c is.0 is'.0 is.1 is'.1) ∙ sym is'.2)
     (λ bytes c taken. let code = some_code fuse bytes c taken in (printed (listing code.0), (code.0, code.1, refl)))
     (λ c is. printed_usage (listing is.0) (sym is.2))
 
-pub explain_lawful : (query : List ℕ) → IsLawful (explain_row query)
+explain_lawful : (query : List ℕ) → IsLawful (explain_row query)
 explain_lawful query =
     lone_lawful query IsExplained
     (λ c o p is is'. is.2 ∙ ap (λ (m : MarginsParts). printed (explained c m)) (same_margins (sym is.1 ∙ is'.1)) ∙ sym is'.2)
     (λ bytes c taken. (printed (explained c taken.margins), (taken.margins, taken.reach, refl)))
     (λ c is. printed_usage (explained c is.0) (sym is.2))
 
-pub exec_lawful : (file : List ℕ) → IsLawful (exec_row file)
+exec_lawful : (file : List ℕ) → IsLawful (exec_row file)
 exec_lawful file = record {
   one = code_once;
   once = code_refused_once file;
@@ -157,18 +153,46 @@ exec_lawful file = record {
 }
 
 -- `try` has one outcome
-pub try_once : (seed count : ℕ) (o p : Outcome) → IsTryOutcome seed count o → IsTryOutcome seed count p → o ≡ p
+try_once : (seed count : ℕ) (o p : Outcome) → IsTryOutcome seed count o → IsTryOutcome seed count p → o ≡ p
 try_once seed count o p (summed core list taken out) (summed core' list' taken' out') =
     let same = taken_once (query_text count) core core' taken taken' in
     ap (λ (l : List Snapshot). printed (summary_text count l)) (same_some (output_of core (made_inputs seed count)) list list' out (rw (← same) at out'))
 
 -- and always one
-pub try_some : (seed count : ℕ) → count ≤ 1000000 → (o : Outcome) × IsTryOutcome seed count o
+try_some : (seed count : ℕ) → count ≤ 1000000 → (o : Outcome) × IsTryOutcome seed count o
 try_some seed count few =
     let taken = made_taken count few in
     let given = taken_gives (query_text count) (core (10 * count + 10)) taken (made_inputs seed count) (sym (two_inputs count few (core (10 * count + 10)) taken)) in
     (printed (summary_text count given.0), summed (core (10 * count + 10)) given.0 taken given.1)
 
 -- it isn't usage
-pub no_try_usage : (seed count : ℕ) (o : Outcome) → IsTryOutcome seed count o → o ≡ refused usage → ⊥
+no_try_usage : (seed count : ℕ) (o : Outcome) → IsTryOutcome seed count o → o ≡ refused usage → ⊥
 no_try_usage seed count o (summed core list taken out) same = cc
+
+-- what is made without files is one outcome, always is one, and isn't that of words that are no command
+pub record IsOneOutcome (is_outcome : Outcome → Type 0) : Type 0 where
+  pub once : (o p : Outcome) → is_outcome o → is_outcome p → o ≡ p
+  pub some : (o : Outcome) × is_outcome o
+  pub no_usage : is_outcome (refused usage) → ⊥
+
+-- a row has one outcome, whatever its files hold
+abbrev pub IsLawfulRow : Row → Type 0
+IsLawfulRow (reads file binds command) = (watchers : List Watch) → IsLawful (command watchers)
+IsLawfulRow (makes is_outcome) = IsOneOutcome is_outcome
+
+-- each row is lawful
+pub rows_lawful : (command : CommandValue) → IsWithin command → IsLawfulRow (row_of command)
+rows_lawful (run query binds plain cuts) within = λ watchers. run_lawful query
+rows_lawful (compile query plain) within = λ watchers. compile_lawful query (not plain)
+rows_lawful (exec code binds) within = λ watchers. exec_lawful code
+rows_lawful (explain query) within = λ watchers. explain_lawful query
+rows_lawful (start query binds plain upto save) within = λ watchers. start_lawful (record { upto = upto; save = save }) query
+rows_lawful (resume_upto checkpoint binds plain upto save) within = λ watchers. resume_lawful (Some (record { upto = upto; save = save })) checkpoint
+rows_lawful (resume_end checkpoint binds plain) within = λ watchers. resume_lawful None checkpoint
+rows_lawful (pipe query binds plain) within = λ watchers. pipe_lawful query (not plain)
+rows_lawful (watch query binds plain) within = λ watchers. watch_lawful query watchers
+rows_lawful (try seed count) within = record {
+  once = try_once seed count;
+  some = try_some seed count within.1;
+  no_usage = λ is. no_try_usage seed count (refused usage) is refl;
+}

@@ -1,9 +1,3 @@
-pub mod Compile
-pub mod Exec
-pub mod Explain
 pub mod Loaded
-pub mod Pipe
 pub mod Query
-pub mod Run
-pub mod Try
-pub mod Watch
+pub mod Table

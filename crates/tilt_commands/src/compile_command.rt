@@ -1,6 +1,6 @@
 // What `compile` comes to.
 ghost use Rattle.std.specs.Prelude.{[], List, ℕ};
-ghost use Rattle.tilt_commands.specs.Compile.{compile_row};
+ghost use Rattle.tilt_commands.specs.Table.{compile_row};
 ghost use Rattle.tilt_load.specs.Does.{Does, reading};
 ghost use Rattle.tilt_load.specs.FileCommand.{HasFileTurn};
 ghost use Rattle.tilt_printed.specs.Answer.{Fits, comes_to};

@@ -1,6 +1,6 @@
 // What `exec` comes to.
 ghost use Rattle.std.specs.Prelude.{List, ℕ};
-ghost use Rattle.tilt_commands.specs.Exec.{exec_row};
+ghost use Rattle.tilt_commands.specs.Table.{exec_row};
 ghost use Rattle.tilt_load.specs.Does.{Does, reading};
 ghost use Rattle.tilt_load.specs.FileCommand.{HasFileTurn};
 ghost use Rattle.tilt_printed.specs.Answer.{Fits, comes_to};

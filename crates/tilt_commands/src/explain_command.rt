@@ -1,6 +1,6 @@
 // What `explain` comes to.
 ghost use Rattle.std.specs.Prelude.{[], List, ℕ};
-ghost use Rattle.tilt_commands.specs.Explain.{explain_row};
+ghost use Rattle.tilt_commands.specs.Table.{explain_row};
 ghost use Rattle.tilt_load.specs.Does.{Does, reading};
 ghost use Rattle.tilt_load.specs.FileCommand.{HasFileTurn};
 ghost use Rattle.tilt_printed.specs.Answer.{Fits, comes_to};

@@ -1,7 +1,7 @@
 //! The commands over files that are read once, and one that makes its own rows. In come a shelf, the name of a file and binds; out
 //! goes what the command comes to, or the first fault.
 //!
-//! Each command is a row in `specs/`: what its file may say, and what it comes to on the rows of its inputs. The clause `Does` of its
+//! Each command is a row of `specs/Table`: what its file may say, and what it comes to on the rows of its inputs. The clause `Does` of its
 //! function says that it does that, that each fault has its cause, and that each file was read once. That words and files
 //! have one outcome, and always one, is `IsLawful` of its row, in `proofs/`.
 #![tactic(auto)]

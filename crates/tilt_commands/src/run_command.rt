@@ -2,7 +2,7 @@
 ghost use Rattle.std.specs.Prelude.{◌≡◌, ◌↔◌, [], neg_ℤ, None, List, ℕ, length, Ok, IfOk};
 ghost use Rattle.tilt_base.specs.declared.limits.TheConstants.{T};
 ghost use Rattle.tilt_commands.specs.Query.{IsMadeOfQuery};
-ghost use Rattle.tilt_commands.specs.Run.{run_row};
+ghost use Rattle.tilt_commands.specs.Table.{run_row};
 ghost use Rattle.tilt_load.specs.Does.{Does, reading};
 ghost use Rattle.tilt_load.specs.FileCommand.{HasFileTurn};
 ghost use Rattle.tilt_printed.specs.Answer.{Fits, comes_to};

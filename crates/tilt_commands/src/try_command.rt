@@ -1,6 +1,6 @@
 // What `try` comes to.
 ghost use Rattle.std.specs.Prelude.{◌≡◌, ◌≤◌, List, length, IfOk, IfErr};
-ghost use Rattle.tilt_commands.specs.Try.{IsTryOutcome, made_inputs};
+ghost use Rattle.tilt_commands.specs.Table.{IsTryOutcome, made_inputs};
 ghost use Rattle.tilt_load.specs.QueryFile.{TakesQuery};
 ghost use Rattle.tilt_made.specs.TryQuery.{query_text};
 ghost use Rattle.tilt_printed.specs.Answer.{Fits, comes_to};

@@ -1,6 +1,6 @@
 // What `watch` comes to.
 ghost use Rattle.std.specs.Prelude.{⊤, [], List, ℕ};
-ghost use Rattle.tilt_commands.specs.Watch.{watch_row};
+ghost use Rattle.tilt_commands.specs.Table.{watch_row};
 ghost use Rattle.tilt_load.specs.Does.{Does, reading};
 ghost use Rattle.tilt_load.specs.FileCommand.{HasFileTurn};
 ghost use Rattle.tilt_printed.specs.Answer.{Fits, comes_to};

@@ -24,7 +24,8 @@ use Rattle.tilt_types.specs.declared.fault.CheckFault.TheVariants as check
 use Rattle.tilt_load.specs.Load.{IsLoadFault, IsTooLong, IsNameFault}
 use Rattle.tilt_load.specs.QueryFile.{RefusesQuery, no_core, far, long, no_tokens, no_statements, ill_formed, HasCore}
 use Rattle.tilt_load.specs.SeriesFiles.{RefusesSession, by_names}
-use Rattle.tilt_report.specs.Report.{Reason, Report, usage, refusal, read_fault, write_fault, save_fault, out_of_memory, report_of_place, report_of_syntax, report_of_text, report_of_check, report_of_reach}
+use Rattle.tilt_report.specs.Report.{Reason, Report, usage, refusal, read_fault, write_fault, save_fault}
+use Rattle.tilt_report.specs.Report.{out_of_memory, report_of_place, report_of_syntax, report_of_text, report_of_check, report_of_reach}
 use Rattle.tilt_series.specs.Series.{Bounds}
 use Rattle.tilt_words.specs.Binding.{Binding}
 

@@ -51,7 +51,8 @@ pub record IsRead (command : FileCommand) (file : List ℕ) (binds : List Bindin
 -- keeps a property, or it is why there is none
 pub record Does {T W : Type 0} (command : W → FileCommand) (comes : W → T → Outcome) (keeps : T → Type 0) (file : List ℕ)
     (binds : List Binding) (shelf : Reading) (result : Result T Fault) : Type 0 where
-  pub made : shelf.tells → IfOk result (λ answer. (beside : W) → IsFileOutcome (command beside) shelf.files file binds (comes beside answer))
+  pub made : shelf.tells
+      → IfOk result (λ answer. (beside : W) → IsFileOutcome (command beside) shelf.files file binds (comes beside answer))
   pub kept : IfOk result keeps
   pub fault : (beside : W) → IfErr result (λ fault. IsUndone (command beside) file binds shelf (report_of fault))
   pub read : shelf.tells → IfOk result (λ _. (beside : W) → IsRead (command beside) file binds shelf)

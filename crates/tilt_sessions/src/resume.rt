@@ -46,7 +46,8 @@ pub fn resume_session<'a, S: Shelf>(
     requires lent { (name : List ℕ) → HasFileTurn (resume_row (ending_of ending) checkpoint.now) S.tells (S.files shelf.old)
         checkpoint.now (bindings_of binds.now) name → S.lends name }
     ensures does { Does (λ _. resume_row (ending_of ending.entry) checkpoint.now) comes_to (Fits ⊥ ⊥ (IsSome (ending_of ending.entry)))
-        checkpoint.now (bindings_of binds.now) (reading S.tells S.files S.read_faults S.save_faults S.takes S.given shelf.old shelf.new) result }
+        checkpoint.now (bindings_of binds.now)
+        (reading S.tells S.files S.read_faults S.save_faults S.takes S.given shelf.old shelf.new) result }
     ensures beyond { S.tells → IfOk result (λ answer. (watchers : List Watch) (query : List StatementTree) (rows : List (List Snapshot))
         (cut : ℤ) → HandsOn (S.files shelf.old checkpoint.now) query rows cut
         → IsBeyond (S.files shelf.old) (bindings_of binds.now) query rows cut (ending_of ending.entry) (comes_to watchers answer)) }

@@ -20,7 +20,8 @@ use Rattle.tilt_words.specs.Binding.{Binding, IsBinding, binding_spelled}
 use Rattle.tilt_words.specs.Command.{Call, CommandValue, IsCommand, IsFile, IsFileCommand, call_of, try}
 use Rattle.tilt_words.specs.Number.{IsNumber, AreRising, before_comma, after_comma}
 use Rattle.tilt_words.proofs.Answered.{try_texts}
-use Rattle.tilt_words.proofs.Determined.{IsOption, cut, upto, save, after_plain, after_end, after_cut, after_upto, after_save, after_bind, alone, no_begins, behind_first, first_begins, same_settings as one_settings}
+use Rattle.tilt_words.proofs.Determined.{IsOption, cut, upto, save, after_plain, after_end, after_cut, after_upto, after_save}
+use Rattle.tilt_words.proofs.Determined.{after_bind, alone, no_begins, behind_first, first_begins, same_settings as one_settings}
 use Rattle.tilt_words.proofs.Fronts.{not_option}
 use Rattle.tilt_words.proofs.OneCommand.{rebuilt, rebuilt_same, only_try, only_file, file_command, two_words}
 use Rattle.tilt_words.proofs.Rising.{HasComma, joined, others, no_first, no_last, whole}

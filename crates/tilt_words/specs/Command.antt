@@ -1,5 +1,5 @@
 -- The words of a command line, as they stand behind the program's name, and the command that they are (our own rule).
-use Rattle.std.specs.Prelude.{◌≡◌, ◌≢◌, ℕ, ◌≤◌, ℤ, pos, neg_ℤ, ◌≤ℤ◌, Bool, true}
+use Rattle.std.specs.Prelude.{◌≡◌, ◌≢◌, ℕ, ◌≤◌, ℤ, pos, neg_ℤ, ◌≤ℤ◌, Bool, false, true}
 use Rattle.std.specs.Prelude.{List, [], ◌∷◌, ◌++◌, Option, None, Some, codes, map, String, string_bytes, ⊤}
 use Rattle.std.specs.declared.alloc.Global.{Global}
 use Rattle.tilt_base.specs.declared.limits.TheConstants.{T}
@@ -92,6 +92,17 @@ pub record IsTry (words : List (List ℕ)) (seed count : ℕ) : Type 0 where
 abbrev pub IsCommand : List (List ℕ) → CommandValue → Type 0
 IsCommand words (try seed count) = IsTry words seed count
 IsCommand words command = IsFileCommand words command
+
+-- whether the loops of a command's query aren't to be merged
+abbrev pub is_plain : CommandValue → Bool
+is_plain (run query binds plain cuts) = plain
+is_plain (compile query plain) = plain
+is_plain (start query binds plain upto save) = plain
+is_plain (resume_upto checkpoint binds plain upto save) = plain
+is_plain (resume_end checkpoint binds plain) = plain
+is_plain (pipe query binds plain) = plain
+is_plain (watch query binds plain) = plain
+is_plain command = false
 
 -- the numbers of a command lie between their bounds, and its cuts are in order
 abbrev pub IsWithin : CommandValue → Type 0

@@ -1,5 +1,6 @@
 // The command that words ask for.
-ghost use Rattle.std.specs.Prelude.{codes};
+ghost use Rattle.std.specs.Prelude.{◌≡◌, codes};
+ghost use Rattle.tilt_words.specs.Command.{command_of, is_plain};
 ghost use Rattle.tilt_words.specs.Given.{IsCalled, call_with};
 
 use crate::arguments::Arguments;
@@ -76,6 +77,22 @@ pub enum Command {
 }
 
 impl Command {
+    /// Whether no loops of its query are merged.
+    pub fn is_plain(&self) -> bool
+        ensures { result ≡ is_plain (command_of self.now) }
+    {
+        match self {
+            Command::Run { plain, .. }
+            | Command::Compile { plain, .. }
+            | Command::Start { plain, .. }
+            | Command::ResumeUpto { plain, .. }
+            | Command::ResumeEnd { plain, .. }
+            | Command::Pipe { plain, .. }
+            | Command::Watch { plain, .. } => *plain,
+            Command::Exec { .. } | Command::Explain { .. } | Command::Try { .. } => false,
+        }
+    }
+
     // The command with this first word, from its file and its arguments; `None` where there is none with these.
     pub(crate) fn named(name: &str, file: String, arguments: Arguments) -> Option<Command>
         ensures { IsCalled (call_with name.now file arguments) result }

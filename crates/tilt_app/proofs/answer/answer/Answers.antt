@@ -11,7 +11,8 @@ run-requires-clause-lent g c =
 
 pub compile-requires : goal.compile-requires
 compile-requires g c =
-    λ name turn. c.requires.lent [] name (rw c.in-Compile.is (rw c.deref-in-Compile.ensures at turn))
+    let fuse = rw c.in-Compile.is at c.is_plain-fuse.ensures in
+    λ name turn. c.requires.lent [] name (rw c.in-Compile.is (rw (c.deref-in-Compile.ensures, fuse) at turn))
 
 pub exec-requires : goal.exec-requires
 exec-requires g c =
@@ -23,7 +24,8 @@ explain-requires g c =
 
 pub pipe-requires : goal.pipe-requires
 pipe-requires g c =
-    λ name turn. c.requires.lent [] name (rw c.in-Pipe.is (rw (c.deref-in-Pipe.ensures, c.deref-in-Pipe-2.ensures.value) at turn))
+    let fuse = rw c.in-Pipe.is at c.is_plain-fuse.ensures in
+    λ name turn. c.requires.lent [] name (rw c.in-Pipe.is (rw (c.deref-in-Pipe.ensures, c.deref-in-Pipe-2.ensures.value, fuse) at turn))
 
 pub watch-requires : goal.watch-requires
 watch-requires g c =

@@ -1,14 +1,14 @@
 use Rattle.std.proofs.Common.{List, [], None, Some, length, refl, sym, subst}
 use Rattle.std.proofs.lemmas.Result.{err_from_is_err_and, IfErr-weaker}
-use Rattle.tilt_app.proofs.Complete.{no_save_fault, unanswered_cause}
 use Rattle.tilt_app.proofs.Finish.{continued, made_none, made_some, on_match, on_ok, on_ok_so, on_ok_then, unput_cause, unsaved_cause}
-use Rattle.tilt_app.proofs.Seen.{unanswered_seen, unput_seen}
-use Rattle.tilt_app.proofs.Shown.{answer_fits, answer_made, answer_read, answer_rest, answer_shows, answer_undone, load_unanswered}
+use Rattle.tilt_app.proofs.Seen.{unput_seen}
+use Rattle.tilt_app.proofs.Shown.{answer_fits, answer_made, answer_read, answer_rest, answer_shows}
+use Rattle.tilt_app.proofs.Unanswered.{fault_cause, fault_of_no_save, fault_seen}
 use Rattle.tilt_app.specs.Continued.{Continues}
 use Rattle.tilt_app.specs.Change.{shelf_change, sink_change}
 use Rattle.tilt_app.specs.Outcome.{HasRowTurn, IsRowOutcome}
 use Rattle.tilt_app.specs.Show.{IsShow}
-use Rattle.tilt_app.specs.Table.{row_of}
+use Rattle.tilt_commands.specs.Table.{row_of}
 use Rattle.tilt_load.specs.Does.{reading}
 use Rattle.tilt_printed.specs.Answer.{save_of}
 use Rattle.tilt_printed.specs.Show.{shown_of}
@@ -21,63 +21,30 @@ use Rattle.tilt_app.proofs.command.done.Goals as goal
 pub returns-in_err-answered-clause-cause : goal.returns-in_err-answered-clause-cause
 returns-in_err-answered-clause-cause g c =
     let p = err_from_is_err_and c.from_residual.result c.from_residual.ensures.1 in
-    let tells = g.S.Shelf.tells in
-    let files = g.S.Shelf.files c.args.shelf.now in
-    let command = command_of c.args.command.now in
-    let shelf = shelf_change g.S.Shelf.tells g.S.Shelf.files g.S.Shelf.read_faults g.S.Shelf.save_faults c.args.shelf.now c.answer.new.shelf in
-    let out = sink_change g.O.Sink.tells g.O.Sink.written g.O.Sink.faults g.O.Sink.takes c.args.out.now c.args.out.now in
-    let read = reading g.S.Shelf.tells g.S.Shelf.files g.S.Shelf.read_faults g.S.Shelf.save_faults g.S.Shelf.takes g.S.Shelf.given c.args.shelf.now c.answer.new.shelf in
-    let fault = c.in_err-answered.field-0.0 in
-    rw (p.1, p.2) (unanswered_cause (IsRowOutcome files _ (row_of command)) (λ name. (any : List Watch) × HasRowTurn tells files any (row_of command) name) shelf out (report_of fault) refl
-    (load_unanswered (IsRowOutcome files _ (row_of command)) (HasRowTurn tells files _ (row_of command)) (λ name. (any : List Watch) × HasRowTurn tells files any (row_of command) name) shelf
-    (λ name turn. (_, turn)) (report_of fault) (answer_undone command read fault c.in_err-answered.ensures.does _)))
+    rw (p.1, p.2) (fault_cause g.S.Shelf.tells g.S.Shelf.files g.S.Shelf.read_faults g.S.Shelf.save_faults g.S.Shelf.takes g.S.Shelf.given c.args.shelf.now c.answer.new.shelf
+    (command_of c.args.command.now) c.in_err-answered.field-0.0 c.in_err-answered.ensures.does _
+    (sink_change g.O.Sink.tells g.O.Sink.written g.O.Sink.faults g.O.Sink.takes c.args.out.now c.args.out.now) refl)
 
 pub returns-in_err-answered-clause-handed_on : goal.returns-in_err-answered-clause-handed_on
 returns-in_err-answered-clause-handed_on g c =
     let p = err_from_is_err_and c.from_residual.result c.from_residual.ensures.1 in
-    let tells = g.S.Shelf.tells in
-    let files = g.S.Shelf.files c.args.shelf.now in
-    let command = command_of c.args.command.now in
-    let shelf = shelf_change g.S.Shelf.tells g.S.Shelf.files g.S.Shelf.read_faults g.S.Shelf.save_faults c.args.shelf.now c.answer.new.shelf in
-    let out = sink_change g.O.Sink.tells g.O.Sink.written g.O.Sink.faults g.O.Sink.takes c.args.out.now c.args.out.now in
-    let read = reading g.S.Shelf.tells g.S.Shelf.files g.S.Shelf.read_faults g.S.Shelf.save_faults g.S.Shelf.takes g.S.Shelf.given c.args.shelf.now c.answer.new.shelf in
-    let fault = c.in_err-answered.field-0.0 in
-    rw (p.1, p.2) (λ is. absurd (no_save_fault (IsRowOutcome files [] (row_of command)) (λ name. (any : List Watch) × HasRowTurn tells files any (row_of command) name) shelf out (report_of fault)
-    (load_unanswered (IsRowOutcome files [] (row_of command)) (HasRowTurn tells files [] (row_of command)) (λ name. (any : List Watch) × HasRowTurn tells files any (row_of command) name) shelf
-    (λ name turn. ([], turn)) (report_of fault) (answer_undone command read fault c.in_err-answered.ensures.does [])) is))
+    rw (p.1, p.2) (λ is. absurd (fault_of_no_save g.S.Shelf.tells g.S.Shelf.files g.S.Shelf.read_faults g.S.Shelf.save_faults g.S.Shelf.takes g.S.Shelf.given c.args.shelf.now c.answer.new.shelf
+    (command_of c.args.command.now) c.in_err-answered.field-0.0 c.in_err-answered.ensures.does is))
 
 pub returns-in_err-answered-clause-seen : goal.returns-in_err-answered-clause-seen
 returns-in_err-answered-clause-seen g c =
     let p = err_from_is_err_and c.from_residual.result c.from_residual.ensures.1 in
-    let tells = g.S.Shelf.tells in
-    let files = g.S.Shelf.files c.args.shelf.now in
-    let command = command_of c.args.command.now in
-    let shelf = shelf_change g.S.Shelf.tells g.S.Shelf.files g.S.Shelf.read_faults g.S.Shelf.save_faults c.args.shelf.now c.answer.new.shelf in
-    let read = reading g.S.Shelf.tells g.S.Shelf.files g.S.Shelf.read_faults g.S.Shelf.save_faults g.S.Shelf.takes g.S.Shelf.given c.args.shelf.now c.answer.new.shelf in
-    let fault = c.in_err-answered.field-0.0 in
-    rw (p.1, p.2) (unanswered_seen (IsRowOutcome files [] (row_of command)) (λ name. (any : List Watch) × HasRowTurn tells files any (row_of command) name)
-    shelf _ (IsShow tells files command) (report_of fault) refl
-    (load_unanswered (IsRowOutcome files [] (row_of command)) (HasRowTurn tells files [] (row_of command)) (λ name. (any : List Watch) × HasRowTurn tells files any (row_of command) name) shelf
-    (λ name turn. ([], turn)) (report_of fault) (answer_undone command read fault c.in_err-answered.ensures.does [])))
+    rw (p.1, p.2) (fault_seen g.S.Shelf.tells g.S.Shelf.files g.S.Shelf.read_faults g.S.Shelf.save_faults g.S.Shelf.takes g.S.Shelf.given c.args.shelf.now c.answer.new.shelf
+    (command_of c.args.command.now) c.in_err-answered.field-0.0 c.in_err-answered.ensures.does _ (IsShow g.S.Shelf.tells (g.S.Shelf.files c.args.shelf.now) (command_of c.args.command.now)) refl)
 
 pub returns-in_err-answered-clause-saving : goal.returns-in_err-answered-clause-saving
 returns-in_err-answered-clause-saving g c =
     let p = err_from_is_err_and c.from_residual.result c.from_residual.ensures.1 in
-    let tells = g.S.Shelf.tells in
-    let files = g.S.Shelf.files c.args.shelf.now in
-    let command = command_of c.args.command.now in
-    let shelf = shelf_change g.S.Shelf.tells g.S.Shelf.files g.S.Shelf.read_faults g.S.Shelf.save_faults c.args.shelf.now c.answer.new.shelf in
-    let out = sink_change g.O.Sink.tells g.O.Sink.written g.O.Sink.faults g.O.Sink.takes c.args.out.now c.args.out.now in
-    let read = reading g.S.Shelf.tells g.S.Shelf.files g.S.Shelf.read_faults g.S.Shelf.save_faults g.S.Shelf.takes g.S.Shelf.given c.args.shelf.now c.answer.new.shelf in
-    let fault = c.in_err-answered.field-0.0 in
-    rw (p.1, p.2) (λ is. absurd (no_save_fault (IsRowOutcome files [] (row_of command)) (λ name. (any : List Watch) × HasRowTurn tells files any (row_of command) name) shelf out (report_of fault)
-    (load_unanswered (IsRowOutcome files [] (row_of command)) (HasRowTurn tells files [] (row_of command)) (λ name. (any : List Watch) × HasRowTurn tells files any (row_of command) name) shelf
-    (λ name turn. ([], turn)) (report_of fault) (answer_undone command read fault c.in_err-answered.ensures.does [])) is))
+    rw (p.1, p.2) (λ is. absurd (fault_of_no_save g.S.Shelf.tells g.S.Shelf.files g.S.Shelf.read_faults g.S.Shelf.save_faults g.S.Shelf.takes g.S.Shelf.given c.args.shelf.now c.answer.new.shelf
+    (command_of c.args.command.now) c.in_err-answered.field-0.0 c.in_err-answered.ensures.does is))
 
 pub put-requires-clause-room : goal.put-requires-clause-room
 put-requires-clause-room g c =
-    let tells = g.S.Shelf.tells in
-    let files = g.S.Shelf.files c.args.shelf.now in
     let command = command_of c.args.command.now in
     let read = reading g.S.Shelf.tells g.S.Shelf.files g.S.Shelf.read_faults g.S.Shelf.save_faults g.S.Shelf.takes g.S.Shelf.given c.args.shelf.now c.answer.new.shelf in
     let answered = c.in_ok-answered.answered in
@@ -111,7 +78,6 @@ returns-in-Err-clause-seen g c =
 
 pub save-requires : goal.save-requires
 save-requires g c =
-    let tells = g.S.Shelf.tells in
     let files = g.S.Shelf.files c.args.shelf.now in
     let command = command_of c.args.command.now in
     let read = reading g.S.Shelf.tells g.S.Shelf.files g.S.Shelf.read_faults g.S.Shelf.save_faults g.S.Shelf.takes g.S.Shelf.given c.args.shelf.now c.answer.new.shelf in
@@ -125,7 +91,6 @@ save-requires g c =
 
 pub returns-in-None-clause-done : goal.returns-in-None-clause-done
 returns-in-None-clause-done g c =
-    let tells = g.S.Shelf.tells in
     let files = g.S.Shelf.files c.args.shelf.now in
     let command = command_of c.args.command.now in
     let read = reading g.S.Shelf.tells g.S.Shelf.files g.S.Shelf.read_faults g.S.Shelf.save_faults g.S.Shelf.takes g.S.Shelf.given c.args.shelf.now c.answer.new.shelf in
@@ -144,7 +109,6 @@ returns-in-None-clause-done g c =
 
 pub returns-in-None-clause-continued : goal.returns-in-None-clause-continued
 returns-in-None-clause-continued g c =
-    let tells = g.S.Shelf.tells in
     let files = g.S.Shelf.files c.args.shelf.now in
     let command = command_of c.args.command.now in
     let shelf = shelf_change g.S.Shelf.tells g.S.Shelf.files g.S.Shelf.read_faults g.S.Shelf.save_faults c.args.shelf.now c.answer.new.shelf in
@@ -155,7 +119,8 @@ returns-in-None-clause-continued g c =
     let fine = c.in_default.not-Err in
     let rest = answer_rest command read answered does in
     λ told. continued command shelf out _ None
-    (made_none (Continues files command) _ answered.save c.in-None.is (c.in_ok-answered.ensures.continues told _)) (λ t. on_ok c.put.result fine (c.put.ensures.prints.whole t)) (λ t. rest.same_files)
+    (made_none (Continues files command) _ answered.save c.in-None.is (c.in_ok-answered.ensures.continues told _)) (λ t. on_ok c.put.result fine (c.put.ensures.prints.whole t))
+    (λ t. rest.same_files)
 
 pub returns-in-None-clause-seen : goal.returns-in-None-clause-seen
 returns-in-None-clause-seen g c =
@@ -174,8 +139,6 @@ returns-in-None-clause-seen g c =
 
 pub returns-in-None-clause-read : goal.returns-in-None-clause-read
 returns-in-None-clause-read g c =
-    let tells = g.S.Shelf.tells in
-    let files = g.S.Shelf.files c.args.shelf.now in
     let command = command_of c.args.command.now in
     let read = reading g.S.Shelf.tells g.S.Shelf.files g.S.Shelf.read_faults g.S.Shelf.save_faults g.S.Shelf.takes g.S.Shelf.given c.args.shelf.now c.answer.new.shelf in
     let answered = c.in_ok-answered.answered in
@@ -184,7 +147,6 @@ returns-in-None-clause-read g c =
 
 pub returns-in-Some-clause-done : goal.returns-in-Some-clause-done
 returns-in-Some-clause-done g c =
-    let tells = g.S.Shelf.tells in
     let files = g.S.Shelf.files c.args.shelf.now in
     let command = command_of c.args.command.now in
     let read = reading g.S.Shelf.tells g.S.Shelf.files g.S.Shelf.read_faults g.S.Shelf.save_faults g.S.Shelf.takes g.S.Shelf.given c.args.shelf.now c.answer.new.shelf in
@@ -224,7 +186,6 @@ returns-in-Some-clause-cause g c =
 
 pub returns-in-Some-clause-continued : goal.returns-in-Some-clause-continued
 returns-in-Some-clause-continued g c =
-    let tells = g.S.Shelf.tells in
     let files = g.S.Shelf.files c.args.shelf.now in
     let command = command_of c.args.command.now in
     let shelf = shelf_change g.S.Shelf.tells g.S.Shelf.files g.S.Shelf.read_faults g.S.Shelf.save_faults c.args.shelf.now c.save.new.shelf in
@@ -242,12 +203,8 @@ returns-in-Some-clause-continued g c =
 
 pub returns-in-Some-clause-read : goal.returns-in-Some-clause-read
 returns-in-Some-clause-read g c =
-    let tells = g.S.Shelf.tells in
-    let files = g.S.Shelf.files c.args.shelf.now in
     let command = command_of c.args.command.now in
     let read = reading g.S.Shelf.tells g.S.Shelf.files g.S.Shelf.read_faults g.S.Shelf.save_faults g.S.Shelf.takes g.S.Shelf.given c.args.shelf.now c.answer.new.shelf in
     let answered = c.in_ok-answered.answered in
     let does = c.in_ok-answered.ensures.does in
-    let fine = c.in_default.not-Err in
-    let rest = answer_rest command read answered does in
     λ told. on_ok_so c.save.result (rw c.save.ensures.counts.2 (answer_read command read answered does told))

@@ -4,7 +4,7 @@ use Rattle.tilt_app.proofs.Once.{no_usage, outcome_once}
 use Rattle.tilt_app.proofs.Seen.{all_shown, part_shown}
 use Rattle.tilt_app.specs.Change.{shelf_change, sink_change}
 use Rattle.tilt_app.specs.Outcome.{HasRowTurn, HasTurn, IsOutcome, IsRowOutcome, does}
-use Rattle.tilt_app.specs.Table.{row_of}
+use Rattle.tilt_commands.specs.Table.{row_of}
 use Rattle.tilt_report.specs.Report.{report_of, status_of}
 use Rattle.tilt_watch.specs.Watch.{Watch}
 use Rattle.tilt_words.specs.Command.{command_of, texts, watch}

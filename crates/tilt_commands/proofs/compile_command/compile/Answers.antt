@@ -1,7 +1,7 @@
 use Rattle.std.proofs.Common.{List, None, ap, refl}
 use Rattle.std.proofs.lemmas.Result.{err_from_is_err_and}
 use Rattle.tilt_commands.proofs.Doing.{fits_unsaved, lone_made, lone_undone, none_shown}
-use Rattle.tilt_commands.specs.Compile.{IsCompiled}
+use Rattle.tilt_commands.specs.Table.{IsCompiled}
 use Rattle.tilt_report.specs.Report.{printed}
 use Rattle.tilt_load.specs.Does.{reading}
 use Rattle.tilt_load.specs.FileCommand.{own_turn}

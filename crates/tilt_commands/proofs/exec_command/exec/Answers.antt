@@ -1,7 +1,7 @@
 use Rattle.std.proofs.Common.{List, ap, refl}
 use Rattle.std.proofs.lemmas.Result.{err_from_is_err_and}
 use Rattle.tilt_commands.proofs.Doing.{fits_unsaved, none_shown}
-use Rattle.tilt_commands.specs.Exec.{exec_row}
+use Rattle.tilt_commands.specs.Table.{exec_row}
 use Rattle.tilt_load.proofs.FileCommands.{both_read, file_undone, inputs_undone, turn_of_input}
 use Rattle.tilt_load.specs.Does.{reading}
 use Rattle.tilt_load.specs.FileCommand.{done, own_turn}

@@ -2,7 +2,7 @@ use Rattle.std.proofs.Common.{List, None, refl}
 use Rattle.std.proofs.lemmas.Result.{err_from_is_err_and}
 use Rattle.std.specs.Prelude.{⊤}
 use Rattle.tilt_commands.proofs.Doing.{does_made, does_undone, fits_unsaved, none_shown, pipe_made, turn_any}
-use Rattle.tilt_commands.specs.Pipe.{IsPiped}
+use Rattle.tilt_commands.specs.Table.{IsPiped}
 use Rattle.tilt_load.specs.Does.{reading}
 use Rattle.tilt_printed.specs.Answer.{Fits, comes_to}
 use Rattle.tilt_printed.specs.declared.printed.Printed.TheVariants.{Rings}

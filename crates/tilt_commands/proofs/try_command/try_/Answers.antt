@@ -1,6 +1,6 @@
 use Rattle.std.proofs.Common.{refl}
 use Rattle.tilt_commands.proofs.Doing.{fits_unsaved, none_shown}
-use Rattle.tilt_commands.specs.Try.{summed}
+use Rattle.tilt_commands.specs.Table.{summed}
 use Rattle.tilt_printed.specs.declared.printed.Printed.TheVariants.{Whole}
 use Rattle.tilt_printed.specs.declared.whole_text.WholeText.TheVariants.{Text}
 use Rattle.tilt_commands.proofs.try_command.try_.Goals as goal

@@ -1,0 +1,106 @@
+-- The table of commands: what each of them does. A command on the file of a name is a row here, or in `tilt_sessions`.
+use Rattle.std.specs.Prelude.{◌≡◌, ◌++◌, not, List, [], ◌∷◌, ℕ, Bool, Ok, Some, None}
+use Rattle.tilt_bounds.specs.Margins.{MarginsParts, margins_of}
+use Rattle.tilt_code.specs.Code.{CodeParts}
+use Rattle.tilt_code.specs.Listing.{listing}
+use Rattle.tilt_code.specs.Run.{run_of}
+use Rattle.tilt_commands.specs.Query.{IsMadeOfQuery, lone_row, query_row}
+use Rattle.tilt_compiler.specs.Compiled.{IsCodeOf}
+use Rattle.tilt_core.specs.Core.{CoreParts}
+use Rattle.tilt_core.specs.Meaning.{output_of}
+use Rattle.tilt_explain.specs.Explain.{explained}
+use Rattle.tilt_load.specs.CodeFile.{TakesCode, RefusesCode}
+use Rattle.tilt_load.specs.FileCommand.{FileCommand}
+use Rattle.tilt_load.specs.QueryFile.{TakesQuery}
+use Rattle.tilt_load.specs.SeriesFiles.{no_bounds}
+use Rattle.tilt_made.specs.Generator.{first_rows, second_rows}
+use Rattle.tilt_made.specs.Summary.{summary_text}
+use Rattle.tilt_made.specs.TryQuery.{query_text}
+use Rattle.tilt_pipe.specs.Rings.{most_ever}
+use Rattle.tilt_printed.specs.Figures.{watched_text}
+use Rattle.tilt_printed.specs.Rings.{rings_line}
+use Rattle.tilt_report.specs.Report.{Outcome, printed}
+use Rattle.tilt_sessions.specs.Resume.{resume_row}
+use Rattle.tilt_sessions.specs.Start.{start_row}
+use Rattle.tilt_stream.specs.Snap.{Snapshot}
+use Rattle.tilt_stream.specs.Text.{text_of}
+use Rattle.tilt_watch.specs.Watch.{Watch}
+use Rattle.tilt_words.specs.Binding.{Binding}
+use Rattle.tilt_words.specs.Command.{CommandValue, run, compile, exec, explain, start, resume_upto, resume_end, pipe, watch, try}
+
+-- `run` on the query in the file of a name prints the text of the snapshots of the query's meaning on its output domain
+abbrev pub run_row : List ℕ → FileCommand
+run_row query = query_row query (IsMadeOfQuery (λ list. printed (text_of list)))
+
+-- the outcome is the listing of the query's code
+abbrev pub IsCompiled : Bool → CoreParts → Outcome → Type 0
+IsCompiled fuse core outcome = (code : CodeParts) × IsCodeOf core fuse code × (outcome ≡ printed (listing code))
+
+-- `compile` of the query in the file of a name, with fusion or without, prints the listing of the query's code on its output domain
+abbrev pub compile_row : List ℕ → Bool → FileCommand
+compile_row query fuse = lone_row query (IsCompiled fuse)
+
+-- `exec` of the code in the file of a name prints the text of the run of the code
+abbrev pub exec_row : List ℕ → FileCommand
+exec_row file = record {
+  Says = CodeParts;
+  takes = TakesCode;
+  refuses = RefusesCode file;
+  inputs = λ code. code.inputs;
+  within = λ code place. no_bounds;
+  gives = λ code rows outcome. outcome ≡ printed (text_of (run_of code rows));
+}
+
+-- the outcome is the lines on the query and its plan
+abbrev pub IsExplained : CoreParts → Outcome → Type 0
+IsExplained core outcome = (margins : MarginsParts) × (margins_of core ≡ Ok margins) × (outcome ≡ printed (explained core margins))
+
+-- `explain` of the query in the file of a name prints how far the query looks and how it is planned
+abbrev pub explain_row : List ℕ → FileCommand
+explain_row query = lone_row query IsExplained
+
+-- the outcome is the text of the snapshots of the query's meaning on its output domain, and then the line of the most that the rings of
+-- its code ever hold
+pub record IsPiped (fuse : Bool) (core : CoreParts) (rows : List (List Snapshot)) (outcome : Outcome) : Type 0 where
+  pub list : List Snapshot
+  pub code : CodeParts
+  pub means : output_of core rows ≡ Some list
+  pub code_is : IsCodeOf core fuse code
+  pub is : outcome ≡ printed (text_of list ++ rings_line (most_ever code rows))
+
+-- `pipe` on the query in the file of a name, with fusion or without, prints what `run` prints, and then that line
+abbrev pub pipe_row : List ℕ → Bool → FileCommand
+pipe_row query fuse = query_row query (IsPiped fuse)
+
+-- `watch` on the query in the file of a name, beside these watchers, prints what `run` prints, and then their figures
+abbrev pub watch_row : List ℕ → List Watch → FileCommand
+watch_row query watchers = query_row query (IsMadeOfQuery (λ list. printed (watched_text watchers list)))
+
+-- the rows that `try` makes, of both inputs
+abbrev pub made_inputs : ℕ → ℕ → List (List Snapshot)
+made_inputs seed count = first_rows seed count ∷ second_rows seed count ∷ []
+
+-- `try` prints a summary: its query is taken, and the summary is that of the snapshots of the query's meaning on its output domain
+pub data IsTryOutcome (seed count : ℕ) : Outcome → Type 0 where
+  summed : (core : CoreParts) (list : List Snapshot) → TakesQuery (query_text count) core
+      → output_of core (made_inputs seed count) ≡ Some list → IsTryOutcome seed count (printed (summary_text count list))
+
+-- what a command does: it reads a file and the files of its binds, and is such a command beside those who watch; or it reads nothing, and
+-- this is what it comes to
+pub data Row : Type 1 where
+  reads : (file : List ℕ) (binds : List Binding) (command : List Watch → FileCommand) → Row
+  makes : (is_outcome : Outcome → Type 0) → Row
+
+-- the row of each command
+abbrev pub row_of : CommandValue → Row
+row_of (run query binds plain cuts) = reads query binds (λ watchers. run_row query)
+row_of (compile query plain) = reads query [] (λ watchers. compile_row query (not plain))
+row_of (exec code binds) = reads code binds (λ watchers. exec_row code)
+row_of (explain query) = reads query [] (λ watchers. explain_row query)
+row_of (start query binds plain upto save) = reads query binds (λ watchers. start_row (record { upto = upto; save = save }) query)
+row_of (resume_upto checkpoint binds plain upto save) =
+    reads checkpoint binds (λ watchers. resume_row (Some (record { upto = upto; save = save })) checkpoint)
+row_of (resume_end checkpoint binds plain) = reads checkpoint binds (λ watchers. resume_row None checkpoint)
+row_of (pipe query binds plain) = reads query binds (λ watchers. pipe_row query (not plain))
+row_of (watch query binds plain) = reads query binds (watch_row query)
+row_of (try seed count) = makes (IsTryOutcome seed count)
