@@ -23,6 +23,8 @@ mod refusals;
 #[cfg(test)]
 mod sessions;
 #[cfg(test)]
+mod sure;
+#[cfg(test)]
 mod texts;
 #[cfg(test)]
 mod trying;
