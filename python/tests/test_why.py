@@ -12,7 +12,7 @@ import queries
 from conftest import PYTHON, TOP, run_program
 from tilt_data.forms import fault_of
 from tilt_data.grammar import statements_of
-from tilt_data.tokens import place_of
+from tilt_data.tokens import Faulty, place_of
 from tilt_data.why import placed
 
 QUERY = "input x;\nemit x over (0, 10];\n"
@@ -219,3 +219,80 @@ def test_the_causes_of_line_24_in_the_page():
             assert re.fullmatch(r"24 statement \d: syntax", fault_of(whole(part)).line), (cause, part)
         for part in right:
             statements_of(whole(part))
+
+
+# Without the program: what the repository's own tests and pages say of texts
+
+
+FAULTS = {"NameTaken": "26 statement {}: name taken", "UnknownName": "27 statement {}: unknown name", "TypeMismatch": "28 statement {}: type mismatch",
+          "BadWindow": "29 statement {}: bad window", "BadDomain": "30 statement {}: bad domain"}
+
+
+def literal(text: str) -> bytes:
+    """What a string of Rust without raw parts means."""
+    text = re.sub(r"\\\n\s*", "", text)
+    return re.sub(rb"\\(x..|.)", lambda found: ESCAPES.get(found[1]) or bytes.fromhex(found[1][1:].decode()), text.encode())
+
+
+ESCAPES = {b"n": b"\n", b"t": b"\t", b"r": b"\r", b"\\": b"\\", b'"': b'"', b"0": b"\0"}
+QUOTED = r'"((?:[^"\\]|\\.|\\\n)*)"'
+
+
+def of_tests() -> list[tuple[bytes, str]]:
+    """Each text of the tests in crates/, with the line of its refusal; empty where it is taken."""
+    folder = TOP / "crates"
+    found = []
+    refusals = (folder / "tilt_tests_app/src/refusals.rt").read_text()
+    for text, line in re.findall(rf'\(\s*b{QUOTED},\s*SERIES,\s*b"",\s*b"tilt: ((?:2\d|3[01]) [^"\\]*)\\n"', refusals):
+        found.append((literal(text), line))
+    checking = (folder / "tilt_tests_language/src/checking.rt").read_text()
+    cores, faults = checking.split("const FAULTS", 1)
+    found += [(literal(text), "") for text, _ in re.findall(rf"\(\s*{QUOTED},\s*{QUOTED},\s*\)", cores.split("const CORES", 1)[1])]
+    for text, kind, number in re.findall(rf'\(\s*{QUOTED},\s*"(\w+) {{ statement: (\d+) }}",?\s*\)', faults):
+        found.append((literal(text), FAULTS[kind].format(number)))
+    return found
+
+
+def of_pages() -> list[tuple[bytes, str]]:
+    """Each query that a page writes and runs, with the line of its refusal; empty where there is none."""
+    found = []
+    for page in [*TOP.glob("docs/*.md"), TOP / "README.md"]:
+        for text, below in re.findall(r"^\$ echo '([^']*)' > q; tilt (?:run|explain|compile|pipe) q[^\n|]*\n(tilt: [^\n]*)?", page.read_text(), re.M):
+            line = below.removeprefix("tilt: ")
+            found.append((text.encode() + b"\n", line if re.match(r"2\d|3[01]", line) else ""))
+    return found
+
+
+def test_texts_of_the_tests_and_pages():
+    tests, pages = of_tests(), of_pages()
+    assert len(tests) > 60 and len(pages) > 60
+    assert {line[:2] for _, line in tests} == {"", "20", "21", "24", "25", "26", "27", "28", "29", "30", "31"}
+    for text, line in tests + pages:
+        fault = fault_of(text)
+        assert (fault.line if fault else "") == line, text
+
+
+def tree(node) -> str:
+    """A tree as the tests of the language write it."""
+    if node.form in ("number", "truth"):
+        return node.token.text
+    if node.form == "reading":
+        return node.name.text + (f"@{node.low}" if node.low else "")
+    if node.form == "window":
+        return f"({node.token.text.capitalize()} {node.name.text} {node.low} {node.high})"
+    words = {"==": "Eq", "!=": "Ne", "<": "Lt", "<=": "Le", ">": "Gt", ">=": "Ge", "+": "Add", "-": "Sub", "*": "Mul", "/": "Div", "%": "Rem",
+             "isnull": "IsNull", "ifnull": "IfNull"}
+    return f"({words.get(node.form, node.form.capitalize())} {' '.join(map(tree, node.parts))})"
+
+
+def test_expressions_of_the_tests():
+    parsing = (TOP / "crates/tilt_tests_language/src/parsing.rt").read_text()
+    table = parsing.split("const EXPRESSIONS", 1)[1].split("\n];", 1)[0]
+    pairs = re.findall(rf"\(\s*{QUOTED},\s*{QUOTED},?\s*\)", table)
+    assert len(pairs) > 50
+    for text, wanted in pairs:
+        try:
+            got = tree(statements_of(b"emit " + literal(text) + b" over (0, 5];")[0].body)
+        except Faulty:
+            got = ""
+        assert got == literal(wanted).decode(), text
