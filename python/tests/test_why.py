@@ -180,11 +180,12 @@ def test_why_of_a_query_alone(tilt, tmp_path, monkeypatch, capfd):
     assert "wrong:1:15: " in capfd.readouterr().err
 
 
-def test_series_of_other_clocks_are_told(tilt, told, capfd):
+def test_series_of_other_clocks_are_told(tilt, told):
     put(q="input x; input y; emit x + y over (0, 10];", raw="time,x,y\n2026-03-01T00:00:01,1,2\n2026-03-01T00:00:03,1,2\n")
     for name, tick in (("x", "1s"), ("y", "1ms")):
         assert told("series", "raw", "--time", "time", "--value", name, "--tick", tick)[0] == 0
-    assert told("run", "q", "x=x.csv", "y=y.csv")[0] == 0
+    status, _, err = told("run", "q", "x=x.csv", "y=y.csv")
+    assert status == 0 and err == "tilt-data: note: the series x and y have other ticks or origins: write one --like the other\n"
     assert told("run", "q", "x=x.csv", "y=x.csv")[2] == ""
     assert run_program(tilt, "input x; emit x over (0, 10];", "x=x.csv") != ""
 
