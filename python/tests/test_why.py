@@ -2,6 +2,7 @@
 from __future__ import annotations
 
 import concurrent.futures
+import os
 import pathlib
 import re
 import subprocess
@@ -22,6 +23,11 @@ ROWS = "start,end,value\n0,5,7\n6,8,9\n"
 def put(**files: str) -> None:
     for name, text in files.items():
         pathlib.Path(name).write_text(text)
+
+
+def put_in(folder: pathlib.Path, **files: str) -> None:
+    for name, text in files.items():
+        (folder / name).write_text(text)
 
 
 def marked(text: str) -> tuple[str, str]:
@@ -147,6 +153,14 @@ def test_run_has_the_programs_bytes_and_status(tilt, tmp_path, monkeypatch, word
     assert ours.stderr.startswith(plain.stderr)
     if words in (["q", "x=x"], ["q", "x=x", "--plain"], ["q", "x=x", "--cut", "3,7"]):
         assert ours.stderr == b""
+
+
+def test_run_reads_the_descriptors_of_a_shell(tilt, tmp_path):
+    put_in(tmp_path, q=QUERY, x=ROWS)
+    command = f"{sys.executable} -m tilt_data run <(cat q) x=<(cat x)"
+    environment = {**os.environ, "PYTHONPATH": str(PYTHON), "TILT": tilt}
+    done = subprocess.run(["bash", "-c", command], capture_output=True, text=True, cwd=tmp_path, env=environment)
+    assert (done.returncode, done.stdout, done.stderr) == (0, ROWS, "")
 
 
 @pytest.mark.parametrize("words, what", [

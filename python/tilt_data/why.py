@@ -198,7 +198,8 @@ def clashes(words: list[str]) -> str | None:
 def call(words: list[str]) -> tuple[int, bytes]:
     """Runs the program on the streams of the caller: its status, and what it told."""
     try:
-        done = subprocess.run([program(), *words], stderr=subprocess.PIPE)
+        # The words may name descriptors of the caller, as /dev/fd/63 of a shell.
+        done = subprocess.run([program(), *words], stderr=subprocess.PIPE, close_fds=False)
     except OSError as error:
         raise Refused(f"the program can't be run: {error.strerror}") from error
     return (done.returncode if done.returncode >= 0 else 128 - done.returncode), done.stderr
