@@ -1,0 +1,12 @@
+pub mod Bodies
+pub mod Boundaries
+pub mod Composed
+pub mod Kept
+pub mod Known
+pub mod Names
+pub mod Pieces
+pub mod Spans
+pub mod StepLists
+pub mod Taken
+pub mod Unique
+pub mod Written

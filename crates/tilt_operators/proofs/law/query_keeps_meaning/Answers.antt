@@ -1,0 +1,9 @@
+use Rattle.tilt_operators.proofs.Kept.{keeps}
+use Rattle.tilt_operators.proofs.Written.{written}
+use Rattle.tilt_operators.proofs.law.query_keeps_meaning.Goals as goal
+
+pub returns-clause-law : goal.returns-clause-law
+returns-clause-law c = λ flow is. keeps flow is
+
+pub returns-clause-parsed : goal.returns-clause-parsed
+returns-clause-parsed c = λ flow is. written flow is

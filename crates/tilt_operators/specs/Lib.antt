@@ -1,0 +1,9 @@
+pub mod Desugared
+pub mod Fault
+pub mod Flow
+pub mod Inputs
+pub mod Law
+pub mod Lists
+pub mod Parts
+pub mod Steps
+pub mod Stored
