@@ -50,6 +50,15 @@ with_name-has names name =
       | inr none ↦ rw none (among-push names name name ∙ or_right _ _ (same_bytes name))
     ]
 
+-- one step, and then the others
+pub with_steps_cons : (names : List (List ℕ)) (s : StepTree) (steps : List StepTree)
+    → with_steps names (s ∷ steps) ≡ with_steps (with_steps names (s ∷ [])) steps
+with_steps_cons names (Join name e) steps = refl
+with_steps_cons names (Select e) steps = refl
+with_steps_cons names (Keep e) steps = refl
+with_steps_cons names (Shift by) steps = refl
+with_steps_cons names (Window r width) steps = refl
+
 pub with_steps-stays : (names : List (List ℕ)) (steps : List StepTree) (other : List ℕ) → is_among names other ≡ true
     → is_among (with_steps names steps) other ≡ true
 with_steps-stays names [] other h = h
