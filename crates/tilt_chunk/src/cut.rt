@@ -1,5 +1,5 @@
 /// Where a session ends.
-#[derive(Clone, Copy, Debug, PartialEq, Eq)]
+#[derive(Debug, Drop, PartialEq, Eq)]
 pub enum Cut {
     /// At a cut, a tick: the session is handed the rows that start below it, and leaves a checkpoint.
     Upto(i64),

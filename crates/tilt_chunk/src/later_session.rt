@@ -47,10 +47,10 @@ pub fn resume(
         cut: checkpoint.cut(),
         begun: checkpoint.open_start(),
     };
-    let last = decided_by(behind.frame, cut);
+    let last = decided_by(behind.frame, &cut);
     let (query, series) = checkpoint.into_parts();
     let handed = rows_behind(alloc, series, &rows)?;
-    let kept = keep_by(alloc, behind.frame, cut, &handed)?;
+    let kept = keep_by(alloc, behind.frame, &cut, &handed)?;
     let closed = go_on(alloc, accepted, behind, handed.rows, last)?;
     let next = match cut {
         Cut::Upto(upto) => Some(Checkpoint::new(query, upto, closed.open_start, kept)),
@@ -60,15 +60,20 @@ pub fn resume(
 }
 
 // What is kept of each input where a session ends by a cut, and nothing where none comes behind it.
-fn keep_by(alloc: Global, frame: Frame, cut: Cut, handed: &Handed) -> Result<Vec<Kept>, OutOfMemory>
+fn keep_by(
+    alloc: Global,
+    frame: Frame,
+    cut: &Cut,
+    handed: &Handed,
+) -> Result<Vec<Kept>, OutOfMemory>
     requires ends { length handed.now.ends.items ≡ length handed.now.rows.items }
     requires frame { IsFrame frame }
-    requires range { IsInRange cut }
-    ensures kept { (upto : ℤ) → cut ≡ Upto upto
+    requires range { IsInRange cut.now }
+    ensures kept { (upto : ℤ) → cut.now ≡ Upto upto
         → IfOk result (λ series. series.items ≡ kept_at (first_kept frame upto) handed.now.ends.items handed.now.rows.items) }
     ensures cells { IfOk result (λ series. AllByRecursion (λ k. AreCells k.rows) series.items) }
 {
-    match cut {
+    match *cut {
         Cut::Upto(upto) => keep(alloc, handed, frame.first_kept(upto)),
         Cut::End => Ok(Vec::new(alloc)),
     }
@@ -83,12 +88,12 @@ struct Behind {
 }
 
 // The last tick of the output that is decided where a session ends.
-fn decided_by(frame: Frame, cut: Cut) -> i64
+fn decided_by(frame: Frame, cut: &Cut) -> i64
     requires frame { IsFrame frame }
-    requires range { IsInRange cut }
-    ensures { result ≡ decided_by frame cut }
+    requires range { IsInRange cut.now }
+    ensures { result ≡ decided_by frame cut.now }
 {
-    match cut {
+    match *cut {
         Cut::Upto(upto) => frame.decided(upto),
         Cut::End => frame.end,
     }

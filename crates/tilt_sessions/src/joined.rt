@@ -39,7 +39,7 @@ impl Joined {
         ensures joined { IfOk result (λ joined. AreJoined query accepted.now.core rows.now cut joined.printed joined.bytes.items) }
         ensures cut { IfOk result (λ joined. joined.cut ≡ cut) }
     {
-        let part = session_rows(alloc, rows, None, Cut::Upto(cut))?;
+        let part = session_rows(alloc, rows, None, &Cut::Upto(cut))?;
         let (printed, checkpoint) = start(alloc, query, accepted, part, cut)?;
         let bytes = encode(alloc, &checkpoint)?;
         Ok(Joined {
@@ -68,7 +68,7 @@ impl Joined {
     {
         // The bounds of the output are known from here on.
         let _ = Frame::new(accepted.core(), accepted.margins());
-        let part = session_rows(alloc, rows, Some(self.cut), Cut::Upto(cut))?;
+        let part = session_rows(alloc, rows, Some(self.cut), &Cut::Upto(cut))?;
         let checkpoint = handed_on(alloc, &self.bytes)?;
         let (list, next) = resume(alloc, checkpoint, accepted, part, Cut::Upto(cut))?;
         let next = next.unwrap();
@@ -95,7 +95,7 @@ impl Joined {
     {
         // The bounds of the output are known from here on.
         let _ = Frame::new(accepted.core(), accepted.margins());
-        let part = session_rows(alloc, rows, Some(self.cut), Cut::End)?;
+        let part = session_rows(alloc, rows, Some(self.cut), &Cut::End)?;
         let checkpoint = handed_on(alloc, &self.bytes)?;
         let (list, _) = resume(alloc, checkpoint, accepted, part, Cut::End)?;
         with_list(self.printed, &list)

@@ -14,9 +14,9 @@ pub(crate) fn session_rows(
     alloc: Global,
     rows: &[Rows],
     from: Option<i64>,
-    cut: Cut,
+    cut: &Cut,
 ) -> Result<Vec<Rows>, OutOfMemory>
-    ensures parts { IfOk result (λ parts. parts.items ≡ map (part_of from cut) rows.now) }
+    ensures parts { IfOk result (λ parts. parts.items ≡ map (part_of from cut.now) rows.now) }
     ensures in_order { IfOk result (λ _. AllByRecursion AreRows rows.now) }
 {
     let mut parts = Vec::new(alloc);
@@ -27,8 +27,8 @@ pub(crate) fn session_rows(
 }
 
 // The same of one input.
-fn part(alloc: Global, rows: &Rows, from: Option<i64>, cut: Cut) -> Result<Rows, OutOfMemory>
-    ensures part { IfOk result (λ part. part ≡ part_of from cut rows.now) }
+fn part(alloc: Global, rows: &Rows, from: Option<i64>, cut: &Cut) -> Result<Rows, OutOfMemory>
+    ensures part { IfOk result (λ part. part ≡ part_of from cut.now rows.now) }
     ensures in_order { AreRows rows.now }
 {
     let all = rows.as_slice();
@@ -39,12 +39,12 @@ fn part(alloc: Global, rows: &Rows, from: Option<i64>, cut: Cut) -> Result<Rows,
 }
 
 // The rows in front that start before a session ends.
-fn all_early(rows: &[Row], cut: Cut) -> &[Row]
+fn all_early<'a>(rows: &'a [Row], cut: &Cut) -> &'a [Row]
     requires { AreRows rows.now }
-    ensures rows { result.now ≡ early cut rows.now }
+    ensures rows { result.now ≡ early cut.now rows.now }
     ensures in_order { AreRows result.now }
 {
-    match cut {
+    match *cut {
         Cut::Upto(cut) => &rows[..started_before(rows, cut)],
         Cut::End => rows,
     }

@@ -55,11 +55,11 @@ pub fn resume_session<'a, S: Shelf>(
         → HandsOn (S.files shelf.old checkpoint.now) query rows cut → report_of fault ≢ refusal bad_checkpoint) }
 {
     let cut = cut_of(ending);
-    let loaded = load_onward(alloc, shelf, checkpoint, fuse, cut)?;
+    let loaded = load_onward(alloc, shelf, checkpoint, fuse, &cut)?;
     let bounds = Session {
         kept: loaded.checkpoint.series(),
         from: Some(loaded.checkpoint.cut()),
-        upto: limit_of(cut),
+        upto: limit_of(&cut),
     };
     let rows = load_session_inputs(
         alloc,
@@ -86,20 +86,20 @@ fn load_onward<'a, S: Shelf>(
     shelf: &mut S,
     name: &'a str,
     fuse: bool,
-    cut: Cut,
+    cut: &Cut,
 ) -> Result<LoadedCheckpoint, Fault<'a>>
     requires { S.lends name.now }
-    ensures taken { S.tells → IfOk result (λ loaded. GoesOn cut (S.files shelf.old name.now) loaded.checkpoint) }
+    ensures taken { S.tells → IfOk result (λ loaded. GoesOn cut.now (S.files shelf.old name.now) loaded.checkpoint) }
     ensures valid { IfOk result (λ loaded. IsCheckpoint loaded.checkpoint) }
     ensures core { IfOk result (λ loaded. loaded.accepted.core ≡ core_of loaded.checkpoint.query) }
-    ensures onward { IfOk result (λ loaded. IsOnward loaded.checkpoint.cut cut) }
-    ensures fault { IfErr result (λ fault. IsLoadFault S.tells (RefusesToGoOn name.now cut (S.files shelf.old name.now))
+    ensures onward { IfOk result (λ loaded. IsOnward loaded.checkpoint.cut cut.now) }
+    ensures fault { IfErr result (λ fault. IsLoadFault S.tells (RefusesToGoOn name.now cut.now (S.files shelf.old name.now))
         (λ which. which ≡ name.now) (S.read_faults shelf.old) (S.read_faults shelf.new) (report_of fault)) }
     ensures given { S.tells → IfOk result (λ _. S.given shelf.new ≡ added_count (S.given shelf.old) (length (S.files shelf.old name.now))) }
     ensures rest { OnlyReads S.files S.read_faults S.save_faults S.takes shelf.old shelf.new }
 {
     let loaded = load_checkpoint(alloc, shelf, name, fuse)?;
-    match next_cut(&loaded.checkpoint, &cut) {
+    match next_cut(&loaded.checkpoint, cut) {
         Ok(()) => Ok(loaded),
         Err(back) => Err(Fault::Refused(Refusal::CutBack {
             old: back.old,
@@ -119,10 +119,10 @@ fn cut_of(ending: Option<SavedCut<'_>>) -> Cut
 }
 
 // The tick below which rows start, where there is one.
-fn limit_of(cut: Cut) -> Option<i64>
-    ensures { result ≡ limit_of cut }
+fn limit_of(cut: &Cut) -> Option<i64>
+    ensures { result ≡ limit_of cut.now }
 {
-    match cut {
+    match *cut {
         Cut::Upto(upto) => Some(upto),
         Cut::End => None,
     }

@@ -15,7 +15,7 @@ returns-in_err-loaded-clause-fault g c =
     let tells = g.S.Shelf.tells in
     let name = c.args.name.now in
     let file = g.S.Shelf.files c.args.shelf.now name in
-    rw (p.1, p.2) (load_fault_weaker tells tells (RefusesCheckpoint name file) (RefusesToGoOn name c.args.cut file) (λ which. which ≡ name) (λ which. which ≡ name)
+    rw (p.1, p.2) (load_fault_weaker tells tells (RefusesCheckpoint name file) (RefusesToGoOn name c.args.cut.now file) (λ which. which ≡ name) (λ which. which ≡ name)
     _ _ _ _ (λ t. t) (λ why t is. no_checkpoint is) (λ which rose same. (rose, same)) (report_of c.in_err-loaded.field-0.0) c.in_err-loaded.ensures.fault)
 
 pub returns-clause-fault : goal.returns-clause-fault
@@ -26,5 +26,5 @@ returns-clause-fault g c =
     let new : FitsSigned w64 found.new = search rules in
     let is = c.in-Err.ensures in
     let name = c.args.name.now in
-    is_back name (g.S.Shelf.files c.args.shelf.now name) c.args.cut c.in_ok-loaded.loaded.checkpoint found.old found.new _ _ (c.in_ok-loaded.ensures.taken told)
+    is_back name (g.S.Shelf.files c.args.shelf.now name) c.args.cut.now c.in_ok-loaded.loaded.checkpoint found.old found.new _ _ (c.in_ok-loaded.ensures.taken told)
     is.0 is.1 is.2 (to_z-of_z w64 found.old old) (to_z-of_z w64 found.new new)
