@@ -1,5 +1,5 @@
 -- What is read of bytes is the valid checkpoint that they spell.
-use Rattle.std.proofs.Common.{◌≡◌, ◌≢◌, ◌⊎◌, ℕ, ◌^◌, ◌<◌, ◌≤◌, List, ◌++◌, length, Option, Some, Result, Ok, Err, refl, sym, ap, ◌∙◌, arith, inl, inr, length-append}
+use Rattle.std.proofs.Common.{◌≡◌, ◌⊎◌, ℕ, ◌^◌, ◌<◌, ◌≤◌, List, ◌++◌, length, Option, Some, Result, Ok, Err, refl, sym, ap, ◌∙◌, arith, inl, inr, length-append}
 use Rattle.std.specs.Prelude.{IfOk, IfErr, MatchResult}
 use Rattle.std.specs.List.{flat_map}
 use Rattle.std.proofs.lemmas.Option.{none-some}
@@ -8,7 +8,7 @@ use Rattle.tilt_types.specs.Checked.{core_of}
 use Rattle.tilt_checkpoint.specs.Checkpoint.{BodyParts, CheckpointParts, with_query}
 use Rattle.tilt_checkpoint.specs.Decided.{frame_of}
 use Rattle.tilt_checkpoint.specs.Reading.{IsBad, body_at}
-use Rattle.tilt_checkpoint.specs.Spelling.{body_lines, cut_line, open_line, query_lines, series_lines, spelling, title}
+use Rattle.tilt_checkpoint.specs.Spelling.{Spells, body_lines, cut_line, open_line, query_lines, series_lines, spelling, title}
 use Rattle.std.specs.Prelude.{codes}
 use Rattle.tilt_checkpoint.specs.Valid.{IsAccepted, IsCheckpoint}
 use Rattle.tilt_checkpoint.specs.declared.decoder.Decoded.{Decoded}
@@ -38,9 +38,9 @@ read-valid query left body is e =
     let b = body-was (frame_of core) (length core.inputs) left body e in
     record { query = is; cut = b.cut; opened = b.opened; counted = b.counted; series = b.series }
 
--- of which the bytes are the spelling
+-- which the bytes spell
 pub read-spelled : (query : List StatementTree) (bytes left : List ℕ) (body : BodyParts) → bytes ≡ title ++ (query_lines query ++ left)
-    → body_behind query left ≡ Some body → bytes ≡ spelling (with_query query body)
+    → body_behind query left ≡ Some body → Spells bytes (with_query query body)
 read-spelled query bytes left body e read =
     let core = core_of query in
     e ∙ ap (λ (t : List ℕ). title ++ (query_lines query ++ t)) (body-was (frame_of core) (length core.inputs) left body read).spelled
@@ -60,7 +60,7 @@ series_few c =
     )
 
 -- and a valid checkpoint is read behind its query
-pub valid-read : (c : CheckpointParts) (bytes : List ℕ) → IsCheckpoint c → bytes ≡ spelling c → length bytes < 2 ^ 63
+pub valid-read : (c : CheckpointParts) (bytes : List ℕ) → IsCheckpoint c → Spells bytes c → length bytes < 2 ^ 63
     → body_behind c.query (rest_of c) ≡ Some (body_of c)
 valid-read c bytes h spelled small =
     let frame = frame_of (core_of c.query) in
@@ -77,18 +77,18 @@ only_memory OutOfMemory read x none some = refl
 -- clauses that follow
 
 abbrev Found : Result Decoded CheckpointFault → List ℕ → Type 0
-Found result bytes = IfOk result (λ decoded. IsCheckpoint decoded.checkpoint × (bytes ≡ spelling decoded.checkpoint))
+Found result bytes = IfOk result (λ decoded. IsCheckpoint decoded.checkpoint × Spells bytes decoded.checkpoint)
 
 abbrev Only : Result Decoded CheckpointFault → List ℕ → Type 0
 Only result bytes =
-    (c : CheckpointParts) → IsCheckpoint c → bytes ≡ spelling c
+    (c : CheckpointParts) → IsCheckpoint c → Spells bytes c
     → MatchResult result (λ found. found.checkpoint ≡ c) (λ fault. fault ≡ OutOfMemory)
 
 bad-memory : ◌≡◌ {A = CheckpointFault} BadCheckpoint OutOfMemory → ⊥
 bad-memory e = cc e
 
 pub refused-none : (result : Result Decoded CheckpointFault) (bytes : List ℕ) → Only result bytes
-    → IfErr result (λ fault. fault ≡ BadCheckpoint → (c : CheckpointParts) → IsCheckpoint c → bytes ≢ spelling c)
+    → IfErr result (λ fault. fault ≡ BadCheckpoint → (c : CheckpointParts) → IsCheckpoint c → ¬ (Spells bytes c))
 refused-none (Ok decoded) bytes only = tt
 refused-none (Err fault) bytes only = λ bad c is e. bad-memory (sym bad ∙ only c is e)
 
@@ -97,7 +97,7 @@ one_of BadCheckpoint = inl refl
 one_of OutOfMemory = inr refl
 
 pub none-refused : (result : Result Decoded CheckpointFault) (bytes : List ℕ) → Found result bytes
-    → ((c : CheckpointParts) → IsCheckpoint c → bytes ≢ spelling c)
+    → ((c : CheckpointParts) → IsCheckpoint c → ¬ (Spells bytes c))
     → MatchResult result (λ _. ⊥) (λ fault. (fault ≡ BadCheckpoint) ⊎ (fault ≡ OutOfMemory))
 none-refused (Ok decoded) bytes found none = none decoded.checkpoint found.0 found.1
 none-refused (Err fault) bytes found none = one_of fault

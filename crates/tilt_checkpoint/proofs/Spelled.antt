@@ -1,4 +1,4 @@
--- One text spells one valid checkpoint.
+-- Bytes spell one valid checkpoint at most.
 use Rattle.std.proofs.Common.{◌≡◌, ◌∙◌, ℕ, ◌^◌, ◌<◌, List, length, sym, ap, subst}
 use Rattle.std.proofs.lemmas.Option.{same_Some, some_pair_parts}
 use Rattle.tilt_lexer.specs.Tokens.{AreTokens}
@@ -8,7 +8,7 @@ use Rattle.tilt_syntax.specs.Query.{IsQuery}
 use Rattle.tilt_syntax.specs.Tree.{StatementTree}
 use Rattle.tilt_checkpoint.specs.Checkpoint.{CheckpointParts, with_query}
 use Rattle.tilt_checkpoint.specs.Reading.{query_at}
-use Rattle.tilt_checkpoint.specs.Spelling.{spelling}
+use Rattle.tilt_checkpoint.specs.Spelling.{Spells}
 use Rattle.tilt_checkpoint.specs.Valid.{IsCheckpoint}
 use Rattle.tilt_checkpoint.proofs.Decoding.{body_behind, body_of, rest_of, valid-read}
 use Rattle.tilt_checkpoint.proofs.Queries.{query-again}
@@ -21,8 +21,8 @@ one_printed query other is is' same =
     back.only back'.tokens other (subst (λ (t : List ℕ). AreTokens 0 t back'.tokens) (sym same) back'.are) back'.parsed
 
 -- valid checkpoints that are spelled the same are the same
-pub spelled_once : (c d : CheckpointParts) (bytes : List ℕ) → IsCheckpoint c → IsCheckpoint d → length bytes < 2 ^ 63 → bytes ≡ spelling c
-    → bytes ≡ spelling d → c ≡ d
+pub spelled_once : (c d : CheckpointParts) (bytes : List ℕ) → IsCheckpoint c → IsCheckpoint d → length bytes < 2 ^ 63 → Spells bytes c
+    → Spells bytes d → c ≡ d
 spelled_once c d bytes is is' small e e' =
     let again = query-again c.query (rest_of c) is.query.parsed in
     let again' = query-again d.query (rest_of d) is'.query.parsed in

@@ -1,5 +1,5 @@
--- Bytes are the spelling of a valid checkpoint, or of none: they are read.
-use Rattle.std.proofs.Common.{◌≡◌, ◌≢◌, ◌⊎◌, inl, inr, ◌∙◌, ℕ, ◌^◌, ◌<◌, List, [], length, Option, Some, None, Result, Ok, Err, refl, sym, ap, subst}
+-- Bytes spell a valid checkpoint, or none: they are read.
+use Rattle.std.proofs.Common.{◌≡◌, ◌⊎◌, inl, inr, ◌∙◌, ℕ, ◌^◌, ◌<◌, List, [], length, Option, Some, None, Result, Ok, Err, refl, sym, ap, subst}
 use Rattle.std.specs.Str.{bytes_eq}
 use Rattle.std.proofs.lemmas.Bool.{cases_Bool, cases_eq, false≢true}
 use Rattle.std.proofs.lemmas.Option.{none-some, some_pair_parts}
@@ -25,7 +25,7 @@ use Rattle.tilt_types.specs.Checked.{checked, core_of}
 use Rattle.tilt_types.specs.declared.fault.CheckFault.{CheckFault}
 use Rattle.tilt_checkpoint.specs.Checkpoint.{BodyParts, CheckpointParts, with_query}
 use Rattle.tilt_checkpoint.specs.Reading.{query_at}
-use Rattle.tilt_checkpoint.specs.Spelling.{spelling}
+use Rattle.tilt_checkpoint.specs.Spelling.{Spells}
 use Rattle.tilt_checkpoint.specs.Valid.{IsAccepted, IsCheckpoint}
 use Rattle.tilt_checkpoint.proofs.Decoding.{body_behind, body_of, read-spelled, read-valid, rest_of, valid-read}
 use Rattle.tilt_checkpoint.proofs.Queries.{lines-spelled, query-again}
@@ -96,18 +96,18 @@ asks count text =
       | inr faulty ↦ inr (λ other is. unique.tokens_or_fault (reads_back other is.accepted.parsed).are faulty.1 (sym is.printed))
     ]
 
--- bytes are the spelling of a valid checkpoint, or of none
-abbrev pub Spells : List ℕ → Type 0
-Spells bytes = ((c : CheckpointParts) × IsCheckpoint c × (bytes ≡ spelling c)) ⊎ ((c : CheckpointParts) → IsCheckpoint c → bytes ≢ spelling c)
+-- bytes spell a valid checkpoint, or none
+abbrev pub SpellOrNot : List ℕ → Type 0
+SpellOrNot bytes = ((c : CheckpointParts) × IsCheckpoint c × Spells bytes c) ⊎ ((c : CheckpointParts) → IsCheckpoint c → ¬ (Spells bytes c))
 
 module _ (bytes : List ℕ) (small : length bytes < 2 ^ 63) where
-  -- what is read of the query's lines where the bytes are the spelling
-  lines-of : (c : CheckpointParts) → IsCheckpoint c → bytes ≡ spelling c
+  -- what is read of the query's lines where the bytes spell a checkpoint
+  lines-of : (c : CheckpointParts) → IsCheckpoint c → Spells bytes c
       → query_at bytes ≡ Some ((length c.query, query_text c.query), rest_of c)
   lines-of c valid same = ap query_at same ∙ query-again c.query (rest_of c) valid.query.parsed
 
   module _ (count : ℕ) (text left : List ℕ) (e : query_at bytes ≡ Some ((count, text), left)) where
-    spells-body : (query : List StatementTree) → IsAsked count text query → (body : Option BodyParts) → body_behind query left ≡ body → Spells bytes
+    spells-body : (query : List StatementTree) → IsAsked count text query → (body : Option BodyParts) → body_behind query left ≡ body → SpellOrNot bytes
     spells-body query is (Some body) read =
         let lines = lines-spelled bytes count text left query e is.counted is.printed in
         inl (with_query query body, read-valid query left body is.accepted read, read-spelled query bytes left body lines read)
@@ -118,7 +118,7 @@ module _ (bytes : List ℕ) (small : length bytes < 2 ^ 63) where
         let own = one_printed query c.query is.accepted.parsed valid.query.parsed printed in
         none-some (body_of c) (sym none ∙ (λ i. body_behind (sym own i) (p.1 i)) ∙ valid-read c bytes valid same small))
 
-    spells-lines : Asks count text → Spells bytes
+    spells-lines : Asks count text → SpellOrNot bytes
     spells-lines (inl asked) = spells-body asked.0 asked.1 (body_behind asked.0 left) refl
     spells-lines (inr none) =
         inr (λ c valid same.
@@ -129,10 +129,10 @@ module _ (bytes : List ℕ) (small : length bytes < 2 ^ 63) where
           printed = ap (λ (q : ℕ × List ℕ). q.1) p.0;
         }))
 
-  spells-behind : (at : Option ((ℕ × List ℕ) × List ℕ)) → query_at bytes ≡ at → Spells bytes
+  spells-behind : (at : Option ((ℕ × List ℕ) × List ℕ)) → query_at bytes ≡ at → SpellOrNot bytes
   spells-behind None none =
       inr (λ c valid same. none-some ((length c.query, query_text c.query), rest_of c) (sym none ∙ lines-of c valid same))
   spells-behind (Some found) e = spells-lines found.0.0 found.0.1 found.1 e (asks found.0.0 found.0.1)
 
-  pub spelled_or_not : Spells bytes
+  pub spelled_or_not : SpellOrNot bytes
   spelled_or_not = spells-behind (query_at bytes) refl

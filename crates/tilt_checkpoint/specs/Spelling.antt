@@ -1,5 +1,5 @@
 -- The one spelling of a checkpoint (our own rule): lines that each end in LF, with numbers as shortest decimals.
-use Rattle.std.specs.Prelude.{ℕ, ℤ, List, ◌++◌, length, Option, Some, None, codes, flat_map}
+use Rattle.std.specs.Prelude.{◌≡◌, ℕ, ℤ, List, ◌++◌, length, Option, Some, None, codes, flat_map}
 use Rattle.std.specs.Fmt.{decimal, signed_decimal}
 use Rattle.tilt_stream.specs.Snap.{Snapshot}
 use Rattle.tilt_stream.specs.Text.{row_text}
@@ -49,3 +49,7 @@ body_lines cut start series = cut_line cut ++ (open_line start ++ (flat_map seri
 -- a checkpoint
 abbrev pub spelling : CheckpointParts → List ℕ
 spelling c = title ++ (query_lines c.query ++ body_lines c.cut c.open_start c.series)
+
+-- bytes spell a checkpoint
+abbrev pub Spells : List ℕ → CheckpointParts → Type 0
+Spells bytes c = bytes ≡ spelling c

@@ -1,10 +1,10 @@
 // A checkpoint of its spelling.
-ghost use Rattle.std.specs.Prelude.{◌≡◌, ◌≢◌, ◌⊎◌, Ok, length, IfOk, IfErr, MatchResult};
+ghost use Rattle.std.specs.Prelude.{◌≡◌, ◌⊎◌, Ok, length, IfOk, IfErr, MatchResult};
 ghost use Rattle.tilt_bounds.specs.Margins.{margins_of};
 ghost use Rattle.tilt_checkpoint.specs.Checkpoint.{CheckpointParts, with_query};
 ghost use Rattle.tilt_checkpoint.specs.Decided.{IsFrame, frame_of};
 ghost use Rattle.tilt_checkpoint.specs.Reading.{Gives, body_at, end_at, is_amid, is_cut, is_open, rest_at};
-ghost use Rattle.tilt_checkpoint.specs.Spelling.{spelling};
+ghost use Rattle.tilt_checkpoint.specs.Spelling.{Spells};
 ghost use Rattle.tilt_checkpoint.specs.Valid.{IsCheckpoint, IsCut};
 ghost use Rattle.tilt_types.specs.Checked.{core_of};
 
@@ -30,30 +30,30 @@ pub struct Decoded {
     pub margins: Margins,
 }
 
-/// The checkpoint whose spelling the bytes are, with the core and the margins of its query. `BadCheckpoint` comes exactly where the
-/// bytes are the spelling of no valid checkpoint.
+/// The checkpoint that the bytes spell, with the core and the margins of its query. `BadCheckpoint` comes exactly where the bytes
+/// spell no valid checkpoint.
 pub fn decode(alloc: Global, bytes: &[u8]) -> Result<Decoded, CheckpointFault>
-    ensures checkpoint { IfOk result (λ decoded. IsCheckpoint decoded.checkpoint × (bytes.now ≡ spelling decoded.checkpoint)) }
+    ensures checkpoint { IfOk result (λ decoded. IsCheckpoint decoded.checkpoint × Spells bytes.now decoded.checkpoint) }
     ensures core { IfOk result (λ decoded. decoded.core ≡ core_of decoded.checkpoint.query) }
     ensures margins { IfOk result (λ decoded. margins_of decoded.core ≡ Ok decoded.margins) }
     ensures bad { IfErr result (λ fault. fault ≡ CheckpointFault.BadCheckpoint
-        → (checkpoint : CheckpointParts) → IsCheckpoint checkpoint → bytes.now ≢ spelling checkpoint) }
+        → (checkpoint : CheckpointParts) → IsCheckpoint checkpoint → ¬ (Spells bytes.now checkpoint)) }
 
     // Nothing else is: no other checkpoint, and no other fault.
-    ensures only { (checkpoint : CheckpointParts) → IsCheckpoint checkpoint → bytes.now ≡ spelling checkpoint →
+    ensures only { (checkpoint : CheckpointParts) → IsCheckpoint checkpoint → Spells bytes.now checkpoint →
         MatchResult result (λ found. found.checkpoint ≡ checkpoint) (λ fault. fault ≡ CheckpointFault.OutOfMemory) }
-    ensures none { ((checkpoint : CheckpointParts) → IsCheckpoint checkpoint → bytes.now ≢ spelling checkpoint) →
+    ensures none { ((checkpoint : CheckpointParts) → IsCheckpoint checkpoint → ¬ (Spells bytes.now checkpoint)) →
         MatchResult result (λ _. ⊥) (λ fault. (fault ≡ CheckpointFault.BadCheckpoint) ⊎ (fault ≡ CheckpointFault.OutOfMemory)) }
 {
     read(alloc, bytes)
 }
 
-// The checkpoint whose spelling the bytes are.
+// The checkpoint that the bytes spell.
 fn read(alloc: Global, bytes: &[u8]) -> Result<Decoded, CheckpointFault>
-    ensures checkpoint { IfOk result (λ decoded. IsCheckpoint decoded.checkpoint × (bytes.now ≡ spelling decoded.checkpoint)) }
+    ensures checkpoint { IfOk result (λ decoded. IsCheckpoint decoded.checkpoint × Spells bytes.now decoded.checkpoint) }
     ensures core { IfOk result (λ decoded. decoded.core ≡ core_of decoded.checkpoint.query) }
     ensures margins { IfOk result (λ decoded. margins_of decoded.core ≡ Ok decoded.margins) }
-    ensures only { (checkpoint : CheckpointParts) → IsCheckpoint checkpoint → bytes.now ≡ spelling checkpoint →
+    ensures only { (checkpoint : CheckpointParts) → IsCheckpoint checkpoint → Spells bytes.now checkpoint →
         MatchResult result (λ found. found.checkpoint ≡ checkpoint) (λ fault. fault ≡ CheckpointFault.OutOfMemory) }
 {
     let mut reader = Reader::new(bytes);

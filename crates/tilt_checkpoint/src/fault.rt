@@ -12,7 +12,7 @@ use tilt_types::CheckFault;
 /// Why bytes gave no checkpoint.
 #[derive(Debug, Drop, PartialEq, Eq, Error)]
 pub enum CheckpointFault {
-    /// The bytes are the spelling of no valid checkpoint.
+    /// The bytes spell no valid checkpoint.
     #[error("the bytes are no checkpoint")]
     BadCheckpoint,
     /// There was no memory for the checkpoint.

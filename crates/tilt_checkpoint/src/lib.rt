@@ -2,8 +2,8 @@
 //!
 //! What comes in is checkpoints and bytes; what goes out is bytes, and checkpoints again. A `Checkpoint` keeps that it is
 //! valid, as `specs/Valid` says. The clause of `encode` says that it gives the text of `specs/Spelling`. Those of `decode` say
-//! that it gives the valid checkpoint whose spelling the bytes are (`checkpoint`, `only`), and refuses them exactly where they
-//! are the spelling of none (`bad`, `none`); besides, it may only want memory. With the checkpoint it hands on the core and the
+//! that it gives the valid checkpoint that the bytes spell (`checkpoint`, `only`), and refuses them exactly where they spell none
+//! (`bad`, `none`); besides, it may only want memory. With the checkpoint it hands on the core and the
 //! margins of its query, so that nobody checks them again. What is decided at a cut, and which ticks have to be kept then, stands
 //! in `specs/Decided`.
 #![tactic(auto)]

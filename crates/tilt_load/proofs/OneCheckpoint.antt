@@ -1,12 +1,10 @@
 -- A checkpoint file comes to one checkpoint, or to one reason why it is none.
-use Rattle.std.proofs.Common.{◌≡◌, ◌≢◌, ◌<◌, ◌≤◌, ◌^◌, ◌⊎◌, List, ℕ, length, inl, inr, refl, arith}
+use Rattle.std.proofs.Common.{◌≡◌, ◌<◌, ◌≤◌, ◌^◌, ◌⊎◌, List, ℕ, length, inl, inr, refl, arith}
 use Rattle.std.proofs.lemmas.Bool.{cases_lt}
 use Rattle.tilt_base.specs.declared.limits.TheConstants.{FILE}
 use Rattle.tilt_checkpoint.proofs.Spelled.{spelled_once}
-use Rattle.tilt_checkpoint.proofs.Whole.{spelled_or_not}
+use Rattle.tilt_checkpoint.proofs.Whole.{SpellOrNot, spelled_or_not}
 use Rattle.tilt_checkpoint.specs.Checkpoint.{CheckpointParts}
-use Rattle.tilt_checkpoint.specs.Spelling.{spelling}
-use Rattle.tilt_checkpoint.specs.Valid.{IsCheckpoint}
 use Rattle.tilt_load.specs.CheckpointFile.{TakesCheckpoint, RefusesCheckpoint, long, of_none}
 use Rattle.tilt_load.specs.Load.{IsTooLong}
 use Rattle.tilt_report.specs.Report.{Reason, file_too_long, bad_checkpoint}
@@ -38,8 +36,7 @@ module _ (name bytes : List ℕ) where
   abbrev IsEither : Type 0
   IsEither = ((c : CheckpointParts) × TakesCheckpoint bytes c) ⊎ ((r : Reason) × RefusesCheckpoint name bytes r)
 
-  by_spelling : length bytes ≤ FILE → ((c : CheckpointParts) × IsCheckpoint c × (bytes ≡ spelling c)) ⊎ ((c : CheckpointParts) → IsCheckpoint c → bytes ≢ spelling c)
-      → IsEither
+  by_spelling : length bytes ≤ FILE → SpellOrNot bytes → IsEither
   by_spelling short (inl (c, valid, spelled)) = inl (c, record { short = short; valid = valid; spelled = spelled })
   by_spelling short (inr none) = inr (bad_checkpoint, of_none short none)
 

@@ -1,19 +1,19 @@
 -- What a checkpoint file comes to: a checkpoint, or the first reason why it is none.
-use Rattle.std.specs.Prelude.{◌≡◌, ◌≢◌, ◌<◌, ◌≤◌, List, ℕ, length}
+use Rattle.std.specs.Prelude.{◌<◌, ◌≤◌, List, ℕ, length}
 use Rattle.tilt_base.specs.declared.limits.TheConstants.{FILE}
 use Rattle.tilt_checkpoint.specs.Checkpoint.{CheckpointParts}
-use Rattle.tilt_checkpoint.specs.Spelling.{spelling}
+use Rattle.tilt_checkpoint.specs.Spelling.{Spells}
 use Rattle.tilt_checkpoint.specs.Valid.{IsCheckpoint}
 use Rattle.tilt_report.specs.Report.{Reason, file_too_long, bad_checkpoint}
 
--- the text is no longer than a file may be, and it is the spelling of this checkpoint, which is valid
+-- the text is no longer than a file may be, and it spells this checkpoint, which is valid
 pub record TakesCheckpoint (bytes : List ℕ) (c : CheckpointParts) : Type 0 where
   pub short : length bytes ≤ FILE
   pub valid : IsCheckpoint c
-  pub spelled : bytes ≡ spelling c
+  pub spelled : Spells bytes c
 
--- why the checkpoint file of a name is refused: it is too long, or else it is the spelling of no valid checkpoint
+-- why the checkpoint file of a name is refused: it is too long, or else it spells no valid checkpoint
 pub data RefusesCheckpoint (name bytes : List ℕ) : Reason → Type 0 where
   long : FILE < length bytes → RefusesCheckpoint name bytes (file_too_long name)
-  of_none : length bytes ≤ FILE → ((c : CheckpointParts) → IsCheckpoint c → bytes ≢ spelling c)
+  of_none : length bytes ≤ FILE → ((c : CheckpointParts) → IsCheckpoint c → ¬ (Spells bytes c))
       → RefusesCheckpoint name bytes bad_checkpoint

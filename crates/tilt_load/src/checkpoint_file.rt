@@ -1,4 +1,4 @@
-// A checkpoint file, from the shelf to the checkpoint whose spelling it is.
+// A checkpoint file, from the shelf to the checkpoint that it spells.
 ghost use Rattle.std.specs.Prelude.{◌≡◌, IfOk, IfErr, length};
 ghost use Rattle.tilt_checkpoint.specs.Valid.{IsCheckpoint};
 ghost use Rattle.tilt_load.specs.CheckpointFile.{TakesCheckpoint, RefusesCheckpoint};

@@ -1,7 +1,7 @@
 -- What a session hands on to the next one, and how that one goes on beyond it.
 use Rattle.std.specs.Prelude.{◌≡◌, ◌++◌, ℕ, ℤ, List, Option, Some, None}
 use Rattle.std.specs.List.{AllByRecursion}
-use Rattle.tilt_checkpoint.specs.Spelling.{spelling}
+use Rattle.tilt_checkpoint.specs.Spelling.{Spells, spelling}
 use Rattle.tilt_checkpoint.specs.Valid.{IsAccepted, IsCell}
 use Rattle.tilt_chunk.specs.Cuts.{IsInRange, IsOnward}
 use Rattle.tilt_chunk.specs.Emitted.{emitted}
@@ -29,10 +29,10 @@ pub record AreHanded (query : List StatementTree) (rows : List (List Snapshot)) 
   pub cells : AllByRecursion (AllByRecursion (λ row. IsCell row.value)) rows
   pub first : AreFirstRows (core_of query) cut rows
 
--- the bytes are the text of the checkpoint that one session leaves of a query and all rows up to a cut
+-- the bytes spell the checkpoint that one session leaves of a query and all rows up to a cut
 pub record HandsOn (bytes : List ℕ) (query : List StatementTree) (rows : List (List Snapshot)) (cut : ℤ) : Type 0 where
   pub handed : AreHanded query rows (Upto cut)
-  pub text : bytes ≡ spelling (checkpoint_at query rows cut)
+  pub text : Spells bytes (checkpoint_at query rows cut)
 
 -- what a first session comes to: the query and the rows are those that files give, and what is saved hands them on
 pub record IsBegun (files : List ℕ → List ℕ) (file : List ℕ) (binds : List Binding) (cut : SavedCutValue) (outcome : Outcome) : Type 0 where

@@ -17,7 +17,7 @@ use Rattle.tilt_stream.specs.Snap.{Snapshot}
 use Rattle.tilt_stream.specs.Text.{lines_of}
 use Rattle.tilt_types.specs.Checked.{core_of}
 
--- the text is the spelling of this checkpoint, and the session doesn't end before its cut
+-- the text spells this checkpoint, and the session doesn't end before its cut
 pub record GoesOn (cut : Cut) (bytes : List ℕ) (c : CheckpointParts) : Type 0 where
   pub taken : TakesCheckpoint bytes c
   pub onward : IsOnward c.cut cut

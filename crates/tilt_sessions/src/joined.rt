@@ -1,7 +1,7 @@
 // What sessions have printed, joined, and what the last one hands on.
 ghost use Rattle.std.specs.Prelude.{◌≡◌, ◌++◌, ◌≤ℤ◌, List, IfOk};
 ghost use Rattle.tilt_checkpoint.specs.Checkpoint.{CheckpointParts};
-ghost use Rattle.tilt_checkpoint.specs.Spelling.{spelling};
+ghost use Rattle.tilt_checkpoint.specs.Spelling.{Spells};
 ghost use Rattle.tilt_checkpoint.specs.Valid.{IsCheckpoint, IsCut};
 ghost use Rattle.tilt_chunk.specs.Emitted.{emitted};
 ghost use Rattle.tilt_chunk.specs.declared.cut.Cut.TheVariants.{Upto, End};
@@ -104,8 +104,8 @@ impl Joined {
 
 // The checkpoint that a session handed on as bytes.
 fn handed_on(alloc: Global, bytes: &[u8]) -> Result<Checkpoint, OutOfMemory>
-    requires { (checkpoint : CheckpointParts) × IsCheckpoint checkpoint × (bytes.now ≡ spelling checkpoint) }
-    ensures { (checkpoint : CheckpointParts) → IsCheckpoint checkpoint → bytes.now ≡ spelling checkpoint
+    requires { (checkpoint : CheckpointParts) × IsCheckpoint checkpoint × Spells bytes.now checkpoint }
+    ensures { (checkpoint : CheckpointParts) → IsCheckpoint checkpoint → Spells bytes.now checkpoint
         → IfOk result (λ found. found ≡ checkpoint) }
 {
     match decode(alloc, bytes) {

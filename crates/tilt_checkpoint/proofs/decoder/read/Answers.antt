@@ -2,7 +2,7 @@ use Rattle.std.proofs.Common.{◌≡◌, ◌∙◌, ◌<◌, ◌^◌, length, So
 use Rattle.std.proofs.lemmas.Option.{same_Some}
 use Rattle.std.proofs.lemmas.Result.{err_from_is_err_and}
 use Rattle.tilt_checkpoint.specs.Checkpoint.{CheckpointParts, with_query}
-use Rattle.tilt_checkpoint.specs.Spelling.{spelling}
+use Rattle.tilt_checkpoint.specs.Spelling.{Spells}
 use Rattle.tilt_checkpoint.specs.Valid.{IsCheckpoint}
 use Rattle.tilt_checkpoint.proofs.Decoding.{body_behind, body_of, only_memory, read-spelled, read-valid, rest_of, valid-read}
 use Rattle.tilt_checkpoint.proofs.decoder.read.Goals as goal
@@ -36,7 +36,7 @@ returns-clause-checkpoint c =
     let body = c.in_ok-body.body in
     let read = rw was.core at c.in_ok-body.ensures in
     let spelled = read-spelled query c.args.bytes.now left body (sym c.new-reader.ensures ∙ was.found.1) read in
-    subst (λ (k : CheckpointParts). IsCheckpoint k × (c.args.bytes.now ≡ spelling k)) (sym c.whole.ensures) (read-valid query left body was.found.0 read, spelled)
+    subst (λ (k : CheckpointParts). IsCheckpoint k × Spells c.args.bytes.now k) (sym c.whole.ensures) (read-valid query left body was.found.0 read, spelled)
 
 pub returns-clause-only : goal.returns-clause-only
 returns-clause-only c =
