@@ -16,7 +16,7 @@ use Rattle.tilt_checkpoint.specs.Checkpoint.{BodyParts, KeptParts}
 use Rattle.tilt_checkpoint.specs.Decided.{IsFrame, decided, first_kept}
 use Rattle.tilt_checkpoint.specs.Reading.{behind, behind_moment, body_at, end_at, is_amid, is_cut, is_open, maybe_at, moment_at, number_at, rest_at, times, with_kept}
 use Rattle.tilt_checkpoint.specs.Spelling.{body_lines, series_lines, time_text}
-use Rattle.tilt_checkpoint.specs.Valid.{IsAmid, IsCell, IsCut, IsOpen, IsSeries}
+use Rattle.tilt_checkpoint.specs.Valid.{HaveCut, IsAmid, IsCell, IsCut, IsOpen, IsSeries}
 use Rattle.tilt_checkpoint.specs.declared.frame.Frame.{Frame}
 use Rattle.tilt_checkpoint.proofs.Inputs.{series-again, series-were}
 use Rattle.tilt_checkpoint.proofs.Pieces.{text-behind}
@@ -93,10 +93,10 @@ moment-again cut start fits starts rest =
 
 -- what is spelled behind the query is read
 pub body-again : (frame : Frame) (cut : ℤ) (start : Option ℤ) (series : List KeptParts) → IsFrame frame → IsCut cut
-    → IsOpen frame (decided frame cut) start → AllByRecursion (IsSeries (first_kept frame cut) cut) series
+    → IsOpen frame (decided frame cut) start → AllByRecursion (IsSeries (first_kept frame cut)) series → HaveCut cut series
     → AllByRecursion (λ kept. length kept.rows < 2 ^ 63) series
     → body_at frame (length series) (body_lines cut start series) ≡ Some (record { cut = cut; open_start = start; series = series })
-body-again frame cut start series is within opened all small =
+body-again frame cut start series is within opened all same small =
     let first = first_kept frame cut in
     let rest = flat_map series_lines series ++ codes "end\n" in
     let body : BodyParts = record { cut = cut; open_start = start; series = series } in
@@ -105,7 +105,7 @@ body-again frame cut start series is within opened all small =
     ap (body_at frame (length series)) (body_shape cut start series)
     ∙ ap (λ o. o >>= behind_moment frame (length series)) moment
     ∙ ap (λ (t : Bool). if t then rest_at (length series) first cut start rest else None) tests
-    ∙ ap (λ o. o >>= end_at cut start) (series-again first cut series [] (codes "end\n") all small)
+    ∙ ap (λ o. o >>= end_at cut start) (series-again first cut series [] (codes "end\n") all same small)
     ∙ ap (λ (t : Bool). if t then Some body else None) (same_bytes (codes "end\n"))
 
 -- what is told of what was read behind a query
@@ -114,7 +114,8 @@ pub record IsBody (frame : Frame) (inputs : ℕ) (bytes : List ℕ) (body : Body
   pub cut : IsCut body.cut
   pub opened : IsOpen frame (decided frame body.cut) body.open_start
   pub counted : length body.series ≡ inputs
-  pub series : AllByRecursion (IsSeries (first_kept frame body.cut) body.cut) body.series
+  pub series : AllByRecursion (IsSeries (first_kept frame body.cut)) body.series
+  pub same : HaveCut body.cut body.series
 
 abbrev moment3 : ℤ × List ℕ → Option ℤ × List ℕ → Option ((ℤ × Option ℤ) × List ℕ)
 moment3 cut start = Some ((cut.0, start.0), start.1)
@@ -175,6 +176,7 @@ body-was frame inputs bytes body e =
       cut = cut_true cut tests.0;
       opened = open_true frame (decided frame cut) start tests.1;
       counted = ap (λ (l : List KeptParts). length l) joined ∙ sym were.counted;
-      series = subst (λ (l : List KeptParts). AllByRecursion (IsSeries (first_kept frame cut) cut) l) (sym joined) were.are;
+      series = subst (λ (l : List KeptParts). AllByRecursion (IsSeries (first_kept frame cut)) l) (sym joined) were.are;
+      same = subst (HaveCut cut) (sym joined) were.same;
     } in
     subst (IsBody frame inputs bytes) same is

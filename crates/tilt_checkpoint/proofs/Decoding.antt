@@ -36,7 +36,7 @@ pub read-valid : (query : List StatementTree) (left : List ℕ) (body : BodyPart
 read-valid query left body is e =
     let core = core_of query in
     let b = body-was (frame_of core) (length core.inputs) left body e in
-    record { query = is; cut = b.cut; opened = b.opened; counted = b.counted; series = b.series }
+    record { query = is; cut = b.cut; opened = b.opened; counted = b.counted; series = b.series; same = b.same }
 
 -- which the bytes spell
 pub read-spelled : (query : List StatementTree) (bytes left : List ℕ) (body : BodyParts) → bytes ≡ title ++ (query_lines query ++ left)
@@ -66,7 +66,7 @@ valid-read c bytes h spelled small =
     let frame = frame_of (core_of c.query) in
     let few : length (flat_map series_lines c.series) < 2 ^ 63 =
     omega (arith, series_few c, ap (λ (t : List ℕ). length t) spelled) in
-    let again = body-again frame c.cut c.open_start c.series (accepted_frame c.query h.query) h.cut h.opened h.series (all_fewer (2 ^ 63) c.series few) in
+    let again = body-again frame c.cut c.open_start c.series (accepted_frame c.query h.query) h.cut h.opened h.series h.same (all_fewer (2 ^ 63) c.series few) in
     ap (λ (n : ℕ). body_at frame n (rest_of c)) (sym h.counted) ∙ again
 
 -- a fault where something is read is want of memory

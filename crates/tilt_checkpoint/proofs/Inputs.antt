@@ -19,7 +19,7 @@ use Rattle.tilt_text.proofs.Step.{bind_some}
 use Rattle.tilt_checkpoint.specs.Checkpoint.{KeptParts}
 use Rattle.tilt_checkpoint.specs.Reading.{behind, count_at, is_last_end, kept_at, kept_with, maybe_at, series_head, times, with_kept, with_row}
 use Rattle.tilt_checkpoint.specs.Spelling.{row_lines, series_lines, time_text}
-use Rattle.tilt_checkpoint.specs.Valid.{IsCell, IsKept, IsLastEnd, IsSeries}
+use Rattle.tilt_checkpoint.specs.Valid.{HaveCut, IsCell, IsKept, IsLastEnd, IsSeries}
 use Rattle.tilt_checkpoint.proofs.Pieces.{text-behind}
 use Rattle.tilt_checkpoint.proofs.Rows.{rows-again, rows-were, time_fits}
 use Rattle.tilt_checkpoint.proofs.Words.{count-again, count-was, maybe-again, maybe-was, none-apart}
@@ -78,34 +78,41 @@ head-again last fits count small rest =
       count-again 10 (omega arith) count small rest,
     ) refl
 
-module _ (first cut : ℤ) where
-  kept-again : (kept : KeptParts) → IsSeries first cut kept → length kept.rows < 2 ^ 63 → (rest : List ℕ)
-      → kept_at first cut (series_lines kept ++ rest) ≡ Some (kept, rest)
-  kept-again kept h small rest =
-      let fits = last_fits_at first cut kept.rows (last_end kept.rows) kept.last_end refl h.in_order h.last in
-      let rows = rows-again first cut kept.rows [] (neg_ℤ T) rest (omega (arith, ints)) (λ s low. refl) h.in_order h.rows in
-      ap (kept_at first cut) (series_shape kept rest)
-      ∙ ap (λ o. o >>= λ head. times (with_row first cut) head.0.1 ([], head.1) >>= kept_with first cut head.0.0)
-      (head-again kept.last_end fits (length kept.rows) small (row_lines kept.rows ++ rest))
-      ∙ ap (λ o. o >>= kept_with first cut kept.last_end) rows
-      ∙ ap (λ (t : Bool). if t then Some (kept, rest) else None) (true_last first cut (last_end kept.rows) kept.last_end h.last)
+-- what is spelled of a series is read, where the cut is that of the series
+own-again : (first : ℤ) (kept : KeptParts) → IsSeries first kept → length kept.rows < 2 ^ 63 → (rest : List ℕ)
+    → kept_at first kept.cut (series_lines kept ++ rest) ≡ Some (kept, rest)
+own-again first kept h small rest =
+    let cut = kept.cut in
+    let fits = last_fits_at first cut kept.rows (last_end kept.rows) kept.last_end refl h.in_order h.last in
+    let rows = rows-again first cut kept.rows [] (neg_ℤ T) rest (omega (arith, ints)) (λ s low. refl) h.in_order h.rows in
+    ap (kept_at first cut) (series_shape kept rest)
+    ∙ ap (λ o. o >>= λ head. times (with_row first cut) head.0.1 ([], head.1) >>= kept_with first cut head.0.0)
+    (head-again kept.last_end fits (length kept.rows) small (row_lines kept.rows ++ rest))
+    ∙ ap (λ o. o >>= kept_with first cut kept.last_end) rows
+    ∙ ap (λ (t : Bool). if t then Some (kept, rest) else None) (true_last first cut (last_end kept.rows) kept.last_end h.last)
 
-  pub series-again : (series before : List KeptParts) (rest : List ℕ) → AllByRecursion (IsSeries first cut) series
+module _ (first cut : ℤ) where
+  kept-again : (kept : KeptParts) → IsSeries first kept → kept.cut ≡ cut → length kept.rows < 2 ^ 63 → (rest : List ℕ)
+      → kept_at first cut (series_lines kept ++ rest) ≡ Some (kept, rest)
+  kept-again kept h same small rest = ap (λ (t : ℤ). kept_at first t (series_lines kept ++ rest)) (sym same) ∙ own-again first kept h small rest
+
+  pub series-again : (series before : List KeptParts) (rest : List ℕ) → AllByRecursion (IsSeries first) series → HaveCut cut series
       → AllByRecursion (λ kept. length kept.rows < 2 ^ 63) series
       → times (with_kept first cut) (length series) (before, flat_map series_lines series ++ rest) ≡ Some (before ++ series, rest)
-  series-again [] before rest all small = ap (λ (b : List KeptParts). Some (b, rest)) (sym (append-nil before))
-  series-again (kept ∷ series) before rest all small =
+  series-again [] before rest all same small = ap (λ (b : List KeptParts). Some (b, rest)) (sym (append-nil before))
+  series-again (kept ∷ series) before rest all same small =
       let behind = flat_map series_lines series ++ rest in
-      let step = kept-again kept all.0 small.0 behind in
+      let step = kept-again kept all.0 same.0 small.0 behind in
       ap (λ (t : List ℕ). times (with_kept first cut) (suc (length series)) (before, t)) (append_assoc (series_lines kept) (flat_map series_lines series) rest)
       ∙ ap (λ o. (o >>= λ k. Some (before ++ k.0 ∷ [], k.1)) >>= times (with_kept first cut) (length series)) step
-      ∙ series-again series (before ++ kept ∷ []) rest all.1 small.1
+      ∙ series-again series (before ++ kept ∷ []) rest all.1 same.1 small.1
       ∙ ap (λ (b : List KeptParts). Some (b, rest)) (append_assoc before (kept ∷ []) series)
 
   -- what is told of what was read of one input
   record WasKept (bytes : List ℕ) (kept : KeptParts) (rest : List ℕ) : Type 0 where
     spelled : bytes ≡ series_lines kept ++ rest
-    is : IsSeries first cut kept
+    is : IsSeries first kept
+    same : kept.cut ≡ cut
 
   abbrev head3 : Option ℤ × List ℕ → ℕ × List ℕ → Option ((Option ℤ × ℕ) × List ℕ)
   head3 last count = Some ((last.0, count.0), count.1)
@@ -145,7 +152,7 @@ module _ (first cut : ℤ) where
       let last = h.0.0.0 in
       let count = h.0.0.1 in
       let r = bind_some (times (with_row first cut) count ([], h.0.1)) (kept_with first cut last) (kept, rest) h.2 in
-      let made : KeptParts = record { last_end = last; rows = r.0.0 } in
+      let made : KeptParts = record { cut = cut; last_end = last; rows = r.0.0 } in
       let g = guard_some (is_last_end first cut (last_end r.0.0) last) (Some (made, r.0.1)) (kept, rest) r.2 in
       let p = some_pair_parts made kept r.0.1 rest g.1 in
       let rows = rows-were first cut count (neg_ℤ T) [] h.0.1 r.0.0 r.0.1 (λ s low h. low) r.1 in
@@ -154,14 +161,15 @@ module _ (first cut : ℤ) where
       let lines : h.0.1 ≡ row_lines r.0.0 ++ r.0.1 = rows.spelled ∙ ap (λ (l : List Snapshot). row_lines l ++ r.0.1) (sym rows.joined) in
       let whole : bytes ≡ series_lines made ++ r.0.1 =
       head ∙ (λ i. codes "last " ++ (time_text last ++ 32 ∷ (codes "rows " ++ (decimal (counted i) ++ 10 ∷ lines i)))) ∙ sym (series_shape made r.0.1) in
-      let is : IsSeries first cut made = record {
+      let is : IsSeries first made = record {
         in_order = subst (λ (l : List Snapshot). InOrder (neg_ℤ T) T l) (sym rows.joined) rows.order;
         rows = subst (λ (l : List Snapshot). AllByRecursion (IsKept first cut) l) (sym rows.joined) rows.kept;
         last = last_true first cut (last_end r.0.0) last g.0;
       } in
       record {
         spelled = whole ∙ (λ i. series_lines (p.0 i) ++ p.1 i);
-        is = subst (IsSeries first cut) p.0 is;
+        is = subst (IsSeries first) p.0 is;
+        same = ap (λ (k : KeptParts). k.cut) (sym p.0);
       }
 
   -- what is told of what was read of inputs, behind others
@@ -170,7 +178,8 @@ module _ (first cut : ℤ) where
     pub joined : all ≡ before ++ series
     pub counted : count ≡ length series
     pub spelled : bytes ≡ flat_map series_lines series ++ rest
-    pub are : AllByRecursion (IsSeries first cut) series
+    pub are : AllByRecursion (IsSeries first) series
+    pub same : HaveCut cut series
 
   pub series-were : (count : ℕ) (before : List KeptParts) (bytes : List ℕ) (all : List KeptParts) (rest : List ℕ)
       → times (with_kept first cut) count (before, bytes) ≡ Some (all, rest) → WereKept count before bytes all rest
@@ -182,6 +191,7 @@ module _ (first cut : ℤ) where
         counted = refl;
         spelled = p.1;
         are = tt;
+        same = tt;
       }
   series-were (suc count) before bytes all rest e =
       let b = bind_some (with_kept first cut (before, bytes)) (times (with_kept first cut) count) (all, rest) e in
@@ -197,6 +207,7 @@ module _ (first cut : ℤ) where
         spelled = was.spelled ∙ ap (λ (t : List ℕ). series_lines kept ++ t) (p.1 ∙ next.spelled)
             ∙ sym (append_assoc (series_lines kept) (flat_map series_lines next.series) rest);
         are = (was.is, next.are);
+        same = (was.same, next.same);
       }
 
 -- there are no more rows than bytes

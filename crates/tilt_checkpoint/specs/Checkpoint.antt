@@ -3,8 +3,9 @@ use Rattle.std.specs.Prelude.{ℤ, List, Option}
 use Rattle.tilt_stream.specs.Snap.{Snapshot}
 use Rattle.tilt_syntax.specs.Tree.{StatementTree}
 
--- of an input, the end of its last row so far, and the rows that are kept
+-- of an input, the cut up to which its rows were seen, the end of its last row so far, and the rows that are kept
 pub record KeptParts : Type 0 where
+  pub cut : ℤ
   pub last_end : Option ℤ
   pub rows : List Snapshot
 

@@ -126,7 +126,7 @@ is_last_end first cut None (Some last) = int_lt (neg_ℤ T) last && int_le last 
 -- what is kept of an input, of which the first line and the rows are given
 abbrev pub kept_with : ℤ → ℤ → Option ℤ → List Snapshot × List ℕ → Read KeptParts
 kept_with first cut last rows =
-    if is_last_end first cut (last_end rows.0) last then Some (record { last_end = last; rows = rows.0 }, rows.1) else None
+    if is_last_end first cut (last_end rows.0) last then Some (record { cut = cut; last_end = last; rows = rows.0 }, rows.1) else None
 
 -- what is kept of an input
 abbrev pub kept_at : ℤ → ℤ → List ℕ → Read KeptParts

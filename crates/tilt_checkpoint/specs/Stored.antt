@@ -9,9 +9,9 @@ use Rattle.tilt_checkpoint.specs.Checkpoint.{KeptParts, BodyParts, CheckpointPar
 
 abbrev pub coded_kept : Coded KeptParts
 coded_kept =
-    code_by (Option ℤ × List Snapshot) (coded× (coded_option coded_ℤ) coded_snapshots)
-    (λ k. (k.last_end, k.rows))
-    (λ p. record { last_end = p.0; rows = p.1 })
+    code_by (ℤ × (Option ℤ × List Snapshot)) (coded× coded_ℤ (coded× (coded_option coded_ℤ) coded_snapshots))
+    (λ k. (k.cut, (k.last_end, k.rows)))
+    (λ p. record { cut = p.0; last_end = p.1.0; rows = p.1.1 })
     (λ _. refl)
 
 abbrev pub coded_body : Coded BodyParts

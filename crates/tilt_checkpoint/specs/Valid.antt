@@ -50,10 +50,14 @@ IsLastEnd first cut None None = ⊤
 IsLastEnd first cut None (Some last) = (neg_ℤ T <ℤ last) × (last ≤ℤ T) × (last <ℤ first) × (neg_ℤ T <ℤ cut)
 
 -- what is kept of an input
-pub record IsSeries (first cut : ℤ) (kept : KeptParts) : Type 0 where
+pub record IsSeries (first : ℤ) (kept : KeptParts) : Type 0 where
   pub in_order : AreRows kept.rows
-  pub rows : AllByRecursion (IsKept first cut) kept.rows
-  pub last : IsLastEnd first cut (last_end kept.rows) kept.last_end
+  pub rows : AllByRecursion (IsKept first kept.cut) kept.rows
+  pub last : IsLastEnd first kept.cut (last_end kept.rows) kept.last_end
+
+-- each input has that cut
+abbrev pub HaveCut : ℤ → List KeptParts → Type 0
+HaveCut cut series = AllByRecursion (λ kept. kept.cut ≡ cut) series
 
 -- a checkpoint is valid
 pub record IsCheckpoint (c : CheckpointParts) : Type 0 where
@@ -61,4 +65,5 @@ pub record IsCheckpoint (c : CheckpointParts) : Type 0 where
   pub cut : IsCut c.cut
   pub opened : let frame = frame_of (core_of c.query) in IsOpen frame (decided frame c.cut) c.open_start
   pub counted : length c.series ≡ length (core_of c.query).inputs
-  pub series : AllByRecursion (IsSeries (first_kept (frame_of (core_of c.query)) c.cut) c.cut) c.series
+  pub series : AllByRecursion (IsSeries (first_kept (frame_of (core_of c.query)) c.cut)) c.series
+  pub same : HaveCut c.cut c.series

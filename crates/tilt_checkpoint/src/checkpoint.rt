@@ -7,7 +7,7 @@ use tilt_syntax::Query;
 
 /// What a session of a query hands on to the next one. It is valid: the query is one that is accepted; the cut is within the
 /// range of times; a start of an open snapshot is there exactly where some of the output is decided at the cut and not all,
-/// and it lies in what is decided; there is one series for each input; and of each series the rows are in order, reach to the
+/// and it lies in what is decided; there is one series for each input, which has that cut; and of each series the rows are in order, reach to the
 /// first tick that has to be kept, and start before the cut, and the last end is that of the last row, or where no row is
 /// kept that of a row that needn't be. A clause sees it as plain data.
 #[derive(Drop)]

@@ -4,6 +4,8 @@ use tilt_stream::Rows;
 /// What is kept of an input. A clause sees it as plain data.
 #[derive(Drop)]
 pub struct Kept {
+    /// The cut up to which its rows were seen, in ticks: each of them starts below it.
+    pub cut: i64,
     /// The end of the last row that any session was handed, in ticks, or `None` where there was no row.
     pub last_end: Option<i64>,
     /// The rows that the next session may look at.
@@ -15,5 +17,5 @@ impl Model for Kept {
 
     ghost Value = { KeptParts };
 
-    ghost view = { λ k. record { last_end = k.last_end; rows = k.rows } };
+    ghost view = { λ k. record { cut = k.cut; last_end = k.last_end; rows = k.rows } };
 }

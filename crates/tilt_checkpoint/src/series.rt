@@ -62,7 +62,11 @@ fn read_kept(
     let (last_end, count) = reader.series_head().ok_or(CheckpointFault::BadCheckpoint)?;
     let rows = read_rows(alloc, reader, count, first, cut)?;
     if is_last_end(first, cut, rows.last_end(), last_end) {
-        Ok(Kept { last_end, rows })
+        Ok(Kept {
+            cut,
+            last_end,
+            rows,
+        })
     } else {
         Err(CheckpointFault::BadCheckpoint)
     }

@@ -28,7 +28,7 @@ use Rattle.tilt_stream.proofs.Pieces.{last_start-append, length-joined_from, wit
 use Rattle.tilt_chunk.specs.Cuts.{IsOnward, decided_by}
 use Rattle.tilt_chunk.specs.Emitted.{closed, emitted, open_at, open_start}
 use Rattle.tilt_compiler.specs.Compiled.{given}
-use Rattle.tilt_chunk.specs.Kept.{checkpoint_at, kept_of}
+use Rattle.tilt_chunk.specs.Kept.{checkpoint_at, kept_each, kept_of}
 use Rattle.tilt_chunk.specs.Later.{both, going_on, newly, next, resumed_at}
 use Rattle.tilt_chunk.specs.Law.{IsOneCut}
 use Rattle.tilt_chunk.specs.NewRows.{AreNewRows, added}
@@ -131,7 +131,7 @@ module _ (query : List StatementTree) (margins : MarginsParts) (is : IsCore (cor
 
   module _ (old : ℤ) (cut : Cut) (onward : IsOnward old cut) (rows new : List (List Snapshot)) (order : AllByRecursion AreRows rows)
       (later : AllByRecursion AreRows new) (many : length rows ≡ length core.inputs)
-      (are : AreNewRows old cut (map (kept_of (first_kept frame old)) rows) new) where
+      (are : AreNewRows cut (kept_each (first_kept frame old) old rows) new) where
     abbrev mid : ℤ
     mid = decided frame old
 
@@ -148,7 +148,7 @@ module _ (query : List StatementTree) (margins : MarginsParts) (is : IsCore (cor
     c = checkpoint_at query rows old
 
     counted : length new ≡ length rows
-    counted = new-counted old cut (map (kept_of (first_kept frame old)) rows) new are ∙ length-map rows (kept_of (first_kept frame old))
+    counted = new-counted cut (kept_each (first_kept frame old) old rows) new are ∙ length-map rows (kept_of (first_kept frame old) old)
 
     -- what was decided stays
     stays : given core rows frame.start mid ≡ given core all frame.start mid
@@ -161,7 +161,7 @@ module _ (query : List StatementTree) (margins : MarginsParts) (is : IsCore (cor
     enough : given core (both c new) lo last ≡ given core all lo last
     enough =
         let back = back-is in
-        given-kept core margins is near within (first_kept frame old) lo last rows new order many counted (grind (arith, ints, clamps))
+        given-kept core margins is near within (first_kept frame old) old lo last rows new order many counted (grind (arith, ints, clamps))
 
     going-same : going_on c new cut ≡ joined_from (open_start frame mid (given core all frame.start mid)) (given core all lo last)
     going-same = λ i. joined_from (open_start frame mid (stays i)) (enough i)
@@ -208,26 +208,26 @@ module _ (query : List StatementTree) (margins : MarginsParts) (is : IsCore (cor
 
   pub left-same : (old upto : ℤ) (rows new : List (List Snapshot)) → old ≤ℤ upto → AllByRecursion AreRows rows
       → AllByRecursion AreRows new
-      → length rows ≡ length core.inputs → AreNewRows old (Upto upto) (map (kept_of (first_kept frame old)) rows) new
+      → length rows ≡ length core.inputs → AreNewRows (Upto upto) (kept_each (first_kept frame old) old rows) new
       → checkpoint_at query (added rows new) upto ≡ next (checkpoint_at query rows old) new upto
   left-same old upto rows new on order later many are =
       let opens = opens-same old (Upto upto) on rows new order later many are in
-      let series = kept-all (first_kept frame old) (first_kept frame upto) rows new (first-on frame old upto on)
+      let series = kept-all (first_kept frame old) old (first_kept frame upto) upto rows new (first-on frame old upto on)
       (counted old (Upto upto) on rows new order later many are) in
       λ i. record { query = query; cut = upto; open_start = opens i; series = series i }
 
 -- whichever rows a checkpoint is of
 pub one-cut : (c : CheckpointParts) (margins : MarginsParts) (cut : Cut) (new : List (List Snapshot)) → IsCore (core_of c.query)
     → margins_of (core_of c.query) ≡ Ok margins → AreMargins margins → IsOnward c.cut cut → AllByRecursion AreRows new
-    → AreNewRows c.cut cut c.series new → IsOneCut c new cut
+    → AreNewRows cut c.series new → IsOneCut c new cut
 one-cut c margins cut new is near within onward later are = record {
   printed = λ rows of.
-      let are_new = subst (λ (d : CheckpointParts). AreNewRows c.cut cut d.series new) of.is are in
+      let are_new = subst (λ (d : CheckpointParts). AreNewRows cut d.series new) of.is are in
       subst (λ (d : CheckpointParts). emitted (core_of c.query) (added rows new) cut ≡ emitted (core_of c.query) rows (Upto c.cut) ++ newly d new cut)
       (sym of.is) (printed-joined c.query margins is near within c.cut cut onward rows new of.in_order later of.first.counted are_new);
   left = λ rows upto of by.
-      let are_new = subst (λ (d : CheckpointParts). AreNewRows c.cut cut d.series new) of.is are in
-      let are_upto = subst (λ (d : Cut). AreNewRows c.cut d (map (kept_of (first_kept (frame_of (core_of c.query)) c.cut)) rows) new) by are_new in
+      let are_new = subst (λ (d : CheckpointParts). AreNewRows cut d.series new) of.is are in
+      let are_upto = subst (λ (d : Cut). AreNewRows d (kept_each (first_kept (frame_of (core_of c.query)) c.cut) c.cut rows) new) by are_new in
       subst (λ (d : CheckpointParts). checkpoint_at c.query (added rows new) upto ≡ next d new upto) (sym of.is)
       (left-same c.query margins is near within c.cut upto rows new (subst (IsOnward c.cut) by onward) of.in_order later of.first.counted are_upto);
 }

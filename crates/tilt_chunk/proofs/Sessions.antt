@@ -25,14 +25,14 @@ use Rattle.tilt_base.specs.declared.span.Span.{Span}
 use Rattle.tilt_core.specs.Core.{CoreParts, domain_of, emitted_number}
 use Rattle.tilt_core.specs.Needs.{reach}
 use Rattle.tilt_core.specs.Meaning.{meaning}
-use Rattle.tilt_chunk.proofs.Lists.{kept_at-again, kept_at-first, last_or-none, length-added, length-kept_again, new-counted, rows-taken_up, rows_of}
+use Rattle.tilt_chunk.proofs.Lists.{HaveCut-again, HaveCut-each, kept_at-again, kept_at-first, last_or-none, length-added, length-kept_again, new-counted, rows-taken_up, rows_of}
 use Rattle.tilt_chunk.proofs.OneCut.{decided-most, decided-on, first-on}
-use Rattle.tilt_chunk.proofs.Valid.{StartsIn, all-series, ends-where, is-open, series-again}
+use Rattle.tilt_chunk.proofs.Valid.{StartsIn, all-series, cuts-late, ends-where, is-open, series-again}
 use Rattle.tilt_chunk.specs.Cuts.{IsInRange, IsOnward, decided_by}
 use Rattle.tilt_chunk.specs.Emitted.{closed, open_at, open_start}
 use Rattle.tilt_compiler.specs.Compiled.{given}
 use Rattle.tilt_chunk.specs.Handed.{AreBehind, AreCells, all_taken_up, closed_behind, kept_at}
-use Rattle.tilt_chunk.specs.Kept.{checkpoint_at, kept_of}
+use Rattle.tilt_chunk.specs.Kept.{checkpoint_at, kept_each, kept_of}
 use Rattle.tilt_chunk.specs.Later.{both, going_on, kept_again, newly, next, resumed_at}
 use Rattle.tilt_chunk.specs.NewRows.{AreFirstRows, AreNewRows, IsNewRow, StartsBefore}
 use Rattle.tilt_stream.specs.Pieces.{joined_from, kept}
@@ -60,14 +60,14 @@ first-new upto (r ∷ rows) from low early order =
     (record { late = omega (arith, ints); behind = λ end is. absurd (cc is); early = early.0 }, first-new upto rows r.end (omega (arith, ints)) early.1 order.3)
 
 first-kept : (first upto : ℤ) (rows : List (List Snapshot)) → neg_ℤ T ≤ℤ upto → AllByRecursion AreRows rows
-    → AllByRecursion (AllByRecursion (StartsBefore (Upto upto))) rows → AllByRecursion (λ k. AreCells k.rows) (map (kept_of first) rows)
-    → AllByRecursion (IsSeries first upto) (map (kept_of first) rows)
+    → AllByRecursion (AllByRecursion (StartsBefore (Upto upto))) rows → AllByRecursion (λ k. AreCells k.rows) (kept_each first upto rows)
+    → AllByRecursion (IsSeries first) (kept_each first upto rows)
 first-kept first upto [] low order early cells = tt
 first-kept first upto (r ∷ rows) low order early cells =
-    let none : KeptParts = record { last_end = None; rows = [] } in
-    let one = series-again first (neg_ℤ T) first upto (omega (arith, ints)) low none r (record { in_order = tt; rows = tt; last = tt }) order.0
+    let none : KeptParts = record { cut = neg_ℤ T; last_end = None; rows = [] } in
+    let one = series-again first first upto (omega (arith, ints)) none r low (record { in_order = tt; rows = tt; last = tt }) order.0
     (first-new upto r (neg_ℤ T) (omega (arith, ints)) early.0 order.0) cells.0 in (
-      subst (λ (o : Option ℤ). IsSeries first upto (record { last_end = o; rows = kept first r })) (last_or-none (last_end r)) one,
+      subst (λ (o : Option ℤ). IsSeries first (record { cut = upto; last_end = o; rows = kept first r })) (last_or-none (last_end r)) one,
       first-kept first upto rows low order.1 early.1 cells.1,
     )
 
@@ -75,7 +75,7 @@ first-kept first upto (r ∷ rows) low order early cells =
 pub first-valid : (query : List StatementTree) (rows : List (List Snapshot)) (upto : ℤ) → IsAccepted query → IsCut upto
     → IsFrame (frame_of (core_of query))
     → AreFirstRows (core_of query) (Upto upto) rows → AllByRecursion AreRows rows
-    → AllByRecursion (λ k. AreCells k.rows) (map (kept_of (first_kept (frame_of (core_of query)) upto)) rows)
+    → AllByRecursion (λ k. AreCells k.rows) (kept_each (first_kept (frame_of (core_of query)) upto) upto rows)
     → IsCheckpoint (checkpoint_at query rows upto)
 first-valid query rows upto is cut framed first order cells =
     let core = core_of query in
@@ -84,8 +84,9 @@ first-valid query rows upto is cut framed first order cells =
       query = is;
       cut = cut;
       opened = is-open frame (meaning rows core.defs (emitted_number core)) frame.start (decided frame upto) None (omega (arith, ints)) (λ some. some) (λ start is. absurd (cc is));
-      counted = length-map rows (kept_of (first_kept frame upto)) ∙ first.counted;
+      counted = length-map rows (kept_of (first_kept frame upto) upto) ∙ first.counted;
       series = first-kept (first_kept frame upto) upto rows cut.0 order first.early cells;
+      same = HaveCut-each (first_kept frame upto) upto rows;
     }
 
 -- an open snapshot starts in what is decided, and in what is decided later
@@ -107,8 +108,8 @@ resumed-high frame old last on some = grind (arith, ints, clamps)
 -- the checkpoint of a later session
 pub next-valid : (c : CheckpointParts) (new : List (List Snapshot)) (upto : ℤ) → IsCheckpoint c → IsCut upto → c.cut ≤ℤ upto
     → IsFrame (frame_of (core_of c.query))
-    → AreNewRows c.cut (Upto upto) c.series new → AllByRecursion AreRows new
-    → AllByRecursion (λ k. AreCells k.rows) (kept_again (first_kept (frame_of (core_of c.query)) upto) c.series new)
+    → AreNewRows (Upto upto) c.series new → AllByRecursion AreRows new
+    → AllByRecursion (λ k. AreCells k.rows) (kept_again (first_kept (frame_of (core_of c.query)) upto) upto c.series new)
     → IsCheckpoint (next c new upto)
 next-valid c new upto is cut on framed are order cells =
     let core = core_of c.query in
@@ -119,8 +120,10 @@ next-valid c new upto is cut on framed are order cells =
       cut = cut;
       opened = is-open frame (meaning (both c new) core.defs (emitted_number core)) (resumed_at frame c.cut) (decided frame upto) c.open_start (resumed-low frame c.cut)
           (resumed-high frame c.cut (decided frame upto) on_decided) (starts-in frame (decided frame c.cut) (decided frame upto) c.open_start on_decided is.opened);
-      counted = length-kept_again (first_kept frame upto) c.series new (new-counted c.cut (Upto upto) c.series new are) ∙ is.counted;
-      series = all-series (first_kept frame c.cut) c.cut (first_kept frame upto) upto (first-on frame c.cut upto on) on c.series new is.series order are cells;
+      counted = length-kept_again (first_kept frame upto) upto c.series new (new-counted (Upto upto) c.series new are) ∙ is.counted;
+      series = all-series (first_kept frame c.cut) (first_kept frame upto) upto (first-on frame c.cut upto on) c.series new
+          (cuts-late c.cut upto c.series on is.same) is.series order are cells;
+      same = HaveCut-again (first_kept frame upto) upto c.series new;
     }
 
 -- the first snapshot of a stretch starts where it does
@@ -148,15 +151,15 @@ rows-behind : (old end : ℤ) (last : Option ℤ) (cut : Cut) (rows : List Snaps
 rows-behind old end last cut [] are is = tt
 rows-behind old end last cut (r ∷ rows) are is = (are.0.behind end is, rows-behind old end last cut rows are.1 is)
 
-pub are-behind : (first old : ℤ) (cut : Cut) (series : List KeptParts) (new : List (List Snapshot))
-    → AllByRecursion (IsSeries first old) series
-    → AreNewRows old cut series new → AreBehind series new
-are-behind first old cut [] [] is are = tt
-are-behind first old cut [] (n ∷ new) is are = are
-are-behind first old cut (k ∷ series) [] is are = are
-are-behind first old cut (k ∷ series) (n ∷ new) is are = (
-  λ end ends. rows-behind old end k.last_end cut n are.0 (ends-where first old end (last_end k.rows) k.last_end ends is.0.last),
-  are-behind first old cut series new is.1 are.1,
+pub are-behind : (first : ℤ) (cut : Cut) (series : List KeptParts) (new : List (List Snapshot))
+    → AllByRecursion (IsSeries first) series
+    → AreNewRows cut series new → AreBehind series new
+are-behind first cut [] [] is are = tt
+are-behind first cut [] (n ∷ new) is are = are
+are-behind first cut (k ∷ series) [] is are = are
+are-behind first cut (k ∷ series) (n ∷ new) is are = (
+  λ end ends. rows-behind k.cut end k.last_end cut n are.0 (ends-where first k.cut end (last_end k.rows) k.last_end ends is.0.last),
+  are-behind first cut series new is.1 are.1,
 )
 
 -- what a first session leaves is the checkpoint of its rows; numbers that were passed on are the same
@@ -165,7 +168,7 @@ module _ (query : List StatementTree) (core : CoreParts) (frame : Frame) (rows k
     (frame_is : frame ≡ frame_of core) (ends_are : ends ≡ map last_end rows) (known_are : known ≡ rows) (shown_are : shown ≡ known)
     (to_is : to ≡ upto) (till_is : till ≡ last) (from_is : from ≡ frame.start) (at_is : at ≡ first) (last_is : last ≡ decided frame to)
     (first_is : first ≡ first_kept frame to) (list_is : list ≡ given core shown from till) (begun_is : begun ≡ open_start frame till list)
-    (series_are : series ≡ kept_at at ends known) where
+    (series_are : series ≡ kept_at at to ends known) where
   core_is : core ≡ core_of query
   core_is = sym (checked-core query core well)
 
@@ -178,8 +181,9 @@ module _ (query : List StatementTree) (core : CoreParts) (frame : Frame) (rows k
   firstly : at ≡ first_kept (frame_of (core_of query)) upto
   firstly = at_is ∙ first_is ∙ (λ i. first_kept (framed i) (to_is i))
 
-  first-series : series ≡ map (kept_of (first_kept (frame_of (core_of query)) upto)) rows
-  first-series = series_are ∙ (λ i. kept_at (firstly i) (ends_are i) (known_are i)) ∙ kept_at-first (first_kept (frame_of (core_of query)) upto) rows
+  first-series : series ≡ kept_each (first_kept (frame_of (core_of query)) upto) upto rows
+  first-series =
+      series_are ∙ (λ i. kept_at (firstly i) (to_is i) (ends_are i) (known_are i)) ∙ kept_at-first (first_kept (frame_of (core_of query)) upto) upto rows
 
   first-begun : begun ≡ open_at (core_of query) rows (Upto upto)
   first-begun =
@@ -220,11 +224,11 @@ passed-within core frame cut from last till frame_is from_is last_is till_is =
     (omega (arith, ints), omega (arith, ints))
 
 -- there is one list for each input
-pub both-counted : (c : CheckpointParts) (cut : Cut) (new : List (List Snapshot)) → IsCheckpoint c → AreNewRows c.cut cut c.series new
+pub both-counted : (c : CheckpointParts) (cut : Cut) (new : List (List Snapshot)) → IsCheckpoint c → AreNewRows cut c.series new
     → length (both c new) ≡ length (core_of c.query).inputs
 both-counted c cut new is are =
     let many : length (rows_of c.series) ≡ length c.series = length-map c.series (λ k. k.rows) in
-    length-added (rows_of c.series) new (new-counted c.cut cut c.series new are ∙ sym many) ∙ many ∙ is.counted
+    length-added (rows_of c.series) new (new-counted cut c.series new are ∙ sym many) ∙ many ∙ is.counted
 
 -- what a later session prints is what is new, and what it leaves is the next checkpoint; numbers that were passed on are the same
 module _ (c : CheckpointParts) (core : CoreParts) (frame : Frame) (cut : Cut) (old last : ℤ) (new known shown : List (List Snapshot)) (ends : List (Option ℤ))
@@ -251,32 +255,32 @@ module _ (c : CheckpointParts) (core : CoreParts) (frame : Frame) (cut : Cut) (o
 
   module _ (upto to first at : ℤ) (query : List StatementTree) (opened : Option ℤ) (kept : List KeptParts) (cut_is : cut ≡ Upto upto) (to_is : to ≡ upto)
       (at_is : at ≡ first) (first_is : first ≡ first_kept frame to) (query_is : query ≡ c.query) (opened_is : opened ≡ open_start frame last going)
-      (kept_are : kept ≡ kept_at at ends known) where
+      (kept_are : kept ≡ kept_at at upto ends known) where
     begun-later : opened ≡ open_start (frame_of (core_of c.query)) (decided (frame_of (core_of c.query)) upto) (going_on c new (Upto upto))
     begun-later =
         opened_is
         ∙ (λ i. open_start (framed-later i) (last-later i) (going-later i))
         ∙ (λ i. open_start (frame_of (core_of c.query)) (decided_by (frame_of (core_of c.query)) (cut_is i)) (going_on c new (cut_is i)))
 
-    kept-later : kept ≡ kept_again (first_kept (frame_of (core_of c.query)) upto) c.series new
+    kept-later : kept ≡ kept_again (first_kept (frame_of (core_of c.query)) upto) upto c.series new
     kept-later =
         let firstly : at ≡ first_kept (frame_of (core_of c.query)) upto = at_is ∙ first_is ∙ (λ i. first_kept (framed-later i) (to_is i)) in
         kept_are
-        ∙ (λ i. kept_at (firstly i) (ends_are i) (known_are i))
-        ∙ ap (λ (ks : List KeptParts). kept_at (first_kept (frame_of (core_of c.query)) upto) (map (λ k. k.last_end) (all_taken_up ks new)) (rows_of (all_taken_up ks new))) series_are
-        ∙ kept_at-again (first_kept (frame_of (core_of c.query)) upto) c.series new
+        ∙ (λ i. kept_at (firstly i) upto (ends_are i) (known_are i))
+        ∙ ap (λ (ks : List KeptParts). kept_at (first_kept (frame_of (core_of c.query)) upto) upto (map (λ k. k.last_end) (all_taken_up ks new)) (rows_of (all_taken_up ks new))) series_are
+        ∙ kept_at-again (first_kept (frame_of (core_of c.query)) upto) upto c.series new
 
     pub later-left : record { query = query; cut = to; open_start = opened; series = kept } ≡ next c new upto
     later-left = λ i. record { query = query_is i; cut = to_is i; open_start = begun-later i; series = kept-later i }
 
-    pub later-is : IsCheckpoint c → IsInRange cut → IsOnward c.cut cut → IsFrame frame → AreNewRows c.cut cut c.series new
+    pub later-is : IsCheckpoint c → IsInRange cut → IsOnward c.cut cut → IsFrame frame → AreNewRows cut c.series new
         → AllByRecursion AreRows new
         → AllByRecursion (λ k. AreCells k.rows) kept
         → IsCheckpoint (record { query = query; cut = to; open_start = opened; series = kept })
     later-is is range on framed are order cells =
         subst IsCheckpoint (sym later-left)
         (next-valid c new upto is (subst IsInRange cut_is range) (subst (IsOnward c.cut) cut_is on) (subst IsFrame framed-later framed)
-        (subst (λ (d : Cut). AreNewRows c.cut d c.series new) cut_is are) order (subst (AllByRecursion (λ k. AreCells k.rows)) kept-later cells))
+        (subst (λ (d : Cut). AreNewRows d c.series new) cut_is are) order (subst (AllByRecursion (λ k. AreCells k.rows)) kept-later cells))
 
 -- nothing is new where all of the output was decided
 pub behind-none : (frame : Frame) (cut last : ℤ) (list : List Snapshot) → frame.end ≤ℤ decided frame cut

@@ -9,7 +9,7 @@ use Rattle.tilt_base.proofs.Lists.{all-append}
 use Rattle.tilt_base.specs.declared.limits.TheConstants.{T}
 use Rattle.tilt_stream.proofs.Order.{InOrder-append}
 use Rattle.tilt_checkpoint.specs.Checkpoint.{KeptParts}
-use Rattle.tilt_checkpoint.specs.Valid.{IsKept, IsLastEnd, IsOpen, IsSeries}
+use Rattle.tilt_checkpoint.specs.Valid.{HaveCut, IsKept, IsLastEnd, IsOpen, IsSeries}
 use Rattle.tilt_checkpoint.specs.declared.frame.Frame.{Frame}
 use Rattle.tilt_stream.proofs.Cut.{snapshots-none}
 use Rattle.tilt_stream.specs.Snap.{Snapshot, AreRows, InOrder, last_end, joined_open}
@@ -80,52 +80,57 @@ pub new-behind : (old : ℤ) (last : Option ℤ) (cut : Cut) (xs : List Snapshot
 new-behind old last cut [] end order new is = tt
 new-behind old last cut (x ∷ xs) end order new is = (new.0.behind end is, order.1, order.2, order.3)
 
-module _ (first cut later upto : ℤ) (on : first ≤ℤ later) (late : cut ≤ℤ upto) where
-  module _ (k : KeptParts) (new : List Snapshot) (is : IsSeries first cut k) (order : AreRows new)
-      (are : AllByRecursion (IsNewRow cut k.last_end (Upto upto)) new) where
+module _ (first later upto : ℤ) (on : first ≤ℤ later) where
+  module _ (k : KeptParts) (new : List Snapshot) (late : k.cut ≤ℤ upto) (is : IsSeries first k) (order : AreRows new)
+      (are : AllByRecursion (IsNewRow k.cut k.last_end (Upto upto)) new) where
     abbrev all : List Snapshot
     all = k.rows ++ new
 
     all-in_order : AreRows all
     all-in_order =
         InOrder-append (neg_ℤ T) T k.rows new is.in_order order
-        (λ end ends. new-behind cut k.last_end (Upto upto) new end order are (ends-where first cut end (last_end k.rows) k.last_end ends is.last))
+        (λ end ends. new-behind k.cut k.last_end (Upto upto) new end order are (ends-where first k.cut end (last_end k.rows) k.last_end ends is.last))
 
     all-early : AllByRecursion (λ row. row.start <ℤ upto) all
     all-early =
-        all-append (λ row. row.start <ℤ upto) k.rows new (early-old first cut upto k.rows late is.rows)
-        (early-new cut upto k.last_end new are)
+        all-append (λ row. row.start <ℤ upto) k.rows new (early-old first k.cut upto k.rows late is.rows)
+        (early-new k.cut upto k.last_end new are)
 
     last-by : (o : Option ℤ) → last_end all ≡ o → IsLastEnd later upto (last_end (kept later all)) (last_or (last_end new) k.last_end)
     last-by None none =
         let ends = no-end (last_end new) (last_end k.rows) (sym (last_end-append k.rows new) ∙ none) in
-        let before = subst (λ (o : Option ℤ). IsLastEnd first cut o k.last_end) ends.1 is.last in
+        let before = subst (λ (o : Option ℤ). IsLastEnd first k.cut o k.last_end) ends.1 is.last in
         let nothing : last_end (kept later all) ≡ None = ap (λ (xs : List Snapshot). last_end (kept later xs)) (no-last all none) in
-        rw (nothing, ends.0) (still-last first cut later upto k.last_end on late before)
+        rw (nothing, ends.0) (still-last first k.cut later upto k.last_end on late before)
     last-by (Some end) some =
         let e : last_or (last_end new) k.last_end ≡ Some end =
-        one-end first cut end (last_end new) (last_end k.rows) k.last_end (sym (last_end-append k.rows new) ∙ some) is.last in
+        one-end first k.cut end (last_end new) (last_end k.rows) k.last_end (sym (last_end-append k.rows new) ∙ some) is.last in
         let bounds = last-bounds (neg_ℤ T) T upto all end all-in_order all-early some in
         by_lt_z end later
         (λ before. rw (e, none-kept later (neg_ℤ T) T all end all-in_order some before) (bounds.0, bounds.1, before, bounds.2))
         (λ reaches. rw (e, last-kept later (neg_ℤ T) T all end all-in_order some reaches) refl)
 
     pub series-again : AreCells (kept later all)
-        → IsSeries later upto (record { last_end = last_or (last_end new) k.last_end; rows = kept later all })
+        → IsSeries later (record { cut = upto; last_end = last_or (last_end new) k.last_end; rows = kept later all })
     series-again cells = record {
       in_order = InOrder-kept later (neg_ℤ T) T all all-in_order;
       rows = are-kept later upto all all-early cells;
       last = last-by (last_end all) refl;
     }
 
-  pub all-series : (series : List KeptParts) (new : List (List Snapshot)) → AllByRecursion (IsSeries first cut) series
-      → AllByRecursion AreRows new
-      → AreNewRows cut (Upto upto) series new → AllByRecursion (λ k. AreCells k.rows) (kept_again later series new)
-      → AllByRecursion (IsSeries later upto) (kept_again later series new)
-  all-series [] new is order are cells = tt
-  all-series (k ∷ series) [] is order are cells = tt
-  all-series (k ∷ series) (n ∷ new) is order are cells =
-      (series-again k n is.0 order.0 are.0 cells.0, all-series series new is.1 order.1 are.1 cells.1)
+  pub all-series : (series : List KeptParts) (new : List (List Snapshot)) → AllByRecursion (λ k. k.cut ≤ℤ upto) series
+      → AllByRecursion (IsSeries first) series → AllByRecursion AreRows new
+      → AreNewRows (Upto upto) series new → AllByRecursion (λ k. AreCells k.rows) (kept_again later upto series new)
+      → AllByRecursion (IsSeries later) (kept_again later upto series new)
+  all-series [] new late is order are cells = tt
+  all-series (k ∷ series) [] late is order are cells = tt
+  all-series (k ∷ series) (n ∷ new) late is order are cells =
+      (series-again k n late.0 is.0 order.0 are.0 cells.0, all-series series new late.1 is.1 order.1 are.1 cells.1)
+
+-- cuts that are all the same aren't above a later one
+pub cuts-late : (old upto : ℤ) (series : List KeptParts) → old ≤ℤ upto → HaveCut old series → AllByRecursion (λ k. k.cut ≤ℤ upto) series
+cuts-late old upto [] on same = tt
+cuts-late old upto (k ∷ series) on same = (let at = same.0 in omega (arith, ints), cuts-late old upto series on same.1)
 
 -- where snapshots go on from an earlier start, the last one starts within
 joined-last : (from low last start : ℤ) (list : List Snapshot) → from ≤ℤ low → LastStarts low last list → from ≤ℤ start → start <ℤ last

@@ -24,7 +24,7 @@ AreBehind (k ∷ series) (new ∷ more) = IsBehind k.rows new × AreBehind serie
 
 -- what is known of an input with new rows
 abbrev pub taken_up : KeptParts → List Snapshot → KeptParts
-taken_up k new = record { last_end = last_or (last_end new) k.last_end; rows = k.rows ++ new }
+taken_up k new = record { cut = k.cut; last_end = last_or (last_end new) k.last_end; rows = k.rows ++ new }
 
 -- and of each input
 abbrev pub all_taken_up : List KeptParts → List (List Snapshot) → List KeptParts
@@ -32,11 +32,11 @@ all_taken_up [] new = []
 all_taken_up (k ∷ series) [] = []
 all_taken_up (k ∷ series) (new ∷ more) = taken_up k new ∷ all_taken_up series more
 
--- what is kept of each input, of which these are the ends of the last rows, and those the rows
-abbrev pub kept_at : ℤ → List (Option ℤ) → List (List Snapshot) → List KeptParts
-kept_at first [] rows = []
-kept_at first (end ∷ ends) [] = []
-kept_at first (end ∷ ends) (rows ∷ more) = record { last_end = end; rows = kept first rows } ∷ kept_at first ends more
+-- what is kept at a cut of each input, of which these are the ends of the last rows, and those the rows
+abbrev pub kept_at : ℤ → ℤ → List (Option ℤ) → List (List Snapshot) → List KeptParts
+kept_at first cut [] rows = []
+kept_at first cut (end ∷ ends) [] = []
+kept_at first cut (end ∷ ends) (rows ∷ more) = record { cut = cut; last_end = end; rows = kept first rows } ∷ kept_at first cut ends more
 
 -- the values of rows are of 64 bits, or null
 abbrev pub AreCells : List Snapshot → Type 0

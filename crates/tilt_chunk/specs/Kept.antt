@@ -9,9 +9,13 @@ use Rattle.tilt_chunk.specs.Emitted.{open_at}
 use Rattle.tilt_stream.specs.Pieces.{kept}
 use Rattle.tilt_chunk.specs.declared.cut.Cut.TheVariants.{Upto}
 
--- what is kept of all rows of an input
-abbrev pub kept_of : ℤ → List Snapshot → KeptParts
-kept_of first rows = record { last_end = last_end rows; rows = kept first rows }
+-- what is kept at a cut of all rows of an input
+abbrev pub kept_of : ℤ → ℤ → List Snapshot → KeptParts
+kept_of first cut rows = record { cut = cut; last_end = last_end rows; rows = kept first rows }
+
+-- and of each input
+abbrev pub kept_each : ℤ → ℤ → List (List Snapshot) → List KeptParts
+kept_each first cut rows = map (kept_of first cut) rows
 
 -- the checkpoint of a query at a cut, where those are all rows so far
 abbrev pub checkpoint_at : List StatementTree → List (List Snapshot) → ℤ → CheckpointParts
@@ -21,5 +25,5 @@ checkpoint_at query rows cut =
       query = query;
       cut = cut;
       open_start = open_at core rows (Upto cut);
-      series = map (kept_of (first_kept (frame_of core) cut)) rows;
+      series = kept_each (first_kept (frame_of core) cut) cut rows;
     }

@@ -40,12 +40,12 @@ abbrev pub last_or : Option ℤ → Option ℤ → Option ℤ
 last_or None old = old
 last_or (Some end) old = Some end
 
--- what is kept of each input
-abbrev pub kept_again : ℤ → List KeptParts → List (List Snapshot) → List KeptParts
-kept_again first [] new = []
-kept_again first (k ∷ series) [] = []
-kept_again first (k ∷ series) (rows ∷ more) =
-    record { last_end = last_or (last_end rows) k.last_end; rows = kept first (k.rows ++ rows) } ∷ kept_again first series more
+-- what is kept at a cut of each input
+abbrev pub kept_again : ℤ → ℤ → List KeptParts → List (List Snapshot) → List KeptParts
+kept_again first cut [] new = []
+kept_again first cut (k ∷ series) [] = []
+kept_again first cut (k ∷ series) (rows ∷ more) =
+    record { cut = cut; last_end = last_or (last_end rows) k.last_end; rows = kept first (k.rows ++ rows) } ∷ kept_again first cut series more
 
 -- the checkpoint of a session that ends by a cut
 abbrev pub next : CheckpointParts → List (List Snapshot) → ℤ → CheckpointParts
@@ -55,7 +55,7 @@ next c rows cut =
       query = c.query;
       cut = cut;
       open_start = open_start frame (decided frame cut) (going_on c rows (Upto cut));
-      series = kept_again (first_kept frame cut) c.series rows;
+      series = kept_again (first_kept frame cut) cut c.series rows;
     }
 
 -- the checkpoint of a session, and none where nothing comes behind it

@@ -18,18 +18,18 @@ pub record AreFirstRows (core : CoreParts) (cut : Cut) (rows : List (List Snapsh
   pub counted : length rows ≡ length core.inputs
   pub early : AllByRecursion (AllByRecursion (StartsBefore cut)) rows
 
--- a row of a later session starts at the old cut or behind it, not before the last row ended, and before the session ends
+-- a row of a later session starts at its input's old cut or behind it, not before the last row ended, and before the session ends
 pub record IsNewRow (old : ℤ) (last : Option ℤ) (cut : Cut) (row : Snapshot) : Type 0 where
   pub late : old ≤ℤ row.start
   pub behind : ForSome last (λ end. end ≤ℤ row.start)
   pub early : StartsBefore cut row
 
 -- the rows of each input do, one list for each
-abbrev pub AreNewRows : ℤ → Cut → List KeptParts → List (List Snapshot) → Type 0
-AreNewRows old cut [] [] = ⊤
-AreNewRows old cut [] (rows ∷ more) = ⊥
-AreNewRows old cut (k ∷ series) [] = ⊥
-AreNewRows old cut (k ∷ series) (rows ∷ more) = AllByRecursion (IsNewRow old k.last_end cut) rows × AreNewRows old cut series more
+abbrev pub AreNewRows : Cut → List KeptParts → List (List Snapshot) → Type 0
+AreNewRows cut [] [] = ⊤
+AreNewRows cut [] (rows ∷ more) = ⊥
+AreNewRows cut (k ∷ series) [] = ⊥
+AreNewRows cut (k ∷ series) (rows ∷ more) = AllByRecursion (IsNewRow k.cut k.last_end cut) rows × AreNewRows cut series more
 
 -- the rows of each input, and behind them others
 abbrev pub added : List (List Snapshot) → List (List Snapshot) → List (List Snapshot)

@@ -36,7 +36,7 @@ pub fn start(
     let frame = Frame::new(accepted.core(), accepted.margins());
     let last = frame.decided(upto);
     let handed = first_rows(alloc, rows)?;
-    let series = keep(alloc, &handed, frame.first_kept(upto))?;
+    let series = keep(alloc, &handed, upto, frame.first_kept(upto))?;
     let list = accepted.run_on(alloc, handed.rows, frame.start, last)?;
     let closed = close(frame, last, list);
     Ok((

@@ -82,34 +82,45 @@ fn take_up(kept: &mut Kept, new: &Rows) -> Result<(), OutOfMemory>
     Ok(())
 }
 
-// What is kept of each input, where `first` is the first tick that is kept.
-pub(crate) fn keep(alloc: Global, handed: &Handed, first: i64) -> Result<Vec<Kept>, OutOfMemory>
+// What is kept of each input at a cut, where `first` is the first tick that is kept.
+pub(crate) fn keep(
+    alloc: Global,
+    handed: &Handed,
+    cut: i64,
+    first: i64,
+) -> Result<Vec<Kept>, OutOfMemory>
     requires { length handed.now.ends.items ≡ length handed.now.rows.items }
-    ensures kept { IfOk result (λ series. series.items ≡ kept_at first handed.now.ends.items handed.now.rows.items) }
+    ensures kept { IfOk result (λ series. series.items ≡ kept_at first cut handed.now.ends.items handed.now.rows.items) }
     ensures cells { IfOk result (λ series. AllByRecursion (λ k. AreCells k.rows) series.items) }
     ensures in_order { IfOk result (λ series. AllByRecursion AreRows handed.now.rows.items) }
 {
     let mut series = Vec::new(alloc);
     for (i, all) in handed.rows.iter().enumerate() {
-        keep_input(alloc, &mut series, handed.ends[i], all, first)?;
+        keep_input(alloc, &mut series, cut, handed.ends[i], all, first)?;
     }
     Ok(series)
 }
 
-// Adds what is kept of an input, of which the last row ends there.
+// Adds what is kept of an input at its cut, of which the last row ends there.
 fn keep_input(
     alloc: Global,
     series: &mut Vec<Kept>,
+    cut: i64,
     last_end: Option<i64>,
     all: &Rows,
     first: i64,
 ) -> Result<(), OutOfMemory>
-    ensures all { OnOk result (series.new.items ≡ series.old.items ++ record { last_end = last_end; rows = kept first all.now } ∷ []) }
+    ensures all { OnOk result (series.new.items
+        ≡ series.old.items ++ record { cut = cut; last_end = last_end; rows = kept first all.now } ∷ []) }
     ensures cells { OnOk result (AreCells (kept first all.now)) }
     ensures in_order { AreRows all.now }
 {
     let rows = kept_rows(alloc, all, first)?;
-    series.push(Kept { last_end, rows })?;
+    series.push(Kept {
+        cut,
+        last_end,
+        rows,
+    })?;
     Ok(())
 }
 

@@ -34,7 +34,7 @@ pub fn resume(
     cut: Cut,
 ) -> Result<(SnapList, Option<Checkpoint>), OutOfMemory>
     requires core { accepted.now.core ≡ core_of checkpoint.query }
-    requires rows { AreNewRows checkpoint.cut cut checkpoint.series rows.items }
+    requires rows { AreNewRows cut checkpoint.series rows.items }
     requires onward { IsOnward checkpoint.cut cut }
     requires range { IsInRange cut }
     ensures newly { IfOk result (λ session. session.0 ≡ newly checkpoint rows.items cut) }
@@ -70,11 +70,11 @@ fn keep_by(
     requires frame { IsFrame frame }
     requires range { IsInRange cut.now }
     ensures kept { (upto : ℤ) → cut.now ≡ Upto upto
-        → IfOk result (λ series. series.items ≡ kept_at (first_kept frame upto) handed.now.ends.items handed.now.rows.items) }
+        → IfOk result (λ series. series.items ≡ kept_at (first_kept frame upto) upto handed.now.ends.items handed.now.rows.items) }
     ensures cells { IfOk result (λ series. AllByRecursion (λ k. AreCells k.rows) series.items) }
 {
     match *cut {
-        Cut::Upto(upto) => keep(alloc, handed, frame.first_kept(upto)),
+        Cut::Upto(upto) => keep(alloc, handed, upto, frame.first_kept(upto)),
         Cut::End => Ok(Vec::new(alloc)),
     }
 }

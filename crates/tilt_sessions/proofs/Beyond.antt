@@ -12,10 +12,10 @@ use Rattle.tilt_checkpoint.specs.Checkpoint.{CheckpointParts}
 use Rattle.tilt_checkpoint.specs.Decided.{first_kept, frame_of}
 use Rattle.tilt_checkpoint.specs.Spelling.{spelling}
 use Rattle.tilt_checkpoint.specs.Valid.{IsAccepted, IsCell, IsCheckpoint, IsCut}
-use Rattle.tilt_chunk.proofs.Lists.{length-added, new-counted}
+use Rattle.tilt_chunk.proofs.Lists.{HaveCut-each, length-added, new-counted}
 use Rattle.tilt_chunk.proofs.Sessions.{first-valid}
 use Rattle.tilt_chunk.specs.Cuts.{IsInRange, IsOnward}
-use Rattle.tilt_chunk.specs.Kept.{checkpoint_at, kept_of}
+use Rattle.tilt_chunk.specs.Kept.{checkpoint_at, kept_each, kept_of}
 use Rattle.tilt_chunk.specs.Later.{newly, next}
 use Rattle.tilt_chunk.specs.Law.{IsCheckpointOf, IsOneCut}
 use Rattle.tilt_chunk.specs.NewRows.{AreFirstRows, AreNewRows, IsNewRow, StartsBefore, added}
@@ -81,15 +81,16 @@ kept_numbers first (row ∷ rows) h = by (int_le first row.end) (kept_numbers fi
     by true more = (h.0, more)
     by false more = more
 
-all_kept : (first : ℤ) (rows : List (List Snapshot)) → AllByRecursion AreNumbers rows → AllByRecursion (λ k. AreNumbers k.rows) (map (kept_of first) rows)
-all_kept first [] h = tt
-all_kept first (r ∷ rows) h = (kept_numbers first r h.0, all_kept first rows h.1)
+all_kept : (first cut : ℤ) (rows : List (List Snapshot)) → AllByRecursion AreNumbers rows
+    → AllByRecursion (λ k. AreNumbers k.rows) (kept_each first cut rows)
+all_kept first cut [] h = tt
+all_kept first cut (r ∷ rows) h = (kept_numbers first r h.0, all_kept first cut rows h.1)
 
 -- the checkpoint of rows is valid
 handed_valid : (q : List StatementTree) (rows : List (List Snapshot)) (cut : ℤ) → AreHanded q rows (Upto cut) → IsCheckpoint (checkpoint_at q rows cut)
 handed_valid q rows cut handed =
     first-valid q rows cut handed.accepted handed.range (accepted_frame q handed.accepted) handed.first handed.in_order
-    (all_kept (first_kept (frame_of (core_of q)) cut) rows handed.cells)
+    (all_kept (first_kept (frame_of (core_of q)) cut) cut rows handed.cells)
 
 -- new rows start where others have ended, or after that
 new_after : (old : ℤ) (last : Option ℤ) (cut : Cut) (new : List Snapshot) → AllByRecursion (IsNewRow old last cut) new
@@ -111,7 +112,7 @@ old_early old End (r ∷ rows) on early = (tt, old_early old End rows on early.1
 
 -- Rows of a session, and those of sessions before it.
 module _ (first old : ℤ) (cut : Cut) where
-  added_order : (rows new : List (List Snapshot)) → AllByRecursion AreRows rows → AllByRecursion AreRows new → AreNewRows old cut (map (kept_of first) rows) new
+  added_order : (rows new : List (List Snapshot)) → AllByRecursion AreRows rows → AllByRecursion AreRows new → AreNewRows cut (kept_each first old rows) new
       → AllByRecursion AreRows (added rows new)
   added_order [] new order order' are = tt
   added_order (r ∷ rows) [] order order' are = tt
@@ -125,7 +126,7 @@ module _ (first old : ℤ) (cut : Cut) where
       (all-append (λ (row : Snapshot). IsCell row.value) r n cells.0 cells'.0, added_numbers rows new cells.1 cells'.1)
 
   added_early : (rows new : List (List Snapshot)) → IsOnward old cut → AllByRecursion (AllByRecursion (StartsBefore (Upto old))) rows
-      → AreNewRows old cut (map (kept_of first) rows) new → AllByRecursion (AllByRecursion (StartsBefore cut)) (added rows new)
+      → AreNewRows cut (kept_each first old rows) new → AllByRecursion (AllByRecursion (StartsBefore cut)) (added rows new)
   added_early [] new on early are = tt
   added_early (r ∷ rows) [] on early are = tt
   added_early (r ∷ rows) (n ∷ new) on early are =
@@ -133,11 +134,11 @@ module _ (first old : ℤ) (cut : Cut) where
 
 -- all rows together may be handed to one session
 all_handed : (q : List StatementTree) (rows new : List (List Snapshot)) (old : ℤ) (cut : Cut) → AreHanded q rows (Upto old) → IsInRange cut → IsOnward old cut
-    → AreNewRows old cut (checkpoint_at q rows old).series new → AllByRecursion AreRows new → AllByRecursion AreNumbers new
+    → AreNewRows cut (checkpoint_at q rows old).series new → AllByRecursion AreRows new → AllByRecursion AreNumbers new
     → AreHanded q (added rows new) cut
 all_handed q rows new old cut handed range on are order cells =
     let first = first_kept (frame_of (core_of q)) old in
-    let many = new-counted old cut (map (kept_of first) rows) new are ∙ length-map rows (kept_of first) in
+    let many = new-counted cut (kept_each first old rows) new are ∙ length-map rows (kept_of first old) in
     record {
       accepted = handed.accepted;
       range = range;
@@ -175,8 +176,8 @@ module _ (files : List ℕ → List ℕ) (checkpoint : List ℕ) (binds : List B
   beyond_of new outcome range on read law is =
       let good = inputs_good files binds (later_bounds (cut_of ending) is_of) (core_of q).inputs new read.read in
       let many = read_many files binds (later_bounds (cut_of ending) is_of) (core_of q).inputs new read.read in
-      let counted = many ∙ sym hands.handed.first.counted ∙ sym (length-map rows (kept_of (first_kept (frame_of (core_of q)) old))) in
-      let are = later_handed old (cut_of ending) is_of.series new counted good.within in
+      let counted = many ∙ sym hands.handed.first.counted ∙ sym (length-map rows (kept_of (first_kept (frame_of (core_of q)) old) old)) in
+      let are = later_handed old (cut_of ending) is_of.series new counted (HaveCut-each (first_kept (frame_of (core_of q)) old) old rows) good.within in
       let of_rows : IsCheckpointOf is_of rows = record { in_order = hands.handed.in_order; first = hands.handed.first; is = refl } in
       record {
         more = new;

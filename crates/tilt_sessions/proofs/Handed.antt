@@ -1,7 +1,8 @@
 -- Rows that are read within the bounds of a session are those that it may be handed.
-use Rattle.std.proofs.Common.{◌≡◌, ℤ, List, [], ◌∷◌, length, Some, refl, arith}
+use Rattle.std.proofs.Common.{◌≡◌, ℤ, List, [], ◌∷◌, length, Some, refl, sym, subst, arith}
 use Rattle.std.specs.List.{AllByRecursion}
 use Rattle.tilt_checkpoint.specs.Checkpoint.{KeptParts}
+use Rattle.tilt_checkpoint.specs.Valid.{HaveCut}
 use Rattle.tilt_chunk.specs.NewRows.{StartsBefore, AreFirstRows, IsNewRow, AreNewRows}
 use Rattle.tilt_chunk.specs.declared.cut.Cut.{Cut}
 use Rattle.tilt_chunk.specs.declared.cut.Cut.TheVariants.{Upto, End}
@@ -36,9 +37,11 @@ new_rows old k series cut (row ∷ rows) h = (new_row old k series cut row h.0, 
 
 -- the rows of a later one
 pub later_handed : (old : ℤ) (cut : Cut) (series : List KeptParts) (rows : List (List Snapshot)) → length rows ≡ length series
-    → AreWithin (session_bounds series (Some old) (limit_of cut)) rows → AreNewRows old cut series rows
-later_handed old cut [] [] many h = tt
-later_handed old cut [] (new ∷ rows) many h = absurd (omega arith)
-later_handed old cut (k ∷ series) [] many h = absurd (omega arith)
-later_handed old cut (k ∷ series) (new ∷ rows) many h =
-    (new_rows old k series cut new h.0, later_handed old cut series rows (omega arith) h.1)
+    → HaveCut old series → AreWithin (session_bounds series (Some old) (limit_of cut)) rows → AreNewRows cut series rows
+later_handed old cut [] [] many same h = tt
+later_handed old cut [] (new ∷ rows) many same h = absurd (omega arith)
+later_handed old cut (k ∷ series) [] many same h = absurd (omega arith)
+later_handed old cut (k ∷ series) (new ∷ rows) many same h = (
+  subst (λ (t : ℤ). AllByRecursion (IsNewRow t k.last_end cut) new) (sym same.0) (new_rows old k series cut new h.0),
+  later_handed old cut series rows (omega arith) same.1 h.1,
+)

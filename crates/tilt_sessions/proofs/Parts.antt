@@ -6,7 +6,7 @@ use Rattle.std.specs.List.{AllByRecursion}
 use Rattle.std.specs.Option.{ForSome, unwrap_or}
 use Rattle.tilt_base.specs.declared.limits.TheConstants.{T}
 use Rattle.tilt_chunk.specs.Cuts.{IsOnward}
-use Rattle.tilt_chunk.specs.Kept.{kept_of}
+use Rattle.tilt_chunk.specs.Kept.{kept_each}
 use Rattle.tilt_chunk.specs.NewRows.{StartsBefore, IsNewRow, AreNewRows, added}
 use Rattle.tilt_chunk.specs.declared.cut.Cut.{Cut}
 use Rattle.tilt_chunk.specs.declared.cut.Cut.TheVariants.{Upto, End}
@@ -132,7 +132,7 @@ all-start cut [] = tt
 all-start cut (r ∷ rs) = (early-starts cut r, all-start cut rs)
 
 pub all-new : (old first : ℤ) (cut : Cut) (rows : List (List Snapshot)) → AllByRecursion AreRows rows
-    → AreNewRows old cut (map (kept_of first) (map (early (Upto old)) rows)) (map (part_of (Some old) cut) rows)
+    → AreNewRows cut (kept_each first old (map (early (Upto old)) rows)) (map (part_of (Some old) cut) rows)
 all-new old first cut [] h = tt
 all-new old first cut (r ∷ rs) h = (part-new old cut _ T r h.0, all-new old first cut rs h.1)
 

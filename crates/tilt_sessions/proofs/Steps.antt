@@ -64,7 +64,7 @@ module _ (query : List StatementTree) (core : CoreParts) (rows parts : List (Lis
 
   module _ (cut : Cut) (onward : IsOnward old cut) (is : parts ≡ map (part_of (Some old) cut) rows) where
     -- it is handed rows that it may be
-    pub new-handed : AreNewRows found.cut cut found.series parts
+    pub new-handed : AreNewRows cut found.series parts
     new-handed = rw (is_found, is) (all-new old (first_kept (frame_of (core_of query)) old) cut rows in_order)
 
     is-of : IsCheckpointOf found (map (early (Upto old)) rows)

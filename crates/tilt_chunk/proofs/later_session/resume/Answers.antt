@@ -21,7 +21,7 @@ use Rattle.tilt_chunk.proofs.later_session.resume.Goals.{in-Upto, in-End}
 pub rows_behind-requires : goal.rows_behind-requires
 rows_behind-requires c =
     rw (c.into_parts-query.ensures.series, c.deref.ensures.value)
-    (are-behind _ c.args.checkpoint.cut c.args.cut c.args.checkpoint.series c.args.rows.items c.cut.ensures.valid.series c.requires.rows)
+    (are-behind _ c.args.cut c.args.checkpoint.series c.args.rows.items c.cut.ensures.valid.series c.requires.rows)
 
 pub go_on-requires-clause-inputs : goal.go_on-requires-clause-inputs
 go_on-requires-clause-inputs c =

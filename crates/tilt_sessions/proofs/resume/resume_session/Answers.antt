@@ -108,7 +108,8 @@ resume-requires-clause-rows g c =
     (to_z-of_z w64 c.cut.result fits ∙ c.cut.ensures.value) (c.limit_of.ensures ∙ ap limit_of c.cut_of-cut.ensures) in
     let goes = λ (told : g.S.Shelf.tells). subst (λ (k : Cut). GoesOn k file c0) c.cut_of-cut.ensures (c.in_ok-loaded.ensures.taken told) in
     let many = c.in_ok-rows.ensures.many ∙ ap (λ (ns : List (List ℕ)). length ns) names ∙ sym c.in_ok-loaded.ensures.valid.counted in
-    rw c.cut_of-cut.ensures (later_handed c0.cut (cut_of ending) c0.series c.in_ok-rows.rows.items many (rw bounds at c.in_ok-rows.ensures.within))
+    rw c.cut_of-cut.ensures (later_handed c0.cut (cut_of ending) c0.series c.in_ok-rows.rows.items many c.in_ok-loaded.ensures.valid.same
+    (rw bounds at c.in_ok-rows.ensures.within))
 
 pub resume-requires-clause-range : goal.resume-requires-clause-range
 resume-requires-clause-range g c = rw c.cut_of-cut.ensures c.requires.range
