@@ -1,6 +1,7 @@
 pub mod Begun
 pub mod Finished
 pub mod Output
+pub mod Left
 pub mod Lists
 pub mod Named
 pub mod Standing

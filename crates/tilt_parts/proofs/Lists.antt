@@ -49,6 +49,11 @@ pub on_err : {X Y : Type 0} (result : Result (Unit {0}) AllocError) → (X → Y
 on_err (Ok u) f x = tt
 on_err (Err e) f x = f x
 
+pub get-some : {X : Type 0} (xs : List X) (i : ℕ) → i < length xs → (x : X) × (slice_get xs i ≡ Some x)
+get-some [] i within = absurd (omega arith)
+get-some (x ∷ xs) zero within = (x, refl)
+get-some (x ∷ xs) (suc i) within = get-some xs i (omega arith)
+
 pub get-within : {X : Type 0} (xs : List X) (i : ℕ) → i < length xs → slice_get xs i ≡ None → ⊥
 get-within [] i within none = omega arith
 get-within (x ∷ xs) zero within none = none-some x (sym none)
@@ -146,3 +151,15 @@ all-after P old new place all others own = all-each P new (λ i x is. elim (case
   | inl same ↦ (let here : i ≡ place = grind (arith, nat_tests) in own x (subst (λ (n : ℕ). slice_get new n ≡ Some x) here is))
   | inr other ↦ all-slice_get P old i x all (sym (others i (λ here. false≢true (sym other ∙ (rw here (grind (arith, nat_tests)))))) ∙ is)
 ])
+
+-- what holds up to a place, and of the element there once it changed, holds up to the next place
+pub up-to-next : {X : Type 0} (P : X → Type 0) (old new : List X) (place : ℕ) → ((i : ℕ) → i < place → ForSome (slice_get old i) P)
+    → ((other : ℕ) → other ≢ place → slice_get new other ≡ slice_get old other) → ForSome (slice_get new place) P
+    → (i : ℕ) → i < place + 1 → ForSome (slice_get new i) P
+up-to-next P old new place below others own i within = elim (cases_Bool (nat_eq i place)) [
+  | inl same ↦ (λ x is. let here : i ≡ place = grind (arith, nat_tests) in own x (subst (λ (n : ℕ). slice_get new n ≡ Some x) here is))
+  | inr other ↦ (λ x is.
+      let differs : i ≢ place = λ here. false≢true (sym other ∙ (rw here (grind (arith, nat_tests)))) in
+      let lower : i < place = grind (arith, nat_tests) in
+      below i lower x (sym (others i differs) ∙ is))
+]

@@ -6,6 +6,7 @@ use Rattle.std.proofs.Math.Nat.{min-le_left}
 use Rattle.std.specs.List.{AllByRecursion}
 use Rattle.tilt_base.specs.declared.limits.TheConstants.{T, WIDE}
 use Rattle.tilt_base.specs.declared.span.Span.{Span}
+use Rattle.tilt_code.specs.Run.{run_of}
 use Rattle.tilt_compiler.specs.Accepted.{AcceptedParts}
 use Rattle.tilt_core.proofs.Constancy.{definitions-AreGrids, meaning-changes}
 use Rattle.tilt_core.proofs.Last.{domain_of-stretch}
@@ -75,6 +76,12 @@ module _ (query : AcceptedParts) (rows : List (List Snapshot)) (steps : List ℕ
     taken-counted =
         part_counted place at.stretch part at.some at.stands granted
         ∙ ap (λ (s : Span). min (length (all_on query rows s)) (times place steps)) (sym at.stands.stretch_is)
+
+    -- its code's run is as long as what the query gives on its stretch
+    pub run-all : length (run_of part.pipe.code part.pipe.inputs) ≡ length (all_on query rows part.stretch)
+    run-all =
+        ap (λ (p : PartValue). length (run_of p.pipe.code p.pipe.inputs)) (at.stands.after granted)
+        ∙ ap (λ (l : List Snapshot). length l) at.stands.means ∙ ap (λ (s : Span). length (all_on query rows s)) (sym at.stands.stretch_is)
 
     pub finished-taken : is_finished part ≡ true → length part.taken ≡ length (all_on query rows part.stretch)
     finished-taken done =

@@ -43,7 +43,7 @@ times-other part named [] differs = rw (no_test named part (λ same. differs (sy
 times-other part named (step ∷ steps) differs = if_same (nat_eq step part) (times-other part named steps differs)
 
 -- and this one
-times-own : (part : ℕ) (steps : List ℕ) → times part (steps ++ part ∷ []) ≡ suc (times part steps)
+pub times-own : (part : ℕ) (steps : List ℕ) → times part (steps ++ part ∷ []) ≡ suc (times part steps)
 times-own part [] = rw (own_test part) refl
 times-own part (step ∷ steps) = if_more (nat_eq step part) (times-own part steps)
 
@@ -63,7 +63,7 @@ on_ok_is (Err e) ok y = absurd (cc ok)
 all_counted : (size times count : ℕ) → count ≡ min size times → (count < size → ⊥) → count ≡ min size (suc times)
 all_counted size times count is all = grind (arith, nat_tests)
 
-fewer : (size times count : ℕ) → count ≡ min size times → (count ≡ size → ⊥) → count < size
+pub fewer : (size times count : ℕ) → count ≡ min size times → (count ≡ size → ⊥) → count < size
 fewer size times count is differs = grind (arith, nat_tests)
 
 one_counted : (size times count : ℕ) → count ≡ min size times → count < size → suc count ≡ min size (suc times)

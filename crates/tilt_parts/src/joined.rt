@@ -1,6 +1,6 @@
 // Lists of snapshots that were taken from parts, joined at their cuts.
-ghost use Rattle.std.specs.Prelude.{◌≡◌, ◌++◌, ℤ, List, IfOk, OnOk};
-ghost use Rattle.tilt_parts.specs.Parts.{joined_after, joint};
+ghost use Rattle.std.specs.Prelude.{◌≡◌, ◌++◌, ℤ, IfOk, OnOk};
+ghost use Rattle.tilt_parts.specs.Parts.{joint};
 ghost use Rattle.tilt_parts.specs.Joined.{IsMidway};
 ghost use Rattle.tilt_stream.specs.Snap.{AreSnapshots};
 ghost use Rattle.tilt_stream.specs.Snapshots.{snapshots};

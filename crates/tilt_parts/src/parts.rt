@@ -1,11 +1,9 @@
 // The parts of a query's output domain.
 ghost use Rattle.std.specs.Prelude.{◌≡◌, ◌≢◌, ◌<◌, ◌++◌, ◌∷◌, [], ◌↔◌, false, true, length, min, slice_get, List, ℕ, ℤ, Some};
-ghost use Rattle.std.specs.Prelude.{IfOk, IsErr, IsOk, MatchOption, MatchResult, OnOk, OnErr, IfSome};
+ghost use Rattle.std.specs.Prelude.{IfOk, IsErr, IsOk, MatchOption, OnOk, OnErr, IfSome};
 ghost use Rattle.std.specs.List.{AllByRecursion, list_all};
 ghost use Rattle.std.specs.Option.{ForSome};
-ghost use Rattle.tilt_base.specs.declared.span.Span.{Span};
 ghost use Rattle.tilt_compiler.specs.Accepted.{AcceptedParts};
-ghost use Rattle.tilt_compiler.specs.Compiled.{given};
 ghost use Rattle.tilt_core.specs.Core.{domain_of};
 ghost use Rattle.tilt_core.specs.Meaning.{output_of};
 ghost use Rattle.tilt_parts.specs.Part.{PartValue, is_finished};
@@ -84,6 +82,8 @@ impl Parts {
         ensures granted { OnOk result (ForSome (slice_get self.new part) (λ new. new.refused ≡ false)) }
         ensures refused { OnErr result (ForSome (slice_get self.new part) (λ new. new.refused ≡ true)) }
         ensures for_good { ForSome (slice_get self.old part) (λ old. old.refused ≡ true → IsErr result) }
+        ensures stretch { ForSome (slice_get self.old part) (λ old. ForSome (slice_get self.new part) (λ new.
+            new.stretch ≡ old.stretch)) }
         ensures many { length self.new ≡ length self.old }
     {
         self.parts[part].step()
@@ -104,6 +104,40 @@ impl Parts {
         Ok(())
     }
 
+    /// Takes all steps that are left, part by part from the first on. After that each part is finished.
+    pub fn finish(&mut self) -> Result<(), OutOfMemory>
+        requires { AllByRecursion (λ part. part.refused ≡ false) self.old }
+        ensures after { (query : AcceptedParts) (rows : List (List Snapshot)) (cuts : List ℤ) (steps : List ℕ)
+            → AreParts query rows cuts steps self.old
+            → OnOk result ((more : List ℕ) × AreParts query rows cuts (steps ++ more) self.new) }
+        ensures finished { OnOk result (AllByRecursion (λ part. is_finished part ≡ true) self.new) }
+        ensures granted { OnOk result (AllByRecursion (λ part. part.refused ≡ false) self.new) }
+        ensures many { length self.new ≡ length self.old }
+    {
+        for part in 0..self.parts.len() {
+            self.finish_part(part)?;
+        }
+        Ok(())
+    }
+
+    // Takes all steps that are left of a part.
+    fn finish_part(&mut self, part: usize) -> Result<(), OutOfMemory>
+        requires within { part < length self.old }
+        requires granted { AllByRecursion (λ part. part.refused ≡ false) self.old }
+        ensures after { (query : AcceptedParts) (rows : List (List Snapshot)) (cuts : List ℤ) (steps : List ℕ)
+            → AreParts query rows cuts steps self.old
+            → OnOk result ((more : List ℕ) × AreParts query rows cuts (steps ++ more) self.new) }
+        ensures finished { OnOk result (ForSome (slice_get self.new part) (λ p. is_finished p ≡ true)) }
+        ensures granted { OnOk result (AllByRecursion (λ part. part.refused ≡ false) self.new) }
+        ensures others { (other : ℕ) → other ≢ part → slice_get self.new other ≡ slice_get self.old other }
+        ensures many { length self.new ≡ length self.old }
+    {
+        while !self.finished(part) {
+            self.step(part)?;
+        }
+        Ok(())
+    }
+
     /// Whether all snapshots of a part were taken: as many as the query gives on its stretch, as long as no memory was refused to it.
     /// It takes no memory.
     pub fn finished(&self, part: usize) -> bool
@@ -112,6 +146,8 @@ impl Parts {
         ensures all { (query : AcceptedParts) (rows : List (List Snapshot)) (cuts : List ℤ) (steps : List ℕ)
             → AreParts query rows cuts steps self.now → ForSome (slice_get self.now part) (λ p. p.refused ≡ false
             → (result ≡ true) ↔ (length p.taken ≡ length (all_on query rows p.stretch))) }
+        ensures kept { (query : AcceptedParts) × (rows : List (List Snapshot)) × (cuts : List ℤ) × (steps : List ℕ)
+            × AreParts query rows cuts steps self.now }
     {
         self.parts[part].is_finished()
     }

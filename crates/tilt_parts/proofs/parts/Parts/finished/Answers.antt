@@ -13,3 +13,6 @@ returns-clause-all c = λ query rows cuts steps are part here granted.
       λ yes. finished-taken query rows steps cuts c.args.self.now are c.args.part part here granted (sym is ∙ yes),
       λ many. is ∙ taken-finished query rows steps cuts c.args.self.now are c.args.part part here granted many,
     )
+
+pub returns-clause-kept : goal.returns-clause-kept
+returns-clause-kept c = rw (← c.self.view_is) c.self.invariant

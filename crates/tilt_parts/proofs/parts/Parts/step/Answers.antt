@@ -59,3 +59,11 @@ returns-clause-for_good c = λ old is refused.
 
 pub returns-clause-many : goal.returns-clause-many
 returns-clause-many c = length-set c.self.inside.parts.items c.args.part c.step.new.self ∙ ap length c.self.view_is
+
+pub returns-clause-stretch : goal.returns-clause-stretch
+returns-clause-stretch c = λ old is new now.
+    let all = c.self.inside.parts.items in
+    let at = slice_get_read all (length all) c.args.part c.index_mut.result.now refl (rw c.self.view_is c.requires) c.index_mut.ensures.value in
+    let same : old ≡ c.index_mut.result.now = same_Some old c.index_mut.result.now (sym is ∙ (rw (← c.self.view_is) at)) in
+    let fresh : c.step.new.self ≡ new = same_Some c.step.new.self new (sym (set-own all c.args.part c.step.new.self (rw c.self.view_is c.requires)) ∙ now) in
+    ap (λ (p : PartValue). p.stretch) (sym fresh) ∙ c.step.ensures.stretch ∙ ap (λ (p : PartValue). p.stretch) (sym same)
