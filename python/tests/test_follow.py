@@ -88,28 +88,38 @@ def test_an_input_from_a_file(tilt, tmp_path):
     assert (tmp_path / "s" / "output.csv").read_text() == wanted
 
 
-def test_killed_a_hundred_times(tilt, tmp_path):
-    lines, wanted = lay_out(tmp_path)
-    draws = random.Random(4)
+def killed(folder: pathlib.Path, state: str, draws: random.Random, most: int) -> int:
+    """Follows all lines, killed at random moments and begun again, until it is through; after so many kills it isn't killed any more. How
+    often it was killed: on a fast machine it is through sooner."""
+    words = ("--state", state, "--rows", "3", "--again", "--end", "--quiet")
     kills = 0
-    words = ("--state", "s", "--rows", "3", "--again", "--end", "--quiet")
     while True:
-        with open(tmp_path / "lines", "rb") as given, open(tmp_path / "err", "wb") as err:
-            process = follow(tmp_path, *words, stdin=given, stdout=subprocess.DEVNULL, stderr=err)
+        with open(folder / "lines", "rb") as given, open(folder / "err", "wb") as err:
+            process = follow(folder, *words, stdin=given, stdout=subprocess.DEVNULL, stderr=err)
             try:
-                status = process.wait(timeout=draws.uniform(0.1, 0.3) if kills < 100 else 120)
+                status = process.wait(timeout=draws.uniform(0.1, 0.3) if kills < most else 120)
             except subprocess.TimeoutExpired:
                 os.killpg(process.pid, signal.SIGKILL) if draws.random() < 0.5 else process.kill()
                 process.wait()
                 kills += 1
                 continue
-        assert status == 0, (tmp_path / "err").read_text()
-        break
-    assert (tmp_path / "s" / "output.csv").read_text() == wanted
+        assert status == 0, (folder / "err").read_text()
+        return kills
+
+
+def test_killed_a_hundred_times(tilt, tmp_path):
+    lines, wanted = lay_out(tmp_path)
+    draws = random.Random(4)
+    kills, rounds = 0, 0
+    while kills < 100 and rounds < 200:
+        state = f"s{rounds}"
+        kills += killed(tmp_path, state, draws, 100 - kills)
+        rounds += 1
+        assert (tmp_path / state / "output.csv").read_text() == wanted
+        assert sorted(name.partition(".")[0] for name in os.listdir(tmp_path / state) if not name.startswith(".")) == [
+            "lock", "notes", "output", "part", "query", "state"]
     # It has to be killed while it works, or the test tells nothing.
     assert kills >= 100, kills
-    assert sorted(name.partition(".")[0] for name in os.listdir(tmp_path / "s") if not name.startswith(".")) == [
-        "lock", "notes", "output", "part", "query", "state"]
 
 
 def test_readings_become_rows_as_in_series(tilt, tmp_path):
