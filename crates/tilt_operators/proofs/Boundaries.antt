@@ -118,7 +118,7 @@ boundaries-rise from limit (s ∷ next ∷ list) h touch =
     )
 
 -- a mark stands after each of them, and nowhere else
-last_two : (a b : Bool) → (a || b || false) ≡ (a || (b || false))
+pub last_two : (a b : Bool) → (a || b || false) ≡ (a || (b || false))
 last_two true b = refl
 last_two false b = refl
 

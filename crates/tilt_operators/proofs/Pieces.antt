@@ -9,7 +9,7 @@ use Rattle.tilt_stream.specs.Agreement.{ChangesOnlyAtMarks}
 use Rattle.tilt_stream.specs.Snap.{Snapshot, InOrder, Touch}
 use Rattle.tilt_stream.specs.Stream.{Stream, SameStream, stream_of, cell_at, mark_at, covers}
 use Rattle.tilt_operators.specs.Lists.{pieces}
-use Rattle.tilt_operators.proofs.Boundaries.{Rise, marks_of, marks-before, IsNotOne}
+use Rattle.tilt_operators.proofs.Boundaries.{Rise, last_two, marks_of, marks-before, IsNotOne}
 
 -- the pieces are in order, and touch
 pub pieces-in_order : (value : ℤ → Option ℤ) (low high b : ℤ) (bs : List ℤ) → Rise low high (b ∷ bs) → InOrder b high (pieces value (b ∷ bs))
@@ -28,10 +28,6 @@ again : (a b x : Bool) → (a || b || (b || x)) ≡ (a || (b || x))
 again true b x = refl
 again false true x = refl
 again false false x = refl
-
-last_two : (a b : Bool) → (a || b || false) ≡ (a || (b || false))
-last_two true b = refl
-last_two false b = refl
 
 pieces-marks : (value : ℤ → Option ℤ) (b c : ℤ) (bs : List ℤ) (tick : ℤ)
     → mark_at (pieces value (b ∷ c ∷ bs)) tick ≡ marks_of (b ∷ c ∷ bs) tick

@@ -1,6 +1,6 @@
 // The parts of a query's output domain.
-ghost use Rattle.std.specs.Prelude.{◌≡◌, ◌≢◌, ◌<◌, ◌++◌, ◌∷◌, [], ◌↔◌, false, true, length, min, slice_get, List, ℕ, ℤ, Some};
-ghost use Rattle.std.specs.Prelude.{IfOk, IsErr, IsOk, MatchOption, OnOk, OnErr, IfSome};
+ghost use Rattle.std.specs.Prelude.{◌≡◌, ◌≢◌, ◌<◌, ◌++◌, ◌∷◌, [], ◌↔◌, false, true, length, min, slice_get, take, List, ℕ, ℤ, Some};
+ghost use Rattle.std.specs.Prelude.{IfOk, IsErr, IsOk, MatchOption, MatchResult, OnOk, OnErr, IfSome};
 ghost use Rattle.std.specs.List.{AllByRecursion, list_all};
 ghost use Rattle.std.specs.Option.{ForSome};
 ghost use Rattle.tilt_compiler.specs.Accepted.{AcceptedParts};
@@ -89,11 +89,12 @@ impl Parts {
         self.parts[part].step()
     }
 
-    /// Takes the steps in their order, each of which names a part.
+    /// Takes the steps in their order, each of which names a part. After want of memory so many of the first were taken.
     pub fn follow(&mut self, order: &[u32]) -> Result<(), OutOfMemory>
         requires { AllByRecursion (λ part. part < length self.old) order.now }
         ensures after { (query : AcceptedParts) (rows : List (List Snapshot)) (cuts : List ℤ) (steps : List ℕ)
-            → AreParts query rows cuts steps self.old → OnOk result (AreParts query rows cuts (steps ++ order.now) self.new) }
+            → AreParts query rows cuts steps self.old → MatchResult result (λ _. AreParts query rows cuts (steps ++ order.now) self.new)
+            (λ _. (count : ℕ) × AreParts query rows cuts (steps ++ take count order.now) self.new) }
         ensures granted { OnOk result (AllByRecursion (λ part. part.refused ≡ false) self.old
             → AllByRecursion (λ part. part.refused ≡ false) self.new) }
         ensures many { length self.new ≡ length self.old }
@@ -104,12 +105,13 @@ impl Parts {
         Ok(())
     }
 
-    /// Takes all steps that are left, part by part from the first on. After that each part is finished.
+    /// Takes all steps that are left, part by part from the first on. After that each part is finished; after want of memory some of these
+    /// steps were taken.
     pub fn finish(&mut self) -> Result<(), OutOfMemory>
         requires { AllByRecursion (λ part. part.refused ≡ false) self.old }
         ensures after { (query : AcceptedParts) (rows : List (List Snapshot)) (cuts : List ℤ) (steps : List ℕ)
             → AreParts query rows cuts steps self.old
-            → OnOk result ((more : List ℕ) × AreParts query rows cuts (steps ++ more) self.new) }
+            → (more : List ℕ) × AreParts query rows cuts (steps ++ more) self.new }
         ensures finished { OnOk result (AllByRecursion (λ part. is_finished part ≡ true) self.new) }
         ensures granted { OnOk result (AllByRecursion (λ part. part.refused ≡ false) self.new) }
         ensures many { length self.new ≡ length self.old }
@@ -126,7 +128,7 @@ impl Parts {
         requires granted { AllByRecursion (λ part. part.refused ≡ false) self.old }
         ensures after { (query : AcceptedParts) (rows : List (List Snapshot)) (cuts : List ℤ) (steps : List ℕ)
             → AreParts query rows cuts steps self.old
-            → OnOk result ((more : List ℕ) × AreParts query rows cuts (steps ++ more) self.new) }
+            → (more : List ℕ) × AreParts query rows cuts (steps ++ more) self.new }
         ensures finished { OnOk result (ForSome (slice_get self.new part) (λ p. is_finished p ≡ true)) }
         ensures granted { OnOk result (AllByRecursion (λ part. part.refused ≡ false) self.new) }
         ensures others { (other : ℕ) → other ≢ part → slice_get self.new other ≡ slice_get self.old other }

@@ -26,3 +26,9 @@ returns-clause-finished c =
     let past = c.loop-part-test.false in
     let counted = c.len-part-end.ensures in
     c.loop-part.invariant.finished place (omega arith) part is)
+
+pub returns-in_err-finish_part-clause-after : goal.returns-in_err-finish_part-clause-after
+returns-in_err-finish_part-clause-after c = λ query rows cuts steps are.
+    let so_far = c.loop-part.invariant.after query rows cuts steps are in
+    let more = c.in_err-finish_part.ensures.after query rows cuts (steps ++ so_far.0) so_far.1 in
+    (so_far.0 ++ more.0, subst (λ (l : List ℕ). AreParts query rows cuts l c.finish_part.new.self) (append_assoc steps so_far.0 more.0) more.1)

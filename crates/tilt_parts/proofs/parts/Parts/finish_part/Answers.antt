@@ -35,3 +35,11 @@ loop-self-smaller c =
     (all-after (λ (p : PartValue). p.refused ≡ false) c.loop-self.self c.step.new.self c.args.part c.loop-self.invariant.granted
     c.in_ok-step.ensures.others c.in_ok-step.ensures.granted)
     c.in_ok-step.ensures.stretch (λ p is. sym (c.finished.ensures.value p is) ∙ c.loop-self-test.true)
+
+pub returns-in_err-step-clause-after : goal.returns-in_err-step-clause-after
+returns-in_err-step-clause-after c = λ query rows cuts steps are.
+    let so_far = c.loop-self.invariant.after query rows cuts steps are in (
+      so_far.0 ++ c.args.part ∷ [],
+      subst (λ (l : List ℕ). AreParts query rows cuts l c.step.new.self) (append_assoc steps so_far.0 (c.args.part ∷ []))
+          (c.in_err-step.ensures.after query rows cuts (steps ++ so_far.0) so_far.1),
+    )
