@@ -1,10 +1,10 @@
 -- Lists of snapshots in the order of time.
-use Rattle.std.proofs.Common.{IfSome, Option, None, unwrap_or, ◌≡◌, ℤ, ◌<ℤ◌, ◌≤ℤ◌, List, [], ◌∷◌, ◌++◌, Some, refl, arith, slice_get, option_map, sym, ◌∙◌, ap, length, ◌-◌, sub-one, neg_ℤ}
+use Rattle.std.proofs.Common.{IfSome, Option, None, unwrap_or, ◌≡◌, ◌+◌, ◌<◌, get_or, slice_set, ℕ, zero, suc, take, drop, ℤ, ◌<ℤ◌, ◌≤ℤ◌, List, [], ◌∷◌, ◌++◌, Some, refl, arith, slice_get, option_map, sym, ◌∙◌, ap, length, ◌-◌, sub-one, neg_ℤ}
 use Rattle.std.specs.List.{AllByRecursion}
 use Rattle.tilt_base.specs.declared.limits.TheConstants.{WIDE}
 use Rattle.std.specs.Option.{ForSome}
 use Rattle.std.proofs.lemmas.Int.{ints}
-use Rattle.tilt_stream.specs.Snap.{Snapshot, InOrder, Touch, last_end, AreSnapshots}
+use Rattle.tilt_stream.specs.Snap.{Snapshot, InOrder, Touch, last_end, AreSnapshots, with_value}
 
 -- a row behind the end of the last one doesn't start before the first one does
 starts_behind : (from limit : ℤ) (x : Snapshot) (xs : List Snapshot) (s : Snapshot) → InOrder from limit (x ∷ xs) → ForSome (last_end (x ∷ xs)) (λ end. end ≤ℤ s.start) → from ≤ℤ s.start
@@ -115,3 +115,26 @@ InOrder-append from limit (x ∷ xs) ys h g behind = behind_some from limit x xs
 pub InOrder-after : (from limit : ℤ) (xs ys : List Snapshot) → InOrder from limit xs → InOrder from limit ys
     → ForSome (last_end xs) (λ end. AllByRecursion (λ row. end ≤ℤ row.start) ys) → InOrder from limit (xs ++ ys)
 InOrder-after from limit xs ys h g behind = InOrder-append from limit xs ys h g (λ end is. order-behind end from limit ys (behind end is) g)
+
+-- rows without one of them are in order
+pub InOrder-removed : (from limit : ℤ) (xs : List Snapshot) (i : ℕ) → InOrder from limit xs → InOrder from limit (take i xs ++ drop (i + 1) xs)
+InOrder-removed from limit [] zero h = tt
+InOrder-removed from limit [] (suc i) h = let e : suc i + 1 ≡ suc (i + 1) = omega arith in rw e tt
+InOrder-removed from limit (x ∷ xs) zero h = InOrder-rest from limit x xs h
+InOrder-removed from limit (x ∷ xs) (suc i) h =
+    let e : suc i + 1 ≡ suc (i + 1) = omega arith in
+    rw e (h.0, h.1, h.2, InOrder-removed x.end limit xs i h.3)
+
+-- rows of which one has another value are in order
+pub InOrder-valued : (from limit : ℤ) (xs : List Snapshot) (i : ℕ) (value : Option ℤ) → InOrder from limit xs
+    → InOrder from limit (with_value i value xs)
+InOrder-valued from limit [] i value h = tt
+InOrder-valued from limit (x ∷ xs) zero value h = (h.0, h.1, h.2, h.3)
+InOrder-valued from limit (x ∷ xs) (suc i) value h = (h.0, h.1, h.2, InOrder-valued x.end limit xs i value h.3)
+
+-- a row is given another value where the row of its times with that value takes its place
+pub set-valued : (xs : List Snapshot) (i : ℕ) (row : Snapshot) (value : Option ℤ) → i < length xs → row ≡ get_or xs i row
+    → slice_set xs i (record { start = row.start; end = row.end; value = value }) ≡ with_value i value xs
+set-valued [] i row value within is = absurd (omega arith)
+set-valued (x ∷ xs) zero row value within is = λ j. record { start = (is j).start; end = (is j).end; value = value } ∷ xs
+set-valued (x ∷ xs) (suc i) row value within is = ap (λ (l : List Snapshot). x ∷ l) (set-valued xs i row value (omega arith) is)

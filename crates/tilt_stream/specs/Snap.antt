@@ -29,6 +29,12 @@ pub record AreSnapshots (list : List Snapshot) : Type 0 where
   pub in_order : InOrder (neg_ℤ WIDE) WIDE list
   pub touch : Touch list
 
+-- the list with another value of the one at a place
+abbrev pub with_value : ℕ → Option ℤ → List Snapshot → List Snapshot
+with_value i value [] = []
+with_value zero value (s ∷ ss) = record { start = s.start; end = s.end; value = value } ∷ ss
+with_value (suc i) value (s ∷ ss) = s ∷ with_value i value ss
+
 -- where the last one ends
 abbrev pub last_end : List Snapshot → Option ℤ
 last_end [] = None

@@ -1,12 +1,13 @@
-ghost use Rattle.std.specs.Prelude.{◌≡◌, ◌<◌, [], ◌∷◌, ◌++◌, length, neg_ℤ, ◌≤ℤ◌, slice_get, IsTrue, ◌↔◌, OnOk, OnErr, IfSome};
-ghost use Rattle.std.specs.List.{AllByRecursion};
+ghost use Rattle.std.specs.Prelude.{◌≡◌, ◌<◌, ◌≤◌, [], ◌∷◌, ◌++◌, length, neg_ℤ, ◌≤ℤ◌, slice_get, IsTrue, ◌↔◌, OnOk, OnErr, IfSome, Some};
+ghost use Rattle.std.specs.List.{AllByRecursion, insert, remove};
 ghost use Rattle.std.specs.Option.{ForSome};
 ghost use Rattle.tilt_base.specs.declared.limits.TheConstants.{T};
-ghost use Rattle.tilt_stream.specs.Snap.{AreRows, last_end};
+ghost use Rattle.tilt_stream.specs.Snap.{AreRows, last_end, with_value};
 
 use crate::snap::{Row, last_end};
 use std::alloc::{AllocError as OutOfMemory, Global};
 use std::marker::Model;
+use tilt_base::Cell;
 
 /// The rows of a series in order: times in `-T..=T`, and each start at or behind the end of the row before it.
 #[derive(Drop)]
@@ -59,6 +60,35 @@ impl Rows {
     {
         self.rows.extend_from_slice(more)?;
         Ok(())
+    }
+
+    /// Puts a row at a place, counted from 0, where all are in order then. After want of memory the rows are as before.
+    pub fn insert(&mut self, i: usize, row: Row) -> Result<(), OutOfMemory>
+        requires within { i ≤ length self.old }
+        requires in_order { AreRows (insert self.old i row) }
+        ensures ok { OnOk result (self.new ≡ insert self.old i row) }
+        ensures err { OnErr result (self.new ≡ self.old) }
+    {
+        self.rows.insert(i, row)?;
+        Ok(())
+    }
+
+    /// Takes the row at a place out, counted from 0. It takes no memory.
+    pub fn remove(&mut self, i: usize) -> Row
+        requires { i < length self.old }
+        ensures taken { slice_get self.old i ≡ Some result }
+        ensures rest { self.new ≡ remove self.old i }
+    {
+        self.rows.remove(i)
+    }
+
+    /// Gives the row at a place, counted from 0, another value. It takes no memory.
+    pub fn set(&mut self, i: usize, value: Cell)
+        requires { i < length self.old }
+        ensures { self.new ≡ with_value i value self.old }
+    {
+        let row = self.rows[i];
+        self.rows[i] = row.valued(value);
     }
 
     /// How many rows there are.

@@ -45,6 +45,15 @@ impl Snap {
             value,
         }
     }
+
+    // The same with that value.
+    pub(crate) fn valued(self, value: Cell) -> Snap
+        ensures { result ≡ record { start = self.start; end = self.end; value = value } }
+    {
+        prove!(self.start < self.end);
+        let Snap { start, end, .. } = self;
+        Snap { start, end, value }
+    }
 }
 
 /// Where the last one ends, or `None` where there is none.

@@ -53,6 +53,16 @@ impl SnapList {
         Ok(())
     }
 
+    /// Adds snapshots after the last one, with which all are without gaps. After want of memory the list is as before.
+    pub fn append(&mut self, more: &[Snap]) -> Result<(), OutOfMemory>
+        requires { AreSnapshots (self.old ++ more.now) }
+        ensures ok { OnOk result (self.new ≡ self.old ++ more.now) }
+        ensures err { OnErr result (self.new ≡ self.old) }
+    {
+        self.snaps.extend_from_slice(more)?;
+        Ok(())
+    }
+
     /// Takes the last snapshot off: `None` exactly where there is none. It takes no memory.
     pub fn pop(&mut self) -> Option<Snap>
         ensures { MatchOption result ((self.old ≡ []) × (self.new ≡ [])) (λ last. self.old ≡ self.new ++ last ∷ []) }
