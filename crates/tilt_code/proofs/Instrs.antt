@@ -6,9 +6,9 @@ use Rattle.std.specs.Fmt.{decimal, signed_decimal}
 use Rattle.std.specs.Int.{w64}
 use Rattle.std.specs.List.{find}
 use Rattle.std.specs.Str.{bytes_eq}
-use Rattle.std.proofs.lemmas.Bool.{cases_Bool, and_parts}
+use Rattle.std.proofs.lemmas.Bool.{and_parts}
 use Rattle.std.proofs.lemmas.Int.{ints}
-use Rattle.std.proofs.lemmas.Option.{none-some, same_Some, some_pair_parts}
+use Rattle.std.proofs.lemmas.Option.{some_pair_parts}
 use Rattle.tilt_base.proofs.Comparisons.{lt_true, true_lt, bytes_same}
 use Rattle.tilt_base.specs.Offset.{IsOffset}
 use Rattle.tilt_base.specs.Reduce.{reducer_word}
@@ -20,6 +20,7 @@ use Rattle.tilt_base.specs.declared.operator.Op2.TheVariants as op2
 use Rattle.tilt_base.specs.declared.reducer.Reducer.{Reducer}
 use Rattle.tilt_base.specs.declared.reducer.Reducer.TheVariants as reducer
 use Rattle.tilt_base.proofs.Lists.{guard_some}
+use Rattle.tilt_lexer.proofs.Whole.{found_passes}
 use Rattle.tilt_text.specs.Step.{◌>>=◌}
 use Rattle.tilt_text.specs.Spelled.{shortest}
 use Rattle.tilt_text.proofs.Step.{bind_some}
@@ -92,20 +93,12 @@ offset_again z rest h =
 
 -- reducers and operators
 
-found_test : {X : Type 0} (test : X → Bool) (xs : List X) (y : X) → find test xs ≡ Some y → test y ≡ true
-found_test test [] y e = absurd (none-some y e)
-found_test test (x ∷ xs) y e =
-    elim (cases_Bool (test x)) [
-      | inl holds ↦ subst (λ z. test z ≡ true) (same_Some x y (rw holds at e)) holds
-      | inr other ↦ found_test test xs y (rw other at e)
-    ]
-
 reducer_takes : (words : Words) (r : Reducer) (rest : Words) → reducer_at words ≡ Some (r, rest) → words ≡ reducer_word r ∷ rest
 reducer_takes [] r rest e = absurd (cc e)
 reducer_takes (w ∷ ws) r rest e =
     let b = bind_some (find (λ q. bytes_eq (reducer_word q) w) REDUCERS) (λ q. Some (q, ws)) (r, rest) e in
     let p = pair_is b.0 r ws rest b.2 in
-    let same = bytes_same (reducer_word b.0) w (found_test (λ q. bytes_eq (reducer_word q) w) REDUCERS b.0 b.1) in
+    let same = bytes_same (reducer_word b.0) w (found_passes (λ q. bytes_eq (reducer_word q) w) REDUCERS b.0 b.1) in
     λ i. (sym same ∙ ap reducer_word p.0) i ∷ p.1 i
 
 reducer_again : (r : Reducer) (rest : Words) → reducer_at (reducer_word r ∷ rest) ≡ Some (r, rest)
@@ -309,7 +302,7 @@ two_takes form words i rest e =
     let o = bind_some (find (λ q. bytes_eq (two_word q) form) TWOS) (two1 words) (i, rest) e in
     let a = bind_some (named_at 114 words) (two2 o.0) (i, rest) o.2 in
     let b = bind_some (named_at 114 a.0.1) (two3 o.0 a.0) (i, rest) a.2 in
-    let is = bytes_same (two_word o.0) form (found_test (λ q. bytes_eq (two_word q) form) TWOS o.0 o.1) in
+    let is = bytes_same (two_word o.0) form (found_passes (λ q. bytes_eq (two_word q) form) TWOS o.0 o.1) in
     let as' = named_takes 114 words a.0.0 a.0.1 a.1 in
     let bs = named_takes 114 a.0.1 b.0.0 b.0.1 b.1 in
     spells_at form words (instr.Two o.0 a.0.0 b.0.0) i b.0.1 rest b.2 ((λ k. sym is k ∷ (as'.0 ∙ ap (λ (l : Words). register_word a.0.0 ∷ l) bs.0) k)) (as'.1, bs.1)
@@ -319,7 +312,7 @@ one_takes : (o : Option Op1) (form : List ℕ) (words : Words) (i : Instr) (rest
 one_takes None form words i rest found e = two_takes form words i rest e
 one_takes (Some op) form words i rest found e =
     let a = bind_some (named_at 114 words) (λ n. Some (instr.One op n.0, n.1)) (i, rest) e in
-    let is = bytes_same (one_word op) form (found_test (λ q. bytes_eq (one_word q) form) ONES op found) in
+    let is = bytes_same (one_word op) form (found_passes (λ q. bytes_eq (one_word q) form) ONES op found) in
     let as' = named_takes 114 words a.0.0 a.0.1 a.1 in
     spells_at form words (instr.One op a.0.0) i a.0.1 rest a.2 ((λ k. sym is k ∷ as'.0 k)) as'.1
 

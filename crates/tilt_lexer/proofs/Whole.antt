@@ -30,7 +30,7 @@ use Rattle.tilt_lexer.proofs.Signs.{sign_place, sign_in_table, NoneBelow, first_
 use Rattle.tilt_lexer.proofs.Texts.{sign_from_first}
 
 -- what is found in a list passes
-found_passes : {X : Type 0} (p : X → Bool) (xs : List X) (x : X) → find p xs ≡ Some x → p x ≡ true
+pub found_passes : {X : Type 0} (p : X → Bool) (xs : List X) (x : X) → find p xs ≡ Some x → p x ≡ true
 found_passes p [] x e = cc
 found_passes p (y ∷ ys) x e =
     elim (cases_Bool (p y)) [

@@ -87,16 +87,6 @@ may-stand xs s ys h =
     let placed = order-behind (neg_ℤ WIDE) WIDE xs s ys h.in_order in
     record { touches = touch-behind xs s ys h.touch; low = placed.0; high = placed.2; some = placed.1 }
 
--- of two lists that are snapshots one after the other, the next of the second may follow those before it
-pub may-follow : (xs ys list : List Snapshot) (s : Snapshot) (i : ℕ) → AreSnapshots (xs ++ ys) → i < length ys → s ≡ get_or ys i s
-    → list ≡ xs ++ take i ys → MayFollow list s
-may-follow xs ys list s i h within is done =
-    let parted : ys ≡ take i ys ++ s ∷ drop (i + 1) ys =
-    sym (take-append-drop i ys) ∙ ap (λ (l : List Snapshot). take i ys ++ l) (drop-at ys s i within is) in
-    let all : xs ++ ys ≡ (xs ++ take i ys) ++ s ∷ drop (i + 1) ys =
-    ap (λ (l : List Snapshot). xs ++ l) parted ∙ sym (append_assoc xs (take i ys) (s ∷ drop (i + 1) ys)) in
-    subst (λ (l : List Snapshot). MayFollow l s) (sym done) (may-stand (xs ++ take i ys) s (drop (i + 1) ys) (subst AreSnapshots all h))
-
 -- the first of the second list, which goes on from where the last of the first began
 abbrev pub at-joint : Snapshot → Snapshot → Snapshot
 at-joint last first = record { start = last.start; end = first.end; value = first.value }

@@ -1,5 +1,5 @@
 // Lists of snapshots that were taken from parts, joined at their cuts.
-ghost use Rattle.std.specs.Prelude.{◌≡◌, ◌++◌, ℤ, IfOk, OnOk};
+ghost use Rattle.std.specs.Prelude.{◌≡◌, ℤ, IfOk, OnOk};
 ghost use Rattle.tilt_parts.specs.Parts.{joint};
 ghost use Rattle.tilt_parts.specs.Joined.{IsMidway};
 ghost use Rattle.tilt_stream.specs.Snap.{AreSnapshots};
@@ -20,7 +20,7 @@ pub(crate) fn joined(
     ensures { (x : Stream) (lo hi : ℤ) → IsMidway x lo hi first.now later.now → IfOk result (λ list. list ≡ snapshots x lo hi) }
 {
     let mut list = SnapList::new(alloc);
-    append(&mut list, first.as_slice())?;
+    list.append(first.as_slice())?;
     for part in later {
         join(&mut list, &part.taken)?;
     }
@@ -38,20 +38,9 @@ fn join(list: &mut SnapList, next: &SnapList) -> Result<(), OutOfMemory>
                 start: open.start,
                 ..*first
             })?;
-            append(list, rest)
+            list.append(rest)
         }
-        (None, Some(_)) => append(list, next.as_slice()),
+        (None, Some(_)) => list.append(next.as_slice()),
         (_, None) => Ok(()),
     }
-}
-
-// Adds snapshots that together with those so far are a list.
-fn append(list: &mut SnapList, more: &[Snap]) -> Result<(), OutOfMemory>
-    requires { AreSnapshots (list.old ++ more.now) }
-    ensures { OnOk result (list.new ≡ list.old ++ more.now) }
-{
-    for snap in more {
-        list.push(*snap)?;
-    }
-    Ok(())
 }

@@ -52,7 +52,7 @@ returns-in_ok-push-in-Some-Some c =
     let pushed = rw (to_z-of_z starts, to_z-of_z ends) at c.in_ok-push-in-Some-Some.ensures.ok in
     let all : c.push.new.self ++ c.in-Some-Some.rest.now ≡ joint c.args.list.now c.args.next.now =
     joined_pieces c.pop.new.self c.in-Some-Some.rest.now c.push.new.self _ c.in-Some-Some.open c.in-Some-Some.first.now _ _ c.open.view_is c.first.view_is pushed parted in
-    on_ok c.append.result (λ (is : c.append.new.list ≡ c.push.new.self ++ c.in-Some-Some.rest.now). is ∙ all) c.append.ensures
+    on_ok c.append.result (λ (is : c.append.new.self ≡ c.push.new.self ++ c.in-Some-Some.rest.now). is ∙ all) c.append.ensures.ok
 
 pub returns-in_default-None : goal.returns-in_default-None
 returns-in_default-None c =
