@@ -10,7 +10,8 @@ use Rattle.tilt_lexer.specs.declared.mark.Mark.TheVariants as mark
 use Rattle.tilt_lexer.specs.declared.token.Tok.{Tok}
 use Rattle.tilt_lexer.specs.declared.token.Tok.TheVariants.{Word, Number, Key as Reserved, Mark as Sign}
 use Rattle.tilt_syntax.specs.Grammar.{Infix, infix_of, reducer_key}
-use Rattle.tilt_syntax.specs.Printing.{level_of, in_place, offset_text, reading_text, atom_text, sign_text, operands_text, expr_text, span_text, domain_text, from_text, grid_text, statement_text, query_text}
+use Rattle.tilt_syntax.specs.Printing.{level_of, in_place, offset_text, reading_text, atom_text}
+use Rattle.tilt_syntax.specs.Printing.{sign_text, operands_text, expr_text, span_text, domain_text, from_text, grid_text, statement_text, query_text}
 use Rattle.tilt_syntax.specs.Tree.{Atom, Num, Truth, Read, Reduce, ExprTree, StatementTree, Input, Let, Emit}
 use Rattle.tilt_base.specs.declared.span.Span.{Span}
 use Rattle.tilt_syntax.specs.declared.every.Every.{Every}

@@ -8,7 +8,8 @@ use Rattle.tilt_lexer.specs.declared.mark.Mark.TheVariants as mark
 use Rattle.tilt_lexer.specs.declared.token.Tok.{Tok}
 use Rattle.tilt_lexer.specs.declared.token.Tok.TheVariants.{Key as Reserved, Mark as Sign}
 use Rattle.tilt_syntax.specs.Descent.{Plan, Done, Test, Found, Comes, done, met, missed, found}
-use Rattle.tilt_syntax.specs.Grammar.{IsBound, from_zero, below_zero, IsSpan, over, MayBeSpan, no_span, some_span, MayBeGrid, no_grid, on_multiples, with_offset, IsStatement, input, definition, emission}
+use Rattle.tilt_syntax.specs.Grammar.{IsBound, from_zero, below_zero, IsSpan, over}
+use Rattle.tilt_syntax.specs.Grammar.{MayBeSpan, no_span, some_span, MayBeGrid, no_grid, on_multiples, with_offset, IsStatement, input, definition, emission}
 use Rattle.tilt_syntax.specs.Statements.{bound_plan, span_plan, domain_plan, from_plan, grid_plan, empty_plan, end_plan, statement_plan}
 use Rattle.tilt_syntax.specs.Stored.{stored_statement, stored_statement_inj}
 use Rattle.tilt_syntax.specs.Tree.{Num, Truth, ExprTree, StatementTree, Input, Let, Emit}

@@ -1,6 +1,6 @@
 -- Reading comes to an answer, whatever the tokens are: each task asks only for smaller ones.
 use Rattle.std.proofs.Common.{◌≡◌, ◌≢◌, ◌⊎◌, inl, inr, ℕ, zero, suc, ◌+◌, ◌*◌, ◌<◌, ◌≤◌, ℤ, pos, negsuc, List, [], ◌∷◌, length, Option, Some, None}
-use Rattle.std.proofs.Common.{refl, sym, ap, ◌∙◌, subst, arith, length-append}
+use Rattle.std.proofs.Common.{refl, sym, ap, ◌∙◌, ◌++◌, subst, arith, length-append, append-nil}
 use Rattle.std.specs.Str.{bytes_eq}
 use Rattle.std.proofs.lemmas.Bool.{both_ways, cases_Bool, cases_eq}
 use Rattle.tilt_base.proofs.Comparisons.{same_bytes, bytes_same}
@@ -22,7 +22,7 @@ use Rattle.tilt_syntax.specs.Descent.{Plan, Done, Test, Between, Ask, Found, Tas
 use Rattle.tilt_syntax.specs.Descent.{Comes, done, met, missed, between, behind_all, found, none}
 use Rattle.tilt_syntax.specs.Descent.{number_plan, name_plan, offset_plan, reading_plan, window_plan, enclosed_plan, pair_plan, word_plan, atom_plan}
 use Rattle.tilt_syntax.specs.Descent.{chain_plan, behind_operand, going_plan, give}
-use Rattle.tilt_syntax.specs.Grammar.{IsStatement}
+use Rattle.tilt_syntax.specs.Grammar.{IsExpr, IsStatement}
 use Rattle.tilt_syntax.specs.Levels.{level_number, operator_of, tighter}
 use Rattle.tilt_syntax.specs.Statements.{bound_plan, span_plan, domain_plan, from_plan, grid_plan, empty_plan, end_plan, statement_plan}
 use Rattle.tilt_syntax.specs.Tree.{ExprTree, StatementTree}
@@ -33,10 +33,11 @@ use Rattle.tilt_syntax.proofs.Operators.{same_level}
 use Rattle.tilt_syntax.proofs.Sound.{Fits, kept, fits}
 use Rattle.tilt_syntax.proofs.Statements.{statement-comes, statement-keeps, told, tells}
 use Rattle.tilt_syntax.proofs.Steady.{one_answer}
+use Rattle.tilt_syntax.proofs.Whole.{same_rest, whole}
 
 -- two tokens are the same, or not
 
-names_same : (x y : List ℕ) → (x ≡ y) ⊎ (x ≢ y)
+pub names_same : (x y : List ℕ) → (x ≡ y) ⊎ (x ≢ y)
 names_same x y =
     elim (cases_Bool (bytes_eq x y)) [
       | inl same ↦ inl (bytes_same x y same)
@@ -51,7 +52,7 @@ numbers_same (negsuc m) (pos n) = inr (λ e. cc)
 numbers_same (negsuc m) (negsuc n) =
     elim (cases_eq m n) [ inl same ↦ inl (ap negsuc same) | inr other ↦ inr (λ e. (let same : m ≡ n = cc in other same)) ]
 
-tokens_same : (t u : Tok) → (t ≡ u) ⊎ (t ≢ u)
+pub tokens_same : (t u : Tok) → (t ≡ u) ⊎ (t ≢ u)
 tokens_same (Word x) (Word y) =
     elim (names_same x y) [ inl same ↦ inl (ap Word same) | inr other ↦ inr (λ e. (let same : x ≡ y = cc in other same)) ]
 tokens_same (Number m) (Number n) =
@@ -71,7 +72,7 @@ tokens_same t u = inr (λ e. cc)
 -- the tests of a plan
 
 -- tokens begin with a token, or not
-begins_or_not : (t : Tok) (ts : List Tok) → ((us : List Tok) × (ts ≡ t ∷ us)) ⊎ ((us : List Tok) → ts ≢ t ∷ us)
+pub begins_or_not : (t : Tok) (ts : List Tok) → ((us : List Tok) × (ts ≡ t ∷ us)) ⊎ ((us : List Tok) → ts ≢ t ∷ us)
 begins_or_not t [] = inr (λ us e. cc)
 begins_or_not t (u ∷ us) =
     elim (tokens_same u t) [
@@ -418,3 +419,23 @@ pub statement_or_none : (ts : List Tok) → ((s : StatementTree) × IsStatement 
 statement_or_none ts =
     let r = followed (11 * length ts) (answers_below (11 * length ts)) (statement_plan ts tells) (statement-falls ts tells (λ n s. tt)) in
     statement_if ts r.0 r.1
+
+-- tokens are an expression, or none
+
+expr_by : (ts : List Tok) (e : ExprTree) (rest : List Tok) → Comes (plan_of (Reading Choice ts)) (Some (record { tree = e; rest = rest }))
+    → ((e : ExprTree) × IsExpr 0 ts e) ⊎ ((e : ExprTree) → ¬ (IsExpr 0 ts e))
+expr_by ts e [] comes =
+    let front = fits (Reading Choice ts) (record { tree = e; rest = [] }) comes in
+    let same : ts ≡ front.front = front.split ∙ append-nil front.front in
+    inl (e, subst (λ (us : List Tok). IsExpr 0 us e) (sym same) front.is)
+expr_by ts e (t ∷ rest) comes = inr (λ other is. (let left = same_rest e other (t ∷ rest) [] (one_answer comes (whole ts other is)) in cc))
+
+expr_if : (ts : List Tok) (r : Option Found) → Comes (plan_of (Reading Choice ts)) r
+    → ((e : ExprTree) × IsExpr 0 ts e) ⊎ ((e : ExprTree) → ¬ (IsExpr 0 ts e))
+expr_if ts None comes = inr (λ e is. (let one = one_answer comes (whole ts e is) in cc))
+expr_if ts (Some f) comes = expr_by ts f.tree f.rest comes
+
+pub expr_or_none : (ts : List Tok) → ((e : ExprTree) × IsExpr 0 ts e) ⊎ ((e : ExprTree) → ¬ (IsExpr 0 ts e))
+expr_or_none ts =
+    let r = answers_below (suc (size (Reading Choice ts))) (Reading Choice ts) (omega arith) in
+    expr_if ts r.0 r.1

@@ -52,8 +52,8 @@ pub(crate) fn reading<'a>(
     Ok(Some((Expr::Read { name, offset }, rest)))
 }
 
-// The reducer that the reserved word is.
-pub(crate) fn reducer_of(key: Key) -> Option<Reducer>
+/// The reducer that the reserved word is.
+pub fn reducer_of(key: Key) -> Option<Reducer>
     ensures { MatchOption result
         ((r : Reducer) → reducer_key r ≢ key)
         (λ r. reducer_key r ≡ key) }

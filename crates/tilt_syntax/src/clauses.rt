@@ -71,8 +71,8 @@ pub(crate) fn grid(tokens: &[Token]) -> Option<(Option<Every>, &[Token])>
     Some((Some(Every { period, offset }), rest))
 }
 
-// Whether the tokens are the `;` alone.
-pub(crate) fn is_end(tokens: &[Token]) -> bool
+/// Whether the tokens are the `;` alone.
+pub fn is_end(tokens: &[Token]) -> bool
     ensures { IsTrue result ↔ (kinds tokens.now ≡ Tok.Mark Mark.Semicolon ∷ []) }
 {
     match behind_mark(tokens, Mark::Semicolon) {

@@ -6,8 +6,8 @@ ghost use Rattle.tilt_syntax.specs.Query.{kinds, AreSound};
 
 use tilt_lexer::{Key, Mark, Name, Tok, Token};
 
-// What stands behind the reserved word, where the tokens begin with it.
-pub(crate) fn behind_key(tokens: &[Token], key: Key) -> Option<&[Token]>
+/// What stands behind the reserved word, where the tokens begin with it.
+pub fn behind_key(tokens: &[Token], key: Key) -> Option<&[Token]>
     ensures front { MatchOption result
         ((ts : List Tok) → kinds tokens.now ≢ Tok.Key key ∷ ts)
         (λ rest. kinds tokens.now ≡ Tok.Key key ∷ kinds rest.now) }
@@ -20,8 +20,8 @@ pub(crate) fn behind_key(tokens: &[Token], key: Key) -> Option<&[Token]>
     }
 }
 
-// What stands behind the sign, where the tokens begin with it.
-pub(crate) fn behind_mark(tokens: &[Token], mark: Mark) -> Option<&[Token]>
+/// What stands behind the sign, where the tokens begin with it.
+pub fn behind_mark(tokens: &[Token], mark: Mark) -> Option<&[Token]>
     ensures front { MatchOption result
         ((ts : List Tok) → kinds tokens.now ≢ Tok.Mark mark ∷ ts)
         (λ rest. kinds tokens.now ≡ Tok.Mark mark ∷ kinds rest.now) }
@@ -34,8 +34,8 @@ pub(crate) fn behind_mark(tokens: &[Token], mark: Mark) -> Option<&[Token]>
     }
 }
 
-// The number at the front, and what stands behind it.
-pub(crate) fn front_number(tokens: &[Token]) -> Option<(i64, &[Token])>
+/// The number at the front, and what stands behind it.
+pub fn front_number(tokens: &[Token]) -> Option<(i64, &[Token])>
     ensures front { MatchOption result
         ((n : ℤ) (ts : List Tok) → kinds tokens.now ≢ Tok.Number n ∷ ts)
         (λ found. kinds tokens.now ≡ Tok.Number found.0 ∷ kinds found.1.now) }
@@ -51,8 +51,8 @@ pub(crate) fn front_number(tokens: &[Token]) -> Option<(i64, &[Token])>
     }
 }
 
-// The name at the front, and what stands behind it.
-pub(crate) fn front_name(tokens: &[Token]) -> Option<(&Name, &[Token])>
+/// The name at the front, and what stands behind it.
+pub fn front_name(tokens: &[Token]) -> Option<(&Name, &[Token])>
     ensures front { MatchOption result
         ((x : List ℕ) (ts : List Tok) → kinds tokens.now ≢ Tok.Word x ∷ ts)
         (λ found. kinds tokens.now ≡ Tok.Word found.0.now ∷ kinds found.1.now) }
@@ -78,8 +78,8 @@ fn is_key(token: &Tok, key: Key) -> bool
     }
 }
 
-// Whether the token is the sign.
-pub(crate) fn is_mark(token: &Tok, mark: Mark) -> bool
+/// Whether the token is the sign.
+pub fn is_mark(token: &Tok, mark: Mark) -> bool
     ensures { IsTrue result ↔ (token.now ≡ Tok.Mark mark) }
 {
     match token {

@@ -2,7 +2,9 @@
 //! out is the grammar's one reading of the tokens (`query`, `only`), and a refusal tells the first fault, exactly where there is
 //! one (`faulty`, `first`). Those of `read_text` say the same of a text, which may be of any length: it keeps no more of its tokens
 //! than a query may have. A `Query` keeps that some tokens read as it. The other way, `print` gives its text, which reads as this
-//! query and no other (`text`, `reads_back`). No code but tests calls `parse_expression`, which reads one expression.
+//! query and no other (`text`, `reads_back`). `parse_expression` reads one expression. For readers of
+//! other texts of such tokens, `first_statement` cuts off what ends at the first `;`, and the functions of `front` take one token.
+//! What is no text makes a query by `Query::new`, and its expressions by `one`, `two` and `choose`.
 #![tactic(auto)]
 
 mod atom;
@@ -23,12 +25,17 @@ mod statement;
 mod text;
 mod tree;
 
+pub use atom::reducer_of;
+pub use clauses::is_end;
+pub use cut::first_statement;
 pub use every::Every;
 pub use expr::Expr;
 pub use fault::{SyntaxFault, TextFault};
+pub use front::{behind_key, behind_mark, front_name, front_number, is_mark};
 pub use parser::{parse, parse_expression};
 pub use printer::print;
 pub use query::Query;
 pub use statement::Statement;
 pub use text::read_text;
 pub use tilt_base::Span;
+pub use tree::{choose, one, two};

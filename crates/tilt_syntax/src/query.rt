@@ -28,8 +28,8 @@ impl Model for Query {
 }
 
 impl Query {
-    // The query of these statements.
-    pub(crate) fn new(statements: Vec<Statement>) -> Query
+    /// The query of these statements, which some tokens read as.
+    pub fn new(statements: Vec<Statement>) -> Query
         requires { IsQuery (map statement_tree statements.items) }
         ensures { result ≡ map statement_tree statements.items }
     {

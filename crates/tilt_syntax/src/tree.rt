@@ -7,16 +7,16 @@ use crate::expr::Expr;
 use std::alloc::{AllocError as OutOfMemory, Global};
 use tilt_base::{Op1, Op2};
 
-// The operator on the expression.
-pub(crate) fn one(alloc: Global, op: Op1, a: Expr) -> Result<Expr, OutOfMemory>
+/// The operator on the expression.
+pub fn one(alloc: Global, op: Op1, a: Expr) -> Result<Expr, OutOfMemory>
     ensures { IfOk result (λ e. expr_tree e ≡ One op (expr_tree a)) }
 {
     let a = Box::new(alloc, a)?;
     Ok(Expr::One(op, a))
 }
 
-// The operator on the two expressions.
-pub(crate) fn two(alloc: Global, op: Op2, a: Expr, b: Expr) -> Result<Expr, OutOfMemory>
+/// The operator on the two expressions.
+pub fn two(alloc: Global, op: Op2, a: Expr, b: Expr) -> Result<Expr, OutOfMemory>
     ensures { IfOk result (λ e. expr_tree e ≡ Two op (expr_tree a) (expr_tree b)) }
 {
     let a = Box::new(alloc, a)?;
@@ -24,8 +24,8 @@ pub(crate) fn two(alloc: Global, op: Op2, a: Expr, b: Expr) -> Result<Expr, OutO
     Ok(Expr::Two(op, a, b))
 }
 
-// `if` the first `then` the second `else` the third.
-pub(crate) fn choose(alloc: Global, c: Expr, a: Expr, b: Expr) -> Result<Expr, OutOfMemory>
+/// `if` the first `then` the second `else` the third.
+pub fn choose(alloc: Global, c: Expr, a: Expr, b: Expr) -> Result<Expr, OutOfMemory>
     ensures { IfOk result (λ e. expr_tree e ≡ If (expr_tree c) (expr_tree a) (expr_tree b)) }
 {
     let c = Box::new(alloc, c)?;

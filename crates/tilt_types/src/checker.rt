@@ -200,8 +200,8 @@ fn is_domain(over: Option<Span>, every: Option<Every>) -> bool
     }
 }
 
-// Whether the span bounds a stretch of time within the range.
-fn is_stretch(span: Span) -> bool
+/// Whether the span bounds a stretch of time from `-T` to `T`.
+pub fn is_stretch(span: Span) -> bool
     ensures { result ≡ is_stretch (Some span) }
 {
     -T <= span.start && span.start < span.end && span.end <= T

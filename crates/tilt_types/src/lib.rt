@@ -2,7 +2,8 @@
 //!
 //! What comes in is a query, as `parse` of `tilt_syntax` gives it. `check` gives its core, or its first fault, by its one clause;
 //! besides, it may only want memory. In `specs/`, `Types` and `WellFormed` say what has a fault, and `Checked` what the core is.
-//! The types of a core stand in `tilt_core`, and are exported here as well.
+//! The types of a core stand in `tilt_core`, and are exported here as well. For readers of other texts, `type_of` gives the type of one
+//! expression over names that were declared, and `is_stretch` says whether one span bounds a stretch of time.
 #![tactic(auto)]
 
 mod builder;
@@ -13,6 +14,9 @@ mod grid;
 mod types;
 mod value_type;
 
-pub use checker::check;
+pub use checker::{check, is_stretch};
+pub use declared::Declared;
 pub use fault::CheckFault;
 pub use tilt_core::{Core, Def, Tree};
+pub use types::type_of;
+pub use value_type::ValueType;

@@ -1,8 +1,8 @@
-// The type of an expression.
+/// The type of an expression.
 #[derive(Clone, Copy, Debug, PartialEq, Eq)]
-pub(crate) enum ValueType {
-    // Numbers.
+pub enum ValueType {
+    /// Numbers.
     Int,
-    // Truth values, which are the numbers 1 and 0 in the core.
+    /// Truth values, which are the numbers 1 and 0 in the core.
     Bool,
 }
