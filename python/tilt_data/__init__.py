@@ -1,7 +1,8 @@
 """From a file of readings to series of tilt, and from its output to tables and pictures.
 
-`run` and `Query` are for programs; they need pandas when they are called, and not before."""
+`run` and `Query` are for programs; they need pandas when they are called, and not before. `scale` needs `dask.distributed` so."""
 from .errors import Refused, TiltError
 from .frames import Convention, Explained, Live, Query, run
+from .scaling import Scaled, scale
 
-__all__ = ["Convention", "Explained", "Live", "Query", "Refused", "TiltError", "run"]
+__all__ = ["Convention", "Explained", "Live", "Query", "Refused", "Scaled", "TiltError", "run", "scale"]

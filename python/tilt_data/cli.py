@@ -5,10 +5,10 @@ import argparse
 import os
 import sys
 
-from . import by, follow, plot, series, table, ticks, why
+from . import by, follow, plot, scaling, series, table, ticks, why
 from .errors import Refused
 
-COMMANDS = [series, table, why, ticks, by, follow, plot]
+COMMANDS = [series, table, why, ticks, by, scaling, follow, plot]
 
 
 def parser_of() -> argparse.ArgumentParser:

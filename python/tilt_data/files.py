@@ -18,6 +18,8 @@ from .errors import Refused, refused_at
 
 Row = tuple[int, int, "int | None"]
 HEADER = ["start", "end", "value"]
+# How the name of a file ends that has no name of its own yet.
+PLACED = ".tilt-data-new"
 
 
 @contextlib.contextmanager
@@ -173,6 +175,35 @@ def writing(path: str | None) -> Iterator[IO[str]]:
     finally:
         with contextlib.suppress(OSError):
             os.unlink(new)
+
+
+@contextlib.contextmanager
+def placed(path: str, lasting: bool = True) -> Iterator[IO[bytes]]:
+    """A file of bytes in a folder that several machines may share: it is written beside its name under one that nobody else has, brought
+    to the disk if it is to be `lasting`, and takes its name at the end. Where it doesn't come to the end, it goes away."""
+    folder, name = os.path.split(path)
+    os.makedirs(folder or ".", exist_ok=True)
+    handle, new = tempfile.mkstemp(dir=folder or ".", prefix=f".{name}.", suffix=PLACED)
+    try:
+        with open(handle, "wb") as file:
+            os.chmod(new, 0o644)
+            yield file
+            file.flush()
+            if lasting:
+                os.fsync(file.fileno())
+        os.replace(new, path)
+    finally:
+        with contextlib.suppress(OSError):
+            os.unlink(new)
+
+
+def sweep(folder: str) -> None:
+    """Takes away what processes that were killed left beside the names of files, in the folder and all below it."""
+    for where, _, names in os.walk(folder):
+        for name in names:
+            if name.startswith(".") and name.endswith(PLACED):
+                with contextlib.suppress(OSError):
+                    os.unlink(os.path.join(where, name))
 
 
 @dataclasses.dataclass(frozen=True)

@@ -1,0 +1,806 @@
+"""`tilt-data scale`: parts and keys joined are what one run prints, also where workers are killed, files grow and disks fail."""
+from __future__ import annotations
+
+import concurrent.futures
+import fcntl
+import json
+import os
+import pathlib
+import random
+import re
+import shutil
+import signal
+import subprocess
+import sys
+import threading
+import time
+from typing import Any, Iterator
+
+import pytest
+from conftest import PROGRAM, PYTHON, TOP, run_program
+from queries import Draw
+
+from tilt_data import Query, Refused, TiltError, blocks, engine, parts, scale, tasks
+from tilt_data.files import placed
+from tilt_data.forms import fault_of
+from tilt_data.parts import Domain, Part
+from tilt_data.scaling import Plan, files_of, keys_and_files
+from tilt_data.tokens import tokens_of
+
+HEADER = "start,end,value\n"
+FAR = 4 * 10**18
+DASK = "python3-distributed"
+
+
+@pytest.fixture
+def here(tilt, tmp_path, monkeypatch):
+    """An empty folder and the program; the workers find both."""
+    monkeypatch.chdir(tmp_path)
+    monkeypatch.setenv("TILT", tilt)
+    # No test stops the machine: what is brought to the disk here would only take time.
+    monkeypatch.setattr(os, "fsync", lambda _: None)
+    return tmp_path
+
+
+@pytest.fixture
+def dask():
+    return pytest.importorskip("distributed", reason=f"{DASK} is missing")
+
+
+def text_of(rows) -> str:
+    return HEADER + "".join(f"{s},{e},{'' if v is None else v}\n" for s, e, v in rows)
+
+
+def series(seed: int, end: int, step: int, values: int = 1000, begin: int = 0) -> list[tuple[int, int, int | None]]:
+    """Rows of random lengths, some of them null and some ticks without one; with few values many neighbours are equal."""
+    draws = random.Random(seed)
+    rows, at = [], begin
+    while at < end:
+        after = min(end, at + 1 + draws.randrange(step))
+        if draws.random() < 0.85:
+            rows.append((at, after, draws.randrange(values) if draws.random() < 0.95 else None))
+        at = after
+    return rows
+
+
+def planned(query: str | os.PathLike[str], out: str = "out", **inputs: str | list[str]) -> Plan:
+    """A plan whose indexes are made."""
+    plan = Plan(Query(query), {name: [files] if isinstance(files, str) else files for name, files in inputs.items()}, out, None)
+    for indexing in plan.unindexed():
+        assert tasks.make_indexes(indexing).status == 0
+    return plan
+
+
+def made(plan: Plan, key: str, ticks: list[int]) -> str:
+    """What a key's parts come to, by the functions of the workers, where the domain is cut at these ticks."""
+    plan.cut_at(key, ticks, len(ticks) + 1)
+    found = list(plan.tasks(key))
+    for task in found:
+        done = tasks.make_part(task)
+        assert (done.line, done.status) == ("", 0)
+    whole = plan.whole_file(key)
+    assert tasks.make_whole(tasks.Joining(key, tuple((task.part, task.file) for task in found), whole)).status == 0
+    return pathlib.Path(whole).read_text()
+
+
+def even(plan: Plan, key: str, count: int) -> list[int]:
+    """Ticks that part the rows of a key evenly; where too many of them come to one place on the grid, grid points that part the domain."""
+    met = [block for files in plan.indexed(key).values() for one in files for block in one.blocks]
+    ticks, domain = blocks.ticks_by_rows(met, count), plan.domain
+    steps = (domain.end - domain.start) // domain.period
+    if len(domain.cuts(ticks)[0]) == count - 1:
+        return ticks
+    return [domain.start + at * steps // count * domain.period for at in range(1, count)]
+
+
+# Without the program: where a domain may be cut
+
+
+@pytest.mark.parametrize("text, ticks, cuts, moved", [
+    ("emit 1 over (0, 10];", [1, 5, 9], [1, 5, 9], 0),
+    ("emit 1 over (0, 10];", [-3, 0, 1, 10, 12], [1], 4),
+    ("emit 1 over (0, 1];", [0, 1, 2], [], 3),
+    ("emit 1 over (0, 20] every 5;", [1, 5, 6, 14, 16], [5, 10, 15], 4),
+    ("emit 1 over (-7, 13] every 10 from 3;", [-7, -6, 3, 4], [3], 3),
+    ("emit 1 over (-20, -5] every 5;", [-19, -11, -6], [-15, -10], 3),
+    ("emit 1 over (-4000000000000000000, 4000000000000000000];", [1 - FAR, FAR - 1], [1 - FAR, FAR - 1], 0),
+])
+def test_where_a_domain_may_be_cut(text, ticks, cuts, moved):
+    assert Domain.of(text).cuts(ticks) == (cuts, moved)
+
+
+def test_the_parts_begin_a_step_before_their_cuts():
+    assert Domain.of("emit 1 over (0, 10];").parts([1, 2, 9]) == [Part(1, 0, 1), Part(2, 0, 2), Part(3, 1, 9), Part(4, 8, 10)]
+    assert Domain.of("emit 1 over (0, 20] every 5;").parts([5, 15]) == [Part(1, 0, 5), Part(2, 0, 15), Part(3, 10, 20)]
+
+
+def test_the_query_of_a_part_is_the_query_with_its_bounds():
+    text = "input over_;\r\nlet a = over_ over (0, 10];\n emit a[t-1]+0 over(\t- 7 ,0013 ]every 10 from 3;\n"
+    assert Domain.of(text).query(-17, 3) == text.replace("- 7", "-17").replace("0013", "3")
+
+
+def test_a_statement_that_can_take_no_minus_more():
+    """256 tokens are all that a statement may have: a part that ends below 0 would need one more."""
+    text = "emit 1" + " + 1" * 120 + " - --1 over (-40, 40] every 4;"
+    assert len(tokens_of(text.encode())) == 256
+    assert Domain.of(text).cut(-36) == 0 and Domain.of(text.replace("--1", "-1")).cut(-36) == -36
+    assert Domain.of(text.replace("(-40", "(-42").replace("40]", "42]").replace("every 4", "every 3")).cut(-36) == 0
+
+
+# Without the program: how parts are joined
+
+
+def joined(folder: pathlib.Path, *texts: tuple[int, int, str]) -> str:
+    """The whole of parts given by their stretches and their lines."""
+    found = []
+    for number, (start, end, lines) in enumerate(texts, 1):
+        path = folder / f"{number}"
+        path.write_text(HEADER + "".join(line + "\n" for line in lines.split()))
+        found.append((Part(number, start, end), str(path)))
+    with open(folder / "whole", "wb") as out:
+        parts.join(found, out)
+    return " ".join((folder / "whole").read_text().split()[1:])
+
+
+@pytest.mark.parametrize("texts, wanted", [
+    # One snapshot over the cut; a mark at the cut; a mark at the tick before it, which is the first one of the later part.
+    ([(0, 5, "0,3,7 3,5,8"), (4, 9, "4,6,8 6,9,1")], "0,3,7 3,6,8 6,9,1"),
+    ([(0, 5, "0,5,7"), (4, 9, "4,5,7 5,9,7")], "0,5,7 5,9,7"),
+    ([(0, 5, "0,4,7 4,5,7"), (4, 9, "4,9,7")], "0,4,7 4,9,7"),
+    # Null at the cut: nothing stands there, and the rows beside it aren't touched, also where they are equal.
+    ([(0, 5, "0,4,7"), (4, 9, "5,9,7")], "0,4,7 5,9,7"),
+    ([(0, 5, ""), (4, 9, "")], ""),
+    ([(0, 5, ""), (4, 9, "7,9,1")], "7,9,1"),
+    ([(0, 5, "1,2,3"), (4, 9, "")], "1,2,3"),
+    # One snapshot over all parts, and parts of one tick.
+    ([(0, 2, "0,2,4"), (1, 3, "1,3,4"), (2, 4, "2,4,4"), (3, 9, "3,8,4")], "0,8,4"),
+    ([(0, 1, "0,1,4"), (0, 2, "0,1,4 1,2,5"), (1, 3, "1,2,5 2,3,5")], "0,1,4 1,2,5 2,3,5"),
+    # A grid of 5: the later part begins a step before the cut.
+    ([(0, 10, "0,5,1 5,10,2"), (5, 20, "5,15,2 15,20,2")], "0,5,1 5,15,2 15,20,2"),
+    ([(-10, -5, "-10,-5,-1"), (-10, 0, "-10,0,-1")], "-10,0,-1"),
+])
+def test_parts_are_joined(tmp_path, texts, wanted):
+    assert joined(tmp_path, *texts) == wanted
+
+
+@pytest.mark.parametrize("texts", [
+    [(0, 5, "0,5,7"), (4, 9, "5,9,7")], [(0, 5, "0,4,7"), (4, 9, "4,9,7")], [(0, 5, "0,5,7"), (4, 9, "4,9,8")],
+    [(0, 5, "0,5,7"), (4, 9, "")]])
+def test_parts_that_do_not_fit_are_refused(tmp_path, texts):
+    with pytest.raises(Refused, match="doesn't fit to the one before it, at 4"):
+        joined(tmp_path, *texts)
+
+
+def test_long_parts_are_joined(tmp_path):
+    rows = series(5, 60000, 3)
+    rows = [row for row in rows if row[2] is not None]
+    before = [row for row in rows if row[0] < 30000]
+    cut = before[-1][1] - (before[-1][1] - before[-1][0]) // 2
+    first = [(s, min(e, cut), v) for s, e, v in rows if s < cut]
+    later = [(max(s, cut - 1), e, v) for s, e, v in rows if e > cut - 1]
+    lines = [" ".join(f"{s},{e},{v}" for s, e, v in some) for some in (first, later, rows)]
+    assert joined(tmp_path, (0, cut, lines[0]), (cut - 1, 60000, lines[1])) == lines[2]
+
+
+# Without the program: the index of files
+
+
+def rows_in_stretch(rows, low: int, high: int):
+    return [row for row in rows if row[1] > low and row[0] < high]
+
+
+def read_back(indexed: blocks.Indexed, low: int, high: int) -> bytes:
+    found = b""
+    for segment, _ in blocks.stretch_of([indexed], low, high):
+        data = blocks.bytes_of(segment)
+        begin, end, _ = blocks.trimmed(data, low, high)
+        found += data[begin:end]
+    return found
+
+
+def test_only_the_rows_of_a_stretch_are_read(tmp_path):
+    rows = series(1, 20000, 7)
+    path = tmp_path / "x.csv"
+    path.write_text(text_of(rows))
+    indexed = blocks.make_index(str(path), str(tmp_path / "index"))
+    assert indexed.rows == len(rows) and len(indexed.blocks) > 30 and indexed.file == str(path)
+    draws = random.Random(2)
+    for _ in range(100):
+        low = draws.randrange(-50, 20050)
+        high = low + 1 + draws.randrange(draws.choice([2, 500, 20000]))
+        assert read_back(indexed, low, high).decode() == text_of(rows_in_stretch(rows, low, high))[len(HEADER):]
+        bytes_read = sum(segment.length for segment, _ in blocks.stretch_of([indexed], low, high))
+        assert bytes_read <= len(read_back(indexed, low, high)) + 2 * max(block.length for block in indexed.blocks)
+
+
+@pytest.mark.parametrize("text, rows", [
+    (HEADER + "0,5,7\n6,8,9", [(0, 5, 7), (6, 8, 9)]), ("\ufeffstart,end,value\r\n0,5,7\r\n\r\n6,8,\r\n", [(0, 5, 7), (6, 8, None)]),
+    ('"start","end","value"\n0,"5",7\n', [(0, 5, 7)]), ("start,end,value\r0,5,7\r6,8,9\r", [(0, 5, 7), (6, 8, 9)]), (HEADER, []),
+    (HEADER + "\n\n+0,005,-7\n", [(0, 5, -7)]), ("\n" + HEADER + "0,5,7\n", [(0, 5, 7)])])
+def test_files_as_spreadsheets_write_them(tmp_path, text, rows):
+    path = tmp_path / "x.csv"
+    path.write_bytes(text.encode())
+    indexed = blocks.make_index(str(path), str(tmp_path / "index"))
+    lines = read_back(indexed, -10, 10).decode().replace("\r", "").split()
+    assert [tuple(int(field) if field else None for field in line.split(",")) for line in lines] == rows
+    assert blocks.found_index(str(path), str(tmp_path / "index")) == indexed
+
+
+@pytest.mark.parametrize("text, told", [
+    ("start,end\n0,5\n", "x.csv:1: the header"), (HEADER + "0,5,7\n4,8,9.5\n", "x.csv:3: a row"), (HEADER + "0,5\n", "x.csv:2: a row"),
+    (HEADER + "\n0,5,7\n9\n", "x.csv:4: a row"), (HEADER + "7,9,1\n0,5,1\n", "x.csv:3: a row that starts at 9"),
+    (HEADER + "".join(f"{at},{at + 1},7\n" for at in [*range(1000, 1060), *range(60)]), "x.csv:62: a row that starts at 1060")],
+    ids=range(6))
+def test_files_that_are_no_series(tmp_path, text, told):
+    path = tmp_path / "x.csv"
+    path.write_text(text)
+    with pytest.raises(Refused, match=told):
+        blocks.make_index(str(path), str(tmp_path))
+
+
+def test_an_index_is_made_once_and_anew_where_the_file_has_changed(tmp_path):
+    path = tmp_path / "x.csv"
+    path.write_text(text_of(series(1, 100, 3)))
+    indexed = blocks.make_index(str(path), str(tmp_path))
+    assert blocks.found_index(str(path), str(tmp_path)) == indexed
+    path.write_text(text_of(series(1, 200, 3)))
+    assert blocks.found_index(str(path), str(tmp_path)) is None
+    with pytest.raises(Refused, match="changed after its index was made"):
+        blocks.bytes_of(next(blocks.stretch_of([indexed], 0, 100))[0])
+
+
+def test_files_of_an_input_do_not_overlap(tmp_path):
+    found = []
+    for name, begin in (("b", 100), ("a", 0), ("empty", 400), ("c", 250)):
+        (tmp_path / name).write_text(text_of(series(3, begin + 150 if name != "empty" else begin, 5, begin=begin)))
+        found.append(blocks.make_index(str(tmp_path / name), str(tmp_path)))
+    assert [os.path.basename(one.path) for one in blocks.in_order([found[0], found[2], found[3]])] == ["b", "c"]
+    with pytest.raises(Refused, match="b: its rows begin at 1.., before those of .*a end"):
+        blocks.in_order(found)
+
+
+def test_cuts_are_chosen_by_rows_and_gaps_cost_nothing(tmp_path):
+    rows = series(1, 5000, 2) + [(s + 10**15, e + 10**15, v) for s, e, v in series(2, 5000, 2)] + [(4 * 10**18 - 1, 4 * 10**18, 5)]
+    (tmp_path / "x").write_text(text_of(rows))
+    indexed = blocks.make_index(str(tmp_path / "x"), str(tmp_path))
+    ticks = blocks.ticks_by_rows(indexed.blocks, 10)
+    sizes = [len([row for row in rows if low <= row[0] < high]) for low, high in zip([0, *ticks], [*ticks, 5 * 10**18])]
+    assert len(sizes) == 10 and ticks == sorted(ticks) and max(sizes) < 1.25 * len(rows) / 10 and min(sizes) > 0.75 * len(rows) / 10
+
+
+def test_files_by_key_by_day_and_by_both(tmp_path, monkeypatch):
+    monkeypatch.chdir(tmp_path)
+    for name in ("n/2.csv", "n/1.csv", "s/1.csv", "s/10.csv", "s/x.txt", "n_n.csv", "n_s.csv", "[1].csv"):
+        pathlib.Path(name).parent.mkdir(exist_ok=True)
+        pathlib.Path(name).write_text("")
+
+    def short(pattern: str) -> dict[str | None, list[str]]:
+        return {key: [os.path.relpath(path) for path in paths] for key, paths in keys_and_files(pattern).items()}
+
+    assert short("{key}/*.csv") == {"n": ["n/1.csv", "n/2.csv"], "s": ["s/1.csv", "s/10.csv"]}
+    assert short("{key}/?.csv") == {"n": ["n/1.csv", "n/2.csv"], "s": ["s/1.csv"]}
+    assert short("n/*.csv") == {None: ["n/1.csv", "n/2.csv"]} and short("[1].csv") == {None: ["[1].csv"]}
+    assert short("{key}_{key}.csv") == {"n": ["n_n.csv"]} and short("no/{key}.csv") == {}
+    files = files_of({"u": ["n_n.csv"], "x": ["n/1.csv", "{key}/?.csv", "{key}_n.csv"], "y": ["{key}/*.csv"]})
+    assert list(files) == ["n", "s"] and [os.path.relpath(path) for path in files["n"]["x"]] == ["n/1.csv", "n/2.csv", "n_n.csv"]
+    assert [os.path.relpath(path) for path in files["s"]["y"]] == ["s/1.csv", "s/10.csv"] and files["s"]["u"] == files["n"]["u"]
+    with pytest.raises(Refused, match="the key s has no file of y"):
+        files_of({"x": ["{key}/*.csv"], "y": ["{key}_n.csv"]})
+
+
+# What is told where Dask isn't there
+
+
+@pytest.mark.parametrize("package", ["dask", "distributed"])
+def test_without_dask_the_package_is_told(told, tilt, monkeypatch, package):
+    monkeypatch.setitem(sys.modules, package, None)
+    pathlib.Path("q").write_text("emit 1 over (0, 10];")
+    status, out, err = told("scale", "q", "--out", "out")
+    assert (status, out) == (1, "") and err.startswith(f"tilt-data: python3-{package} isn't installed")
+    assert "apt-get install python3-dask python3-distributed" in err and not os.path.exists("out")
+
+
+def test_without_bokeh_the_dashboard_is_refused(told, here, dask, monkeypatch):
+    monkeypatch.setitem(sys.modules, "bokeh", None)
+    pathlib.Path("q").write_text("emit 1 over (0, 10];")
+    status, _, err = told("scale", "q", "--out", "out", "--dashboard")
+    assert status == 1 and err.startswith("tilt-data: the dashboard needs bokeh, which isn't installed")
+
+
+def test_the_core_needs_no_dask():
+    words = "import sys; sys.modules['dask'] = sys.modules['distributed'] = None; import tilt_data.cli; print(len(tilt_data.cli.COMMANDS))"
+    done = subprocess.run([sys.executable, "-c", words], env={"PYTHONPATH": str(PYTHON)}, capture_output=True, text=True)
+    assert done.returncode == 0 and int(done.stdout) > 5, done.stderr
+
+
+# With the program, by the functions of the workers
+
+
+def in_1_to_20_parts(query: pathlib.Path) -> set[int]:
+    """Holds the parts of an example to its one run, at each number of parts up to 20 or as many as its grid has; the numbers of parts."""
+    names = Plan.inputs_of(Query(query))
+    files = {name: str(query.parent / f"{name}.csv") for name in names}
+    os.makedirs(query.stem)
+    wanted = run_program(str(PROGRAM), query.read_text(), *(f"{name}={file}" for name, file in files.items()), folder=query.stem)
+    plan = planned(query, query.stem, **files)
+    most = min(20, (plan.domain.end - plan.domain.start) // plan.domain.period)
+    counts = set()
+    for count in range(1, most + 1):
+        assert made(plan, "", even(plan, "", count)) == wanted
+        counts.add(len(plan.cuts[""]) + 1)
+    assert counts == set(range(1, most + 1))
+    return counts
+
+
+@pytest.mark.parametrize("name", ["sensors", "trading", "clinical"])
+def test_the_examples_in_1_to_20_parts(here, name):
+    queries = sorted((TOP / "examples" / name).glob("*.tilt"))
+    with concurrent.futures.ThreadPoolExecutor(2) as pool:
+        assert set(range(1, 21)) in list(pool.map(in_1_to_20_parts, queries)) and len(queries) > 2
+
+
+class Small(Draw):
+    """Queries that look not far, over a small domain, with grids and spans that are mostly taken."""
+
+    def offset(self) -> str:
+        return self.one("t", "t", f"t-{self.draws.randrange(9)}", f"t+{self.draws.randrange(5)}")
+
+    def domain(self, needed: bool) -> str:
+        period = self.one(2, 3, 5, 7) if self.draws.random() < 0.4 else 1
+        offset = self.draws.randrange(period)
+        text = ""
+        if needed or self.draws.random() < 0.4:
+            low = self.draws.randrange(-8, 4) if needed else self.draws.randrange(60)
+            high = low + 1 + (self.draws.randrange(20, 100) if needed else self.draws.randrange(40))
+            text += f" over ({low * period + offset if period > 1 else low}, {high * period + offset if period > 1 else high}]"
+        return text + (f" every {period}{f' from {offset}' if offset else ''}" if period > 1 else "")
+
+
+def small_query(draw: Small) -> str:
+    """A query that the program takes."""
+    while True:
+        text = draw.query()
+        if fault_of(text.encode()) is None:
+            return text
+
+
+def compare(seed: int, folder: pathlib.Path) -> set[str]:
+    """Cuts a random query over random rows at random ticks, and holds it to one run; what there was to see."""
+    draw = Small(seed)
+    draws = draw.draws
+    folder.mkdir()
+    text = small_query(draw)
+    names = Plan.inputs_of(Query(text))
+    for name in names:
+        rows = series(draws.randrange(10**6), 150, draws.choice([2, 5, 30]), draws.choice([1, 2, 50]), -20)
+        (folder / f"{name}.csv").write_text(text_of(rows))
+    files = {name: str(folder / f"{name}.csv") for name in names}
+    wanted = run_program(str(PROGRAM), text, *(f"{name}={file}" for name, file in files.items()), folder=str(folder))
+    plan = planned(text, out=str(folder / "out"), **files)
+    domain = plan.domain
+    dense = draws.random() < 0.3
+    ticks = sorted({draws.randrange(domain.start - 1, domain.end + 2) for _ in range(1 + draws.randrange(12 if dense else 4))})
+    if dense:
+        ticks = sorted({tick + more for tick in ticks[:3] for more in range(4)})
+    # One that stands where a snapshot of the whole ends, so that marks at joints are met.
+    lines = [line.split(",") for line in wanted.splitlines()[1:]]
+    ticks = sorted({*ticks, int(draws.choice(lines)[1])}) if lines else ticks
+    assert made(plan, "", ticks) == wanted, (seed, text, ticks)
+    return seen(plan, text, lines)
+
+
+def seen(plan: Plan, text: str, rows: list[list[str]]) -> set[str]:
+    cuts = set(plan.cuts[""])
+    found = {"cut"} if cuts else set()
+    found |= {"grid"} if plan.domain.period > 1 else set()
+    ahead = any(need is not None and need[1] >= plan.domain.period for need in plan.needs.values())
+    found |= {"ahead"} if ahead and cuts else set()
+    found |= {"span"} if "over" in text.rpartition("emit")[0] and cuts else set()
+    for (_, end, value), (start, _, other) in zip(rows, rows[1:]):
+        found |= {"equal neighbours"} if end == start and value == other and int(end) in cuts else set()
+    for start, end, _ in rows:
+        found |= {"over a cut"} if any(int(start) < cut < int(end) for cut in cuts) else set()
+        found |= {"over two cuts"} if sum(int(start) < cut < int(end) for cut in cuts) > 1 else set()
+    covered = [cut for cut in cuts if any(int(start) < cut <= int(end) for start, end, _ in rows)]
+    found |= {"null at a cut"} if rows and len(covered) < len(cuts) else set()
+    found |= {"parts of one step"} if any(cut + plan.domain.period in cuts for cut in cuts) else set()
+    return found
+
+
+def test_500_random_queries(here):
+    with concurrent.futures.ThreadPoolExecutor(2) as pool:
+        found = list(pool.map(lambda seed: compare(seed, here / str(seed)), range(500)))
+    counts = {what: sum(what in some for some in found) for what in sorted(set().union(*found))}
+    assert set(counts) == {"cut", "grid", "ahead", "span", "equal neighbours", "over a cut", "over two cuts", "null at a cut",
+                           "parts of one step"}
+    assert counts["cut"] > 450 and min(counts.values()) >= 25, counts
+
+
+@pytest.mark.parametrize("query", [
+    "emit 5 over (0, 10];", "input x; emit ifnull(x, 7) over (-4000000000000000000, 4000000000000000000];",
+    "input x; emit 1 over (0, 10];", "input x; let g = count(x[t-5:t+5]) over (0, 5]; emit ifnull(g, 0) over (0, 10];"])
+def test_queries_whose_output_rests_on_no_rows(here, query):
+    pathlib.Path("x.csv").write_text(HEADER)
+    files = {"x": "x.csv"} if "input" in query else {}
+    plan = planned(query, **files)
+    plan.cut("", 10)
+    assert plan.cuts == {"": []}
+    assert made(plan, "", [3, 4, 5, 9]) == run_program(str(PROGRAM), query, *(f"{name}={file}" for name, file in files.items()))
+
+
+def test_a_part_reads_only_the_rows_that_it_needs(here):
+    rows = series(1, 40000, 5)
+    pathlib.Path("x.csv").write_text(text_of(rows))
+    plan = planned("input x; input u; let m = max(x[t-30:t-10]); emit x[t+7] - m over (0, 40000];", x="x.csv", u="x.csv")
+    plan.cut_at("", [20000, 20100], 3)
+    middle = list(plan.tasks(""))[1]
+    x, u = middle.inputs
+    assert (x.low, x.high) == (20000 - 1 - 29, 20100 + 7) and not u.segments
+    words, count, _ = tasks.laid_out(middle, str(here))
+    wanted = rows_in_stretch(rows, x.low, x.high)
+    assert pathlib.Path(words[1].partition("=")[2]).read_text() == text_of(wanted) and count == len(wanted) < 60
+    assert pathlib.Path(words[2].partition("=")[2]).read_text() == HEADER
+
+
+def test_the_name_of_a_part_tells_query_rows_and_program(here, monkeypatch):
+    pathlib.Path("x.csv").write_text(text_of(series(1, 40000, 5)))
+
+    def files(query: str) -> list[str]:
+        plan = planned(query, x="x.csv")
+        plan.cut_at("", [10000, 20000, 30000], 4)
+        return [task.file for task in plan.tasks("")]
+
+    query = "input x; emit sum(x[t-100:t]) over (0, 40000];"
+    before = files(query)
+    assert files(query) == before and len(set(before)) == 4
+    # A longer domain leaves the names of the parts before its last cut, other rows those that don't rest on them.
+    assert files(query.replace("40000", "50000"))[:3] == before[:3]
+    assert not set(files(query.replace("100", "99"))) & set(before)
+    text = pathlib.Path("x.csv").read_text()
+    pathlib.Path("x.csv").write_text(text[:-200] + text[-200:].replace(",9", ",8"))
+    after = files(query)
+    assert after[:3] == before[:3] and after[3] != before[3]
+    other = here / "other"
+    other.write_text(f"#!/bin/sh\nexec {os.environ['TILT']} \"$@\"\n")
+    other.chmod(0o755)
+    monkeypatch.setenv("TILT", str(other))
+    assert not set(files(query)) & set(after)
+
+
+def test_parts_of_files_as_spreadsheets_write_them(here):
+    """One file has other ends of lines, and one has quotes."""
+    folder = TOP / "examples" / "spreadsheet"
+    files = {name: str(folder / f"{name}.csv") for name in ("limit", "temperature")}
+    text = (folder / "query.tilt").read_text()
+    wanted = run_program(str(PROGRAM), text, *(f"{name}={file}" for name, file in files.items()))
+    plan = planned(text, **files)
+    assert {os.path.basename(one.path): one.file == one.path for its in plan.indexed("").values() for one in its} == {
+        "limit.csv": True, "temperature.csv": False}
+    for ticks in ([30], [10, 20, 30, 40, 50], list(range(1, 60, 7))):
+        assert made(plan, "", ticks) == wanted
+
+
+def test_a_file_that_was_changed_after_its_index_was_made(here):
+    pathlib.Path("x.csv").write_text(text_of(series(1, 100, 5)))
+    plan = planned("input x; emit x over (0, 100];", x="x.csv")
+    plan.cut_at("", [50], 2)
+    task = next(plan.tasks(""))
+    pathlib.Path("x.csv").write_text(text_of(series(2, 100, 5)))
+    done = tasks.make_part(task)
+    assert (done.line, done.status) == (f"{here}/x.csv: it was changed after its index was made: call again", 1)
+    assert not os.path.exists(task.file)
+    with pytest.raises(Refused, match="it was changed after its index was made: call again"):
+        plan.cut("", 10)
+
+
+def test_a_worker_makes_no_part_that_is_there(here):
+    """As where two workers were handed one part, since one of them was thought lost."""
+    pathlib.Path("x.csv").write_text(text_of(series(1, 100, 5)))
+    plan = planned("input x; emit x over (0, 100];", x="x.csv")
+    plan.cut_at("", [], 1)
+    task = next(plan.tasks(""))
+    assert tasks.make_part(task).rows > 0
+    stamp = os.stat(task.file)
+    assert tasks.make_part(task) == tasks.Made() and os.stat(task.file) == stamp
+
+
+def test_another_program_at_the_worker_is_refused(here, monkeypatch):
+    pathlib.Path("x.csv").write_text(text_of(series(1, 100, 5)))
+    plan = planned("input x; emit x over (0, 100];", x="x.csv")
+    plan.cut_at("", [], 1)
+    task = next(plan.tasks(""))
+    for other in ("/bin/true", "/no/program"):
+        monkeypatch.setenv("TILT", other)
+        done = tasks.make_part(task)
+        assert done.status == 1 and done.line.startswith(f"{other} on ") and not os.path.exists(task.file)
+    with pytest.raises(Refused, match="the program can't be run: No such file"):
+        planned("emit 1 over (0, 10];")
+
+
+def test_what_breaks_off_leaves_no_file(tmp_path):
+    with pytest.raises(OSError), placed(str(tmp_path / "a" / "part")) as out:
+        out.write(b"half")
+        raise OSError(28, "No space left on device")
+    assert os.listdir(tmp_path / "a") == []
+
+
+# On a cluster of two workers on loopback
+
+
+class Cluster:
+    """A scheduler and two workers, as other machines would have them, which are begun again where they are killed; and the program that
+    they call, which does first what the text `before` says."""
+
+    def __init__(self, folder: pathlib.Path) -> None:
+        import distributed
+        self.folder = folder
+        self.program = folder / "program"
+        self.program.write_text(f'#!/bin/sh\n[ -e "$0.before" ] && . "$0.before"\nexec {PROGRAM} "$@"\n')
+        self.program.chmod(0o755)
+        self.begun: list[subprocess.Popen[bytes]] = []
+        file = folder / "scheduler.json"
+        self.begin("dask_scheduler", "--port", "0", "--scheduler-file", str(file))
+        self.begin("dask_worker", "--nworkers", "2", "--nthreads", "1", "--scheduler-file", str(file), "--local-directory", str(folder))
+        deadline = time.monotonic() + 60
+        while not (file.exists() and file.read_text().endswith("}")) and time.monotonic() < deadline:
+            time.sleep(0.05)
+        self.address = json.loads(file.read_text())["address"]
+        with distributed.Client(self.address, timeout="60s") as client:
+            client.wait_for_workers(2, timeout=60)
+
+    def begin(self, module: str, *words: str) -> None:
+        environment = {**os.environ, "PYTHONPATH": str(PYTHON), "TILT": str(self.program)}
+        words = "-m", f"distributed.cli.{module}", "--host", "127.0.0.1", "--no-dashboard", "--dashboard-address", "127.0.0.1:0", *words
+        self.begun.append(subprocess.Popen([sys.executable, *words], cwd=self.folder, env=environment, stdout=subprocess.DEVNULL,
+                                           stderr=subprocess.DEVNULL, start_new_session=True))
+
+    def before(self, text: str) -> None:
+        (self.folder / "program.before").write_text(text)
+
+    def workers(self) -> list[Any]:
+        import psutil
+        found = []
+        for process in psutil.Process(self.begun[1].pid).children(recursive=True):
+            try:
+                found += [process] if any("spawn_main" in word for word in process.cmdline()) else []
+            except psutil.Error:
+                pass
+        return found
+
+    def end(self) -> None:
+        for process in reversed(self.begun):
+            # Each has a group of its own, with the workers that it began.
+            os.killpg(process.pid, signal.SIGKILL)
+            process.wait()
+
+
+@pytest.fixture(scope="module")
+def of_module(tmp_path_factory) -> Iterator[Cluster]:
+    pytest.importorskip("distributed", reason=f"{DASK} is missing")
+    if not os.access(PROGRAM, os.X_OK):
+        pytest.skip("the program isn't built")
+    cluster = Cluster(tmp_path_factory.mktemp("cluster"))
+    yield cluster
+    cluster.end()
+
+
+@pytest.fixture
+def cluster(of_module, here, monkeypatch) -> Cluster:
+    """The cluster, whose program does nothing before."""
+    of_module.before("")
+    monkeypatch.setenv("TILT", str(of_module.program))
+    return of_module
+
+
+FLEET = ("input x; input limit; let a = avg(x[t-20:t]); let above = ifnull(a > limit, false);\n"
+         "emit a - limit when any(above[t-30:t+3]) over (0, {end}];\n")
+INPUTS = {"x": "data/{key}/day-*.csv", "limit": "limit.csv"}
+
+
+def fleet(folder: pathlib.Path, keys: int = 3, days: int = 3, rows: int = 4000) -> dict[str, str]:
+    """Keys with a file for each day, and a limit for all; what one run prints for each key."""
+    (folder / "limit.csv").write_text(text_of(series(9, days * 1000, 300, 40)))
+    query = FLEET.format(end=days * 1000)
+    (folder / "q").write_text(query)
+    wanted = {}
+    for key in range(keys):
+        name = f"k {key}" if key else "k%2F0"
+        (folder / "data" / name).mkdir(parents=True)
+        whole = series(20 + key, days * 1000, 1 + days * 2000 // rows, 50)
+        for day in range(days):
+            its = [row for row in whole if day * 1000 <= row[0] < day * 1000 + 1000]
+            (folder / "data" / name / f"day-{day}.csv").write_text(text_of(its))
+        (folder / "whole.csv").write_text(text_of(whole))
+        wanted[name.replace("%2F", "/")] = run_program(str(PROGRAM), query, "x=whole.csv", "limit=limit.csv", folder=str(folder))
+    return wanted
+
+
+def outputs(scaled: Any) -> dict[str, str]:
+    return {key: pathlib.Path(path).read_text() for key, path in scaled.outputs.items()}
+
+
+def hidden(folder: str) -> list[str]:
+    return [name for _, _, names in os.walk(folder) for name in names if name.startswith(".")]
+
+
+def test_keys_and_days(cluster, here):
+    wanted = fleet(here)
+    found = scale(pathlib.Path("q"), INPUTS, "out", scheduler=cluster.address, part_rows=300)
+    assert outputs(found) == wanted and found.parts == found.made > 15 and (found.again, found.workers) == (0, 2)
+    assert sorted(os.listdir("out")) == ["index", "k 1.csv", "k 2.csv", "k%2F0.csv", "lock", "parts"]
+    again = scale(pathlib.Path("q"), INPUTS, "out", scheduler=cluster.address, part_rows=300)
+    assert outputs(again) == wanted and (again.parts, again.made) == (found.parts, 0)
+    assert next(again.told()) == f"{again.parts} parts, of which {again.parts} were there; 0 rows read in {again.seconds:.1f} s"
+
+
+BINDS = [f"{name}={files}" for name, files in INPUTS.items()]
+COMMAND = [sys.executable, str(TOP / "tools" / "tilt-data"), "scale", "q", *BINDS, "--out", "out"]
+
+
+def test_the_command_on_workers_of_this_machine(here, dask):
+    wanted = fleet(here, keys=2)
+    done = subprocess.run([*COMMAND, "--workers", "2", "--part-rows", "700"], capture_output=True, text=True)
+    assert (done.returncode, done.stdout) == (0, ""), done.stderr
+    assert {path.stem.replace("%2F", "/"): path.read_text() for path in pathlib.Path("out").glob("*.csv")} == wanted
+    lines = done.stderr.splitlines()
+    assert " parts; " in lines[0] and "of the workers' time: the program " in lines[1] and lines[2].endswith("out/k 1.csv")
+    assert len(lines) == 4
+
+
+class Killer(threading.Thread):
+    """Kills one worker at a time, at a random moment after some more parts were finished."""
+
+    def __init__(self, cluster: Cluster, seed: int) -> None:
+        super().__init__(daemon=True)
+        self.cluster, self.draws, self.killed, self.over = cluster, random.Random(seed), 0, threading.Event()
+
+    def run(self) -> None:
+        wanted = 1
+        while not self.over.wait(self.draws.uniform(0.02, 0.2)):
+            finished = len(list(pathlib.Path("out").glob("parts/*/0*.csv")))
+            found = self.cluster.workers()
+            if finished >= wanted and found:
+                self.draws.choice(found).kill()
+                self.killed += 1
+                wanted = finished + self.draws.randrange(4, 12)
+
+
+def test_workers_that_are_killed_at_random(cluster, here):
+    wanted = fleet(here, keys=4)
+    cluster.before('[ "$1" = run ] && sleep 0.2')
+    killer = Killer(cluster, 3)
+    killer.start()
+    try:
+        found = scale(pathlib.Path("q"), INPUTS, "out", scheduler=cluster.address, part_rows=150, retries=20)
+    finally:
+        killer.over.set()
+        killer.join()
+    assert outputs(found) == wanted and killer.killed >= 3 and found.parts > 40
+    assert not hidden("out")
+
+
+def test_a_call_that_is_killed_goes_on(cluster, here):
+    wanted = fleet(here, keys=2)
+    cluster.before('[ "$1" = run ] && sleep 0.1')
+    words = [*COMMAND, "--scheduler", cluster.address, "--part-rows", "200"]
+    begun = subprocess.Popen(words, start_new_session=True, stderr=subprocess.PIPE)
+    while len(list(pathlib.Path("out").glob("parts/*/0*.csv"))) < 5 and begun.poll() is None:
+        time.sleep(0.02)
+    begun.kill()
+    begun.communicate()
+    assert begun.returncode == -signal.SIGKILL and not list(pathlib.Path("out").glob("*.csv"))
+    folder = next(pathlib.Path("out").glob("parts/*"))
+    (folder / ".000001-half.csv.abc.tilt-data-new").write_text(HEADER + "0,5")
+    done = subprocess.run(words, capture_output=True, text=True)
+    found = re.search(r"(\d+) parts, of which (\d+) were there", done.stderr)
+    assert done.returncode == 0 and found and 5 <= int(found[2]) < int(found[1]), done.stderr
+    assert {path.stem.replace("%2F", "/"): path.read_text() for path in pathlib.Path("out").glob("*.csv")} == wanted
+    assert not hidden("out")
+
+
+FULL = """[ "$1" = run ] || exec {program} "$@"
+echo x >> "$0.calls"
+[ $(wc -l < "$0.calls") -gt {times} ] && exec {program} "$@"
+echo start,end,value; echo 'tilt: 5 write fault' >&2; exit 4
+"""
+
+
+def test_tasks_that_fail_are_begun_again(cluster, here):
+    """The program is on a disk that is full for some calls, and then for all."""
+    pathlib.Path("x.csv").write_text(text_of(series(1, 300, 5)))
+    query = "input x; emit x over (0, 300];"
+    wanted = run_program(str(PROGRAM), query, "x=x.csv")
+    cluster.before(FULL.format(program=PROGRAM, times=3))
+    found = scale(query, {"x": "x.csv"}, "out", scheduler=cluster.address)
+    assert outputs(found) == {"output": wanted} and found.again == 3
+    cluster.before(FULL.format(program=PROGRAM, times=1000))
+    with pytest.raises(Refused, match=r"^part 1 over \(0, 300\] was begun 3 times and never ended: tilt: 5 write fault$"):
+        scale(query, {"x": "x.csv"}, "more", scheduler=cluster.address, retries=2)
+    assert not list(pathlib.Path("more").glob("*.csv")) and not list(pathlib.Path("more").glob("parts/**/*.csv")) and not hidden("more")
+
+
+@pytest.fixture
+def small_disk(tmp_path) -> Iterator[pathlib.Path]:
+    """A disk of 400 KiB, where this user may have one."""
+    disk = tmp_path / "disk"
+    disk.mkdir()
+    words = ["mount", "-t", "tmpfs", "-o", "size=400k", "tmpfs", str(disk)]
+    if os.geteuid() != 0 or shutil.which("mount") is None or subprocess.run(words, capture_output=True).returncode:
+        pytest.skip("no disk can be mounted here")
+    yield disk
+    subprocess.run(["umount", "--lazy", str(disk)], check=True)
+
+
+def test_a_disk_that_is_full(cluster, here, small_disk):
+    pathlib.Path("x.csv").write_text(text_of([(at, at + 1, at * 7919 % 10**6) for at in range(60000)]))
+    query = "input x; emit x over (0, 60000];"
+    wanted = run_program(str(PROGRAM), query, "x=x.csv")
+    out = small_disk / "out"
+    with pytest.raises(Refused, match=r"^part \d+ over .* was begun 2 times and never ended: tilt: 5 write fault$"):
+        scale(query, {"x": "x.csv"}, out, scheduler=cluster.address, part_rows=5000, retries=1)
+    there = len(list(out.glob("parts/0*.csv")))
+    assert there and not hidden(str(out)) and not list(out.glob("*.csv"))
+    subprocess.run(["mount", "-o", "remount,size=8m", str(small_disk)], check=True)
+    found = scale(query, {"x": "x.csv"}, out, scheduler=cluster.address, part_rows=5000)
+    assert outputs(found) == {"output": wanted} and (found.parts, found.made) == (12, 12 - there)
+
+
+def test_a_refusal_is_told_once_with_its_part(cluster, here, capfd):
+    from tilt_data.cli import main
+    rows = [(at, at + 1, at) for at in range(3000)]
+    pathlib.Path("a.csv").write_text(text_of(rows[:1000]))
+    pathlib.Path("b.csv").write_text(text_of(rows[1000:]).replace("\n2345,2346,2345\n", "\n2345,2345,2345\n"))
+    pathlib.Path("q").write_text("input x; emit x over (0, 3000];")
+    assert main(["scale", "q", "x=a.csv", "x=b.csv", "--out", "out", "--scheduler", cluster.address, "--part-rows", "100"]) == 1
+    err = capfd.readouterr().err
+    assert re.match(r"tilt-data: part 24 over \(2\d\d\d, 2\d\d\d\]: tilt: 14 series x: empty interval in row \d+\n", err), err
+    assert err.count("tilt: 14") == 1 and f"\n{here}/b.csv:1347: empty interval" in err and "\n    2345,2345,2345\n" in err
+    assert not list(pathlib.Path("out").glob("*.csv"))
+
+
+@pytest.mark.parametrize("words, what", [
+    (["q", "x=x.csv", "--part-rows", "0"], "part-rows: 1 or more was expected"), (["q", "x=x.csv", "--retries", "-1"], "retries: 0 or"),
+    (["q", "x=x.csv", "--workers", "0"], "workers: 1 or more"), (["q", "x"], "'x': NAME=FILES was expected"),
+    (["q"], "x isn't bound: x=FILES: the query reads x"),
+    (["q", "x=x.csv", "y=x.csv"], "not y: the query reads x"), (["q", "x=none*.csv"], "x=none*.csv: no file has this name"),
+    (["no", "x=x.csv"], "no: No such file"), (["wrong", "x=x.csv"], "tilt: 27 statement 2: unknown name\nwrong:1:15: "),
+    (["q", "x=x.csv", "--scheduler", "tcp://127.0.0.1:1", "--workers", "2"], "--workers are those that are begun here"),
+    (["q", "x=x.csv", "--scheduler", "nonsense:"], "nonsense:: no scheduler answers there")])
+def test_what_is_refused(told, here, dask, words, what):
+    pathlib.Path("q").write_text("input x; emit x over (0, 10];")
+    pathlib.Path("wrong").write_text("input x; emit y over (0, 10];")
+    pathlib.Path("x.csv").write_text(HEADER + "0,5,7\n")
+    status, out, err = told("scale", *words, "--out", "out")
+    assert (status, out) == (1, "") and err.startswith(f"tilt-data: {what}"), err
+
+
+def test_what_is_told_of_cuts(cluster, here):
+    pathlib.Path("x.csv").write_text(text_of([(at, at + 1, at) for at in range(1000)]))
+    query = "input x; emit sum(x[t-50:t]) over (0, 1000] every 50;"
+    found = scale(query, {"x": "x.csv"}, "out", scheduler=cluster.address, part_rows=30)
+    # Each part reads 49 rows before its stretch of 100, and 49 after it; the first has 50, and the ends have nothing beyond them.
+    assert found.parts == 20 and found.rows == 99 + 149 + 17 * 198 + 149 and found.notes == [
+        "cuts that were moved to the grid of every 50 ticks, or into the domain: 32",
+        "cuts that had no place of their own in the domain, so that there are fewer parts: 14",
+        "each row was read 3.8 times, since the query looks far: larger parts by --part-rows read fewer"]
+    assert outputs(found)["output"] == run_program(str(PROGRAM), query, "x=x.csv")
+
+
+def test_rows_that_are_read_many_times_are_told(cluster, here):
+    pathlib.Path("x.csv").write_text(text_of([(at, at + 1, at) for at in range(10000)]))
+    query = "input x; emit max(x[t-4000:t]) over (0, 10000];"
+    found = scale(query, {"x": "x.csv"}, "out", scheduler=cluster.address, part_rows=1000)
+    # Parts of 1,000 rows, of which the first four have fewer before them, and all others 4,000.
+    assert found.parts == 10 and abs(found.rows - (10000 + 1000 + 2000 + 3000 + 6 * 4000)) < 50
+    assert found.notes == ["each row was read 4.0 times, since the query looks far: larger parts by --part-rows read fewer"]
+    assert outputs(found)["output"] == run_program(str(PROGRAM), query, "x=x.csv")
+
+
+def test_two_calls_never_work_in_one_folder(here, dask):
+    pathlib.Path("x.csv").write_text(HEADER + "0,5,7\n")
+    os.makedirs("out")
+    with open("out/lock", "a") as lock:
+        fcntl.flock(lock, fcntl.LOCK_EX)
+        with pytest.raises(Refused, match="another `tilt-data scale` works in this folder"):
+            scale("input x; emit x over (0, 10];", {"x": "x.csv"}, "out", workers=1)
+    assert engine.told(ValueError()) == "ValueError"

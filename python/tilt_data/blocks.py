@@ -1,0 +1,276 @@
+"""Blocks of series files: where in a file stand which ticks, so that a part of a run reads only the rows that it needs.
+
+The index of a file is a JSON file in a folder of its own, made once, and made anew where the file has another size or time. A file that
+isn't plain, as with quotes or line ends of CR alone, is written plainly beside its index, and read there."""
+from __future__ import annotations
+
+import bisect
+import contextlib
+import dataclasses
+import hashlib
+import json
+import os
+from typing import IO, Iterable, Iterator
+
+from .convert import row_text
+from .errors import Refused, refused_at
+from .files import HEADER, placed, reading, rows_of
+
+LONGEST, SHORTEST, FEWEST = 1 << 18, 1 << 9, 64
+# What a plain file has besides the ends of its lines.
+PLAIN = b"0123456789+-,\r"
+MARK = b"\xef\xbb\xbf"
+VERSION = 1
+Stamp = tuple[int, int]
+
+
+@dataclasses.dataclass(frozen=True)
+class Block:
+    """Rows that stand together in a file: their first byte and how many bytes they have, how many rows they are, the start of the first
+    one, the end of the last one, and a digest of the bytes."""
+
+    offset: int
+    length: int
+    rows: int
+    first: int
+    last: int
+    digest: str
+
+    @property
+    def fields(self) -> list[int | str]:
+        return [self.offset, self.length, self.rows, self.first, self.last, self.digest]
+
+
+@dataclasses.dataclass(frozen=True)
+class Indexed:
+    """A series file and its blocks in order. `file` is the one that is read, which is the series itself where that is plain; a stamp is a
+    size and a time of change."""
+
+    path: str
+    stamp: Stamp
+    file: str
+    file_stamp: Stamp
+    blocks: list[Block]
+
+    @property
+    def rows(self) -> int:
+        return sum(block.rows for block in self.blocks)
+
+
+@dataclasses.dataclass(frozen=True)
+class Segment:
+    """Bytes of a file that hold all its rows with a tick in some stretch, and at most a block more at each end; and how many rows they
+    hold. `path` is the series, and `file` what is read."""
+
+    path: str
+    file: str
+    stamp: Stamp
+    offset: int
+    length: int
+    rows: int
+
+
+def stamp_of(path: str) -> Stamp:
+    try:
+        found = os.stat(path)
+    except OSError as error:
+        raise Refused(f"{path}: {error.strerror}") from error
+    return found.st_size, found.st_mtime_ns
+
+
+# The index of a file
+
+
+def index_path(path: str, folder: str) -> str:
+    return os.path.join(folder, hashlib.sha256(os.path.abspath(path).encode()).hexdigest()[:32] + ".json")
+
+
+def found_index(path: str, folder: str) -> Indexed | None:
+    """The index of a series as it stands now, or None where none was made of it yet."""
+    with contextlib.suppress(OSError, ValueError, KeyError, TypeError):
+        with open(index_path(path, folder), encoding="utf-8") as file:
+            found = json.load(file)
+        blocks = [Block(*fields) for fields in found["blocks"]]
+        (size, changed), (file_size, file_changed) = found["stamp"], found["file-stamp"]
+        indexed = Indexed(found["path"], (size, changed), found["file"], (file_size, file_changed), blocks)
+        if found["tilt-data"] == VERSION and indexed.path == path and indexed.stamp == stamp_of(path):
+            return indexed if indexed.file_stamp == stamp_of(indexed.file) else None
+    return None
+
+
+def make_index(path: str, folder: str) -> Indexed:
+    """Makes the index of a series and puts it in the folder. What can't be a series is refused with its line; of a plain file only the
+    first and the last row of each block are looked at here."""
+    stamp = stamp_of(path)
+    blocks = blocks_of(path, path)
+    file, file_stamp = path, stamp
+    if blocks is None:
+        file = index_path(path, folder).removesuffix(".json") + ".csv"
+        write_plainly(path, file)
+        file_stamp = stamp_of(file)
+        blocks = blocks_of(path, file) or []
+    if stamp_of(path) != stamp:
+        raise Refused(f"{path}: it was changed while it was read: call again")
+    indexed = Indexed(path, stamp, file, file_stamp, blocks)
+    fields = {"tilt-data": VERSION, "path": path, "stamp": stamp, "file": file, "file-stamp": file_stamp,
+              "blocks": [block.fields for block in blocks]}
+    # An index that a stop of the machine tears can't be read, and is made again.
+    with placed(index_path(path, folder), lasting=False) as new:
+        new.write(json.dumps(fields).encode())
+    return indexed
+
+
+def write_plainly(path: str, target: str) -> None:
+    with reading(path) as file, placed(target) as new:
+        new.write((",".join(HEADER) + "\n").encode())
+        for row in rows_of(path, file):
+            new.write(row_text(row).encode())
+
+
+def blocks_of(path: str, file: str) -> list[Block] | None:
+    """The blocks of a file, or None where it isn't plain. It is told by the name of the series."""
+    try:
+        with open(file, "rb") as opened:
+            length = max(SHORTEST, min(LONGEST, os.fstat(opened.fileno()).st_size // FEWEST))
+            header = opened.readline().removeprefix(MARK).rstrip(b"\r\n")
+            if header != ",".join(HEADER).encode():
+                return None
+            return read_blocks(path, opened, length)
+    except OSError as error:
+        raise Refused(f"{path}: {error.strerror}") from error
+
+
+def read_blocks(path: str, file: IO[bytes], length: int) -> list[Block] | None:
+    blocks: list[Block] = []
+    line = 2
+    while True:
+        offset = file.tell()
+        data = file.read(length)
+        data += b"" if data.endswith(b"\n") else file.readline()
+        if not data:
+            return blocks
+        ends = data.translate(None, PLAIN)
+        if ends.strip(b"\n") or b"\r" in data and data.count(b"\r") != data.count(b"\r\n"):
+            return None
+        blocks += block_of(path, data, len(ends), offset, line, blocks[-1].last if blocks else None)
+        line += len(ends)
+
+
+def block_of(path: str, data: bytes, ends: int, offset: int, line: int, end: int | None) -> list[Block]:
+    """The block of some lines with so many ends, and none where all are empty. The first line has this number, and the row before it this
+    end. Empty lines between rows are counted as rows."""
+    rows = data.rstrip(b"\r\n")
+    before = len(rows) - len(rows.lstrip(b"\r\n"))
+    if before == len(rows):
+        return []
+    first = times_of(rows[before:].partition(b"\n")[0])
+    last = times_of(rows[rows.rfind(b"\n") + 1:])
+    if first is None or last is None or first[0] >= last[1] or end is not None and first[0] < end:
+        raise fault_in(path, rows, line, end)
+    digest = hashlib.sha1(data, usedforsecurity=False).hexdigest()
+    count = ends - data.count(b"\n", 0, before) - max(0, data.count(b"\n", len(rows)) - 1) + (not data.endswith(b"\n"))
+    return [Block(offset, len(data), count, first[0], last[1], digest)]
+
+
+def fault_in(path: str, rows: bytes, line: int, end: int | None) -> Refused:
+    """The first fault of some lines that aren't rows in order."""
+    for number, text in enumerate(rows.split(b"\n"), line):
+        times = times_of(text)
+        if text.strip() and (times is None or times[0] >= times[1]):
+            return refused_at(path, number, "a row start,end,value of whole numbers was expected, with its start below its end")
+        if times is not None and end is not None and times[0] < end:
+            return refused_at(path, number, f"a row that starts at {end}, where the one before it ends, or later was expected")
+        end = times[1] if times is not None else end
+    return Refused(f"{path}: rows in order were expected")
+
+
+def times_of(line: bytes) -> tuple[int, int] | None:
+    """The start and the end in a line; None where it is no row."""
+    fields = line.split(b",")
+    try:
+        return (int(fields[0]), int(fields[1])) if len(fields) == 3 else None
+    except ValueError:
+        return None
+
+
+# The rows of a stretch
+
+
+def in_order(files: Iterable[Indexed]) -> list[Indexed]:
+    """The files of one input in the order of their rows, without those that have none. Two that overlap are refused."""
+    ordered = sorted((one for one in files if one.blocks), key=lambda one: one.blocks[0].first)
+    for one, other in zip(ordered, ordered[1:]):
+        if other.blocks[0].first < one.blocks[-1].last:
+            raise Refused(f"{other.path}: its rows begin at {other.blocks[0].first}, before those of {one.path} end, at "
+                          f"{one.blocks[-1].last}: the files of an input may not overlap")
+    return ordered
+
+
+def met(blocks: list[Block], low: int, high: int) -> list[Block]:
+    """The blocks of a file that may have a row with a tick in (low, high]."""
+    begin = bisect.bisect_right(blocks, low, key=lambda block: block.last)
+    end = bisect.bisect_left(blocks, high, key=lambda block: block.first)
+    return blocks[begin:max(begin, end)]
+
+
+def stretch_of(files: list[Indexed], low: int, high: int) -> Iterator[tuple[Segment, list[Block]]]:
+    """The segments, and their blocks, of the files of an input for the rows with a tick in (low, high]."""
+    for one in files:
+        blocks = met(one.blocks, low, high)
+        if blocks:
+            begin, end = blocks[0].offset, blocks[-1].offset + blocks[-1].length
+            yield Segment(one.path, one.file, one.file_stamp, begin, end - begin, sum(block.rows for block in blocks)), blocks
+
+
+def bytes_of(segment: Segment) -> bytes:
+    """The bytes of a segment, of a file that is as it was when its index was made."""
+    with open(segment.file, "rb") as file:
+        file.seek(segment.offset)
+        data = file.read(segment.length)
+    if stamp_of(segment.file) != segment.stamp or len(data) != segment.length:
+        raise Refused(f"{segment.path}: it was changed after its index was made: call again")
+    return data
+
+
+def trimmed(data: bytes, low: int, high: int) -> tuple[int, int, int]:
+    """Where in some lines those rows begin and end that have a tick in (low, high], and how many lines stand before and after them. A line
+    that is no row stays, and what comes after it: the program is to refuse it."""
+    begin, end, left = 0, len(data), 0
+    while begin < end:
+        following = data.find(b"\n", begin, end) + 1 or end
+        times = times_of(data[begin:following])
+        if data[begin:following].strip() and (times is None or times[1] > low):
+            break
+        begin, left = following, left + 1
+    while begin < end:
+        line = data.rfind(b"\n", begin, end - 1) + 1 or begin
+        times = times_of(data[line:end])
+        if data[line:end].strip() and (times is None or times[0] < high):
+            break
+        end, left = line, left + 1
+    return begin, end, left
+
+
+# Where to cut
+
+
+def ticks_by_rows(blocks: list[Block], count: int) -> list[int]:
+    """The ticks that part the rows of these blocks into so many parts of about as many rows each, in order. Rows are taken as spread
+    evenly over their block: a gap between blocks has none."""
+    edges = sorted({tick for block in blocks for tick in (block.first, block.last)})
+    each = sum(block.rows for block in blocks) / count
+    coming = sorted(blocks, key=lambda block: block.first)
+    active: list[Block] = []
+    ticks: list[int] = []
+    passed, at = 0.0, 0
+    for left, right in zip(edges, edges[1:]):
+        active = [block for block in active if block.last > left]
+        while at < len(coming) and coming[at].first <= left:
+            active += [coming[at]] if coming[at].last > left else []
+            at += 1
+        gained = sum(block.rows / (block.last - block.first) for block in active) * (right - left)
+        while len(ticks) < count - 1 and passed + gained >= each * (len(ticks) + 1) - 1e-9 and gained > 0:
+            share = (each * (len(ticks) + 1) - passed) / gained
+            ticks.append(max(left, min(right, left + round((right - left) * share))))
+        passed += gained
+    return ticks

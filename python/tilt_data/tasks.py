@@ -1,0 +1,212 @@
+"""What a worker does: the index of files, the output of a part, and the whole of a key's parts. A task is handed names and numbers alone,
+and puts one file in its place; it may be begun again at any time, and gives the same bytes."""
+from __future__ import annotations
+
+import dataclasses
+import functools
+import hashlib
+import os
+import socket
+import subprocess
+import time
+
+from . import blocks, parts
+from .blocks import Segment
+from .errors import Refused
+from .files import placed, scratch
+from .parts import Part
+from .program import program
+from .why import Refusal, refusal_of
+
+# The program refuses with these; with all others it is called again.
+REFUSALS = (1, 2)
+
+
+class Failed(Exception):
+    """A task that didn't come to its end, by a fault of the machine: it may be begun again."""
+
+
+@dataclasses.dataclass(frozen=True)
+class Stretch:
+    """The rows of an input that a part needs: those with a tick in (low, high], and where they stand."""
+
+    name: str
+    low: int
+    high: int
+    segments: tuple[Segment, ...]
+
+
+@dataclasses.dataclass(frozen=True)
+class Task:
+    """A part of the output of a key: the query over the part's stretch, the rows that it needs, and the file that gets the output.
+    `program` is a digest of the program that is to be called."""
+
+    key: str
+    part: Part
+    query: str
+    inputs: tuple[Stretch, ...]
+    file: str
+    program: str
+
+
+@dataclasses.dataclass(frozen=True)
+class Made:
+    """How a part was made: the seconds of the task and of the program in it, the rows and bytes that it was handed. Where the program
+    refused, its line, its status and the place."""
+
+    seconds: float = 0.0
+    program_seconds: float = 0.0
+    rows: int = 0
+    size: int = 0
+    line: str = ""
+    status: int = 0
+    place: Refusal | None = None
+
+
+@dataclasses.dataclass(frozen=True)
+class Indexing:
+    """Series whose indexes are to be made, and the folder that gets them."""
+
+    paths: tuple[str, ...]
+    folder: str
+
+
+@dataclasses.dataclass(frozen=True)
+class Joining:
+    """The parts of a key with their files, and the file of the whole."""
+
+    key: str
+    parts: tuple[tuple[Part, str], ...]
+    file: str
+
+
+def program_digest(path: str) -> str:
+    """A digest of the program's bytes."""
+    found = os.stat(path)
+    return digest_of(path, found.st_size, found.st_mtime_ns)
+
+
+@functools.lru_cache(maxsize=8)
+def digest_of(path: str, size: int, changed: int) -> str:
+    with open(path, "rb") as file:
+        return hashlib.file_digest(file, "sha256").hexdigest()
+
+
+def make_indexes(indexing: Indexing) -> Made:
+    begun = time.perf_counter()
+    rows = size = 0
+    for path in indexing.paths:
+        try:
+            made = blocks.found_index(path, indexing.folder) or blocks.make_index(path, indexing.folder)
+        except Refused as refused:
+            return Made(line=str(refused), status=1)
+        rows, size = rows + made.rows, size + made.stamp[0]
+    return Made(time.perf_counter() - begun, 0.0, rows, size)
+
+
+def make_part(task: Task) -> Made:
+    """Runs the program on the rows that the part needs. A part that is there isn't made again."""
+    begun = time.perf_counter()
+    if os.path.exists(task.file):
+        return Made()
+    with scratch() as folder:
+        try:
+            path = program_of(task)
+            words, rows, size = laid_out(task, folder)
+        except Refused as refused:
+            return Made(line=str(refused), status=1)
+        started = time.perf_counter()
+        try:
+            with placed(task.file) as out:
+                call([path, "run", *words], out.fileno())
+        except Stopped as stopped:
+            return refused_part(task, words, stopped)
+        spent = time.perf_counter() - started
+    return Made(time.perf_counter() - begun, spent, rows, size)
+
+
+def program_of(task: Task) -> str:
+    """The program here, which has to be that of the call."""
+    path = program()
+    if not os.path.exists(path) or program_digest(path) != task.program:
+        raise Refused(f"{path} on {socket.gethostname()} isn't the program of the call")
+    return path
+
+
+class Stopped(Exception):
+    """The program refused: what it told, and its status."""
+
+    def __init__(self, told: str, status: int) -> None:
+        super().__init__(told)
+        self.told = told
+        self.status = status
+
+
+def call(words: list[str], out: int) -> None:
+    done = subprocess.run(words, stdin=subprocess.DEVNULL, stdout=out, stderr=subprocess.PIPE)
+    told = done.stderr.decode("utf-8", "replace").rstrip("\n")
+    if done.returncode in REFUSALS:
+        raise Stopped(told, done.returncode)
+    if done.returncode:
+        raise Failed(told or f"the program ended with status {done.returncode}")
+
+
+def laid_out(task: Task, folder: str) -> tuple[list[str], int, int]:
+    """Writes the query and the rows of each input to a folder: the words of `run`, and how many rows and bytes they are."""
+    query = os.path.join(folder, "query.tilt")
+    with open(query, "w", encoding="utf-8", newline="") as file:
+        file.write(task.query)
+    words, rows, size = [query], 0, 0
+    for stretch in task.inputs:
+        path = rows_path(folder, stretch.name)
+        with open(path, "wb") as file:
+            file.write(parts.LINE)
+            for segment in stretch.segments:
+                data = blocks.bytes_of(segment)
+                begin, end, left = blocks.trimmed(data, stretch.low, stretch.high)
+                file.write(memoryview(data)[begin:end])
+                file.write(b"" if data.endswith(b"\n", begin, end) or begin == end else b"\n")
+                rows, size = rows + segment.rows - left, size + end - begin
+        words.append(f"{stretch.name}={path}")
+    return words, rows, size
+
+
+def rows_path(folder: str, name: str) -> str:
+    return os.path.join(folder, f"rows.{name}.csv")
+
+
+def refused_part(task: Task, words: list[str], stopped: Stopped) -> Made:
+    """The refusal of a part, with its place in the series that the row is from."""
+    place = refusal_of(stopped.told, words)
+    if stopped.told.startswith("tilt: 3 file too long: "):
+        return Made(line=f"{stopped.told}, which are the rows of this part: fewer by --part-rows", status=stopped.status)
+    for stretch in task.inputs:
+        if place is not None and place.line is not None and place.file == rows_path(os.path.dirname(words[0]), stretch.name):
+            file, line = place_in(stretch, place.line)
+            place = dataclasses.replace(place, file=file, line=line)
+    return Made(line=stopped.told, status=stopped.status, place=place)
+
+
+def place_in(stretch: Stretch, line: int) -> tuple[str, int]:
+    """The series and its line that a line of the rows of a part was, both from 1. The first line of the part's rows is the header."""
+    left = line - 2
+    for segment in stretch.segments:
+        data = blocks.bytes_of(segment)
+        begin, end, _ = blocks.trimmed(data, stretch.low, stretch.high)
+        count = data.count(b"\n", begin, end) + (begin < end and not data.endswith(b"\n", begin, end))
+        if left < count:
+            with open(segment.file, "rb") as file:
+                before = file.read(segment.offset + begin)
+            return segment.file, before.count(b"\n") + left + 1
+        left -= count
+    return stretch.name, line
+
+
+def make_whole(joining: Joining) -> Made:
+    begun = time.perf_counter()
+    try:
+        with placed(joining.file) as out:
+            parts.join(list(joining.parts), out)
+    except Refused as refused:
+        return Made(line=str(refused), status=1)
+    return Made(time.perf_counter() - begun)
