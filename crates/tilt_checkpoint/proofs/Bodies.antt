@@ -1,5 +1,5 @@
--- What is read behind the query is what is spelled.
-use Rattle.std.proofs.Common.{◌≡◌, ℕ, ◌^◌, ◌<◌, Bool, true, false, not, ◌&&◌, if◌then◌else◌, List, [], ◌∷◌, ◌++◌, length, Option, Some, None, ℤ, neg_ℤ, refl, sym, ap, ◌∙◌, subst, arith, append_assoc}
+-- What is read after the query is what is spelled.
+use Rattle.std.proofs.Common.{◌≡◌, ℕ, ◌^◌, ◌<◌, Bool, true, false, not, ◌&&◌, if◌then◌else◌, List, [], ◌∷◌, ◌++◌, length, Option, Some, None, ℤ, refl, sym, ap, ◌∙◌, subst, arith, append_assoc}
 use Rattle.std.specs.Prelude.{codes, int_lt, int_le}
 use Rattle.std.specs.Fmt.{signed_decimal}
 use Rattle.std.specs.List.{AllByRecursion, flat_map}
@@ -8,30 +8,25 @@ use Rattle.std.proofs.lemmas.Bool.{and_parts, false≢true, and_from}
 use Rattle.std.proofs.lemmas.Int.{ints}
 use Rattle.std.proofs.lemmas.Option.{same_Some, some_pair_parts}
 use Rattle.tilt_base.proofs.Comparisons.{lt_true, true_lt, le_true, true_le, bytes_same, same_bytes}
-use Rattle.tilt_base.specs.declared.limits.TheConstants.{T}
 use Rattle.tilt_base.proofs.Lists.{guard_some}
 use Rattle.tilt_text.specs.Step.{◌>>=◌}
 use Rattle.tilt_text.proofs.Step.{bind_some}
-use Rattle.tilt_checkpoint.specs.Checkpoint.{BodyParts, KeptParts}
+use Rattle.tilt_checkpoint.specs.Checkpoint.{BodyParts, KeptParts, cuts_kept}
+use Rattle.tilt_checkpoint.specs.Cuts.{IsCut, IsLeast}
 use Rattle.tilt_checkpoint.specs.Decided.{IsFrame, decided, first_kept}
-use Rattle.tilt_checkpoint.specs.Reading.{behind, behind_moment, body_at, end_at, is_amid, is_cut, is_open, maybe_at, moment_at, number_at, rest_at, times, with_kept}
+use Rattle.tilt_checkpoint.specs.Reading.{behind, behind_moment, body_at, end_at, form_of, is_amid, is_cut, is_least, is_open, maybe_at, moment_at, number_at, rest_at, times, with_kept}
 use Rattle.tilt_checkpoint.specs.Spelling.{body_lines, series_lines, time_text}
-use Rattle.tilt_checkpoint.specs.Valid.{HaveCut, IsAmid, IsCell, IsCut, IsOpen, IsSeries}
+use Rattle.tilt_checkpoint.specs.Valid.{IsAmid, IsCell, IsOpen, IsSeries}
 use Rattle.tilt_checkpoint.specs.declared.frame.Frame.{Frame}
-use Rattle.tilt_checkpoint.proofs.Inputs.{series-again, series-were}
+use Rattle.tilt_checkpoint.specs.declared.version.Version.{Version}
+use Rattle.tilt_checkpoint.proofs.CutTests.{cut_true, least_true, true_cut, true_least}
+use Rattle.tilt_checkpoint.proofs.Inputs.{cut_fits, series-again, series-were}
 use Rattle.tilt_checkpoint.proofs.Pieces.{text-behind}
 use Rattle.tilt_checkpoint.proofs.Rows.{time_fits}
+use Rattle.tilt_checkpoint.proofs.Versions.{AllSuit}
 use Rattle.tilt_checkpoint.proofs.Words.{number-again, number-was, maybe-again, maybe-was, none-apart}
 
 -- tests
-
-cut_true : (cut : ℤ) → is_cut cut ≡ true → IsCut cut
-cut_true cut h =
-    let p = and_parts (int_le (neg_ℤ T) cut) (int_le cut T) h in
-    (le_true (neg_ℤ T) cut p.0, le_true cut T p.1)
-
-true_cut : (cut : ℤ) → IsCut cut → is_cut cut ≡ true
-true_cut cut h = and_from (int_le (neg_ℤ T) cut) (int_le cut T) (true_le (neg_ℤ T) cut h.0) (true_le cut T h.1)
 
 amid_true : (frame : Frame) (done : ℤ) → is_amid frame done ≡ true → IsAmid frame done
 amid_true frame done h =
@@ -64,9 +59,6 @@ true_open frame done (Some start) h =
     (and_from (is_amid frame done) (int_le frame.start start) (true_amid frame done h.0) (true_le frame.start start h.1))
     (true_lt start done h.2)
 
-cut_fits : (cut : ℤ) → IsCut cut → IsCell (Some cut)
-cut_fits cut h = time_fits cut h.0 h.1
-
 open_fits : (frame : Frame) → IsFrame frame → (cut : ℤ) (start : Option ℤ) → IsOpen frame (decided frame cut) start → IsCell start
 open_fits frame is cut None h = tt
 open_fits frame is cut (Some start) h =
@@ -77,11 +69,11 @@ open_fits frame is cut (Some start) h =
     let amid = h.0.1 in
     time_fits start (omega (arith, ints)) (omega (arith, ints))
 
--- the lines behind the query
-body_shape : (cut : ℤ) (start : Option ℤ) (series : List KeptParts)
-    → body_lines cut start series
-    ≡ codes "cut " ++ (signed_decimal cut ++ 10 ∷ (codes "open " ++ (time_text start ++ 10 ∷ (flat_map series_lines series ++ codes "end\n"))))
-body_shape cut start series = simp append_assoc
+-- the lines after the query
+body_shape : (version : Version) (cut : ℤ) (start : Option ℤ) (series : List KeptParts)
+    → body_lines version cut start series
+    ≡ codes "cut " ++ (signed_decimal cut ++ 10 ∷ (codes "open " ++ (time_text start ++ 10 ∷ (flat_map (series_lines version) series ++ codes "end\n"))))
+body_shape version cut start series = simp append_assoc
 
 moment-again : (cut : ℤ) (start : Option ℤ) → IsCell (Some cut) → IsCell start → (rest : List ℕ)
     → moment_at (codes "cut " ++ (signed_decimal cut ++ 10 ∷ (codes "open " ++ (time_text start ++ 10 ∷ rest)))) ≡ Some ((cut, start), rest)
@@ -91,31 +83,32 @@ moment-again cut start fits starts rest =
       maybe-again (codes "none") 10 (none-apart 10 (omega arith)) start starts rest,
     ) refl
 
--- what is spelled behind the query is read
-pub body-again : (frame : Frame) (cut : ℤ) (start : Option ℤ) (series : List KeptParts) → IsFrame frame → IsCut cut
-    → IsOpen frame (decided frame cut) start → AllByRecursion (IsSeries (first_kept frame cut)) series → HaveCut cut series
-    → AllByRecursion (λ kept. length kept.rows < 2 ^ 63) series
-    → body_at frame (length series) (body_lines cut start series) ≡ Some (record { cut = cut; open_start = start; series = series })
-body-again frame cut start series is within opened all same small =
-    let first = first_kept frame cut in
-    let rest = flat_map series_lines series ++ codes "end\n" in
+-- what is spelled after the query is read
+pub body-again : (version : Version) (frame : Frame) (cut : ℤ) (start : Option ℤ) (series : List KeptParts) → IsFrame frame → IsCut cut
+    → IsOpen frame (decided frame cut) start → AllByRecursion (IsSeries (first_kept frame cut)) series → IsLeast cut (cuts_kept series)
+    → AllSuit version cut series → AllByRecursion (λ kept. length kept.rows < 2 ^ 63) series
+    → body_at version frame (length series) (body_lines version cut start series) ≡ Some (record { cut = cut; open_start = start; series = series })
+body-again version frame cut start series is within opened all least suit small =
+    let form = form_of version frame cut in
+    let rest = flat_map (series_lines version) series ++ codes "end\n" in
     let body : BodyParts = record { cut = cut; open_start = start; series = series } in
     let tests = and_from (is_cut cut) (is_open frame (decided frame cut) start) (true_cut cut within) (true_open frame (decided frame cut) start opened) in
     let moment = moment-again cut start (cut_fits cut within) (open_fits frame is cut start opened) rest in
-    ap (body_at frame (length series)) (body_shape cut start series)
-    ∙ ap (λ o. o >>= behind_moment frame (length series)) moment
-    ∙ ap (λ (t : Bool). if t then rest_at (length series) first cut start rest else None) tests
-    ∙ ap (λ o. o >>= end_at cut start) (series-again first cut series [] (codes "end\n") all same small)
-    ∙ ap (λ (t : Bool). if t then Some body else None) (same_bytes (codes "end\n"))
+    ap (body_at version frame (length series)) (body_shape version cut start series)
+    ∙ ap (λ o. o >>= behind_moment version frame (length series)) moment
+    ∙ ap (λ (t : Bool). if t then rest_at (length series) form start rest else None) tests
+    ∙ ap (λ o. o >>= end_at cut start) (series-again form series [] (codes "end\n") all suit small)
+    ∙ ap (λ (t : Bool). if t then Some body else None) (and_from _ (is_least cut series) (same_bytes (codes "end\n")) (true_least cut series least))
 
--- what is told of what was read behind a query
-pub record IsBody (frame : Frame) (inputs : ℕ) (bytes : List ℕ) (body : BodyParts) : Type 0 where
-  pub spelled : bytes ≡ body_lines body.cut body.open_start body.series
+-- what is told of what was read after a query
+pub record IsBody (version : Version) (frame : Frame) (inputs : ℕ) (bytes : List ℕ) (body : BodyParts) : Type 0 where
+  pub spelled : bytes ≡ body_lines version body.cut body.open_start body.series
   pub cut : IsCut body.cut
   pub opened : IsOpen frame (decided frame body.cut) body.open_start
   pub counted : length body.series ≡ inputs
   pub series : AllByRecursion (IsSeries (first_kept frame body.cut)) body.series
-  pub same : HaveCut body.cut body.series
+  pub least : IsLeast body.cut (cuts_kept body.series)
+  pub suit : AllSuit version body.cut body.series
 
 abbrev moment3 : ℤ × List ℕ → Option ℤ × List ℕ → Option ((ℤ × Option ℤ) × List ℕ)
 moment3 cut start = Some ((cut.0, start.0), start.1)
@@ -149,34 +142,37 @@ moment-was bytes cut start rest e =
           ∙ (λ i. codes "cut " ++ (signed_decimal ((p.0 i).0) ++ 10 ∷ (codes "open " ++ (time_text ((p.0 i).1) ++ 10 ∷ p.1 i))));
     }
 
--- and what is read behind a query is spelled so
-pub body-was : (frame : Frame) (inputs : ℕ) (bytes : List ℕ) (body : BodyParts) → body_at frame inputs bytes ≡ Some body
-    → IsBody frame inputs bytes body
-body-was frame inputs bytes body e =
-    let m = bind_some (moment_at bytes) (behind_moment frame inputs) body e in
+-- and what is read after a query is spelled so
+pub body-was : (version : Version) (frame : Frame) (inputs : ℕ) (bytes : List ℕ) (body : BodyParts) → body_at version frame inputs bytes ≡ Some body
+    → IsBody version frame inputs bytes body
+body-was version frame inputs bytes body e =
+    let m = bind_some (moment_at bytes) (behind_moment version frame inputs) body e in
     let cut = m.0.0.0 in
     let start = m.0.0.1 in
-    let g = guard_some (is_cut cut && is_open frame (decided frame cut) start) (rest_at inputs (first_kept frame cut) cut start m.0.1) body m.2 in
+    let form = form_of version frame cut in
+    let g = guard_some (is_cut cut && is_open frame (decided frame cut) start) (rest_at inputs form start m.0.1) body m.2 in
     let tests = and_parts (is_cut cut) (is_open frame (decided frame cut) start) g.0 in
-    let s = bind_some (times (with_kept (first_kept frame cut) cut) inputs ([], m.0.1)) (end_at cut start) body g.1 in
+    let s = bind_some (times (with_kept form) inputs ([], m.0.1)) (end_at cut start) body g.1 in
     let made : BodyParts = record { cut = cut; open_start = start; series = s.0.0 } in
-    let last = guard_some (bytes_eq s.0.1 (codes "end\n")) (Some made) body s.2 in
-    let end = bytes_same s.0.1 (codes "end\n") last.0 in
+    let last = guard_some (bytes_eq s.0.1 (codes "end\n") && is_least cut s.0.0) (Some made) body s.2 in
+    let ends = and_parts (bytes_eq s.0.1 (codes "end\n")) (is_least cut s.0.0) last.0 in
+    let end = bytes_same s.0.1 (codes "end\n") ends.0 in
     let same = same_Some made body last.1 in
-    let were = series-were (first_kept frame cut) cut inputs [] m.0.1 s.0.0 s.0.1 s.1 in
+    let were = series-were form inputs [] m.0.1 s.0.0 s.0.1 s.1 in
     let joined = were.joined in
-    let lines : m.0.1 ≡ flat_map series_lines s.0.0 ++ codes "end\n" =
-    were.spelled ∙ (λ i. flat_map series_lines (sym joined i) ++ end i) in
-    let whole : bytes ≡ body_lines cut start s.0.0 =
+    let lines : m.0.1 ≡ flat_map (series_lines version) s.0.0 ++ codes "end\n" =
+    were.spelled ∙ (λ i. flat_map (series_lines version) (sym joined i) ++ end i) in
+    let whole : bytes ≡ body_lines version cut start s.0.0 =
     (moment-was bytes cut start m.0.1 m.1).spelled
     ∙ ap (λ (t : List ℕ). codes "cut " ++ (signed_decimal cut ++ 10 ∷ (codes "open " ++ (time_text start ++ 10 ∷ t)))) lines
-    ∙ sym (body_shape cut start s.0.0) in
-    let is : IsBody frame inputs bytes made = record {
+    ∙ sym (body_shape version cut start s.0.0) in
+    let is : IsBody version frame inputs bytes made = record {
       spelled = whole;
       cut = cut_true cut tests.0;
       opened = open_true frame (decided frame cut) start tests.1;
       counted = ap (λ (l : List KeptParts). length l) joined ∙ sym were.counted;
       series = subst (λ (l : List KeptParts). AllByRecursion (IsSeries (first_kept frame cut)) l) (sym joined) were.are;
-      same = subst (HaveCut cut) (sym joined) were.same;
+      least = least_true cut s.0.0 ends.1;
+      suit = subst (AllSuit version cut) (sym joined) were.suit;
     } in
-    subst (IsBody frame inputs bytes) same is
+    subst (IsBody version frame inputs bytes) same is

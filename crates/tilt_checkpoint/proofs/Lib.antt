@@ -1,8 +1,10 @@
 pub mod Bodies
+pub mod CutTests
 pub mod Decoding
 pub mod Framed
 pub mod Frames
 pub mod Inputs
+pub mod Leasts
 pub mod Lines
 pub mod Pieces
 pub mod Queries
@@ -10,5 +12,6 @@ pub mod QueryLines
 pub mod Rows
 pub mod Spelled
 pub mod Steps
+pub mod Versions
 pub mod Whole
 pub mod Words

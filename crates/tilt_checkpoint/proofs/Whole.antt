@@ -1,5 +1,5 @@
 -- Bytes spell a valid checkpoint, or none: they are read.
-use Rattle.std.proofs.Common.{◌≡◌, ◌⊎◌, inl, inr, ◌∙◌, ℕ, ◌^◌, ◌<◌, List, [], length, Option, Some, None, Result, Ok, Err, refl, sym, ap, subst}
+use Rattle.std.proofs.Common.{◌≡◌, ◌⊎◌, inl, inr, ◌∙◌, ℕ, ◌^◌, ◌<◌, List, ◌++◌, length, Option, Some, None, Result, Ok, Err, refl, sym, ap, subst}
 use Rattle.std.specs.Str.{bytes_eq}
 use Rattle.std.proofs.lemmas.Bool.{cases_Bool, cases_eq, false≢true}
 use Rattle.std.proofs.lemmas.Option.{none-some, some_pair_parts}
@@ -24,12 +24,14 @@ use Rattle.tilt_types.proofs.CheckedCore.{checked-core}
 use Rattle.tilt_types.specs.Checked.{checked, core_of}
 use Rattle.tilt_types.specs.declared.fault.CheckFault.{CheckFault}
 use Rattle.tilt_checkpoint.specs.Checkpoint.{BodyParts, CheckpointParts, with_query}
-use Rattle.tilt_checkpoint.specs.Reading.{query_at}
-use Rattle.tilt_checkpoint.specs.Spelling.{Spells}
+use Rattle.tilt_checkpoint.specs.Reading.{query_at, version_at}
+use Rattle.tilt_checkpoint.specs.Spelling.{Spells, query_lines, title}
 use Rattle.tilt_checkpoint.specs.Valid.{IsAccepted, IsCheckpoint}
-use Rattle.tilt_checkpoint.proofs.Decoding.{body_behind, body_of, read-spelled, read-valid, rest_of, valid-read}
+use Rattle.tilt_checkpoint.specs.declared.version.Version.{Version}
+use Rattle.tilt_checkpoint.proofs.Decoding.{body_behind, body_of, read-spelled, read-valid, rest_of, title-read, title-told, valid-read}
 use Rattle.tilt_checkpoint.proofs.Queries.{lines-spelled, query-again}
 use Rattle.tilt_checkpoint.proofs.Spelled.{one_printed}
+use Rattle.tilt_checkpoint.proofs.Versions.{InVersion, in_version, version-was}
 
 -- a query is accepted, or not
 near-or-not : (query : List StatementTree) → IsQuery query → checked query ≡ Ok (core_of query) → (answer : Result MarginsParts Need)
@@ -101,38 +103,53 @@ abbrev pub SpellOrNot : List ℕ → Type 0
 SpellOrNot bytes = ((c : CheckpointParts) × IsCheckpoint c × Spells bytes c) ⊎ ((c : CheckpointParts) → IsCheckpoint c → ¬ (Spells bytes c))
 
 module _ (bytes : List ℕ) (small : length bytes < 2 ^ 63) where
-  -- what is read of the query's lines where the bytes spell a checkpoint
-  lines-of : (c : CheckpointParts) → IsCheckpoint c → Spells bytes c
-      → query_at bytes ≡ Some ((length c.query, query_text c.query), rest_of c)
-  lines-of c valid same = ap query_at same ∙ query-again c.query (rest_of c) valid.query.parsed
+  module _ (version : Version) (rest : List ℕ) (told : version_at bytes ≡ Some (version, rest)) where
+    -- what is read of the query's lines where the bytes spell a checkpoint
+    lines-of : (c : CheckpointParts) → IsCheckpoint c → (v : InVersion bytes c)
+        → query_at rest ≡ Some ((length c.query, query_text c.query), rest_of v.version c)
+    lines-of c valid v = ap query_at (title-told c bytes version rest told v).1 ∙ query-again c.query (rest_of v.version c) valid.query.parsed
 
-  module _ (count : ℕ) (text left : List ℕ) (e : query_at bytes ≡ Some ((count, text), left)) where
-    spells-body : (query : List StatementTree) → IsAsked count text query → (body : Option BodyParts) → body_behind query left ≡ body → SpellOrNot bytes
-    spells-body query is (Some body) read =
-        let lines = lines-spelled bytes count text left query e is.counted is.printed in
-        inl (with_query query body, read-valid query left body is.accepted read, read-spelled query bytes left body lines read)
-    spells-body query is None none =
+    module _ (count : ℕ) (text left : List ℕ) (e : query_at rest ≡ Some ((count, text), left)) where
+      spells-body : (query : List StatementTree) → IsAsked count text query → (body : Option BodyParts) → body_behind version query left ≡ body
+          → SpellOrNot bytes
+      spells-body query is (Some body) read =
+          let lines = lines-spelled rest count text left query e is.counted is.printed in
+          let whole = version-was bytes version rest told ∙ ap (λ (t : List ℕ). title version ++ t) lines in
+          inl (with_query query body, read-valid version query left body is.accepted read, read-spelled version query bytes left body whole read)
+      spells-body query is None none =
+          inr (λ c valid same.
+          let v = in_version bytes c same in
+          let p = some_pair_parts (count, text) (length c.query, query_text c.query) left (rest_of v.version c) (sym e ∙ lines-of c valid v) in
+          let printed = sym (sym (ap (λ (q : ℕ × List ℕ). q.1) p.0) ∙ is.printed) in
+          let own = one_printed query c.query is.accepted.parsed valid.query.parsed printed in
+          let own_title = (title-told c bytes version rest told v).0 in
+          none-some (body_of c) (sym none ∙ (λ i. body_behind (own_title i) (sym own i) (p.1 i)) ∙ valid-read c bytes valid v small))
+
+      spells-lines : Asks count text → SpellOrNot bytes
+      spells-lines (inl asked) = spells-body asked.0 asked.1 (body_behind version asked.0 left) refl
+      spells-lines (inr none) =
+          inr (λ c valid same.
+          let v = in_version bytes c same in
+          let p = some_pair_parts (count, text) (length c.query, query_text c.query) left (rest_of v.version c) (sym e ∙ lines-of c valid v) in
+          none c.query (record {
+            accepted = valid.query;
+            counted = sym (ap (λ (q : ℕ × List ℕ). q.0) p.0);
+            printed = ap (λ (q : ℕ × List ℕ). q.1) p.0;
+          }))
+
+    spells-after : (at : Option ((ℕ × List ℕ) × List ℕ)) → query_at rest ≡ at → SpellOrNot bytes
+    spells-after None none =
         inr (λ c valid same.
-        let p = some_pair_parts (count, text) (length c.query, query_text c.query) left (rest_of c) (sym e ∙ lines-of c valid same) in
-        let printed = sym (sym (ap (λ (q : ℕ × List ℕ). q.1) p.0) ∙ is.printed) in
-        let own = one_printed query c.query is.accepted.parsed valid.query.parsed printed in
-        none-some (body_of c) (sym none ∙ (λ i. body_behind (sym own i) (p.1 i)) ∙ valid-read c bytes valid same small))
+        let v = in_version bytes c same in
+        none-some ((length c.query, query_text c.query), rest_of v.version c) (sym none ∙ lines-of c valid v))
+    spells-after (Some found) e = spells-lines found.0.0 found.0.1 found.1 e (asks found.0.0 found.0.1)
 
-    spells-lines : Asks count text → SpellOrNot bytes
-    spells-lines (inl asked) = spells-body asked.0 asked.1 (body_behind asked.0 left) refl
-    spells-lines (inr none) =
-        inr (λ c valid same.
-        let p = some_pair_parts (count, text) (length c.query, query_text c.query) left (rest_of c) (sym e ∙ lines-of c valid same) in
-        none c.query (record {
-          accepted = valid.query;
-          counted = sym (ap (λ (q : ℕ × List ℕ). q.0) p.0);
-          printed = ap (λ (q : ℕ × List ℕ). q.1) p.0;
-        }))
-
-  spells-behind : (at : Option ((ℕ × List ℕ) × List ℕ)) → query_at bytes ≡ at → SpellOrNot bytes
-  spells-behind None none =
-      inr (λ c valid same. none-some ((length c.query, query_text c.query), rest_of c) (sym none ∙ lines-of c valid same))
-  spells-behind (Some found) e = spells-lines found.0.0 found.0.1 found.1 e (asks found.0.0 found.0.1)
+  spells-title : (at : Option (Version × List ℕ)) → version_at bytes ≡ at → SpellOrNot bytes
+  spells-title None none =
+      inr (λ c valid same.
+      let v = in_version bytes c same in
+      none-some (v.version, query_lines c.query ++ rest_of v.version c) (sym none ∙ title-read c bytes v))
+  spells-title (Some found) told = spells-after found.0 found.1 told (query_at found.1) refl
 
   pub spelled_or_not : SpellOrNot bytes
-  spelled_or_not = spells-behind (query_at bytes) refl
+  spelled_or_not = spells-title (version_at bytes) refl

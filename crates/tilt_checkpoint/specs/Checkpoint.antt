@@ -1,5 +1,6 @@
 -- A checkpoint as plain data: what a session hands on to the next one (our own rule).
-use Rattle.std.specs.Prelude.{ℤ, List, Option}
+use Rattle.std.specs.Prelude.{ℤ, List, Option, map}
+use Rattle.tilt_checkpoint.specs.Cuts.{CutsParts}
 use Rattle.tilt_stream.specs.Snap.{Snapshot}
 use Rattle.tilt_syntax.specs.Tree.{StatementTree}
 
@@ -9,19 +10,27 @@ pub record KeptParts : Type 0 where
   pub last_end : Option ℤ
   pub rows : List Snapshot
 
--- the cut up to which a session has seen rows, the start of the snapshot that isn't finished, and what is kept of each input
+-- the least of the cuts up to which a session has seen rows, the start of the snapshot that isn't finished, and what is kept of each input
 pub record BodyParts : Type 0 where
   pub cut : ℤ
   pub open_start : Option ℤ
   pub series : List KeptParts
 
--- the query, the cut up to which it has seen rows, the start of the snapshot that isn't finished, and what is kept of each input
+-- the query, the least of the cuts up to which rows were seen, the start of the snapshot that isn't finished, and what is kept of each input
 pub record CheckpointParts : Type 0 where
   pub query : List StatementTree
   pub cut : ℤ
   pub open_start : Option ℤ
   pub series : List KeptParts
 
--- the checkpoint of a query and what stands behind it
+-- the checkpoint of a query and what stands after it
 abbrev pub with_query : List StatementTree → BodyParts → CheckpointParts
 with_query query body = record { query = query; cut = body.cut; open_start = body.open_start; series = body.series }
+
+-- the cut of each input
+abbrev pub cuts_kept : List KeptParts → List ℤ
+cuts_kept series = map (λ kept. kept.cut) series
+
+-- the cuts of a checkpoint
+abbrev pub cuts_of : CheckpointParts → CutsParts
+cuts_of c = record { least = c.cut; each = cuts_kept c.series }

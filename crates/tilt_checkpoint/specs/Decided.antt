@@ -30,6 +30,6 @@ pub record IsFrame (frame : Frame) : Type 0 where
 abbrev pub decided : Frame → ℤ → ℤ
 decided frame cut = int_min frame.end (cut -ℤ frame.ahead)
 
--- the first tick that the output behind `decided`, and the tick before it, look back to
+-- the first tick that the output after `decided`, and the tick before it, look back to
 abbrev pub first_kept : Frame → ℤ → ℤ
 first_kept frame cut = int_max (decided frame cut) (frame.start +ℤ pos 1) -ℤ frame.back

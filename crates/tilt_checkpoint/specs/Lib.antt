@@ -1,4 +1,5 @@
 pub mod Checkpoint
+pub mod Cuts
 pub mod Decided
 pub mod Faults
 pub mod Reading

@@ -8,7 +8,8 @@ use Rattle.tilt_syntax.specs.Query.{IsQuery}
 use Rattle.tilt_syntax.specs.Tree.{StatementTree}
 use Rattle.tilt_types.specs.Checked.{checked, core_of}
 use Rattle.tilt_bounds.specs.Margins.{MarginsParts, margins_of}
-use Rattle.tilt_checkpoint.specs.Checkpoint.{KeptParts, CheckpointParts}
+use Rattle.tilt_checkpoint.specs.Checkpoint.{KeptParts, CheckpointParts, cuts_kept}
+use Rattle.tilt_checkpoint.specs.Cuts.{IsCut, IsLeast}
 use Rattle.tilt_checkpoint.specs.Decided.{frame_of, decided, first_kept}
 use Rattle.tilt_checkpoint.specs.declared.frame.Frame.{Frame}
 
@@ -18,10 +19,6 @@ pub record IsAccepted (query : List StatementTree) : Type 0 where
   pub well_formed : checked query ≡ Ok (core_of query)
   pub margins : MarginsParts
   pub near : margins_of (core_of query) ≡ Ok margins
-
--- a cut lies within the range of times
-abbrev pub IsCut : ℤ → Type 0
-IsCut cut = (neg_ℤ T ≤ℤ cut) × (cut ≤ℤ T)
 
 -- some of the output is decided, and not all
 abbrev pub IsAmid : Frame → ℤ → Type 0
@@ -37,7 +34,7 @@ abbrev pub IsCell : Option ℤ → Type 0
 IsCell None = ⊤
 IsCell (Some value) = FitsSigned w64 value
 
--- a row that is kept reaches to the first tick that is kept, or farther, and starts before the cut
+-- a row that is kept reaches to the first tick that is kept, or farther, and starts before its input's cut
 pub record IsKept (first cut : ℤ) (row : Snapshot) : Type 0 where
   pub reaches : first ≤ℤ row.end
   pub before : row.start <ℤ cut
@@ -51,13 +48,10 @@ IsLastEnd first cut None (Some last) = (neg_ℤ T <ℤ last) × (last ≤ℤ T) 
 
 -- what is kept of an input
 pub record IsSeries (first : ℤ) (kept : KeptParts) : Type 0 where
+  pub cut : IsCut kept.cut
   pub in_order : AreRows kept.rows
   pub rows : AllByRecursion (IsKept first kept.cut) kept.rows
   pub last : IsLastEnd first kept.cut (last_end kept.rows) kept.last_end
-
--- each input has that cut
-abbrev pub HaveCut : ℤ → List KeptParts → Type 0
-HaveCut cut series = AllByRecursion (λ kept. kept.cut ≡ cut) series
 
 -- a checkpoint is valid
 pub record IsCheckpoint (c : CheckpointParts) : Type 0 where
@@ -66,4 +60,4 @@ pub record IsCheckpoint (c : CheckpointParts) : Type 0 where
   pub opened : let frame = frame_of (core_of c.query) in IsOpen frame (decided frame c.cut) c.open_start
   pub counted : length c.series ≡ length (core_of c.query).inputs
   pub series : AllByRecursion (IsSeries (first_kept (frame_of (core_of c.query)) c.cut)) c.series
-  pub same : HaveCut c.cut c.series
+  pub least : IsLeast c.cut (cuts_kept c.series)

@@ -5,11 +5,12 @@ use crate::kept::Kept;
 use std::marker::Model;
 use tilt_syntax::Query;
 
-/// What a session of a query hands on to the next one. It is valid: the query is one that is accepted; the cut is within the
-/// range of times; a start of an open snapshot is there exactly where some of the output is decided at the cut and not all,
-/// and it lies in what is decided; there is one series for each input, which has that cut; and of each series the rows are in order, reach to the
-/// first tick that has to be kept, and start before the cut, and the last end is that of the last row, or where no row is
-/// kept that of a row that needn't be. A clause sees it as plain data.
+/// What a session of a query hands on to the next one. It is valid: the query is one that is accepted; there is one series for each
+/// input, each with a cut of its own; the cuts are within the range of times, and where there are inputs the checkpoint's cut is the
+/// least of theirs; a start of an open snapshot is there exactly where some of the output is decided at that cut and not all, and it
+/// lies in what is decided; and of each series the rows are in order, reach to the first tick that has to be kept, and start before
+/// the series' cut, and the last end is that of the last row, or where no row is kept that of a row that needn't be. A clause sees it
+/// as plain data.
 #[derive(Drop)]
 pub struct Checkpoint {
     query: Query,
@@ -56,7 +57,8 @@ impl Checkpoint {
         &self.query
     }
 
-    /// The cut: the sessions so far were handed the rows that start before it.
+    /// The least cut: of each input the sessions so far were handed the rows that start before its own, which stands in what is kept
+    /// of it.
     pub fn cut(&self) -> i64
         ensures value { result ≡ self.now.cut }
         ensures valid { IsCheckpoint self.now }

@@ -2,22 +2,25 @@
 ghost use Rattle.std.specs.Prelude.{◌≡◌, ◌⊎◌, Ok, length, IfOk, IfErr, MatchResult};
 ghost use Rattle.tilt_bounds.specs.Margins.{margins_of};
 ghost use Rattle.tilt_checkpoint.specs.Checkpoint.{CheckpointParts, with_query};
+ghost use Rattle.tilt_checkpoint.specs.Cuts.{IsCut};
 ghost use Rattle.tilt_checkpoint.specs.Decided.{IsFrame, frame_of};
-ghost use Rattle.tilt_checkpoint.specs.Reading.{Gives, body_at, end_at, is_amid, is_cut, is_open, rest_at};
+ghost use Rattle.tilt_checkpoint.specs.Reading.{Gives, body_at, end_at, form_of, is_amid, is_least, is_open, none_below, one_has, rest_at};
 ghost use Rattle.tilt_checkpoint.specs.Spelling.{Spells};
-ghost use Rattle.tilt_checkpoint.specs.Valid.{IsCheckpoint, IsCut};
+ghost use Rattle.tilt_checkpoint.specs.Valid.{IsCheckpoint};
 ghost use Rattle.tilt_types.specs.Checked.{core_of};
 
 use crate::body::Body;
 use crate::checkpoint::Checkpoint;
+use crate::cuts::is_cut;
 use crate::fault::CheckpointFault;
+use crate::form::Form;
 use crate::frame::Frame;
 use crate::kept::Kept;
 use crate::query::{Asked, read_query};
 use crate::reader::Reader;
 use crate::series::read_series;
+use crate::version::Version;
 use std::alloc::Global;
-use tilt_base::T;
 use tilt_bounds::Margins;
 use tilt_core::Core;
 use tilt_syntax::Query;
@@ -57,8 +60,9 @@ fn read(alloc: Global, bytes: &[u8]) -> Result<Decoded, CheckpointFault>
         MatchResult result (λ found. found.checkpoint ≡ checkpoint) (λ fault. fault ≡ CheckpointFault.OutOfMemory) }
 {
     let mut reader = Reader::new(bytes);
+    let version = reader.version().ok_or(CheckpointFault::BadCheckpoint)?;
     let asked = read_query(alloc, &mut reader)?;
-    let body = read_behind(alloc, &asked, reader)?;
+    let body = read_after(alloc, &asked, version, reader)?;
     Ok(Decoded {
         checkpoint: whole(asked.query, body),
         core: asked.core,
@@ -66,7 +70,7 @@ fn read(alloc: Global, bytes: &[u8]) -> Result<Decoded, CheckpointFault>
     })
 }
 
-// The checkpoint of a query and what stands behind it.
+// The checkpoint of a query and what stands after it.
 fn whole(query: Query, body: Body) -> Checkpoint
     requires { IsCheckpoint (with_query query body) }
     ensures { result ≡ with_query query body }
@@ -74,24 +78,30 @@ fn whole(query: Query, body: Body) -> Checkpoint
     Checkpoint::new(query, body.cut, body.open_start, body.series)
 }
 
-// What stands behind a query.
-fn read_behind(alloc: Global, asked: &Asked, reader: Reader<'_>) -> Result<Body, CheckpointFault>
+// What stands after a query.
+fn read_after(
+    alloc: Global,
+    asked: &Asked,
+    version: Version,
+    reader: Reader<'_>,
+) -> Result<Body, CheckpointFault>
     requires { margins_of asked.now.core ≡ Ok asked.now.margins }
-    ensures { Gives (body_at (frame_of asked.now.core) (length asked.now.core.inputs) reader.entry) (λ body. body) result }
+    ensures { Gives (body_at version (frame_of asked.now.core) (length asked.now.core.inputs) reader.entry) (λ body. body) result }
 {
     let frame = Frame::new(&asked.core, &asked.margins);
-    read_body(alloc, reader, frame, asked.core.inputs().len())
+    read_body(alloc, version, reader, frame, asked.core.inputs().len())
 }
 
-// What stands behind a query with that frame and so many inputs.
+// What stands after a query with that frame and so many inputs.
 fn read_body(
     alloc: Global,
+    version: Version,
     mut reader: Reader<'_>,
     frame: Frame,
     inputs: usize,
 ) -> Result<Body, CheckpointFault>
     requires { IsFrame frame }
-    ensures { Gives (body_at frame inputs reader.entry) (λ body. body) result }
+    ensures { Gives (body_at version frame inputs reader.entry) (λ body. body) result }
 {
     match reader.moment() {
         Some((cut, open_start)) => {
@@ -100,8 +110,7 @@ fn read_body(
                     alloc,
                     reader,
                     inputs,
-                    frame.first_kept(cut),
-                    cut,
+                    form_of(version, frame, cut),
                     open_start,
                 )
             } else {
@@ -112,22 +121,34 @@ fn read_body(
     }
 }
 
-// What stands behind the cut and the start of the open snapshot, where `first` is the first tick that is kept.
+// By what the lines of inputs are read.
+fn form_of(version: Version, frame: Frame, cut: i64) -> Form
+    requires frame { IsFrame frame }
+    requires cut { IsCut cut }
+    ensures { result ≡ form_of version frame cut }
+{
+    Form {
+        version,
+        first: frame.first_kept(cut),
+        least: cut,
+    }
+}
+
+// What stands after the least cut and the start of the open snapshot.
 fn read_rest(
     alloc: Global,
     mut reader: Reader<'_>,
     inputs: usize,
-    first: i64,
-    cut: i64,
+    form: Form,
     open_start: Option<i64>,
 ) -> Result<Body, CheckpointFault>
-    ensures { Gives (rest_at inputs first cut open_start reader.entry) (λ body. body) result }
+    ensures { Gives (rest_at inputs form open_start reader.entry) (λ body. body) result }
 {
-    let series = read_series(alloc, &mut reader, inputs, first, cut)?;
-    end(series, cut, open_start, reader.left())
+    let series = read_series(alloc, &mut reader, inputs, form)?;
+    end(series, form.least, open_start, reader.left())
 }
 
-// The end, behind which nothing stands.
+// The end, after which nothing stands, where the cut is the least of the inputs'.
 fn end(
     series: Vec<Kept>,
     cut: i64,
@@ -136,7 +157,7 @@ fn end(
 ) -> Result<Body, CheckpointFault>
     ensures { Gives (end_at cut open_start (series.items, bytes.now)) (λ body. body) result }
 {
-    if bytes == b"end\n".as_slice() {
+    if bytes == b"end\n".as_slice() && is_least(cut, &series) {
         Ok(Body {
             cut,
             open_start,
@@ -147,11 +168,25 @@ fn end(
     }
 }
 
-// Whether a cut lies within the range of times.
-fn is_cut(cut: i64) -> bool
-    ensures { result ≡ is_cut cut }
+// Whether a cut is the least of those of the inputs, where there are any.
+fn is_least(cut: i64, series: &[Kept]) -> bool
+    ensures { result ≡ is_least cut series.now }
 {
-    -T <= cut && cut <= T
+    none_below(cut, series) && (series.is_empty() || one_has(cut, series))
+}
+
+// Whether the cut of no input lies below that.
+fn none_below(cut: i64, series: &[Kept]) -> bool
+    ensures { result ≡ none_below cut series.now }
+{
+    series.iter().all(|kept| cut <= kept.cut)
+}
+
+// Whether an input has that cut.
+fn one_has(cut: i64, series: &[Kept]) -> bool
+    ensures { result ≡ one_has cut series.now }
+{
+    series.iter().any(|kept| kept.cut == cut)
 }
 
 // Whether an open snapshot may start there, where the output is decided up to a tick.

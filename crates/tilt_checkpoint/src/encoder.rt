@@ -1,6 +1,9 @@
-// The spelling of a checkpoint.
-ghost use Rattle.std.specs.Prelude.{◌≡◌, ◌++◌, flat_map, IfOk, OnOk};
-ghost use Rattle.tilt_checkpoint.specs.Spelling.{cut_line, open_line, query_lines, row_lines, series_lines, spelling, time_text};
+// The spelling of a checkpoint, in the second version.
+ghost use Rattle.std.specs.Prelude.{◌≡◌, ◌++◌, codes, flat_map, IfOk, OnOk};
+ghost use Rattle.std.specs.Fmt.{decimal};
+ghost use Rattle.tilt_checkpoint.specs.Spelling.{body_lines, cut_line, cut_words, open_line, query_lines, row_lines, series_lines};
+ghost use Rattle.tilt_checkpoint.specs.Spelling.{spelling, time_text};
+ghost use Rattle.tilt_checkpoint.specs.declared.version.Version.TheVariants.{Second};
 ghost use Rattle.tilt_stream.specs.Text.{cell_text, row_text};
 
 use crate::checkpoint::Checkpoint;
@@ -12,20 +15,28 @@ use tilt_syntax::{Query, print};
 use tilt_text::{put, put_number};
 
 // The first line, with the version.
-pub(crate) const TITLE: &[u8] = b"tilt checkpoint 1\n";
+const TITLE: &[u8] = b"tilt checkpoint 2\n";
 
-/// The spelling of the checkpoint: its one text.
+/// The spelling of the checkpoint: the text that is written of it.
 pub fn encode(alloc: Global, checkpoint: &Checkpoint) -> Result<Vec<u8>, OutOfMemory>
     ensures text { IfOk result (λ text. text.items ≡ spelling checkpoint.now) }
 {
     let mut text = Vec::new(alloc);
     put(&mut text, TITLE)?;
     put_query(alloc, &mut text, checkpoint.query())?;
-    put_cut(&mut text, checkpoint.cut())?;
-    put_open(&mut text, checkpoint.open_start())?;
-    put_each(&mut text, checkpoint.series())?;
-    put(&mut text, b"end\n")?;
+    put_body(&mut text, checkpoint)?;
     Ok(text)
+}
+
+// Puts the lines after the query.
+fn put_body(text: &mut Vec<u8>, checkpoint: &Checkpoint) -> Result<(), OutOfMemory>
+    ensures { OnOk result (text.new.items ≡ text.old.items
+        ++ body_lines Second checkpoint.now.cut checkpoint.now.open_start checkpoint.now.series) }
+{
+    put_cut(text, checkpoint.cut())?;
+    put_open(text, checkpoint.open_start())?;
+    put_each(text, checkpoint.series())?;
+    put(text, b"end\n")
 }
 
 // Puts the number of the query's statements, and their lines.
@@ -39,7 +50,7 @@ fn put_query(alloc: Global, text: &mut Vec<u8>, query: &Query) -> Result<(), Out
     put(text, &lines)
 }
 
-// Puts the line of the cut.
+// Puts the line of the least cut.
 fn put_cut(text: &mut Vec<u8>, cut: i64) -> Result<(), OutOfMemory>
     ensures { OnOk result (text.new.items ≡ text.old.items ++ cut_line cut) }
 {
@@ -59,7 +70,7 @@ fn put_open(text: &mut Vec<u8>, start: Option<i64>) -> Result<(), OutOfMemory>
 
 // Puts the lines of all series.
 fn put_each(text: &mut Vec<u8>, series: &[Kept]) -> Result<(), OutOfMemory>
-    ensures { OnOk result (text.new.items ≡ text.old.items ++ flat_map series_lines series.now) }
+    ensures { OnOk result (text.new.items ≡ text.old.items ++ flat_map (series_lines Second) series.now) }
 {
     for kept in series {
         put_series(text, kept)?;
@@ -69,14 +80,32 @@ fn put_each(text: &mut Vec<u8>, series: &[Kept]) -> Result<(), OutOfMemory>
 
 // Puts the lines of a series.
 fn put_series(text: &mut Vec<u8>, kept: &Kept) -> Result<(), OutOfMemory>
-    ensures { OnOk result (text.new.items ≡ text.old.items ++ series_lines kept.now) }
+    ensures { OnOk result (text.new.items ≡ text.old.items ++ series_lines Second kept.now) }
+{
+    put_own_cut(text, kept.cut)?;
+    put_head(text, kept.last_end, kept.rows.len())?;
+    put_rows(text, kept.rows.as_slice())
+}
+
+// Puts the cut of an input.
+fn put_own_cut(text: &mut Vec<u8>, cut: i64) -> Result<(), OutOfMemory>
+    ensures { OnOk result (text.new.items ≡ text.old.items ++ cut_words Second cut) }
+{
+    put(text, b"cut ")?;
+    put_number(text, cut)?;
+    put(text, b" ")
+}
+
+// Puts the last end of an input and the number of its rows.
+fn put_head(text: &mut Vec<u8>, last_end: Option<i64>, count: usize) -> Result<(), OutOfMemory>
+    ensures { OnOk result (text.new.items ≡ text.old.items
+        ++ (codes "last " ++ (time_text last_end ++ (codes " rows " ++ (decimal count ++ codes "\n"))))) }
 {
     put(text, b"last ")?;
-    put_time(text, kept.last_end)?;
+    put_time(text, last_end)?;
     put(text, b" rows ")?;
-    put_number(text, kept.rows.len())?;
-    put(text, b"\n")?;
-    put_rows(text, kept.rows.as_slice())
+    put_number(text, count)?;
+    put(text, b"\n")
 }
 
 // Puts the lines of rows.

@@ -1,7 +1,7 @@
 ghost use Rattle.std.specs.Prelude.{◌≡◌, Ok};
 ghost use Rattle.tilt_bounds.specs.Margins.{margins_of};
+ghost use Rattle.tilt_checkpoint.specs.Cuts.{IsCut};
 ghost use Rattle.tilt_checkpoint.specs.Decided.{IsFrame, decided, first_kept, frame_of};
-ghost use Rattle.tilt_checkpoint.specs.Valid.{IsCut};
 
 use tilt_bounds::Margins;
 use tilt_core::Core;
@@ -33,8 +33,8 @@ impl Frame {
         }
     }
 
-    /// The last tick of the output that no row can change which starts at the cut or behind it, and the end of the output at
-    /// most. It may lie below the start.
+    /// The last tick of the output that no row can change which starts at the cut or after it, and the end of the output at
+    /// most. Where inputs have cuts of their own, the least of them counts. It may lie below the start.
     pub fn decided(&self, cut: i64) -> i64
         requires frame { IsFrame self.now }
         requires cut { IsCut cut }
@@ -43,7 +43,7 @@ impl Frame {
         self.end.min(cut - self.ahead)
     }
 
-    /// The first tick that sessions behind the cut may look at: they go on at the tick that is decided last.
+    /// The first tick that sessions after the cut may look at: they go on at the tick that is decided last.
     pub fn first_kept(&self, cut: i64) -> i64
         requires frame { IsFrame self.now }
         requires cut { IsCut cut }

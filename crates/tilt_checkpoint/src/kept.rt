@@ -4,7 +4,7 @@ use tilt_stream::Rows;
 /// What is kept of an input. A clause sees it as plain data.
 #[derive(Drop)]
 pub struct Kept {
-    /// The cut up to which its rows were seen, in ticks: each of them starts below it.
+    /// Its cut, in ticks: those of its rows were seen that start below it.
     pub cut: i64,
     /// The end of the last row that any session was handed, in ticks, or `None` where there was no row.
     pub last_end: Option<i64>,

@@ -1,25 +1,29 @@
-//! Checkpoints: what a session of a query hands on to the next one, and their one spelling.
+//! Checkpoints: what a session of a query hands on to the next one, and how they are spelled.
 //!
 //! What comes in is checkpoints and bytes; what goes out is bytes, and checkpoints again. A `Checkpoint` keeps that it is
-//! valid, as `specs/Valid` says. The clause of `encode` says that it gives the text of `specs/Spelling`. Those of `decode` say
-//! that it gives the valid checkpoint that the bytes spell (`checkpoint`, `only`), and refuses them exactly where they spell none
-//! (`bad`, `none`); besides, it may only want memory. With the checkpoint it hands on the core and the
-//! margins of its query, so that nobody checks them again. What is decided at a cut, and which ticks have to be kept then, stands
-//! in `specs/Decided`.
+//! valid, as `specs/Valid` says. The clause of `encode` says that it gives the text of `specs/Spelling`, in its second version. Those of
+//! `decode` say that it gives the valid checkpoint that the bytes spell, in either version (`checkpoint`, `only`), and refuses them
+//! exactly where they spell none (`bad`, `none`); besides, it may only want memory. With the checkpoint it hands on the core and the
+//! margins of its query, so that nobody checks them again. `Cuts` are a cut for each input, and the least of them (`specs/Cuts`). What
+//! is decided at the least cut, and which ticks have to be kept then, stands in `specs/Decided`.
 #![tactic(auto)]
 
 mod body;
 mod checkpoint;
+mod cuts;
 mod decoder;
 mod encoder;
 mod fault;
+mod form;
 mod frame;
 mod kept;
 mod query;
 mod reader;
 mod series;
+mod version;
 
 pub use checkpoint::Checkpoint;
+pub use cuts::Cuts;
 pub use decoder::{Decoded, decode};
 pub use encoder::encode;
 pub use fault::CheckpointFault;

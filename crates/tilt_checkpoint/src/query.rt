@@ -1,7 +1,7 @@
 // The query of a checkpoint, read.
 ghost use Rattle.std.specs.Prelude.{◌≡◌, ◌↔◌, ◌++◌, List, ℕ, Ok, length, IsTrue, IfOk, IfErr, MatchResult};
 ghost use Rattle.tilt_bounds.specs.Margins.{margins_of};
-ghost use Rattle.tilt_checkpoint.specs.Spelling.{query_lines, title};
+ghost use Rattle.tilt_checkpoint.specs.Spelling.{query_lines};
 ghost use Rattle.tilt_checkpoint.specs.Valid.{IsAccepted};
 ghost use Rattle.tilt_syntax.specs.Printing.{query_text};
 ghost use Rattle.tilt_syntax.specs.Query.{IsQuery};
@@ -25,13 +25,12 @@ pub(crate) struct Asked {
     pub(crate) margins: Margins,
 }
 
-// The query of a checkpoint, from the first line to the last of the query.
+// The query of a checkpoint, after its first line.
 pub(crate) fn read_query(alloc: Global, reader: &mut Reader<'_>) -> Result<Asked, CheckpointFault>
-    ensures found { IfOk result (λ asked. IsAccepted asked.query × (reader.old ≡ title ++ (query_lines asked.query ++ reader.new))) }
+    ensures found { IfOk result (λ asked. IsAccepted asked.query × (reader.old ≡ query_lines asked.query ++ reader.new)) }
     ensures core { IfOk result (λ asked. asked.core ≡ core_of asked.query) }
     ensures margins { IfOk result (λ asked. margins_of asked.core ≡ Ok asked.margins) }
-    ensures only { (query : List StatementTree) (more : List ℕ) → IsAccepted query
-        → reader.old ≡ title ++ (query_lines query ++ more)
+    ensures only { (query : List StatementTree) (more : List ℕ) → IsAccepted query → reader.old ≡ query_lines query ++ more
         → MatchResult result (λ asked. (asked.query ≡ query) × (reader.new ≡ more)) (λ fault. fault ≡ CheckpointFault.OutOfMemory) }
 {
     match reader.query_lines() {

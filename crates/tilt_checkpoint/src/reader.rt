@@ -1,10 +1,10 @@
 // The bytes of a checkpoint, from a place on, and the pieces that they begin with.
 ghost use Rattle.std.specs.Prelude.{◌≡◌, MatchOption};
-ghost use Rattle.tilt_checkpoint.specs.Reading.{behind, behind_line, count_at, maybe, maybe_at, moment_at, number_at, query_at};
-ghost use Rattle.tilt_checkpoint.specs.Reading.{row_at, series_head, times, Reads};
+ghost use Rattle.tilt_checkpoint.specs.Reading.{behind, behind_line, count_at, maybe, maybe_at, moment_at, number_at, own_cut_at};
+ghost use Rattle.tilt_checkpoint.specs.Reading.{query_at, row_at, series_head, times, version_at, version_of, Reads};
 ghost use Rattle.tilt_text.specs.Cut.{until_at};
 
-use crate::encoder::TITLE;
+use crate::version::Version;
 use std::marker::Model;
 use tilt_stream::{Row, Snap};
 use tilt_text::{shortest, until};
@@ -76,11 +76,18 @@ impl<'a> Reader<'a> {
         maybe(nothing, self.until(mark)?)
     }
 
+    // The version that the first line tells.
+    pub(crate) fn version(&mut self) -> Option<Version>
+        ensures { Reads (version_at self.old) result self.new }
+    {
+        self.pass(b"tilt checkpoint ")?;
+        version_of(self.until(b'\n')?)
+    }
+
     // The number of the query's statements, and as many lines.
     pub(crate) fn query_lines(&mut self) -> Option<(u64, &'a [u8])>
         ensures { MatchOption result (query_at self.old ≡ None) (λ found. query_at self.old ≡ Some ((found.0, found.1.now), self.new)) }
     {
-        self.pass(TITLE)?;
         self.pass(b"query ")?;
         let count = self.count(b'\n')?;
         let lines = self.left;
@@ -113,6 +120,19 @@ impl<'a> Reader<'a> {
         }
     }
 
+    // The cut of an input: its own, or in the first version the least, which is that of all.
+    pub(crate) fn own_cut(&mut self, version: Version, least: i64) -> Option<i64>
+        ensures { Reads (own_cut_at version least self.old) result self.new }
+    {
+        match version {
+            Version::First => Some(least),
+            Version::Second => {
+                self.pass(b"cut ")?;
+                self.number(b' ')
+            }
+        }
+    }
+
     // The last end and the number of rows of a series.
     pub(crate) fn series_head(&mut self) -> Option<(Option<i64>, u64)>
         ensures { Reads (series_head self.old) result self.new }
@@ -124,7 +144,7 @@ impl<'a> Reader<'a> {
         Some((last_end, count))
     }
 
-    // The cut, and the start of the open snapshot.
+    // The least cut, and the start of the open snapshot.
     pub(crate) fn moment(&mut self) -> Option<(i64, Option<i64>)>
         ensures { Reads (moment_at self.old) result self.new }
     {
@@ -133,6 +153,19 @@ impl<'a> Reader<'a> {
         self.pass(b"open ")?;
         let open_start = self.maybe(b"none", b'\n')?;
         Some((cut, open_start))
+    }
+}
+
+// The version that a word names.
+fn version_of(word: &[u8]) -> Option<Version>
+    ensures { result ≡ version_of word.now }
+{
+    if word == b"1".as_slice() {
+        Some(Version::First)
+    } else if word == b"2".as_slice() {
+        Some(Version::Second)
+    } else {
+        None
     }
 }
 

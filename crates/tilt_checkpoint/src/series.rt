@@ -1,28 +1,29 @@
 // What is kept of each input, read.
 ghost use Rattle.std.specs.Prelude.{◌≡◌, ℕ, [], ◌∷◌, ◌++◌, OnOk};
-ghost use Rattle.tilt_checkpoint.specs.Reading.{Gives, follows, is_last_end, kept_at, may_follow, times, with_kept, with_row};
+ghost use Rattle.tilt_checkpoint.specs.Reading.{Gives, follows, is_last_end, kept_at, kept_upto, may_follow, times, with_kept, with_row};
 ghost use Rattle.tilt_stream.specs.Snap.{last_end};
 
+use crate::cuts::is_cut;
 use crate::fault::CheckpointFault;
+use crate::form::Form;
 use crate::kept::Kept;
 use crate::reader::Reader;
 use std::alloc::{AllocError as OutOfMemory, Global};
 use tilt_base::T;
 use tilt_stream::{Row, Rows};
 
-// What is kept of so many inputs, where `first` is the first tick that is kept.
+// What is kept of so many inputs.
 pub(crate) fn read_series(
     alloc: Global,
     reader: &mut Reader<'_>,
     inputs: usize,
-    first: i64,
-    cut: i64,
+    form: Form,
 ) -> Result<Vec<Kept>, CheckpointFault>
-    ensures { Gives (times (with_kept first cut) inputs ([], reader.old)) (λ series. (series.items, reader.new)) result }
+    ensures { Gives (times (with_kept form) inputs ([], reader.old)) (λ series. (series.items, reader.new)) result }
 {
     let mut series = Vec::new(alloc);
     for _ in 0..inputs {
-        push_kept(alloc, &mut series, reader, first, cut)?;
+        push_kept(alloc, &mut series, reader, form)?;
     }
     Ok(series)
 }
@@ -32,12 +33,11 @@ fn push_kept(
     alloc: Global,
     series: &mut Vec<Kept>,
     reader: &mut Reader<'_>,
-    first: i64,
-    cut: i64,
+    form: Form,
 ) -> Result<(), CheckpointFault>
-    ensures { Gives (with_kept first cut (series.old.items, reader.old)) (λ _. (series.new.items, reader.new)) result }
+    ensures { Gives (with_kept form (series.old.items, reader.old)) (λ _. (series.new.items, reader.new)) result }
 {
-    let kept = read_kept(alloc, reader, first, cut)?;
+    let kept = read_kept(alloc, reader, form)?;
     add(series, kept)?;
     Ok(())
 }
@@ -51,13 +51,27 @@ fn add(series: &mut Vec<Kept>, kept: Kept) -> Result<(), OutOfMemory>
 }
 
 // What is kept of an input.
-fn read_kept(
+fn read_kept(alloc: Global, reader: &mut Reader<'_>, form: Form) -> Result<Kept, CheckpointFault>
+    ensures { Gives (kept_at form reader.old) (λ kept. (kept, reader.new)) result }
+{
+    let cut = reader
+        .own_cut(form.version, form.least)
+        .ok_or(CheckpointFault::BadCheckpoint)?;
+    if is_cut(cut) {
+        read_upto(alloc, reader, form.first, cut)
+    } else {
+        Err(CheckpointFault::BadCheckpoint)
+    }
+}
+
+// What is kept of an input with that cut.
+fn read_upto(
     alloc: Global,
     reader: &mut Reader<'_>,
     first: i64,
     cut: i64,
 ) -> Result<Kept, CheckpointFault>
-    ensures { Gives (kept_at first cut reader.old) (λ kept. (kept, reader.new)) result }
+    ensures { Gives (kept_upto first cut reader.old) (λ kept. (kept, reader.new)) result }
 {
     let (last_end, count) = reader.series_head().ok_or(CheckpointFault::BadCheckpoint)?;
     let rows = read_rows(alloc, reader, count, first, cut)?;
@@ -106,7 +120,7 @@ fn push_row(
     Ok(())
 }
 
-// Whether a row may be kept behind those.
+// Whether a row may be kept after those, of an input with that cut.
 fn may_follow(first: i64, cut: i64, rows: &Rows, row: Row) -> bool
     ensures { result ≡ may_follow first cut rows.now row }
 {
@@ -117,7 +131,7 @@ fn may_follow(first: i64, cut: i64, rows: &Rows, row: Row) -> bool
         && row.start < cut
 }
 
-// Whether a row may start there behind the last one, where there is one.
+// Whether a row may start there after the last one, where there is one.
 fn follows(last_end: Option<i64>, start: i64) -> bool
     ensures { result ≡ follows last_end start }
 {

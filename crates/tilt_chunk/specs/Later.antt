@@ -1,9 +1,10 @@
--- What a session behind a checkpoint prints, and its own checkpoint (our own rule). It is handed the rows behind the checkpoint alone.
+-- What a session after a checkpoint prints, and its own checkpoint (our own rule). It is handed the rows after the checkpoint alone.
 use Rattle.std.specs.Prelude.{ℤ, pos, ◌-ℤ◌, if◌then◌else◌, List, [], ◌∷◌, ◌++◌, map, Option, Some, None, int_lt}
 use Rattle.std.specs.Int.{int_max}
 use Rattle.tilt_stream.specs.Snap.{Snapshot, last_end}
 use Rattle.tilt_types.specs.Checked.{core_of}
 use Rattle.tilt_checkpoint.specs.Checkpoint.{KeptParts, CheckpointParts}
+use Rattle.tilt_checkpoint.specs.Cuts.{CutsParts}
 use Rattle.tilt_checkpoint.specs.Decided.{frame_of, decided, first_kept}
 use Rattle.tilt_checkpoint.specs.declared.frame.Frame.{Frame}
 use Rattle.tilt_chunk.specs.Cuts.{decided_by}
@@ -40,25 +41,29 @@ abbrev pub last_or : Option ℤ → Option ℤ → Option ℤ
 last_or None old = old
 last_or (Some end) old = Some end
 
--- what is kept at a cut of each input
-abbrev pub kept_again : ℤ → ℤ → List KeptParts → List (List Snapshot) → List KeptParts
-kept_again first cut [] new = []
-kept_again first cut (k ∷ series) [] = []
-kept_again first cut (k ∷ series) (rows ∷ more) =
-    record { cut = cut; last_end = last_or (last_end rows) k.last_end; rows = kept first (k.rows ++ rows) } ∷ kept_again first cut series more
+-- what is kept at its cut of an input, beside its new rows
+abbrev pub again : ℤ → ℤ → KeptParts → List Snapshot → KeptParts
+again first cut k rows = record { cut = cut; last_end = last_or (last_end rows) k.last_end; rows = kept first (k.rows ++ rows) }
 
--- the checkpoint of a session that ends by a cut
-abbrev pub next : CheckpointParts → List (List Snapshot) → ℤ → CheckpointParts
-next c rows cut =
+-- and of each input
+abbrev pub kept_again : ℤ → List ℤ → List KeptParts → List (List Snapshot) → List KeptParts
+kept_again first [] series new = []
+kept_again first (cut ∷ cuts) [] new = []
+kept_again first (cut ∷ cuts) (k ∷ series) [] = []
+kept_again first (cut ∷ cuts) (k ∷ series) (rows ∷ more) = again first cut k rows ∷ kept_again first cuts series more
+
+-- the checkpoint of a session that ends by cuts
+abbrev pub next : CheckpointParts → List (List Snapshot) → CutsParts → CheckpointParts
+next c rows cuts =
     let frame = frame_of (core_of c.query) in
     record {
       query = c.query;
-      cut = cut;
-      open_start = open_start frame (decided frame cut) (going_on c rows (Upto cut));
-      series = kept_again (first_kept frame cut) cut c.series rows;
+      cut = cuts.least;
+      open_start = open_start frame (decided frame cuts.least) (going_on c rows (Upto cuts));
+      series = kept_again (first_kept frame cuts.least) cuts.each c.series rows;
     }
 
--- the checkpoint of a session, and none where nothing comes behind it
+-- the checkpoint of a session, and none where nothing comes after it
 abbrev pub next_by : CheckpointParts → List (List Snapshot) → Cut → Option CheckpointParts
-next_by c rows (Upto cut) = Some (next c rows cut)
+next_by c rows (Upto cuts) = Some (next c rows cuts)
 next_by c rows End = None

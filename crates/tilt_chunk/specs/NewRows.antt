@@ -8,30 +8,41 @@ use Rattle.tilt_checkpoint.specs.Checkpoint.{KeptParts}
 use Rattle.tilt_chunk.specs.declared.cut.Cut.{Cut}
 use Rattle.tilt_chunk.specs.declared.cut.Cut.TheVariants.{Upto, End}
 
--- a row starts before a session ends
-abbrev pub StartsBefore : Cut → Snapshot → Type 0
-StartsBefore (Upto cut) row = row.start <ℤ cut
-StartsBefore End row = ⊤
+-- the rows of each input start before its cut, one list for each
+abbrev pub StartBefore : List ℤ → List (List Snapshot) → Type 0
+StartBefore [] [] = ⊤
+StartBefore [] (rows ∷ more) = ⊥
+StartBefore (cut ∷ cuts) [] = ⊥
+StartBefore (cut ∷ cuts) (rows ∷ more) = AllByRecursion (λ row. row.start <ℤ cut) rows × StartBefore cuts more
 
--- the rows of each input do, one list for each
+-- the rows of each input start before a session ends
+abbrev pub AreEarly : Cut → List (List Snapshot) → Type 0
+AreEarly (Upto cuts) rows = StartBefore cuts.each rows
+AreEarly End rows = ⊤
+
+-- the rows of a first session: a list for each input, and they start before it ends
 pub record AreFirstRows (core : CoreParts) (cut : Cut) (rows : List (List Snapshot)) : Type 0 where
   pub counted : length rows ≡ length core.inputs
-  pub early : AllByRecursion (AllByRecursion (StartsBefore cut)) rows
+  pub early : AreEarly cut rows
 
--- a row of a later session starts at its input's old cut or behind it, not before the last row ended, and before the session ends
-pub record IsNewRow (old : ℤ) (last : Option ℤ) (cut : Cut) (row : Snapshot) : Type 0 where
+-- a row of a later session starts at its input's old cut or after it, and not before the last row ended
+pub record IsLate (old : ℤ) (last : Option ℤ) (row : Snapshot) : Type 0 where
   pub late : old ≤ℤ row.start
   pub behind : ForSome last (λ end. end ≤ℤ row.start)
-  pub early : StartsBefore cut row
 
 -- the rows of each input do, one list for each
-abbrev pub AreNewRows : Cut → List KeptParts → List (List Snapshot) → Type 0
-AreNewRows cut [] [] = ⊤
-AreNewRows cut [] (rows ∷ more) = ⊥
-AreNewRows cut (k ∷ series) [] = ⊥
-AreNewRows cut (k ∷ series) (rows ∷ more) = AllByRecursion (IsNewRow k.cut k.last_end cut) rows × AreNewRows cut series more
+abbrev pub AreLate : List KeptParts → List (List Snapshot) → Type 0
+AreLate [] [] = ⊤
+AreLate [] (rows ∷ more) = ⊥
+AreLate (k ∷ series) [] = ⊥
+AreLate (k ∷ series) (rows ∷ more) = AllByRecursion (IsLate k.cut k.last_end) rows × AreLate series more
 
--- the rows of each input, and behind them others
+-- the rows of a later session: those start after what was kept, and before the session ends
+pub record AreNewRows (cut : Cut) (series : List KeptParts) (rows : List (List Snapshot)) : Type 0 where
+  pub late : AreLate series rows
+  pub early : AreEarly cut rows
+
+-- the rows of each input, and after them others
 abbrev pub added : List (List Snapshot) → List (List Snapshot) → List (List Snapshot)
 added [] new = []
 added (rows ∷ more) [] = []

@@ -1,8 +1,10 @@
+use tilt_checkpoint::Cuts;
+
 /// Where a session ends.
-#[derive(Debug, Drop, PartialEq, Eq)]
+#[derive(Drop)]
 pub enum Cut {
-    /// At a cut, a tick: the session is handed the rows that start below it, and leaves a checkpoint.
-    Upto(i64),
-    /// Behind all rows: the session is handed all rows that are left, and is the last one.
+    /// At cuts, one for each input: the session is handed the rows of an input that start below its cut, and leaves a checkpoint.
+    Upto(Cuts),
+    /// After all rows: the session is handed all rows that are left, and is the last one.
     End,
 }

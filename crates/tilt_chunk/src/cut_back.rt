@@ -1,13 +1,15 @@
 // Whether a session may end where it is to.
-ghost use Rattle.std.specs.Prelude.{◌≡◌, ◌<ℤ◌, MatchResult};
-ghost use Rattle.tilt_chunk.specs.Cuts.{IsOnward};
+ghost use Rattle.std.specs.Prelude.{◌≡◌, Some, length, MatchOption, MatchResult};
+ghost use Rattle.tilt_checkpoint.specs.Checkpoint.{cuts_of};
+ghost use Rattle.tilt_checkpoint.specs.Cuts.{CutsParts};
+ghost use Rattle.tilt_chunk.specs.Cuts.{IsOnward, first_fall};
 ghost use Rattle.tilt_chunk.specs.declared.cut.Cut.TheVariants.{Upto};
 
 use crate::cut::Cut;
 use thiserror::Error;
-use tilt_checkpoint::Checkpoint;
+use tilt_checkpoint::{Checkpoint, Cuts};
 
-/// The cut of a session lies below that of its checkpoint. Both are ticks.
+/// The cut of an input lies below that of the checkpoint. Both are ticks.
 #[derive(Clone, Copy, Debug, Drop, PartialEq, Eq, Error)]
 #[error("the cut {new} lies below the cut {old} of the checkpoint")]
 pub struct CutBack {
@@ -15,17 +17,18 @@ pub struct CutBack {
     pub new: i64,
 }
 
-/// Whether a session behind the checkpoint may end there. `CutBack` comes exactly where it would end by a cut that lies below the
-/// checkpoint's, and tells both.
+/// Whether a session after the checkpoint may end there. `CutBack` comes exactly where it would end by cuts of which one lies below the
+/// checkpoint's cut of its input, and tells both of the first such input; for a query without inputs, exactly where the least cut does.
 pub fn next_cut(checkpoint: &Checkpoint, cut: &Cut) -> Result<(), CutBack>
-    ensures { MatchResult result (λ _. IsOnward checkpoint.now.cut cut.now)
-        (λ back. (cut.now ≡ Upto back.new) × (back.old ≡ checkpoint.now.cut) × (back.new <ℤ back.old)) }
+    requires { (cuts : CutsParts) → cut.now ≡ Upto cuts → length cuts.each ≡ length checkpoint.now.series }
+    ensures { MatchResult result (λ _. IsOnward (cuts_of checkpoint.now) cut.now)
+        (λ back. (cuts : CutsParts) × (cut.now ≡ Upto cuts) × (first_fall (cuts_of checkpoint.now) cuts ≡ Some (back.old, back.new))) }
 {
-    match *cut {
-        Cut::Upto(new) if new < checkpoint.cut() => Err(CutBack {
-            old: checkpoint.cut(),
-            new,
-        }),
-        Cut::Upto(_) | Cut::End => Ok(()),
+    let Cut::Upto(cuts) = cut else {
+        return Ok(());
+    };
+    match first_fall(checkpoint, cuts) {
+        Some(back) => Err(back),
+        None => Ok(()),
     }
 }

@@ -1,6 +1,7 @@
 // The first session of a query.
 ghost use Rattle.std.specs.Prelude.{◌≡◌, Ok, IfOk};
-ghost use Rattle.tilt_checkpoint.specs.Valid.{IsCheckpoint, IsCut};
+ghost use Rattle.tilt_checkpoint.specs.Cuts.{AreCuts};
+ghost use Rattle.tilt_checkpoint.specs.Valid.{IsCheckpoint};
 ghost use Rattle.tilt_chunk.specs.Emitted.{emitted};
 ghost use Rattle.tilt_chunk.specs.Kept.{checkpoint_at};
 ghost use Rattle.tilt_chunk.specs.NewRows.{AreFirstRows};
@@ -11,24 +12,24 @@ ghost use Rattle.tilt_types.specs.Checked.{checked};
 use crate::closing::close;
 use crate::handed::{first_rows, keep};
 use std::alloc::{AllocError as OutOfMemory, Global};
-use tilt_checkpoint::{Checkpoint, Frame};
+use tilt_checkpoint::{Checkpoint, Cuts, Frame};
 use tilt_compiler::Accepted;
 use tilt_stream::{Rows, SnapList};
 use tilt_syntax::Query;
 
-/// The first session of a query, up to a cut: what is printed by then, and the checkpoint there. The rows are those that start
-/// below the cut, one list for each input. `OutOfMemory` comes where memory is refused, and for no other reason.
+/// The first session of a query, up to a cut for each input: what is printed by then, and the checkpoint there. The rows of an input are
+/// those that start below its cut, one list for each. `OutOfMemory` comes where memory is refused, and for no other reason.
 pub fn start(
     alloc: Global,
     query: Query,
     accepted: &Accepted,
     rows: Vec<Rows>,
-    upto: i64,
+    upto: Cuts,
 ) -> Result<(SnapList, Checkpoint), OutOfMemory>
     requires query { IsQuery query }
     requires core { checked query ≡ Ok accepted.now.core }
     requires rows { AreFirstRows accepted.now.core (Upto upto) rows.items }
-    requires cut { IsCut upto }
+    requires cuts { AreCuts upto }
     ensures printed { IfOk result (λ session. session.0 ≡ emitted accepted.now.core rows.items (Upto upto)) }
     ensures left { IfOk result (λ session. session.1 ≡ checkpoint_at query rows.items upto) }
     ensures valid { IfOk result (λ session. IsCheckpoint session.1) }

@@ -23,7 +23,7 @@ use tilt_compiler::Accepted;
 use tilt_stream::{Rows, SnapList};
 
 /// A session behind a checkpoint: what is printed newly, and where the session ends by a cut its own checkpoint. The rows are those
-/// behind the old cut and, where there is one, below the new one, one list for each input. Whatever the rows before them were, they
+/// from its input's old cut on and, where there is one, below its new one, one list for each input. Whatever the rows before them were, they
 /// need not be there again: `law` says that the sessions print together, and leave, what one session does on all rows.
 /// `OutOfMemory` comes where memory is refused, and for no other reason.
 pub fn resume(
@@ -35,7 +35,7 @@ pub fn resume(
 ) -> Result<(SnapList, Option<Checkpoint>), OutOfMemory>
     requires core { accepted.now.core ≡ core_of checkpoint.query }
     requires rows { AreNewRows cut checkpoint.series rows.items }
-    requires onward { IsOnward checkpoint.cut cut }
+    requires onward { IsOnward (cuts_of checkpoint) cut }
     requires range { IsInRange cut }
     ensures newly { IfOk result (λ session. session.0 ≡ newly checkpoint rows.items cut) }
     ensures next { IfOk result (λ session. session.1 ≡ next_by checkpoint rows.items cut) }

@@ -5,4 +5,4 @@ use Rattle.tilt_checkpoint.proofs.series.read_series.Given as goal
 
 abbrev pub invariant-loop : goal.invariant-loop
 invariant-loop l =
-    times (with_kept l.first l.cut) (l.inputs - l.counter) (l.series.items, l.reader) ≡ times (with_kept l.first l.cut) l.inputs ([], l.fn.reader)
+    times (with_kept l.form) (l.inputs - l.counter) (l.series.items, l.reader) ≡ times (with_kept l.form) l.inputs ([], l.fn.reader)
