@@ -1,4 +1,4 @@
--- Rows in order, behind others, and of those the ones that are kept.
+-- Rows in order, after others, and of those the ones that are kept.
 use Rattle.std.proofs.Common.{◌≡◌, ℤ, ◌<ℤ◌, ◌≤ℤ◌, true, false, List, [], ◌∷◌, Some, None, inl, inr, refl, arith}
 use Rattle.std.specs.Prelude.{int_le}
 use Rattle.std.specs.List.{AllByRecursion}
@@ -22,7 +22,7 @@ module _ (first : ℤ) where
   last_front x [] end is = absurd (cc is)
   last_front x (y ∷ l) end is = is
 
-  -- the last one is kept where it ends there or behind, and else none is
+  -- the last one is kept where it ends there or after, and else none is
   pub last-kept : (from limit : ℤ) (xs : List Snapshot) (end : ℤ) → InOrder from limit xs → last_end xs ≡ Some end → first ≤ℤ end
       → last_end (kept first xs) ≡ Some end
   last-kept from limit [] end h is on = is

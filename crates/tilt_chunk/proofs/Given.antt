@@ -19,10 +19,10 @@ use Rattle.tilt_core.specs.Core.{CoreParts, IsCore, emitted_number}
 use Rattle.tilt_core.specs.Meaning.{meaning, source_of}
 use Rattle.tilt_core.specs.Needs.{Need, needs, no_margin, reach}
 use Rattle.tilt_checkpoint.proofs.Frames.{given_by}
-use Rattle.tilt_chunk.proofs.Lists.{length-added, rows_of, sources-kept}
+use Rattle.tilt_chunk.proofs.Lists.{length-added, sources-kept}
 use Rattle.tilt_compiler.specs.Compiled.{given}
-use Rattle.tilt_chunk.specs.Kept.{kept_each, kept_of}
 use Rattle.tilt_chunk.specs.NewRows.{added}
+use Rattle.tilt_stream.specs.Pieces.{kept}
 
 -- margins have the look-back, the look-ahead and the needs of the core
 pub margins-reach : (core : CoreParts) (m : MarginsParts) → margins_of core ≡ Ok m
@@ -32,12 +32,12 @@ margins-reach core m near =
     let made = given_by (is_too_far w) w _ m near in
     (ap (λ (p : MarginsParts). p.back) made, ap (λ (p : MarginsParts). p.ahead) made, sym (ap (λ (p : MarginsParts). p.needs) made))
 
-module _ (core : CoreParts) (margins : MarginsParts) (is : IsCore core) (near : margins_of core ≡ Ok margins) (kept : AreMargins margins) where
+module _ (core : CoreParts) (margins : MarginsParts) (is : IsCore core) (near : margins_of core ≡ Ok margins) (bounded : AreMargins margins) where
   local : IsLocal core margins
   local = core-IsLocal core margins is (margins-reach core margins near).2
 
   causal : IsCausal core margins
-  causal = core-IsCausal core margins local kept.needs
+  causal = core-IsCausal core margins local bounded.needs
 
   emits : need_at margins.needs (emitted_number core) ≡ Some no_margin
   emits =
@@ -71,23 +71,23 @@ module _ (core : CoreParts) (margins : MarginsParts) (is : IsCore core) (near : 
       agree (lo -ℤ n.back) (hi +ℤ n.ahead) (omega (arith, ints))
 
   -- from the first tick that is kept on, nothing is missing
-  pub given-kept : (first cut lo hi : ℤ) (rows new : List (List Snapshot)) → AllByRecursion AreRows rows → length rows ≡ length core.inputs
+  pub given-kept : (first lo hi : ℤ) (rows new : List (List Snapshot)) → AllByRecursion AreRows rows → length rows ≡ length core.inputs
       → length new ≡ length rows → first ≤ℤ (lo -ℤ margins.back +ℤ pos 1)
-      → given core (added (rows_of (kept_each first cut rows)) new) lo hi ≡ given core (added rows new) lo hi
-  given-kept first cut lo hi rows new order many counted on =
-      let one = added (rows_of (kept_each first cut rows)) new in
+      → given core (added (map (kept first) rows) new) lo hi ≡ given core (added rows new) lo hi
+  given-kept first lo hi rows new order many counted on =
+      let one = added (map (kept first) rows) new in
       let all = added rows new in
       let x = meaning one core.defs (emitted_number core) in
       let y = meaning all core.defs (emitted_number core) in
       let all_many : length all ≡ length core.inputs = length-added rows new counted ∙ many in
-      let kept_many : length (rows_of (kept_each first cut rows)) ≡ length rows = length-map (kept_each first cut rows) (λ k. k.rows) ∙ length-map rows (kept_of first cut) in
-      let one_many : length one ≡ length core.inputs = length-added (rows_of (kept_each first cut rows)) new (counted ∙ sym kept_many) ∙ kept_many ∙ many in
+      let kept_many : length (map (kept first) rows) ≡ length rows = length-map rows (kept first) in
+      let one_many : length one ≡ length core.inputs = length-added (map (kept first) rows) new (counted ∙ sym kept_many) ∙ kept_many ∙ many in
       by_lt_z lo hi
       (λ some.
       let agreed = subst (λ (m : Option Need). AgreeAsAsked m lo hi x y) emits
       (local.local one all lo hi one_many all_many some
-      (λ i low. asked-agree (need_at margins.needs i) lo hi (meaning one core.defs i) (meaning all core.defs i) (kept.needs.each i)
-      (λ from to behind. rw (input-is one i one_many low, input-is all i all_many low) (sources-kept first cut from to rows new i order (omega (arith, ints)))))
+      (λ i low. asked-agree (need_at margins.needs i) lo hi (meaning one core.defs i) (meaning all core.defs i) (bounded.needs.each i)
+      (λ from to behind. rw (input-is one i one_many low, input-is all i all_many low) (sources-kept first from to rows new i order (omega (arith, ints)))))
       (emitted_number core)) in
       snapshots-agree x y lo hi (narrower-agrees x y (lo -ℤ pos 0) (hi +ℤ pos 0) lo hi agreed (omega (arith, ints)) (omega (arith, ints))))
       (λ none. snapshots-none x lo hi none ∙ sym (snapshots-none y lo hi none))

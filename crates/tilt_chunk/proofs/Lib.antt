@@ -1,4 +1,5 @@
 pub mod Ends
+pub mod Falls
 pub mod Given
 pub mod Lists
 pub mod OneCut

@@ -1,12 +1,12 @@
 -- Sessions print together what one session prints.
-use Rattle.std.proofs.Common.{◌≡◌, ℕ, ◌<◌, ℤ, pos, ◌+ℤ◌, ◌-ℤ◌, ◌<ℤ◌, ◌≤ℤ◌, Bool, true, false, List, [], ◌++◌, length, map, Option, Some, None, Ok, refl, sym, ap, ◌∙◌, arith, subst, append-nil}
+use Rattle.std.proofs.Common.{◌≡◌, ℕ, ◌<◌, ℤ, pos, ◌+ℤ◌, ◌-ℤ◌, ◌<ℤ◌, ◌≤ℤ◌, Bool, true, false, List, [], ◌++◌, length, Option, Some, None, Ok, refl, sym, ap, ◌∙◌, arith, subst, append-nil}
 use Rattle.std.specs.Prelude.{int_lt, if◌then◌else◌}
 use Rattle.std.specs.Int.{int_max}
 use Rattle.std.specs.List.{AllByRecursion}
 use Rattle.std.proofs.lemmas.Int.{ints, clamps, by_lt_z}
-use Rattle.std.proofs.lemmas.List.{length-map}
 use Rattle.tilt_bounds.specs.Margins.{AreMargins, MarginsParts, margins_of}
-use Rattle.tilt_checkpoint.specs.Checkpoint.{CheckpointParts}
+use Rattle.tilt_checkpoint.specs.Checkpoint.{CheckpointParts, cuts_kept, cuts_of}
+use Rattle.tilt_checkpoint.specs.Cuts.{CutsParts, IsLeast}
 use Rattle.tilt_checkpoint.specs.Decided.{decided, first_kept, frame_of, frame_with}
 use Rattle.tilt_checkpoint.specs.declared.frame.Frame.{Frame}
 use Rattle.tilt_stream.proofs.Cut.{snapshots-none}
@@ -23,12 +23,12 @@ use Rattle.tilt_core.specs.Meaning.{meaning}
 use Rattle.tilt_core.specs.Needs.{Need, reach}
 use Rattle.tilt_chunk.proofs.Given.{given-continued, given-kept, margins-reach}
 use Rattle.tilt_stream.proofs.Joined.{snapshots-parted, snapshots-some}
-use Rattle.tilt_chunk.proofs.Lists.{continued, kept-all, new-counted}
+use Rattle.tilt_chunk.proofs.Lists.{continued, early-counted, kept-all, length-kept_each, new-counted, rows-kept}
 use Rattle.tilt_stream.proofs.Pieces.{last_start-append, length-joined_from, without_last-append}
 use Rattle.tilt_chunk.specs.Cuts.{IsOnward, decided_by}
 use Rattle.tilt_chunk.specs.Emitted.{closed, emitted, open_at, open_start}
 use Rattle.tilt_compiler.specs.Compiled.{given}
-use Rattle.tilt_chunk.specs.Kept.{checkpoint_at, kept_each, kept_of}
+use Rattle.tilt_chunk.specs.Kept.{checkpoint_at, kept_each}
 use Rattle.tilt_chunk.specs.Later.{both, going_on, newly, next, resumed_at}
 use Rattle.tilt_chunk.specs.Law.{IsOneCut}
 use Rattle.tilt_chunk.specs.NewRows.{AreNewRows, added}
@@ -37,8 +37,11 @@ use Rattle.tilt_chunk.specs.declared.cut.Cut.{Cut}
 use Rattle.tilt_chunk.specs.declared.cut.Cut.TheVariants.{Upto, End}
 
 -- what is decided doesn't fall from cut to cut, and is the output at most
-pub decided-on : (frame : Frame) (old : ℤ) (cut : Cut) → IsOnward old cut → decided frame old ≤ℤ decided_by frame cut
-decided-on frame old (Upto new) on = grind (arith, ints, clamps)
+decided-raised : (frame : Frame) (old new : ℤ) → old ≤ℤ new → decided frame old ≤ℤ decided frame new
+decided-raised frame old new on = grind (arith, ints, clamps)
+
+pub decided-on : (frame : Frame) (old : CutsParts) (cut : Cut) → IsOnward old cut → decided frame old.least ≤ℤ decided_by frame cut
+decided-on frame old (Upto new) on = decided-raised frame old.least new.least on.0
 decided-on frame old End on = grind (arith, ints, clamps)
 
 pub decided-most : (frame : Frame) (cut : Cut) → decided_by frame cut ≤ℤ frame.end
@@ -50,7 +53,7 @@ raised : (a b start back : ℤ) → a ≤ℤ b → (int_max a start -ℤ back) �
 raised a b start back on = grind (arith, ints, clamps)
 
 pub first-on : (frame : Frame) (old upto : ℤ) → old ≤ℤ upto → first_kept frame old ≤ℤ first_kept frame upto
-first-on frame old upto on = raised (decided frame old) (decided frame upto) (frame.start +ℤ pos 1) frame.back (decided-on frame old (Upto upto) on)
+first-on frame old upto on = raised (decided frame old) (decided frame upto) (frame.start +ℤ pos 1) frame.back (decided-raised frame old upto on)
 
 -- snapshots that are parted at a tick are closed and opened as the second part is
 module _ (frame : Frame) (last : ℤ) (front back : List Snapshot) (some : 0 < length back) where
@@ -129,17 +132,21 @@ module _ (query : List StatementTree) (margins : MarginsParts) (is : IsCore (cor
   changes : (rows : List (List Snapshot)) → ChangesOnlyAtMarks (meaning rows core.defs (emitted_number core))
   changes rows = meaning-changes rows core.defs (definitions-AreGrids (length core.inputs) core.defs is.definitions) (emitted_number core)
 
-  module _ (old : ℤ) (cut : Cut) (onward : IsOnward old cut) (rows new : List (List Snapshot)) (order : AllByRecursion AreRows rows)
-      (later : AllByRecursion AreRows new) (many : length rows ≡ length core.inputs)
-      (are : AreNewRows cut (kept_each (first_kept frame old) old rows) new) where
+  module _ (old : CutsParts) (cut : Cut) (onward : IsOnward old cut) (rows new : List (List Snapshot)) (order : AllByRecursion AreRows rows)
+      (later : AllByRecursion AreRows new) (many : length rows ≡ length core.inputs) (paired : length old.each ≡ length rows)
+      (low : AllByRecursion (λ each. old.least ≤ℤ each) old.each)
+      (are : AreNewRows cut (kept_each (first_kept frame old.least) old.each rows) new) where
     abbrev mid : ℤ
-    mid = decided frame old
+    mid = decided frame old.least
 
     abbrev last : ℤ
     last = decided_by frame cut
 
     abbrev lo : ℤ
-    lo = resumed_at frame old
+    lo = resumed_at frame old.least
+
+    abbrev first : ℤ
+    first = first_kept frame old.least
 
     abbrev all : List (List Snapshot)
     all = added rows new
@@ -148,20 +155,21 @@ module _ (query : List StatementTree) (margins : MarginsParts) (is : IsCore (cor
     c = checkpoint_at query rows old
 
     counted : length new ≡ length rows
-    counted = new-counted cut (kept_each (first_kept frame old) old rows) new are ∙ length-map rows (kept_of (first_kept frame old) old)
+    counted = new-counted cut (kept_each first old.each rows) new are ∙ length-kept_each first old.each rows paired
 
     -- what was decided stays
     stays : given core rows frame.start mid ≡ given core all frame.start mid
     stays =
         let ahead = ahead-is in
-        given-continued core margins is near within old frame.start mid rows all many
-        (continued (first_kept frame old) old cut rows new later are) (grind (arith, ints, clamps))
+        given-continued core margins is near within old.least frame.start mid rows all many
+        (continued first old.least old.each rows new paired low later are.late) (grind (arith, ints, clamps))
 
     -- what is kept is enough
     enough : given core (both c new) lo last ≡ given core all lo last
     enough =
         let back = back-is in
-        given-kept core margins is near within (first_kept frame old) old lo last rows new order many counted (grind (arith, ints, clamps))
+        ap (λ (held : List (List Snapshot)). given core (added held new) lo last) (rows-kept first old.each rows paired)
+        ∙ given-kept core margins is near within first lo last rows new order many counted (grind (arith, ints, clamps))
 
     going-same : going_on c new cut ≡ joined_from (open_start frame mid (given core all frame.start mid)) (given core all lo last)
     going-same = λ i. joined_from (open_start frame mid (stays i)) (enough i)
@@ -206,28 +214,33 @@ module _ (query : List StatementTree) (margins : MarginsParts) (is : IsCore (cor
         let test : int_lt last frame.end ≡ false = grind (arith, ints) in
         rw test refl)
 
-  pub left-same : (old upto : ℤ) (rows new : List (List Snapshot)) → old ≤ℤ upto → AllByRecursion AreRows rows
-      → AllByRecursion AreRows new
-      → length rows ≡ length core.inputs → AreNewRows (Upto upto) (kept_each (first_kept frame old) old rows) new
+  pub left-same : (old upto : CutsParts) (rows new : List (List Snapshot)) → IsOnward old (Upto upto) → AllByRecursion AreRows rows
+      → AllByRecursion AreRows new → length rows ≡ length core.inputs → length old.each ≡ length rows
+      → AllByRecursion (λ each. old.least ≤ℤ each) old.each
+      → AreNewRows (Upto upto) (kept_each (first_kept frame old.least) old.each rows) new
       → checkpoint_at query (added rows new) upto ≡ next (checkpoint_at query rows old) new upto
-  left-same old upto rows new on order later many are =
-      let opens = opens-same old (Upto upto) on rows new order later many are in
-      let series = kept-all (first_kept frame old) old (first_kept frame upto) upto rows new (first-on frame old upto on)
-      (counted old (Upto upto) on rows new order later many are) in
-      λ i. record { query = query; cut = upto; open_start = opens i; series = series i }
+  left-same old upto rows new on order later many paired low are =
+      let opens = opens-same old (Upto upto) on rows new order later many paired low are in
+      let series = kept-all (first_kept frame old.least) (first_kept frame upto.least) old.each upto.each rows new
+      (first-on frame old.least upto.least on.0) paired (counted old (Upto upto) on rows new order later many paired low are) in
+      λ i. record { query = query; cut = upto.least; open_start = opens i; series = series i }
 
 -- whichever rows a checkpoint is of
 pub one-cut : (c : CheckpointParts) (margins : MarginsParts) (cut : Cut) (new : List (List Snapshot)) → IsCore (core_of c.query)
-    → margins_of (core_of c.query) ≡ Ok margins → AreMargins margins → IsOnward c.cut cut → AllByRecursion AreRows new
-    → AreNewRows cut c.series new → IsOneCut c new cut
-one-cut c margins cut new is near within onward later are = record {
+    → margins_of (core_of c.query) ≡ Ok margins → AreMargins margins → IsLeast c.cut (cuts_kept c.series) → IsOnward (cuts_of c) cut
+    → AllByRecursion AreRows new → AreNewRows cut c.series new → IsOneCut c new cut
+one-cut c margins cut new is near within least onward later are = record {
   printed = λ rows of.
       let are_new = subst (λ (d : CheckpointParts). AreNewRows cut d.series new) of.is are in
-      subst (λ (d : CheckpointParts). emitted (core_of c.query) (added rows new) cut ≡ emitted (core_of c.query) rows (Upto c.cut) ++ newly d new cut)
-      (sym of.is) (printed-joined c.query margins is near within c.cut cut onward rows new of.in_order later of.first.counted are_new);
+      let paired = early-counted (cuts_kept c.series) rows of.first.early in
+      subst (λ (d : CheckpointParts). emitted (core_of c.query) (added rows new) cut ≡ emitted (core_of c.query) rows (Upto (cuts_of c)) ++ newly d new cut)
+      (sym of.is) (printed-joined c.query margins is near within (cuts_of c) cut onward rows new of.in_order later of.first.counted paired least.none_below are_new);
   left = λ rows upto of by.
       let are_new = subst (λ (d : CheckpointParts). AreNewRows cut d.series new) of.is are in
-      let are_upto = subst (λ (d : Cut). AreNewRows d (kept_each (first_kept (frame_of (core_of c.query)) c.cut) c.cut rows) new) by are_new in
+      let are_upto =
+      subst (λ (d : Cut). AreNewRows d (kept_each (first_kept (frame_of (core_of c.query)) c.cut) (cuts_kept c.series) rows) new) by are_new in
+      let paired = early-counted (cuts_kept c.series) rows of.first.early in
       subst (λ (d : CheckpointParts). checkpoint_at c.query (added rows new) upto ≡ next d new upto) (sym of.is)
-      (left-same c.query margins is near within c.cut upto rows new (subst (IsOnward c.cut) by onward) of.in_order later of.first.counted are_upto);
+      (left-same c.query margins is near within (cuts_of c) upto rows new (subst (IsOnward (cuts_of c)) by onward) of.in_order later of.first.counted
+      paired least.none_below are_upto);
 }

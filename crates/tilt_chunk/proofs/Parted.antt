@@ -4,9 +4,11 @@ use Rattle.std.specs.Prelude.{int_le}
 use Rattle.std.proofs.lemmas.Bool.{cases_Bool}
 use Rattle.tilt_base.proofs.Lists.{all-append}
 use Rattle.tilt_checkpoint.specs.Checkpoint.{KeptParts}
+use Rattle.tilt_checkpoint.specs.Cuts.{CutsParts}
 use Rattle.tilt_checkpoint.specs.Valid.{IsCell}
 use Rattle.tilt_stream.specs.Snap.{Snapshot}
-use Rattle.tilt_chunk.specs.Handed.{AreBehind, AreCells}
+use Rattle.tilt_chunk.specs.Handed.{AreAfter, AreCells}
+use Rattle.tilt_chunk.specs.declared.cut.Cut.TheVariants.{Upto}
 use Rattle.tilt_stream.specs.Pieces.{kept}
 
 -- the values of what is kept with a row more are such
@@ -18,8 +20,12 @@ kept-cells first rows row h cell =
       | inr none ↦ rw none (all-append (λ (r : Snapshot). IsCell r.value) rows [] h tt)
     ]
 
-pub behind-counted : (series : List KeptParts) (new : List (List Snapshot)) → AreBehind series new → length series ≡ length new
-behind-counted [] [] h = refl
-behind-counted [] (n ∷ new) h = absurd h
-behind-counted (k ∷ series) [] h = absurd h
-behind-counted (k ∷ series) (n ∷ new) h = ap suc (behind-counted series new h.1)
+pub after-counted : (series : List KeptParts) (new : List (List Snapshot)) → AreAfter series new → length series ≡ length new
+after-counted [] [] h = refl
+after-counted [] (n ∷ new) h = absurd h
+after-counted (k ∷ series) [] h = absurd h
+after-counted (k ∷ series) (n ∷ new) h = ap suc (after-counted series new h.1)
+
+-- a session ends by one list of cuts
+pub same-cuts : (a b : CutsParts) → Upto a ≡ Upto b → a ≡ b
+same-cuts a b is = cc is

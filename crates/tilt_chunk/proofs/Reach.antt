@@ -1,4 +1,4 @@
--- Rows that end before a tick don't matter at that tick and behind it.
+-- Rows that end before a tick don't matter at that tick and after it.
 use Rattle.std.proofs.Common.{◌≡◌, ℤ, pos, ◌+ℤ◌, ◌<ℤ◌, ◌≤ℤ◌, false, List, [], ◌∷◌, ◌++◌, inl, inr, refl, arith}
 use Rattle.std.specs.Prelude.{int_le}
 use Rattle.std.specs.Ordering.{int_eq}

@@ -10,11 +10,12 @@ use Rattle.std.proofs.lemmas.Int.{ints, clamps, to_z-of_z}
 use Rattle.std.proofs.lemmas.List.{length-map}
 use Rattle.tilt_base.specs.declared.limits.TheConstants.{T, WIDE}
 use Rattle.tilt_bounds.specs.Margins.{MarginsParts, margins_of}
-use Rattle.tilt_checkpoint.specs.Checkpoint.{KeptParts, CheckpointParts}
+use Rattle.tilt_checkpoint.specs.Checkpoint.{KeptParts, CheckpointParts, cuts_of}
+use Rattle.tilt_checkpoint.specs.Cuts.{AreCuts, CutsParts, IsCut, IsLeast}
 use Rattle.tilt_checkpoint.specs.Decided.{IsFrame, decided, first_kept, frame_of, frame_with}
-use Rattle.tilt_checkpoint.specs.Valid.{IsAccepted, IsCheckpoint, IsCut, IsOpen, IsSeries}
+use Rattle.tilt_checkpoint.specs.Valid.{IsAccepted, IsCheckpoint, IsOpen, IsSeries}
 use Rattle.tilt_checkpoint.specs.declared.frame.Frame.{Frame}
-use Rattle.tilt_stream.specs.Snap.{Snapshot, AreRows, last_end}
+use Rattle.tilt_stream.specs.Snap.{InOrder, Snapshot, AreRows, last_end}
 use Rattle.tilt_stream.specs.Snapshots.{cut_behind, snapshots, snapshots_from}
 use Rattle.tilt_stream.specs.Stream.{Stream}
 use Rattle.tilt_syntax.specs.Query.{IsQuery}
@@ -25,16 +26,17 @@ use Rattle.tilt_base.specs.declared.span.Span.{Span}
 use Rattle.tilt_core.specs.Core.{CoreParts, domain_of, emitted_number}
 use Rattle.tilt_core.specs.Needs.{reach}
 use Rattle.tilt_core.specs.Meaning.{meaning}
-use Rattle.tilt_chunk.proofs.Lists.{HaveCut-again, HaveCut-each, kept_at-again, kept_at-first, last_or-none, length-added, length-kept_again, new-counted, rows-taken_up, rows_of}
+use Rattle.tilt_chunk.proofs.Lists.{cuts-again, cuts-each, early-counted, kept_at-again, kept_at-first, last_or-none, length-added, length-kept_again}
+use Rattle.tilt_chunk.proofs.Lists.{length-kept_each, new-counted, rows-taken_up, rows_of}
 use Rattle.tilt_chunk.proofs.OneCut.{decided-most, decided-on, first-on}
-use Rattle.tilt_chunk.proofs.Valid.{StartsIn, all-series, cuts-late, ends-where, is-open, series-again}
+use Rattle.tilt_chunk.proofs.Valid.{StartsIn, all-series, ends-where, is-open, series-again}
 use Rattle.tilt_chunk.specs.Cuts.{IsInRange, IsOnward, decided_by}
 use Rattle.tilt_chunk.specs.Emitted.{closed, open_at, open_start}
 use Rattle.tilt_compiler.specs.Compiled.{given}
-use Rattle.tilt_chunk.specs.Handed.{AreBehind, AreCells, all_taken_up, closed_behind, kept_at}
-use Rattle.tilt_chunk.specs.Kept.{checkpoint_at, kept_each, kept_of}
+use Rattle.tilt_chunk.specs.Handed.{AreAfter, AreCells, all_taken_up, closed_after, kept_at}
+use Rattle.tilt_chunk.specs.Kept.{checkpoint_at, kept_each}
 use Rattle.tilt_chunk.specs.Later.{both, going_on, kept_again, newly, next, resumed_at}
-use Rattle.tilt_chunk.specs.NewRows.{AreFirstRows, AreNewRows, IsNewRow, StartsBefore}
+use Rattle.tilt_chunk.specs.NewRows.{AreFirstRows, AreLate, AreNewRows, IsLate, StartBefore}
 use Rattle.tilt_stream.specs.Pieces.{joined_from, kept}
 use Rattle.tilt_chunk.specs.declared.cut.Cut.{Cut}
 use Rattle.tilt_chunk.specs.declared.cut.Cut.TheVariants.{Upto}
@@ -50,43 +52,55 @@ accepted query core margins parsed e near =
       near = ap margins_of same ∙ near;
     }
 
--- rows of a first session are new ones behind no others
-first-new : (upto : ℤ) (rows : List Snapshot) (from : ℤ) → neg_ℤ T ≤ℤ from → AllByRecursion (StartsBefore (Upto upto)) rows
-    → Rattle.tilt_stream.specs.Snap.InOrder from T rows → AllByRecursion (IsNewRow (neg_ℤ T) None (Upto upto)) rows
-first-new upto [] from low early order = tt
-first-new upto (r ∷ rows) from low early order =
+-- rows of a first session are new ones after no others
+first-late : (rows : List Snapshot) (from : ℤ) → neg_ℤ T ≤ℤ from → InOrder from T rows → AllByRecursion (IsLate (neg_ℤ T) None) rows
+first-late [] from low order = tt
+first-late (r ∷ rows) from low order =
     let start = order.0 in
     let width = order.1 in
-    (record { late = omega (arith, ints); behind = λ end is. absurd (cc is); early = early.0 }, first-new upto rows r.end (omega (arith, ints)) early.1 order.3)
+    (record { late = omega (arith, ints); behind = λ end is. absurd (cc is) }, first-late rows r.end (omega (arith, ints)) order.3)
 
-first-kept : (first upto : ℤ) (rows : List (List Snapshot)) → neg_ℤ T ≤ℤ upto → AllByRecursion AreRows rows
-    → AllByRecursion (AllByRecursion (StartsBefore (Upto upto))) rows → AllByRecursion (λ k. AreCells k.rows) (kept_each first upto rows)
-    → AllByRecursion (IsSeries first) (kept_each first upto rows)
-first-kept first upto [] low order early cells = tt
-first-kept first upto (r ∷ rows) low order early cells =
+first-kept : (first : ℤ) (cuts : List ℤ) (rows : List (List Snapshot)) → AllByRecursion IsCut cuts → AllByRecursion AreRows rows
+    → StartBefore cuts rows → AllByRecursion (λ k. AreCells k.rows) (kept_each first cuts rows)
+    → AllByRecursion (IsSeries first) (kept_each first cuts rows)
+first-kept first [] rows range order early cells = tt
+first-kept first (cut ∷ cuts) [] range order early cells = tt
+first-kept first (cut ∷ cuts) (r ∷ rows) range order early cells =
+    let low = range.0.0 in
+    let high = range.0.1 in
     let none : KeptParts = record { cut = neg_ℤ T; last_end = None; rows = [] } in
-    let one = series-again first first upto (omega (arith, ints)) none r low (record { in_order = tt; rows = tt; last = tt }) order.0
-    (first-new upto r (neg_ℤ T) (omega (arith, ints)) early.0 order.0) cells.0 in (
-      subst (λ (o : Option ℤ). IsSeries first (record { cut = upto; last_end = o; rows = kept first r })) (last_or-none (last_end r)) one,
-      first-kept first upto rows low order.1 early.1 cells.1,
+    let one = series-again first first (omega (arith, ints)) none r cut range.0 low
+    (record { cut = (omega (arith, ints), omega (arith, ints)); in_order = tt; rows = tt; last = tt }) order.0
+    (first-late r (neg_ℤ T) (omega (arith, ints)) order.0) early.0 cells.0 in (
+      subst (λ (o : Option ℤ). IsSeries first (record { cut = cut; last_end = o; rows = kept first r })) (last_or-none (last_end r)) one,
+      first-kept first cuts rows range.1 order.1 early.1 cells.1,
     )
 
+-- the cuts of a first session's checkpoint are those where it ends
+pub cuts-left : (query : List StatementTree) (rows : List (List Snapshot)) (upto : CutsParts) → AreFirstRows (core_of query) (Upto upto) rows
+    → cuts_of (checkpoint_at query rows upto) ≡ upto
+cuts-left query rows upto first =
+    let frame = frame_of (core_of query) in
+    ap (λ (each : List ℤ). record { least = upto.least; each = each })
+    (cuts-each (first_kept frame upto.least) upto.each rows (early-counted upto.each rows first.early))
+
 -- the checkpoint of a first session
-pub first-valid : (query : List StatementTree) (rows : List (List Snapshot)) (upto : ℤ) → IsAccepted query → IsCut upto
+pub first-valid : (query : List StatementTree) (rows : List (List Snapshot)) (upto : CutsParts) → IsAccepted query → AreCuts upto
     → IsFrame (frame_of (core_of query))
     → AreFirstRows (core_of query) (Upto upto) rows → AllByRecursion AreRows rows
-    → AllByRecursion (λ k. AreCells k.rows) (kept_each (first_kept (frame_of (core_of query)) upto) upto rows)
+    → AllByRecursion (λ k. AreCells k.rows) (kept_each (first_kept (frame_of (core_of query)) upto.least) upto.each rows)
     → IsCheckpoint (checkpoint_at query rows upto)
-first-valid query rows upto is cut framed first order cells =
+first-valid query rows upto is cuts framed first order cells =
     let core = core_of query in
     let frame = frame_of core in
+    let paired = early-counted upto.each rows first.early in
     record {
       query = is;
-      cut = cut;
-      opened = is-open frame (meaning rows core.defs (emitted_number core)) frame.start (decided frame upto) None (omega (arith, ints)) (λ some. some) (λ start is. absurd (cc is));
-      counted = length-map rows (kept_of (first_kept frame upto) upto) ∙ first.counted;
-      series = first-kept (first_kept frame upto) upto rows cut.0 order first.early cells;
-      same = HaveCut-each (first_kept frame upto) upto rows;
+      cut = cuts.range;
+      opened = is-open frame (meaning rows core.defs (emitted_number core)) frame.start (decided frame upto.least) None (omega (arith, ints)) (λ some. some) (λ start is. absurd (cc is));
+      counted = length-kept_each (first_kept frame upto.least) upto.each rows paired ∙ first.counted;
+      series = first-kept (first_kept frame upto.least) upto.each rows cuts.each order first.early cells;
+      least = subst (IsLeast upto.least) (sym (cuts-each (first_kept frame upto.least) upto.each rows paired)) cuts.least;
     }
 
 -- an open snapshot starts in what is decided, and in what is decided later
@@ -106,24 +120,27 @@ resumed-high : (frame : Frame) (old last : ℤ) → decided frame old ≤ℤ las
 resumed-high frame old last on some = grind (arith, ints, clamps)
 
 -- the checkpoint of a later session
-pub next-valid : (c : CheckpointParts) (new : List (List Snapshot)) (upto : ℤ) → IsCheckpoint c → IsCut upto → c.cut ≤ℤ upto
-    → IsFrame (frame_of (core_of c.query))
+pub next-valid : (c : CheckpointParts) (new : List (List Snapshot)) (upto : CutsParts) → IsCheckpoint c → AreCuts upto
+    → IsOnward (cuts_of c) (Upto upto) → IsFrame (frame_of (core_of c.query))
     → AreNewRows (Upto upto) c.series new → AllByRecursion AreRows new
-    → AllByRecursion (λ k. AreCells k.rows) (kept_again (first_kept (frame_of (core_of c.query)) upto) upto c.series new)
+    → AllByRecursion (λ k. AreCells k.rows) (kept_again (first_kept (frame_of (core_of c.query)) upto.least) upto.each c.series new)
     → IsCheckpoint (next c new upto)
-next-valid c new upto is cut on framed are order cells =
+next-valid c new upto is cuts on framed are order cells =
     let core = core_of c.query in
     let frame = frame_of core in
-    let on_decided = decided-on frame c.cut (Upto upto) on in
+    let on_decided = decided-on frame (cuts_of c) (Upto upto) on in
+    let many = new-counted (Upto upto) c.series new are in
+    let paired = early-counted upto.each new are.early ∙ many in
     record {
       query = is.query;
-      cut = cut;
-      opened = is-open frame (meaning (both c new) core.defs (emitted_number core)) (resumed_at frame c.cut) (decided frame upto) c.open_start (resumed-low frame c.cut)
-          (resumed-high frame c.cut (decided frame upto) on_decided) (starts-in frame (decided frame c.cut) (decided frame upto) c.open_start on_decided is.opened);
-      counted = length-kept_again (first_kept frame upto) upto c.series new (new-counted (Upto upto) c.series new are) ∙ is.counted;
-      series = all-series (first_kept frame c.cut) (first_kept frame upto) upto (first-on frame c.cut upto on) c.series new
-          (cuts-late c.cut upto c.series on is.same) is.series order are cells;
-      same = HaveCut-again (first_kept frame upto) upto c.series new;
+      cut = cuts.range;
+      opened = is-open frame (meaning (both c new) core.defs (emitted_number core)) (resumed_at frame c.cut) (decided frame upto.least) c.open_start (resumed-low frame c.cut)
+          (resumed-high frame c.cut (decided frame upto.least) on_decided)
+          (starts-in frame (decided frame c.cut) (decided frame upto.least) c.open_start on_decided is.opened);
+      counted = length-kept_again (first_kept frame upto.least) upto.each c.series new paired many ∙ is.counted;
+      series = all-series (first_kept frame c.cut) (first_kept frame upto.least) (first-on frame c.cut upto.least on.0) upto.each c.series new
+          cuts.each on.1 is.series order are.late are.early cells;
+      least = subst (IsLeast upto.least) (sym (cuts-again (first_kept frame upto.least) upto.each c.series new paired many)) cuts.least;
     }
 
 -- the first snapshot of a stretch starts where it does
@@ -144,63 +161,69 @@ snapshots_from-first x start (suc more) s is = cut_behind-first x start (start +
 pub snapshots-start : (x : Stream) (lo hi : ℤ) (s : Snapshot) → slice_get (snapshots x lo hi) 0 ≡ Some s → s.start ≡ lo
 snapshots-start x lo hi s is = snapshots_from-first x lo (int_gap lo hi) s is
 
--- new rows stand behind those that are kept
-rows-behind : (old end : ℤ) (last : Option ℤ) (cut : Cut) (rows : List Snapshot) → AllByRecursion (IsNewRow old last cut) rows
-    → last ≡ Some end
+-- new rows stand after those that are kept
+rows-after : (old end : ℤ) (last : Option ℤ) (rows : List Snapshot) → AllByRecursion (IsLate old last) rows → last ≡ Some end
     → AllByRecursion (λ row. end ≤ℤ row.start) rows
-rows-behind old end last cut [] are is = tt
-rows-behind old end last cut (r ∷ rows) are is = (are.0.behind end is, rows-behind old end last cut rows are.1 is)
+rows-after old end last [] late is = tt
+rows-after old end last (r ∷ rows) late is = (late.0.behind end is, rows-after old end last rows late.1 is)
 
-pub are-behind : (first : ℤ) (cut : Cut) (series : List KeptParts) (new : List (List Snapshot))
-    → AllByRecursion (IsSeries first) series
-    → AreNewRows cut series new → AreBehind series new
-are-behind first cut [] [] is are = tt
-are-behind first cut [] (n ∷ new) is are = are
-are-behind first cut (k ∷ series) [] is are = are
-are-behind first cut (k ∷ series) (n ∷ new) is are = (
-  λ end ends. rows-behind k.cut end k.last_end cut n are.0 (ends-where first k.cut end (last_end k.rows) k.last_end ends is.0.last),
-  are-behind first cut series new is.1 are.1,
+all-after : (first : ℤ) (series : List KeptParts) (new : List (List Snapshot)) → AllByRecursion (IsSeries first) series
+    → AreLate series new → AreAfter series new
+all-after first [] [] is late = tt
+all-after first [] (n ∷ new) is late = late
+all-after first (k ∷ series) [] is late = late
+all-after first (k ∷ series) (n ∷ new) is late = (
+  λ end ends. rows-after k.cut end k.last_end n late.0 (ends-where first k.cut end (last_end k.rows) k.last_end ends is.0.last),
+  all-after first series new is.1 late.1,
 )
+
+pub are-after : (first : ℤ) (cut : Cut) (series : List KeptParts) (new : List (List Snapshot)) → AllByRecursion (IsSeries first) series
+    → AreNewRows cut series new → AreAfter series new
+are-after first cut series new is are = all-after first series new is are.late
 
 -- what a first session leaves is the checkpoint of its rows; numbers that were passed on are the same
 module _ (query : List StatementTree) (core : CoreParts) (frame : Frame) (rows known shown : List (List Snapshot)) (ends : List (Option ℤ))
-    (list : List Snapshot) (begun : Option ℤ) (series : List KeptParts) (upto last first to till from at : ℤ) (well : checked query ≡ Ok core)
+    (list : List Snapshot) (begun : Option ℤ) (series : List KeptParts) (upto : CutsParts) (cuts : List ℤ) (last first to till from at : ℤ)
+    (well : checked query ≡ Ok core)
     (frame_is : frame ≡ frame_of core) (ends_are : ends ≡ map last_end rows) (known_are : known ≡ rows) (shown_are : shown ≡ known)
-    (to_is : to ≡ upto) (till_is : till ≡ last) (from_is : from ≡ frame.start) (at_is : at ≡ first) (last_is : last ≡ decided frame to)
+    (cuts_are : cuts ≡ upto.each) (to_is : to ≡ upto.least) (till_is : till ≡ last) (from_is : from ≡ frame.start) (at_is : at ≡ first)
+    (last_is : last ≡ decided frame to)
     (first_is : first ≡ first_kept frame to) (list_is : list ≡ given core shown from till) (begun_is : begun ≡ open_start frame till list)
-    (series_are : series ≡ kept_at at to ends known) where
+    (series_are : series ≡ kept_at at cuts ends known) where
   core_is : core ≡ core_of query
   core_is = sym (checked-core query core well)
 
   framed : frame ≡ frame_of (core_of query)
   framed = frame_is ∙ ap frame_of core_is
 
-  lasting : till ≡ decided (frame_of (core_of query)) upto
+  lasting : till ≡ decided (frame_of (core_of query)) upto.least
   lasting = till_is ∙ last_is ∙ (λ i. decided (framed i) (to_is i))
 
-  firstly : at ≡ first_kept (frame_of (core_of query)) upto
+  firstly : at ≡ first_kept (frame_of (core_of query)) upto.least
   firstly = at_is ∙ first_is ∙ (λ i. first_kept (framed i) (to_is i))
 
-  first-series : series ≡ kept_each (first_kept (frame_of (core_of query)) upto) upto rows
+  first-series : series ≡ kept_each (first_kept (frame_of (core_of query)) upto.least) upto.each rows
   first-series =
-      series_are ∙ (λ i. kept_at (firstly i) (to_is i) (ends_are i) (known_are i)) ∙ kept_at-first (first_kept (frame_of (core_of query)) upto) upto rows
+      series_are
+      ∙ (λ i. kept_at (firstly i) (cuts_are i) (ends_are i) (known_are i))
+      ∙ kept_at-first (first_kept (frame_of (core_of query)) upto.least) upto.each rows
 
   first-begun : begun ≡ open_at (core_of query) rows (Upto upto)
   first-begun =
       let starting : from ≡ (frame_of (core_of query)).start = from_is ∙ ap (λ (f : Frame). f.start) framed in
-      let made : list ≡ given (core_of query) rows (frame_of (core_of query)).start (decided (frame_of (core_of query)) upto) =
+      let made : list ≡ given (core_of query) rows (frame_of (core_of query)).start (decided (frame_of (core_of query)) upto.least) =
       list_is ∙ (λ i. given (core_is i) ((shown_are ∙ known_are) i) (starting i) (lasting i)) in
       begun_is ∙ (λ i. open_start (framed i) (lasting i) (made i))
 
   pub first-left : record { query = query; cut = to; open_start = begun; series = series } ≡ checkpoint_at query rows upto
   first-left = λ i. record { query = query; cut = to_is i; open_start = first-begun i; series = first-series i }
 
-  pub first-is : (margins : MarginsParts) → IsQuery query → margins_of core ≡ Ok margins → IsCut upto → IsFrame frame
+  pub first-is : (margins : MarginsParts) → IsQuery query → margins_of core ≡ Ok margins → AreCuts upto → IsFrame frame
       → AreFirstRows core (Upto upto) rows → AllByRecursion AreRows known → AllByRecursion (λ k. AreCells k.rows) series
       → IsCheckpoint (record { query = query; cut = to; open_start = begun; series = series })
-  first-is margins parsed near cut is early order cells =
+  first-is margins parsed near are is early order cells =
       subst IsCheckpoint (sym first-left)
-      (first-valid query rows upto (accepted query core margins parsed well near) cut (subst IsFrame framed is)
+      (first-valid query rows upto (accepted query core margins parsed well near) are (subst IsFrame framed is)
       (subst (λ (made : CoreParts). AreFirstRows made (Upto upto) rows) core_is early) (subst (AllByRecursion AreRows) known_are order)
       (subst (AllByRecursion (λ k. AreCells k.rows)) first-series cells))
 
@@ -224,11 +247,22 @@ passed-within core frame cut from last till frame_is from_is last_is till_is =
     (omega (arith, ints), omega (arith, ints))
 
 -- there is one list for each input
+rows-counted : (c : CheckpointParts) (cut : Cut) (new : List (List Snapshot)) → AreNewRows cut c.series new
+    → length (both c new) ≡ length c.series
+rows-counted c cut new are =
+    let many : length (rows_of c.series) ≡ length c.series = length-map c.series (λ k. k.rows) in
+    length-added (rows_of c.series) new (new-counted cut c.series new are ∙ sym many) ∙ many
+
 pub both-counted : (c : CheckpointParts) (cut : Cut) (new : List (List Snapshot)) → IsCheckpoint c → AreNewRows cut c.series new
     → length (both c new) ≡ length (core_of c.query).inputs
-both-counted c cut new is are =
-    let many : length (rows_of c.series) ≡ length c.series = length-map c.series (λ k. k.rows) in
-    length-added (rows_of c.series) new (new-counted cut c.series new are ∙ sym many) ∙ many ∙ is.counted
+both-counted c cut new is are = rows-counted c cut new are ∙ is.counted
+
+-- and one cut for each
+pub both-paired : (c : CheckpointParts) (cut : Cut) (new : List (List Snapshot)) (upto : CutsParts) → cut ≡ Upto upto → AreNewRows cut c.series new
+    → length upto.each ≡ length (both c new)
+both-paired c cut new upto is are =
+    let early : StartBefore upto.each new = (subst (λ (d : Cut). AreNewRows d c.series new) is are).early in
+    early-counted upto.each new early ∙ new-counted cut c.series new are ∙ sym (rows-counted c cut new are)
 
 -- what a later session prints is what is new, and what it leaves is the next checkpoint; numbers that were passed on are the same
 module _ (c : CheckpointParts) (core : CoreParts) (frame : Frame) (cut : Cut) (old last : ℤ) (new known shown : List (List Snapshot)) (ends : List (Option ℤ))
@@ -250,42 +284,51 @@ module _ (c : CheckpointParts) (core : CoreParts) (frame : Frame) (cut : Cut) (o
   going-later : going ≡ going_on c new cut
   going-later = λ i. joined_from (begun_is i) (given (core_is i) (shown-later i) (resumed_at (framed-later i) (old_is i)) (last-later i))
 
-  pub newly-is : (printed : List Snapshot) → printed ≡ closed_behind frame old last going → printed ≡ newly c new cut
-  newly-is printed is = is ∙ (λ i. closed_behind (framed-later i) (old_is i) (last-later i) (going-later i))
+  pub newly-is : (printed : List Snapshot) → printed ≡ closed_after frame old last going → printed ≡ newly c new cut
+  newly-is printed is = is ∙ (λ i. closed_after (framed-later i) (old_is i) (last-later i) (going-later i))
 
-  module _ (upto to first at : ℤ) (query : List StatementTree) (opened : Option ℤ) (kept : List KeptParts) (cut_is : cut ≡ Upto upto) (to_is : to ≡ upto)
-      (at_is : at ≡ first) (first_is : first ≡ first_kept frame to) (query_is : query ≡ c.query) (opened_is : opened ≡ open_start frame last going)
-      (kept_are : kept ≡ kept_at at upto ends known) where
-    begun-later : opened ≡ open_start (frame_of (core_of c.query)) (decided (frame_of (core_of c.query)) upto) (going_on c new (Upto upto))
+  module _ (upto : CutsParts) (to : ℤ) (query : List StatementTree) (opened : Option ℤ) (kept : List KeptParts) (cut_is : cut ≡ Upto upto)
+      (to_is : to ≡ upto.least) (query_is : query ≡ c.query) (opened_is : opened ≡ open_start frame last going)
+      (kept_are : kept ≡ kept_at (first_kept frame upto.least) upto.each ends known) where
+    begun-later : opened ≡ open_start (frame_of (core_of c.query)) (decided (frame_of (core_of c.query)) upto.least) (going_on c new (Upto upto))
     begun-later =
         opened_is
         ∙ (λ i. open_start (framed-later i) (last-later i) (going-later i))
         ∙ (λ i. open_start (frame_of (core_of c.query)) (decided_by (frame_of (core_of c.query)) (cut_is i)) (going_on c new (cut_is i)))
 
-    kept-later : kept ≡ kept_again (first_kept (frame_of (core_of c.query)) upto) upto c.series new
+    kept-later : kept ≡ kept_again (first_kept (frame_of (core_of c.query)) upto.least) upto.each c.series new
     kept-later =
-        let firstly : at ≡ first_kept (frame_of (core_of c.query)) upto = at_is ∙ first_is ∙ (λ i. first_kept (framed-later i) (to_is i)) in
+        let first = first_kept (frame_of (core_of c.query)) upto.least in
         kept_are
-        ∙ (λ i. kept_at (firstly i) upto (ends_are i) (known_are i))
-        ∙ ap (λ (ks : List KeptParts). kept_at (first_kept (frame_of (core_of c.query)) upto) upto (map (λ k. k.last_end) (all_taken_up ks new)) (rows_of (all_taken_up ks new))) series_are
-        ∙ kept_at-again (first_kept (frame_of (core_of c.query)) upto) upto c.series new
+        ∙ (λ i. kept_at (first_kept (framed-later i) upto.least) upto.each (ends_are i) (known_are i))
+        ∙ ap (λ (ks : List KeptParts). kept_at first upto.each (map (λ k. k.last_end) (all_taken_up ks new)) (rows_of (all_taken_up ks new))) series_are
+        ∙ kept_at-again first upto.each c.series new
 
     pub later-left : record { query = query; cut = to; open_start = opened; series = kept } ≡ next c new upto
     later-left = λ i. record { query = query_is i; cut = to_is i; open_start = begun-later i; series = kept-later i }
 
-    pub later-is : IsCheckpoint c → IsInRange cut → IsOnward c.cut cut → IsFrame frame → AreNewRows cut c.series new
+    pub later-is : IsCheckpoint c → IsInRange cut → IsOnward (cuts_of c) cut → IsFrame frame → AreNewRows cut c.series new
         → AllByRecursion AreRows new
         → AllByRecursion (λ k. AreCells k.rows) kept
         → IsCheckpoint (record { query = query; cut = to; open_start = opened; series = kept })
     later-is is range on framed are order cells =
         subst IsCheckpoint (sym later-left)
-        (next-valid c new upto is (subst IsInRange cut_is range) (subst (IsOnward c.cut) cut_is on) (subst IsFrame framed-later framed)
+        (next-valid c new upto is (subst IsInRange cut_is range) (subst (IsOnward (cuts_of c)) cut_is on) (subst IsFrame framed-later framed)
         (subst (λ (d : Cut). AreNewRows d c.series new) cut_is are) order (subst (AllByRecursion (λ k. AreCells k.rows)) kept-later cells))
 
+-- the snapshot that a session goes on from is open; numbers that were passed on are the same
+pub open-passed : (c : CheckpointParts) (core : CoreParts) (frame : Frame) (old : ℤ) (begun : Option ℤ) → core ≡ core_of c.query
+    → frame ≡ frame_of core → old ≡ c.cut → begun ≡ c.open_start → IsCheckpoint c → IsOpen frame (decided frame old) begun
+open-passed c core frame old begun core_is frame_is old_is begun_is is =
+    let same : frame_of (core_of c.query) ≡ frame = sym (frame_is ∙ ap frame_of core_is) in
+    subst (λ (f : Frame). IsOpen f (decided f old) begun) same
+    (subst (λ (t : ℤ). IsOpen (frame_of (core_of c.query)) (decided (frame_of (core_of c.query)) t) begun) (sym old_is)
+    (subst (λ (o : Option ℤ). IsOpen (frame_of (core_of c.query)) (decided (frame_of (core_of c.query)) c.cut) o) (sym begun_is) is.opened))
+
 -- nothing is new where all of the output was decided
-pub behind-none : (frame : Frame) (cut last : ℤ) (list : List Snapshot) → frame.end ≤ℤ decided frame cut
-    → closed_behind frame cut last list ≡ []
-behind-none frame cut last list done =
+pub after-none : (frame : Frame) (cut last : ℤ) (list : List Snapshot) → frame.end ≤ℤ decided frame cut
+    → closed_after frame cut last list ≡ []
+after-none frame cut last list done =
     let test : int_lt (decided frame cut) frame.end ≡ false = grind (arith, ints) in
     rw test refl
 
@@ -295,9 +338,9 @@ open-none frame cut last list done on =
     let test : int_lt last frame.end ≡ false = grind (arith, ints) in
     rw test refl
 
-pub behind-some : (frame : Frame) (cut last : ℤ) (list : List Snapshot) → decided frame cut <ℤ frame.end
-    → closed_behind frame cut last list ≡ closed frame last list
-behind-some frame cut last list before =
+pub after-some : (frame : Frame) (cut last : ℤ) (list : List Snapshot) → decided frame cut <ℤ frame.end
+    → closed_after frame cut last list ≡ closed frame last list
+after-some frame cut last list before =
     let test : int_lt (decided frame cut) frame.end ≡ true = grind (arith, ints) in
     rw test refl
 
@@ -358,11 +401,11 @@ module _ (core : CoreParts) (frame : Frame) (rows : List (List Snapshot)) (begun
       list_is ∙ (λ i. given core rows (e i) (till_is i))
 
   pub went-printed : joined ≡ joined_from begun list → mid <ℤ frame.end
-      → closed frame till joined ≡ closed_behind frame cut last (joined_from begun (given core rows (resumed_at frame cut) last))
+      → closed frame till joined ≡ closed_after frame cut last (joined_from begun (given core rows (resumed_at frame cut) last))
   went-printed is before =
       let going = joined_from begun (given core rows (resumed_at frame cut) last) in
       let e : joined ≡ going = is ∙ ap (joined_from begun) list-from in
-      (λ i. closed frame (till_is i) (e i)) ∙ sym (behind-some frame cut last going (subst (λ (t : ℤ). t <ℤ frame.end) mid_is before))
+      (λ i. closed frame (till_is i) (e i)) ∙ sym (after-some frame cut last going (subst (λ (t : ℤ). t <ℤ frame.end) mid_is before))
 
   pub went-begun : joined ≡ joined_from begun list
       → open_start frame till joined ≡ open_start frame last (joined_from begun (given core rows (resumed_at frame cut) last))

@@ -8,8 +8,9 @@ use Rattle.std.proofs.lemmas.Int.{ints, by_lt_z}
 use Rattle.tilt_base.proofs.Lists.{all-append}
 use Rattle.tilt_base.specs.declared.limits.TheConstants.{T}
 use Rattle.tilt_stream.proofs.Order.{InOrder-append}
-use Rattle.tilt_checkpoint.specs.Checkpoint.{KeptParts}
-use Rattle.tilt_checkpoint.specs.Valid.{HaveCut, IsKept, IsLastEnd, IsOpen, IsSeries}
+use Rattle.tilt_checkpoint.specs.Checkpoint.{KeptParts, cuts_kept}
+use Rattle.tilt_checkpoint.specs.Cuts.{IsCut}
+use Rattle.tilt_checkpoint.specs.Valid.{IsKept, IsLastEnd, IsOpen, IsSeries}
 use Rattle.tilt_checkpoint.specs.declared.frame.Frame.{Frame}
 use Rattle.tilt_stream.proofs.Cut.{snapshots-none}
 use Rattle.tilt_stream.specs.Snap.{Snapshot, AreRows, InOrder, last_end, joined_open}
@@ -20,11 +21,10 @@ use Rattle.tilt_stream.proofs.Joined.{LastStarts, snapshots-last}
 use Rattle.tilt_chunk.proofs.Lists.{last_end-append}
 use Rattle.tilt_chunk.specs.Emitted.{open_start}
 use Rattle.tilt_chunk.specs.Handed.{AreCells}
-use Rattle.tilt_chunk.specs.Later.{kept_again, last_or}
-use Rattle.tilt_chunk.specs.NewRows.{AreNewRows, IsNewRow}
+use Rattle.tilt_chunk.specs.Later.{again, kept_again, last_or}
+use Rattle.tilt_chunk.specs.Cuts.{NoneFalls}
+use Rattle.tilt_chunk.specs.NewRows.{AreLate, IsLate, StartBefore}
 use Rattle.tilt_stream.specs.Pieces.{joined_from, kept}
-use Rattle.tilt_chunk.specs.declared.cut.Cut.{Cut}
-use Rattle.tilt_chunk.specs.declared.cut.Cut.TheVariants.{Upto}
 
 -- the rows that are kept reach to the first tick that is kept
 are-kept : (first cut : ℤ) (xs : List Snapshot) → AllByRecursion (λ row. row.start <ℤ cut) xs → AreCells (kept first xs)
@@ -68,40 +68,32 @@ early-old : (first cut upto : ℤ) (xs : List Snapshot) → cut ≤ℤ upto → 
 early-old first cut upto [] late h = tt
 early-old first cut upto (x ∷ xs) late h = (let before = h.0.before in omega (arith, ints), early-old first cut upto xs late h.1)
 
-early-new : (old upto : ℤ) (last : Option ℤ) (xs : List Snapshot) → AllByRecursion (IsNewRow old last (Upto upto)) xs
-    → AllByRecursion (λ row. row.start <ℤ upto) xs
-early-new old upto last [] h = tt
-early-new old upto last (x ∷ xs) h = (h.0.early, early-new old upto last xs h.1)
-
--- new rows stand behind the last end
-pub new-behind : (old : ℤ) (last : Option ℤ) (cut : Cut) (xs : List Snapshot) (end : ℤ) → AreRows xs
-    → AllByRecursion (IsNewRow old last cut) xs
+-- new rows stand after the last end
+pub new-after : (old : ℤ) (last : Option ℤ) (xs : List Snapshot) (end : ℤ) → AreRows xs → AllByRecursion (IsLate old last) xs
     → last ≡ Some end → InOrder end T xs
-new-behind old last cut [] end order new is = tt
-new-behind old last cut (x ∷ xs) end order new is = (new.0.behind end is, order.1, order.2, order.3)
+new-after old last [] end order late is = tt
+new-after old last (x ∷ xs) end order late is = (late.0.behind end is, order.1, order.2, order.3)
 
-module _ (first later upto : ℤ) (on : first ≤ℤ later) where
-  module _ (k : KeptParts) (new : List Snapshot) (late : k.cut ≤ℤ upto) (is : IsSeries first k) (order : AreRows new)
-      (are : AllByRecursion (IsNewRow k.cut k.last_end (Upto upto)) new) where
+module _ (first later : ℤ) (on : first ≤ℤ later) where
+  module _ (k : KeptParts) (new : List Snapshot) (upto : ℤ) (range : IsCut upto) (onward : k.cut ≤ℤ upto) (is : IsSeries first k)
+      (order : AreRows new) (late : AllByRecursion (IsLate k.cut k.last_end) new) (early : AllByRecursion (λ row. row.start <ℤ upto) new) where
     abbrev all : List Snapshot
     all = k.rows ++ new
 
     all-in_order : AreRows all
     all-in_order =
         InOrder-append (neg_ℤ T) T k.rows new is.in_order order
-        (λ end ends. new-behind k.cut k.last_end (Upto upto) new end order are (ends-where first k.cut end (last_end k.rows) k.last_end ends is.last))
+        (λ end ends. new-after k.cut k.last_end new end order late (ends-where first k.cut end (last_end k.rows) k.last_end ends is.last))
 
     all-early : AllByRecursion (λ row. row.start <ℤ upto) all
-    all-early =
-        all-append (λ row. row.start <ℤ upto) k.rows new (early-old first k.cut upto k.rows late is.rows)
-        (early-new k.cut upto k.last_end new are)
+    all-early = all-append (λ row. row.start <ℤ upto) k.rows new (early-old first k.cut upto k.rows onward is.rows) early
 
     last-by : (o : Option ℤ) → last_end all ≡ o → IsLastEnd later upto (last_end (kept later all)) (last_or (last_end new) k.last_end)
     last-by None none =
         let ends = no-end (last_end new) (last_end k.rows) (sym (last_end-append k.rows new) ∙ none) in
         let before = subst (λ (o : Option ℤ). IsLastEnd first k.cut o k.last_end) ends.1 is.last in
         let nothing : last_end (kept later all) ≡ None = ap (λ (xs : List Snapshot). last_end (kept later xs)) (no-last all none) in
-        rw (nothing, ends.0) (still-last first k.cut later upto k.last_end on late before)
+        rw (nothing, ends.0) (still-last first k.cut later upto k.last_end on onward before)
     last-by (Some end) some =
         let e : last_or (last_end new) k.last_end ≡ Some end =
         one-end first k.cut end (last_end new) (last_end k.rows) k.last_end (sym (last_end-append k.rows new) ∙ some) is.last in
@@ -110,27 +102,26 @@ module _ (first later upto : ℤ) (on : first ≤ℤ later) where
         (λ before. rw (e, none-kept later (neg_ℤ T) T all end all-in_order some before) (bounds.0, bounds.1, before, bounds.2))
         (λ reaches. rw (e, last-kept later (neg_ℤ T) T all end all-in_order some reaches) refl)
 
-    pub series-again : AreCells (kept later all)
-        → IsSeries later (record { cut = upto; last_end = last_or (last_end new) k.last_end; rows = kept later all })
+    pub series-again : AreCells (kept later all) → IsSeries later (again later upto k new)
     series-again cells = record {
+      cut = range;
       in_order = InOrder-kept later (neg_ℤ T) T all all-in_order;
       rows = are-kept later upto all all-early cells;
       last = last-by (last_end all) refl;
     }
 
-  pub all-series : (series : List KeptParts) (new : List (List Snapshot)) → AllByRecursion (λ k. k.cut ≤ℤ upto) series
-      → AllByRecursion (IsSeries first) series → AllByRecursion AreRows new
-      → AreNewRows (Upto upto) series new → AllByRecursion (λ k. AreCells k.rows) (kept_again later upto series new)
-      → AllByRecursion (IsSeries later) (kept_again later upto series new)
-  all-series [] new late is order are cells = tt
-  all-series (k ∷ series) [] late is order are cells = tt
-  all-series (k ∷ series) (n ∷ new) late is order are cells =
-      (series-again k n late.0 is.0 order.0 are.0 cells.0, all-series series new late.1 is.1 order.1 are.1 cells.1)
-
--- cuts that are all the same aren't above a later one
-pub cuts-late : (old upto : ℤ) (series : List KeptParts) → old ≤ℤ upto → HaveCut old series → AllByRecursion (λ k. k.cut ≤ℤ upto) series
-cuts-late old upto [] on same = tt
-cuts-late old upto (k ∷ series) on same = (let at = same.0 in omega (arith, ints), cuts-late old upto series on same.1)
+  -- and of each input, each with its own cut
+  pub all-series : (cuts : List ℤ) (series : List KeptParts) (new : List (List Snapshot)) → AllByRecursion IsCut cuts
+      → NoneFalls (cuts_kept series) cuts → AllByRecursion (IsSeries first) series → AllByRecursion AreRows new
+      → AreLate series new → StartBefore cuts new → AllByRecursion (λ k. AreCells k.rows) (kept_again later cuts series new)
+      → AllByRecursion (IsSeries later) (kept_again later cuts series new)
+  all-series [] series new range onward is order late early cells = tt
+  all-series (cut ∷ cuts) [] new range onward is order late early cells = tt
+  all-series (cut ∷ cuts) (k ∷ series) [] range onward is order late early cells = tt
+  all-series (cut ∷ cuts) (k ∷ series) (n ∷ new) range onward is order late early cells = (
+    series-again k n cut range.0 onward.0 is.0 order.0 late.0 early.0 cells.0,
+    all-series cuts series new range.1 onward.1 is.1 order.1 late.1 early.1 cells.1,
+  )
 
 -- where snapshots go on from an earlier start, the last one starts within
 joined-last : (from low last start : ℤ) (list : List Snapshot) → from ≤ℤ low → LastStarts low last list → from ≤ℤ start → start <ℤ last

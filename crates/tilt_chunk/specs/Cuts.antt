@@ -29,13 +29,14 @@ fall_of [] news = None
 fall_of (old ∷ olds) [] = None
 fall_of (old ∷ olds) (new ∷ news) = if int_lt new old then Some (old, new) else fall_of olds news
 
--- the same of cuts; without inputs, of the least
-abbrev pub first_fall : CutsParts → CutsParts → Option (ℤ × ℤ)
-first_fall old new = fall_of_all old.each old new
-
+-- the same, where the old cuts of inputs are these; without inputs, of the least
 abbrev pub fall_of_all : List ℤ → CutsParts → CutsParts → Option (ℤ × ℤ)
 fall_of_all [] old new = if int_lt new.least old.least then Some (old.least, new.least) else None
 fall_of_all (cut ∷ more) old new = fall_of old.each new.each
+
+-- the same of cuts
+abbrev pub first_fall : CutsParts → CutsParts → Option (ℤ × ℤ)
+first_fall old new = fall_of_all old.each old new
 
 -- where a session ends by cuts, they are within the range of times
 abbrev pub IsInRange : Cut → Type 0

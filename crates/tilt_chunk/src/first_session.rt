@@ -35,13 +35,14 @@ pub fn start(
     ensures valid { IfOk result (λ session. IsCheckpoint session.1) }
 {
     let frame = Frame::new(accepted.core(), accepted.margins());
-    let last = frame.decided(upto);
+    let cut = upto.least();
+    let last = frame.decided(cut);
     let handed = first_rows(alloc, rows)?;
-    let series = keep(alloc, &handed, upto, frame.first_kept(upto))?;
+    let series = keep(alloc, &handed, upto.each(), frame.first_kept(cut))?;
     let list = accepted.run_on(alloc, handed.rows, frame.start, last)?;
     let closed = close(frame, last, list);
     Ok((
         closed.printed,
-        Checkpoint::new(query, upto, closed.open_start, series),
+        Checkpoint::new(query, cut, closed.open_start, series),
     ))
 }

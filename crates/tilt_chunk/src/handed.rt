@@ -3,7 +3,7 @@ ghost use Rattle.std.specs.Prelude.{◌≡◌, ◌≤ℤ◌, ◌++◌, ◌∷◌
 ghost use Rattle.std.specs.List.{AllByRecursion};
 ghost use Rattle.std.specs.Option.{ForSome};
 ghost use Rattle.tilt_base.specs.declared.limits.TheConstants.{T};
-ghost use Rattle.tilt_chunk.specs.Handed.{AreBehind, AreCells, IsBehind, kept_at, taken_up, all_taken_up};
+ghost use Rattle.tilt_chunk.specs.Handed.{AreAfter, AreCells, IsAfter, kept_at, taken_up, all_taken_up};
 ghost use Rattle.tilt_stream.specs.Pieces.{kept};
 ghost use Rattle.tilt_checkpoint.specs.Valid.{IsCell};
 ghost use Rattle.tilt_stream.specs.Snap.{AreRows, last_end};
@@ -28,13 +28,13 @@ pub(crate) fn first_rows(alloc: Global, rows: Vec<Rows>) -> Result<Handed, OutOf
     Ok(Handed { ends, rows })
 }
 
-// What a later session knows: of each input the rows that are kept, and behind them the new ones.
-pub(crate) fn rows_behind(
+// What a later session knows: of each input the rows that are kept, and after them the new ones.
+pub(crate) fn rows_after(
     alloc: Global,
     series: Vec<Kept>,
     new: &[Rows],
 ) -> Result<Handed, OutOfMemory>
-    requires { AreBehind series.items new.now }
+    requires { AreAfter series.items new.now }
     ensures ends { IfOk result (λ handed. handed.ends.items ≡ map (λ k. k.last_end) (all_taken_up series.items new.now)) }
     ensures rows { IfOk result (λ handed. handed.rows.items ≡ map (λ k. k.rows) (all_taken_up series.items new.now)) }
     ensures in_order { IfOk result (λ handed. AllByRecursion AreRows new.now) }
@@ -59,7 +59,7 @@ fn last_ends(alloc: Global, series: &[Kept]) -> Result<Vec<Option<i64>>, OutOfMe
 
 // Adds new rows to each input.
 fn take_up_all(series: &mut Vec<Kept>, new: &[Rows]) -> Result<(), OutOfMemory>
-    requires { AreBehind series.old.items new.now }
+    requires { AreAfter series.old.items new.now }
     ensures all { OnOk result (series.new.items ≡ all_taken_up series.old.items new.now) }
     ensures in_order { OnOk result (AllByRecursion AreRows new.now) }
 {
@@ -71,7 +71,7 @@ fn take_up_all(series: &mut Vec<Kept>, new: &[Rows]) -> Result<(), OutOfMemory>
 
 // Adds new rows to an input.
 fn take_up(kept: &mut Kept, new: &Rows) -> Result<(), OutOfMemory>
-    requires { IsBehind kept.old.rows new.now }
+    requires { IsAfter kept.old.rows new.now }
     ensures all { OnOk result (kept.new ≡ taken_up kept.old new.now) }
     ensures in_order { AreRows new.now }
 {
@@ -82,21 +82,22 @@ fn take_up(kept: &mut Kept, new: &Rows) -> Result<(), OutOfMemory>
     Ok(())
 }
 
-// What is kept of each input at a cut, where `first` is the first tick that is kept.
+// What is kept of each input at its cut, where `first` is the first tick that is kept.
 pub(crate) fn keep(
     alloc: Global,
     handed: &Handed,
-    cut: i64,
+    cuts: &[i64],
     first: i64,
 ) -> Result<Vec<Kept>, OutOfMemory>
-    requires { length handed.now.ends.items ≡ length handed.now.rows.items }
-    ensures kept { IfOk result (λ series. series.items ≡ kept_at first cut handed.now.ends.items handed.now.rows.items) }
+    requires ends { length handed.now.ends.items ≡ length handed.now.rows.items }
+    requires cuts { length cuts.now ≡ length handed.now.rows.items }
+    ensures kept { IfOk result (λ series. series.items ≡ kept_at first cuts.now handed.now.ends.items handed.now.rows.items) }
     ensures cells { IfOk result (λ series. AllByRecursion (λ k. AreCells k.rows) series.items) }
     ensures in_order { IfOk result (λ series. AllByRecursion AreRows handed.now.rows.items) }
 {
     let mut series = Vec::new(alloc);
     for (i, all) in handed.rows.iter().enumerate() {
-        keep_input(alloc, &mut series, cut, handed.ends[i], all, first)?;
+        keep_input(alloc, &mut series, cuts[i], handed.ends[i], all, first)?;
     }
     Ok(series)
 }
@@ -124,7 +125,7 @@ fn keep_input(
     Ok(())
 }
 
-// The rows that end at a tick or behind it.
+// The rows that end at a tick or after it.
 fn kept_rows(alloc: Global, all: &Rows, first: i64) -> Result<Rows, OutOfMemory>
     ensures kept { IfOk result (λ rows. rows ≡ kept first all.now) }
     ensures cells { IfOk result (λ rows. AreCells rows) }
@@ -137,9 +138,9 @@ fn kept_rows(alloc: Global, all: &Rows, first: i64) -> Result<Rows, OutOfMemory>
     Ok(rows)
 }
 
-// Adds a row, where it ends at a tick or behind it.
+// Adds a row, where it ends at a tick or after it.
 fn keep_row(rows: &mut Rows, row: Row, first: i64) -> Result<(), OutOfMemory>
-    requires behind { ForSome (last_end rows.old) (λ end. end ≤ℤ row.start) }
+    requires after { ForSome (last_end rows.old) (λ end. end ≤ℤ row.start) }
     requires low { neg_ℤ T ≤ℤ row.start }
     requires high { row.end ≤ℤ T }
     ensures all { OnOk result (rows.new ≡ rows.old ++ kept first (row ∷ [])) }

@@ -6,8 +6,8 @@ use Rattle.tilt_chunk.proofs.handed.keep.Given as goal
 
 abbrev pub invariant-loop-i : goal.invariant-loop-i
 invariant-loop-i l = record {
-  joined : l.series.items ++ kept_at l.first l.cut (drop l.i l.handed.ends.items) (drop l.i l.handed.rows.items)
-      ≡ kept_at l.first l.cut l.handed.ends.items l.handed.rows.items;
+  joined : l.series.items ++ kept_at l.first (drop l.i l.cuts) (drop l.i l.handed.ends.items) (drop l.i l.handed.rows.items)
+      ≡ kept_at l.first l.cuts l.handed.ends.items l.handed.rows.items;
   cells : AllByRecursion (λ k. AreCells k.rows) l.series.items;
   in_order : AllByRecursion AreRows (drop l.i l.handed.rows.items) → AllByRecursion AreRows l.handed.rows.items;
 }

@@ -7,9 +7,9 @@ use Rattle.tilt_stream.proofs.Order.{InOrder-rest}
 use Rattle.tilt_chunk.proofs.Parted.{kept-cells}
 use Rattle.tilt_chunk.proofs.handed.kept_rows.Goals as goal
 
-pub keep_row-requires-clause-behind : goal.keep_row-requires-clause-behind
-keep_row-requires-clause-behind c =
-    λ x is. (rw (drop-at c.as_slice-row-items.result.now c.row-item.result c.loop-row.row-index c.loop-row-test.true c.row-item.is) at (c.loop-row.invariant.behind x is)).0
+pub keep_row-requires-clause-after : goal.keep_row-requires-clause-after
+keep_row-requires-clause-after c =
+    λ x is. (rw (drop-at c.as_slice-row-items.result.now c.row-item.result c.loop-row.row-index c.loop-row-test.true c.row-item.is) at (c.loop-row.invariant.after x is)).0
 
 pub loop-row-preserved : goal.loop-row-preserved
 loop-row-preserved c =
@@ -22,6 +22,6 @@ loop-row-preserved c =
     record {
       joined = rw new (kept-step first c.loop-row.rows _ rest row (rw at at c.loop-row.invariant.joined));
       cells = rw new (kept-cells first c.loop-row.rows row c.loop-row.invariant.cells c.in_ok-keep_row.ensures.cell);
-      behind = rw new (kept-behind first (neg_ℤ T) c.loop-row.rows rest row (rw at at c.loop-row.invariant.behind) in_order);
+      after = rw new (kept-behind first (neg_ℤ T) c.loop-row.rows rest row (rw at at c.loop-row.invariant.after) in_order);
       rest = InOrder-rest (neg_ℤ T) T row rest in_order;
     }

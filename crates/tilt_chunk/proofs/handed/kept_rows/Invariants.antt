@@ -10,6 +10,6 @@ abbrev pub invariant-loop-row : goal.invariant-loop-row
 invariant-loop-row l = record {
   joined : l.rows ++ kept l.first (drop l.row-index l.row-items) ≡ kept l.first l.all;
   cells : AreCells l.rows;
-  behind : ForSome (last_end l.rows) (λ end. InOrder end T (drop l.row-index l.row-items));
+  after : ForSome (last_end l.rows) (λ end. InOrder end T (drop l.row-index l.row-items));
   rest : InOrder (neg_ℤ T) T (drop l.row-index l.row-items);
 }

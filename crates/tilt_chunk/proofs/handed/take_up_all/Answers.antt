@@ -1,4 +1,4 @@
-use Rattle.tilt_chunk.proofs.Parted.{behind-counted}
+use Rattle.tilt_chunk.proofs.Parted.{after-counted}
 use Rattle.tilt_chunk.proofs.handed.take_up_all.Goals as goal
 use Rattle.std.proofs.Common.{refl}
 
@@ -6,7 +6,7 @@ pub loop-i-init : goal.loop-i-init
 loop-i-init c =
     record {
       taken = refl;
-      behind = c.requires;
-      counted = behind-counted c.args.series.now.items c.args.new.now c.requires;
+      after = c.requires;
+      counted = after-counted c.args.series.now.items c.args.new.now c.requires;
       in_order = λ h. h;
     }
