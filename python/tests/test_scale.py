@@ -739,10 +739,12 @@ def test_a_disk_that_is_full(cluster, here, small_disk):
     with pytest.raises(Refused, match=r"^part \d+ over .* was begun 2 times and never ended: tilt: 5 write fault$"):
         scale(query, {"x": "x.csv"}, out, scheduler=cluster.address, part_rows=5000, retries=1)
     there = len(list(out.glob("parts/0*.csv")))
-    assert there and not hidden(str(out)) and not list(out.glob("*.csv"))
+    assert there and not list(out.glob("*.csv"))
     subprocess.run(["mount", "-o", "remount,size=8m", str(small_disk)], check=True)
     found = scale(query, {"x": "x.csv"}, out, scheduler=cluster.address, part_rows=5000)
-    assert outputs(found) == {"output": wanted} and (found.parts, found.made) == (12, 12 - there)
+    # What another worker had begun may have ended after the first call.
+    assert outputs(found) == {"output": wanted} and found.parts == 12 and 12 - there - 1 <= found.made <= 12 - there
+    assert not hidden(str(out))
 
 
 def test_a_refusal_is_told_once_with_its_part(cluster, here, capfd):
