@@ -20,7 +20,7 @@ use Rattle.tilt_printed.specs.declared.answered.Answered.{Answered}
 use Rattle.tilt_printed.specs.declared.printed.Printed.{Printed}
 use Rattle.tilt_printed.specs.declared.printed.Printed.TheVariants.{Whole, Run, Rings}
 use Rattle.tilt_printed.specs.declared.save.Save.{Save}
-use Rattle.tilt_printed.specs.declared.whole_text.WholeText.TheVariants.{Snapshots, Lines, Watched, Text}
+use Rattle.tilt_printed.specs.declared.whole_text.WholeText.TheVariants.{Snapshots, Lines, Watched, Parted, Text}
 use Rattle.tilt_report.specs.Report.{Outcome, Report, usage, refusal, read_fault, write_fault, save_fault, out_of_memory, printed, refused, report_of}
 use Rattle.tilt_report.specs.declared.fault.Fault.{Fault}
 use Rattle.tilt_sessions.specs.SavedCut.{SavedCutValue}
@@ -126,6 +126,7 @@ module _ (tells : Type 0) (files : List ℕ → List ℕ) where
       (list, refl, λ t. run_of_watch files query binds list _ (made t) (ap (λ (s : Option Save). outcome_of (printed_text [] (Whole (Watched list))) (save_of s)) none))
   watch_shows query binds plain (Whole (Snapshots list)) save none some made = absurd (cc some)
   watch_shows query binds plain (Whole (Lines list)) save none some made = absurd (cc some)
+  watch_shows query binds plain (Whole (Parted list sizes)) save none some made = absurd (cc some)
   watch_shows query binds plain (Whole (Text text)) save none some made = absurd (cc some)
   watch_shows query binds plain (Run pipe) save none some made = absurd (cc some)
   watch_shows query binds plain (Rings pipe) save none some made = absurd (cc some)

@@ -11,7 +11,7 @@ ghost use Rattle.tilt_watch.specs.Watch.{Watch};
 ghost use Rattle.tilt_words.specs.Command.{IsWithin, command_of};
 
 use std::alloc::Global;
-use tilt_commands::{Manner, compile, exec, explain, pipe, run, try_, watch};
+use tilt_commands::{Division, Manner, compile, exec, explain, parts, pipe, run, try_, watch};
 use tilt_outside::Shelf;
 use tilt_printed::Answered;
 use tilt_report::Fault;
@@ -46,6 +46,13 @@ pub(crate) fn answer<'a, S: Shelf>(
         Command::Explain { query } => explain(alloc, shelf, query),
         Command::Pipe { query, binds, .. } => pipe(alloc, shelf, query, binds, fuse),
         Command::Watch { query, binds, .. } => watch(alloc, shelf, query, binds, fuse),
+        Command::Parts {
+            query,
+            binds,
+            at,
+            order,
+            ..
+        } => parts(alloc, shelf, query, binds, division(fuse, at, order)),
         Command::Try { seed, count } => try_(alloc, *seed, *count),
         Command::Start {
             query,
@@ -73,6 +80,15 @@ fn manner(fuse: bool, cuts: &[i64]) -> Manner<'_>
     ensures cuts { result.cuts.now ≡ cuts.now }
 {
     Manner { fuse, cuts }
+}
+
+// How a query is run in parts.
+fn division<'a>(fuse: bool, cuts: &'a [i64], order: &'a [u32]) -> Division<'a>
+    ensures fuse { result.fuse ≡ fuse }
+    ensures cuts { result.cuts.now ≡ cuts.now }
+    ensures order { result.order.now ≡ order.now }
+{
+    Division { fuse, cuts, order }
 }
 
 // Where a session ends, and the name under which it saves.

@@ -129,14 +129,15 @@ fn tell<E: Sink>(err: &mut E, fault: &Fault<'_>) -> u8
 /// domain, `exec CODE NAME=FILE ..` that of the run of a loop code; `compile QUERY` reads the query alone and puts the
 /// listing of its code, and `explain QUERY` what is told of its plan; `--plain` leaves out fusion. `pipe QUERY NAME=FILE ..` puts
 /// what `run` puts, and then the line of how many snapshots the loops held at most. `watch QUERY NAME=FILE ..`
-/// puts what `run` puts, shows the snapshots to the watchers, and puts a line of each one's figures. `try SEED COUNT` reads
-/// nothing: it puts the summary of a query on that many rows for each input, which are made from the seed. `start QUERY ..`
+/// puts what `run` puts, shows the snapshots to the watchers, and puts a line of each one's figures. `parts QUERY NAME=FILE .. --at
+/// TIME,TIME ..` puts what `run` puts, by parts of the output domain, and then the line of how many snapshots come from each. `try SEED
+/// COUNT` reads nothing: it puts the summary of a query on that many rows for each input, which are made from the seed. `start QUERY ..`
 /// puts what `run` would put by a cut, and `resume CHECKPOINT ..` the lines after it; where they end by a cut, the bytes of a
 /// checkpoint are saved after all puts. Where that isn't done, one line that tells why goes to `err`, and nothing else. A
 /// fault of `err` changes nothing.
 ///
-/// The first refusal is told: that of the words, then of the query, the code or the checkpoint, then of the cut, then of the
-/// names that are bound, then of the series in the order in which the inputs are declared. `run` without cuts and `pipe` take
+/// The first refusal is told: that of the words, then of the query, the code or the checkpoint, then of the cut or the cuts and the order,
+/// then of the names that are bound, then of the series in the order in which the inputs are declared. `run` without cuts and `pipe` take
 /// memory between puts, so that it may be wanting after a prefix of the text. All other commands take all memory before the first
 /// put.
 ///

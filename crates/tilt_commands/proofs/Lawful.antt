@@ -1,14 +1,15 @@
 -- Each row of the table is lawful: files have one outcome for it, and always one.
-use Rattle.std.proofs.Common.{◌≡◌, ◌≤◌, ◌∙◌, ◌++◌, ◌⊎◌, not, Bool, List, ℕ, ◌*◌, ◌+◌, length, Option, None, Some, Result, Ok, inl, inr, refl, sym, ap}
+use Rattle.std.proofs.Common.{◌≡◌, ◌≤◌, ◌∙◌, ◌++◌, ◌⊎◌, not, Bool, List, ℕ, ℤ, ◌*◌, ◌+◌, length, Option, None, Some, Result, Ok, inl, inr, refl, sym, ap}
 use Rattle.tilt_base.specs.declared.span.Span.{Span}
 use Rattle.tilt_bounds.specs.Margins.{MarginsParts}
 use Rattle.tilt_code.specs.Code.{CodeParts}
 use Rattle.tilt_code.specs.Listing.{listing}
 use Rattle.tilt_code.specs.Run.{run_of}
 use Rattle.tilt_commands.proofs.MadeQuery.{core, made_taken, two_inputs}
+use Rattle.tilt_commands.proofs.Divided.{parts_once, parts_refused_once, parts_refused_or_taken, parts_taken_or_refused, same_parted, some_parted}
 use Rattle.tilt_commands.proofs.Taken.{taken_domain, taken_gives}
 use Rattle.tilt_commands.specs.Query.{IsMadeOfQuery, lone_row, query_row}
-use Rattle.tilt_commands.specs.Table.{IsCompiled, compile_row, exec_row, IsExplained, explain_row, IsPiped, pipe_row, run_row, IsTryOutcome, made_inputs, summed, watch_row, Row, reads, makes, row_of}
+use Rattle.tilt_commands.specs.Table.{IsCompiled, compile_row, exec_row, IsExplained, explain_row, IsPiped, parts_row, pipe_row, run_row, IsTryOutcome, made_inputs, summed, watch_row, Row, reads, makes, row_of}
 use Rattle.tilt_compiler.specs.Compiled.{IsCodeOf}
 use Rattle.tilt_core.specs.Core.{CoreParts}
 use Rattle.tilt_core.specs.Meaning.{output_of}
@@ -31,7 +32,7 @@ use Rattle.tilt_stream.specs.Snap.{Snapshot}
 use Rattle.tilt_stream.specs.Text.{text_of}
 use Rattle.tilt_types.specs.Checked.{core_of}
 use Rattle.tilt_watch.specs.Watch.{Watch}
-use Rattle.tilt_words.specs.Command.{CommandValue, IsWithin, run, compile, exec, explain, start, resume_upto, resume_end, pipe, watch, try}
+use Rattle.tilt_words.specs.Command.{CommandValue, IsWithin, run, compile, exec, explain, start, resume_upto, resume_end, pipe, watch, parts, try}
 
 printed_usage : (text : List ℕ) → printed text ≡ refused usage → ⊥
 printed_usage text same = cc
@@ -152,6 +153,17 @@ exec_lawful file = record {
   no_usage = λ c rows is. printed_usage (text_of (run_of c rows)) (sym is);
 }
 
+parts_lawful : (query : List ℕ) (cuts : List ℤ) (order : List ℕ) → IsLawful (parts_row query cuts order)
+parts_lawful query cuts order = record {
+  one = λ bytes c d. parts_once query cuts order bytes c d;
+  once = λ bytes r s. parts_refused_once query cuts order bytes r s;
+  either = λ bytes r c. parts_refused_or_taken query cuts order bytes r c;
+  some = λ bytes. parts_taken_or_refused query cuts order bytes (queries query bytes);
+  given_once = λ c rows o p is is'. same_parted cuts c rows o p is is';
+  given_some = λ bytes c rows takes many. some_parted cuts bytes c rows takes.taken many;
+  no_usage = λ c rows is. printed_usage _ (sym is.is);
+}
+
 -- `try` has one outcome
 try_once : (seed count : ℕ) (o p : Outcome) → IsTryOutcome seed count o → IsTryOutcome seed count p → o ≡ p
 try_once seed count o p (summed core list taken out) (summed core' list' taken' out') =
@@ -191,6 +203,7 @@ rows_lawful (resume_upto checkpoint binds plain upto save) within = λ watchers.
 rows_lawful (resume_end checkpoint binds plain) within = λ watchers. resume_lawful None checkpoint
 rows_lawful (pipe query binds plain) within = λ watchers. pipe_lawful query (not plain)
 rows_lawful (watch query binds plain) within = λ watchers. watch_lawful query watchers
+rows_lawful (parts query binds plain at order) within = λ watchers. parts_lawful query at order
 rows_lawful (try seed count) within = record {
   once = try_once seed count;
   some = try_some seed count within.1;

@@ -1,3 +1,4 @@
+pub mod Divided
 pub mod Doing
 pub mod Lawful
 pub mod MadeQuery

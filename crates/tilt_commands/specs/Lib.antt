@@ -1,3 +1,4 @@
+pub mod Divided
 pub mod Loaded
 pub mod Query
 pub mod Table

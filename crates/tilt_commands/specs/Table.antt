@@ -1,9 +1,10 @@
 -- The table of commands: what each of them does. A command on the file of a name is a row here, or in `tilt_sessions`.
-use Rattle.std.specs.Prelude.{◌≡◌, ◌++◌, not, List, [], ◌∷◌, ℕ, Bool, Ok, Some, None}
+use Rattle.std.specs.Prelude.{◌≡◌, ◌++◌, not, List, [], ◌∷◌, ℕ, ℤ, Bool, Ok, Some, None}
 use Rattle.tilt_bounds.specs.Margins.{MarginsParts, margins_of}
 use Rattle.tilt_code.specs.Code.{CodeParts}
 use Rattle.tilt_code.specs.Listing.{listing}
 use Rattle.tilt_code.specs.Run.{run_of}
+use Rattle.tilt_commands.specs.Divided.{IsParted, RefusesParts, TakesParts}
 use Rattle.tilt_commands.specs.Query.{IsMadeOfQuery, lone_row, query_row}
 use Rattle.tilt_compiler.specs.Compiled.{IsCodeOf}
 use Rattle.tilt_core.specs.Core.{CoreParts}
@@ -26,7 +27,7 @@ use Rattle.tilt_stream.specs.Snap.{Snapshot}
 use Rattle.tilt_stream.specs.Text.{text_of}
 use Rattle.tilt_watch.specs.Watch.{Watch}
 use Rattle.tilt_words.specs.Binding.{Binding}
-use Rattle.tilt_words.specs.Command.{CommandValue, run, compile, exec, explain, start, resume_upto, resume_end, pipe, watch, try}
+use Rattle.tilt_words.specs.Command.{CommandValue, run, compile, exec, explain, start, resume_upto, resume_end, pipe, watch, parts, try}
 
 -- `run` on the query in the file of a name prints the text of the snapshots of the query's meaning on its output domain
 abbrev pub run_row : List ℕ → FileCommand
@@ -76,6 +77,18 @@ pipe_row query fuse = query_row query (IsPiped fuse)
 abbrev pub watch_row : List ℕ → List Watch → FileCommand
 watch_row query watchers = query_row query (IsMadeOfQuery (λ list. printed (watched_text watchers list)))
 
+-- `parts` on the query in the file of a name, with these cuts and in this order of steps, prints what `run` prints, and then the line of how
+-- many snapshots come from each part
+abbrev pub parts_row : List ℕ → List ℤ → List ℕ → FileCommand
+parts_row query cuts order = record {
+  Says = CoreParts;
+  takes = TakesParts cuts order;
+  refuses = RefusesParts query cuts order;
+  inputs = λ core. core.inputs;
+  within = λ core place. no_bounds;
+  gives = IsParted cuts;
+}
+
 -- the rows that `try` makes, of both inputs
 abbrev pub made_inputs : ℕ → ℕ → List (List Snapshot)
 made_inputs seed count = first_rows seed count ∷ second_rows seed count ∷ []
@@ -103,4 +116,5 @@ row_of (resume_upto checkpoint binds plain upto save) =
 row_of (resume_end checkpoint binds plain) = reads checkpoint binds (λ watchers. resume_row None checkpoint)
 row_of (pipe query binds plain) = reads query binds (λ watchers. pipe_row query (not plain))
 row_of (watch query binds plain) = reads query binds (watch_row query)
+row_of (parts query binds plain at order) = reads query binds (λ watchers. parts_row query at order)
 row_of (try seed count) = makes (IsTryOutcome seed count)

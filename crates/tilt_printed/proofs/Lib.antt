@@ -1,3 +1,4 @@
 pub mod Printing
 pub mod Seen
+pub mod Sizes
 pub mod Streams

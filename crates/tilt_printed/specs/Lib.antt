@@ -5,5 +5,6 @@ pub mod Prints
 pub mod Rings
 pub mod Saving
 pub mod Show
+pub mod Sizes
 pub mod Text
 pub mod Unput

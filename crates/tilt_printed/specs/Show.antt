@@ -6,7 +6,7 @@ use Rattle.tilt_printed.specs.Left.{Left}
 use Rattle.tilt_printed.specs.declared.printed.Printed.{Printed}
 use Rattle.tilt_printed.specs.declared.printed.Printed.TheVariants.{Whole, Run, Rings}
 use Rattle.tilt_printed.specs.declared.whole_text.WholeText.{WholeText}
-use Rattle.tilt_printed.specs.declared.whole_text.WholeText.TheVariants.{Snapshots, Lines, Watched, Text}
+use Rattle.tilt_printed.specs.declared.whole_text.WholeText.TheVariants.{Snapshots, Lines, Watched, Parted, Text}
 use Rattle.tilt_stream.specs.Snap.{Snapshot}
 use Rattle.tilt_stream.specs.Text.{text_of}
 use Rattle.tilt_watch.specs.Watch.{after_show}
@@ -16,6 +16,7 @@ abbrev pub shown_whole : WholeText → Option (List Snapshot)
 shown_whole (Snapshots list) = None
 shown_whole (Watched list) = Some list
 shown_whole (Lines list) = None
+shown_whole (Parted list sizes) = None
 shown_whole (Text text) = None
 
 -- and of what is printed

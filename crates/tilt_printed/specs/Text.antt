@@ -4,10 +4,11 @@ use Rattle.tilt_code.specs.Run.{run_of}
 use Rattle.tilt_pipe.specs.Value.{pipe_after}
 use Rattle.tilt_printed.specs.Figures.{watched_text}
 use Rattle.tilt_printed.specs.Rings.{rings_text}
+use Rattle.tilt_printed.specs.Sizes.{parted_text}
 use Rattle.tilt_printed.specs.declared.printed.Printed.{Printed}
 use Rattle.tilt_printed.specs.declared.printed.Printed.TheVariants.{Whole, Run, Rings}
 use Rattle.tilt_printed.specs.declared.whole_text.WholeText.{WholeText}
-use Rattle.tilt_printed.specs.declared.whole_text.WholeText.TheVariants.{Snapshots, Lines, Watched, Text}
+use Rattle.tilt_printed.specs.declared.whole_text.WholeText.TheVariants.{Snapshots, Lines, Watched, Parted, Text}
 use Rattle.tilt_stream.specs.Text.{lines_of, text_of}
 use Rattle.tilt_watch.specs.Watch.{Watch}
 
@@ -16,6 +17,7 @@ abbrev pub whole_text : List Watch → WholeText → List ℕ
 whole_text watchers (Snapshots list) = text_of list
 whole_text watchers (Lines list) = lines_of list
 whole_text watchers (Watched list) = watched_text watchers list
+whole_text watchers (Parted list sizes) = parted_text list sizes.items
 whole_text watchers (Text text) = text.items
 
 -- the text that is printed, beside these watchers

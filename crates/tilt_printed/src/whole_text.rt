@@ -1,13 +1,16 @@
 // Texts that are made whole before the first put.
 ghost use Rattle.std.specs.Prelude.{length, MatchResult};
+ghost use Rattle.std.specs.List.{flat_map};
 ghost use Rattle.tilt_outside.specs.Written.{Puts};
 ghost use Rattle.tilt_printed.specs.Figures.{watched_text};
 ghost use Rattle.tilt_printed.specs.Left.{left_of};
 ghost use Rattle.tilt_printed.specs.Show.{HaveSeen, HaveSeenInPart, SeeWhatIsPut, shown_whole};
+ghost use Rattle.tilt_printed.specs.Sizes.{parted_text, parts_line, size_text};
 ghost use Rattle.tilt_printed.specs.Text.{whole_text};
 ghost use Rattle.tilt_stream.specs.Text.{text_of};
 ghost use Rattle.tilt_watch.specs.Watch.{watches};
 
+use itoa::Buffer;
 use tilt_outside::{Failed, Sink};
 use tilt_series::{put_header, put_rows};
 use tilt_stream::SnapList;
@@ -20,6 +23,8 @@ pub enum WholeText {
     Snapshots(SnapList),
     /// The text of these snapshots, and then the figures of the watchers, which are shown them in between.
     Watched(SnapList),
+    /// The text of these snapshots, and then the line of how many come from each part.
+    Parted { list: SnapList, sizes: Vec<u64> },
     /// The lines of these snapshots, without the header.
     Lines(SnapList),
     /// This text.
@@ -42,6 +47,7 @@ impl WholeText {
         match self {
             WholeText::Snapshots(list) => put_text(out, list),
             WholeText::Watched(list) => put_watched(out, list, watchers),
+            WholeText::Parted { list, sizes } => put_parted(out, list, sizes),
             WholeText::Lines(list) => put_rows(out, list),
             WholeText::Text(text) => out.put(text),
         }
@@ -73,4 +79,44 @@ fn put_watched<O: Sink>(
     put_text(out, list)?;
     show(watchers, list);
     put_figures(out, watchers)
+}
+
+// Puts the text of snapshots, and then the line of sizes.
+fn put_parted<O: Sink>(out: &mut O, whole: &SnapList, sizes: &[u64]) -> Result<(), Failed>
+    requires { O.takes out.old (length (parted_text whole.now sizes.now)) }
+    ensures { Puts O.tells O.written O.faults O.takes out.old out.new (parted_text whole.now sizes.now) result }
+{
+    put_text(out, whole)?;
+    put_line(out, sizes)
+}
+
+// Puts the line `parts N N ..`.
+fn put_line<O: Sink>(out: &mut O, sizes: &[u64]) -> Result<(), Failed>
+    requires { O.takes out.old (length (parts_line sizes.now)) }
+    ensures { Puts O.tells O.written O.faults O.takes out.old out.new (parts_line sizes.now) result }
+{
+    out.put(b"parts")?;
+    put_sizes(out, sizes)?;
+    out.put(b"\n")
+}
+
+// Puts a blank and a number for each size.
+fn put_sizes<O: Sink>(out: &mut O, sizes: &[u64]) -> Result<(), Failed>
+    requires { O.takes out.old (length (flat_map size_text sizes.now)) }
+    ensures { Puts O.tells O.written O.faults O.takes out.old out.new (flat_map size_text sizes.now) result }
+{
+    for size in sizes {
+        put_size(out, *size)?;
+    }
+    Ok(())
+}
+
+// Puts a blank and a number.
+fn put_size<O: Sink>(out: &mut O, size: u64) -> Result<(), Failed>
+    requires { O.takes out.old (length (size_text size)) }
+    ensures { Puts O.tells O.written O.faults O.takes out.old out.new (size_text size) result }
+{
+    let mut buffer = Buffer::new();
+    out.put(b" ")?;
+    out.put(buffer.format(size).as_bytes())
 }

@@ -25,7 +25,7 @@ use Rattle.tilt_report.specs.declared.fault.Fault.{Fault}
 use Rattle.tilt_report.specs.declared.fault.Fault.TheVariants.{Usage, Refused, ReadFault, WriteFault, SaveFault, OutOfMemory}
 
 -- why words that are a command are refused, with the name of the file or of the input that it is about, the place, the statement, how far
--- the query looks back and ahead, the line of the code and its loop, or the old cut and the new one
+-- the query looks back and ahead, the line of the code and its loop, the old cut and the new one, or the cut or the number of a part
 pub data Reason : Type 0 where
   input_names : List ℕ → Reason
   file_too_long : List ℕ → Reason
@@ -39,6 +39,8 @@ pub data Reason : Type 0 where
   bad_reference : ℕ → ℕ → Reason
   bad_checkpoint : Reason
   cut_back : ℤ → ℤ → Reason
+  part_outside : ℤ → Reason
+  no_such_part : ℕ → Reason
 
 -- why a command isn't done
 pub data Report : Type 0 where
@@ -70,6 +72,8 @@ reason_of (code.BadCode line) = bad_code line
 reason_of (code.BadReference in_loop line) = bad_reference in_loop line
 reason_of code.BadCheckpoint = bad_checkpoint
 reason_of (code.CutBack old new) = cut_back old new
+reason_of (code.PartOutside at) = part_outside at
+reason_of (code.NoSuchPart part) = no_such_part part
 
 -- the report of a fault
 abbrev pub report_of : Fault → Report
@@ -192,6 +196,8 @@ reason_words (bad_code line) = codes "40 bad code in line " ++ decimal line
 reason_words (bad_reference in_loop line) = codes "41 bad reference in loop " ++ decimal in_loop ++ codes ", line " ++ decimal line
 reason_words bad_checkpoint = codes "50 bad checkpoint"
 reason_words (cut_back old new) = codes "51 cut back from " ++ signed_decimal old ++ codes " to " ++ signed_decimal new
+reason_words (part_outside at) = codes "56 part outside: " ++ signed_decimal at
+reason_words (no_such_part part) = codes "57 no such part: " ++ decimal part
 
 -- the number and the words of a fault
 abbrev pub words_of : Report → List ℕ

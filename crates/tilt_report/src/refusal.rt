@@ -72,6 +72,16 @@ pub enum Refusal<'a> {
         /// The cut of the session, in ticks.
         new: i64,
     },
+    /// A cut between parts isn't inside the output domain.
+    PartOutside {
+        /// The cut, in ticks.
+        at: i64,
+    },
+    /// An order of steps names a part that isn't there.
+    NoSuchPart {
+        /// The number of the part, counted from 0.
+        part: u32,
+    },
 }
 
 /// Why a statement of a query is refused.
@@ -118,6 +128,8 @@ impl Refusal<'_> {
             Refusal::BadReference { in_loop, line } => put_reference(err, *in_loop, *line),
             Refusal::BadCheckpoint => put_text(err, b"50 bad checkpoint"),
             Refusal::CutBack { old, new } => put_cut_back(err, *old, *new),
+            Refusal::PartOutside { at } => put_outside(err, *at),
+            Refusal::NoSuchPart { part } => put_no_part(err, *part),
         }
     }
 }
@@ -247,4 +259,22 @@ fn put_cut_back<E: Sink>(err: &mut E, old: i64, new: i64) -> Result<(), Failed>
 {
     put_signed(err, b"51 cut back from ", i128::from(old))?;
     put_signed(err, b" to ", i128::from(new))
+}
+
+// Puts which cut isn't inside the output domain.
+fn put_outside<E: Sink>(err: &mut E, at: i64) -> Result<(), Failed>
+    requires { (n : ℕ) → E.takes err.old n }
+    ensures { Puts E.tells E.written E.faults E.takes err.old err.new
+        (codes "56 part outside: " ++ signed_decimal at) result }
+{
+    put_signed(err, b"56 part outside: ", i128::from(at))
+}
+
+// Puts which part isn't there.
+fn put_no_part<E: Sink>(err: &mut E, part: u32) -> Result<(), Failed>
+    requires { (n : ℕ) → E.takes err.old n }
+    ensures { Puts E.tells E.written E.faults E.takes err.old err.new
+        (codes "57 no such part: " ++ decimal part) result }
+{
+    put_counted(err, b"57 no such part: ", u64::from(part))
 }

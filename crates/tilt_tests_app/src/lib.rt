@@ -17,6 +17,8 @@ mod hostile;
 #[cfg(test)]
 mod meanings;
 #[cfg(test)]
+mod parting;
+#[cfg(test)]
 mod piping;
 #[cfg(test)]
 mod refusals;

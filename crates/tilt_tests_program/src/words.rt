@@ -32,6 +32,15 @@ fn show_cuts(alloc: Global, cuts: &[i64]) -> Result<String, Fail> {
     Ok(shown)
 }
 
+fn show_order(alloc: Global, order: &[u32]) -> Result<String, Fail> {
+    let mut shown = String::new(alloc);
+    for part in order {
+        let part = format!(in alloc; " part {part}")?;
+        shown.push_str(part.as_str())?;
+    }
+    Ok(shown)
+}
+
 fn show_plain(plain: bool) -> &'static str {
     if plain { " plain" } else { "" }
 }
@@ -98,6 +107,17 @@ fn show(alloc: Global, command: &Command) -> Result<String, Fail> {
             let (binds, plain) = (show_binds(alloc, binds)?, show_plain(*plain));
             format!(in alloc; "watch {query}{binds}{plain}")?
         }
+        Command::Parts {
+            query,
+            binds,
+            plain,
+            at,
+            order,
+        } => {
+            let (binds, plain) = (show_binds(alloc, binds)?, show_plain(*plain));
+            let (at, order) = (show_cuts(alloc, at)?, show_order(alloc, order)?);
+            format!(in alloc; "parts {query}{binds}{plain}{at}{order}")?
+        }
         Command::Try { seed, count } => format!(in alloc; "try {seed} {count}")?,
     })
 }
@@ -136,6 +156,15 @@ fn words_are_the_command_that_they_spell(rt: HostRuntime) -> Result<(), Fail> {
         ("resume|C|x=F|--end|--plain", "resume C x=F plain end"),
         ("pipe|Q|--plain|x=F", "pipe Q x=F plain"),
         ("watch|Q|x=F|--plain", "watch Q x=F plain"),
+        ("parts|Q|--at|5", "parts Q cut 5"),
+        (
+            "parts|Q|--order|1,0,1|x=F|--at|-7,+5,0006|--plain",
+            "parts Q x=F plain cut -7 cut 5 cut 6 part 1 part 0 part 1",
+        ),
+        (
+            "parts|Q|--at|-4000000000000000000,4000000000000000000|--order|4294967295,0",
+            "parts Q cut -4000000000000000000 cut 4000000000000000000 part 4294967295 part 0",
+        ),
         ("try|0|0", "try 0 0"),
         ("try|2147483647|1000000", "try 2147483647 1000000"),
         ("try|-0|+7", "try 0 7"),
@@ -210,6 +239,41 @@ fn other_words_are_no_command(rt: HostRuntime) -> Result<(), Fail> {
         "resume|C|--end|--cut|5",
         "pipe|Q|--cut|5",
         "watch|Q|--cut|5",
+        "parts",
+        "parts|Q",
+        "parts|Q|--order|0",
+        "parts|--at|5",
+        "parts|Q|--at",
+        "parts|Q|--at|",
+        "parts|Q|--at|,",
+        "parts|Q|--at|5,",
+        "parts|Q|--at|5,,6",
+        "parts|Q|--at|5,5",
+        "parts|Q|--at|5,4",
+        "parts|Q|--at|5|--at|6",
+        "parts|Q|--at=5",
+        "parts|Q|--at|4000000000000000001",
+        "parts|Q|--at|3,4000000000000000001",
+        "parts|Q|--at|-4000000000000000001",
+        "parts|Q|--at|5|--order",
+        "parts|Q|--at|5|--order|",
+        "parts|Q|--at|5|--order|0,",
+        "parts|Q|--at|5|--order|-1",
+        "parts|Q|--at|5|--order|0,4294967296",
+        "parts|Q|--at|5|--order|0|--order|1",
+        "parts|Q|--at|5|--cut|5",
+        "parts|Q|--at|5|--end",
+        "parts|Q|--at|5|--upto|5",
+        "parts|Q|--at|5|--save|D",
+        "run|Q|--at|5",
+        "run|Q|--order|0",
+        "compile|Q|--at|5",
+        "exec|C|--at|5",
+        "explain|Q|--order|0",
+        "start|Q|--upto|5|--save|D|--at|5",
+        "resume|C|--end|--at|5",
+        "pipe|Q|--at|5",
+        "watch|Q|--order|0",
         "try|1",
         "try|1|2|3",
         "try|1|2|--plain",

@@ -18,13 +18,13 @@ use Rattle.tilt_words.specs.Arguments.{Settings, no_settings, Begins, AreArgumen
 use Rattle.tilt_words.specs.Arguments as argument
 use Rattle.tilt_words.specs.Binding.{Binding, IsBinding, binding_spelled}
 use Rattle.tilt_words.specs.Command.{Call, CommandValue, IsCommand, IsFile, IsFileCommand, call_of, try}
-use Rattle.tilt_words.specs.Number.{IsNumber, AreRising, before_comma, after_comma}
+use Rattle.tilt_words.specs.Number.{IsNumber, AreListed, AreRising, AreUpTo, before_comma, after_comma}
 use Rattle.tilt_words.proofs.Answered.{try_texts}
-use Rattle.tilt_words.proofs.Determined.{IsOption, cut, upto, save, after_plain, after_end, after_cut, after_upto, after_save}
+use Rattle.tilt_words.proofs.Determined.{IsOption, cut, upto, save, parts_at, order, after_plain, after_end, after_cut, after_upto, after_save, after_at, after_order}
 use Rattle.tilt_words.proofs.Determined.{after_bind, alone, no_begins, behind_first, first_begins, same_settings as one_settings}
 use Rattle.tilt_words.proofs.Fronts.{not_option}
 use Rattle.tilt_words.proofs.OneCommand.{rebuilt, rebuilt_same, only_try, only_file, file_command, two_words}
-use Rattle.tilt_words.proofs.Rising.{HasComma, joined, others, no_first, no_last, whole}
+use Rattle.tilt_words.proofs.Listed.{HasComma, IsPart, IsSpelling, IsTime, after_part, after_time, joined, others, no_first, no_last, parts_spelled, same_number, times_spelled, whole}
 
 -- something is so, or nothing is
 abbrev pub Either : {A : Type 0} → (A → Type 0) → Type 0
@@ -93,26 +93,54 @@ record SameSettings (x y : Settings) : Type 0 where
   cuts : x.cuts ≡ y.cuts
   upto : x.upto ≡ y.upto
   save : x.save ≡ y.save
+  at : x.at ≡ y.at
+  order : x.order ≡ y.order
 
 settings_same : (x y : Settings) → SameSettings x y → x ≡ y
-settings_same x y e = λ i. record { binds = e.binds i; plain = e.plain i; end = e.end i; cuts = e.cuts i; upto = e.upto i; save = e.save i }
+settings_same x y e = λ i. record {
+  binds = e.binds i;
+  plain = e.plain i;
+  end = e.end i;
+  cuts = e.cuts i;
+  upto = e.upto i;
+  save = e.save i;
+  at = e.at i;
+  order = e.order i;
+}
 
 same_settings : (x y : Settings) → Known (x ≡ y)
 same_settings x y =
-    known_as (λ (e : (x.binds ≡ y.binds) × ((x.plain ≡ y.plain) × ((x.end ≡ y.end) × ((x.cuts ≡ y.cuts) × ((x.upto ≡ y.upto) × (x.save ≡ y.save)))))).
-    settings_same x y (record { binds = e.0; plain = e.1.0; end = e.1.1.0; cuts = e.1.1.1.0; upto = e.1.1.1.1.0; save = e.1.1.1.1.1 }))
+    known_as (λ (e : (x.binds ≡ y.binds) × ((x.plain ≡ y.plain) × ((x.end ≡ y.end) × ((x.cuts ≡ y.cuts) × ((x.upto ≡ y.upto)
+    × ((x.save ≡ y.save) × ((x.at ≡ y.at) × (x.order ≡ y.order)))))))).
+    settings_same x y (record {
+      binds = e.0;
+      plain = e.1.0;
+      end = e.1.1.0;
+      cuts = e.1.1.1.0;
+      upto = e.1.1.1.1.0;
+      save = e.1.1.1.1.1.0;
+      at = e.1.1.1.1.1.1.0;
+      order = e.1.1.1.1.1.1.1;
+    }))
     (λ e. (
       ap (λ (s : Settings). s.binds) e,
       (
         ap (λ (s : Settings). s.plain) e,
         (
           ap (λ (s : Settings). s.end) e,
-          (ap (λ (s : Settings). s.cuts) e, (ap (λ (s : Settings). s.upto) e, ap (λ (s : Settings). s.save) e)),
+          (
+            ap (λ (s : Settings). s.cuts) e,
+            (
+              ap (λ (s : Settings). s.upto) e,
+              (ap (λ (s : Settings). s.save) e, (ap (λ (s : Settings). s.at) e, ap (λ (s : Settings). s.order) e)),
+            ),
+          ),
         ),
       ),
     ))
     (both (same_lists same_bindings x.binds y.binds) (both (same_bools x.plain y.plain) (both (same_bools x.end y.end)
-    (both (same_lists same_integers x.cuts y.cuts) (both (same_options same_integers x.upto y.upto) (same_options same_bytes x.save y.save))))))
+    (both (same_lists same_integers x.cuts y.cuts) (both (same_options same_integers x.upto y.upto) (both (same_options same_bytes x.save y.save)
+    (both (same_lists same_integers x.at y.at) (same_lists same_numbers x.order y.order))))))))
 
 same_calls : (x y : Call) → Known (x ≡ y)
 same_calls x y =
@@ -139,34 +167,53 @@ number_or_none least greatest word = number_of least greatest word (integer_spel
 shorter_behind : (word : List ℕ) → HasComma word → length (after_comma word) < length word
 shorter_behind word has = let left = length-drop (position_or_len (λ b. b == 44) word + 1) word in omega (arith, left)
 
-last_or_none : (least greatest : ℤ) (word : List ℕ) → length word ≤ position_or_len (λ b. b == 44) word → Either (AreRising least greatest word)
-last_or_none least greatest word end =
-    elim (number_or_none least greatest word) [
-      | inl number ↦ inl (number.0 ∷ [], number.1)
-      | inr none ↦ inr (λ all are. no_last greatest least word all (whole word end) none are)
-    ]
-
-more_or_none : (least greatest : ℤ) (word : List ℕ) → HasComma word → (z : ℤ) → IsNumber least greatest (before_comma word) z →
-    Either (AreRising z greatest (after_comma word)) → Either (AreRising least greatest word)
-more_or_none least greatest word has z is (inl more) = inl (z ∷ more.0, joined greatest least word z more.0 is more.1)
-more_or_none least greatest word has z is (inr none) =
-    inr (λ all are. let left = others greatest least word z all has is are in none left.0 left.1)
-
-rising_within : (most : ℕ) (least greatest : ℤ) (word : List ℕ) → length word ≤ most → Either (AreRising least greatest word)
-rising_within zero least greatest word fits = last_or_none least greatest word (omega arith)
-rising_within (suc most) least greatest word fits =
-    elim (cases_lt (position_or_len (λ b. b == 44) word) (length word)) [
-      | inl has ↦ elim (number_or_none least greatest (before_comma word)) [
-        | inl number ↦
-            let shorter = shorter_behind word has in
-            more_or_none least greatest word has number.0 number.1 (rising_within most number.0 greatest (after_comma word) (omega arith))
-        | inr none ↦ inr (λ all are. no_first greatest least word all has none are)
+module _ {A : Type 0} (Is : ℤ → List ℕ → A → Type 0) (least_after : A → ℤ) (spelling : IsSpelling Is)
+    (one : (least : ℤ) (word : List ℕ) → Either (Is least word)) where
+  last_or_none : (least : ℤ) (word : List ℕ) → length word ≤ position_or_len (λ b. b == 44) word → Either (AreListed Is least_after least word)
+  last_or_none least word end =
+      elim (one least word) [
+        | inl x ↦ inl (x.0 ∷ [], x.1)
+        | inr none ↦ inr (λ all are. no_last Is least_after spelling least word all (whole word end) none are)
       ]
-      | inr end ↦ last_or_none least greatest word end
+
+  more_or_none : (least : ℤ) (word : List ℕ) → HasComma word → (x : A) → Is least (before_comma word) x →
+      Either (AreListed Is least_after (least_after x) (after_comma word)) → Either (AreListed Is least_after least word)
+  more_or_none least word has x is (inl more) = inl (x ∷ more.0, joined Is least_after spelling least word x more.0 is more.1)
+  more_or_none least word has x is (inr none) =
+      inr (λ all are. let left = others Is least_after spelling least word x all has is are in none left.0 left.1)
+
+  listed_within : (most : ℕ) (least : ℤ) (word : List ℕ) → length word ≤ most → Either (AreListed Is least_after least word)
+  listed_within zero least word fits = last_or_none least word (omega arith)
+  listed_within (suc most) least word fits =
+      elim (cases_lt (position_or_len (λ b. b == 44) word) (length word)) [
+        | inl has ↦ elim (one least (before_comma word)) [
+          | inl x ↦
+              let shorter = shorter_behind word has in
+              more_or_none least word has x.0 x.1 (listed_within most (least_after x.0) (after_comma word) (omega arith))
+          | inr none ↦ inr (λ all are. no_first Is least_after spelling least word all has none are)
+        ]
+        | inr end ↦ last_or_none least word end
+      ]
+
+rising_or_none : (apart : ℤ) (word : List ℕ) → Either (AreRising apart (neg_ℤ T) T word)
+rising_or_none apart word =
+    listed_within (IsTime T) (after_time apart) (times_spelled T) (λ least part. number_or_none least T part) (length word) (neg_ℤ T) word (omega arith)
+
+part_of : (greatest : ℕ) (least : ℤ) (word : List ℕ) (z : ℤ) → IsNumber least (pos greatest) word z → Either (IsPart greatest least word)
+part_of greatest least word (pos n) is = inl (n, is)
+part_of greatest least word (negsuc n) is =
+    inr (λ m other. let same : negsuc n ≡ pos m = same_number least (pos greatest) least (pos greatest) word (negsuc n) (pos m) is other in cc)
+
+part_or_none : (greatest : ℕ) (least : ℤ) (word : List ℕ) → Either (IsPart greatest least word)
+part_or_none greatest least word =
+    elim (number_or_none least (pos greatest) word) [
+      | inl z ↦ part_of greatest least word z.0 z.1
+      | inr none ↦ inr (λ n is. none (pos n) is)
     ]
 
-rising_or_none : (word : List ℕ) → Either (AreRising (neg_ℤ T) T word)
-rising_or_none word = rising_within (length word) (neg_ℤ T) T word (omega arith)
+parts_or_none : (word : List ℕ) → Either (AreUpTo 4294967295 word)
+parts_or_none word =
+    listed_within (IsPart 4294967295) after_part (parts_spelled 4294967295) (part_or_none 4294967295) (length word) (pos 0) word (omega arith)
 
 -- arguments
 some_bytes : (bytes : List ℕ) → Known (bytes ≢ [])
@@ -201,7 +248,7 @@ by_end old tail =
       | inr stood ↦ inr (λ new rest begins. stood (after_end begins tail refl).0)
     ]
 
-no_cuts : (cuts : List ℤ) → Known (cuts ≡ [])
+no_cuts : {A : Type 0} (cuts : List A) → Known (cuts ≡ [])
 no_cuts [] = inl refl
 no_cuts (z ∷ cuts) = inr (λ e. cc)
 
@@ -213,7 +260,7 @@ by_cut : (old : Settings) (tail : List (List ℕ)) → MayBegin old (codes "--cu
 by_cut old [] = inr (λ new rest begins. alone begins (codes "--cut") refl cut refl refl)
 by_cut old (value ∷ tail) =
     elim (no_cuts old.cuts) [
-      | inl fresh ↦ elim (rising_or_none value) [
+      | inl fresh ↦ elim (rising_or_none (pos 0) value) [
         | inl times ↦ inl (record { new = record old { cuts = times.0 }; rest = tail; begins = argument.cut fresh times.1; shorter = omega arith })
         | inr none ↦ inr (λ new rest begins. let given = after_cut begins value tail refl in none given.times given.are)
       ]
@@ -239,6 +286,28 @@ by_save old (value ∷ tail) =
       | inr n ↦ inr (λ new rest begins. let given = after_save begins value tail refl in n (given.0, given.1))
     ]
 
+by_at : (old : Settings) (tail : List (List ℕ)) → MayBegin old (codes "--at" ∷ tail)
+by_at old [] = inr (λ new rest begins. alone begins (codes "--at") refl parts_at refl refl)
+by_at old (value ∷ tail) =
+    elim (no_cuts old.at) [
+      | inl fresh ↦ elim (rising_or_none (pos 1) value) [
+        | inl times ↦ inl (record { new = record old { at = times.0 }; rest = tail; begins = argument.parts_at fresh times.1; shorter = omega arith })
+        | inr none ↦ inr (λ new rest begins. let given = after_at begins value tail refl in none given.times given.are)
+      ]
+      | inr stood ↦ inr (λ new rest begins. stood (after_at begins value tail refl).fresh)
+    ]
+
+by_order : (old : Settings) (tail : List (List ℕ)) → MayBegin old (codes "--order" ∷ tail)
+by_order old [] = inr (λ new rest begins. alone begins (codes "--order") refl order refl refl)
+by_order old (value ∷ tail) =
+    elim (no_cuts old.order) [
+      | inl fresh ↦ elim (parts_or_none value) [
+        | inl parts ↦ inl (record { new = record old { order = parts.0 }; rest = tail; begins = argument.order fresh parts.1; shorter = omega arith })
+        | inr none ↦ inr (λ new rest begins. let given = after_order begins value tail refl in none given.parts given.are)
+      ]
+      | inr stood ↦ inr (λ new rest begins. stood (after_order begins value tail refl).fresh)
+    ]
+
 by_bind : (old : Settings) (word : List ℕ) (tail : List (List ℕ)) → (IsOption word → ⊥) → MayBegin old (word ∷ tail)
 by_bind old word tail no_option =
     elim (known_binding (binding_spelled word)) [
@@ -261,7 +330,13 @@ begun_or_none old (word ∷ tail) =
             | inl e ↦ at (codes "--upto") (by_upto old tail) e
             | inr no_upto ↦ elim (same_bytes word (codes "--save")) [
               | inl e ↦ at (codes "--save") (by_save old tail) e
-              | inr no_save ↦ by_bind old word tail (not_option word no_plain no_end no_cut no_upto no_save)
+              | inr no_save ↦ elim (same_bytes word (codes "--at")) [
+                | inl e ↦ at (codes "--at") (by_at old tail) e
+                | inr no_at ↦ elim (same_bytes word (codes "--order")) [
+                  | inl e ↦ at (codes "--order") (by_order old tail) e
+                  | inr no_order ↦ by_bind old word tail (not_option word no_plain no_end no_cut no_upto no_save no_at no_order)
+                ]
+              ]
             ]
           ]
         ]
@@ -352,17 +427,6 @@ module _ (name file : List ℕ) (rest : List (List ℕ)) where
       ]
 
 -- `try`
-natural_of : (greatest : ℕ) (word : List ℕ) (z : ℤ) → IsNumber (pos 0) (pos greatest) word z → (n : ℕ) × IsNumber (pos 0) (pos greatest) word (pos n)
-natural_of greatest word (pos n) is = (n, is)
-natural_of greatest word (negsuc n) is = absurd (omega (arith, ints, is.low))
-
-natural_or_none : (greatest : ℕ) (word : List ℕ) → Either (λ (n : ℕ). IsNumber (pos 0) (pos greatest) word (pos n))
-natural_or_none greatest word =
-    elim (number_or_none (pos 0) (pos greatest) word) [
-      | inl z ↦ inl (natural_of greatest word z.0 z.1)
-      | inr none ↦ inr (λ n is. none (pos n) is)
-    ]
-
 try_or_none : (second : List ℕ) (rest : List (List ℕ)) → Either (IsCommand (codes "try" ∷ second ∷ rest))
 try_or_none second [] = inr (λ command is.
     let a_try = only_try (codes "try" ∷ second ∷ []) command (second ∷ []) refl is in
@@ -373,8 +437,8 @@ try_or_none second (third ∷ fourth ∷ rest) = inr (λ command is.
     let same = (try_texts (codes "try") second (third ∷ fourth ∷ rest) a_try.seed a_try.count a_try.words_are).1 in
     cc)
 try_or_none second (third ∷ []) =
-    elim (natural_or_none 2147483647 second) [
-      | inl seed ↦ elim (natural_or_none 1000000 third) [
+    elim (part_or_none 2147483647 (pos 0) second) [
+      | inl seed ↦ elim (part_or_none 1000000 (pos 0) third) [
         | inl count ↦ inl (
           try seed.0 count.0,
           record {

@@ -1,13 +1,13 @@
 -- Words begin with one argument at most, and it gives one thing.
-use Rattle.std.proofs.Common.{◌≡◌, ◌≢◌, ◌==◌, ℕ, ℤ, neg_ℤ, true, false, List, [], ◌∷◌, ◌++◌, get_or, Some, None, codes, refl, sym, ap, ◌∙◌, subst, arith}
+use Rattle.std.proofs.Common.{◌≡◌, ◌≢◌, ◌==◌, ℕ, ℤ, pos, neg_ℤ, true, false, List, [], ◌∷◌, ◌++◌, get_or, Some, None, codes, refl, sym, ap, ◌∙◌, subst, arith}
 use Rattle.std.proofs.lemmas.Bool.{false≢true}
 use Rattle.std.proofs.lemmas.Bool.Decides.{nat_tests}
 use Rattle.tilt_base.specs.declared.limits.TheConstants.{T}
 use Rattle.tilt_words.specs.Arguments.{Settings, Begins, AreArguments}
 use Rattle.tilt_words.specs.Arguments as argument
 use Rattle.tilt_words.specs.Binding.{IsBinding, binding_spelled}
-use Rattle.tilt_words.specs.Number.{IsNumber, AreRising}
-use Rattle.tilt_words.proofs.Rising.{same_number, same_rising}
+use Rattle.tilt_words.specs.Number.{IsNumber, AreRising, AreUpTo}
+use Rattle.tilt_words.proofs.Listed.{same_number, same_parts, same_rising}
 
 -- a word that is an option
 pub data IsOption : List ℕ → Type 0 where
@@ -16,6 +16,8 @@ pub data IsOption : List ℕ → Type 0 where
   cut : IsOption (codes "--cut")
   upto : IsOption (codes "--upto")
   save : IsOption (codes "--save")
+  parts_at : IsOption (codes "--at")
+  order : IsOption (codes "--order")
 
 -- no option is a bind
 no_bind : {option : List ℕ} → IsOption option → (word : List ℕ) → word ≡ option → IsBinding (binding_spelled word) → ⊥
@@ -24,6 +26,8 @@ no_bind end word e is = false≢true (subst (λ w. IsBinding (binding_spelled w)
 no_bind cut word e is = false≢true (subst (λ w. IsBinding (binding_spelled w)) e is).named
 no_bind upto word e is = false≢true (subst (λ w. IsBinding (binding_spelled w)) e is).named
 no_bind save word e is = false≢true (subst (λ w. IsBinding (binding_spelled w)) e is).named
+no_bind parts_at word e is = false≢true (subst (λ w. IsBinding (binding_spelled w)) e is).named
+no_bind order word e is = false≢true (subst (λ w. IsBinding (binding_spelled w)) e is).named
 
 -- the third byte of the first word, in which the options differ
 abbrev third : List (List ℕ) → ℕ
@@ -33,11 +37,11 @@ third (word ∷ words) = get_or word 2 0
 clash : {words others : List (List ℕ)} → words ≡ others → (third words == third others) ≡ false → ⊥
 clash {words} {others} e differ = let same : third words ≡ third others = ap third e in grind (arith, nat_tests)
 
--- what `--cut` and `--upto` give
+-- what `--cut`, `--upto`, `--at` and `--order` give
 pub record GivesCuts (old new : Settings) (value : List ℕ) (rest tail : List (List ℕ)) : Type 0 where
   pub fresh : old.cuts ≡ []
   pub times : List ℤ
-  pub are : AreRising (neg_ℤ T) T value times
+  pub are : AreRising (pos 0) (neg_ℤ T) T value times
   pub gives : new ≡ record old { cuts = times }
   pub rests : rest ≡ tail
 
@@ -46,6 +50,20 @@ pub record GivesUpto (old new : Settings) (value : List ℕ) (rest tail : List (
   pub time : ℤ
   pub is : IsNumber (neg_ℤ T) T value time
   pub gives : new ≡ record old { upto = Some time }
+  pub rests : rest ≡ tail
+
+pub record GivesAt (old new : Settings) (value : List ℕ) (rest tail : List (List ℕ)) : Type 0 where
+  pub fresh : old.at ≡ []
+  pub times : List ℤ
+  pub are : AreRising (pos 1) (neg_ℤ T) T value times
+  pub gives : new ≡ record old { at = times }
+  pub rests : rest ≡ tail
+
+pub record GivesOrder (old new : Settings) (value : List ℕ) (rest tail : List (List ℕ)) : Type 0 where
+  pub fresh : old.order ≡ []
+  pub parts : List ℕ
+  pub are : AreUpTo 4294967295 value parts
+  pub gives : new ≡ record old { order = parts }
   pub rests : rest ≡ tail
 
 -- what words give that begin with an option
@@ -57,6 +75,8 @@ after_plain (argument.end fresh) tail e = absurd (clash e refl)
 after_plain (argument.cut fresh are) tail e = absurd (clash e refl)
 after_plain (argument.upto fresh is) tail e = absurd (clash e refl)
 after_plain (argument.save fresh some) tail e = absurd (clash e refl)
+after_plain (argument.parts_at fresh are) tail e = absurd (clash e refl)
+after_plain (argument.order fresh are) tail e = absurd (clash e refl)
 
 pub after_end : {old new : Settings} {words rest : List (List ℕ)} → Begins old words new rest → (tail : List (List ℕ)) →
     words ≡ codes "--end" ∷ tail → (old.end ≡ false) × (new ≡ record old { end = true }) × (rest ≡ tail)
@@ -66,6 +86,8 @@ after_end (argument.end fresh) tail e = (fresh, refl, (cc))
 after_end (argument.cut fresh are) tail e = absurd (clash e refl)
 after_end (argument.upto fresh is) tail e = absurd (clash e refl)
 after_end (argument.save fresh some) tail e = absurd (clash e refl)
+after_end (argument.parts_at fresh are) tail e = absurd (clash e refl)
+after_end (argument.order fresh are) tail e = absurd (clash e refl)
 
 pub after_cut : {old new : Settings} {words rest : List (List ℕ)} → Begins old words new rest →
     (value : List ℕ) (tail : List (List ℕ)) → words ≡ codes "--cut" ∷ value ∷ tail → GivesCuts old new value rest tail
@@ -74,9 +96,11 @@ after_cut (argument.plain fresh) value tail e = absurd (clash e refl)
 after_cut (argument.end fresh) value tail e = absurd (clash e refl)
 after_cut (argument.cut {value = v} {times = ts} fresh are) value tail e =
     let same : v ≡ value = cc in
-    record { fresh = fresh; times = ts; are = subst (λ w. AreRising (neg_ℤ T) T w ts) same are; gives = refl; rests = cc }
+    record { fresh = fresh; times = ts; are = subst (λ w. AreRising (pos 0) (neg_ℤ T) T w ts) same are; gives = refl; rests = cc }
 after_cut (argument.upto fresh is) value tail e = absurd (clash e refl)
 after_cut (argument.save fresh some) value tail e = absurd (clash e refl)
+after_cut (argument.parts_at fresh are) value tail e = absurd (clash e refl)
+after_cut (argument.order fresh are) value tail e = absurd (clash e refl)
 
 pub after_upto : {old new : Settings} {words rest : List (List ℕ)} → Begins old words new rest →
     (value : List ℕ) (tail : List (List ℕ)) → words ≡ codes "--upto" ∷ value ∷ tail → GivesUpto old new value rest tail
@@ -88,6 +112,8 @@ after_upto (argument.upto {value = v} {time = z} fresh is) value tail e =
     let same : v ≡ value = cc in
     record { fresh = fresh; time = z; is = subst (λ w. IsNumber (neg_ℤ T) T w z) same is; gives = refl; rests = cc }
 after_upto (argument.save fresh some) value tail e = absurd (clash e refl)
+after_upto (argument.parts_at fresh are) value tail e = absurd (clash e refl)
+after_upto (argument.order fresh are) value tail e = absurd (clash e refl)
 
 pub after_save : {old new : Settings} {words rest : List (List ℕ)} → Begins old words new rest →
     (value : List ℕ) (tail : List (List ℕ)) → words ≡ codes "--save" ∷ value ∷ tail →
@@ -100,6 +126,34 @@ after_save (argument.upto fresh is) value tail e = absurd (clash e refl)
 after_save (argument.save {file = v} fresh some) value tail e =
     let same : v ≡ value = cc in
     (fresh, subst (λ w. w ≢ []) same some, (cc), (cc))
+after_save (argument.parts_at fresh are) value tail e = absurd (clash e refl)
+after_save (argument.order fresh are) value tail e = absurd (clash e refl)
+
+pub after_at : {old new : Settings} {words rest : List (List ℕ)} → Begins old words new rest →
+    (value : List ℕ) (tail : List (List ℕ)) → words ≡ codes "--at" ∷ value ∷ tail → GivesAt old new value rest tail
+after_at (argument.bind {word = word} is) value tail e = let heads : word ≡ codes "--at" = cc in absurd (no_bind parts_at word heads is)
+after_at (argument.plain fresh) value tail e = absurd (clash e refl)
+after_at (argument.end fresh) value tail e = absurd (clash e refl)
+after_at (argument.cut fresh are) value tail e = absurd (clash e refl)
+after_at (argument.upto fresh is) value tail e = absurd (clash e refl)
+after_at (argument.save fresh some) value tail e = absurd (clash e refl)
+after_at (argument.parts_at {value = v} {times = ts} fresh are) value tail e =
+    let same : v ≡ value = cc in
+    record { fresh = fresh; times = ts; are = subst (λ w. AreRising (pos 1) (neg_ℤ T) T w ts) same are; gives = refl; rests = cc }
+after_at (argument.order fresh are) value tail e = absurd (clash e refl)
+
+pub after_order : {old new : Settings} {words rest : List (List ℕ)} → Begins old words new rest →
+    (value : List ℕ) (tail : List (List ℕ)) → words ≡ codes "--order" ∷ value ∷ tail → GivesOrder old new value rest tail
+after_order (argument.bind {word = word} is) value tail e = let heads : word ≡ codes "--order" = cc in absurd (no_bind order word heads is)
+after_order (argument.plain fresh) value tail e = absurd (clash e refl)
+after_order (argument.end fresh) value tail e = absurd (clash e refl)
+after_order (argument.cut fresh are) value tail e = absurd (clash e refl)
+after_order (argument.upto fresh is) value tail e = absurd (clash e refl)
+after_order (argument.save fresh some) value tail e = absurd (clash e refl)
+after_order (argument.parts_at fresh are) value tail e = absurd (clash e refl)
+after_order (argument.order {value = v} {parts = ps} fresh are) value tail e =
+    let same : v ≡ value = cc in
+    record { fresh = fresh; parts = ps; are = subst (λ w. AreUpTo 4294967295 w ps) same are; gives = refl; rests = cc }
 
 -- what words give that begin with no option
 pub after_bind : {old new : Settings} {words rest : List (List ℕ)} → Begins old words new rest →
@@ -113,6 +167,8 @@ after_bind (argument.end fresh) word tail e none = let same : codes "--end" ≡ 
 after_bind (argument.cut fresh are) word tail e none = let same : codes "--cut" ≡ word = cc in absurd (none (subst IsOption same cut))
 after_bind (argument.upto fresh is) word tail e none = let same : codes "--upto" ≡ word = cc in absurd (none (subst IsOption same upto))
 after_bind (argument.save fresh some) word tail e none = let same : codes "--save" ≡ word = cc in absurd (none (subst IsOption same save))
+after_bind (argument.parts_at fresh are) word tail e none = let same : codes "--at" ≡ word = cc in absurd (none (subst IsOption same parts_at))
+after_bind (argument.order fresh are) word tail e none = let same : codes "--order" ≡ word = cc in absurd (none (subst IsOption same order))
 
 -- words begin with one argument, and give one thing with it
 pub same_begins : {old new other : Settings} {words rest others : List (List ℕ)} → Begins old words new rest →
@@ -124,13 +180,21 @@ same_begins (argument.plain {rest = rest} fresh) b = let g = after_plain b rest 
 same_begins (argument.end {rest = rest} fresh) b = let g = after_end b rest refl in (sym g.1, sym g.2)
 same_begins (argument.cut {old = old} {value = value} {rest = rest} {times = times} fresh are) b =
     let g = after_cut b value rest refl in
-    let same = same_rising T (neg_ℤ T) value times g.times are g.are in
+    let same = same_rising (pos 0) T (neg_ℤ T) value times g.times are g.are in
     (ap (λ ts. record old { cuts = ts }) same ∙ sym g.gives, sym g.rests)
 same_begins (argument.upto {old = old} {value = value} {rest = rest} {time = time} fresh is) b =
     let g = after_upto b value rest refl in
     let same = same_number (neg_ℤ T) T (neg_ℤ T) T value time g.time is g.is in
     (ap (λ z. record old { upto = Some z }) same ∙ sym g.gives, sym g.rests)
 same_begins (argument.save {file = file} {rest = rest} fresh some) b = let g = after_save b file rest refl in (sym g.2, sym g.3)
+same_begins (argument.parts_at {old = old} {value = value} {rest = rest} {times = times} fresh are) b =
+    let g = after_at b value rest refl in
+    let same = same_rising (pos 1) T (neg_ℤ T) value times g.times are g.are in
+    (ap (λ ts. record old { at = ts }) same ∙ sym g.gives, sym g.rests)
+same_begins (argument.order {old = old} {value = value} {rest = rest} {parts = parts} fresh are) b =
+    let g = after_order b value rest refl in
+    let same = same_parts 4294967295 value parts g.parts are g.are in
+    (ap (λ ps. record old { order = ps }) same ∙ sym g.gives, sym g.rests)
 
 -- none begin with an option that has a value, and have none
 pub alone : {old new : Settings} {words rest : List (List ℕ)} → Begins old words new rest → (option : List ℕ) → words ≡ option ∷ [] →
@@ -141,6 +205,8 @@ alone (argument.end fresh) option e o p q = clash e q
 alone (argument.cut fresh are) option e o p q = cc
 alone (argument.upto fresh is) option e o p q = cc
 alone (argument.save fresh some) option e o p q = cc
+alone (argument.parts_at fresh are) option e o p q = cc
+alone (argument.order fresh are) option e o p q = cc
 
 -- no words begin with none
 pub no_begins : {old new : Settings} {words rest : List (List ℕ)} → Begins old words new rest → words ≡ [] → ⊥
@@ -150,6 +216,8 @@ no_begins (argument.end fresh) e = cc
 no_begins (argument.cut fresh are) e = cc
 no_begins (argument.upto fresh is) e = cc
 no_begins (argument.save fresh some) e = cc
+no_begins (argument.parts_at fresh are) e = cc
+no_begins (argument.order fresh are) e = cc
 
 -- what no words give, and what words give behind their first argument
 pub behind_none : {old new : Settings} {words : List (List ℕ)} → AreArguments old words new → words ≡ [] → new ≡ old

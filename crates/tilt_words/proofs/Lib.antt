@@ -3,6 +3,6 @@ pub mod ArgumentsRead
 pub mod Decided
 pub mod Determined
 pub mod Fronts
+pub mod Listed
 pub mod OneCommand
-pub mod Rising
 pub mod Within

@@ -4,7 +4,7 @@ use Rattle.std.proofs.lemmas.Bool.Decides.{nat_tests}
 use Rattle.std.proofs.lemmas.Option.{same_Some, none-some}
 use Rattle.tilt_base.specs.Number.{integer_spelled}
 use Rattle.tilt_words.specs.Arguments.{no_settings, AreArguments}
-use Rattle.tilt_words.specs.Command.{Call, CommandValue, IsCommand, IsFileCommand, IsTry, call_of, run, compile, exec, explain, start, resume_upto, resume_end, pipe, watch, try}
+use Rattle.tilt_words.specs.Command.{Call, CommandValue, IsCommand, IsFileCommand, IsTry, call_of, run, compile, exec, explain, start, resume_upto, resume_end, pipe, watch, parts, try}
 use Rattle.tilt_words.proofs.Determined.{same_settings}
 
 -- the third byte of a call's first word, in which the commands differ, but `pipe` and `explain`, whose first bytes do
@@ -22,10 +22,12 @@ rebuilt call =
     else if third call == 112 then (if get_or call.name 0 0 == 112 then pipe file s.binds s.plain else explain file)
     else if third call == 97 then start file s.binds s.plain (unwrap_or s.upto (pos 0)) (unwrap_or s.save [])
     else if third call == 115 then (if s.end then resume_end file s.binds s.plain else resume_upto file s.binds s.plain (unwrap_or s.upto (pos 0)) (unwrap_or s.save []))
+    else if third call == 114 then parts file s.binds s.plain s.at s.order
     else watch file s.binds s.plain
 
 pub rebuilt_same : (command : CommandValue) (call : Call) → call_of command ≡ Some call → rebuilt call ≡ command
 rebuilt_same (try seed count) call e = absurd (none-some call e)
+rebuilt_same (parts query binds plain [] order) call e = absurd (none-some call e)
 rebuilt_same command call e = ap rebuilt (sym (same_Some _ call e))
 
 -- a call isn't that of `try`
@@ -34,6 +36,7 @@ clash {name} {other} e differ = let same : get_or name 2 0 ≡ get_or other 2 0 
 
 no_try : (command : CommandValue) (call : Call) → call_of command ≡ Some call → call.name ≡ codes "try" → ⊥
 no_try (try seed count) call e name = none-some call e
+no_try (parts query binds plain [] order) call e name = none-some call e
 no_try command call e name = clash (ap (λ c. c.name) (same_Some _ call e) ∙ name) refl
 
 -- a command is one with a file, or it is `try`

@@ -1,17 +1,28 @@
 -- The numbers of a command lie between their bounds.
-use Rattle.std.proofs.Common.{◌≡◌, ℕ, ℤ, neg_ℤ, ◌≤ℤ◌, List, [], ◌∷◌, Some, sym, ap, subst, arith}
+use Rattle.std.proofs.Common.{◌≡◌, ℕ, ℤ, pos, neg_ℤ, ◌≤ℤ◌, List, [], ◌∷◌, Some, sym, ap, subst, arith}
 use Rattle.std.proofs.lemmas.Int.{ints}
+use Rattle.std.specs.Prelude.{◌+ℤ◌}
 use Rattle.std.proofs.lemmas.Option.{same_Some, none-some}
 use Rattle.tilt_base.specs.declared.limits.TheConstants.{T}
 use Rattle.tilt_words.specs.Arguments.{Settings, no_settings, Begins, AreArguments}
 use Rattle.tilt_words.specs.Arguments as argument
-use Rattle.tilt_words.specs.Command.{Call, CommandValue, IsCommand, IsFileCommand, IsWithin, run, start, resume_upto, try}
-use Rattle.tilt_words.specs.Number.{AreRising, RiseFrom, after_comma}
+use Rattle.tilt_words.specs.Command.{Call, CommandValue, IsCommand, IsFileCommand, IsWithin, run, start, resume_upto, parts, try}
+use Rattle.tilt_words.specs.Number.{AreRising, ClimbFrom, RiseFrom, after_comma}
 
-rises : (least greatest : ℤ) (word : List ℕ) (numbers : List ℤ) → AreRising least greatest word numbers → RiseFrom least greatest numbers
-rises least greatest word [] are = absurd are
-rises least greatest word (number ∷ []) is = (is.low, is.high, tt)
-rises least greatest word (number ∷ next ∷ more) are = (are.0.low, are.0.high, rises number greatest (after_comma word) (next ∷ more) are.1)
+rises : (low least greatest : ℤ) (word : List ℕ) (numbers : List ℤ) → low ≤ℤ least → AreRising (pos 0) least greatest word numbers → RiseFrom low greatest numbers
+rises low least greatest word [] above are = absurd are
+rises low least greatest word (number ∷ []) above is = (let from = is.low in omega (arith, ints), is.high, tt)
+rises low least greatest word (number ∷ next ∷ more) above are = (
+  let from = are.0.low in omega (arith, ints),
+  are.0.high,
+  rises number (number +ℤ pos 0) greatest (after_comma word) (next ∷ more) (omega (arith, ints)) are.1,
+)
+
+climbs : (least greatest : ℤ) (word : List ℕ) (numbers : List ℤ) → AreRising (pos 1) least greatest word numbers → ClimbFrom least greatest numbers
+climbs least greatest word [] are = absurd are
+climbs least greatest word (number ∷ []) is = (is.low, is.high, tt)
+climbs least greatest word (number ∷ next ∷ more) are =
+    (are.0.low, are.0.high, climbs (number +ℤ pos 1) greatest (after_comma word) (next ∷ more) are.1)
 
 abbrev IsTime : ℤ → Type 0
 IsTime time = (neg_ℤ T ≤ℤ time) × (time ≤ℤ T)
@@ -20,19 +31,23 @@ IsTime time = (neg_ℤ T ≤ℤ time) × (time ≤ℤ T)
 record AreWithin (settings : Settings) : Type 0 where
   cuts : RiseFrom (neg_ℤ T) T settings.cuts
   upto : (time : ℤ) → settings.upto ≡ Some time → IsTime time
+  at : ClimbFrom (neg_ℤ T) T settings.at
 
 none_within : AreWithin no_settings
-none_within = record { cuts = tt; upto = λ time e. absurd (none-some time e) }
+none_within = record { cuts = tt; upto = λ time e. absurd (none-some time e); at = tt }
 
 one_within : {old new : Settings} {words rest : List (List ℕ)} → Begins old words new rest → AreWithin old → AreWithin new
-one_within (argument.bind is) before = record { cuts = before.cuts; upto = before.upto }
-one_within (argument.plain fresh) before = record { cuts = before.cuts; upto = before.upto }
-one_within (argument.end fresh) before = record { cuts = before.cuts; upto = before.upto }
+one_within (argument.bind is) before = record { cuts = before.cuts; upto = before.upto; at = before.at }
+one_within (argument.plain fresh) before = record { cuts = before.cuts; upto = before.upto; at = before.at }
+one_within (argument.end fresh) before = record { cuts = before.cuts; upto = before.upto; at = before.at }
 one_within (argument.cut {value = value} {times = times} fresh are) before =
-    record { cuts = rises (neg_ℤ T) T value times are; upto = before.upto }
+    record { cuts = rises (neg_ℤ T) (neg_ℤ T) T value times (omega (arith, ints)) are; upto = before.upto; at = before.at }
 one_within (argument.upto {time = time} fresh is) before =
-    record { cuts = before.cuts; upto = λ other e. subst IsTime (same_Some time other e) (is.low, is.high) }
-one_within (argument.save fresh some) before = record { cuts = before.cuts; upto = before.upto }
+    record { cuts = before.cuts; upto = λ other e. subst IsTime (same_Some time other e) (is.low, is.high); at = before.at }
+one_within (argument.save fresh some) before = record { cuts = before.cuts; upto = before.upto; at = before.at }
+one_within (argument.parts_at {value = value} {times = times} fresh are) before =
+    record { cuts = before.cuts; upto = before.upto; at = climbs (neg_ℤ T) T value times are }
+one_within (argument.order fresh are) before = record { cuts = before.cuts; upto = before.upto; at = before.at }
 
 all_within : {old new : Settings} {words : List (List ℕ)} → AreArguments old words new → AreWithin old → AreWithin new
 all_within argument.none before = before
@@ -52,5 +67,9 @@ within words (start query binds plain upto save) is =
 within words (resume_upto file binds plain upto save) is =
     let same = same_Some _ is.call is.call_is in
     (call_within words (resume_upto file binds plain upto save) is).upto upto (ap (λ (c : Call). c.settings.upto) (sym same))
+within words (parts query binds plain [] order) is = tt
+within words (parts query binds plain (first ∷ later) order) is =
+    let same = same_Some _ is.call is.call_is in
+    subst (λ (c : Call). ClimbFrom (neg_ℤ T) T c.settings.at) (sym same) (call_within words (parts query binds plain (first ∷ later) order) is).at
 within words (try seed count) is = (omega (arith, ints, is.is_seed.high), omega (arith, ints, is.is_count.high))
 within words command is = tt

@@ -1,8 +1,8 @@
 -- The words behind a command's file: binds and options, in any order (our own rule).
-use Rattle.std.specs.Prelude.{◌≡◌, ◌≢◌, ℕ, ℤ, neg_ℤ, Bool, true, false, List, [], ◌∷◌, ◌++◌, Option, None, Some, codes}
+use Rattle.std.specs.Prelude.{◌≡◌, ◌≢◌, ℕ, ℤ, pos, neg_ℤ, Bool, true, false, List, [], ◌∷◌, ◌++◌, Option, None, Some, codes}
 use Rattle.tilt_base.specs.declared.limits.TheConstants.{T}
 use Rattle.tilt_words.specs.Binding.{Binding, IsBinding, binding_spelled}
-use Rattle.tilt_words.specs.Number.{IsNumber, AreRising}
+use Rattle.tilt_words.specs.Number.{IsNumber, AreRising, AreUpTo}
 
 -- what the words give a command besides its file
 pub record Settings : Type 0 where
@@ -18,10 +18,14 @@ pub record Settings : Type 0 where
   pub upto : Option ℤ
   -- the file of `--save`
   pub save : Option (List ℕ)
+  -- the numbers of `--at`, of which there is none where it doesn't stand
+  pub at : List ℤ
+  -- the numbers of `--order`, of which there is none where it doesn't stand
+  pub order : List ℕ
 
 -- what no words give
 abbrev pub no_settings : Settings
-no_settings = record { binds = []; plain = false; end = false; cuts = []; upto = None; save = None }
+no_settings = record { binds = []; plain = false; end = false; cuts = []; upto = None; save = None; at = []; order = [] }
 
 -- The words begin with an argument and go on with the rest; the words before gave `old`, and with the argument they give `new`.
 -- An option stands only where it didn't stand before.
@@ -36,14 +40,20 @@ pub data Begins : (old : Settings) (words : List (List ℕ)) (new : Settings) (r
   end : {old : Settings} {rest : List (List ℕ)} → old.end ≡ false →
       Begins old (codes "--end" ∷ rest) (record old { end = true }) rest
   -- `--cut TIME,TIME ..`, none below the one before it
-  cut : {old : Settings} {value : List ℕ} {rest : List (List ℕ)} {times : List ℤ} → old.cuts ≡ [] → AreRising (neg_ℤ T) T value times →
-      Begins old (codes "--cut" ∷ value ∷ rest) (record old { cuts = times }) rest
+  cut : {old : Settings} {value : List ℕ} {rest : List (List ℕ)} {times : List ℤ} → old.cuts ≡ []
+      → AreRising (pos 0) (neg_ℤ T) T value times → Begins old (codes "--cut" ∷ value ∷ rest) (record old { cuts = times }) rest
   -- `--upto TIME`
   upto : {old : Settings} {value : List ℕ} {rest : List (List ℕ)} {time : ℤ} → old.upto ≡ None → IsNumber (neg_ℤ T) T value time →
       Begins old (codes "--upto" ∷ value ∷ rest) (record old { upto = Some time }) rest
   -- `--save FILE`
   save : {old : Settings} {file : List ℕ} {rest : List (List ℕ)} → old.save ≡ None → file ≢ [] →
       Begins old (codes "--save" ∷ file ∷ rest) (record old { save = Some file }) rest
+  -- `--at TIME,TIME ..`, each above the one before it
+  parts_at : {old : Settings} {value : List ℕ} {rest : List (List ℕ)} {times : List ℤ} → old.at ≡ []
+      → AreRising (pos 1) (neg_ℤ T) T value times → Begins old (codes "--at" ∷ value ∷ rest) (record old { at = times }) rest
+  -- `--order PART,PART ..`
+  order : {old : Settings} {value : List ℕ} {rest : List (List ℕ)} {parts : List ℕ} → old.order ≡ []
+      → AreUpTo 4294967295 value parts → Begins old (codes "--order" ∷ value ∷ rest) (record old { order = parts }) rest
 
 -- the words are arguments, one after another; the words before them gave `old`, and with them they give `new`
 pub data AreArguments : (old : Settings) (words : List (List ℕ)) (new : Settings) → Type 0 where

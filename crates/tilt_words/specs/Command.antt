@@ -7,7 +7,7 @@ use Rattle.tilt_words.specs.declared.command.Command.{Command}
 use Rattle.tilt_words.specs.declared.command.Command.TheVariants as variant
 use Rattle.tilt_words.specs.Arguments.{Settings, no_settings, AreArguments}
 use Rattle.tilt_words.specs.Binding.{Binding, bindings_of}
-use Rattle.tilt_words.specs.Number.{IsNumber, RiseFrom}
+use Rattle.tilt_words.specs.Number.{IsNumber, RiseFrom, ClimbFrom}
 
 -- the bytes of each word
 abbrev pub texts : List (String Global) → List (List ℕ)
@@ -24,6 +24,7 @@ pub data CommandValue : Type 0 where
   resume_end : (checkpoint : List ℕ) (binds : List Binding) (plain : Bool) → CommandValue
   pipe : (query : List ℕ) (binds : List Binding) (plain : Bool) → CommandValue
   watch : (query : List ℕ) (binds : List Binding) (plain : Bool) → CommandValue
+  parts : (query : List ℕ) (binds : List Binding) (plain : Bool) (at : List ℤ) (order : List ℕ) → CommandValue
   try : (seed count : ℕ) → CommandValue
 
 -- a command's first word, its file, and what else it is given
@@ -64,6 +65,13 @@ call_of (pipe query binds plain) =
     Some (record { name = codes "pipe"; file = query; settings = record no_settings { binds = binds; plain = plain } })
 call_of (watch query binds plain) =
     Some (record { name = codes "watch"; file = query; settings = record no_settings { binds = binds; plain = plain } })
+call_of (parts query binds plain [] order) = None
+call_of (parts query binds plain (first ∷ later) order) =
+    Some (record {
+      name = codes "parts";
+      file = query;
+      settings = record no_settings { binds = binds; plain = plain; at = first ∷ later; order = order };
+    })
 call_of (try seed count) = None
 
 -- a file that may stand behind a command's first word: not empty, and it doesn't begin with `--`
@@ -102,6 +110,7 @@ is_plain (resume_upto checkpoint binds plain upto save) = plain
 is_plain (resume_end checkpoint binds plain) = plain
 is_plain (pipe query binds plain) = plain
 is_plain (watch query binds plain) = plain
+is_plain (parts query binds plain at order) = plain
 is_plain command = false
 
 -- the numbers of a command lie between their bounds, and its cuts are in order
@@ -109,6 +118,7 @@ abbrev pub IsWithin : CommandValue → Type 0
 IsWithin (run query binds plain cuts) = RiseFrom (neg_ℤ T) T cuts
 IsWithin (start query binds plain upto save) = (neg_ℤ T ≤ℤ upto) × (upto ≤ℤ T)
 IsWithin (resume_upto checkpoint binds plain upto save) = (neg_ℤ T ≤ℤ upto) × (upto ≤ℤ T)
+IsWithin (parts query binds plain at order) = ClimbFrom (neg_ℤ T) T at
 IsWithin (try seed count) = (seed ≤ 2147483647) × (count ≤ 1000000)
 IsWithin command = ⊤
 
@@ -125,4 +135,5 @@ command_of (variant.ResumeUpto file binds plain upto save) =
 command_of (variant.ResumeEnd file binds plain) = resume_end (string_bytes file) (bindings_of binds.items) plain
 command_of (variant.Pipe query binds plain) = pipe (string_bytes query) (bindings_of binds.items) plain
 command_of (variant.Watch query binds plain) = watch (string_bytes query) (bindings_of binds.items) plain
+command_of (variant.Parts query binds plain at order) = parts (string_bytes query) (bindings_of binds.items) plain at.items order.items
 command_of (variant.Try seed count) = try seed count

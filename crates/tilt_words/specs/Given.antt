@@ -16,6 +16,8 @@ settings_of arguments = record {
   cuts = arguments.cuts.items;
   upto = arguments.upto;
   save = option_map (λ s. string_bytes s) arguments.save;
+  at = arguments.at.items;
+  order = arguments.order.items;
 }
 
 -- the call with this first word, this file and these arguments

@@ -1,16 +1,16 @@
 // The words behind a command's file.
 ghost use Rattle.std.specs.Prelude.{◌≡◌, ◌≢◌, ◌<◌, ◌≤◌, ◌++◌, ◌∷◌, ℕ, ℤ};
-ghost use Rattle.std.specs.Prelude.{List, [], true, false, None, Some, neg_ℤ, length, drop, string_bytes, MatchResult};
+ghost use Rattle.std.specs.Prelude.{List, [], true, false, None, Some, pos, neg_ℤ, length, drop, string_bytes, MatchResult};
 ghost use Rattle.tilt_base.specs.declared.limits.TheConstants.{T};
 ghost use Rattle.tilt_words.specs.Arguments.{AreArguments, Begins, Settings, no_settings};
 ghost use Rattle.tilt_words.specs.Binding.{IsBinding, binding_spelled};
 ghost use Rattle.tilt_words.specs.Command.{texts};
 ghost use Rattle.tilt_words.specs.Given.{settings_of};
-ghost use Rattle.tilt_words.specs.Number.{AreRising, IsNumber};
+ghost use Rattle.tilt_words.specs.Number.{AreRising, AreUpTo, IsNumber};
 
 use crate::bind::Bind;
 use crate::fault::WordsFault;
-use crate::number::{read_rising, read_within};
+use crate::number::{read_numbers, read_rising, read_within};
 use std::alloc::Global;
 use tilt_base::T;
 
@@ -24,6 +24,10 @@ pub(crate) struct Arguments {
     pub(crate) cuts: Vec<i64>,
     pub(crate) upto: Option<i64>,
     pub(crate) save: Option<String>,
+    // Empty where `--at` doesn't stand.
+    pub(crate) at: Vec<i64>,
+    // Empty where `--order` doesn't stand.
+    pub(crate) order: Vec<u32>,
 }
 
 impl Arguments {
@@ -52,7 +56,17 @@ impl Arguments {
             cuts: Vec::new(alloc),
             upto: None,
             save: None,
+            at: Vec::new(alloc),
+            order: Vec::new(alloc),
         }
+    }
+
+    // Whether `--at` or `--order` stands.
+    pub(crate) fn has_parts(&self) -> bool
+        ensures none { result ≡ false → (self.now.at.items ≡ []) × (self.now.order.items ≡ []) }
+        ensures some { result ≡ true → self.now.at.items ≡ [] → self.now.order.items ≢ [] }
+    {
+        !self.at.is_empty() || !self.order.is_empty()
     }
 
     // Takes the argument with which the words begin, and answers how many words it has.
@@ -84,6 +98,14 @@ impl Arguments {
             }
             "--save" => {
                 self.take_save(alloc, value(rest)?)?;
+                Ok(2)
+            }
+            "--at" => {
+                self.take_at(alloc, value(rest)?)?;
+                Ok(2)
+            }
+            "--order" => {
+                self.take_order(alloc, value(rest)?)?;
                 Ok(2)
             }
             word => {
@@ -134,15 +156,15 @@ impl Arguments {
     // Notes the value of `--cut`, where it didn't stand before.
     fn take_cuts(&mut self, alloc: Global, value: &str) -> Result<(), WordsFault>
         ensures { MatchResult result
-            (λ _. (self.old.cuts.items ≡ []) × AreRising (neg_ℤ T) T value.now self.new.cuts.items
+            (λ _. (self.old.cuts.items ≡ []) × AreRising (pos 0) (neg_ℤ T) T value.now self.new.cuts.items
             × (settings_of self.new ≡ record (settings_of self.old) { cuts = self.new.cuts.items }))
             (λ fault. fault ≡ WordsFault.Usage → self.old.cuts.items ≡ [] →
-            (times : List ℤ) → ¬ (AreRising (neg_ℤ T) T value.now times)) }
+            (times : List ℤ) → ¬ (AreRising (pos 0) (neg_ℤ T) T value.now times)) }
     {
         if !self.cuts.is_empty() {
             return Err(WordsFault::Usage);
         }
-        self.cuts = read_rising(alloc, value)?;
+        self.cuts = read_rising(alloc, value, 0)?;
         Ok(())
     }
 
@@ -173,6 +195,36 @@ impl Arguments {
             return Err(WordsFault::Usage);
         }
         self.save = Some(String::from_str(alloc, value)?);
+        Ok(())
+    }
+
+    // Notes the value of `--at`, where it didn't stand before.
+    fn take_at(&mut self, alloc: Global, value: &str) -> Result<(), WordsFault>
+        ensures { MatchResult result
+            (λ _. (self.old.at.items ≡ []) × AreRising (pos 1) (neg_ℤ T) T value.now self.new.at.items
+            × (settings_of self.new ≡ record (settings_of self.old) { at = self.new.at.items }))
+            (λ fault. fault ≡ WordsFault.Usage → self.old.at.items ≡ [] →
+            (times : List ℤ) → ¬ (AreRising (pos 1) (neg_ℤ T) T value.now times)) }
+    {
+        if !self.at.is_empty() {
+            return Err(WordsFault::Usage);
+        }
+        self.at = read_rising(alloc, value, 1)?;
+        Ok(())
+    }
+
+    // Notes the value of `--order`, where it didn't stand before.
+    fn take_order(&mut self, alloc: Global, value: &str) -> Result<(), WordsFault>
+        ensures { MatchResult result
+            (λ _. (self.old.order.items ≡ []) × AreUpTo 4294967295 value.now self.new.order.items
+            × (settings_of self.new ≡ record (settings_of self.old) { order = self.new.order.items }))
+            (λ fault. fault ≡ WordsFault.Usage → self.old.order.items ≡ [] →
+            (parts : List ℕ) → ¬ (AreUpTo 4294967295 value.now parts)) }
+    {
+        if !self.order.is_empty() {
+            return Err(WordsFault::Usage);
+        }
+        self.order = read_numbers(alloc, value)?;
         Ok(())
     }
 }

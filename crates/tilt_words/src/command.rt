@@ -67,6 +67,16 @@ pub enum Command {
         binds: Vec<Bind>,
         plain: bool,
     },
+    /// Run the query in parts of its output domain, in an order of steps, and join what they give.
+    Parts {
+        query: String,
+        binds: Vec<Bind>,
+        plain: bool,
+        /// The times at which the output domain is cut into parts, each above the one before it. There is one at least.
+        at: Vec<i64>,
+        /// The parts, numbered from 0, from each of which one more snapshot is taken, in this order, before the others are.
+        order: Vec<u32>,
+    },
     /// Run a fixed query on rows that are drawn from a seed.
     Try {
         /// At most 2147483647.
@@ -88,7 +98,8 @@ impl Command {
             | Command::ResumeUpto { plain, .. }
             | Command::ResumeEnd { plain, .. }
             | Command::Pipe { plain, .. }
-            | Command::Watch { plain, .. } => *plain,
+            | Command::Watch { plain, .. }
+            | Command::Parts { plain, .. } => *plain,
             Command::Exec { .. } | Command::Explain { .. } | Command::Try { .. } => false,
         }
     }
@@ -106,6 +117,7 @@ impl Command {
             "resume" => resume(file, arguments),
             "pipe" => pipe(file, arguments),
             "watch" => watch(file, arguments),
+            "parts" => parts(file, arguments),
             _ => None,
         }
     }
@@ -115,6 +127,9 @@ impl Command {
 fn run(query: String, arguments: Arguments) -> Option<Command>
     ensures { IsCalled (call_with (codes "run") query arguments) result }
 {
+    if arguments.has_parts() {
+        return None;
+    }
     match (arguments.end, arguments.upto, arguments.save) {
         (false, None, None) => Some(Command::Run {
             query,
@@ -130,7 +145,7 @@ fn run(query: String, arguments: Arguments) -> Option<Command>
 fn compile(query: String, arguments: Arguments) -> Option<Command>
     ensures { IsCalled (call_with (codes "compile") query arguments) result }
 {
-    if !arguments.binds.is_empty() || !arguments.cuts.is_empty() {
+    if arguments.has_parts() || !arguments.binds.is_empty() || !arguments.cuts.is_empty() {
         return None;
     }
     match (arguments.end, arguments.upto, arguments.save) {
@@ -146,7 +161,7 @@ fn compile(query: String, arguments: Arguments) -> Option<Command>
 fn exec(code: String, arguments: Arguments) -> Option<Command>
     ensures { IsCalled (call_with (codes "exec") code arguments) result }
 {
-    if arguments.plain || !arguments.cuts.is_empty() {
+    if arguments.has_parts() || arguments.plain || !arguments.cuts.is_empty() {
         return None;
     }
     match (arguments.end, arguments.upto, arguments.save) {
@@ -162,7 +177,10 @@ fn exec(code: String, arguments: Arguments) -> Option<Command>
 fn explain(query: String, arguments: Arguments) -> Option<Command>
     ensures { IsCalled (call_with (codes "explain") query arguments) result }
 {
-    if !arguments.binds.is_empty() || arguments.plain || !arguments.cuts.is_empty() {
+    if arguments.has_parts() || !arguments.binds.is_empty() {
+        return None;
+    }
+    if arguments.plain || !arguments.cuts.is_empty() {
         return None;
     }
     match (arguments.end, arguments.upto, arguments.save) {
@@ -175,7 +193,7 @@ fn explain(query: String, arguments: Arguments) -> Option<Command>
 fn start(query: String, arguments: Arguments) -> Option<Command>
     ensures { IsCalled (call_with (codes "start") query arguments) result }
 {
-    if !arguments.cuts.is_empty() {
+    if arguments.has_parts() || !arguments.cuts.is_empty() {
         return None;
     }
     match (arguments.end, arguments.upto, arguments.save) {
@@ -194,7 +212,7 @@ fn start(query: String, arguments: Arguments) -> Option<Command>
 fn resume(file: String, arguments: Arguments) -> Option<Command>
     ensures { IsCalled (call_with (codes "resume") file arguments) result }
 {
-    if !arguments.cuts.is_empty() {
+    if arguments.has_parts() || !arguments.cuts.is_empty() {
         return None;
     }
     match (arguments.end, arguments.upto, arguments.save) {
@@ -218,7 +236,7 @@ fn resume(file: String, arguments: Arguments) -> Option<Command>
 fn pipe(query: String, arguments: Arguments) -> Option<Command>
     ensures { IsCalled (call_with (codes "pipe") query arguments) result }
 {
-    if !arguments.cuts.is_empty() {
+    if arguments.has_parts() || !arguments.cuts.is_empty() {
         return None;
     }
     match (arguments.end, arguments.upto, arguments.save) {
@@ -235,7 +253,7 @@ fn pipe(query: String, arguments: Arguments) -> Option<Command>
 fn watch(query: String, arguments: Arguments) -> Option<Command>
     ensures { IsCalled (call_with (codes "watch") query arguments) result }
 {
-    if !arguments.cuts.is_empty() {
+    if arguments.has_parts() || !arguments.cuts.is_empty() {
         return None;
     }
     match (arguments.end, arguments.upto, arguments.save) {
@@ -243,6 +261,25 @@ fn watch(query: String, arguments: Arguments) -> Option<Command>
             query,
             binds: arguments.binds,
             plain: arguments.plain,
+        }),
+        _ => None,
+    }
+}
+
+// `parts`, with `--at`, and with `--order` and `--plain` or without.
+fn parts(query: String, arguments: Arguments) -> Option<Command>
+    ensures { IsCalled (call_with (codes "parts") query arguments) result }
+{
+    if arguments.at.is_empty() || !arguments.cuts.is_empty() {
+        return None;
+    }
+    match (arguments.end, arguments.upto, arguments.save) {
+        (false, None, None) => Some(Command::Parts {
+            query,
+            binds: arguments.binds,
+            plain: arguments.plain,
+            at: arguments.at,
+            order: arguments.order,
         }),
         _ => None,
     }

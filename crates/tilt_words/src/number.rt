@@ -1,7 +1,7 @@
 // Numbers within bounds.
-ghost use Rattle.std.specs.Prelude.{◌≡◌, ◌++◌, ◌∷◌, [], ◌≤ℤ◌, neg_ℤ, List, ℤ, pos, MatchOption, MatchResult};
+ghost use Rattle.std.specs.Prelude.{◌≡◌, ◌++◌, ◌∷◌, [], ◌+ℤ◌, ◌≤ℤ◌, neg_ℤ, List, ℕ, ℤ, pos, MatchOption, MatchResult};
 ghost use Rattle.tilt_base.specs.declared.limits.TheConstants.{T};
-ghost use Rattle.tilt_words.specs.Number.{AreRising, IsNumber};
+ghost use Rattle.tilt_words.specs.Number.{AreRising, AreUpTo, IsNumber};
 
 use crate::fault::WordsFault;
 use std::alloc::Global;
@@ -30,30 +30,61 @@ pub(crate) fn read_up_to(word: &str, greatest: u32) -> Option<u32>
     u32::try_from(number).ok()
 }
 
-// The times that the word spells, one or more with commas between them, none below the one before it.
-pub(crate) fn read_rising(alloc: Global, word: &str) -> Result<Vec<i64>, WordsFault>
+// The times that the word spells, one or more with commas between them, each no less than so many ticks after the one before it.
+pub(crate) fn read_rising(alloc: Global, word: &str, apart: i64) -> Result<Vec<i64>, WordsFault>
+    requires { (pos 0 ≤ℤ apart) × (apart ≤ℤ pos 1) }
     ensures { MatchResult result
-        (λ times. AreRising (neg_ℤ T) T word.now times.items)
-        (λ fault. fault ≡ WordsFault.Usage → (times : List ℤ) → ¬ (AreRising (neg_ℤ T) T word.now times)) }
+        (λ times. AreRising apart (neg_ℤ T) T word.now times.items)
+        (λ fault. fault ≡ WordsFault.Usage → (times : List ℤ) → ¬ (AreRising apart (neg_ℤ T) T word.now times)) }
 {
     let mut times = Vec::new(alloc);
     let mut least = -T;
     let mut rest = word;
     while let Some((piece, behind)) = rest.split_once(',') {
-        least = push_time(&mut times, piece, least)?;
+        least = push_time(&mut times, piece, least, apart)?;
         rest = behind;
     }
-    push_time(&mut times, rest, least)?;
+    push_time(&mut times, rest, least, apart)?;
     Ok(times)
 }
 
-// Adds the time that the word spells, where it isn't below the least, and answers it.
-fn push_time(times: &mut Vec<i64>, word: &str, least: i64) -> Result<i64, WordsFault>
+// Adds the time that the word spells, where it isn't below the least, and answers the least that may come after it.
+fn push_time(times: &mut Vec<i64>, word: &str, least: i64, apart: i64) -> Result<i64, WordsFault>
+    requires { (pos 0 ≤ℤ apart) × (apart ≤ℤ pos 1) }
     ensures { MatchResult result
-        (λ time. IsNumber least T word.now time × (times.new.items ≡ times.old.items ++ time ∷ []))
+        (λ next. (time : ℤ) × IsNumber least T word.now time × (times.new.items ≡ times.old.items ++ time ∷ [])
+        × (next ≡ time +ℤ apart))
         (λ fault. fault ≡ WordsFault.Usage → (time : ℤ) → ¬ (IsNumber least T word.now time)) }
 {
     let time = read_within(word, least, T).ok_or(WordsFault::Usage)?;
     times.push(time)?;
-    Ok(time)
+    Ok(time + apart)
+}
+
+// The numbers of 32 bits that the word spells, one or more with commas between them.
+pub(crate) fn read_numbers(alloc: Global, word: &str) -> Result<Vec<u32>, WordsFault>
+    ensures { MatchResult result
+        (λ numbers. AreUpTo 4294967295 word.now numbers.items)
+        (λ fault. fault ≡ WordsFault.Usage → (numbers : List ℕ) → ¬ (AreUpTo 4294967295 word.now numbers)) }
+{
+    let mut numbers = Vec::new(alloc);
+    let mut rest = word;
+    while let Some((piece, behind)) = rest.split_once(',') {
+        push_number(&mut numbers, piece)?;
+        rest = behind;
+    }
+    push_number(&mut numbers, rest)?;
+    Ok(numbers)
+}
+
+// Adds the number that the word spells.
+fn push_number(numbers: &mut Vec<u32>, word: &str) -> Result<(), WordsFault>
+    ensures { MatchResult result
+        (λ _. (number : ℕ) × IsNumber (pos 0) (pos 4294967295) word.now (pos number)
+        × (numbers.new.items ≡ numbers.old.items ++ number ∷ []))
+        (λ fault. fault ≡ WordsFault.Usage → (number : ℕ) → ¬ (IsNumber (pos 0) (pos 4294967295) word.now (pos number))) }
+{
+    let number = read_up_to(word, u32::MAX).ok_or(WordsFault::Usage)?;
+    numbers.push(number)?;
+    Ok(())
 }

@@ -31,6 +31,22 @@ pub watch-requires : goal.watch-requires
 watch-requires g c =
     λ name turn. c.requires.lent [] name (rw c.in-Watch.is (rw (c.deref-in-Watch.ensures, c.deref-in-Watch-2.ensures.value) at turn))
 
+pub parts-requires-clause-lent : goal.parts-requires-clause-lent
+parts-requires-clause-lent g c =
+    λ name turn. c.requires.lent [] name (rw c.in-Parts.is (rw (
+      c.division.ensures.cuts,
+      c.division.ensures.order,
+      c.deref-in-Parts.ensures,
+      c.deref-in-Parts-2.ensures.value,
+      c.deref-in-Parts-3.ensures.value,
+      c.deref-in-Parts-4.ensures.value,
+    ) at turn))
+
+pub parts-requires-clause-cuts : goal.parts-requires-clause-cuts
+parts-requires-clause-cuts g c =
+    let within = rw c.in-Parts.is at c.requires.within in
+    rw (c.division.ensures.cuts, c.deref-in-Parts-3.ensures.value) within
+
 pub start_session-requires-clause-lent : goal.start_session-requires-clause-lent
 start_session-requires-clause-lent g c =
     let within = rw c.in-Start.is at c.requires.within in
