@@ -1,16 +1,28 @@
 -- The names that the words bind, one after another.
-use Rattle.std.proofs.Common.{◌≡◌, inl, inr, ℕ, suc, true, List, [], ◌∷◌, ◌++◌, take, drop, refl, sym, ap, subst, ◌∙◌, arith, Option, Some, None, Contains}
+use Rattle.std.proofs.Common.{◌≡◌, ◌<◌, inl, inr, ℕ, zero, suc, get_or, length, slice_index_or, true, List, [], ◌∷◌, ◌++◌, take, drop, map, refl, sym, ap, subst, ◌∙◌, arith, Option, Some, None, Contains}
 use Rattle.std.specs.Str.{bytes_eq}
 use Rattle.std.proofs.lemmas.Bool.{cases_Bool, false≢true}
 use Rattle.tilt_base.proofs.Comparisons.{bytes_same}
 use Rattle.tilt_words.specs.Binding.{Binding, bindings_of}
+use Rattle.tilt_words.specs.Upto.{cut_bindings_of}
 use Rattle.tilt_words.specs.declared.bind.Bind.{Bind}
+use Rattle.tilt_words.specs.declared.cut_bind.CutBind.{CutBind}
+use Rattle.tilt_load.specs.InputCuts.{names_cut}
 use Rattle.tilt_load.specs.Inputs.{is_among, bound_names, first_unexpected, first_unbound, first_of_two, file_of, faulty_name}
 
 -- the first unexpected name is looked for behind this place, and those before it are the names before this place
-pub record IsBehind (declared : List (List ℕ)) (words : List Bind) (before : List (List ℕ)) (place : ℕ) : Type 0 where
-  pub same : first_unexpected declared before (bound_names (bindings_of (drop place words))) ≡ first_unexpected declared [] (bound_names (bindings_of words))
-  pub among : (name : List ℕ) → is_among name before ≡ is_among name (bound_names (bindings_of (take place words)))
+pub record IsBehind {A : Type 0} (named : A → List ℕ) (declared : List (List ℕ)) (words : List A) (before : List (List ℕ)) (place : ℕ) : Type 0 where
+  pub same : first_unexpected declared before (map named (drop place words)) ≡ first_unexpected declared [] (map named words)
+  pub among : (name : List ℕ) → is_among name before ≡ is_among name (map named (take place words))
+
+-- the names of binds, taken at once
+pub names-bound : (binds : List Bind) → map (λ (b : Bind). b.name) binds ≡ bound_names (bindings_of binds)
+names-bound [] = refl
+names-bound (b ∷ binds) = ap (λ (ns : List (List ℕ)). b.name ∷ ns) (names-bound binds)
+
+pub names-cut : (binds : List CutBind) → map (λ (b : CutBind). b.name) binds ≡ names_cut (cut_bindings_of binds)
+names-cut [] = refl
+names-cut (b ∷ binds) = ap (λ (ns : List (List ℕ)). b.name ∷ ns) (names-cut binds)
 
 -- where no name is faulty, a file is bound to each declared name
 file_among : (binds : List Binding) (name : List ℕ) → is_among name (bound_names binds) ≡ true → Contains binds (record { name = name; file = file_of binds name })
@@ -51,3 +63,10 @@ pub bound_file : (declared : List (List ℕ)) (binds : List Binding) (name : Lis
 bound_file declared binds name before after none place =
     let unbound = unbound_none_of_two (first_unexpected declared [] (bound_names binds)) (first_unbound (bound_names binds) declared) none in
     file_among binds name (unbound_none (bound_names binds) name before after (ap (first_unbound (bound_names binds)) (sym place) ∙ unbound))
+
+-- the name at a place
+pub name_at : (names : List (List ℕ)) (place : ℕ) (default name : List ℕ) → place < length names → name ≡ get_or names place name
+    → slice_index_or names place default ≡ name
+name_at [] place default name low is = absurd (omega (arith, low))
+name_at (first ∷ names) zero default name low is = sym is
+name_at (first ∷ names) (suc place) default name low is = name_at names place default name (omega (arith, low)) is

@@ -1,4 +1,5 @@
 pub mod FileCommands
+pub mod GivenCuts
 pub mod InputNames
 pub mod InputRows
 pub mod Loads

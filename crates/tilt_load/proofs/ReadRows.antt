@@ -1,6 +1,6 @@
 -- The rows that are read of inputs are in order, their numbers are of 64 bits, and they start within the bounds.
 use Rattle.std.proofs.Common.{◌≡◌, ◌+◌, Bool, true, false, if◌then◌else◌, ℕ, suc, ℤ, neg_ℤ, List, [], ◌∷◌, ◌++◌, length, Option}
-use Rattle.std.proofs.Common.{Some, None, Result, Ok, Err, FitsSigned, w64, refl, ap, subst, sym, arith}
+use Rattle.std.proofs.Common.{Some, None, Result, Ok, Err, refl, ap, subst, sym, arith}
 use Rattle.std.specs.Prelude.{◌≤ℤ◌, ◌<ℤ◌, not, ◌&&◌, int_le, nat_eq, nat_lt, option_map}
 use Rattle.std.specs.List.{AllByRecursion, starts_with}
 use Rattle.std.specs.Option.{ForSome, ok_or}
@@ -14,7 +14,7 @@ use Rattle.tilt_checkpoint.specs.Valid.{IsCell}
 use Rattle.tilt_load.proofs.InputRows.{both_taken}
 use Rattle.tilt_load.proofs.Within.{bind_ok, passed, not_below, no_fault, same_list, unless_bad, where_good, series_within}
 use Rattle.tilt_load.specs.Inputs.{file_of}
-use Rattle.tilt_load.specs.SeriesFiles.{AreWithin, input_read, inputs_read, named, with_rows, TakesSession}
+use Rattle.tilt_load.specs.SeriesFiles.{AreWithin, input_read, inputs_read, named, with_rows}
 use Rattle.tilt_report.specs.Report.{Reason, file_too_long, bad_checkpoint}
 use Rattle.tilt_series.specs.Series.{◌>>=◌, Bounds, byte_order_mark, fields_spelled, is_below, is_header, is_time, row_of, row_unless}
 use Rattle.tilt_series.specs.Series.{rows_behind_header, rows_of, series_of, three_of, time_fault, value_spelled}

@@ -2,6 +2,7 @@ pub mod CheckpointFile
 pub mod CodeFile
 pub mod Does
 pub mod FileCommand
+pub mod InputCuts
 pub mod Inputs
 pub mod Load
 pub mod QueryFile

@@ -1,5 +1,5 @@
 -- What the series files of inputs come to: their rows, or the first reason why an input has none.
-use Rattle.std.specs.Prelude.{◌≡◌, ◌≤ℤ◌, ◌<ℤ◌, ⊤, List, [], ◌∷◌, ◌++◌, ℕ, zero, suc, ℤ, length, nat_lt, if◌then◌else◌}
+use Rattle.std.specs.Prelude.{◌≡◌, ◌≤ℤ◌, ◌<ℤ◌, ⊤, List, [], ◌∷◌, ◌++◌, ℕ, zero, suc, ℤ, length, nat_lt, slice_get, if◌then◌else◌}
 use Rattle.std.specs.Prelude.{Option, Some, None, Result, Ok, Err}
 use Rattle.std.specs.List.{AllByRecursion}
 use Rattle.std.specs.Option.{ForSome}
@@ -22,9 +22,21 @@ kept_end [] place = None
 kept_end (k ∷ series) zero = k.last_end
 kept_end (k ∷ series) (suc place) = kept_end series place
 
--- where the rows of the input at a place may start in a session that goes on behind what was kept, from a tick on and below another
-abbrev pub session_bounds : List KeptParts → Option ℤ → Option ℤ → ℕ → Bounds
-session_bounds series from upto place = record { last_end = kept_end series place; from = from; upto = upto }
+-- the cut that was kept of it, where one was
+abbrev pub kept_cut : List KeptParts → ℕ → Option ℤ
+kept_cut [] place = None
+kept_cut (k ∷ series) zero = Some k.cut
+kept_cut (k ∷ series) (suc place) = kept_cut series place
+
+-- the cut at a place, where there are cuts
+abbrev pub cut_at : Option (List ℤ) → ℕ → Option ℤ
+cut_at None place = None
+cut_at (Some cuts) place = slice_get cuts place
+
+-- where the rows of the input at a place may start in a session that goes on after what was kept, and ends by cuts: from its old cut and
+-- its last end on, and below its new cut
+abbrev pub session_bounds : List KeptParts → Option (List ℤ) → ℕ → Bounds
+session_bounds series upto place = record { last_end = kept_end series place; from = kept_cut series place; upto = cut_at upto place }
 
 -- a row starts within the bounds
 pub record IsWithin (bounds : Bounds) (row : Snapshot) : Type 0 where

@@ -9,7 +9,8 @@ ghost use Rattle.tilt_load.specs.Sessions.{bounds_of};
 ghost use Rattle.tilt_report.specs.Report.{report_of};
 ghost use Rattle.tilt_words.specs.Binding.{bindings_of};
 
-use crate::binds::{FaultyName, faulty_name, file_bound};
+use crate::binds::{faulty_bind, file_bound};
+use crate::names::FaultyName;
 use crate::series_file::load_input;
 use crate::session::{Session, bounds_at};
 use std::alloc::{AllocError as OutOfMemory, Global};
@@ -41,7 +42,6 @@ pub fn load_inputs<'a, S: Shelf>(
 {
     let session = Session {
         kept: &[],
-        from: None,
         upto: None,
     };
     load_session_inputs(alloc, shelf, inputs, binds, &session)
@@ -80,9 +80,9 @@ fn check_names<'a>(inputs: &[Name], binds: &'a [Bind]) -> Result<(), Fault<'a>>
         (λ _. faulty_name inputs.now (bindings_of binds.now) ≡ None)
         (λ fault. IsNameFault inputs.now (bindings_of binds.now) (report_of fault)) }
 {
-    match faulty_name(inputs, binds) {
+    match faulty_bind(inputs, binds) {
         None => Ok(()),
-        Some(FaultyName::Bound(name)) => Err(Fault::Refused(Refusal::UnexpectedName(name))),
+        Some(FaultyName::Given(name)) => Err(Fault::Refused(Refusal::UnexpectedName(name))),
         Some(FaultyName::Input(place)) => {
             let name = inputs[place].copy()?;
             Err(Fault::Refused(Refusal::UnboundInput(name)))

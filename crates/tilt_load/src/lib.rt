@@ -4,20 +4,24 @@
 //! first fault. The clauses `taken` say what was read, by `specs/QueryFile`, `specs/CheckpointFile`, `specs/CodeFile` and
 //! `specs/SeriesFiles`, and the clauses `fault` why nothing was, by `specs/Load`: a read fault only where its count rose, a refusal
 //! only where it is the outcome. The clauses `given` say that each file that is taken was read once and to its end. A query comes as
-//! what the compiler accepted, with fusion or without.
+//! what the compiler accepted, with fusion or without. The clauses of `cuts_by` say which cuts the words give to the inputs of a query, by
+//! `specs/InputCuts`.
 #![tactic(auto)]
 
 mod binds;
 mod checkpoint_file;
 mod code_file;
+mod cuts;
 mod file;
 mod inputs;
+mod names;
 mod query_file;
 mod series_file;
 mod session;
 
 pub use checkpoint_file::{LoadedCheckpoint, load_checkpoint};
 pub use code_file::load_code;
+pub use cuts::cuts_by;
 pub use inputs::{load_inputs, load_session_inputs};
 pub use query_file::{LoadedQuery, load_query, read_query};
 pub use session::Session;

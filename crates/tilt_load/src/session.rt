@@ -1,6 +1,6 @@
 // Which rows a session is handed.
-ghost use Rattle.std.specs.Prelude.{◌≡◌};
-ghost use Rattle.tilt_load.specs.SeriesFiles.{kept_end};
+ghost use Rattle.std.specs.Prelude.{◌≡◌, option_map};
+ghost use Rattle.tilt_load.specs.SeriesFiles.{cut_at, kept_cut, kept_end};
 ghost use Rattle.tilt_load.specs.Sessions.{bounds_of};
 
 use tilt_checkpoint::Kept;
@@ -9,12 +9,11 @@ use tilt_series::Bounds;
 /// Which rows a session is handed, each bound where it is given. Times are in ticks.
 #[derive(Clone, Copy)]
 pub struct Session<'a> {
-    /// What the session before it kept of each input, in order: no row starts before the last end. Empty where there was none.
+    /// What the session before it kept of each input, in order: no row starts before the input's cut, nor before the last end. Empty
+    /// where there was none.
     pub kept: &'a [Kept],
-    /// No row starts before this tick.
-    pub from: Option<i64>,
-    /// Each row starts before this tick.
-    pub upto: Option<i64>,
+    /// The new cut of each input, in order: each row starts before it.
+    pub upto: Option<&'a [i64]>,
 }
 
 /// Where the rows of the input at a place may start, counted from 0.
@@ -23,8 +22,8 @@ pub(crate) fn bounds_at(session: &Session<'_>, place: usize) -> Bounds
 {
     Bounds {
         last_end: kept_end(session.kept, place),
-        from: session.from,
-        upto: session.upto,
+        from: kept_cut(session.kept, place),
+        upto: cut_at(session.upto, place),
     }
 }
 
@@ -38,4 +37,24 @@ fn kept_end(kept: &[Kept], place: usize) -> Option<i64>
     } else {
         None
     }
+}
+
+// The cut that was kept of the input at a place.
+fn kept_cut(kept: &[Kept], place: usize) -> Option<i64>
+    ensures { result ≡ kept_cut kept.now place }
+{
+    if place < kept.len() {
+        let series = &kept[place];
+        Some(series.cut)
+    } else {
+        None
+    }
+}
+
+// The new cut of the input at a place.
+fn cut_at(upto: Option<&[i64]>, place: usize) -> Option<i64>
+    ensures { result ≡ cut_at (option_map (λ cuts. cuts.now) upto.entry) place }
+{
+    let cuts = upto?;
+    cuts.get(place).copied()
 }

@@ -39,6 +39,7 @@ pub data Reason : Type 0 where
   bad_reference : ℕ → ℕ → Reason
   bad_checkpoint : Reason
   cut_back : ℤ → ℤ → Reason
+  cut_names : List ℕ → Reason
   part_outside : ℤ → Reason
   no_such_part : ℕ → Reason
 
@@ -72,6 +73,7 @@ reason_of (code.BadCode line) = bad_code line
 reason_of (code.BadReference in_loop line) = bad_reference in_loop line
 reason_of code.BadCheckpoint = bad_checkpoint
 reason_of (code.CutBack old new) = cut_back old new
+reason_of (code.CutNames name) = cut_names name
 reason_of (code.PartOutside at) = part_outside at
 reason_of (code.NoSuchPart part) = no_such_part part
 
@@ -196,6 +198,7 @@ reason_words (bad_code line) = codes "40 bad code in line " ++ decimal line
 reason_words (bad_reference in_loop line) = codes "41 bad reference in loop " ++ decimal in_loop ++ codes ", line " ++ decimal line
 reason_words bad_checkpoint = codes "50 bad checkpoint"
 reason_words (cut_back old new) = codes "51 cut back from " ++ signed_decimal old ++ codes " to " ++ signed_decimal new
+reason_words (cut_names name) = codes "52 cut names: " ++ name
 reason_words (part_outside at) = codes "56 part outside: " ++ signed_decimal at
 reason_words (no_such_part part) = codes "57 no such part: " ++ decimal part
 

@@ -65,12 +65,18 @@ pub enum Refusal<'a> {
     },
     /// The file of the checkpoint is the text of none.
     BadCheckpoint,
-    /// The session would end before the cut of its checkpoint.
+    /// The session would end before the cut of its checkpoint: of the first input whose cut falls, or of the least where there is no
+    /// input.
     CutBack {
         /// The cut of the checkpoint, in ticks.
         old: i64,
         /// The cut of the session, in ticks.
         new: i64,
+    },
+    /// The words give cuts to names which aren't the inputs, each once.
+    CutNames {
+        /// The first name that isn't an input's or stood before, or else that of the first input without a cut.
+        name: Name,
     },
     /// A cut between parts isn't inside the output domain.
     PartOutside {
@@ -128,6 +134,7 @@ impl Refusal<'_> {
             Refusal::BadReference { in_loop, line } => put_reference(err, *in_loop, *line),
             Refusal::BadCheckpoint => put_text(err, b"50 bad checkpoint"),
             Refusal::CutBack { old, new } => put_cut_back(err, *old, *new),
+            Refusal::CutNames { name } => put_named(err, b"52 cut names: ", name.bytes()),
             Refusal::PartOutside { at } => put_outside(err, *at),
             Refusal::NoSuchPart { part } => put_no_part(err, *part),
         }

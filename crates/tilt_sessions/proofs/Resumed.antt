@@ -1,13 +1,17 @@
 -- What a session after a checkpoint does, where its checkpoint and its inputs are taken.
-use Rattle.std.proofs.Common.{◌≡◌, ◌∙◌, ◌≤◌, ◌<ℤ◌, ℕ, ℤ, List, Option, Some, None, is_some, length, refl, sym, ap, subst}
-use Rattle.tilt_checkpoint.specs.Checkpoint.{CheckpointParts, KeptParts}
+use Rattle.std.proofs.Common.{◌≡◌, ◌∙◌, ◌≤◌, ℕ, ℤ, List, Option, Some, None, is_some, length, refl, sym, ap, subst}
+use Rattle.tilt_checkpoint.specs.Checkpoint.{CheckpointParts, KeptParts, cuts_of}
+use Rattle.tilt_checkpoint.specs.Cuts.{CutsParts}
+use Rattle.tilt_chunk.specs.Cuts.{first_fall}
 use Rattle.tilt_chunk.specs.Later.{newly, next_by}
 use Rattle.tilt_chunk.specs.declared.cut.Cut.{Cut}
 use Rattle.tilt_chunk.specs.declared.cut.Cut.TheVariants.{Upto}
-use Rattle.tilt_load.proofs.FileCommands.{both_read, file_undone, inputs_undone, turn_of_input}
+use Rattle.tilt_load.proofs.FileCommands.{both_read, inputs_undone, turn_of_input}
+use Rattle.tilt_load.proofs.GivenCuts.{by_counted}
 use Rattle.tilt_load.specs.CheckpointFile.{TakesCheckpoint}
 use Rattle.tilt_load.specs.Does.{IsRead, IsUndone, Reading}
 use Rattle.tilt_load.specs.FileCommand.{HasFileTurn}
+use Rattle.tilt_load.specs.InputCuts.{cuts_by}
 use Rattle.tilt_load.specs.Inputs.{bytes_of_inputs}
 use Rattle.tilt_load.specs.Load.{IsLoadFault, HasSessionTurn}
 use Rattle.tilt_load.specs.SeriesFiles.{RefusesSession, TakesSession, session_bounds}
@@ -16,29 +20,41 @@ use Rattle.std.specs.Prelude.{IsSome, ◌↔◌}
 use Rattle.tilt_printed.specs.Answer.{save_of}
 use Rattle.tilt_printed.specs.declared.save.Save.{Save}
 use Rattle.tilt_printed.specs.Saving.{SaveValue, outcome_of}
-use Rattle.tilt_report.specs.Report.{Outcome, Report, cut_back}
+use Rattle.tilt_report.specs.Report.{Reason, Report, cut_back}
 use Rattle.tilt_series.specs.Series.{Bounds}
-use Rattle.tilt_sessions.specs.Resume.{GoesOn, RefusesToGoOn, back, later_bounds, limit_of, resume_row, resumed, saved_of}
-use Rattle.tilt_sessions.specs.SavedCut.{SavedCutValue, cut_of}
+use Rattle.tilt_sessions.specs.Resume.{GoesOn, RefusesToGoOn, back, end_after, inputs_of, later_bounds, limit_of, no_cuts, resume_row, resumed, saved_of}
+use Rattle.tilt_sessions.specs.SavedCut.{RefusesEnd, SavedCutValue, cut_of, faulty_end}
 use Rattle.tilt_stream.specs.Snap.{Snapshot}
 use Rattle.tilt_stream.specs.Text.{lines_of}
-use Rattle.tilt_types.specs.Checked.{core_of}
 use Rattle.tilt_words.specs.Binding.{Binding}
 
--- it would end before its checkpoint
-pub is_back : (name bytes : List ℕ) (cut : Cut) (c : CheckpointParts) (old new told_old told_new : ℤ) → TakesCheckpoint bytes c → cut ≡ Upto new → old ≡ c.cut
-    → new <ℤ old → told_old ≡ old → told_new ≡ new → RefusesToGoOn name cut bytes (cut_back told_old told_new)
-is_back name bytes cut c old new told_old told_new taken by is below same_old same_new =
-    rw (same_old, same_new, is) (back c new taken by (rw is at below))
+-- a cut would fall
+pub is_back : (name bytes : List ℕ) (ending : Option SavedCutValue) (c : CheckpointParts) (names : List (List ℕ)) (cut : Cut) (cuts : CutsParts)
+    (old new told_old told_new : ℤ) → TakesCheckpoint bytes c → names ≡ inputs_of c → faulty_end ending names ≡ None → cut ≡ cut_of ending names → cut ≡ Upto cuts
+    → first_fall (cuts_of c) cuts ≡ Some (old, new) → told_old ≡ old → told_new ≡ new → RefusesToGoOn name ending bytes (cut_back told_old told_new)
+is_back name bytes ending c names cut cuts old new told_old told_new taken same named by is fall same_old same_new =
+    rw (same_old, same_new) (back c cuts old new taken (rw same at named) (ap (cut_of ending) (sym same) ∙ sym by ∙ is) fall)
+
+-- its cuts are refused
+pub end_refused : (name bytes : List ℕ) (ending : Option SavedCutValue) (c : CheckpointParts) (names : List (List ℕ)) (why : Reason) → TakesCheckpoint bytes c
+    → names ≡ inputs_of c → RefusesEnd ending names why → RefusesToGoOn name ending bytes why
+end_refused name bytes ending c names why taken same is = no_cuts c taken (subst (λ (ns : List (List ℕ)). RefusesEnd ending ns why) same is)
+
+-- there are as many cuts as inputs
+pub given_counted : (ending : Option SavedCutValue) (names : List (List ℕ)) (cuts : CutsParts) → cut_of ending names ≡ Upto cuts → length cuts.each ≡ length names
+given_counted None names cuts is = absurd (cc is)
+given_counted (Some cut) names cuts is =
+    let same : cuts_by cut.upto names ≡ cuts = cc is in
+    ap (λ (k : CutsParts). length k.each) (sym same) ∙ by_counted cut.upto names
 
 -- the bounds of the session
-pub same_bounds : (cut : Cut) (c : CheckpointParts) (series : List KeptParts) (from : ℤ) (limit : Option ℤ) → series ≡ c.series → from ≡ c.cut → limit ≡ limit_of cut
-    → session_bounds series (Some from) limit ≡ later_bounds cut c
-same_bounds cut c series from limit s f l = λ i. session_bounds (s i) (Some (f i)) (l i)
+pub same_bounds : (cut : Cut) (c : CheckpointParts) (series : List KeptParts) (limit : Option (List ℤ)) → series ≡ c.series → limit ≡ limit_of cut
+    → session_bounds series limit ≡ later_bounds cut c
+same_bounds cut c series limit s l = λ i. session_bounds (s i) (l i)
 
 -- what is printed newly and saved is what the session comes to
 pub is_resumed : (ending : Option SavedCutValue) (c : CheckpointParts) (rows : List (List Snapshot)) (list : List Snapshot) (next : Option CheckpointParts)
-    (save : Option SaveValue) → list ≡ newly c rows (cut_of ending) → next ≡ next_by c rows (cut_of ending) → save ≡ saved_of ending next
+    (save : Option SaveValue) → list ≡ newly c rows (end_after ending c) → next ≡ next_by c rows (end_after ending c) → save ≡ saved_of ending next
     → outcome_of (lines_of list) save ≡ resumed ending c rows
 is_resumed None c rows list next save printed left saved = λ i. outcome_of (lines_of (printed i)) (saved i)
 is_resumed (Some cut) c rows list next save printed left saved =
@@ -50,35 +66,27 @@ some_saved : (save : Option Save) → is_some (save_of save) ≡ is_some save
 some_saved None = refl
 some_saved (Some save) = refl
 
-some_left : (ending : Option SavedCutValue) (c : CheckpointParts) (rows : List (List Snapshot)) → is_some (saved_of ending (next_by c rows (cut_of ending))) ≡ is_some ending
+some_left : (ending : Option SavedCutValue) (c : CheckpointParts) (rows : List (List Snapshot)) → is_some (saved_of ending (next_by c rows (end_after ending c))) ≡ is_some ending
 some_left None c rows = refl
 some_left (Some cut) c rows = refl
 
 pub fits_saved : (ending : Option SavedCutValue) (c : CheckpointParts) (rows : List (List Snapshot)) (next : Option CheckpointParts) (save : Option Save)
-    → next ≡ next_by c rows (cut_of ending) → save_of save ≡ saved_of ending next → IsSome save ↔ IsSome ending
+    → next ≡ next_by c rows (end_after ending c) → save_of save ≡ saved_of ending next → IsSome save ↔ IsSome ending
 fits_saved ending c rows next save left saved =
     let same : is_some save ≡ is_some ending =
     sym (some_saved save) ∙ ap is_some (saved ∙ ap (saved_of ending) left) ∙ some_left ending c rows in
     (λ some. sym same ∙ some, λ some. same ∙ some)
 
--- its checkpoint isn't taken, or it would end before that; where it ends was passed on
-pub undone_at : (ending : Option SavedCutValue) (cut : Cut) (checkpoint : List ℕ) (binds : List Binding) (shelf : Reading) → cut ≡ cut_of ending → (report : Report)
-    → IsLoadFault shelf.tells (RefusesToGoOn checkpoint cut (shelf.files checkpoint)) (λ which. which ≡ checkpoint) shelf.faults_before shelf.faults_after report
-    → IsUndone (resume_row ending checkpoint) checkpoint binds shelf report
-undone_at ending cut checkpoint binds shelf same report fault =
-    file_undone (resume_row ending checkpoint) checkpoint binds shelf report (subst (λ (k : Cut).
-    IsLoadFault shelf.tells (RefusesToGoOn checkpoint k (shelf.files checkpoint)) (λ which. which ≡ checkpoint) shelf.faults_before shelf.faults_after report) same fault)
-
 -- Of a checkpoint: the bounds of the session, and the names of its inputs, as they were passed on.
 module _ (ending : Option SavedCutValue) (c : CheckpointParts) (now : List ℕ → List ℕ) (checkpoint : List ℕ) (binds : List Binding) (bounds : ℕ → Bounds)
-    (names : List (List ℕ)) (shelf : Reading) (same_files : now ≡ shelf.files) (bounded : bounds ≡ later_bounds (cut_of ending) c)
-    (same_names : names ≡ (core_of c.query).inputs) where
+    (names : List (List ℕ)) (shelf : Reading) (same_files : now ≡ shelf.files) (bounded : bounds ≡ later_bounds (end_after ending c) c)
+    (same_names : names ≡ inputs_of c) where
   -- the rows are those of its inputs
   pub resume_read : (rows : List (List Snapshot)) → TakesSession now binds bounds names rows
-      → TakesSession shelf.files binds (later_bounds (cut_of ending) c) (core_of c.query).inputs rows
+      → TakesSession shelf.files binds (later_bounds (end_after ending c) c) (inputs_of c) rows
   resume_read rows read = rw (same_files, bounded, same_names) at read
 
-  module _ (taken : shelf.tells → GoesOn (cut_of ending) (shelf.files checkpoint) c) where
+  module _ (taken : shelf.tells → GoesOn ending (shelf.files checkpoint) c) where
     -- it is the turn of one of its inputs
     pub resume_turn : (name : List ℕ) → HasSessionTurn shelf.tells now binds bounds names name
         → HasFileTurn (resume_row ending checkpoint) shelf.tells shelf.files checkpoint binds name

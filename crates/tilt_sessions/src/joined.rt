@@ -1,23 +1,24 @@
 // What sessions have printed, joined, and what the last one hands on.
 ghost use Rattle.std.specs.Prelude.{◌≡◌, ◌++◌, ◌≤ℤ◌, List, IfOk};
 ghost use Rattle.tilt_checkpoint.specs.Checkpoint.{CheckpointParts};
+ghost use Rattle.tilt_checkpoint.specs.Cuts.{IsCut};
 ghost use Rattle.tilt_checkpoint.specs.Spelling.{Spells};
-ghost use Rattle.tilt_checkpoint.specs.Valid.{IsCheckpoint, IsCut};
+ghost use Rattle.tilt_checkpoint.specs.Valid.{IsCheckpoint};
 ghost use Rattle.tilt_chunk.specs.Emitted.{emitted};
-ghost use Rattle.tilt_chunk.specs.declared.cut.Cut.TheVariants.{Upto, End};
+ghost use Rattle.tilt_chunk.specs.declared.cut.Cut.TheVariants.{End};
 ghost use Rattle.tilt_sessions.specs.Parts.{AreJoined, IsRun};
 ghost use Rattle.tilt_stream.specs.Snap.{AreSnapshots};
 ghost use Rattle.tilt_syntax.specs.Tree.{StatementTree};
 
 use crate::part::session_rows;
 use std::alloc::{AllocError as OutOfMemory, Global};
-use tilt_checkpoint::{Checkpoint, Frame, decode, encode};
+use tilt_checkpoint::{Checkpoint, Cuts, Frame, decode, encode};
 use tilt_chunk::{Cut, resume, start};
 use tilt_compiler::Accepted;
 use tilt_stream::{Rows, SnapList};
 use tilt_syntax::Query;
 
-// What the sessions up to a cut have printed, joined, and the bytes of the checkpoint that the last one hands on.
+// What the sessions up to a cut of all inputs have printed, joined, and the bytes of the checkpoint that the last one hands on.
 #[derive(Drop)]
 pub(crate) struct Joined {
     pub(crate) printed: SnapList,
@@ -39,8 +40,9 @@ impl Joined {
         ensures joined { IfOk result (λ joined. AreJoined query accepted.now.core rows.now cut joined.printed joined.bytes.items) }
         ensures cut { IfOk result (λ joined. joined.cut ≡ cut) }
     {
-        let part = session_rows(alloc, rows, None, &Cut::Upto(cut))?;
-        let (printed, checkpoint) = start(alloc, query, accepted, part, cut)?;
+        let part = session_rows(alloc, rows, None, Some(cut))?;
+        let cuts = Cuts::same(alloc, cut, rows.len())?;
+        let (printed, checkpoint) = start(alloc, query, accepted, part, cuts)?;
         let bytes = encode(alloc, &checkpoint)?;
         Ok(Joined {
             printed,
@@ -68,9 +70,10 @@ impl Joined {
     {
         // The bounds of the output are known from here on.
         let _ = Frame::new(accepted.core(), accepted.margins());
-        let part = session_rows(alloc, rows, Some(self.cut), &Cut::Upto(cut))?;
+        let part = session_rows(alloc, rows, Some(self.cut), Some(cut))?;
         let checkpoint = handed_on(alloc, &self.bytes)?;
-        let (list, next) = resume(alloc, checkpoint, accepted, part, Cut::Upto(cut))?;
+        let cuts = Cuts::same(alloc, cut, rows.len())?;
+        let (list, next) = resume(alloc, checkpoint, accepted, part, Cut::Upto(cuts))?;
         let next = next.unwrap();
         let printed = with_list(self.printed, &list)?;
         let bytes = encode(alloc, &next)?;
@@ -95,7 +98,7 @@ impl Joined {
     {
         // The bounds of the output are known from here on.
         let _ = Frame::new(accepted.core(), accepted.margins());
-        let part = session_rows(alloc, rows, Some(self.cut), &Cut::End)?;
+        let part = session_rows(alloc, rows, Some(self.cut), None)?;
         let checkpoint = handed_on(alloc, &self.bytes)?;
         let (list, _) = resume(alloc, checkpoint, accepted, part, Cut::End)?;
         with_list(self.printed, &list)

@@ -1,22 +1,21 @@
 // The rows of a session, out of those of a whole run.
-ghost use Rattle.std.specs.Prelude.{◌≡◌, ◌≤◌, length, map, take, drop, IfOk};
+ghost use Rattle.std.specs.Prelude.{◌≡◌, ◌≤◌, Some, length, map, take, drop, IfOk};
 ghost use Rattle.std.specs.List.{AllByRecursion};
 ghost use Rattle.tilt_sessions.specs.Parts.{behind, early, part_of};
 ghost use Rattle.tilt_stream.specs.Snap.{AreRows};
 
 use std::alloc::{AllocError as OutOfMemory, Global};
-use tilt_chunk::Cut;
 use tilt_stream::{Row, Rows};
 
-// The rows of each input that a session is handed: those that start at or behind the earlier cut, where there is one, and before
-// the session ends. Each row is copied once.
+// The rows of each input that a session is handed: those that start at the earlier cut or after it, and before the session's own, where
+// there are such. Each row is copied once.
 pub(crate) fn session_rows(
     alloc: Global,
     rows: &[Rows],
     from: Option<i64>,
-    cut: &Cut,
+    cut: Option<i64>,
 ) -> Result<Vec<Rows>, OutOfMemory>
-    ensures parts { IfOk result (λ parts. parts.items ≡ map (part_of from cut.now) rows.now) }
+    ensures parts { IfOk result (λ parts. parts.items ≡ map (part_of from cut) rows.now) }
     ensures in_order { IfOk result (λ _. AllByRecursion AreRows rows.now) }
 {
     let mut parts = Vec::new(alloc);
@@ -27,8 +26,13 @@ pub(crate) fn session_rows(
 }
 
 // The same of one input.
-fn part(alloc: Global, rows: &Rows, from: Option<i64>, cut: &Cut) -> Result<Rows, OutOfMemory>
-    ensures part { IfOk result (λ part. part ≡ part_of from cut.now rows.now) }
+fn part(
+    alloc: Global,
+    rows: &Rows,
+    from: Option<i64>,
+    cut: Option<i64>,
+) -> Result<Rows, OutOfMemory>
+    ensures part { IfOk result (λ part. part ≡ part_of from cut rows.now) }
     ensures in_order { AreRows rows.now }
 {
     let all = rows.as_slice();
@@ -38,19 +42,19 @@ fn part(alloc: Global, rows: &Rows, from: Option<i64>, cut: &Cut) -> Result<Rows
     }
 }
 
-// The rows in front that start before a session ends.
-fn all_early<'a>(rows: &'a [Row], cut: &Cut) -> &'a [Row]
+// The first rows, which start before a cut, where there is one.
+fn all_early(rows: &[Row], cut: Option<i64>) -> &[Row]
     requires { AreRows rows.now }
-    ensures rows { result.now ≡ early cut.now rows.now }
+    ensures rows { result.now ≡ early cut rows.now }
     ensures in_order { AreRows result.now }
 {
-    match *cut {
-        Cut::Upto(cut) => &rows[..started_before(rows, cut)],
-        Cut::End => rows,
+    match cut {
+        Some(cut) => &rows[..started_before(rows, cut)],
+        None => rows,
     }
 }
 
-// The rows behind those that start before a cut.
+// The rows after those that start before a cut.
 fn all_behind(rows: &[Row], cut: i64) -> &[Row]
     requires { AreRows rows.now }
     ensures rows { result.now ≡ behind cut rows.now }
@@ -59,11 +63,11 @@ fn all_behind(rows: &[Row], cut: i64) -> &[Row]
     &rows[started_before(rows, cut)..]
 }
 
-// How many rows start before a cut: those in front.
+// How many rows start before a cut: the first ones.
 fn started_before(rows: &[Row], cut: i64) -> usize
     requires { AreRows rows.now }
     ensures bound { result ≤ length rows.now }
-    ensures front { take result rows.now ≡ early (Cut.Upto cut) rows.now }
+    ensures front { take result rows.now ≡ early (Some cut) rows.now }
     ensures rest { drop result rows.now ≡ behind cut rows.now }
 {
     rows.partition_point(|row| row.start < cut)

@@ -1,17 +1,20 @@
 // A session after the checkpoint in a file.
-ghost use Rattle.std.specs.Prelude.{◌≡◌, ◌≢◌, ℕ, ℤ, List, IfOk, IfErr, IsSome, length};
+ghost use Rattle.std.specs.Prelude.{◌≡◌, ◌≢◌, ⊤, ℕ, List, None, IfOk, IfErr, IsSome, length, option_map};
+ghost use Rattle.tilt_checkpoint.specs.Checkpoint.{cuts_of};
+ghost use Rattle.tilt_checkpoint.specs.Cuts.{CutsParts};
 ghost use Rattle.tilt_checkpoint.specs.Valid.{IsCheckpoint};
 ghost use Rattle.tilt_chunk.specs.Cuts.{IsInRange, IsOnward};
 ghost use Rattle.tilt_load.specs.Does.{Does, reading};
 ghost use Rattle.tilt_load.specs.FileCommand.{HasFileTurn};
 ghost use Rattle.tilt_load.specs.Load.{IsLoadFault};
+ghost use Rattle.tilt_load.specs.Sessions.{bounds_of};
 ghost use Rattle.tilt_outside.specs.Counts.{added_count};
 ghost use Rattle.tilt_outside.specs.Reads.{OnlyReads};
 ghost use Rattle.tilt_printed.specs.Answer.{Fits, comes_to, save_of};
 ghost use Rattle.tilt_report.specs.Report.{bad_checkpoint, refusal, report_of};
 ghost use Rattle.tilt_sessions.specs.HandsOn.{HandsOn, IsBeyond};
-ghost use Rattle.tilt_sessions.specs.Resume.{GoesOn, RefusesToGoOn, limit_of, resume_row, saved_of};
-ghost use Rattle.tilt_sessions.specs.SavedCut.{cut_of, ending_of};
+ghost use Rattle.tilt_sessions.specs.Resume.{GoesOn, RefusesToGoOn, end_after, later_bounds, limit_of, resume_row, saved_of};
+ghost use Rattle.tilt_sessions.specs.SavedCut.{IsEnding, RefusesEnd, cut_of, ending_of, faulty_end};
 ghost use Rattle.tilt_stream.specs.Snap.{Snapshot};
 ghost use Rattle.tilt_syntax.specs.Tree.{StatementTree};
 ghost use Rattle.tilt_types.specs.Checked.{core_of};
@@ -22,17 +25,18 @@ use crate::saved_cut::SavedCut;
 use std::alloc::{AllocError as OutOfMemory, Global};
 use tilt_checkpoint::{Checkpoint, encode};
 use tilt_chunk::{Cut, next_cut, resume};
-use tilt_load::{LoadedCheckpoint, Session, load_checkpoint, load_session_inputs};
+use tilt_lexer::Name;
+use tilt_load::{LoadedCheckpoint, Session, cuts_by, load_checkpoint, load_session_inputs};
 use tilt_outside::Shelf;
 use tilt_printed::{Answered, Printed, Save, WholeText};
 use tilt_report::{Fault, Refusal};
 use tilt_stream::{Rows, SnapList};
 use tilt_words::Bind;
 
-/// A session after the checkpoint in a file: what is printed newly, and where the session ends by a cut its own checkpoint, which is
-/// to be saved; where no cut is given, the session goes on to the last row, and nothing is saved. Each row of its inputs starts at the
-/// checkpoint's cut or after it, not before the last row ended, and before the session ends. Where the session ends is tested
-/// before the input names are. All memory is taken here. `beyond` says that sessions print together, and leave, what one session
+/// A session after the checkpoint in a file: what is printed newly, and where the session ends by cuts its own checkpoint, which is
+/// to be saved; where no cut is given, the session goes on to the last row, and nothing is saved. Each row of an input starts at its
+/// cut of the checkpoint or after it, not before the last row ended, and before its new cut. Whether the cuts are given to the inputs,
+/// and then whether one falls, is tested before the input names are. All memory is taken here. `beyond` says that sessions print together, and leave, what one session
 /// does on all rows, and `good` that what a session leaves is never refused.
 pub fn resume_session<'a, S: Shelf>(
     alloc: Global,
@@ -42,32 +46,23 @@ pub fn resume_session<'a, S: Shelf>(
     fuse: bool,
     ending: Option<SavedCut<'a>>,
 ) -> Result<Answered<'a>, Fault<'a>>
-    requires range { IsInRange (cut_of (ending_of ending)) }
+    requires range { IsEnding (ending_of ending) }
     requires lent { (name : List ℕ) → HasFileTurn (resume_row (ending_of ending) checkpoint.now) S.tells (S.files shelf.old)
         checkpoint.now (bindings_of binds.now) name → S.lends name }
     ensures does { Does (λ _. resume_row (ending_of ending.entry) checkpoint.now) comes_to (Fits ⊥ ⊥ (IsSome (ending_of ending.entry)))
         checkpoint.now (bindings_of binds.now)
         (reading S.tells S.files S.read_faults S.save_faults S.takes S.given shelf.old shelf.new) result }
     ensures beyond { S.tells → IfOk result (λ answer. (watchers : List Watch) (query : List StatementTree) (rows : List (List Snapshot))
-        (cut : ℤ) → HandsOn (S.files shelf.old checkpoint.now) query rows cut
-        → IsBeyond (S.files shelf.old) (bindings_of binds.now) query rows cut (ending_of ending.entry) (comes_to watchers answer)) }
-    ensures good { S.tells → IfErr result (λ fault. (query : List StatementTree) (rows : List (List Snapshot)) (cut : ℤ)
-        → HandsOn (S.files shelf.old checkpoint.now) query rows cut → report_of fault ≢ refusal bad_checkpoint) }
+        (cuts : CutsParts) → HandsOn (S.files shelf.old checkpoint.now) query rows cuts
+        → IsBeyond (S.files shelf.old) (bindings_of binds.now) query rows cuts (ending_of ending.entry) (comes_to watchers answer)) }
+    ensures good { S.tells → IfErr result (λ fault. (query : List StatementTree) (rows : List (List Snapshot)) (cuts : CutsParts)
+        → HandsOn (S.files shelf.old checkpoint.now) query rows cuts → report_of fault ≢ refusal bad_checkpoint) }
 {
-    let cut = cut_of(ending);
-    let loaded = load_onward(alloc, shelf, checkpoint, fuse, &cut)?;
-    let bounds = Session {
-        kept: loaded.checkpoint.series(),
-        from: Some(loaded.checkpoint.cut()),
-        upto: limit_of(&cut),
-    };
-    let rows = load_session_inputs(
-        alloc,
-        shelf,
-        loaded.accepted.core().inputs(),
-        binds,
-        &bounds,
-    )?;
+    let onward = load_onward(alloc, shelf, checkpoint, fuse, ending)?;
+    let bounds = bounds_after(&onward);
+    let inputs = onward.loaded.accepted.core().inputs();
+    let rows = load_session_inputs(alloc, shelf, inputs, binds, &bounds)?;
+    let Onward { loaded, cut } = onward;
     let LoadedCheckpoint {
         checkpoint: before,
         accepted,
@@ -80,27 +75,50 @@ pub fn resume_session<'a, S: Shelf>(
     })
 }
 
-// The checkpoint in the file of that name, where the session doesn't end before its cut.
+// A checkpoint that was read, and where a session after it ends.
+#[derive(Drop)]
+struct Onward {
+    loaded: LoadedCheckpoint,
+    cut: Cut,
+}
+
+// Where the rows of a session after it start.
+fn bounds_after(onward: &Onward) -> Session<'_>
+    ensures bounds { bounds_of result ≡ later_bounds onward.now.cut onward.now.loaded.checkpoint }
+    ensures range { IsInRange onward.now.cut }
+{
+    Session {
+        kept: onward.loaded.checkpoint.series(),
+        upto: limit_of(&onward.cut),
+    }
+}
+
+// The checkpoint in the file of that name, where the cuts are given to its inputs and none of them falls.
 fn load_onward<'a, S: Shelf>(
     alloc: Global,
     shelf: &mut S,
     name: &'a str,
     fuse: bool,
-    cut: &Cut,
-) -> Result<LoadedCheckpoint, Fault<'a>>
-    requires { S.lends name.now }
-    ensures taken { S.tells → IfOk result (λ loaded. GoesOn cut.now (S.files shelf.old name.now) loaded.checkpoint) }
-    ensures valid { IfOk result (λ loaded. IsCheckpoint loaded.checkpoint) }
-    ensures core { IfOk result (λ loaded. loaded.accepted.core ≡ core_of loaded.checkpoint.query) }
-    ensures onward { IfOk result (λ loaded. IsOnward loaded.checkpoint.cut cut.now) }
-    ensures fault { IfErr result (λ fault. IsLoadFault S.tells (RefusesToGoOn name.now cut.now (S.files shelf.old name.now))
+    ending: Option<SavedCut<'_>>,
+) -> Result<Onward, Fault<'a>>
+    requires lent { S.lends name.now }
+    requires range { IsEnding (ending_of ending) }
+    ensures taken { S.tells → IfOk result (λ onward.
+        GoesOn (ending_of ending.entry) (S.files shelf.old name.now) onward.loaded.checkpoint) }
+    ensures valid { IfOk result (λ onward. IsCheckpoint onward.loaded.checkpoint) }
+    ensures core { IfOk result (λ onward. onward.loaded.accepted.core ≡ core_of onward.loaded.checkpoint.query) }
+    ensures cut { IfOk result (λ onward. onward.cut ≡ end_after (ending_of ending.entry) onward.loaded.checkpoint) }
+    ensures onward { IfOk result (λ onward. IsOnward (cuts_of onward.loaded.checkpoint) onward.cut) }
+    ensures fault { IfErr result (λ fault. IsLoadFault S.tells (RefusesToGoOn name.now (ending_of ending.entry) (S.files shelf.old name.now))
         (λ which. which ≡ name.now) (S.read_faults shelf.old) (S.read_faults shelf.new) (report_of fault)) }
     ensures given { S.tells → IfOk result (λ _. S.given shelf.new ≡ added_count (S.given shelf.old) (length (S.files shelf.old name.now))) }
     ensures rest { OnlyReads S.files S.read_faults S.save_faults S.takes shelf.old shelf.new }
 {
     let loaded = load_checkpoint(alloc, shelf, name, fuse)?;
-    match next_cut(&loaded.checkpoint, cut) {
-        Ok(()) => Ok(loaded),
+    let inputs = loaded.accepted.core().inputs();
+    let cut = cut_of(alloc, ending, inputs)?;
+    match next_cut(&loaded.checkpoint, &cut) {
+        Ok(()) => Ok(Onward { loaded, cut }),
         Err(back) => Err(Fault::Refused(Refusal::CutBack {
             old: back.old,
             new: back.new,
@@ -108,22 +126,33 @@ fn load_onward<'a, S: Shelf>(
     }
 }
 
-// Where a session ends.
-fn cut_of(ending: Option<SavedCut<'_>>) -> Cut
-    ensures { result ≡ cut_of (ending_of ending.entry) }
+// Where a session ends, for inputs of these names.
+fn cut_of<'a>(
+    alloc: Global,
+    ending: Option<SavedCut<'_>>,
+    inputs: &[Name],
+) -> Result<Cut, Fault<'a>>
+    requires { IsEnding (ending_of ending) }
+    ensures named { IfOk result (λ _. faulty_end (ending_of ending.entry) inputs.now ≡ None) }
+    ensures cut { IfOk result (λ cut. cut ≡ cut_of (ending_of ending.entry) inputs.now) }
+    ensures fault { IfErr result (λ fault. IsLoadFault ⊤ (RefusesEnd (ending_of ending.entry) inputs.now) (λ _. ⊥) 0 0 (report_of fault)) }
 {
     match ending {
-        Some(cut) => Cut::Upto(cut.upto),
-        None => Cut::End,
+        Some(cut) => {
+            let cuts = cuts_by(alloc, cut.upto, inputs)?;
+            Ok(Cut::Upto(cuts))
+        }
+        None => Ok(Cut::End),
     }
 }
 
-// The tick below which rows start, where there is one.
-fn limit_of(cut: &Cut) -> Option<i64>
-    ensures { result ≡ limit_of cut.now }
+// The cuts below which rows start, where there are any.
+fn limit_of(cut: &Cut) -> Option<&[i64]>
+    ensures limit { option_map (λ cuts. cuts.now) result ≡ limit_of cut.now }
+    ensures range { IsInRange cut.now }
 {
-    match *cut {
-        Cut::Upto(upto) => Some(upto),
+    match cut {
+        Cut::Upto(cuts) => Some(cuts.each()),
         Cut::End => None,
     }
 }

@@ -1,8 +1,10 @@
-/// Where a session ends by a cut, and the name under which it saves its checkpoint.
+use tilt_words::Upto;
+
+/// Where a session ends by cuts, and the name under which it saves its checkpoint.
 #[derive(Clone, Copy)]
 pub struct SavedCut<'a> {
-    /// The cut, in ticks: each row of the session starts below it.
-    pub upto: i64,
+    /// The cuts, in ticks: each row of an input starts below its own.
+    pub upto: &'a Upto,
     /// The name.
     pub save: &'a str,
 }

@@ -3,7 +3,7 @@ use Rattle.std.proofs.Common.{◌≡◌, ◌≢◌, ◌⊎◌, inl, inr, ℕ, su
 use Rattle.std.proofs.Common.{List, [], ◌∷◌, ◌++◌, length, Option, None, Some, codes, refl, sym, ap, ◌∙◌, subst, arith, length-drop}
 use lib.Signed.{le_z}
 use Rattle.std.specs.Bool.{Decides}
-use Rattle.std.specs.List.{position_or_len}
+use Rattle.std.specs.List.{AllZip, after_first, before_first, position_or_len}
 use Rattle.std.specs.Ordering.{int_eq}
 use Rattle.std.specs.Str.{bytes_eq}
 use Rattle.std.proofs.lemmas.Bool.{cases_lt, cases_Bool}
@@ -19,6 +19,7 @@ use Rattle.tilt_words.specs.Arguments as argument
 use Rattle.tilt_words.specs.Binding.{Binding, IsBinding, binding_spelled}
 use Rattle.tilt_words.specs.Command.{Call, CommandValue, IsCommand, IsFile, IsFileCommand, call_of, try}
 use Rattle.tilt_words.specs.Number.{IsNumber, AreListed, AreRising, AreUpTo, before_comma, after_comma}
+use Rattle.tilt_words.specs.Upto.{CutBinding, IsCutBinding, IsUpto, UptoValue, all, each, parts_of}
 use Rattle.tilt_words.proofs.Answered.{try_texts}
 use Rattle.tilt_words.proofs.Determined.{IsOption, cut, upto, save, parts_at, order, after_plain, after_end, after_cut, after_upto, after_save, after_at, after_order}
 use Rattle.tilt_words.proofs.Determined.{after_bind, alone, no_begins, behind_first, first_begins, same_settings as one_settings}
@@ -86,6 +87,18 @@ same_bindings x y =
     (λ e. (ap (λ (b : Binding). b.name) e, ap (λ (b : Binding). b.file) e))
     (both (same_bytes x.name y.name) (same_bytes x.file y.file))
 
+same_cut_bindings : (x y : CutBinding) → Known (x ≡ y)
+same_cut_bindings x y =
+    known_as (λ (e : (x.name ≡ y.name) × (x.cut ≡ y.cut)). λ i. record { name = e.0 i; cut = e.1 i })
+    (λ e. (ap (λ (b : CutBinding). b.name) e, ap (λ (b : CutBinding). b.cut) e))
+    (both (same_bytes x.name y.name) (same_integers x.cut y.cut))
+
+same_uptos : (x y : UptoValue) → Known (x ≡ y)
+same_uptos (all x) (all y) = known_as (λ e. ap all e) (λ e. cc) (same_integers x y)
+same_uptos (all x) (each ys) = inr (λ e. cc)
+same_uptos (each xs) (all y) = inr (λ e. cc)
+same_uptos (each xs) (each ys) = known_as (λ e. ap each e) (λ e. cc) (same_lists same_cut_bindings xs ys)
+
 record SameSettings (x y : Settings) : Type 0 where
   binds : x.binds ≡ y.binds
   plain : x.plain ≡ y.plain
@@ -139,7 +152,7 @@ same_settings x y =
       ),
     ))
     (both (same_lists same_bindings x.binds y.binds) (both (same_bools x.plain y.plain) (both (same_bools x.end y.end)
-    (both (same_lists same_integers x.cuts y.cuts) (both (same_options same_integers x.upto y.upto) (both (same_options same_bytes x.save y.save)
+    (both (same_lists same_integers x.cuts y.cuts) (both (same_options same_uptos x.upto y.upto) (both (same_options same_bytes x.save y.save)
     (both (same_lists same_integers x.at y.at) (same_lists same_numbers x.order y.order))))))))
 
 same_calls : (x y : Call) → Known (x ≡ y)
@@ -215,6 +228,53 @@ parts_or_none : (word : List ℕ) → Either (AreUpTo 4294967295 word)
 parts_or_none word =
     listed_within (IsPart 4294967295) after_part (parts_spelled 4294967295) (part_or_none 4294967295) (length word) (pos 0) word (omega arith)
 
+-- the value of `--upto`
+binding_or_none : (part : List ℕ) → Either (IsCutBinding part)
+binding_or_none part =
+    elim (same_bools (is_word (before_first (λ b. b == 61) part)) true) [
+      | inl named ↦ elim (number_or_none (neg_ℤ T) T (after_first (λ b. b == 61) part)) [
+        | inl time ↦ inl (
+          record { name = before_first (λ b. b == 61) part; cut = time.0 },
+          record { spelled = refl; named = named; time = time.1 },
+        )
+        | inr none ↦ inr (λ x is. none x.cut is.time)
+      ]
+      | inr no_word ↦ inr (λ x is. no_word (subst IsWord (sym is.spelled) is.named))
+    ]
+
+no_first_part : (part : List ℕ) (parts : List (List ℕ)) → ((x : CutBinding) → IsCutBinding part x → ⊥) → (xs : List CutBinding)
+    → AllZip IsCutBinding (part ∷ parts) xs → ⊥
+no_first_part part parts none [] are = are
+no_first_part part parts none (x ∷ xs) are = none x are.0
+
+no_more_parts : (part : List ℕ) (parts : List (List ℕ)) → ((xs : List CutBinding) → AllZip IsCutBinding parts xs → ⊥) → (xs : List CutBinding)
+    → AllZip IsCutBinding (part ∷ parts) xs → ⊥
+no_more_parts part parts none [] are = are
+no_more_parts part parts none (x ∷ xs) are = none xs are.1
+
+bindings_or_none : (parts : List (List ℕ)) → Either (AllZip IsCutBinding parts)
+bindings_or_none [] = inl ([], tt)
+bindings_or_none (part ∷ parts) =
+    elim (binding_or_none part) [
+      | inl one ↦ elim (bindings_or_none parts) [ inl more ↦ inl (one.0 ∷ more.0, (one.1, more.1)) | inr none ↦ inr (no_more_parts part parts none) ]
+      | inr none ↦ inr (no_first_part part parts none)
+    ]
+
+neither : (word : List ℕ) → ((z : ℤ) → IsNumber (neg_ℤ T) T word z → ⊥) → ((xs : List CutBinding) → AllZip IsCutBinding (parts_of word) xs → ⊥)
+    → (x : UptoValue) → IsUpto word x → ⊥
+neither word no_time no_names (all time) is = no_time time is
+neither word no_time no_names (each names) are = no_names names are
+
+upto_or_none : (word : List ℕ) → Either (IsUpto word)
+upto_or_none word =
+    elim (number_or_none (neg_ℤ T) T word) [
+      | inl time ↦ inl (all time.0, time.1)
+      | inr no_time ↦ elim (bindings_or_none (parts_of word)) [
+        | inl names ↦ inl (each names.0, names.1)
+        | inr no_names ↦ inr (neither word no_time no_names)
+      ]
+    ]
+
 -- arguments
 some_bytes : (bytes : List ℕ) → Known (bytes ≢ [])
 some_bytes [] = inr (λ some. some refl)
@@ -271,9 +331,9 @@ by_upto : (old : Settings) (tail : List (List ℕ)) → MayBegin old (codes "--u
 by_upto old [] = inr (λ new rest begins. alone begins (codes "--upto") refl upto refl refl)
 by_upto old (value ∷ tail) =
     elim (is_none old.upto) [
-      | inl fresh ↦ elim (number_or_none (neg_ℤ T) T value) [
-        | inl time ↦ inl (record { new = record old { upto = Some time.0 }; rest = tail; begins = argument.upto fresh time.1; shorter = omega arith })
-        | inr none ↦ inr (λ new rest begins. let given = after_upto begins value tail refl in none given.time given.is)
+      | inl fresh ↦ elim (upto_or_none value) [
+        | inl given ↦ inl (record { new = record old { upto = Some given.0 }; rest = tail; begins = argument.upto fresh given.1; shorter = omega arith })
+        | inr none ↦ inr (λ new rest begins. let stands = after_upto begins value tail refl in none stands.given stands.is)
       ]
       | inr stood ↦ inr (λ new rest begins. stood (after_upto begins value tail refl).fresh)
     ]

@@ -6,8 +6,10 @@ use Rattle.tilt_base.specs.declared.limits.TheConstants.{T}
 use Rattle.tilt_words.specs.Arguments.{Settings, Begins, AreArguments}
 use Rattle.tilt_words.specs.Arguments as argument
 use Rattle.tilt_words.specs.Binding.{IsBinding, binding_spelled}
-use Rattle.tilt_words.specs.Number.{IsNumber, AreRising, AreUpTo}
-use Rattle.tilt_words.proofs.Listed.{same_number, same_parts, same_rising}
+use Rattle.tilt_words.specs.Number.{AreRising, AreUpTo}
+use Rattle.tilt_words.specs.Upto.{IsUpto, UptoValue}
+use Rattle.tilt_words.proofs.Listed.{same_parts, same_rising}
+use Rattle.tilt_words.proofs.UptoRead.{same_upto}
 
 -- a word that is an option
 pub data IsOption : List ℕ → Type 0 where
@@ -47,9 +49,9 @@ pub record GivesCuts (old new : Settings) (value : List ℕ) (rest tail : List (
 
 pub record GivesUpto (old new : Settings) (value : List ℕ) (rest tail : List (List ℕ)) : Type 0 where
   pub fresh : old.upto ≡ None
-  pub time : ℤ
-  pub is : IsNumber (neg_ℤ T) T value time
-  pub gives : new ≡ record old { upto = Some time }
+  pub given : UptoValue
+  pub is : IsUpto value given
+  pub gives : new ≡ record old { upto = Some given }
   pub rests : rest ≡ tail
 
 pub record GivesAt (old new : Settings) (value : List ℕ) (rest tail : List (List ℕ)) : Type 0 where
@@ -108,9 +110,9 @@ after_upto (argument.bind {word = word} is) value tail e = let heads : word ≡ 
 after_upto (argument.plain fresh) value tail e = absurd (clash e refl)
 after_upto (argument.end fresh) value tail e = absurd (clash e refl)
 after_upto (argument.cut fresh are) value tail e = absurd (clash e refl)
-after_upto (argument.upto {value = v} {time = z} fresh is) value tail e =
+after_upto (argument.upto {value = v} {given = g} fresh is) value tail e =
     let same : v ≡ value = cc in
-    record { fresh = fresh; time = z; is = subst (λ w. IsNumber (neg_ℤ T) T w z) same is; gives = refl; rests = cc }
+    record { fresh = fresh; given = g; is = subst (λ w. IsUpto w g) same is; gives = refl; rests = cc }
 after_upto (argument.save fresh some) value tail e = absurd (clash e refl)
 after_upto (argument.parts_at fresh are) value tail e = absurd (clash e refl)
 after_upto (argument.order fresh are) value tail e = absurd (clash e refl)
@@ -182,10 +184,10 @@ same_begins (argument.cut {old = old} {value = value} {rest = rest} {times = tim
     let g = after_cut b value rest refl in
     let same = same_rising (pos 0) T (neg_ℤ T) value times g.times are g.are in
     (ap (λ ts. record old { cuts = ts }) same ∙ sym g.gives, sym g.rests)
-same_begins (argument.upto {old = old} {value = value} {rest = rest} {time = time} fresh is) b =
+same_begins (argument.upto {old = old} {value = value} {rest = rest} {given = given} fresh is) b =
     let g = after_upto b value rest refl in
-    let same = same_number (neg_ℤ T) T (neg_ℤ T) T value time g.time is g.is in
-    (ap (λ z. record old { upto = Some z }) same ∙ sym g.gives, sym g.rests)
+    let same = same_upto value given g.given is g.is in
+    (ap (λ u. record old { upto = Some u }) same ∙ sym g.gives, sym g.rests)
 same_begins (argument.save {file = file} {rest = rest} fresh some) b = let g = after_save b file rest refl in (sym g.2, sym g.3)
 same_begins (argument.parts_at {old = old} {value = value} {rest = rest} {times = times} fresh are) b =
     let g = after_at b value rest refl in

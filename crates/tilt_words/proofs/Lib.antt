@@ -5,4 +5,5 @@ pub mod Determined
 pub mod Fronts
 pub mod Listed
 pub mod OneCommand
+pub mod UptoRead
 pub mod Within

@@ -5,6 +5,7 @@ use Rattle.std.proofs.lemmas.Option.{same_Some, none-some}
 use Rattle.tilt_base.specs.Number.{integer_spelled}
 use Rattle.tilt_words.specs.Arguments.{no_settings, AreArguments}
 use Rattle.tilt_words.specs.Command.{Call, CommandValue, IsCommand, IsFileCommand, IsTry, call_of, run, compile, exec, explain, start, resume_upto, resume_end, pipe, watch, parts, try}
+use Rattle.tilt_words.specs.Upto.{all}
 use Rattle.tilt_words.proofs.Determined.{same_settings}
 
 -- the third byte of a call's first word, in which the commands differ, but `pipe` and `explain`, whose first bytes do
@@ -20,8 +21,8 @@ rebuilt call =
     else if third call == 109 then compile file s.plain
     else if third call == 101 then exec file s.binds
     else if third call == 112 then (if get_or call.name 0 0 == 112 then pipe file s.binds s.plain else explain file)
-    else if third call == 97 then start file s.binds s.plain (unwrap_or s.upto (pos 0)) (unwrap_or s.save [])
-    else if third call == 115 then (if s.end then resume_end file s.binds s.plain else resume_upto file s.binds s.plain (unwrap_or s.upto (pos 0)) (unwrap_or s.save []))
+    else if third call == 97 then start file s.binds s.plain (unwrap_or s.upto (all (pos 0))) (unwrap_or s.save [])
+    else if third call == 115 then (if s.end then resume_end file s.binds s.plain else resume_upto file s.binds s.plain (unwrap_or s.upto (all (pos 0))) (unwrap_or s.save []))
     else if third call == 114 then parts file s.binds s.plain s.at s.order
     else watch file s.binds s.plain
 

@@ -8,6 +8,8 @@ use Rattle.tilt_words.specs.Arguments.{Settings, no_settings, Begins, AreArgumen
 use Rattle.tilt_words.specs.Arguments as argument
 use Rattle.tilt_words.specs.Command.{Call, CommandValue, IsCommand, IsFileCommand, IsWithin, run, start, resume_upto, parts, try}
 use Rattle.tilt_words.specs.Number.{AreRising, ClimbFrom, RiseFrom, after_comma}
+use Rattle.tilt_words.specs.Upto.{IsUptoWithin, UptoValue}
+use Rattle.tilt_words.proofs.UptoRead.{upto_within}
 
 rises : (low least greatest : ℤ) (word : List ℕ) (numbers : List ℤ) → low ≤ℤ least → AreRising (pos 0) least greatest word numbers → RiseFrom low greatest numbers
 rises low least greatest word [] above are = absurd are
@@ -24,17 +26,14 @@ climbs least greatest word (number ∷ []) is = (is.low, is.high, tt)
 climbs least greatest word (number ∷ next ∷ more) are =
     (are.0.low, are.0.high, climbs (number +ℤ pos 1) greatest (after_comma word) (next ∷ more) are.1)
 
-abbrev IsTime : ℤ → Type 0
-IsTime time = (neg_ℤ T ≤ℤ time) × (time ≤ℤ T)
-
 -- the numbers of settings
 record AreWithin (settings : Settings) : Type 0 where
   cuts : RiseFrom (neg_ℤ T) T settings.cuts
-  upto : (time : ℤ) → settings.upto ≡ Some time → IsTime time
+  upto : (given : UptoValue) → settings.upto ≡ Some given → IsUptoWithin given
   at : ClimbFrom (neg_ℤ T) T settings.at
 
 none_within : AreWithin no_settings
-none_within = record { cuts = tt; upto = λ time e. absurd (none-some time e); at = tt }
+none_within = record { cuts = tt; upto = λ given e. absurd (none-some given e); at = tt }
 
 one_within : {old new : Settings} {words rest : List (List ℕ)} → Begins old words new rest → AreWithin old → AreWithin new
 one_within (argument.bind is) before = record { cuts = before.cuts; upto = before.upto; at = before.at }
@@ -42,8 +41,8 @@ one_within (argument.plain fresh) before = record { cuts = before.cuts; upto = b
 one_within (argument.end fresh) before = record { cuts = before.cuts; upto = before.upto; at = before.at }
 one_within (argument.cut {value = value} {times = times} fresh are) before =
     record { cuts = rises (neg_ℤ T) (neg_ℤ T) T value times (omega (arith, ints)) are; upto = before.upto; at = before.at }
-one_within (argument.upto {time = time} fresh is) before =
-    record { cuts = before.cuts; upto = λ other e. subst IsTime (same_Some time other e) (is.low, is.high); at = before.at }
+one_within (argument.upto {value = value} {given = given} fresh is) before =
+    record { cuts = before.cuts; upto = λ other e. subst IsUptoWithin (same_Some given other e) (upto_within value given is); at = before.at }
 one_within (argument.save fresh some) before = record { cuts = before.cuts; upto = before.upto; at = before.at }
 one_within (argument.parts_at {value = value} {times = times} fresh are) before =
     record { cuts = before.cuts; upto = before.upto; at = climbs (neg_ℤ T) T value times are }

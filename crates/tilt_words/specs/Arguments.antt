@@ -2,7 +2,8 @@
 use Rattle.std.specs.Prelude.{◌≡◌, ◌≢◌, ℕ, ℤ, pos, neg_ℤ, Bool, true, false, List, [], ◌∷◌, ◌++◌, Option, None, Some, codes}
 use Rattle.tilt_base.specs.declared.limits.TheConstants.{T}
 use Rattle.tilt_words.specs.Binding.{Binding, IsBinding, binding_spelled}
-use Rattle.tilt_words.specs.Number.{IsNumber, AreRising, AreUpTo}
+use Rattle.tilt_words.specs.Number.{AreRising, AreUpTo}
+use Rattle.tilt_words.specs.Upto.{IsUpto, UptoValue}
 
 -- what the words give a command besides its file
 pub record Settings : Type 0 where
@@ -14,8 +15,8 @@ pub record Settings : Type 0 where
   pub end : Bool
   -- the numbers of `--cut`, of which there is none where it doesn't stand
   pub cuts : List ℤ
-  -- the number of `--upto`
-  pub upto : Option ℤ
+  -- the value of `--upto`
+  pub upto : Option UptoValue
   -- the file of `--save`
   pub save : Option (List ℕ)
   -- the numbers of `--at`, of which there is none where it doesn't stand
@@ -42,9 +43,9 @@ pub data Begins : (old : Settings) (words : List (List ℕ)) (new : Settings) (r
   -- `--cut TIME,TIME ..`, none below the one before it
   cut : {old : Settings} {value : List ℕ} {rest : List (List ℕ)} {times : List ℤ} → old.cuts ≡ []
       → AreRising (pos 0) (neg_ℤ T) T value times → Begins old (codes "--cut" ∷ value ∷ rest) (record old { cuts = times }) rest
-  -- `--upto TIME`
-  upto : {old : Settings} {value : List ℕ} {rest : List (List ℕ)} {time : ℤ} → old.upto ≡ None → IsNumber (neg_ℤ T) T value time →
-      Begins old (codes "--upto" ∷ value ∷ rest) (record old { upto = Some time }) rest
+  -- `--upto TIME` or `--upto NAME=TIME,NAME=TIME ..`
+  upto : {old : Settings} {value : List ℕ} {rest : List (List ℕ)} {given : UptoValue} → old.upto ≡ None → IsUpto value given →
+      Begins old (codes "--upto" ∷ value ∷ rest) (record old { upto = Some given }) rest
   -- `--save FILE`
   save : {old : Settings} {file : List ℕ} {rest : List (List ℕ)} → old.save ≡ None → file ≢ [] →
       Begins old (codes "--save" ∷ file ∷ rest) (record old { save = Some file }) rest

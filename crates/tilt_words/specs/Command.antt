@@ -1,5 +1,5 @@
 -- The words of a command line, as they stand behind the program's name, and the command that they are (our own rule).
-use Rattle.std.specs.Prelude.{◌≡◌, ◌≢◌, ℕ, ◌≤◌, ℤ, pos, neg_ℤ, ◌≤ℤ◌, Bool, false, true}
+use Rattle.std.specs.Prelude.{◌≡◌, ◌≢◌, ℕ, ◌≤◌, ℤ, pos, neg_ℤ, Bool, false, true}
 use Rattle.std.specs.Prelude.{List, [], ◌∷◌, ◌++◌, Option, None, Some, codes, map, String, string_bytes, ⊤}
 use Rattle.std.specs.declared.alloc.Global.{Global}
 use Rattle.tilt_base.specs.declared.limits.TheConstants.{T}
@@ -8,6 +8,7 @@ use Rattle.tilt_words.specs.declared.command.Command.TheVariants as variant
 use Rattle.tilt_words.specs.Arguments.{Settings, no_settings, AreArguments}
 use Rattle.tilt_words.specs.Binding.{Binding, bindings_of}
 use Rattle.tilt_words.specs.Number.{IsNumber, RiseFrom, ClimbFrom}
+use Rattle.tilt_words.specs.Upto.{IsUptoWithin, UptoValue, upto_of}
 
 -- the bytes of each word
 abbrev pub texts : List (String Global) → List (List ℕ)
@@ -19,8 +20,8 @@ pub data CommandValue : Type 0 where
   compile : (query : List ℕ) (plain : Bool) → CommandValue
   exec : (code : List ℕ) (binds : List Binding) → CommandValue
   explain : (query : List ℕ) → CommandValue
-  start : (query : List ℕ) (binds : List Binding) (plain : Bool) (upto : ℤ) (save : List ℕ) → CommandValue
-  resume_upto : (checkpoint : List ℕ) (binds : List Binding) (plain : Bool) (upto : ℤ) (save : List ℕ) → CommandValue
+  start : (query : List ℕ) (binds : List Binding) (plain : Bool) (upto : UptoValue) (save : List ℕ) → CommandValue
+  resume_upto : (checkpoint : List ℕ) (binds : List Binding) (plain : Bool) (upto : UptoValue) (save : List ℕ) → CommandValue
   resume_end : (checkpoint : List ℕ) (binds : List Binding) (plain : Bool) → CommandValue
   pipe : (query : List ℕ) (binds : List Binding) (plain : Bool) → CommandValue
   watch : (query : List ℕ) (binds : List Binding) (plain : Bool) → CommandValue
@@ -116,8 +117,8 @@ is_plain command = false
 -- the numbers of a command lie between their bounds, and its cuts are in order
 abbrev pub IsWithin : CommandValue → Type 0
 IsWithin (run query binds plain cuts) = RiseFrom (neg_ℤ T) T cuts
-IsWithin (start query binds plain upto save) = (neg_ℤ T ≤ℤ upto) × (upto ≤ℤ T)
-IsWithin (resume_upto checkpoint binds plain upto save) = (neg_ℤ T ≤ℤ upto) × (upto ≤ℤ T)
+IsWithin (start query binds plain upto save) = IsUptoWithin upto
+IsWithin (resume_upto checkpoint binds plain upto save) = IsUptoWithin upto
 IsWithin (parts query binds plain at order) = ClimbFrom (neg_ℤ T) T at
 IsWithin (try seed count) = (seed ≤ 2147483647) × (count ≤ 1000000)
 IsWithin command = ⊤
@@ -129,9 +130,9 @@ command_of (variant.Compile query plain) = compile (string_bytes query) plain
 command_of (variant.Exec code binds) = exec (string_bytes code) (bindings_of binds.items)
 command_of (variant.Explain query) = explain (string_bytes query)
 command_of (variant.Start query binds plain upto save) =
-    start (string_bytes query) (bindings_of binds.items) plain upto (string_bytes save)
+    start (string_bytes query) (bindings_of binds.items) plain (upto_of upto) (string_bytes save)
 command_of (variant.ResumeUpto file binds plain upto save) =
-    resume_upto (string_bytes file) (bindings_of binds.items) plain upto (string_bytes save)
+    resume_upto (string_bytes file) (bindings_of binds.items) plain (upto_of upto) (string_bytes save)
 command_of (variant.ResumeEnd file binds plain) = resume_end (string_bytes file) (bindings_of binds.items) plain
 command_of (variant.Pipe query binds plain) = pipe (string_bytes query) (bindings_of binds.items) plain
 command_of (variant.Watch query binds plain) = watch (string_bytes query) (bindings_of binds.items) plain

@@ -6,6 +6,7 @@ use Rattle.tilt_words.specs.declared.command.Command.{Command}
 use Rattle.tilt_words.specs.Arguments.{Settings}
 use Rattle.tilt_words.specs.Binding.{bindings_of}
 use Rattle.tilt_words.specs.Command.{Call, CommandValue, call_of, command_of}
+use Rattle.tilt_words.specs.Upto.{upto_of}
 
 -- the settings that the arguments are
 abbrev pub settings_of : Arguments → Settings
@@ -14,7 +15,7 @@ settings_of arguments = record {
   plain = arguments.plain;
   end = arguments.end;
   cuts = arguments.cuts.items;
-  upto = arguments.upto;
+  upto = option_map upto_of arguments.upto;
   save = option_map (λ s. string_bytes s) arguments.save;
   at = arguments.at.items;
   order = arguments.order.items;

@@ -3,3 +3,4 @@ pub mod Binding
 pub mod Command
 pub mod Given
 pub mod Number
+pub mod Upto

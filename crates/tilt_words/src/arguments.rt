@@ -6,13 +6,14 @@ ghost use Rattle.tilt_words.specs.Arguments.{AreArguments, Begins, Settings, no_
 ghost use Rattle.tilt_words.specs.Binding.{IsBinding, binding_spelled};
 ghost use Rattle.tilt_words.specs.Command.{texts};
 ghost use Rattle.tilt_words.specs.Given.{settings_of};
-ghost use Rattle.tilt_words.specs.Number.{AreRising, AreUpTo, IsNumber};
+ghost use Rattle.tilt_words.specs.Number.{AreRising, AreUpTo};
+ghost use Rattle.tilt_words.specs.Upto.{IsUpto, UptoValue};
 
 use crate::bind::Bind;
 use crate::fault::WordsFault;
-use crate::number::{read_numbers, read_rising, read_within};
+use crate::number::{read_numbers, read_rising};
+use crate::upto::Upto;
 use std::alloc::Global;
-use tilt_base::T;
 
 // What words behind a command's file give it.
 #[derive(Drop)]
@@ -22,7 +23,7 @@ pub(crate) struct Arguments {
     pub(crate) end: bool,
     // Empty where `--cut` doesn't stand.
     pub(crate) cuts: Vec<i64>,
-    pub(crate) upto: Option<i64>,
+    pub(crate) upto: Option<Upto>,
     pub(crate) save: Option<String>,
     // Empty where `--at` doesn't stand.
     pub(crate) at: Vec<i64>,
@@ -93,7 +94,7 @@ impl Arguments {
                 Ok(2)
             }
             "--upto" => {
-                self.take_upto(value(rest)?)?;
+                self.take_upto(alloc, value(rest)?)?;
                 Ok(2)
             }
             "--save" => {
@@ -169,18 +170,17 @@ impl Arguments {
     }
 
     // Notes the value of `--upto`, where it didn't stand before.
-    fn take_upto(&mut self, value: &str) -> Result<(), WordsFault>
+    fn take_upto(&mut self, alloc: Global, value: &str) -> Result<(), WordsFault>
         ensures { MatchResult result
-            (λ _. (self.old.upto ≡ None) × ((time : ℤ) × IsNumber (neg_ℤ T) T value.now time
-            × (settings_of self.new ≡ record (settings_of self.old) { upto = Some time })))
-            (λ fault. (fault ≡ WordsFault.Usage)
-            × (self.old.upto ≡ None → (time : ℤ) → ¬ (IsNumber (neg_ℤ T) T value.now time))) }
+            (λ _. ((settings_of self.old).upto ≡ None) × ((given : UptoValue) × IsUpto value.now given
+            × (settings_of self.new ≡ record (settings_of self.old) { upto = Some given })))
+            (λ fault. fault ≡ WordsFault.Usage → (settings_of self.old).upto ≡ None →
+            (given : UptoValue) → ¬ (IsUpto value.now given)) }
     {
         if self.upto.is_some() {
             return Err(WordsFault::Usage);
         }
-        let time = read_within(value, -T, T).ok_or(WordsFault::Usage)?;
-        self.upto = Some(time);
+        self.upto = Some(Upto::read(alloc, value)?);
         Ok(())
     }
 

@@ -5,6 +5,7 @@ ghost use Rattle.tilt_words.specs.Given.{IsCalled, call_with};
 
 use crate::arguments::Arguments;
 use crate::bind::Bind;
+use crate::upto::Upto;
 
 /// What the words of a command line ask for. The names of files are as the words give them, not empty; those that a
 /// command reads first don't begin with `--`. Times are in ticks and lie in `-T..=T`.
@@ -33,20 +34,20 @@ pub enum Command {
     Explain {
         query: String,
     },
-    /// Run the query's first session, up to a time, and save where it stands.
+    /// Run the query's first session, up to a cut of each input, and save where it stands.
     Start {
         query: String,
         binds: Vec<Bind>,
         plain: bool,
-        upto: i64,
+        upto: Upto,
         save: String,
     },
-    /// Go on from a checkpoint up to a time, and save where it stands then.
+    /// Go on from a checkpoint up to a cut of each input, and save where it stands then.
     ResumeUpto {
         file: String,
         binds: Vec<Bind>,
         plain: bool,
-        upto: i64,
+        upto: Upto,
         save: String,
     },
     /// Go on from a checkpoint to the end.

@@ -6,11 +6,15 @@
 mod arguments;
 mod bind;
 mod command;
+mod cut_bind;
 mod fault;
 mod number;
 mod reader;
+mod upto;
 
 pub use bind::Bind;
 pub use command::Command;
+pub use cut_bind::CutBind;
 pub use fault::WordsFault;
 pub use reader::read_words;
+pub use upto::Upto;

@@ -1,4 +1,5 @@
-use Rattle.std.proofs.Common.{◌≡◌, ◌∙◌}
+use Rattle.std.proofs.Common.{◌≡◌, ◌∙◌, subst, sym}
+use Rattle.tilt_checkpoint.specs.Spelling.{Spells}
 use Rattle.std.proofs.lemmas.Result.{err_from_is_err_and}
 use Rattle.tilt_load.specs.CheckpointFile.{RefusesCheckpoint, of_none}
 use Rattle.tilt_load.specs.Load.{IsTooLong}
@@ -21,7 +22,7 @@ returns-in-Err-BadCheckpoint-clause-fault g c =
     λ told.
     let whole = c.in_ok-bytes.ensures.whole told in
     let none = c.in-Err-BadCheckpoint.ensures.bad c.in-Err-BadCheckpoint.field-0-is in
-    of_none (rw whole at c.in_ok-bytes.ensures.short) (λ k is e. none k is (c.deref.ensures.value ∙ whole ∙ e))
+    of_none (rw whole at c.in_ok-bytes.ensures.short) (λ k is e. none k is (subst (λ b. Spells b k) (sym (c.deref.ensures.value ∙ whole)) e))
 
 pub returns-clause-taken : goal.returns-clause-taken
 returns-clause-taken g c =

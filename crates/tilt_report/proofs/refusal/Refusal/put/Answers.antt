@@ -17,3 +17,6 @@ returns-in-TooManyStatements g c = rw c.in-TooManyStatements.is c.put_text.ensur
 
 pub returns-in-BadCheckpoint : goal.returns-in-BadCheckpoint
 returns-in-BadCheckpoint g c = rw c.in-BadCheckpoint.is c.put_text-in-BadCheckpoint.ensures
+
+pub returns-in-CutNames : goal.returns-in-CutNames
+returns-in-CutNames g c = rw (c.in-CutNames.is, ← c.bytes-in-CutNames.ensures.value) c.put_named-in-CutNames.ensures

@@ -73,7 +73,7 @@ returns-in_err-take_upto-in-text-4 c =
     let p = err_from_is_err_and c.from_residual-in_err-take_upto-in-text-4.result c.from_residual-in_err-take_upto-in-text-4.ensures.1 in
     rw (p.1, p.2) (λ usage new rest begins.
     let given = after_upto begins _ (drop 2 (texts words)) (first ∙ ap (λ t. codes "--upto" ∷ t) second.second) in
-    c.in_err-take_upto-in-text-4.ensures.1 given.fresh given.time given.is)
+    c.in_err-take_upto-in-text-4.ensures usage given.fresh given.given given.is)
 
 pub returns-in_ok-take_upto-in-text-4 : goal.returns-in_ok-take_upto-in-text-4
 returns-in_ok-take_upto-in-text-4 c =
