@@ -1,4 +1,4 @@
-//! The program `tilt`: it hands its words with the files of the disk, the standard streams and three watchers to the one
+//! The program `tilt`: it hands its words with the files of the disk, the standard streams and four watchers to the one
 //! call that does the work.
 #![tactic(auto)]
 
@@ -7,13 +7,16 @@ use std::process::{self, ExitCode};
 use std::{env, io};
 use tilt_app::tilt;
 use tilt_outside::{BufferedSink, DiskShelf, StdSink};
-use tilt_watch::{Ends, Range, Tally, Watcher};
+use tilt_watch::{Ends, FirstRows, Range, Tally, Watcher};
 
 /// The status where the program isn't handed its words: one of them is no UTF-8, or there is no memory for them.
 const NO_WORDS: u8 = 7;
 
 /// The status where there is no memory for the buffer of the output or for the watchers.
 const NO_MEMORY: u8 = 5;
+
+/// How many rows the last watcher counts.
+const FIRST_ROWS: u64 = 3;
 
 fn main(rt: HostRuntime) -> ExitCode {
     let Ok(words) = words(&rt) else {
@@ -22,7 +25,7 @@ fn main(rt: HostRuntime) -> ExitCode {
     ExitCode::from(status(&rt, &words).unwrap_or(NO_MEMORY))
 }
 
-// Does what the words say, beside a watcher of each kind.
+// Does what the words say, beside a watcher of each kind that has no limit, and one of the first rows.
 fn status(rt: &HostRuntime, words: &[String]) -> Result<u8, OutOfMemory> {
     let mut shelf = DiskShelf::new(rt.alloc(), rt, process::id(rt.process()));
     let mut out = BufferedSink::new(rt.alloc(), rt.stdout())?;
@@ -31,6 +34,7 @@ fn status(rt: &HostRuntime, words: &[String]) -> Result<u8, OutOfMemory> {
     watchers.push(Box::new(rt.alloc(), Tally::new())?)?;
     watchers.push(Box::new(rt.alloc(), Range::new())?)?;
     watchers.push(Box::new(rt.alloc(), Ends::new())?)?;
+    watchers.push(Box::new(rt.alloc(), FirstRows::new(FIRST_ROWS))?)?;
     Ok(tilt(
         rt.alloc(),
         words,

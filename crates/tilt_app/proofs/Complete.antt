@@ -127,6 +127,15 @@ status_of_write_fault write_fault is = refl
 status_of_write_fault (save_fault name) is = absurd (omega arith)
 status_of_write_fault out_of_memory is = absurd (omega arith)
 
+-- the status of want of memory is that of no other report
+pub status_of_want : (report : Report) → status_of report ≡ 5 → report ≡ out_of_memory
+status_of_want usage is = absurd (omega arith)
+status_of_want (refusal why) is = absurd (omega arith)
+status_of_want (read_fault name) is = absurd (omega arith)
+status_of_want write_fault is = absurd (omega arith)
+status_of_want (save_fault name) is = absurd (omega arith)
+status_of_want out_of_memory is = refl
+
 -- the status of a save fault
 pub status_of_save : (report : Report) → IsSaveFault report → status_of report ≡ 6
 status_of_save usage is = absurd is

@@ -1,5 +1,5 @@
 -- What puts and a save leave, from what each of them did.
-use Rattle.std.proofs.Common.{◌≡◌, ◌++◌, ◌+◌, List, ℕ, Option, None, Some, Result, Ok, Err, inr, refl, subst}
+use Rattle.std.proofs.Common.{◌≡◌, ◌++◌, List, ℕ, Option, None, Some, Result, Ok, Err, inr, refl, subst}
 use Rattle.std.specs.Prelude.{MatchResult, OnOk}
 use Rattle.tilt_app.specs.Cause.{IsCause}
 use Rattle.tilt_app.specs.Change.{ShelfChange, SinkChange}
@@ -55,7 +55,7 @@ module _ (is_outcome : Outcome → Type 0) (has_turn : List ℕ → Type 0) (she
   unput_cause text save OutOfMemory report is outcome front rose = rw is (inr (text, save, record { outcome = outcome; front = front }))
 
 -- what holds of a result that isn't a failure
-pub on_match : {E P : Type 0} (Q : Type 0) (r : Result (Unit {0}) E) → ((e : E) → r ≡ Err e → ⊥) → MatchResult r (λ _. P) (λ _. Q) → P
+pub on_match : {E P : Type 0} (Q : E → Type 0) (r : Result (Unit {0}) E) → ((e : E) → r ≡ Err e → ⊥) → MatchResult r (λ _. P) Q → P
 on_match Q (Ok u) fine seen = seen
 on_match Q (Err e) fine seen = absurd (fine e refl)
 

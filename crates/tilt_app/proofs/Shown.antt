@@ -18,9 +18,8 @@ use Rattle.tilt_printed.specs.Show.{shown_of}
 use Rattle.tilt_printed.specs.Text.{printed_text}
 use Rattle.tilt_printed.specs.declared.answered.Answered.{Answered}
 use Rattle.tilt_printed.specs.declared.printed.Printed.{Printed}
-use Rattle.tilt_printed.specs.declared.printed.Printed.TheVariants.{Whole, Run, Rings}
+use Rattle.tilt_printed.specs.declared.printed.Printed.TheVariants.{Whole, Run, Rings, Watched}
 use Rattle.tilt_printed.specs.declared.save.Save.{Save}
-use Rattle.tilt_printed.specs.declared.whole_text.WholeText.TheVariants.{Snapshots, Lines, Watched, Parted, Text}
 use Rattle.tilt_report.specs.Report.{Outcome, Report, usage, refusal, read_fault, write_fault, save_fault, out_of_memory, printed, refused, report_of}
 use Rattle.tilt_report.specs.declared.fault.Fault.{Fault}
 use Rattle.tilt_sessions.specs.SavedCut.{SavedCutValue}
@@ -119,15 +118,17 @@ run_of_watch files query binds list o (done says rows taken read gives) same =
     done says rows taken read (gives.0, gives.1, ap printed (sym plain))
 
 module _ (tells : Type 0) (files : List ℕ → List ℕ) where
+  -- `watch` shows the list that is printed
+  shows_list : (query : List ℕ) (binds : List Binding) (plain : _) (list : List Snapshot) (o : Outcome) → (tells → IsFileOutcome (watch_row query []) files query binds o)
+      → o ≡ printed (text_of list ++ []) → IsShow tells files (watch query binds plain) (Some list)
+  shows_list query binds plain list o made same = (list, refl, λ t. run_of_watch files query binds list o (made t) same)
+
   -- what `watch` shows
   watch_shows : (query : List ℕ) (binds : List Binding) (plain : _) (text : Printed) (save : Option Save) → save ≡ None → IsSome (shown_of text)
       → (tells → IsFileOutcome (watch_row query []) files query binds (outcome_of (printed_text [] text) (save_of save))) → IsShow tells files (watch query binds plain) (shown_of text)
-  watch_shows query binds plain (Whole (Watched list)) save none some made =
-      (list, refl, λ t. run_of_watch files query binds list _ (made t) (ap (λ (s : Option Save). outcome_of (printed_text [] (Whole (Watched list))) (save_of s)) none))
-  watch_shows query binds plain (Whole (Snapshots list)) save none some made = absurd (cc some)
-  watch_shows query binds plain (Whole (Lines list)) save none some made = absurd (cc some)
-  watch_shows query binds plain (Whole (Parted list sizes)) save none some made = absurd (cc some)
-  watch_shows query binds plain (Whole (Text text)) save none some made = absurd (cc some)
+  watch_shows query binds plain (Watched pipe) save none some made =
+      shows_list query binds plain _ _ made (ap (λ (s : Option Save). outcome_of (printed_text [] (Watched pipe)) (save_of s)) none)
+  watch_shows query binds plain (Whole text) save none some made = absurd (cc some)
   watch_shows query binds plain (Run pipe) save none some made = absurd (cc some)
   watch_shows query binds plain (Rings pipe) save none some made = absurd (cc some)
 

@@ -7,7 +7,7 @@ use Rattle.tilt_app.specs.Answered.{IsAnswered}
 use Rattle.tilt_app.specs.Cause.{IsCause, IsSaveFault, IsUnanswered}
 use Rattle.tilt_app.specs.Change.{SinkChange, shelf_change}
 use Rattle.tilt_app.specs.Outcome.{HasRowTurn, IsRowOutcome}
-use Rattle.tilt_app.specs.Show.{SeeOfFault}
+use Rattle.tilt_app.specs.Show.{IsUntouched, SeeOfFault}
 use Rattle.tilt_commands.specs.Table.{row_of}
 use Rattle.tilt_load.specs.Does.{reading}
 use Rattle.tilt_printed.specs.Left.{Left}
@@ -40,7 +40,7 @@ module _ {S : Type 0} (tells : Type 0) (files : S → List ℕ → List ℕ) (re
         no_save_fault (IsRowOutcome (files old) [] (row_of command)) (λ name. (any : List Watch) × HasRowTurn tells (files old) any (row_of command) name)
         (shelf_change tells files read_faults save_faults old new) (report_of fault) (undone []) is
 
-    pub fault_seen : (left : Left) (is_show : Option (List Snapshot) → Type 0) → left.kept → SeeOfFault left is_show (report_of fault)
-    fault_seen left is_show kept =
+    pub fault_seen : (left : Left) (is_show : Option (List Snapshot) → Type 0) → IsUntouched left → SeeOfFault left is_show (report_of fault)
+    fault_seen left is_show same =
         unanswered_seen (IsRowOutcome (files old) [] (row_of command)) (λ name. (any : List Watch) × HasRowTurn tells (files old) any (row_of command) name)
-        (shelf_change tells files read_faults save_faults old new) left is_show (report_of fault) kept (undone [])
+        (shelf_change tells files read_faults save_faults old new) left is_show (report_of fault) same (undone [])

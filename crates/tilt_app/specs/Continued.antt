@@ -1,7 +1,8 @@
 -- What sessions hand on, and how the next one goes on from it, by what is written and saved.
-use Rattle.std.specs.Prelude.{◌≡◌, ◌++◌, ⊤, ℤ, List, ℕ, Option, None, Some}
+use Rattle.std.specs.Prelude.{◌≡◌, ◌++◌, ⊤, List, ℕ, Option, None, Some}
 use Rattle.tilt_app.specs.Change.{ShelfChange, SinkChange}
 use Rattle.tilt_app.specs.Saving.{IsSaved}
+use Rattle.tilt_checkpoint.specs.Cuts.{CutsParts}
 use Rattle.tilt_printed.specs.Saving.{SaveValue, outcome_of}
 use Rattle.tilt_report.specs.Report.{Outcome}
 use Rattle.tilt_sessions.specs.HandsOn.{HandsOn, IsBegun, IsBeyond}
@@ -23,8 +24,8 @@ pub record IsLeft (is_outcome : Outcome → Type 0) (shelf : ShelfChange) (out :
 -- one session prints on the earlier ones, and what was saved is the checkpoint of all rows
 abbrev pub GoesBeyond : List ℕ → List Binding → Option SavedCutValue → ShelfChange → SinkChange → Type 0
 GoesBeyond checkpoint binds ending shelf out =
-    (query : List StatementTree) (rows : List (List Snapshot)) (cut : ℤ) → HandsOn (shelf.held checkpoint) query rows cut
-    → IsLeft (IsBeyond shelf.held binds query rows cut ending) shelf out
+    (query : List StatementTree) (rows : List (List Snapshot)) (cuts : CutsParts) → HandsOn (shelf.held checkpoint) query rows cuts
+    → IsLeft (IsBeyond shelf.held binds query rows cuts ending) shelf out
 
 -- a first session saved the checkpoint of the rows that it was handed, and a later one goes beyond the sessions before it
 abbrev pub IsContinued : ShelfChange → SinkChange → CommandValue → Type 0
@@ -40,9 +41,9 @@ abbrev pub Continues : (List ℕ → List ℕ) → CommandValue → Outcome → 
 Continues files (start query binds plain upto save) outcome =
     IsBegun files query binds (record { upto = upto; save = save }) outcome
 Continues files (resume_upto checkpoint binds plain upto save) outcome =
-    (query : List StatementTree) (rows : List (List Snapshot)) (cut : ℤ) → HandsOn (files checkpoint) query rows cut
-    → IsBeyond files binds query rows cut (Some (record { upto = upto; save = save })) outcome
+    (query : List StatementTree) (rows : List (List Snapshot)) (cuts : CutsParts) → HandsOn (files checkpoint) query rows cuts
+    → IsBeyond files binds query rows cuts (Some (record { upto = upto; save = save })) outcome
 Continues files (resume_end checkpoint binds plain) outcome =
-    (query : List StatementTree) (rows : List (List Snapshot)) (cut : ℤ) → HandsOn (files checkpoint) query rows cut
-    → IsBeyond files binds query rows cut None outcome
+    (query : List StatementTree) (rows : List (List Snapshot)) (cuts : CutsParts) → HandsOn (files checkpoint) query rows cuts
+    → IsBeyond files binds query rows cuts None outcome
 Continues files command outcome = ⊤

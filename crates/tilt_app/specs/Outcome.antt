@@ -54,10 +54,11 @@ Saves command = ⊥
 abbrev pub IsSaving : List (List ℕ) → Type 0
 IsSaving words = (command : CommandValue) × IsCommand words command × Saves command
 
--- whether a command's text is given out by a pipe, which takes memory between puts: that of `run` without cuts, and of `pipe`
+-- whether a command's text is given out by a pipe, which takes memory between puts: that of `run` without cuts, of `pipe` and of `watch`
 abbrev pub Streams : CommandValue → Type 0
 Streams (run query binds plain cuts) = cuts ≡ []
 Streams (pipe query binds plain) = ⊤
+Streams (watch query binds plain) = ⊤
 Streams command = ⊥
 
 -- the words are a command that does

@@ -1,9 +1,10 @@
 -- What the watchers are shown, and how they stand then.
-use Rattle.std.specs.Prelude.{◌≡◌, List, ℕ, Bool, Option, None, Some}
+use Rattle.std.specs.Prelude.{◌≡◌, ◌⊎◌, List, ℕ, Bool, Option, None, Some}
 use Rattle.tilt_commands.specs.Table.{run_row}
 use Rattle.tilt_load.specs.FileCommand.{IsFileOutcome}
 use Rattle.tilt_printed.specs.Left.{Left}
 use Rattle.tilt_printed.specs.Show.{SeePart}
+use Rattle.tilt_printed.specs.declared.unput.Unput.TheVariants.{Failed, OutOfMemory}
 use Rattle.tilt_report.specs.Report.{Report, usage, refusal, read_fault, write_fault, save_fault, out_of_memory, printed}
 use Rattle.tilt_stream.specs.Snap.{Snapshot}
 use Rattle.tilt_stream.specs.Text.{text_of}
@@ -28,11 +29,18 @@ IsShow tells files (watch query binds plain) shown =
     (list : List Snapshot) × (shown ≡ Some list) × WatchesRun tells files query binds list
 IsShow tells files command shown = shown ≡ None
 
--- a command that shows such snapshots ended with this report: the watchers are as they were, unless it is a write fault
+-- the watchers are as they were, and nothing was written
+pub record IsUntouched (left : Left) : Type 0 where
+  pub kept : left.kept
+  pub unwritten : left.tells → left.new ≡ left.old
+
+-- a command that shows such snapshots ended with this report: the watchers are as they were, unless it is a write fault, or memory was
+-- wanting for what is put
 abbrev pub SeeOfFault : Left → (Option (List Snapshot) → Type 0) → Report → Type 0
 SeeOfFault left is_show usage = left.kept
 SeeOfFault left is_show (refusal why) = left.kept
 SeeOfFault left is_show (read_fault name) = left.kept
-SeeOfFault left is_show write_fault = (shown : Option (List Snapshot)) × is_show shown × SeePart left shown
+SeeOfFault left is_show write_fault = (shown : Option (List Snapshot)) × is_show shown × SeePart Failed left shown
 SeeOfFault left is_show (save_fault name) = left.kept
-SeeOfFault left is_show out_of_memory = left.kept
+SeeOfFault left is_show out_of_memory =
+    IsUntouched left ⊎ ((shown : Option (List Snapshot)) × is_show shown × SeePart OutOfMemory left shown)

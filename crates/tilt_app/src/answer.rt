@@ -9,6 +9,7 @@ ghost use Rattle.tilt_printed.specs.Answer.{comes_to};
 ghost use Rattle.tilt_sessions.specs.SavedCut.{ending_of};
 ghost use Rattle.tilt_watch.specs.Watch.{Watch};
 ghost use Rattle.tilt_words.specs.Command.{IsWithin, command_of};
+ghost use Rattle.tilt_words.specs.Upto.{upto_of};
 
 use std::alloc::Global;
 use tilt_commands::{Division, Manner, compile, exec, explain, parts, pipe, run, try_, watch};
@@ -16,7 +17,7 @@ use tilt_outside::Shelf;
 use tilt_printed::Answered;
 use tilt_report::Fault;
 use tilt_sessions::{SavedCut, resume_session, start_session};
-use tilt_words::Command;
+use tilt_words::{Command, Upto};
 
 /// What the command prints and saves. All files are read here, and all memory is taken but that of snapshots which are put as they
 /// are made.
@@ -60,14 +61,14 @@ pub(crate) fn answer<'a, S: Shelf>(
             upto,
             save,
             ..
-        } => start_session(alloc, shelf, query, binds, fuse, cut(*upto, save)),
+        } => start_session(alloc, shelf, query, binds, fuse, cut(upto, save)),
         Command::ResumeUpto {
             file,
             binds,
             upto,
             save,
             ..
-        } => resume_session(alloc, shelf, file, binds, fuse, ending(*upto, save)),
+        } => resume_session(alloc, shelf, file, binds, fuse, ending(upto, save)),
         Command::ResumeEnd { file, binds, .. } => {
             resume_session(alloc, shelf, file, binds, fuse, None)
         }
@@ -92,16 +93,16 @@ fn division<'a>(fuse: bool, cuts: &'a [i64], order: &'a [u32]) -> Division<'a>
 }
 
 // Where a session ends, and the name under which it saves.
-fn cut(upto: i64, save: &str) -> SavedCut<'_>
-    ensures upto { result.upto ≡ upto }
+fn cut<'a>(upto: &'a Upto, save: &'a str) -> SavedCut<'a>
+    ensures upto { result.upto.now ≡ upto.now }
     ensures save { result.save.now ≡ save.now }
 {
     SavedCut { upto, save }
 }
 
 // The same of a session that may end with the last row, as this one doesn't.
-fn ending(upto: i64, save: &str) -> Option<SavedCut<'_>>
-    ensures { ending_of result ≡ Some (record { upto = upto; save = save.now }) }
+fn ending<'a>(upto: &'a Upto, save: &'a str) -> Option<SavedCut<'a>>
+    ensures { ending_of result ≡ Some (record { upto = upto_of upto.now; save = save.now }) }
 {
     Some(SavedCut { upto, save })
 }

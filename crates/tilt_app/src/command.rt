@@ -7,13 +7,14 @@ ghost use Rattle.tilt_app.specs.Done.{IsDone};
 ghost use Rattle.tilt_app.specs.Outcome.{HasRowTurn, HasTurn, HaveRead, IsOutcome, IsRowOutcome, IsRowRead};
 ghost use Rattle.tilt_app.specs.Outcome.{IsRunnable, IsSaving, IsStreaming, Saves, Streams};
 ghost use Rattle.tilt_app.specs.Saving.{IsSaved, IsUnsaved};
-ghost use Rattle.tilt_app.specs.Show.{IsShow, IsWatch, IsWatchOf, SeeOfFault, WatchesRun};
+ghost use Rattle.tilt_app.specs.Show.{IsShow, IsUntouched, IsWatch, IsWatchOf, SeeOfFault, WatchesRun};
 ghost use Rattle.tilt_commands.specs.Table.{row_of};
 ghost use Rattle.tilt_outside.specs.Faults.{Rose};
 ghost use Rattle.tilt_outside.specs.Reads.{OnlyReads};
 ghost use Rattle.tilt_printed.specs.Saving.{SaveValue, outcome_of};
 ghost use Rattle.tilt_printed.specs.Left.{left_of};
 ghost use Rattle.tilt_printed.specs.Show.{HaveSeen, HaveSeenInPart, SeeAll};
+ghost use Rattle.tilt_printed.specs.declared.unput.Unput.TheVariants.{Failed, OutOfMemory};
 ghost use Rattle.tilt_report.specs.Report.{Report, refused, report_of, status_of, line_of};
 ghost use Rattle.tilt_report.specs.Report.{write_fault, save_fault, out_of_memory};
 ghost use Rattle.tilt_stream.specs.Snap.{Snapshot};
@@ -41,19 +42,19 @@ fn done<'a, S: Shelf, O: Sink>(
         → HasRowTurn S.tells (S.files shelf.old) any (row_of (command_of command.now)) name → S.lends name }
     requires within { IsWithin (command_of command.now) }
     requires room { (text : List ℕ) (save : Option SaveValue)
-        → (S.tells → IsRowOutcome (S.files shelf.old) (watches pair step watchers.old.items) (row_of (command_of command.now))
+        → (S.tells → IsRowOutcome (S.files shelf.old) (watches pair step ends watchers.old.items) (row_of (command_of command.now))
         (outcome_of text save))
         → O.takes out.old (length text) }
     requires saves { (text : List ℕ) (save : SaveValue)
-        → (S.tells → IsRowOutcome (S.files shelf.old) (watches pair step watchers.old.items) (row_of (command_of command.now))
+        → (S.tells → IsRowOutcome (S.files shelf.old) (watches pair step ends watchers.old.items) (row_of (command_of command.now))
         (outcome_of text (Some save)))
         → S.takes shelf.old save.name (length save.bytes) }
     ensures done { OnOk result (IsDone
-        (IsRowOutcome (S.files shelf.old) (watches pair step watchers.old.items) (row_of (command_of command.now)))
+        (IsRowOutcome (S.files shelf.old) (watches pair step ends watchers.old.items) (row_of (command_of command.now)))
         (shelf_change S.tells S.files S.read_faults S.save_faults shelf.old shelf.new)
         (sink_change O.tells O.written O.faults O.takes out.old out.new)) }
     ensures cause { IfErr result (λ fault. IsCause
-        (IsRowOutcome (S.files shelf.old) (watches pair step watchers.old.items) (row_of (command_of command.now)))
+        (IsRowOutcome (S.files shelf.old) (watches pair step ends watchers.old.items) (row_of (command_of command.now)))
         (λ name. (any : List Watch) × HasRowTurn S.tells (S.files shelf.old) any (row_of (command_of command.now)) name)
         (shelf_change S.tells S.files S.read_faults S.save_faults shelf.old shelf.new)
         (sink_change O.tells O.written O.faults O.takes out.old out.new) (report_of fault)) }
@@ -64,8 +65,8 @@ fn done<'a, S: Shelf, O: Sink>(
         (λ fault. IsSaveFault (report_of fault) → O.held_back out.new ≡ 0) }
     ensures seen { MatchResult result
         (λ _. (shown : Option (List Snapshot)) × IsShow S.tells (S.files shelf.old) (command_of command.now) shown
-        × SeeAll (left_of O.tells O.written out.old out.new pair step watchers.old watchers.new) shown)
-        (λ fault. SeeOfFault (left_of O.tells O.written out.old out.new pair step watchers.old watchers.new)
+        × SeeAll (left_of O.tells O.written out.old out.new pair step ends watchers.old watchers.new) shown)
+        (λ fault. SeeOfFault (left_of O.tells O.written out.old out.new pair step ends watchers.old watchers.new)
         (IsShow S.tells (S.files shelf.old) (command_of command.now)) (report_of fault)) }
     ensures read { S.tells → OnOk result ((any : List Watch)
         × IsRowRead (S.files shelf.old) any (row_of (command_of command.now)) (S.given shelf.old) (S.given shelf.new)) }
@@ -81,7 +82,7 @@ fn done<'a, S: Shelf, O: Sink>(
         × (O.faults out.old ≤ O.faults out.new) }
 {
     let answered = answer(alloc, command, shelf)?;
-    if let Err(unput) = answered.printed.put(out, watchers) {
+    if let Err(unput) = answered.printed.put(alloc, out, watchers) {
         return Err(unput.fault());
     }
     match answered.save {
@@ -129,17 +130,18 @@ fn tell<E: Sink>(err: &mut E, fault: &Fault<'_>) -> u8
 /// domain, `exec CODE NAME=FILE ..` that of the run of a loop code; `compile QUERY` reads the query alone and puts the
 /// listing of its code, and `explain QUERY` what is told of its plan; `--plain` leaves out fusion. `pipe QUERY NAME=FILE ..` puts
 /// what `run` puts, and then the line of how many snapshots the loops held at most. `watch QUERY NAME=FILE ..`
-/// puts what `run` puts, shows the snapshots to the watchers, and puts a line of each one's figures. `parts QUERY NAME=FILE .. --at
-/// TIME,TIME ..` puts what `run` puts, by parts of the output domain, and then the line of how many snapshots come from each. `try SEED
-/// COUNT` reads nothing: it puts the summary of a query on that many rows for each input, which are made from the seed. `start QUERY ..`
+/// puts what `run` puts, shows each row to the watchers once its line was put, drops those that have seen enough, and puts a line of the
+/// figures of each. `parts QUERY NAME=FILE .. --at TIME,TIME ..` puts what `run` puts, by parts of the output domain, and then the line of
+/// how many snapshots come from each. `try SEED COUNT` reads nothing: it puts the summary of a query on that many rows for each input,
+/// which are made from the seed. `start QUERY ..`
 /// puts what `run` would put by a cut, and `resume CHECKPOINT ..` the lines after it; where they end by a cut, the bytes of a
 /// checkpoint are saved after all puts. Where that isn't done, one line that tells why goes to `err`, and nothing else. A
 /// fault of `err` changes nothing.
 ///
-/// The first refusal is told: that of the words, then of the query, the code or the checkpoint, then of the cut or the cuts and the order,
-/// then of the names that are bound, then of the series in the order in which the inputs are declared. `run` without cuts and `pipe` take
-/// memory between puts, so that it may be wanting after a prefix of the text. All other commands take all memory before the first
-/// put.
+/// The first refusal is told: that of the words, then of the query, the code or the checkpoint, then of the cuts or the order of parts,
+/// then of the names that are bound, then of the series in the order in which the inputs are declared. `run` without cuts,
+/// `pipe` and `watch` take memory between puts, so that it may be wanting after a prefix of the text. All other commands take all
+/// memory before the first put.
 ///
 /// The answer is the status that the program ends with: 0 done, 1 refused, 2 the words are no command, 3 a read failed, 4 a
 /// put or the flush failed, 5 there was no memory, 6 the save failed.
@@ -153,15 +155,15 @@ pub fn tilt<S: Shelf, O: Sink, E: Sink>(
 ) -> u8
     requires lent { (name : List ℕ) → HasTurn S.tells (texts words.now) (S.files shelf.old) name → S.lends name }
     requires room { (text : List ℕ) (save : Option SaveValue)
-        → (S.tells → IsOutcome (texts words.now) (S.files shelf.old) (watches pair step watchers.old.items) (outcome_of text save))
+        → (S.tells → IsOutcome (texts words.now) (S.files shelf.old) (watches pair step ends watchers.old.items) (outcome_of text save))
         → O.takes out.old (length text) }
     requires saves { (text : List ℕ) (save : SaveValue)
-        → (S.tells → IsOutcome (texts words.now) (S.files shelf.old) (watches pair step watchers.old.items) (outcome_of text (Some save)))
+        → (S.tells → IsOutcome (texts words.now) (S.files shelf.old) (watches pair step ends watchers.old.items) (outcome_of text (Some save)))
         → S.takes shelf.old save.name (length save.bytes) }
     requires lines { (n : ℕ) → E.takes err.old n }
 
     // Status 0: the text was written whole and handed on, and nothing else was; then the bytes were saved, where some are.
-    ensures done { result ≡ 0 → IsDone (IsOutcome (texts words.now) (S.files shelf.old) (watches pair step watchers.old.items))
+    ensures done { result ≡ 0 → IsDone (IsOutcome (texts words.now) (S.files shelf.old) (watches pair step ends watchers.old.items))
         (shelf_change S.tells S.files S.read_faults S.save_faults shelf.old shelf.new)
         (sink_change O.tells O.written O.faults O.takes out.old out.new) }
     ensures handed_on { (result ≡ 0) ⊎ (result ≡ 6) → O.held_back out.new ≡ 0 }
@@ -176,7 +178,7 @@ pub fn tilt<S: Shelf, O: Sink, E: Sink>(
 
     // Every other status has its cause and its line.
     ensures reported { (result ≡ 0 → ⊥) → (report : Report) × (result ≡ status_of report)
-        × IsCause (IsOutcome (texts words.now) (S.files shelf.old) (watches pair step watchers.old.items))
+        × IsCause (IsOutcome (texts words.now) (S.files shelf.old) (watches pair step ends watchers.old.items))
         (HasTurn S.tells (texts words.now) (S.files shelf.old))
         (shelf_change S.tells S.files S.read_faults S.save_faults shelf.old shelf.new)
         (sink_change O.tells O.written O.faults O.takes out.old out.new) report
@@ -191,26 +193,30 @@ pub fn tilt<S: Shelf, O: Sink, E: Sink>(
 
     // Where no count rose, the outcome is the answer, but for want of memory.
     ensures complete { S.tells → (text : List ℕ) (save : Option SaveValue)
-        → IsOutcome (texts words.now) (S.files shelf.old) (watches pair step watchers.old.items) (outcome_of text save)
+        → IsOutcome (texts words.now) (S.files shelf.old) (watches pair step ends watchers.old.items) (outcome_of text save)
         → (Rose (S.read_faults shelf.old) (S.read_faults shelf.new) → ⊥)
         → (Rose (S.save_faults shelf.old) (S.save_faults shelf.new) → ⊥)
         → (Rose (O.faults out.old) (O.faults out.new) → ⊥) → (result ≡ 0) ⊎ (result ≡ 5) }
     ensures complete_refusal { S.tells → (report : Report)
-        → IsOutcome (texts words.now) (S.files shelf.old) (watches pair step watchers.old.items) (refused report)
+        → IsOutcome (texts words.now) (S.files shelf.old) (watches pair step ends watchers.old.items) (refused report)
         → (Rose (S.read_faults shelf.old) (S.read_faults shelf.new) → ⊥) → (result ≡ status_of report) ⊎ (result ≡ 5) }
     ensures faultless { (Rose (S.read_faults shelf.old) (S.read_faults shelf.new) → ⊥)
         → (Rose (S.save_faults shelf.old) (S.save_faults shelf.new) → ⊥)
         → (Rose (O.faults out.old) (O.faults out.new) → ⊥) → (result ≡ 0) ⊎ ((result ≡ 1) ⊎ ((result ≡ 2) ⊎ (result ≡ 5))) }
 
-    // The watchers are as before, but where snapshots were printed for them to watch.
+    // The watchers are as before, but where rows were printed for them to watch: then they saw those whose lines were written.
     ensures unwatched { ¬ (IsWatch (texts words.now)) → watchers.new ≡ watchers.old }
-    ensures unseen { (result ≡ 0 → ⊥) → (result ≡ 4 → ⊥) → watchers.new ≡ watchers.old }
+    ensures unseen { (result ≡ 0 → ⊥) → (result ≡ 4 → ⊥) → (result ≡ 5 → ⊥) → watchers.new ≡ watchers.old }
     ensures seen { result ≡ 0 → (query : List ℕ) (binds : List Binding) → IsWatchOf (texts words.now) query binds
         → (list : List Snapshot) × WatchesRun S.tells (S.files shelf.old) query binds list
-        × HaveSeen (left_of O.tells O.written out.old out.new pair step watchers.old watchers.new) list }
+        × HaveSeen (left_of O.tells O.written out.old out.new pair step ends watchers.old watchers.new) list }
     ensures seen_in_part { result ≡ 4 → (query : List ℕ) (binds : List Binding) → IsWatchOf (texts words.now) query binds
         → (list : List Snapshot) × WatchesRun S.tells (S.files shelf.old) query binds list
-        × HaveSeenInPart (left_of O.tells O.written out.old out.new pair step watchers.old watchers.new) list }
+        × HaveSeenInPart Failed (left_of O.tells O.written out.old out.new pair step ends watchers.old watchers.new) list }
+    ensures seen_before_want { result ≡ 5 → (query : List ℕ) (binds : List Binding) → IsWatchOf (texts words.now) query binds
+        → IsUntouched (left_of O.tells O.written out.old out.new pair step ends watchers.old watchers.new)
+        ⊎ ((list : List Snapshot) × WatchesRun S.tells (S.files shelf.old) query binds list
+        × HaveSeenInPart OutOfMemory (left_of O.tells O.written out.old out.new pair step ends watchers.old watchers.new) list) }
 
     // The files are as before, but where bytes were saved. What can be taken still can, and no count falls.
     ensures rest { (result ≡ 0 → ⊥) → (result ≡ 6 → ⊥) → OnlyReads S.files S.read_faults S.save_faults S.takes shelf.old shelf.new }

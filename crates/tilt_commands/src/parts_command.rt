@@ -11,7 +11,6 @@ ghost use Rattle.tilt_load.specs.Load.{IsLoadFault};
 ghost use Rattle.tilt_outside.specs.Counts.{added_count};
 ghost use Rattle.tilt_outside.specs.Reads.{OnlyReads};
 ghost use Rattle.tilt_printed.specs.Answer.{Fits, comes_to};
-ghost use Rattle.tilt_printed.specs.Show.{shown_whole};
 ghost use Rattle.tilt_printed.specs.Text.{whole_text};
 ghost use Rattle.tilt_report.specs.Report.{printed, reason_of, report_of};
 ghost use Rattle.tilt_watch.specs.Watch.{Watch};
@@ -130,9 +129,7 @@ fn run_parts(
     requires many { length rows.now ≡ length accepted.now.core.inputs }
     requires cuts { ClimbFrom (neg_ℤ T) T division.cuts.now }
     requires fits { parts_fault division.cuts.now division.order.now accepted.now.core ≡ None }
-    ensures made { IfOk result (λ text. (watchers : List Watch)
-        → IsParted division.entry.cuts.now accepted.now.core rows.now (printed (whole_text watchers text))) }
-    ensures shown { IfOk result (λ text. shown_whole text ≡ None) }
+    ensures { IfOk result (λ text. IsParted division.entry.cuts.now accepted.now.core rows.now (printed (whole_text text))) }
 {
     // The output domain is known from here on.
     let _domain = accepted.domain();

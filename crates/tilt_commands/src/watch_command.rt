@@ -6,15 +6,15 @@ ghost use Rattle.tilt_load.specs.FileCommand.{HasFileTurn};
 ghost use Rattle.tilt_printed.specs.Answer.{Fits, comes_to};
 ghost use Rattle.tilt_words.specs.Binding.{bindings_of};
 
-use crate::loaded::{load_run, run_whole};
+use crate::loaded::{LoadedRun, load_run, query_pipe};
 use std::alloc::Global;
 use tilt_outside::Shelf;
-use tilt_printed::{Answered, Printed, WholeText};
+use tilt_printed::{Answered, Printed};
 use tilt_report::Fault;
 use tilt_words::Bind;
 
-/// What `watch` comes to: the query in a file, with fusion or without, on the files that are bound. The watchers are shown the
-/// snapshots.
+/// What `watch` comes to: the query in a file, with fusion or without, on the files that are bound. A pipe gives it out, and the
+/// watchers are shown its snapshots.
 pub fn watch<'a, S: Shelf>(
     alloc: Global,
     shelf: &mut S,
@@ -24,10 +24,11 @@ pub fn watch<'a, S: Shelf>(
 ) -> Result<Answered<'a>, Fault<'a>>
     requires { (name : List ℕ)
         → HasFileTurn (watch_row query.now []) S.tells (S.files shelf.old) query.now (bindings_of binds.now) name → S.lends name }
-    ensures { Does (watch_row query.now) comes_to (Fits ⊥ ⊤ ⊥) query.now (bindings_of binds.now)
+    ensures { Does (watch_row query.now) comes_to (Fits ⊤ ⊤ ⊥) query.now (bindings_of binds.now)
         (reading S.tells S.files S.read_faults S.save_faults S.takes S.given shelf.old shelf.new) result }
 {
     let loaded = load_run(alloc, shelf, query, binds, fuse)?;
-    let list = run_whole(alloc, &loaded.accepted, &loaded.rows)?;
-    Ok(Answered::unsaved(Printed::Whole(WholeText::Watched(list))))
+    let LoadedRun { accepted, rows, .. } = loaded;
+    let pipe = query_pipe(alloc, &accepted, rows)?;
+    Ok(Answered::unsaved(Printed::Watched(pipe)))
 }

@@ -1,10 +1,11 @@
 -- Puts, one after another, where memory may be wanting between them.
-use Rattle.std.proofs.Common.{IsErr, ◌≡◌, ◌+◌, ℕ, List, [], ◌++◌, length, Result, Ok, Err, sym, refl, ◌∙◌, append_assoc, length-append, arith, add_assoc, zero-add}
+use Rattle.std.proofs.Common.{IsErr, ◌≡◌, ◌≤◌, ◌+◌, ℕ, List, [], ◌++◌, length, Result, Ok, Err, sym, subst, refl, ◌∙◌, append_assoc, length-append, arith, add_assoc, zero-add}
 use Rattle.std.proofs.lemmas.List.{append-nil}
 use Rattle.tilt_outside.proofs.Puts.{rose_from, front_first, front_behind}
 use Rattle.tilt_printed.specs.Prints.{Prints}
 use Rattle.tilt_printed.specs.declared.unput.Unput.{Unput}
 use Rattle.tilt_printed.specs.declared.unput.Unput.TheVariants as variant
+use Rattle.tilt_outside.specs.Faults.{Rose}
 use Rattle.tilt_outside.specs.Written.{AppendsFront, Puts}
 use Rattle.tilt_outside.specs.declared.failed.Failed.{Failed}
 
@@ -98,3 +99,20 @@ module _ {K : Type 0} (tells : Type 0) (written : K → List ℕ) (faults : K �
   pub prints-as : {S T : Type 0} (old new : K) (bytes : List ℕ) (x : S) (y : T) → Prints tells written faults takes old new bytes (Ok x)
       → Prints tells written faults takes old new bytes (Ok y)
   prints-as old new bytes x y all = record { whole = all.whole; front = all.front; kept = all.kept; rose = tt; room = all.room }
+
+  -- bytes that were put whole, of which not all was handed on
+  pub prints-unflushed : {S T : Type 0} (old mid new : K) (bytes : List ℕ) (x : S) (e : Unput) (told : Result T Unput) → told ≡ Err e
+      → Prints tells written faults takes old mid bytes (Ok x) → written new ≡ written mid → faults mid ≤ faults new → Rose (faults mid) (faults new)
+      → Prints tells written faults takes old new bytes told
+  prints-unflushed old mid new bytes x e told same all still kept rose = rw same (record {
+    whole = λ _. tt;
+    front = λ t. record { front = bytes; rest = []; parts = sym (append-nil bytes); appended = still ∙ all.whole t };
+    kept = omega (arith, all.kept, kept);
+    rose = λ _. rose_from _ _ _ all.kept rose;
+    room = tt;
+  })
+
+  -- a prefix of them was put, where that was told
+  pub prints-front : {T : Type 0} (old new : K) (bytes : List ℕ) (told : Result T Unput) (e : Unput) → told ≡ Err e
+      → Prints tells written faults takes old new bytes told → tells → AppendsFront (written old) (written new) bytes
+  prints-front old new bytes told e same all = (subst (Prints tells written faults takes old new bytes) same all).front

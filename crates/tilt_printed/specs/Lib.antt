@@ -6,5 +6,6 @@ pub mod Rings
 pub mod Saving
 pub mod Show
 pub mod Sizes
+pub mod Stopped
 pub mod Text
 pub mod Unput

@@ -1,51 +1,57 @@
 -- What the watchers are shown, and how they stand then.
 use Rattle.std.specs.Prelude.{◌≡◌, ◌++◌, List, Option, None, Some, Result, MatchResult}
+use Rattle.tilt_code.specs.Run.{run_of}
 use Rattle.tilt_outside.specs.Written.{AppendsFront}
-use Rattle.tilt_printed.specs.Figures.{figures_after, watched_text}
+use Rattle.tilt_printed.specs.Figures.{watched_text}
 use Rattle.tilt_printed.specs.Left.{Left}
+use Rattle.tilt_printed.specs.Stopped.{StandsInLines, StandsWhereStopped}
 use Rattle.tilt_printed.specs.declared.printed.Printed.{Printed}
-use Rattle.tilt_printed.specs.declared.printed.Printed.TheVariants.{Whole, Run, Rings}
-use Rattle.tilt_printed.specs.declared.whole_text.WholeText.{WholeText}
-use Rattle.tilt_printed.specs.declared.whole_text.WholeText.TheVariants.{Snapshots, Lines, Watched, Parted, Text}
+use Rattle.tilt_printed.specs.declared.printed.Printed.TheVariants.{Whole, Run, Rings, Watched}
+use Rattle.tilt_printed.specs.declared.unput.Unput.{Unput}
 use Rattle.tilt_stream.specs.Snap.{Snapshot}
-use Rattle.tilt_stream.specs.Text.{text_of}
-use Rattle.tilt_watch.specs.Watch.{after_show}
+use Rattle.tilt_watch.specs.Places.{left_after}
+use Rattle.tilt_watch.specs.Watch.{rows_of}
 
--- the snapshots that the watchers are shown of a text that is made whole, if any
-abbrev pub shown_whole : WholeText → Option (List Snapshot)
-shown_whole (Snapshots list) = None
-shown_whole (Watched list) = Some list
-shown_whole (Lines list) = None
-shown_whole (Parted list sizes) = None
-shown_whole (Text text) = None
-
--- and of what is printed
+-- the snapshots that the watchers are shown of what is printed, if any
 abbrev pub shown_of : Printed → Option (List Snapshot)
-shown_of (Whole text) = shown_whole text
+shown_of (Whole text) = None
 shown_of (Run pipe) = None
 shown_of (Rings pipe) = None
+shown_of (Watched pipe) = Some (run_of pipe.code pipe.inputs)
 
--- they were shown these snapshots, and the text and the figures were written
+-- they saw all rows of these snapshots, and the text and the figures were written
 pub record HaveSeen (left : Left) (list : List Snapshot) : Type 0 where
-  pub saw : left.now ≡ after_show left.before list
+  pub saw : left.now ≡ left_after left.before (rows_of list)
   pub written : left.tells → left.new ≡ left.old ++ watched_text left.before list
 
--- a put or the flush failed: in the text, or after it, where they were shown these snapshots
-pub data HaveSeenInPart (left : Left) (list : List Snapshot) : Type 0 where
-  in_text : left.kept → (left.tells → AppendsFront left.old left.new (text_of list)) → HaveSeenInPart left list
-  in_figures : left.now ≡ after_show left.before list
-      → (left.tells → AppendsFront (left.old ++ text_of list) left.new (figures_after left.before list)) → HaveSeenInPart left list
+-- for this reason not all was put: they saw the first rows of these snapshots, and a prefix of the text and the figures was written that
+-- ends where it may end once these rows were seen
+pub record HaveSeenInPart (why : Unput) (left : Left) (list : List Snapshot) : Type 0 where
+  pub seen : List Snapshot
+  pub others : List Snapshot
+  pub rows : rows_of list ≡ seen ++ others
+  pub saw : left.now ≡ left_after left.before seen
+  pub front : left.tells → AppendsFront left.old left.new (watched_text left.before list)
+  pub stopped : left.tells → StandsWhereStopped why seen others left.old left.new
+
+-- the same of the lines alone
+pub record HaveSeenLines (why : Unput) (left : Left) (list : List Snapshot) : Type 0 where
+  pub seen : List Snapshot
+  pub others : List Snapshot
+  pub rows : rows_of list ≡ seen ++ others
+  pub saw : left.now ≡ left_after left.before seen
+  pub stopped : left.tells → StandsInLines seen others left.old left.new why
 
 -- all was put: they saw what they were shown
 abbrev pub SeeAll : Left → Option (List Snapshot) → Type 0
 SeeAll left None = left.kept
 SeeAll left (Some list) = HaveSeen left list
 
--- not all was put
-abbrev pub SeePart : Left → Option (List Snapshot) → Type 0
-SeePart left None = left.kept
-SeePart left (Some list) = HaveSeenInPart left list
+-- for this reason not all was put
+abbrev pub SeePart : Unput → Left → Option (List Snapshot) → Type 0
+SeePart why left None = left.kept
+SeePart why left (Some list) = HaveSeenInPart why left list
 
 -- all was put, or not
-abbrev pub SeeWhatIsPut : {T E : Type 0} → Left → Option (List Snapshot) → Result T E → Type 0
-SeeWhatIsPut left shown result = MatchResult result (λ _. SeeAll left shown) (λ _. SeePart left shown)
+abbrev pub SeeWhatIsPut : {T : Type 0} → Left → Option (List Snapshot) → Result T Unput → Type 0
+SeeWhatIsPut left shown result = MatchResult result (λ _. SeeAll left shown) (λ why. SeePart why left shown)

@@ -6,34 +6,36 @@ use Rattle.tilt_printed.specs.Figures.{watched_text}
 use Rattle.tilt_printed.specs.Rings.{rings_text}
 use Rattle.tilt_printed.specs.Sizes.{parted_text}
 use Rattle.tilt_printed.specs.declared.printed.Printed.{Printed}
-use Rattle.tilt_printed.specs.declared.printed.Printed.TheVariants.{Whole, Run, Rings}
+use Rattle.tilt_printed.specs.declared.printed.Printed.TheVariants.{Whole, Run, Rings, Watched}
 use Rattle.tilt_printed.specs.declared.whole_text.WholeText.{WholeText}
-use Rattle.tilt_printed.specs.declared.whole_text.WholeText.TheVariants.{Snapshots, Lines, Watched, Parted, Text}
+use Rattle.tilt_printed.specs.declared.whole_text.WholeText.TheVariants.{Snapshots, Lines, Parted, Text}
 use Rattle.tilt_stream.specs.Text.{lines_of, text_of}
 use Rattle.tilt_watch.specs.Watch.{Watch}
 
--- a text that is made whole, beside these watchers
-abbrev pub whole_text : List Watch → WholeText → List ℕ
-whole_text watchers (Snapshots list) = text_of list
-whole_text watchers (Lines list) = lines_of list
-whole_text watchers (Watched list) = watched_text watchers list
-whole_text watchers (Parted list sizes) = parted_text list sizes.items
-whole_text watchers (Text text) = text.items
+-- a text that is made whole
+abbrev pub whole_text : WholeText → List ℕ
+whole_text (Snapshots list) = text_of list
+whole_text (Lines list) = lines_of list
+whole_text (Parted list sizes) = parted_text list sizes.items
+whole_text (Text text) = text.items
 
 -- the text that is printed, beside these watchers
 abbrev pub printed_text : List Watch → Printed → List ℕ
-printed_text watchers (Whole text) = whole_text watchers text
+printed_text watchers (Whole text) = whole_text text
 printed_text watchers (Run pipe) = text_of (run_of pipe.code pipe.inputs)
 printed_text watchers (Rings pipe) = rings_text pipe.code pipe.inputs
+printed_text watchers (Watched pipe) = watched_text watchers (run_of pipe.code pipe.inputs)
 
 -- a pipe has given out nothing so far
 abbrev pub IsFresh : Printed → Type 0
 IsFresh (Whole text) = ⊤
 IsFresh (Run pipe) = pipe ≡ pipe_after pipe.code pipe.inputs 0
 IsFresh (Rings pipe) = pipe ≡ pipe_after pipe.code pipe.inputs 0
+IsFresh (Watched pipe) = pipe ≡ pipe_after pipe.code pipe.inputs 0
 
 -- a pipe gives it out: each snapshot is made only after the line of the one before it was put
 abbrev pub IsStreamed : Printed → Type 0
 IsStreamed (Whole text) = ⊥
 IsStreamed (Run pipe) = ⊤
 IsStreamed (Rings pipe) = ⊤
+IsStreamed (Watched pipe) = ⊤

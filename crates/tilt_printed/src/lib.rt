@@ -2,7 +2,7 @@
 //! bytes that are saved after it. Out go puts to a sink, what the watchers are shown, or why not all was put.
 //!
 //! The clauses that matter stand on `Printed::put`: `prints`, that exactly the text was put, or a prefix of it where it failed, and
-//! `seen`, that the watchers were shown the snapshots whose text was put.
+//! `seen`, that the watchers saw exactly the rows whose lines were put.
 #![tactic(auto)]
 
 mod answered;
@@ -10,6 +10,7 @@ mod printed;
 mod save;
 mod streamed;
 mod unput;
+mod watched;
 mod whole_text;
 
 pub use answered::Answered;

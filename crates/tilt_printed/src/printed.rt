@@ -2,14 +2,16 @@
 ghost use Rattle.std.specs.Prelude.{◌≡◌, length, IfErr, OnOk};
 ghost use Rattle.tilt_printed.specs.Left.{left_of};
 ghost use Rattle.tilt_printed.specs.Prints.{Prints};
-ghost use Rattle.tilt_printed.specs.Show.{SeeWhatIsPut, shown_of, shown_whole};
+ghost use Rattle.tilt_printed.specs.Show.{SeeWhatIsPut, shown_of};
 ghost use Rattle.tilt_printed.specs.Text.{IsFresh, IsStreamed, printed_text, whole_text};
 ghost use Rattle.tilt_printed.specs.declared.unput.Unput.TheVariants.{OutOfMemory};
 ghost use Rattle.tilt_watch.specs.Watch.{watches};
 
 use crate::streamed::{put_rings, put_run};
 use crate::unput::Unput;
+use crate::watched::put_watched;
 use crate::whole_text::WholeText;
+use std::alloc::Global;
 use tilt_outside::Sink;
 use tilt_pipe::Pipe;
 use tilt_watch::Watcher;
@@ -23,27 +25,30 @@ pub enum Printed {
     Run(Pipe),
     /// The same, and then the line of the most snapshots that its rings held.
     Rings(Pipe),
+    /// The same text, of which the watchers see each row once its line was put, and then the figures of each of them.
+    Watched(Pipe),
 }
 
 impl Printed {
-    /// Puts the text, shows the watchers what they are to be shown of it, and hands all of it on. `Failed` comes where a put or the
-    /// flush failed, and `OutOfMemory` only of a pipe, where there is no memory for its next snapshot: then a prefix of the text
-    /// was put.
+    /// Puts the text, lets the watchers see what they are to see of it, drops those that have seen enough, and hands all of it on.
+    /// `Failed` comes where a put or the flush failed, and `OutOfMemory` only of a pipe, where there is no memory for its next
+    /// snapshot, or for the places of those who watch: then a prefix of the text was put.
     pub fn put<O: Sink>(
         self,
+        alloc: Global,
         out: &mut O,
         watchers: &mut Vec<Box<dyn Watcher>>,
     ) -> Result<(), Unput>
         requires fresh { IsFresh self }
-        requires room { O.takes out.old (length (printed_text (watches pair step watchers.old.items) self)) }
+        requires room { O.takes out.old (length (printed_text (watches pair step ends watchers.old.items) self)) }
         ensures prints { Prints O.tells O.written O.faults O.takes out.old out.new
-            (printed_text (watches pair step watchers.old.items) self) result }
+            (printed_text (watches pair step ends watchers.old.items) self) result }
         ensures handed_on { OnOk result (O.held_back out.new ≡ 0) }
         ensures streamed { IfErr result (λ unput. unput ≡ OutOfMemory → IsStreamed self) }
-        ensures seen { SeeWhatIsPut (left_of O.tells O.written out.old out.new pair step watchers.old watchers.new)
+        ensures seen { SeeWhatIsPut (left_of O.tells O.written out.old out.new pair step ends watchers.old watchers.new)
             (shown_of self) result }
     {
-        self.put_all(out, watchers)?;
+        self.put_all(alloc, out, watchers)?;
         out.flush()?;
         Ok(())
     }
@@ -51,38 +56,33 @@ impl Printed {
     // Puts the text.
     fn put_all<O: Sink>(
         self,
+        alloc: Global,
         out: &mut O,
         watchers: &mut Vec<Box<dyn Watcher>>,
     ) -> Result<(), Unput>
         requires fresh { IsFresh self }
-        requires room { O.takes out.old (length (printed_text (watches pair step watchers.old.items) self)) }
+        requires room { O.takes out.old (length (printed_text (watches pair step ends watchers.old.items) self)) }
         ensures prints { Prints O.tells O.written O.faults O.takes out.old out.new
-            (printed_text (watches pair step watchers.old.items) self) result }
+            (printed_text (watches pair step ends watchers.old.items) self) result }
         ensures streamed { IfErr result (λ unput. unput ≡ OutOfMemory → IsStreamed self) }
-        ensures seen { SeeWhatIsPut (left_of O.tells O.written out.old out.new pair step watchers.old watchers.new)
+        ensures seen { SeeWhatIsPut (left_of O.tells O.written out.old out.new pair step ends watchers.old watchers.new)
             (shown_of self) result }
     {
         match self {
-            Printed::Whole(text) => put_whole(out, &text, watchers),
+            Printed::Whole(text) => put_whole(out, &text),
             Printed::Run(pipe) => put_run(out, pipe),
             Printed::Rings(pipe) => put_rings(out, pipe),
+            Printed::Watched(pipe) => put_watched(alloc, out, pipe, watchers),
         }
     }
 }
 
 // Puts a text that was made whole.
-fn put_whole<O: Sink>(
-    out: &mut O,
-    text: &WholeText,
-    watchers: &mut Vec<Box<dyn Watcher>>,
-) -> Result<(), Unput>
-    requires { O.takes out.old (length (whole_text (watches pair step watchers.old.items) text.now)) }
-    ensures prints { Prints O.tells O.written O.faults O.takes out.old out.new
-        (whole_text (watches pair step watchers.old.items) text.now) result }
+fn put_whole<O: Sink>(out: &mut O, text: &WholeText) -> Result<(), Unput>
+    requires { O.takes out.old (length (whole_text text.now)) }
+    ensures prints { Prints O.tells O.written O.faults O.takes out.old out.new (whole_text text.now) result }
     ensures no_stream { IfErr result (λ unput. unput ≡ Unput.Failed) }
-    ensures seen { SeeWhatIsPut (left_of O.tells O.written out.old out.new pair step watchers.old watchers.new)
-        (shown_whole text.now) result }
 {
-    text.put(out, watchers)?;
+    text.put(out)?;
     Ok(())
 }

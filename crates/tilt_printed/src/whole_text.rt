@@ -1,28 +1,21 @@
 // Texts that are made whole before the first put.
-ghost use Rattle.std.specs.Prelude.{length, MatchResult};
+ghost use Rattle.std.specs.Prelude.{length};
 ghost use Rattle.std.specs.List.{flat_map};
 ghost use Rattle.tilt_outside.specs.Written.{Puts};
-ghost use Rattle.tilt_printed.specs.Figures.{watched_text};
-ghost use Rattle.tilt_printed.specs.Left.{left_of};
-ghost use Rattle.tilt_printed.specs.Show.{HaveSeen, HaveSeenInPart, SeeWhatIsPut, shown_whole};
 ghost use Rattle.tilt_printed.specs.Sizes.{parted_text, parts_line, size_text};
 ghost use Rattle.tilt_printed.specs.Text.{whole_text};
 ghost use Rattle.tilt_stream.specs.Text.{text_of};
-ghost use Rattle.tilt_watch.specs.Watch.{watches};
 
 use itoa::Buffer;
 use tilt_outside::{Failed, Sink};
 use tilt_series::{put_header, put_rows};
 use tilt_stream::SnapList;
-use tilt_watch::{Watcher, put_figures, show};
 
 /// What a command prints that is made whole before the first put.
 #[derive(Drop)]
 pub enum WholeText {
     /// The text of these snapshots.
     Snapshots(SnapList),
-    /// The text of these snapshots, and then the figures of the watchers, which are shown them in between.
-    Watched(SnapList),
     /// The text of these snapshots, and then the line of how many come from each part.
     Parted { list: SnapList, sizes: Vec<u64> },
     /// The lines of these snapshots, without the header.
@@ -33,20 +26,12 @@ pub enum WholeText {
 
 impl WholeText {
     // Puts the text.
-    pub(crate) fn put<O: Sink>(
-        &self,
-        out: &mut O,
-        watchers: &mut Vec<Box<dyn Watcher>>,
-    ) -> Result<(), Failed>
-        requires { O.takes out.old (length (whole_text (watches pair step watchers.old.items) self.now)) }
-        ensures puts { Puts O.tells O.written O.faults O.takes out.old out.new
-            (whole_text (watches pair step watchers.old.items) self.now) result }
-        ensures seen { SeeWhatIsPut (left_of O.tells O.written out.old out.new pair step watchers.old watchers.new)
-            (shown_whole self.now) result }
+    pub(crate) fn put<O: Sink>(&self, out: &mut O) -> Result<(), Failed>
+        requires { O.takes out.old (length (whole_text self.now)) }
+        ensures { Puts O.tells O.written O.faults O.takes out.old out.new (whole_text self.now) result }
     {
         match self {
             WholeText::Snapshots(list) => put_text(out, list),
-            WholeText::Watched(list) => put_watched(out, list, watchers),
             WholeText::Parted { list, sizes } => put_parted(out, list, sizes),
             WholeText::Lines(list) => put_rows(out, list),
             WholeText::Text(text) => out.put(text),
@@ -61,24 +46,6 @@ fn put_text<O: Sink>(out: &mut O, list: &SnapList) -> Result<(), Failed>
 {
     put_header(out)?;
     put_rows(out, list)
-}
-
-// Puts the text of snapshots, shows them to the watchers, and puts the figures of these.
-fn put_watched<O: Sink>(
-    out: &mut O,
-    list: &SnapList,
-    watchers: &mut Vec<Box<dyn Watcher>>,
-) -> Result<(), Failed>
-    requires { O.takes out.old (length (watched_text (watches pair step watchers.old.items) list.now)) }
-    ensures puts { Puts O.tells O.written O.faults O.takes out.old out.new
-        (watched_text (watches pair step watchers.old.items) list.now) result }
-    ensures seen { MatchResult result
-        (λ _. HaveSeen (left_of O.tells O.written out.old out.new pair step watchers.old watchers.new) list.now)
-        (λ _. HaveSeenInPart (left_of O.tells O.written out.old out.new pair step watchers.old watchers.new) list.now) }
-{
-    put_text(out, list)?;
-    show(watchers, list);
-    put_figures(out, watchers)
 }
 
 // Puts the text of snapshots, and then the line of sizes.

@@ -3,7 +3,6 @@ pub mod Counted
 pub mod Cuts
 pub mod Handed
 pub mod Lawful
-pub mod Lists
 pub mod Parts
 pub mod Printed
 pub mod Resumed

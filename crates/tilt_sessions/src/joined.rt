@@ -118,13 +118,11 @@ fn handed_on(alloc: Global, bytes: &[u8]) -> Result<Checkpoint, OutOfMemory>
     }
 }
 
-// Snapshots, and behind them others.
+// Snapshots, and after them others.
 fn with_list(mut printed: SnapList, list: &SnapList) -> Result<SnapList, OutOfMemory>
     requires { AreSnapshots (printed ++ list.now) }
     ensures { IfOk result (λ all. all ≡ printed ++ list.now) }
 {
-    for snap in list.as_slice() {
-        printed.push(*snap)?;
-    }
+    printed.append(list.as_slice())?;
     Ok(printed)
 }

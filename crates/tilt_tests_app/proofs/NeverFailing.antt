@@ -37,9 +37,9 @@ module _ (a b c d : List HeldFile) (q s x y : List ℕ) (l m n o : ℕ) (first :
   same_files = fun_ext (λ name. ap (λ (held : Option (List ℕ)). unwrap_or held []) (both_held name))
 
 -- nobody watches
-pub unwatched : {W : Type 0} (pair : W → ℤ × ℤ) (step : W → ℤ × ℤ → Snapshot → ℤ × ℤ) (list : List W) → list ≡ [] → (words : List (List ℕ)) (files : List ℕ → List ℕ)
-    (o : Outcome) → IsOutcome words files (watches pair step list) o → IsOutcome words files [] o
-unwatched {W} pair step list none words files o is = subst (λ (l : List W). IsOutcome words files (watches pair step l) o) none is
+pub unwatched : {W : Type 0} (pair : W → ℤ × ℤ) (step : W → ℤ × ℤ → Snapshot → ℤ × ℤ) (ends : W → ℤ × ℤ → Bool) (list : List W) → list ≡ [] → (words : List (List ℕ)) (files : List ℕ → List ℕ)
+    (o : Outcome) → IsOutcome words files (watches pair step ends list) o → IsOutcome words files [] o
+unwatched {W} pair step ends list none words files o is = subst (λ (l : List W). IsOutcome words files (watches pair step ends l) o) none is
 
 row_saves_nothing : (files : List ℕ → List ℕ) (query : List ℕ) (binds : List Binding) (text name bytes : List ℕ) (o : Outcome)
     → IsFileOutcome (run_row query) files query binds o → o ≡ printed_and_saved text name bytes → ⊥

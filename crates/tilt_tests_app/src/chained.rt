@@ -27,22 +27,22 @@ type Session<'a> = (&'a str, &'a [u8], u8, &'a [u8], &'a [u8], &'a [u8]);
 type Chain<'a> = (&'a [u8], &'a [Session<'a>]);
 
 const AT_5: &[u8] =
-    b"tilt checkpoint 1\nquery 2\ninput x;\nemit count(x[t-3:t]) over (0, 10];\ncut 5\nopen 2\nlast 5 rows 1\n0,5,7\nend\n";
+    b"tilt checkpoint 2\nquery 2\ninput x;\nemit count(x[t-3:t]) over (0, 10];\ncut 5\nopen 2\ncut 5 last 5 rows 1\n0,5,7\nend\n";
 
 const SHORT_AT_5: &[u8] =
-    b"tilt checkpoint 1\nquery 2\ninput x;\nemit count(x[t-3:t]) over (0, 10];\ncut 5\nopen 3\nlast 3 rows 1\n0,3,7\nend\n";
+    b"tilt checkpoint 2\nquery 2\ninput x;\nemit count(x[t-3:t]) over (0, 10];\ncut 5\nopen 3\ncut 5 last 3 rows 1\n0,3,7\nend\n";
 
 const AHEAD_AT_5: &[u8] =
-    b"tilt checkpoint 1\nquery 2\ninput x;\nemit x[t+3] over (0, 5];\ncut 5\nopen 1\nlast 8 rows 2\n0,4,1\n4,8,2\nend\n";
+    b"tilt checkpoint 2\nquery 2\ninput x;\nemit x[t+3] over (0, 5];\ncut 5\nopen 1\ncut 5 last 8 rows 2\n0,4,1\n4,8,2\nend\n";
 
 const SUM_AT_7: &[u8] =
-    b"tilt checkpoint 1\nquery 2\ninput x;\nemit sum(x[t-5:t]) over (0, 10] every 5;\ncut 7\nopen 0\nlast 8 rows 2\n0,5,1\n5,8,2\nend\n";
+    b"tilt checkpoint 2\nquery 2\ninput x;\nemit sum(x[t-5:t]) over (0, 10] every 5;\ncut 7\nopen 0\ncut 7 last 8 rows 2\n0,5,1\n5,8,2\nend\n";
 
 const SUM_AT_10: &[u8] =
-    b"tilt checkpoint 1\nquery 2\ninput x;\nemit sum(x[t-5:t]) over (0, 10] every 5;\ncut 10\nopen 5\nlast 8 rows 2\n0,5,1\n5,8,2\nend\n";
+    b"tilt checkpoint 2\nquery 2\ninput x;\nemit sum(x[t-5:t]) over (0, 10] every 5;\ncut 10\nopen 5\ncut 10 last 8 rows 2\n0,5,1\n5,8,2\nend\n";
 
 const SUM_AT_0: &[u8] =
-    b"tilt checkpoint 1\nquery 2\ninput x;\nemit sum(x[t-5:t]) over (0, 10] every 5;\ncut 0\nopen none\nlast 2 rows 1\n-3,2,9\nend\n";
+    b"tilt checkpoint 2\nquery 2\ninput x;\nemit sum(x[t-5:t]) over (0, 10] every 5;\ncut 0\nopen none\ncut 0 last 2 rows 1\n-3,2,9\nend\n";
 
 const CHAINS: &[Chain<'_>] = &[
     (

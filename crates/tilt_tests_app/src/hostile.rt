@@ -56,10 +56,10 @@ const FIRST: &[File<'_>] = &[("q", COUNT), ("s", b"start,end,value\n0,5,7\n")];
 const LATER: &[File<'_>] = &[("s", b"start,end,value\n5,8,7\n")];
 
 const AT_5: &[u8] =
-    b"tilt checkpoint 1\nquery 2\ninput x;\nemit count(x[t-3:t]) over (0, 10];\ncut 5\nopen 2\nlast 5 rows 1\n0,5,7\nend\n";
+    b"tilt checkpoint 2\nquery 2\ninput x;\nemit count(x[t-3:t]) over (0, 10];\ncut 5\nopen 2\ncut 5 last 5 rows 1\n0,5,7\nend\n";
 
 const AT_7: &[u8] =
-    b"tilt checkpoint 1\nquery 2\ninput x;\nemit count(x[t-3:t]) over (0, 10];\ncut 7\nopen 5\nlast 8 rows 2\n0,5,7\n5,8,7\nend\n";
+    b"tilt checkpoint 2\nquery 2\ninput x;\nemit count(x[t-3:t]) over (0, 10];\ncut 7\nopen 5\ncut 7 last 8 rows 2\n0,5,7\n5,8,7\nend\n";
 
 const START: &str = "start\nq\nx=s\n--upto\n5\n--save\nc";
 
@@ -172,7 +172,7 @@ fn a_checkpoint_that_is_cut_is_bad(rt: HostRuntime) -> Result<(), Fail> {
 }
 
 const MANY: &[u8] =
-    b"tilt checkpoint 1\nquery 2\ninput x;\nemit count(x[t-3:t]) over (0, 10];\ncut 5\nopen 2\nlast 5 rows 1000000000000\n0,5,7\nend\n";
+    b"tilt checkpoint 2\nquery 2\ninput x;\nemit count(x[t-3:t]) over (0, 10];\ncut 5\nopen 2\ncut 5 last 5 rows 1000000000000\n0,5,7\nend\n";
 
 const FILES: &[File<'_>] = &[
     ("many", MANY),

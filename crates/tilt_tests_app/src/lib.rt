@@ -15,6 +15,8 @@ mod faults;
 #[cfg(test)]
 mod hostile;
 #[cfg(test)]
+mod lagging;
+#[cfg(test)]
 mod meanings;
 #[cfg(test)]
 mod parting;

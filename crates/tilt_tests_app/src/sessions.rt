@@ -13,10 +13,18 @@ const FIRST: &[File<'_>] = &[("q", COUNT), ("s", b"start,end,value\n0,5,7\n")];
 
 const LATER: &[File<'_>] = &[("c", CHECKPOINT), ("s", b"start,end,value\n5,8,7\n")];
 
+const OLD: &[File<'_>] = &[
+    (
+        "c",
+        b"tilt checkpoint 1\nquery 2\ninput x;\nemit count(x[t-3:t]) over (0, 10];\ncut 5\nopen 2\nlast 5 rows 1\n0,5,7\nend\n",
+    ),
+    ("s", b"start,end,value\n5,8,7\n"),
+];
+
 const TEXT: &[u8] = b"start,end,value\n0,2,1\n2,5,1\n5,7,2\n7,8,1\n8,10,1\n";
 
 const CHECKPOINT: &[u8] =
-    b"tilt checkpoint 1\nquery 2\ninput x;\nemit count(x[t-3:t]) over (0, 10];\ncut 5\nopen 2\nlast 5 rows 1\n0,5,7\nend\n";
+    b"tilt checkpoint 2\nquery 2\ninput x;\nemit count(x[t-3:t]) over (0, 10];\ncut 5\nopen 2\ncut 5 last 5 rows 1\n0,5,7\nend\n";
 
 const SESSIONS: &[Case<'_>] = &[
     ("run\nq\nx=s\n--cut\n5", WHOLE, 0, TEXT, b""),
@@ -24,6 +32,14 @@ const SESSIONS: &[Case<'_>] = &[
     (
         "resume\nc\nx=s\n--end",
         LATER,
+        0,
+        b"2,5,1\n5,7,2\n7,8,1\n8,10,1\n",
+        b"",
+    ),
+    // The checkpoint in its first version, in which one cut stands for all inputs.
+    (
+        "resume\nc\nx=s\n--end",
+        OLD,
         0,
         b"2,5,1\n5,7,2\n7,8,1\n8,10,1\n",
         b"",

@@ -26,10 +26,10 @@ fn sure<E: Sink>(
     watchers: &mut Vec<Box<dyn Watcher>>,
 ) -> u8
     requires room { (text : List ℕ) (save : Option SaveValue)
-        → IsOutcome (texts words.now) (content_of shelf.old.files) (watches pair step watchers.old.items) (outcome_of text save)
+        → IsOutcome (texts words.now) (content_of shelf.old.files) (watches pair step ends watchers.old.items) (outcome_of text save)
         → length text ≤ out.old.room }
     requires saves { (text : List ℕ) (save : SaveValue)
-        → IsOutcome (texts words.now) (content_of shelf.old.files) (watches pair step watchers.old.items) (outcome_of text (Some save))
+        → IsOutcome (texts words.now) (content_of shelf.old.files) (watches pair step ends watchers.old.items) (outcome_of text (Some save))
         → length save.bytes ≤ room_of shelf.old.files save.name }
     requires lines { (n : ℕ) → E.takes err.old n }
     ensures { (result ≡ 0) ⊎ ((result ≡ 1) ⊎ ((result ≡ 2) ⊎ (result ≡ 5))) }

@@ -1,19 +1,21 @@
-// Watchers of a run, of the kinds that there are and of a kind of one's own.
-ghost use Rattle.std.specs.Prelude.{◌≡◌};
+// Watchers of a run, of the kinds that there are and of kinds of one's own.
+ghost use Rattle.std.specs.Prelude.{◌≡◌, false, true};
 
 use crate::call::{Case, Failing, File, QUERY, SERIES, assert_cases, assert_end, end_beside};
 use std::alloc::Global;
 use std::process::Abort;
 use std::test::Fail;
 use tilt_stream::Row;
-use tilt_watch::{Ends, Range, Tally, Watcher};
+use tilt_watch::{Ends, FirstRows, Next, Range, Tally, UntilAbove, UntilTime, Watcher};
 
 const FILES: &[File<'_>] = &[("q", QUERY), ("s", SERIES), ("none", b"start,end,value\n")];
 
-// What three watchers of the three kinds begin with, and what they have of the series.
-const BEFORE: &[(i64, i64)] = &[(0, 0), (i64::MAX, i64::MIN), (i64::MAX, i64::MIN)];
+// What the four watchers begin with, what they have of the first row, and what they have of both.
+const BEFORE: &[(i64, i64)] = &[(0, 0), (i64::MAX, i64::MIN), (i64::MAX, i64::MIN), (0, 0)];
 
-const AFTER: &[(i64, i64)] = &[(2, 16), (7, 9), (0, 8)];
+const ONE: &[(i64, i64)] = &[(1, 7), (7, 7), (0, 5), (1, 7)];
+
+const AFTER: &[(i64, i64)] = &[(2, 16), (7, 9), (0, 8), (2, 16)];
 
 const FAULT: &[u8] = b"tilt: 5 write fault\n";
 
@@ -25,7 +27,7 @@ const WATCHED: &[Watched<'_>] = &[
         "watch\nq\nx=s",
         (0, 0, 0),
         0,
-        b"start,end,value\n0,5,7\n6,8,9\nfigures 2 16\nfigures 7 9\nfigures 0 8\n",
+        b"start,end,value\n0,5,7\n6,8,9\nfigures 2 16\nfigures 7 9\nfigures 0 8\nfigures 2 16\n",
         b"",
         AFTER,
     ),
@@ -33,7 +35,7 @@ const WATCHED: &[Watched<'_>] = &[
         "watch\nq\nx=s\n--plain",
         (0, 0, 0),
         0,
-        b"start,end,value\n0,5,7\n6,8,9\nfigures 2 16\nfigures 7 9\nfigures 0 8\n",
+        b"start,end,value\n0,5,7\n6,8,9\nfigures 2 16\nfigures 7 9\nfigures 0 8\nfigures 2 16\n",
         b"",
         AFTER,
     ),
@@ -42,7 +44,7 @@ const WATCHED: &[Watched<'_>] = &[
         (0, 0, 0),
         0,
         b"start,end,value\nfigures 0 0\nfigures 9223372036854775807 -9223372036854775808\n\
-          figures 9223372036854775807 -9223372036854775808\n",
+          figures 9223372036854775807 -9223372036854775808\nfigures 0 0\n",
         b"",
         BEFORE,
     ),
@@ -64,7 +66,7 @@ const WATCHED: &[Watched<'_>] = &[
         b"tilt: 4 read fault: s\n",
         BEFORE,
     ),
-    // The watchers see all rows once the text is put, and then come the figures and the flush.
+    // A row is seen once its line is put, and after all lines come the figures and the flush.
     ("watch\nq\nx=s", (0, 1, 0), 4, b"start,en", FAULT, BEFORE),
     (
         "watch\nq\nx=s",
@@ -80,7 +82,7 @@ const WATCHED: &[Watched<'_>] = &[
         4,
         b"start,end,value\n0,5,7\n6,8",
         FAULT,
-        BEFORE,
+        ONE,
     ),
     (
         "watch\nq\nx=s",
@@ -110,21 +112,29 @@ const WATCHED: &[Watched<'_>] = &[
         "watch\nq\nx=s",
         (0, 7, 0),
         4,
-        b"start,end,value\n0,5,7\n6,8,9\nfigures 2 16\nfigures 7 9\nfigures 0 8\n",
+        b"start,end,value\n0,5,7\n6,8,9\nfigures 2 16\nfigures 7 9\nfigures 0 8\nfigure",
+        FAULT,
+        AFTER,
+    ),
+    (
+        "watch\nq\nx=s",
+        (0, 8, 0),
+        4,
+        b"start,end,value\n0,5,7\n6,8,9\nfigures 2 16\nfigures 7 9\nfigures 0 8\nfigures 2 16\n",
         FAULT,
         AFTER,
     ),
 ];
 
-// Ends the test unless the watcher at that place has these figures.
-fn assert_figures(rt: &impl Abort, list: &[Box<dyn Watcher>], at: usize, figures: (i64, i64)) {
-    match list.get(at) {
-        Some(watcher) => assert_eq!(rt; watcher.figures(), figures, "watcher {at}"),
-        None => assert!(rt; false, "no watcher {at}"),
+// Ends the test unless these are the figures of the watchers in the list.
+fn assert_figures(rt: &impl Abort, list: &[Box<dyn Watcher>], figures: &[(i64, i64)]) {
+    assert_eq!(rt; list.len(), figures.len());
+    for (watcher, pair) in list.iter().zip(figures) {
+        assert_eq!(rt; watcher.figures(), *pair);
     }
 }
 
-// Ends the test unless the call ends so beside a watcher of each kind.
+// Ends the test unless the call ends so beside a watcher of each kind without a limit, and one of the first three rows.
 fn assert_watched(
     rt: &impl Abort,
     alloc: Global,
@@ -136,11 +146,10 @@ fn assert_watched(
     watchers.push(Box::new(alloc, Tally::new())?)?;
     watchers.push(Box::new(alloc, Range::new())?)?;
     watchers.push(Box::new(alloc, Ends::new())?)?;
+    watchers.push(Box::new(alloc, FirstRows::new(3))?)?;
     let end = end_beside(alloc, words, FILES, failing, &mut watchers)?;
     assert_end(rt, &end, status, out, err, i);
-    for (at, pair) in figures.iter().enumerate() {
-        assert_figures(rt, &watchers, at, *pair);
-    }
+    assert_figures(rt, &watchers, figures);
     Ok(())
 }
 
@@ -153,7 +162,51 @@ fn watchers_see_what_is_printed(rt: HostRuntime) -> Result<(), Fail> {
     assert_cases(&rt, rt.alloc(), &alone)
 }
 
-// A watcher of one's own: where the last row lies.
+// A count over three ticks, of two rows that touch: it has five rows.
+const COUNT: &[File<'_>] = &[
+    ("q", b"input x; emit count(x[t-3:t]) over (0, 10];"),
+    ("s", b"start,end,value\n0,5,7\n5,8,7\n"),
+];
+
+const COUNTS: &[u8] = b"start,end,value\n0,2,1\n2,5,1\n5,7,2\n7,8,1\n8,10,1\n\
+    figures 5 6\nfigures 1 2\nfigures 0 10\nfigures 3 4\n";
+
+#[test]
+fn a_watcher_that_has_seen_enough_is_dropped(rt: HostRuntime) -> Result<(), Fail> {
+    let mut watchers: Vec<Box<dyn Watcher>> = Vec::new(rt.alloc());
+    watchers.push(Box::new(rt.alloc(), Tally::new())?)?;
+    watchers.push(Box::new(rt.alloc(), Range::new())?)?;
+    watchers.push(Box::new(rt.alloc(), Ends::new())?)?;
+    watchers.push(Box::new(rt.alloc(), FirstRows::new(3))?)?;
+    let end = end_beside(rt.alloc(), "watch\nq\nx=s", COUNT, (0, 0, 0), &mut watchers)?;
+    assert_end(&rt, &end, 0, COUNTS, b"", 0);
+    assert_figures(&rt, &watchers, &[(5, 6), (1, 2), (0, 10)]);
+    Ok(())
+}
+
+#[test]
+fn all_watchers_may_end(rt: HostRuntime) -> Result<(), Fail> {
+    let mut watchers: Vec<Box<dyn Watcher>> = Vec::new(rt.alloc());
+    watchers.push(Box::new(rt.alloc(), UntilAbove::new(1))?)?;
+    watchers.push(Box::new(rt.alloc(), UntilTime::new(5))?)?;
+    let end = end_beside(rt.alloc(), "watch\nq\nx=s", COUNT, (0, 0, 0), &mut watchers)?;
+    let text = b"start,end,value\n0,2,1\n2,5,1\n5,7,2\n7,8,1\n8,10,1\nfigures 3 2\nfigures 2 5\n";
+    assert_end(&rt, &end, 0, text, b"", 0);
+    assert_figures(&rt, &watchers, &[]);
+    Ok(())
+}
+
+#[test]
+fn a_row_whose_put_fails_is_not_seen(rt: HostRuntime) -> Result<(), Fail> {
+    let mut watchers: Vec<Box<dyn Watcher>> = Vec::new(rt.alloc());
+    watchers.push(Box::new(rt.alloc(), Tally::new())?)?;
+    let end = end_beside(rt.alloc(), "watch\nq\nx=s", FILES, (0, 2, 0), &mut watchers)?;
+    assert_end(&rt, &end, 4, b"start,end,value\n0,5", FAULT, 0);
+    assert_figures(&rt, &watchers, &[(0, 0)]);
+    Ok(())
+}
+
+// A watcher of one's own: where the last row lies. It sees all rows.
 #[derive(Drop)]
 struct Last {
     start: i64,
@@ -165,9 +218,37 @@ impl Watcher for Last {
 
     ghost step = { λ _ _ row. (row.start, row.end) };
 
-    fn see(&mut self, row: &Row) {
+    ghost ends = { λ _ _. false };
+
+    fn see(&mut self, row: &Row) -> Next {
         self.start = row.start;
         self.end = row.end;
+        Next::More
+    }
+
+    fn figures(&self) -> (i64, i64) {
+        (self.start, self.end)
+    }
+}
+
+// And one of which every pair is an end, also that with which it begins: where the first row lies.
+#[derive(Drop)]
+struct First {
+    start: i64,
+    end: i64,
+}
+
+impl Watcher for First {
+    ghost pair = { λ first. (first.start, first.end) };
+
+    ghost step = { λ _ _ row. (row.start, row.end) };
+
+    ghost ends = { λ _ _. true };
+
+    fn see(&mut self, row: &Row) -> Next {
+        self.start = row.start;
+        self.end = row.end;
+        Next::Done
     }
 
     fn figures(&self) -> (i64, i64) {
@@ -178,10 +259,27 @@ impl Watcher for Last {
 #[test]
 fn a_watcher_of_ones_own_serves(rt: HostRuntime) -> Result<(), Fail> {
     let mut watchers: Vec<Box<dyn Watcher>> = Vec::new(rt.alloc());
+    watchers.push(Box::new(rt.alloc(), First { start: 0, end: 0 })?)?;
     watchers.push(Box::new(rt.alloc(), Last { start: 0, end: 0 })?)?;
     let end = end_beside(rt.alloc(), "watch\nq\nx=s", FILES, (0, 0, 0), &mut watchers)?;
-    let text = b"start,end,value\n0,5,7\n6,8,9\nfigures 6 8\n";
+    let text = b"start,end,value\n0,5,7\n6,8,9\nfigures 0 5\nfigures 6 8\n";
     assert_end(&rt, &end, 0, text, b"", 0);
-    assert_figures(&rt, &watchers, 0, (6, 8));
+    assert_figures(&rt, &watchers, &[(6, 8)]);
+    Ok(())
+}
+
+#[test]
+fn an_end_before_the_first_row_has_no_effect(rt: HostRuntime) -> Result<(), Fail> {
+    let mut watchers: Vec<Box<dyn Watcher>> = Vec::new(rt.alloc());
+    watchers.push(Box::new(rt.alloc(), First { start: 1, end: 2 })?)?;
+    let end = end_beside(
+        rt.alloc(),
+        "watch\nq\nx=none",
+        FILES,
+        (0, 0, 0),
+        &mut watchers,
+    )?;
+    assert_end(&rt, &end, 0, b"start,end,value\nfigures 1 2\n", b"", 0);
+    assert_figures(&rt, &watchers, &[(1, 2)]);
     Ok(())
 }

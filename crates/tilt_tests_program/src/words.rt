@@ -2,7 +2,7 @@
 use std::alloc::Global;
 use std::test::Fail;
 use tilt_testing::name_text;
-use tilt_words::{Bind, Command, WordsFault, read_words};
+use tilt_words::{Bind, Command, CutBind, Upto, WordsFault, read_words};
 
 // The pieces of a text between bars.
 fn words_of(alloc: Global, text: &str) -> Result<Vec<String>, Fail> {
@@ -41,6 +41,24 @@ fn show_order(alloc: Global, order: &[u32]) -> Result<String, Fail> {
     Ok(shown)
 }
 
+fn show_each(alloc: Global, cuts: &[CutBind]) -> Result<String, Fail> {
+    let mut shown = String::new(alloc);
+    for bind in cuts {
+        let name = name_text(&bind.name)?;
+        let cut = format!(in alloc; " upto {name}={}", bind.cut)?;
+        shown.push_str(cut.as_str())?;
+    }
+    Ok(shown)
+}
+
+// A cut for all, or one after another a name and its cut.
+fn show_upto(alloc: Global, upto: &Upto) -> Result<String, Fail> {
+    match upto {
+        Upto::All(cut) => Ok(format!(in alloc; " upto {cut}")?),
+        Upto::Each(cuts) => show_each(alloc, cuts),
+    }
+}
+
 fn show_plain(plain: bool) -> &'static str {
     if plain { " plain" } else { "" }
 }
@@ -75,7 +93,8 @@ fn show(alloc: Global, command: &Command) -> Result<String, Fail> {
             save,
         } => {
             let (binds, plain) = (show_binds(alloc, binds)?, show_plain(*plain));
-            format!(in alloc; "start {query}{binds}{plain} upto {upto} save {save}")?
+            let upto = show_upto(alloc, upto)?;
+            format!(in alloc; "start {query}{binds}{plain}{upto} save {save}")?
         }
         Command::ResumeUpto {
             file,
@@ -85,7 +104,8 @@ fn show(alloc: Global, command: &Command) -> Result<String, Fail> {
             save,
         } => {
             let (binds, plain) = (show_binds(alloc, binds)?, show_plain(*plain));
-            format!(in alloc; "resume {file}{binds}{plain} upto {upto} save {save}")?
+            let upto = show_upto(alloc, upto)?;
+            format!(in alloc; "resume {file}{binds}{plain}{upto} save {save}")?
         }
         Command::ResumeEnd { file, binds, plain } => {
             let (binds, plain) = (show_binds(alloc, binds)?, show_plain(*plain));
@@ -154,6 +174,23 @@ fn words_are_the_command_that_they_spell(rt: HostRuntime) -> Result<(), Fail> {
             "resume C x=F upto 5 save C",
         ),
         ("resume|C|x=F|--end|--plain", "resume C x=F plain end"),
+        (
+            "start|Q|--upto|x=8,y=5|--save|D",
+            "start Q upto x=8 upto y=5 save D",
+        ),
+        (
+            "resume|C|--upto|x=+8|--save|D|x=F",
+            "resume C x=F upto x=8 save D",
+        ),
+        // The names are those of no query here: one that is reserved, and one that stands twice.
+        (
+            "start|Q|--upto|input=-0,_1=007,_1=-7|--save|D",
+            "start Q upto input=0 upto _1=7 upto _1=-7 save D",
+        ),
+        (
+            "start|Q|--upto|x=-4000000000000000000,y=4000000000000000000|--save|D",
+            "start Q upto x=-4000000000000000000 upto y=4000000000000000000 save D",
+        ),
         ("pipe|Q|--plain|x=F", "pipe Q x=F plain"),
         ("watch|Q|x=F|--plain", "watch Q x=F plain"),
         ("parts|Q|--at|5", "parts Q cut 5"),
@@ -231,6 +268,27 @@ fn other_words_are_no_command(rt: HostRuntime) -> Result<(), Fail> {
         "start|Q|--upto|5|--save|D|--end",
         "start|Q|--upto|5|--save|D|--cut|5",
         "start|Q|--upto|4000000000000000001|--save|D",
+        "start|Q|--upto||--save|D",
+        "start|Q|--upto|x|--save|D",
+        "start|Q|--upto|x=|--save|D",
+        "start|Q|--upto|=5|--save|D",
+        "start|Q|--upto|x=5,|--save|D",
+        "start|Q|--upto|,x=5|--save|D",
+        "start|Q|--upto|x=5,,y=6|--save|D",
+        "start|Q|--upto|x=5,6|--save|D",
+        "start|Q|--upto|5,x=6|--save|D",
+        "start|Q|--upto|x=5, y=6|--save|D",
+        "start|Q|--upto|x =5|--save|D",
+        "start|Q|--upto|x==5|--save|D",
+        "start|Q|--upto|x=y=5|--save|D",
+        "start|Q|--upto|1=5|--save|D",
+        "start|Q|--upto|x=5y|--save|D",
+        "start|Q|--upto|x=4000000000000000001|--save|D",
+        "start|Q|--upto|x=5,y=-4000000000000000001|--save|D",
+        "start|Q|--upto|x=5|--upto|y=6|--save|D",
+        "resume|C|--upto|x=5|--end",
+        "run|Q|--cut|x=5",
+        "run|Q|--upto|x=5",
         "resume|C|x=F",
         "resume|C|--end|--end",
         "resume|C|x=F|--end|--upto|5|--save|D",

@@ -85,6 +85,18 @@ const REFUSED: &[&str] = &[
     "cut 5\nopen 2\nlast none rows 0\nlast none rows 0\nend\n",
 ];
 
+// Some of these, which are refused for the same reason in the second version.
+const REFUSED_IN_SECOND: &[&str] = &[
+    "cut +5\nopen 2\nlast 5 rows 1\n0,5,7\nend\n",
+    "cut 5\nopen none\nlast 5 rows 1\n0,5,7\nend\n",
+    "cut 5\nopen 2\nlast 5 rows 2\n0,5,7\nend\n",
+    "cut 5\nopen 2\nlast 6 rows 1\n5,6,7\nend\n",
+    "cut 5\nopen 2\nlast 2 rows 1\n0,2,7\nend\n",
+    "cut 5\nopen 2\nlast 3 rows 0\nend\n",
+    "cut 4000000000000000001\nopen none\nlast none rows 0\nend\n",
+    "cut -4000000000000000000\nopen none\nlast -3999999999999999999 rows 0\nend\n",
+];
+
 // Whole texts that are taken: other queries.
 const OTHER_TAKEN: &[&str] = &[
     BEFORE,
@@ -100,7 +112,7 @@ const OTHER_TAKEN: &[&str] = &[
 
 // Whole texts that are refused: another version, and queries that are spelled otherwise, counted wrong, faulty, or look too far.
 const OTHER_REFUSED: &[&str] = &[
-    "tilt checkpoint 2\nquery 2\ninput x;\nemit count(x[t-3:t]) over (0, 10];\ncut 5\nopen 2\nlast 5 rows 1\n0,5,7\nend\n",
+    "tilt checkpoint 3\nquery 2\ninput x;\nemit count(x[t-3:t]) over (0, 10];\ncut 5\nopen 2\nlast 5 rows 1\n0,5,7\nend\n",
     "tilt checkpoint 1\nquery 2\ninput x;\nemit count(x[t-3:t]) over (0, 10 ];\ncut 5\nopen 2\nlast 5 rows 1\n0,5,7\nend\n",
     "tilt checkpoint 1\nquery 1\nemit 1 over (0, 5];\r\ncut 3\nopen 0\nend\n",
     "tilt checkpoint 1\nquery 1\nemit (1) over (0, 5];\ncut 3\nopen 0\nend\n",
@@ -115,22 +127,100 @@ const OTHER_REFUSED: &[&str] = &[
     "tilt checkpoint 1\nquery 2\ninput x;\nemit x[t-1000000000001] over (0, 5];\ncut 3\nopen 0\nlast none rows 0\nend\n",
 ];
 
+// A query of two inputs, which looks no farther than its own tick, in the second version.
+const TWO: &str = "tilt checkpoint 2\nquery 3\ninput x;\ninput y;\nemit x + y over (0, 10];\n";
+
+// What stands after it, and is taken. Rows are kept from the least cut on.
+const TWO_TAKEN: &[&str] = &[
+    // A row of x starts at the least cut or after it, but below its own.
+    "cut 5\nopen 4\ncut 8 last 9 rows 2\n0,6,1\n6,9,2\ncut 5 last 12 rows 1\n4,12,20\nend\n",
+    // The second input is the one ahead, and the same cut for both.
+    "cut 5\nopen 4\ncut 5 last 6 rows 1\n0,6,1\ncut 7 last 12 rows 1\n6,12,20\nend\n",
+    "cut 5\nopen 4\ncut 5 last 6 rows 1\n0,6,1\ncut 5 last none rows 0\nend\n",
+    // One input far behind: nothing is decided, and all rows of the other are kept that end at the first tick or later.
+    "cut -9\nopen none\ncut -9 last none rows 0\ncut 20 last 20 rows 2\n0,1,3\n1,20,4\nend\n",
+    // Cuts at both ends of time.
+    "cut -4000000000000000000\nopen none\ncut -4000000000000000000 last none rows 0\n\
+     cut 4000000000000000000 last 4000000000000000000 rows 1\n0,4000000000000000000,1\nend\n",
+    // The last end of a row that needn't be kept.
+    "cut 5\nopen 4\ncut 5 last 4 rows 0\ncut 9 last none rows 0\nend\n",
+];
+
+// What stands after it, and is refused.
+const TWO_REFUSED: &[&str] = &[
+    // The cut in front isn't the least: too high, too low, the greatest.
+    "cut 6\nopen 4\ncut 8 last none rows 0\ncut 5 last none rows 0\nend\n",
+    "cut 4\nopen 3\ncut 8 last none rows 0\ncut 5 last none rows 0\nend\n",
+    "cut 8\nopen 4\ncut 8 last none rows 0\ncut 5 last none rows 0\nend\n",
+    // A row that starts at its own cut, though below the other's; one that ends before the first tick that is kept.
+    "cut 5\nopen 4\ncut 8 last 9 rows 1\n8,9,2\ncut 5 last none rows 0\nend\n",
+    "cut 5\nopen 4\ncut 8 last none rows 0\ncut 5 last 7 rows 1\n5,7,2\nend\n",
+    "cut 5\nopen 4\ncut 8 last 4 rows 1\n0,4,2\ncut 5 last none rows 0\nend\n",
+    // The cut of an input that is missing, spelled otherwise, or out of the range of times.
+    "cut 5\nopen 4\nlast none rows 0\nlast none rows 0\nend\n",
+    "cut 5\nopen 4\ncut 5 last none rows 0\nlast none rows 0\nend\n",
+    "cut 5\nopen 4\ncut +8 last none rows 0\ncut 5 last none rows 0\nend\n",
+    "cut 5\nopen 4\ncut 08 last none rows 0\ncut 5 last none rows 0\nend\n",
+    "cut 5\nopen 4\ncut 8  last none rows 0\ncut 5 last none rows 0\nend\n",
+    "cut 5\nopen 4\ncut 8\nlast none rows 0\ncut 5 last none rows 0\nend\n",
+    "cut 5\nopen 4\ncut none last none rows 0\ncut 5 last none rows 0\nend\n",
+    "cut 5\nopen 4\ncut 4000000000000000001 last none rows 0\ncut 5 last none rows 0\nend\n",
+    // A series too few and too many.
+    "cut 5\nopen 4\ncut 5 last none rows 0\nend\n",
+    "cut 5\nopen 4\ncut 8 last none rows 0\ncut 5 last none rows 0\ncut 5 last none rows 0\nend\n",
+];
+
+// The same query in the first version, with lines of the second: the first version has no cuts of inputs, not even equal ones.
+const MIXED: &[&str] = &[
+    "tilt checkpoint 1\nquery 3\ninput x;\ninput y;\nemit x + y over (0, 10];\n\
+     cut 5\nopen 4\ncut 5 last none rows 0\ncut 5 last none rows 0\nend\n",
+    "tilt checkpoint 1\nquery 3\ninput x;\ninput y;\nemit x + y over (0, 10];\n\
+     cut 5\nopen 4\ncut 8 last none rows 0\ncut 5 last none rows 0\nend\n",
+    "tilt checkpoint 0\nquery 1\nemit 1 over (0, 5];\ncut 3\nopen 0\nend\n",
+    "tilt checkpoint 02\nquery 1\nemit 1 over (0, 5];\ncut 3\nopen 0\nend\n",
+    "tilt checkpoint 12\nquery 1\nemit 1 over (0, 5];\ncut 3\nopen 0\nend\n",
+];
+
+// A text of the first version in the second: each input has the cut of all.
+fn in_second_version(alloc: Global, text: &str) -> Result<String, Fail> {
+    let (_, rest) = text.split_once('\n').ok_or("no line")?;
+    let (front, moment) = rest.split_once("cut ").ok_or("no cut")?;
+    let (cut, lines) = moment.split_once('\n').ok_or("no line of the cut")?;
+    let mut second = format!(in alloc; "tilt checkpoint 2\n{front}cut {cut}\n")?;
+    for line in lines.lines() {
+        let line = if line.starts_with("last ") {
+            format!(in alloc; "cut {cut} {line}\n")?
+        } else {
+            format!(in alloc; "{line}\n")?
+        };
+        second.push_str(line.as_str())?;
+    }
+    Ok(second)
+}
+
 // The text of `AMID` up to its query, and these lines.
 fn with_lines(alloc: Global, lines: &str) -> Result<String, Fail> {
     let (front, _) = AMID.split_once("cut").ok_or("no cut")?;
     Ok(format!(in alloc; "{front}{lines}")?)
 }
 
-// The text is the spelling of the checkpoint that it gives.
-fn take(alloc: Global, rt: &impl Abort, text: &str) -> Result<(), Fail> {
+// The text gives a checkpoint that is written so.
+fn take(alloc: Global, rt: &impl Abort, text: &str, written: &str) -> Result<(), Fail> {
     match decode(alloc, text.as_bytes()) {
         Ok(decoded) => {
             let again = encode(alloc, &decoded.checkpoint)?;
-            assert_eq!(rt; again.as_slice(), text.as_bytes(), "at {text}");
+            assert_eq!(rt; again.as_slice(), written.as_bytes(), "at {text}");
         }
         Err(fault) => assert!(rt; false, "{fault:?} at {text}"),
     }
     Ok(())
+}
+
+// A text of the first version is taken, and so is the text of the second that is written of it.
+fn take_both(alloc: Global, rt: &impl Abort, text: &str) -> Result<(), Fail> {
+    let second = in_second_version(alloc, text)?;
+    take(alloc, rt, text, second.as_str())?;
+    take(alloc, rt, second.as_str(), second.as_str())
 }
 
 // The bytes are refused.
@@ -146,10 +236,27 @@ fn spellings_are_taken_and_written_again(rt: HostRuntime) -> Result<(), Fail> {
     let alloc = rt.alloc();
     for lines in TAKEN {
         let text = with_lines(alloc, lines)?;
-        take(alloc, &rt, text.as_str())?;
+        take_both(alloc, &rt, text.as_str())?;
     }
     for text in OTHER_TAKEN {
-        take(alloc, &rt, text)?;
+        take_both(alloc, &rt, text)?;
+    }
+    Ok(())
+}
+
+#[test]
+fn each_input_has_a_cut_of_its_own(rt: HostRuntime) -> Result<(), Fail> {
+    let alloc = rt.alloc();
+    for lines in TWO_TAKEN {
+        let text = format!(in alloc; "{TWO}{lines}")?;
+        take(alloc, &rt, text.as_str(), text.as_str())?;
+    }
+    for lines in TWO_REFUSED {
+        let text = format!(in alloc; "{TWO}{lines}")?;
+        refuse(alloc, &rt, text.as_bytes());
+    }
+    for text in MIXED {
+        refuse(alloc, &rt, text.as_bytes());
     }
     Ok(())
 }
@@ -161,6 +268,10 @@ fn other_bytes_are_refused(rt: HostRuntime) -> Result<(), Fail> {
         let text = with_lines(alloc, lines)?;
         refuse(alloc, &rt, text.as_bytes());
     }
+    for lines in REFUSED_IN_SECOND {
+        let text = in_second_version(alloc, with_lines(alloc, lines)?.as_str())?;
+        refuse(alloc, &rt, text.as_bytes());
+    }
     for text in OTHER_REFUSED {
         refuse(alloc, &rt, text.as_bytes());
     }
@@ -170,7 +281,9 @@ fn other_bytes_are_refused(rt: HostRuntime) -> Result<(), Fail> {
 #[test]
 fn every_front_is_refused(rt: HostRuntime) -> Result<(), Fail> {
     let alloc = rt.alloc();
-    for text in [AMID, BEFORE] {
+    let two = TWO_TAKEN[0];
+    let second = format!(in alloc; "{TWO}{two}")?;
+    for text in [AMID, BEFORE, second.as_str()] {
         let bytes = text.as_bytes();
         for length in 0..bytes.len() {
             refuse(alloc, &rt, &bytes[..length]);

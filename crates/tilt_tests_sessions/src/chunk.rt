@@ -5,7 +5,7 @@ ghost use Rattle.tilt_base.specs.declared.limits.TheConstants.{T};
 use std::alloc::Global;
 use std::process::Abort;
 use std::test::Fail;
-use tilt_checkpoint::{Checkpoint, encode};
+use tilt_checkpoint::{Checkpoint, Cuts, encode};
 use tilt_chunk::{Cut, CutBack, next_cut, resume, start};
 use tilt_compiler::accept;
 use tilt_stream::{Row, Rows, Snap, SnapList};
@@ -55,7 +55,7 @@ fn a_window_goes_on_over_the_cut(rt: HostRuntime) -> Result<(), Fail> {
     assert!(rt; core.inputs().len() == 1);
     let accepted = accept(alloc, core, true)?;
     let rows = one_row(alloc, snap(0, 5, 7))?;
-    let session = start(alloc, query, &accepted, rows, 5)?;
+    let session = start(alloc, query, &accepted, rows, Cuts::same(alloc, 5, 1)?)?;
     let (printed, checkpoint) = session;
     has(&rt, &printed, &[(0, 2, 1)]);
     is_spelled(alloc, &rt, &checkpoint)?;
@@ -70,8 +70,8 @@ fn a_window_goes_on_over_the_cut(rt: HostRuntime) -> Result<(), Fail> {
 // The checkpoint has the text that was worked out.
 fn is_spelled(alloc: Global, rt: &impl Abort, checkpoint: &Checkpoint) -> Result<(), Fail> {
     let bytes = encode(alloc, checkpoint)?;
-    let text = "tilt checkpoint 1\nquery 2\ninput x;\nemit count(x[t-3:t]) over (0, 10];\n\
-        cut 5\nopen 2\nlast 5 rows 1\n0,5,7\nend\n";
+    let text = "tilt checkpoint 2\nquery 2\ninput x;\nemit count(x[t-3:t]) over (0, 10];\n\
+        cut 5\nopen 2\ncut 5 last 5 rows 1\n0,5,7\nend\n";
     assert_eq!(rt; bytes.as_slice(), text.as_bytes());
     Ok(())
 }
@@ -83,10 +83,11 @@ fn a_snapshot_that_is_open_is_printed_once_at_its_end(rt: HostRuntime) -> Result
     let core = check(alloc, &query)?;
     assert!(rt; core.inputs().is_empty());
     let accepted = accept(alloc, core, false)?;
-    let session = start(alloc, query, &accepted, Vec::new(alloc), 3)?;
+    let none = Cuts::same(alloc, 3, 0)?;
+    let session = start(alloc, query, &accepted, Vec::new(alloc), none)?;
     let (printed, checkpoint) = session;
     has(&rt, &printed, &[]);
-    is_cut_back(&rt, &checkpoint);
+    is_cut_back(alloc, &rt, &checkpoint)?;
     let session = resume(alloc, checkpoint, &accepted, Vec::new(alloc), Cut::End)?;
     let (more, next) = session;
     has(&rt, &more, &[(0, 5, 1)]);
@@ -94,9 +95,13 @@ fn a_snapshot_that_is_open_is_printed_once_at_its_end(rt: HostRuntime) -> Result
     Ok(())
 }
 
-// The cut of the checkpoint is 3.
-fn is_cut_back(rt: &impl Abort, checkpoint: &Checkpoint) {
+// The cut of the checkpoint is 3, and there are no inputs.
+fn is_cut_back(alloc: Global, rt: &impl Abort, checkpoint: &Checkpoint) -> Result<(), Fail> {
     let back = CutBack { old: 3, new: 2 };
-    assert_eq!(rt; next_cut(checkpoint, &Cut::Upto(2)), Err(back));
-    assert_eq!(rt; next_cut(checkpoint, &Cut::Upto(3)), Ok(()));
+    assert!(rt; checkpoint.series().is_empty());
+    let below = Cut::Upto(Cuts::same(alloc, 2, 0)?);
+    assert_eq!(rt; next_cut(checkpoint, &below), Err(back));
+    let same = Cut::Upto(Cuts::same(alloc, 3, 0)?);
+    assert_eq!(rt; next_cut(checkpoint, &same), Ok(()));
+    Ok(())
 }

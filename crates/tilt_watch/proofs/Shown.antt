@@ -1,38 +1,26 @@
--- A list of which the front ones were shown rows.
-use Rattle.std.proofs.Common.{◌≡◌, ℕ, zero, suc, ◌+◌, ◌<◌, ◌≤◌, List, [], ◌∷◌, length, map, get_or, set, refl, ap, arith}
+-- Snapshots that are shown one by one.
+use Rattle.std.proofs.Common.{◌≡◌, ◌∙◌, ◌<◌, ◌+◌, ℕ, List, [], ◌∷◌, ◌++◌, length, take, get_or, sym, ap}
+use Rattle.std.specs.Prelude.{is_some}
+use Rattle.std.proofs.lemmas.List.{take_more}
+use Rattle.std.proofs.lemmas.List.Elements.{filter-append}
 use Rattle.tilt_stream.specs.Snap.{Snapshot}
-use Rattle.tilt_watch.specs.Watch.{Watch, shown, after_show}
+use Rattle.tilt_watch.proofs.PlacesAfter.{both-then}
+use Rattle.tilt_watch.specs.Places.{left_after, places_after}
+use Rattle.tilt_watch.specs.Watch.{Watch, rows_of}
+use Rattle.tilt_watch.specs.declared.place.Place.{Place}
 
--- the watchers, of which the first so many were shown the rows
-abbrev pub shown_upto : ℕ → List Snapshot → List Watch → List Watch
-shown_upto zero rows list = list
-shown_upto (suc i) rows [] = []
-shown_upto (suc i) rows (watch ∷ list) = shown rows watch ∷ shown_upto i rows list
+-- the rows of one more snapshot
+rows-next : (all : List Snapshot) (s : Snapshot) (i : ℕ) → i < length all → s ≡ get_or all i s → rows_of (take (i + 1) all) ≡ rows_of (take i all) ++ rows_of (s ∷ [])
+rows-next all s i within is =
+    ap rows_of (take_more all i s within ∙ ap (λ (t : Snapshot). take i all ++ t ∷ []) (sym is))
+    ∙ filter-append (λ (t : Snapshot). is_some t.value) (take i all) (s ∷ [])
 
-step : {W : Type 0} (watch : W → Watch) (rows : List Snapshot) (items : List W) (list : List Watch) (i : ℕ) (old new : W) →
-    i < length items → old ≡ get_or items i old → map watch items ≡ shown_upto i rows list → watch new ≡ shown rows (watch old) →
-    map watch (set items i new) ≡ shown_upto (suc i) rows list
-step watch rows [] list i old new within is before one = absurd (omega (arith, within))
-step watch rows (x ∷ items) [] zero old new within is before one = absurd (cc before)
-step watch rows (x ∷ items) [] (suc i) old new within is before one = absurd (cc before)
-step watch rows (x ∷ items) (w ∷ list) zero old new within is before one = cc
-step watch rows (x ∷ items) (w ∷ list) (suc i) old new within is before one =
-    let rest = step watch rows items list i old new (omega (arith, within)) is (cc before) one in
-    cc
-
--- one more was shown the rows
-pub shown_more : {W : Type 0} (watch : W → Watch) (rows : List Snapshot) (items : List W) (list : List Watch) (i : ℕ) (old new : W) →
-    i < length items → old ≡ get_or items i old → map watch items ≡ shown_upto i rows list → watch new ≡ shown rows (watch old) →
-    map watch (set items i new) ≡ shown_upto (i + 1) rows list
-shown_more watch rows items list i old new within is before one =
-    let more : i + 1 ≡ suc i = omega arith in
-    rw more (step watch rows items list i old new within is before one)
-
--- all were shown the rows
-pub shown_all : {W : Type 0} (watch : W → Watch) (rows : List Snapshot) (items : List W) (i : ℕ) → length items ≤ i →
-    shown_upto i rows (map watch items) ≡ after_show (map watch items) rows
-shown_all watch rows [] zero all = refl
-shown_all watch rows [] (suc i) all = refl
-shown_all watch rows (x ∷ items) zero all = absurd (omega (arith, all))
-shown_all watch rows (x ∷ items) (suc i) all =
-    ap (λ (rest : List Watch). shown rows (watch x) ∷ rest) (shown_all watch rows items i (omega (arith, all)))
+-- one more was shown
+pub shown-more : (places mid new : List Place) (list now later : List Watch) (all : List Snapshot) (s : Snapshot) (i : ℕ) → i < length all → s ≡ get_or all i s
+    → mid ≡ places_after places list (rows_of (take i all)) → now ≡ left_after list (rows_of (take i all)) → new ≡ places_after mid now (rows_of (s ∷ []))
+    → later ≡ left_after now (rows_of (s ∷ []))
+    → (new ≡ places_after places list (rows_of (take (i + 1) all))) × (later ≡ left_after list (rows_of (take (i + 1) all)))
+shown-more places mid new list now later all s i within is mid_is now_is new_is later_is =
+    let both = both-then places mid new list now later (rows_of (take i all)) (rows_of (s ∷ [])) mid_is now_is new_is later_is in
+    let rows = sym (rows-next all s i within is) in
+    (both.0 ∙ ap (places_after places list) rows, both.1 ∙ ap (left_after list) rows)

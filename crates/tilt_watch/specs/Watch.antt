@@ -1,33 +1,29 @@
--- Watchers: each keeps a pair of figures, which changes with each row that it is shown (our own rule).
-use Rattle.std.specs.Prelude.{ℕ, ℤ, List, ◌++◌, map, fold, is_some, if◌then◌else◌, codes}
+-- Watchers: each keeps a pair of figures, which changes with each row that it sees, until it has seen enough (our own rule).
+use Rattle.std.specs.Prelude.{ℕ, ℤ, Bool, true, false, List, ◌++◌, map, filter, is_some, codes}
 use Rattle.std.specs.List.{flat_map}
 use Rattle.std.specs.Fmt.{signed_decimal}
 use Rattle.tilt_stream.specs.Snap.{Snapshot}
+use Rattle.tilt_watch.specs.declared.next.Next.{Next}
+use Rattle.tilt_watch.specs.declared.next.Next.TheVariants.{More, Done}
 
--- a watcher: its figures now, and the pair behind a pair when it is shown a row
+-- a watcher: its figures now, the pair after a pair when it sees a row, and which pairs are ends
 pub record Watch : Type 0 where
   pub pair : ℤ × ℤ
   pub step : ℤ × ℤ → Snapshot → ℤ × ℤ
+  pub ends : ℤ × ℤ → Bool
 
--- the pair behind a row by that step; a null row changes nothing
-abbrev pub stepped : (ℤ × ℤ → Snapshot → ℤ × ℤ) → ℤ × ℤ → Snapshot → ℤ × ℤ
-stepped step pair row = if is_some row.value then step pair row else pair
+-- the watchers of a list, of which these are the pairs, the steps and the ends
+abbrev pub watches : {W : Type 0} → (W → ℤ × ℤ) → (W → ℤ × ℤ → Snapshot → ℤ × ℤ) → (W → ℤ × ℤ → Bool) → List W → List Watch
+watches pair step ends list = map (λ watcher. record { pair = pair watcher; step = step watcher; ends = ends watcher }) list
 
--- the step folded over the rows that aren't null, in order
-abbrev pub folded : (ℤ × ℤ → Snapshot → ℤ × ℤ) → ℤ × ℤ → List Snapshot → ℤ × ℤ
-folded step pair rows = fold (stepped step) pair rows
+-- what a watcher says once it saw a row: that it is done exactly where its new pair is an end
+abbrev pub next_of : Bool → Next
+next_of true = Done
+next_of false = More
 
--- the watchers of a list, whose pairs and steps these are
-abbrev pub watches : {W : Type 0} → (W → ℤ × ℤ) → (W → ℤ × ℤ → Snapshot → ℤ × ℤ) → List W → List Watch
-watches pair step list = map (λ watcher. record { pair = pair watcher; step = step watcher }) list
-
--- the watcher once it was shown those of the rows that aren't null
-abbrev pub shown : List Snapshot → Watch → Watch
-shown rows watch = record { pair = folded watch.step watch.pair rows; step = watch.step }
-
--- the watchers of a list, each once it was shown those of the rows that aren't null
-abbrev pub after_show : List Watch → List Snapshot → List Watch
-after_show list rows = map (shown rows) list
+-- the rows that watchers see of snapshots: those that aren't null
+abbrev pub rows_of : List Snapshot → List Snapshot
+rows_of list = filter (λ snapshot. is_some snapshot.value) list
 
 -- the figures of all watchers, in order
 abbrev pub pairs_of : List Watch → List (ℤ × ℤ)

@@ -1,7 +1,8 @@
 // The least start and the greatest end.
 ghost use Rattle.std.specs.Prelude.{◌≡◌};
-ghost use Rattle.tilt_watch.specs.Kinds.{ends_step, extremes_begin};
+ghost use Rattle.tilt_watch.specs.Kinds.{ends_step, extremes_begin, no_end};
 
+use crate::next::Next;
 use crate::watcher::Watcher;
 use tilt_stream::Row;
 
@@ -17,6 +18,7 @@ impl Ends {
     pub fn new() -> Ends
         ensures pair { ⟦<Ends as Watcher>⟧.pair result ≡ extremes_begin }
         ensures step { ⟦<Ends as Watcher>⟧.step result ≡ ends_step }
+        ensures ends { ⟦<Ends as Watcher>⟧.ends result ≡ no_end }
     {
         Ends {
             start: i64::MAX,
@@ -30,9 +32,12 @@ impl Watcher for Ends {
 
     ghost step = { λ _. ends_step };
 
-    fn see(&mut self, row: &Row) {
+    ghost ends = { λ _. no_end };
+
+    fn see(&mut self, row: &Row) -> Next {
         self.start = self.start.min(row.start);
         self.end = self.end.max(row.end);
+        Next::More
     }
 
     fn figures(&self) -> (i64, i64) {

@@ -1,30 +1,22 @@
 // The text of figures, put line by line.
 ghost use Rattle.std.specs.Prelude.{◌≡◌, ◌≤◌, length, take};
 ghost use Rattle.tilt_outside.specs.Written.{Puts};
-ghost use Rattle.tilt_watch.specs.Watch.{figures_line, figures_text, pairs_of, watches};
+ghost use Rattle.tilt_watch.specs.Places.{figures_of};
+ghost use Rattle.tilt_watch.specs.Watch.{figures_line, figures_text};
 
-use crate::watcher::Watcher;
+use crate::panel::Panel;
 use tilt_outside::{Failed, Sink};
 use tilt_text::{append, append_number};
 
-/// Puts the line `figures A B` of each watcher's pair, in order. Takes no memory.
-pub fn put_figures<O: Sink>(out: &mut O, list: &[Box<dyn Watcher>]) -> Result<(), Failed>
-    requires { O.takes out.old (length (figures_text (pairs_of (watches pair step list.now)))) }
-    ensures { Puts O.tells O.written O.faults O.takes out.old out.new
-        (figures_text (pairs_of (watches pair step list.now))) result }
+/// Puts the line `figures A B` of each watcher that the list had at first, in order. Takes no memory.
+pub fn put_figures<O: Sink>(out: &mut O, panel: &Panel) -> Result<(), Failed>
+    requires { O.takes out.old (length (figures_text (figures_of panel.now))) }
+    ensures { Puts O.tells O.written O.faults O.takes out.old out.new (figures_text (figures_of panel.now)) result }
 {
-    for watcher in list {
-        put_watcher(out, watcher)?;
+    for place in panel.places() {
+        put_pair(out, place.figures())?;
     }
     Ok(())
-}
-
-// Puts the line of a watcher's pair.
-fn put_watcher<O: Sink>(out: &mut O, watcher: &Box<dyn Watcher>) -> Result<(), Failed>
-    requires { O.takes out.old (length (figures_line (pair watcher.now))) }
-    ensures { Puts O.tells O.written O.faults O.takes out.old out.new (figures_line (pair watcher.now)) result }
-{
-    put_pair(out, watcher.figures())
 }
 
 // Puts the line of a pair.

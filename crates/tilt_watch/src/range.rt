@@ -1,7 +1,8 @@
 // The least and the greatest value.
 ghost use Rattle.std.specs.Prelude.{◌≡◌};
-ghost use Rattle.tilt_watch.specs.Kinds.{extremes_begin, range_step};
+ghost use Rattle.tilt_watch.specs.Kinds.{extremes_begin, no_end, range_step};
 
+use crate::next::Next;
 use crate::watcher::Watcher;
 use tilt_stream::Row;
 
@@ -17,6 +18,7 @@ impl Range {
     pub fn new() -> Range
         ensures pair { ⟦<Range as Watcher>⟧.pair result ≡ extremes_begin }
         ensures step { ⟦<Range as Watcher>⟧.step result ≡ range_step }
+        ensures ends { ⟦<Range as Watcher>⟧.ends result ≡ no_end }
     {
         Range {
             least: i64::MAX,
@@ -30,11 +32,14 @@ impl Watcher for Range {
 
     ghost step = { λ _. range_step };
 
-    fn see(&mut self, row: &Row) {
+    ghost ends = { λ _. no_end };
+
+    fn see(&mut self, row: &Row) -> Next {
         if let Some(value) = row.value {
             self.least = self.least.min(value);
             self.greatest = self.greatest.max(value);
         }
+        Next::More
     }
 
     fn figures(&self) -> (i64, i64) {

@@ -1,35 +1,32 @@
 // Watchers that are shown snapshots.
-ghost use Rattle.std.specs.Prelude.{◌≡◌};
-ghost use Rattle.tilt_watch.specs.Watch.{after_show, folded, stepped, watches};
+ghost use Rattle.std.specs.Prelude.{[], ◌∷◌, ◌≡◌};
+ghost use Rattle.tilt_watch.specs.Places.{AreInStep, left_after, places_after};
+ghost use Rattle.tilt_watch.specs.Watch.{rows_of, watches};
 
+use crate::panel::Panel;
 use crate::watcher::Watcher;
-use tilt_stream::{Row, SnapList};
+use tilt_stream::{Snap, SnapList};
 
-/// Shows each watcher of the list those snapshots that aren't null, in order. Takes no memory.
-pub fn show(list: &mut Vec<Box<dyn Watcher>>, rows: &SnapList)
-    ensures { watches pair step list.new.items ≡ after_show (watches pair step list.old.items) rows.now }
+/// Lets the watchers of the list see those snapshots that aren't null, in order, and drops each once it has seen enough. Takes no memory.
+pub fn show(list: &mut Vec<Box<dyn Watcher>>, panel: &mut Panel, rows: &SnapList)
+    requires { AreInStep panel.old (watches pair step ends list.old.items) }
+    ensures places { panel.new ≡ places_after panel.old (watches pair step ends list.old.items) (rows_of rows.now) }
+    ensures list { watches pair step ends list.new.items ≡ left_after (watches pair step ends list.old.items) (rows_of rows.now) }
+    ensures in_step { AreInStep panel.new (watches pair step ends list.new.items) }
 {
-    for i in 0..list.len() {
-        show_one(&mut list[i], rows);
+    for snap in rows.as_slice() {
+        show_snap(list, panel, snap);
     }
 }
 
-// Shows one watcher those snapshots that aren't null, in order.
-fn show_one(watcher: &mut Box<dyn Watcher>, rows: &SnapList)
-    ensures pair { pair watcher.new ≡ folded (step watcher.old) (pair watcher.old) rows.now }
-    ensures same { step watcher.new ≡ step watcher.old }
+/// The same of one snapshot.
+pub fn show_snap(list: &mut Vec<Box<dyn Watcher>>, panel: &mut Panel, snap: &Snap)
+    requires { AreInStep panel.old (watches pair step ends list.old.items) }
+    ensures places { panel.new ≡ places_after panel.old (watches pair step ends list.old.items) (rows_of (snap.now ∷ [])) }
+    ensures list { watches pair step ends list.new.items ≡ left_after (watches pair step ends list.old.items) (rows_of (snap.now ∷ [])) }
+    ensures in_step { AreInStep panel.new (watches pair step ends list.new.items) }
 {
-    for row in rows.as_slice() {
-        show_row(watcher, row);
-    }
-}
-
-// Shows a watcher a row, unless it is null.
-fn show_row(watcher: &mut Box<dyn Watcher>, row: &Row)
-    ensures pair { pair watcher.new ≡ stepped (step watcher.old) (pair watcher.old) row.now }
-    ensures same { step watcher.new ≡ step watcher.old }
-{
-    if row.value.is_some() {
-        watcher.see(row);
+    if snap.value.is_some() {
+        panel.see(list, snap);
     }
 }

@@ -1,7 +1,8 @@
 // A count and a sum.
 ghost use Rattle.std.specs.Prelude.{◌≡◌, ◌+ℤ◌};
-ghost use Rattle.tilt_watch.specs.Kinds.{saturated, tally_begin, tally_step};
+ghost use Rattle.tilt_watch.specs.Kinds.{no_end, saturated, tally_begin, tally_step};
 
+use crate::next::Next;
 use crate::watcher::Watcher;
 use tilt_stream::Row;
 
@@ -17,6 +18,7 @@ impl Tally {
     pub fn new() -> Tally
         ensures pair { ⟦<Tally as Watcher>⟧.pair result ≡ tally_begin }
         ensures step { ⟦<Tally as Watcher>⟧.step result ≡ tally_step }
+        ensures ends { ⟦<Tally as Watcher>⟧.ends result ≡ no_end }
     {
         Tally { count: 0, sum: 0 }
     }
@@ -27,11 +29,14 @@ impl Watcher for Tally {
 
     ghost step = { λ _. tally_step };
 
-    fn see(&mut self, row: &Row) {
+    ghost ends = { λ _. no_end };
+
+    fn see(&mut self, row: &Row) -> Next {
         if let Some(value) = row.value {
             self.count = add(self.count, 1);
             self.sum = add(self.sum, value);
         }
+        Next::More
     }
 
     fn figures(&self) -> (i64, i64) {
@@ -41,7 +46,7 @@ impl Watcher for Tally {
 
 // The sum, or the end of 64 bits that is nearest to it.
 #[tactic(auto, using(crate::proofs::Saturated::saturated_is))]
-fn add(a: i64, b: i64) -> i64
+pub(crate) fn add(a: i64, b: i64) -> i64
     ensures { result ≡ saturated (a +ℤ b) }
 {
     a.saturating_add(b)

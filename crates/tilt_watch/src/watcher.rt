@@ -1,21 +1,28 @@
 // What all watchers share.
-ghost use Rattle.std.specs.Prelude.{◌≡◌, ℤ};
+ghost use Rattle.std.specs.Prelude.{◌≡◌, ℤ, Bool};
 ghost use Rattle.tilt_stream.specs.Snap.{Snapshot};
+ghost use Rattle.tilt_watch.specs.Watch.{next_of};
 
+use crate::next::Next;
 use tilt_stream::Row;
 
-/// Something that is shown each snapshot that isn't null, and keeps a pair of figures.
+/// Something that sees snapshots that aren't null, row by row, and keeps a pair of figures, until it has seen enough.
 pub trait Watcher: Drop {
     /// The figures now.
     ghost pair: { Self → ℤ × ℤ };
 
-    /// The pair behind a pair, when it is shown a row.
+    /// The pair after a pair, when it sees a row.
     ghost step: { Self → ℤ × ℤ → Snapshot → ℤ × ℤ };
 
-    /// Shows it a row. Takes no memory.
-    fn see(&mut self, row: &Row)
+    /// Which pairs are ends: where a row leads to one, the watcher has seen enough. One that begins at an end sees a row nevertheless.
+    ghost ends: { Self → ℤ × ℤ → Bool };
+
+    /// Lets it see a row. It says `Done` exactly where its new pair is an end. Takes no memory.
+    fn see(&mut self, row: &Row) -> Next
         ensures pair { pair self.new ≡ step self.old (pair self.old) row.now }
-        ensures same { step self.new ≡ step self.old };
+        ensures next { result ≡ next_of (ends self.old (pair self.new)) }
+        ensures same { step self.new ≡ step self.old }
+        ensures same_ends { ends self.new ≡ ends self.old };
 
     /// The figures.
     fn figures(&self) -> (i64, i64)

@@ -1,7 +1,6 @@
 use Rattle.std.specs.Prelude.{string_bytes}
-use Rattle.std.proofs.Common.{[], arith, w64}
-use Rattle.std.proofs.lemmas.Int.{ints, to_z-of_z}
-use Rattle.tilt_sessions.proofs.Cuts.{cut-fits}
+use Rattle.std.proofs.Common.{[]}
+use Rattle.tilt_words.specs.Upto.{upto_of}
 use Rattle.tilt_app.proofs.Shown.{does_weaker, fits_saved, fits_unsaved}
 use Rattle.tilt_app.proofs.answer.answer.Goals as goal
 
@@ -49,17 +48,13 @@ parts-requires-clause-cuts g c =
 
 pub start_session-requires-clause-lent : goal.start_session-requires-clause-lent
 start_session-requires-clause-lent g c =
-    let within = rw c.in-Start.is at c.requires.within in
-    let fits = cut-fits c.in-Start.upto c.in-Start.upto within.0 (omega (arith, ints)) within.1 in
     λ name turn. c.requires.lent [] name
-    (rw c.in-Start.is (rw (c.cut.ensures.upto, c.cut.ensures.save, c.deref-in-Start.ensures, c.deref-in-Start-2.ensures.value, c.deref-in-Start-3.ensures, to_z-of_z w64 c.in-Start.upto fits) at turn))
+    (rw c.in-Start.is (rw (c.cut.ensures.upto, c.cut.ensures.save, c.deref-in-Start.ensures, c.deref-in-Start-2.ensures.value, c.deref-in-Start-3.ensures) at turn))
 
 pub resume_session-requires-clause-lent : goal.resume_session-requires-clause-lent
 resume_session-requires-clause-lent g c =
-    let within = rw c.in-ResumeUpto.is at c.requires.within in
-    let fits = cut-fits c.in-ResumeUpto.upto c.in-ResumeUpto.upto within.0 (omega (arith, ints)) within.1 in
     λ name turn. c.requires.lent [] name (rw c.in-ResumeUpto.is
-    (rw (c.ending.ensures, c.deref-in-ResumeUpto.ensures, c.deref-in-ResumeUpto-2.ensures.value, c.deref-in-ResumeUpto-3.ensures, to_z-of_z w64 c.in-ResumeUpto.upto fits) at turn))
+    (rw (c.ending.ensures, c.deref-in-ResumeUpto.ensures, c.deref-in-ResumeUpto-2.ensures.value, c.deref-in-ResumeUpto-3.ensures) at turn))
 
 pub resume_session-requires-in-ResumeEnd-clause-lent : goal.resume_session-requires-in-ResumeEnd-clause-lent
 resume_session-requires-in-ResumeEnd-clause-lent g c =
@@ -67,19 +62,15 @@ resume_session-requires-in-ResumeEnd-clause-lent g c =
 
 pub returns-in-ResumeUpto-clause-does : goal.returns-in-ResumeUpto-clause-does
 returns-in-ResumeUpto-clause-does g c =
-    let within = rw c.in-ResumeUpto.is at c.requires.within in
-    let fits = cut-fits c.in-ResumeUpto.upto c.in-ResumeUpto.upto within.0 (omega (arith, ints)) within.1 in
     let does =
-    rw (c.ending.ensures, c.deref-in-ResumeUpto.ensures, c.deref-in-ResumeUpto-2.ensures.value, c.deref-in-ResumeUpto-3.ensures, to_z-of_z w64 c.in-ResumeUpto.upto fits)
+    rw (c.ending.ensures, c.deref-in-ResumeUpto.ensures, c.deref-in-ResumeUpto-2.ensures.value, c.deref-in-ResumeUpto-3.ensures)
     at c.resume_session.ensures.does in
-    rw c.in-ResumeUpto.is (does_weaker _ _ _ _ _ _ _ (fits_saved ⊥ ⊥ (record { upto = c.in-ResumeUpto.upto; save = string_bytes c.in-ResumeUpto.save })) does)
+    rw c.in-ResumeUpto.is (does_weaker _ _ _ _ _ _ _ (fits_saved ⊥ ⊥ (record { upto = upto_of c.in-ResumeUpto.upto; save = string_bytes c.in-ResumeUpto.save })) does)
 
 pub returns-in-ResumeUpto-clause-continues : goal.returns-in-ResumeUpto-clause-continues
 returns-in-ResumeUpto-clause-continues g c =
-    let within = rw c.in-ResumeUpto.is at c.requires.within in
-    let fits = cut-fits c.in-ResumeUpto.upto c.in-ResumeUpto.upto within.0 (omega (arith, ints)) within.1 in
     λ told. rw c.in-ResumeUpto.is
-    (rw (c.ending.ensures, c.deref-in-ResumeUpto.ensures, c.deref-in-ResumeUpto-2.ensures.value, c.deref-in-ResumeUpto-3.ensures, to_z-of_z w64 c.in-ResumeUpto.upto fits)
+    (rw (c.ending.ensures, c.deref-in-ResumeUpto.ensures, c.deref-in-ResumeUpto-2.ensures.value, c.deref-in-ResumeUpto-3.ensures)
     at (c.resume_session.ensures.beyond told))
 
 pub returns-in-ResumeEnd-clause-does : goal.returns-in-ResumeEnd-clause-does

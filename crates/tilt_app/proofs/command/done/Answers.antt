@@ -1,4 +1,4 @@
-use Rattle.std.proofs.Common.{List, [], None, Some, length, refl, sym, subst}
+use Rattle.std.proofs.Common.{List, None, Some, length, refl, sym, subst}
 use Rattle.std.proofs.lemmas.Result.{err_from_is_err_and, IfErr-weaker}
 use Rattle.tilt_app.proofs.Finish.{continued, made_none, made_some, on_match, on_ok, on_ok_so, on_ok_then, unput_cause, unsaved_cause}
 use Rattle.tilt_app.proofs.Seen.{unput_seen}
@@ -35,7 +35,7 @@ pub returns-in_err-answered-clause-seen : goal.returns-in_err-answered-clause-se
 returns-in_err-answered-clause-seen g c =
     let p = err_from_is_err_and c.from_residual.result c.from_residual.ensures.1 in
     rw (p.1, p.2) (fault_seen g.S.Shelf.tells g.S.Shelf.files g.S.Shelf.read_faults g.S.Shelf.save_faults g.S.Shelf.takes g.S.Shelf.given c.args.shelf.now c.answer.new.shelf
-    (command_of c.args.command.now) c.in_err-answered.field-0.0 c.in_err-answered.ensures.does _ (IsShow g.S.Shelf.tells (g.S.Shelf.files c.args.shelf.now) (command_of c.args.command.now)) refl)
+    (command_of c.args.command.now) c.in_err-answered.field-0.0 c.in_err-answered.ensures.does _ (IsShow g.S.Shelf.tells (g.S.Shelf.files c.args.shelf.now) (command_of c.args.command.now)) (record { kept = refl; unwritten = λ t. refl }))
 
 pub returns-in_err-answered-clause-saving : goal.returns-in_err-answered-clause-saving
 returns-in_err-answered-clause-saving g c =
@@ -74,7 +74,7 @@ returns-in-Err-clause-seen g c =
     let does = c.in_ok-answered.ensures.does in
     unput_seen _ (IsShow tells files command) answered.printed c.in-Err.unput (report_of c.fault.result) c.fault.ensures
     (answer_shows tells files command answered (answer_fits command read answered does) (answer_made command read answered does))
-    c.in-Err.ensures.streamed c.in-Err.ensures.seen
+    c.in-Err.ensures.seen
 
 pub save-requires : goal.save-requires
 save-requires g c =

@@ -1,13 +1,13 @@
-use Rattle.std.proofs.Common.{◌∙◌, List, refl, sym, ap, inl, inr}
-use Rattle.tilt_app.proofs.Complete.{cause_of_usage, cause_of_words, only_memory, printed_or_refused, status_of_save, status_of_usage, status_of_write_fault, the_refusal, wider_cause}
+use Rattle.std.proofs.Common.{◌∙◌, List, refl, subst, sym, ap, inl, inr}
+use Rattle.tilt_app.proofs.Complete.{cause_of_usage, cause_of_words, only_memory, printed_or_refused, status_of_save, status_of_usage, status_of_want, status_of_write_fault, the_refusal, wider_cause}
 use Rattle.tilt_app.proofs.Once.{no_usage, outcome_once}
-use Rattle.tilt_app.proofs.Seen.{all_shown, part_shown}
+use Rattle.tilt_app.proofs.Seen.{all_shown, part_shown, shown_before_want, unwatched_all, unwatched_part}
 use Rattle.tilt_app.specs.Change.{shelf_change, sink_change}
 use Rattle.tilt_app.specs.Outcome.{HasRowTurn, HasTurn, IsOutcome, IsRowOutcome, does}
 use Rattle.tilt_commands.specs.Table.{row_of}
 use Rattle.tilt_report.specs.Report.{report_of, status_of}
 use Rattle.tilt_watch.specs.Watch.{Watch}
-use Rattle.tilt_words.specs.Command.{command_of, texts, watch}
+use Rattle.tilt_words.specs.Command.{CommandValue, IsCommand, command_of, texts, watch}
 use Rattle.tilt_app.proofs.command.tilt.Goals as goal
 
 pub done-requires-clause-room : goal.done-requires-clause-room
@@ -47,6 +47,14 @@ returns-in-Ok-done-clause-seen g c =
     let command = command_of c.in-Ok.command in
     all_shown g.S.Shelf.tells (g.S.Shelf.files c.args.shelf.now) _ command query binds is.0
     (c.in-Ok.ensures.one command (watch query binds is.0) c.in-Ok.ensures.command is.1) c.in-Ok-done.ensures.seen
+
+pub returns-in-Ok-done-clause-unwatched : goal.returns-in-Ok-done-clause-unwatched
+returns-in-Ok-done-clause-unwatched g c =
+    λ nobody.
+    let command = command_of c.in-Ok.command in
+    unwatched_all g.S.Shelf.tells (g.S.Shelf.files c.args.shelf.now) _ command
+    (λ query binds plain same. nobody (query, binds, (plain, subst (λ (other : CommandValue). IsCommand (texts c.args.words.now) other) same c.in-Ok.ensures.command)))
+    c.in-Ok-done.ensures.seen
 
 pub returns-in-Ok-clause-reported : goal.returns-in-Ok-clause-reported
 returns-in-Ok-clause-reported g c =
@@ -128,6 +136,22 @@ returns-in-Ok-clause-seen_in_part g c =
     part_shown g.S.Shelf.tells (g.S.Shelf.files c.args.shelf.now) _ command query binds is.0 (report_of c.in-Err-done.fault)
     (c.in-Ok.ensures.one command (watch query binds is.0) c.in-Ok.ensures.command is.1) (status_of_write_fault (report_of c.in-Err-done.fault) (sym c.tell.ensures.status ∙ four))
     c.in-Err-done.ensures.seen
+
+pub returns-in-Ok-clause-seen_before_want : goal.returns-in-Ok-clause-seen_before_want
+returns-in-Ok-clause-seen_before_want g c =
+    λ five query binds is.
+    let command = command_of c.in-Ok.command in
+    shown_before_want g.S.Shelf.tells (g.S.Shelf.files c.args.shelf.now) _ command query binds is.0 (report_of c.in-Err-done.fault)
+    (c.in-Ok.ensures.one command (watch query binds is.0) c.in-Ok.ensures.command is.1) (status_of_want (report_of c.in-Err-done.fault) (sym c.tell.ensures.status ∙ five))
+    c.in-Err-done.ensures.seen
+
+pub returns-in-Ok-clause-unwatched : goal.returns-in-Ok-clause-unwatched
+returns-in-Ok-clause-unwatched g c =
+    λ nobody.
+    let command = command_of c.in-Ok.command in
+    unwatched_part g.S.Shelf.tells (g.S.Shelf.files c.args.shelf.now) _ command
+    (λ query binds plain same. nobody (query, binds, (plain, subst (λ (other : CommandValue). IsCommand (texts c.args.words.now) other) same c.in-Ok.ensures.command)))
+    (report_of c.in-Err-done.fault) c.in-Err-done.ensures.seen
 
 pub returns-in-Ok-clause-unsaved : goal.returns-in-Ok-clause-unsaved
 returns-in-Ok-clause-unsaved g c =

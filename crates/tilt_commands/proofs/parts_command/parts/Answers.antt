@@ -49,8 +49,8 @@ returns g c =
       made = λ t w.
           let read = rw (c.load_divided.ensures.rest.same_files, c.inputs.ensures.names, c.core.ensures.value) at (c.in_ok-rows.ensures.taken t) in
           done c.in_ok-loaded.loaded.accepted.core c.in_ok-rows.rows.items (c.in_ok-loaded.ensures.taken t) read
-          (rw c.deref.ensures.value at (c.in_ok-text.ensures.made w));
-      kept = fits_unsaved ⊥ ⊥ (Whole c.in_ok-text.text) tt (λ no. no, λ no. no) (none_shown _ c.in_ok-text.ensures.shown);
+          (rw c.deref.ensures.value at c.in_ok-text.ensures);
+      kept = fits_unsaved ⊥ ⊥ (Whole c.in_ok-text.text) tt (λ no. no, λ no. no) (none_shown _ refl);
       fault = λ w. tt;
       read = λ t w.
           let first = c.in_ok-loaded.ensures.given t in

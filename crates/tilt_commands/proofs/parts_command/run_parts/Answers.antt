@@ -33,8 +33,8 @@ part_sizes-requires c =
     let many = many_parts c.args.accepted.now c.args.rows.now [] c.args.division.cuts.now c.in_ok-parts.parts c.in_ok-parts.ensures.parts in
     omega (arith, many, c.in_ok-follow.ensures.many, c.in_ok-finish.ensures.many)
 
-pub returns-clause-made : goal.returns-clause-made
-returns-clause-made c = λ watchers.
+pub returns : goal.returns
+returns c =
     let query = c.args.accepted.now in
     let rows = c.args.rows.now in
     let cuts = c.args.division.cuts.now in

@@ -1,14 +1,14 @@
 use Rattle.std.proofs.Common.{[], List, None, refl}
 use Rattle.std.proofs.lemmas.Result.{err_from_is_err_and}
 use Rattle.std.specs.Prelude.{⊤}
+use Rattle.tilt_code.specs.Run.{run_of}
 use Rattle.tilt_commands.proofs.Doing.{does_made, does_undone, fits_unsaved, turn_any}
 use Rattle.tilt_commands.specs.Query.{IsMadeOfQuery}
 use Rattle.tilt_printed.specs.Figures.{watched_text}
 use Rattle.tilt_report.specs.Report.{printed}
 use Rattle.tilt_load.specs.Does.{reading}
 use Rattle.tilt_printed.specs.Answer.{Fits, comes_to}
-use Rattle.tilt_printed.specs.declared.printed.Printed.TheVariants.{Whole}
-use Rattle.tilt_printed.specs.declared.whole_text.WholeText.TheVariants.{Watched}
+use Rattle.tilt_printed.specs.declared.printed.Printed.TheVariants.{Watched}
 use Rattle.tilt_watch.specs.Watch.{Watch}
 use Rattle.tilt_words.specs.Binding.{bindings_of}
 use Rattle.tilt_commands.proofs.watch_command.watch.Goals as goal
@@ -21,13 +21,14 @@ load_run-requires g c =
 pub returns-in_err-loaded : goal.returns-in_err-loaded
 returns-in_err-loaded g c =
     let p = err_from_is_err_and c.from_residual.result c.from_residual.ensures.1 in
-    rw (p.1, p.2) (does_undone c.args.query.now (λ (w : List Watch). IsMadeOfQuery (λ list. printed (watched_text w list))) comes_to (Fits ⊥ ⊤ ⊥) (bindings_of c.args.binds.now)
+    rw (p.1, p.2) (does_undone c.args.query.now (λ (w : List Watch). IsMadeOfQuery (λ list. printed (watched_text w list))) comes_to (Fits ⊤ ⊤ ⊥) (bindings_of c.args.binds.now)
     (reading g.S.Shelf.tells g.S.Shelf.files g.S.Shelf.read_faults g.S.Shelf.save_faults g.S.Shelf.takes g.S.Shelf.given c.args.shelf.now c.load_run.new.shelf)
     c.in_err-loaded.field-0.0 _ refl c.in_err-loaded.ensures.loads)
 
 pub returns : goal.returns
 returns g c =
-    rw c.unsaved.ensures (does_made c.args.query.now (λ (w : List Watch). IsMadeOfQuery (λ list. printed (watched_text w list))) comes_to (Fits ⊥ ⊤ ⊥) (bindings_of c.args.binds.now)
+    rw c.unsaved.ensures (does_made c.args.query.now (λ (w : List Watch). IsMadeOfQuery (λ list. printed (watched_text w list))) comes_to (Fits ⊤ ⊤ ⊥) (bindings_of c.args.binds.now)
     (reading g.S.Shelf.tells g.S.Shelf.files g.S.Shelf.read_faults g.S.Shelf.save_faults g.S.Shelf.takes g.S.Shelf.given c.args.shelf.now c.load_run.new.shelf)
-    c.in_ok-loaded.loaded (record { printed = Whole (Watched c.in_ok-list.list); save = None }) (λ w. (c.in_ok-list.list, rw c.deref.ensures.value at c.in_ok-list.ensures, refl))
-    (fits_unsaved ⊥ ⊤ (Whole (Watched c.in_ok-list.list)) tt (λ no. no, λ no. no) (λ some. tt, λ all. refl)) c.in_ok-loaded.ensures.loads)
+    c.in_ok-loaded.loaded (record { printed = Watched c.in_ok-pipe.pipe; save = None })
+    (λ w. (run_of c.in_ok-pipe.pipe.code c.in_ok-pipe.pipe.inputs, c.in_ok-pipe.ensures.means, refl))
+    (fits_unsaved ⊤ ⊤ (Watched c.in_ok-pipe.pipe) c.in_ok-pipe.ensures.fresh (λ all. all, λ all. all) (λ some. tt, λ all. refl)) c.in_ok-loaded.ensures.loads)

@@ -1,9 +1,8 @@
 use Rattle.std.proofs.Common.{◌≡◌, get_or, take, Ok}
 use Rattle.std.proofs.lemmas.List.{take_all}
 use Rattle.tilt_outside.proofs.Puts.{puts-none, puts-then, puts-short}
-use Rattle.tilt_printed.proofs.Sizes.{same_item}
+use Rattle.tilt_printed.proofs.Sizes.{all_parts, front_more, front_short, same_item}
 use Rattle.tilt_printed.specs.Sizes.{size_text}
-use Rattle.tilt_watch.proofs.Lines.{front_more, all_parts, front_short}
 use Rattle.tilt_printed.proofs.whole_text.put_sizes.Goals as goal
 
 pub loop-size-init : goal.loop-size-init

@@ -1,34 +1,36 @@
 use Rattle.std.proofs.Common.{◌≡◌, take, Ok}
 use Rattle.std.proofs.lemmas.List.{take_all}
 use Rattle.tilt_outside.proofs.Puts.{puts-none, puts-then, puts-short}
-use Rattle.tilt_watch.specs.Watch.{figures_line}
-use Rattle.tilt_watch.proofs.Lines.{text_is, front_more, all_parts, front_short}
+use Rattle.tilt_watch.proofs.Lines.{front_more, all_parts, front_short}
 use Rattle.tilt_watch.proofs.figures.put_figures.Goals as goal
 
-pub loop-watcher-init : goal.loop-watcher-init
-loop-watcher-init g c = puts-none _ _ _ _ _
+pub loop-place-init : goal.loop-place-init
+loop-place-init g c = puts-none _ _ _ _ _
 
-pub put_watcher-requires : goal.put_watcher-requires
-put_watcher-requires g c =
-    let short = front_short (λ b. figures_line ((goal.Watcher-dyn g (b.vtable, b.value)).pair b.value)) c.args.list.now c.watcher-item.result
-    c.loop-watcher.watcher-index c.loop-watcher-test.true c.watcher-item.is in
-    let all = rw (text_is _ _ c.args.list.now) at c.requires in
-    c.loop-watcher.invariant.room _ (g.met.O.Sink.takes_fewer c.args.out.now _ _ short all)
+pub put_pair-requires : goal.put_pair-requires
+put_pair-requires g c =
+    let within = rw c.places-place-items.ensures at c.loop-place-test.true in
+    let is = rw c.places-place-items.ensures at c.figures.ensures in
+    let short = front_short c.args.panel.now _ c.loop-place.place-index c.figures.result within is in
+    c.loop-place.invariant.room _ (g.met.O.Sink.takes_fewer c.args.out.now _ _ short c.requires)
 
-pub returns-in_err-put_watcher : goal.returns-in_err-put_watcher
-returns-in_err-put_watcher g c =
-    let parts = all_parts (λ b. figures_line ((goal.Watcher-dyn g (b.vtable, b.value)).pair b.value)) c.args.list.now c.watcher-item.result
-    c.loop-watcher.watcher-index c.loop-watcher-test.true c.watcher-item.is in
-    let cut = puts-then _ _ _ _ c.args.out.now c.loop-watcher.out c.put_watcher.new.out _ _ _ c.loop-watcher.invariant c.in_err-put_watcher.ensures in
-    rw (text_is _ _ c.args.list.now, parts) (puts-short _ _ _ _ g.met.O.Sink.takes_fewer _ _ _ _ _ c.from_residual.result c.from_residual.ensures.0 cut)
+pub returns-in_err-put_pair : goal.returns-in_err-put_pair
+returns-in_err-put_pair g c =
+    let within = rw c.places-place-items.ensures at c.loop-place-test.true in
+    let is = rw c.places-place-items.ensures at c.figures.ensures in
+    let parts = all_parts c.args.panel.now _ c.loop-place.place-index c.figures.result within is in
+    let cut = puts-then _ _ _ _ c.args.out.now c.loop-place.out c.put_pair.new.out _ _ _ c.loop-place.invariant c.in_err-put_pair.ensures in
+    rw parts (puts-short _ _ _ _ g.met.O.Sink.takes_fewer _ _ _ _ _ c.from_residual.result c.from_residual.ensures.0 cut)
 
-pub loop-watcher-preserved : goal.loop-watcher-preserved
-loop-watcher-preserved g c =
-    rw (front_more (λ b. figures_line ((goal.Watcher-dyn g (b.vtable, b.value)).pair b.value)) c.args.list.now c.watcher-item.result
-    c.loop-watcher.watcher-index c.loop-watcher-test.true c.watcher-item.is)
-    (puts-then _ _ _ _ c.args.out.now c.loop-watcher.out c.put_watcher.new.out _ _ (Ok tt) c.loop-watcher.invariant c.in_ok-put_watcher.ensures)
+pub loop-place-preserved : goal.loop-place-preserved
+loop-place-preserved g c =
+    let within = rw c.places-place-items.ensures at c.loop-place-test.true in
+    let is = rw c.places-place-items.ensures at c.figures.ensures in
+    rw (front_more c.args.panel.now _ c.loop-place.place-index c.figures.result within is)
+    (puts-then _ _ _ _ c.args.out.now c.loop-place.out c.put_pair.new.out _ _ (Ok tt) c.loop-place.invariant c.in_ok-put_pair.ensures)
 
 pub returns : goal.returns
 returns g c =
-    let all : take c.loop-watcher.watcher-index c.args.list.now ≡ c.args.list.now = take_all _ _ c.loop-watcher-test.false in
-    rw (text_is _ _ c.args.list.now, ← all) c.loop-watcher.invariant
+    let past = rw c.places-place-items.ensures at c.loop-place-test.false in
+    let all : take c.loop-place.place-index c.args.panel.now ≡ c.args.panel.now = take_all _ _ past in
+    rw (← all) c.loop-place.invariant

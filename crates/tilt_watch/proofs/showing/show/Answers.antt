@@ -1,18 +1,14 @@
-use Rattle.std.proofs.Common.{◌<◌, ◌≤◌, ◌∙◌, length, length-set, refl, rules}
-use Rattle.tilt_watch.proofs.Shown.{shown_more, shown_all}
+use Rattle.std.proofs.Common.{sym}
+use Rattle.tilt_watch.proofs.PlacesAfter.{left-none, places-none}
+use Rattle.tilt_watch.proofs.Shown.{shown-more}
 use Rattle.tilt_watch.proofs.showing.show.Goals as goal
 
-pub loop-i-init : goal.loop-i-init
-loop-i-init g c = (refl, refl)
+pub loop-snap-init : goal.loop-snap-init
+loop-snap-init g c = record { places = sym (places-none _ _ c.requires); list = sym (left-none _); in_step = c.requires }
 
-pub loop-i-preserved : goal.loop-i-preserved
-loop-i-preserved g c =
-    let within : c.loop-i.i < length c.loop-i.list.items = search rules in
-    let longer = shown_more _ c.args.rows.now c.loop-i.list.items _ c.loop-i.i c.index_mut.result.now c.show_one.new.watcher within
-    c.index_mut.ensures.value c.loop-i.invariant.0 (rw (c.show_one.ensures.pair, c.show_one.ensures.same) refl) in
-    (longer, length-set c.loop-i.list.items c.loop-i.i c.show_one.new.watcher ∙ c.loop-i.invariant.1)
-
-pub returns : goal.returns
-returns g c =
-    let all : length c.args.list.now.items ≤ c.loop-i.i = search rules in
-    c.loop-i.invariant.0 ∙ shown_all _ c.args.rows.now c.args.list.now.items c.loop-i.i all
+pub loop-snap-preserved : goal.loop-snap-preserved
+loop-snap-preserved g c =
+    let i = c.loop-snap.invariant in
+    let more = shown-more c.args.panel.now c.loop-snap.panel c.show_snap.new.panel _ _ _ _ c.snap-item.result c.loop-snap.snap-index c.loop-snap-test.true c.snap-item.is
+    i.places i.list c.show_snap.ensures.places c.show_snap.ensures.list in
+    record { places = more.0; list = more.1; in_step = c.show_snap.ensures.in_step }
