@@ -3,8 +3,10 @@ pub mod Boundaries
 pub mod Composed
 pub mod Kept
 pub mod Known
+pub mod Later
 pub mod Names
 pub mod Pieces
+pub mod Reading
 pub mod Spans
 pub mod StepLists
 pub mod Taken

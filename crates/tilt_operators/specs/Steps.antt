@@ -21,6 +21,7 @@ use Rattle.tilt_syntax.specs.Query.{AreSound, kinds, statements}
 use Rattle.tilt_syntax.specs.Tree.{ExprTree, Num, Truth, Read, Reduce, Input}
 use Rattle.tilt_types.specs.Types.{type_of}
 use Rattle.tilt_types.specs.WellFormed.{declared_by, is_fitting, is_stretch}
+use Rattle.tilt_types.specs.declared.declared.Declared.{Declared}
 use Rattle.tilt_operators.specs.Flow.{StepTree, Select, Keep, Shift, Window, Join, FlowTree}
 use Rattle.tilt_operators.specs.declared.fault.FlowFault.{FlowFault}
 use Rattle.tilt_operators.specs.declared.fault.FlowFault.TheVariants as fault
@@ -124,13 +125,17 @@ pub data HasBadStep : List (List Tok) → ℕ → Type 0 where
   behind : {bad : ℕ} {ts next : List Tok} {rest : List (List Tok)} (name : List ℕ) → IsFit 1 ts → IsFirst ts name
       → IsBadStep 2 (next ∷ rest) bad → HasBadStep (ts ∷ next ∷ rest) bad
 
--- whether an expression in which `v` and `w` are numbers, as inputs are, has the type of numbers
+-- `v` and `w` are numbers, as inputs are
+abbrev pub operand_types : List Declared
+operand_types = declared_by [] (Input (codes "v")) ++ declared_by [] (Input (codes "w"))
+
+-- whether an expression over them has the type of numbers
 abbrev pub is_number : ExprTree → Bool
-is_number e = is_fitting true (type_of (declared_by [] (Input (codes "v")) ++ declared_by [] (Input (codes "w"))) e)
+is_number e = is_fitting true (type_of operand_types e)
 
 -- whether it has the type of truth values, which are what `not` takes
 abbrev pub is_truth : ExprTree → Bool
-is_truth e = is_fitting false (type_of (declared_by [] (Input (codes "v")) ++ declared_by [] (Input (codes "w"))) (One op1.Not e))
+is_truth e = is_fitting false (type_of operand_types (One op1.Not e))
 
 -- whether the expression of a step, where it has one, has the type that the step asks for
 abbrev pub is_typed : StepTree → Bool
