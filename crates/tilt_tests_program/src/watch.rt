@@ -15,6 +15,17 @@ fn snapshots(alloc: Global, pieces: &[Piece]) -> Result<SnapList, Fail> {
     Ok(SnapList::from_rows(alloc, &rows)?)
 }
 
+// Shows the watchers these snapshots, and gives the places of all.
+fn shown(
+    alloc: Global,
+    watchers: &mut Vec<Box<dyn Watcher>>,
+    list: &SnapList,
+) -> Result<Panel, Fail> {
+    let mut panel = Panel::new(alloc, watchers)?;
+    show(watchers, &mut panel, list);
+    Ok(panel)
+}
+
 // Ends the test unless these are the figures of all.
 fn assert_all(rt: &impl Abort, panel: &Panel, expected: &[(i64, i64)]) {
     assert_eq!(rt; panel.count(), expected.len());
@@ -35,11 +46,14 @@ fn assert_left(rt: &impl Abort, watchers: &[Box<dyn Watcher>], expected: &[(i64,
 
 #[test]
 fn each_kind_has_its_own_figures(rt: HostRuntime) -> Result<(), Fail> {
-    let cases: [(&[Piece], [(i64, i64); 3]); 5] = [
-        (&[], [(0, 0), (i64::MAX, i64::MIN), (i64::MAX, i64::MIN)]),
+    let cases: [(&[Piece], &[(i64, i64)]); 5] = [
+        (
+            &[],
+            &[(0, 0), (i64::MAX, i64::MIN), (i64::MAX, i64::MIN)],
+        ),
         (
             &[(-3, 4, None)],
-            [(0, 0), (i64::MAX, i64::MIN), (i64::MAX, i64::MIN)],
+            &[(0, 0), (i64::MAX, i64::MIN), (i64::MAX, i64::MIN)],
         ),
         (
             &[
@@ -49,7 +63,7 @@ fn each_kind_has_its_own_figures(rt: HostRuntime) -> Result<(), Fail> {
                 (5, 6, Some(4)),
                 (6, 9, None),
             ],
-            [(2, -3), (-7, 4), (1, 6)],
+            &[(2, -3), (-7, 4), (1, 6)],
         ),
         (
             &[
@@ -57,11 +71,11 @@ fn each_kind_has_its_own_figures(rt: HostRuntime) -> Result<(), Fail> {
                 (1, 2, Some(1)),
                 (2, 3, Some(i64::MAX)),
             ],
-            [(3, i64::MAX), (1, i64::MAX), (-3, 3)],
+            &[(3, i64::MAX), (1, i64::MAX), (-3, 3)],
         ),
         (
             &[(-3, 1, Some(i64::MIN)), (1, 2, Some(-1)), (2, 3, Some(5))],
-            [(3, i64::MIN + 5), (i64::MIN, 5), (-3, 3)],
+            &[(3, i64::MIN + 5), (i64::MIN, 5), (-3, 3)],
         ),
     ];
     for (pieces, expected) in cases {
@@ -70,10 +84,9 @@ fn each_kind_has_its_own_figures(rt: HostRuntime) -> Result<(), Fail> {
         watchers.push(Box::new(rt.alloc(), Tally::new())?)?;
         watchers.push(Box::new(rt.alloc(), Range::new())?)?;
         watchers.push(Box::new(rt.alloc(), Ends::new())?)?;
-        let mut panel = Panel::new(rt.alloc(), &watchers)?;
-        show(&mut watchers, &mut panel, &list);
-        assert_left(&rt, &watchers, &expected);
-        assert_all(&rt, &panel, &expected);
+        let panel = shown(rt.alloc(), &mut watchers, &list)?;
+        assert_left(&rt, &watchers, expected);
+        assert_all(&rt, &panel, expected);
     }
     Ok(())
 }
@@ -131,8 +144,7 @@ fn a_watcher_ends_at_its_limit(rt: HostRuntime) -> Result<(), Fail> {
     for (kind, pair, left) in cases {
         let mut watchers: Vec<Box<dyn Watcher>> = Vec::new(rt.alloc());
         push_kind(rt.alloc(), &mut watchers, &kind)?;
-        let mut panel = Panel::new(rt.alloc(), &watchers)?;
-        show(&mut watchers, &mut panel, &list);
+        let panel = shown(rt.alloc(), &mut watchers, &list)?;
         assert_eq!(rt; watchers.len(), left);
         assert_all(&rt, &panel, &[pair]);
     }
@@ -147,8 +159,7 @@ fn a_watcher_that_saw_nothing_is_left(rt: HostRuntime) -> Result<(), Fail> {
         watchers.push(Box::new(rt.alloc(), FirstRows::new(1))?)?;
         watchers.push(Box::new(rt.alloc(), UntilAbove::new(-5))?)?;
         watchers.push(Box::new(rt.alloc(), UntilTime::new(i64::MIN))?)?;
-        let mut panel = Panel::new(rt.alloc(), &watchers)?;
-        show(&mut watchers, &mut panel, &list);
+        let panel = shown(rt.alloc(), &mut watchers, &list)?;
         let begin = [(0, 0), (0, i64::MIN), (0, i64::MIN)];
         assert_left(&rt, &watchers, &begin);
         assert_all(&rt, &panel, &begin);
@@ -162,23 +173,22 @@ fn those_that_have_seen_enough_are_dropped_and_the_others_keep_their_order(
 ) -> Result<(), Fail> {
     let list = snapshots(rt.alloc(), PIECES)?;
     // How many rows each counts at most, the figures of all, and those of whom are left.
-    let cases: [([u64; 3], [(i64, i64); 3], &[(i64, i64)]); 6] = [
-        ([1, 8, 9], [(1, 4), (4, 8), (4, 8)], &[(4, 8), (4, 8)]),
-        ([8, 2, 9], [(4, 8), (2, -3), (4, 8)], &[(4, 8), (4, 8)]),
-        ([8, 9, 3], [(4, 8), (4, 8), (3, 6)], &[(4, 8), (4, 8)]),
-        ([3, 9, 1], [(3, 6), (4, 8), (1, 4)], &[(4, 8)]),
-        ([1, 1, 1], [(1, 4), (1, 4), (1, 4)], &[]),
-        ([2, 4, 3], [(2, -3), (4, 8), (3, 6)], &[]),
+    let cases: [([u64; 3], &[(i64, i64)], &[(i64, i64)]); 6] = [
+        ([1, 8, 9], &[(1, 4), (4, 8), (4, 8)], &[(4, 8), (4, 8)]),
+        ([8, 2, 9], &[(4, 8), (2, -3), (4, 8)], &[(4, 8), (4, 8)]),
+        ([8, 9, 3], &[(4, 8), (4, 8), (3, 6)], &[(4, 8), (4, 8)]),
+        ([3, 9, 1], &[(3, 6), (4, 8), (1, 4)], &[(4, 8)]),
+        ([1, 1, 1], &[(1, 4), (1, 4), (1, 4)], &[]),
+        ([2, 4, 3], &[(2, -3), (4, 8), (3, 6)], &[]),
     ];
     for (limits, all, left) in cases {
         let mut watchers: Vec<Box<dyn Watcher>> = Vec::new(rt.alloc());
         for limit in limits {
             push_kind(rt.alloc(), &mut watchers, &Kind::Rows(limit))?;
         }
-        let mut panel = Panel::new(rt.alloc(), &watchers)?;
-        show(&mut watchers, &mut panel, &list);
+        let panel = shown(rt.alloc(), &mut watchers, &list)?;
         assert_left(&rt, &watchers, left);
-        assert_all(&rt, &panel, &all);
+        assert_all(&rt, &panel, all);
     }
     Ok(())
 }
@@ -192,8 +202,7 @@ fn others_stay_in_order_between_those_that_end(rt: HostRuntime) -> Result<(), Fa
     watchers.push(Box::new(rt.alloc(), Range::new())?)?;
     watchers.push(Box::new(rt.alloc(), UntilTime::new(3))?)?;
     watchers.push(Box::new(rt.alloc(), Ends::new())?)?;
-    let mut panel = Panel::new(rt.alloc(), &watchers)?;
-    show(&mut watchers, &mut panel, &list);
+    let panel = shown(rt.alloc(), &mut watchers, &list)?;
     assert_left(&rt, &watchers, &[(4, 8), (-7, 9), (-3, 6)]);
     assert_all(&rt, &panel, &[(4, 8), (1, 4), (-7, 9), (2, 3), (-3, 6)]);
     Ok(())

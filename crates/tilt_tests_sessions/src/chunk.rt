@@ -55,7 +55,8 @@ fn a_window_goes_on_over_the_cut(rt: HostRuntime) -> Result<(), Fail> {
     assert!(rt; core.inputs().len() == 1);
     let accepted = accept(alloc, core, true)?;
     let rows = one_row(alloc, snap(0, 5, 7))?;
-    let session = start(alloc, query, &accepted, rows, Cuts::same(alloc, 5, 1)?)?;
+    let upto = Cuts::same(alloc, 5, 1)?;
+    let session = start(alloc, query, &accepted, rows, upto)?;
     let (printed, checkpoint) = session;
     has(&rt, &printed, &[(0, 2, 1)]);
     is_spelled(alloc, &rt, &checkpoint)?;

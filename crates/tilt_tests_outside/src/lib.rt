@@ -1,0 +1,20 @@
+//! Tests of the outside: shelves and sinks, saves, and series files.
+//!
+//! The expected values were worked out by hand, and those of records are what the crate `csv` takes for one. What a shelf or a
+//! sink does when the system fails shows on stand-ins that fail where they are told to.
+#![tactic(auto)]
+
+#[cfg(test)]
+mod faulty_files;
+#[cfg(test)]
+mod interrupted_files;
+#[cfg(test)]
+mod saves;
+#[cfg(test)]
+mod series;
+#[cfg(test)]
+mod shelves;
+#[cfg(test)]
+mod sinks;
+#[cfg(test)]
+mod sure;
