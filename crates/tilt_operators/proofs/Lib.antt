@@ -5,6 +5,7 @@ pub mod Kept
 pub mod Known
 pub mod Later
 pub mod Names
+pub mod Negated
 pub mod Pieces
 pub mod Reading
 pub mod Spans

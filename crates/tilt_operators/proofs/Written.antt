@@ -46,7 +46,7 @@ use Rattle.tilt_operators.proofs.Names.{is_among}
 digit_goes_on : (n : ℕ) → n < 10 → goes_on_word (48 + n) ≡ true
 digit_goes_on n small = or_right (begins_word (48 + n)) (is_ascii_digit (48 + n)) (grind (arith, nat_tests))
 
-decimal_goes_on : (n : ℕ) → n < 2 ^ 64 → list_all goes_on_word (decimal n) ≡ true
+pub decimal_goes_on : (n : ℕ) → n < 2 ^ 64 → list_all goes_on_word (decimal n) ≡ true
 decimal_goes_on n small =
     decimal_by_steps (λ n ds. list_all goes_on_word ds ≡ true)
     (λ n one. rw (digit_goes_on n one) refl)
@@ -170,7 +170,7 @@ some_sound : (x : List ℕ) → IsName x → AreSound (some_tokens x)
 some_sound x h = (tt, (tt, (tt, (h, (tt, tt)))))
 
 -- a bound of a text has 64 bits, and its negative too
-bound-within : {ts : List Tok} {n : ℤ} → IsBound ts n → AreSound ts → (neg_ℤ greatest_number ≤ℤ n) × (n ≤ℤ greatest_number)
+pub bound-within : {ts : List Tok} {n : ℤ} → IsBound ts n → AreSound ts → (neg_ℤ greatest_number ≤ℤ n) × (n ≤ℤ greatest_number)
 bound-within from_zero s = (omega (arith, ints, s.0.0, s.0.1), s.0.1)
 bound-within below_zero s = (omega (arith, ints, s.1.0.0, s.1.0.1), omega (arith, ints, s.1.0.0, s.1.0.1))
 
@@ -186,7 +186,7 @@ shift_is x before (negsuc n) named is low high =
     (is, (tt, (tt, (tt, ((omega (arith, ints), omega (arith, ints)), (tt, tt)))))) (omega arith)
 
 -- what stands between a step's word and its end
-inside-sound : (word : List ℕ) (inside : List Tok) → AreSound (step_of word inside) → AreSound inside
+pub inside-sound : (word : List ℕ) (inside : List Tok) → AreSound (step_of word inside) → AreSound inside
 inside-sound word inside h = (sound_parts inside (Sign mark.Semicolon ∷ []) h.1).0
 
 inside-few : (word : List ℕ) (inside : List Tok) → length (step_of word inside) ≤ 200 → length inside ≤ 198
