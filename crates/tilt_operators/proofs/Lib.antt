@@ -1,3 +1,4 @@
+pub mod Accepted
 pub mod Bodies
 pub mod Boundaries
 pub mod Composed

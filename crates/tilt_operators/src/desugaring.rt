@@ -17,7 +17,8 @@ use tilt_syntax::{Expr, Query, Statement};
 use tilt_text::{put, put_number};
 
 /// The query of the pipeline: its inputs in the order of their first mention, a definition for each step, and what the last one
-/// gives on the domain. By the clauses of `query_keeps_meaning` some text reads as it, and its core gives what the pipeline gives.
+/// gives on the domain. By the clauses of `query_keeps_meaning` some text reads as it, `check` accepts it, and it gives what the
+/// pipeline gives.
 pub fn desugar(alloc: Global, flow: &Flow) -> Result<Query, OutOfMemory>
     ensures { IfOk result (λ query. query ≡ query_of flow.now) }
 {

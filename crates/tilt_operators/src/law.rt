@@ -1,5 +1,5 @@
 // Laws of pipelines and their queries.
-ghost use Rattle.std.specs.Prelude.{◌≡◌, List};
+ghost use Rattle.std.specs.Prelude.{◌≡◌, List, Ok};
 ghost use Rattle.tilt_lexer.specs.declared.token.Tok.{Tok};
 ghost use Rattle.tilt_operators.specs.Desugared.{query_of};
 ghost use Rattle.tilt_operators.specs.Flow.{FlowTree};
@@ -7,13 +7,14 @@ ghost use Rattle.tilt_operators.specs.Law.{KeepsMeaning};
 ghost use Rattle.tilt_operators.specs.Steps.{IsFlow, IsFlowOf, IsRefused};
 ghost use Rattle.tilt_operators.specs.declared.fault.FlowFault.{FlowFault};
 ghost use Rattle.tilt_syntax.specs.Query.{IsQuery};
-ghost use Rattle.tilt_types.specs.Checked.{core_of};
+ghost use Rattle.tilt_types.specs.Checked.{checked, core_of};
 
 /// This does nothing. Its clauses are laws of the definitions: on all series the core of a pipeline's query gives what the pipeline
-/// gives; and the query is one that some tokens of a text read as.
+/// gives; the query is one that some tokens of a text read as; and it is well formed, so that `check` gives its core.
 pub fn query_keeps_meaning()
     ensures law { (flow : FlowTree) → IsFlow flow → KeepsMeaning flow (core_of (query_of flow)) }
     ensures parsed { (flow : FlowTree) → IsFlow flow → IsQuery (query_of flow) }
+    ensures accepted { (flow : FlowTree) → IsFlow flow → checked (query_of flow) ≡ Ok (core_of (query_of flow)) }
 {}
 
 /// This does nothing. Its clauses are laws of the definitions: tokens are one pipeline at most, or are refused for one fault, and
