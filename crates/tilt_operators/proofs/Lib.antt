@@ -2,6 +2,7 @@ pub mod Accepted
 pub mod Bodies
 pub mod Boundaries
 pub mod Composed
+pub mod Judged
 pub mod Kept
 pub mod Known
 pub mod Later

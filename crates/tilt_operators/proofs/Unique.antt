@@ -13,6 +13,7 @@ use Rattle.tilt_lexer.specs.declared.mark.Mark.TheVariants as mark
 use Rattle.tilt_lexer.specs.declared.token.Tok.{Tok}
 use Rattle.tilt_lexer.specs.declared.token.Tok.TheVariants.{Word, Number, Key as Reserved, Mark as Sign}
 use Rattle.tilt_lexer.specs.declared.token.Token.{Token}
+use Rattle.tilt_syntax.proofs.Total.{tokens_same}
 use Rattle.tilt_syntax.proofs.Unique.{one_expr}
 use Rattle.tilt_syntax.specs.Grammar.{IsBound, from_zero, below_zero, IsExpr, IsSpan, over, reducer_key}
 use Rattle.tilt_syntax.specs.Query.{kinds, statements}
@@ -42,7 +43,7 @@ step_of-inj x y a b is =
     (words, ended-inj a b (Sign mark.Semicolon) tails)
 
 -- the words of steps differ
-word_number : List ℕ → ℕ
+unfoldable pub word_number : List ℕ → ℕ
 word_number text = get_or text 0 0 * 1000 + get_or text 2 0
 
 -- bounds
@@ -80,6 +81,17 @@ unfolding of_key
 of_reducer reducer.Sum = refl
 of_reducer r = refl
 
+-- a reserved word is that of a reducer, or of none
+pub key_or_none : (k : Key) → ((r : Reducer) × (reducer_key r ≡ k)) ⊎ ((r : Reducer) → reducer_key r ≢ k)
+key_or_none k =
+    elim (tokens_same (Reserved (reducer_key (of_key k))) (Reserved k)) [
+      | inl same ↦ inl (of_key k, cc)
+      | inr other ↦ inr (λ r is. other (ap Reserved (ap reducer_key (sym (ap of_key is) ∙ of_reducer r) ∙ is)))
+    ]
+
+pub one_reducer : (q r : Reducer) → reducer_key q ≡ reducer_key r → q ≡ r
+one_reducer q r keys = sym (of_reducer q) ∙ ap of_key keys ∙ of_reducer r
+
 module _ (word : List ℕ) (inside : List Tok) where
   one_step_of : (s t : StepTree) → IsStepOf word inside s → IsStepOf word inside t → s ≡ t
   unfolding word_number
@@ -90,7 +102,7 @@ module _ (word : List ℕ) (inside : List Tok) where
       let same : Reserved (reducer_key q) ∷ Number m ∷ [] ≡ Reserved (reducer_key r) ∷ Number n ∷ [] = sym g.1 ∙ h.1 in
       let keys : reducer_key q ≡ reducer_key r = cc in
       let widths : m ≡ n = cc in
-      let reducers : q ≡ r = sym (of_reducer q) ∙ ap of_key keys ∙ of_reducer r in
+      let reducers : q ≡ r = one_reducer q r keys in
       cc
   one_step_of (Join x d) (Join y e) g h =
       let same : Word x ∷ g.1 ≡ Word y ∷ h.1 = sym g.2 ∙ h.2 in

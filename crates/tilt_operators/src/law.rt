@@ -1,5 +1,5 @@
 // Laws of pipelines and their queries.
-ghost use Rattle.std.specs.Prelude.{◌≡◌, List, Ok};
+ghost use Rattle.std.specs.Prelude.{◌≡◌, ◌⊎◌, List, Ok};
 ghost use Rattle.tilt_lexer.specs.declared.token.Tok.{Tok};
 ghost use Rattle.tilt_operators.specs.Desugared.{query_of};
 ghost use Rattle.tilt_operators.specs.Flow.{FlowTree};
@@ -17,10 +17,10 @@ pub fn query_keeps_meaning()
     ensures accepted { (flow : FlowTree) → IsFlow flow → checked (query_of flow) ≡ Ok (core_of (query_of flow)) }
 {}
 
-/// This does nothing. Its clauses are laws of the definitions: tokens are one pipeline at most, or are refused for one fault, and
-/// not both.
+/// This does nothing. Its clauses are laws of the definitions: tokens are one pipeline, or are refused for one fault, and not both.
 pub fn tokens_have_one_outcome()
     ensures one { (ts : List Tok) (flow other : FlowTree) → IsFlowOf ts flow → IsFlowOf ts other → flow ≡ other }
     ensures first { (ts : List Tok) (fault other : FlowFault) → IsRefused ts fault → IsRefused ts other → fault ≡ other }
+    ensures some { (ts : List Tok) → ((flow : FlowTree) × IsFlowOf ts flow) ⊎ ((fault : FlowFault) × IsRefused ts fault) }
     ensures either { (ts : List Tok) (flow : FlowTree) (fault : FlowFault) → IsFlowOf ts flow → IsRefused ts fault → ⊥ }
 {}
