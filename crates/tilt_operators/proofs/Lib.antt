@@ -14,4 +14,5 @@ pub mod Spans
 pub mod StepLists
 pub mod Taken
 pub mod Unique
+pub mod Worked
 pub mod Written
