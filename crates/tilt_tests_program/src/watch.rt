@@ -47,10 +47,7 @@ fn assert_left(rt: &impl Abort, watchers: &[Box<dyn Watcher>], expected: &[(i64,
 #[test]
 fn each_kind_has_its_own_figures(rt: HostRuntime) -> Result<(), Fail> {
     let cases: [(&[Piece], &[(i64, i64)]); 5] = [
-        (
-            &[],
-            &[(0, 0), (i64::MAX, i64::MIN), (i64::MAX, i64::MIN)],
-        ),
+        (&[], &[(0, 0), (i64::MAX, i64::MIN), (i64::MAX, i64::MIN)]),
         (
             &[(-3, 4, None)],
             &[(0, 0), (i64::MAX, i64::MIN), (i64::MAX, i64::MIN)],
