@@ -1,5 +1,6 @@
-ghost use Rattle.std.specs.Prelude.{◌≡◌, ◌<◌, [], ◌∷◌, ◌++◌, length, neg_ℤ, pos, ◌+ℤ◌, ◌<ℤ◌, ◌≤ℤ◌};
+ghost use Rattle.std.specs.Prelude.{◌≡◌, ◌<◌, ◌≤◌, [], ◌∷◌, ◌++◌, length, neg_ℤ, pos, ◌+ℤ◌, ◌<ℤ◌, ◌≤ℤ◌};
 ghost use Rattle.std.specs.Prelude.{slice_get, IsTrue, ◌↔◌, OnOk, OnErr, IfOk, IfSome, MatchOption};
+ghost use Rattle.std.specs.List.{splice};
 ghost use Rattle.std.specs.Option.{ForSome};
 ghost use Rattle.tilt_base.specs.declared.limits.TheConstants.{WIDE};
 ghost use Rattle.tilt_stream.specs.Marks.{NamesNextMark};
@@ -60,6 +61,19 @@ impl SnapList {
         ensures err { OnErr result (self.new ≡ self.old) }
     {
         self.snaps.extend_from_slice(more)?;
+        Ok(())
+    }
+
+    /// Puts other snapshots in place of those from one place to before another, counted from 0, with which all are without gaps. After
+    /// want of memory the list is as before.
+    pub fn replace(&mut self, from: usize, to: usize, piece: SnapList) -> Result<(), OutOfMemory>
+        requires order { from ≤ to }
+        requires within { to ≤ length self.old }
+        requires no_gaps { AreSnapshots (splice self.old from to piece) }
+        ensures ok { OnOk result (self.new ≡ splice self.old from to piece) }
+        ensures err { OnErr result (self.new ≡ self.old) }
+    {
+        self.snaps.splice(from..to, piece.snaps)?;
         Ok(())
     }
 
