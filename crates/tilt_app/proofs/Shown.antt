@@ -8,7 +8,7 @@ use Rattle.tilt_app.specs.Cause.{IsUnanswered}
 use Rattle.tilt_app.specs.Change.{ShelfChange}
 use Rattle.tilt_app.specs.Outcome.{HasRowTurn, IsRowOutcome, IsRowRead, Saves, Shows, Streams}
 use Rattle.tilt_app.specs.Show.{IsShow}
-use Rattle.tilt_commands.specs.Table.{Row, reads, makes, row_of, run_row, watch_row}
+use Rattle.tilt_commands.specs.Table.{Row, reads, reads_last, makes, row_of, run_row, watch_row}
 use Rattle.tilt_load.specs.Does.{Does, Reading}
 use Rattle.tilt_load.specs.FileCommand.{FileCommand, IsFileOutcome, no_file, no_inputs, done}
 use Rattle.tilt_load.specs.Load.{IsLoadFault}
@@ -34,14 +34,17 @@ module _ (shelf : Reading) (keeps : Answered → Type 0) (result : Result Answer
   pub row_made : (row : Row) → DoesRow row keeps shelf result → shelf.tells
       → IfOk result (λ answer. (watchers : List Watch) → IsRowOutcome shelf.files watchers row (comes_to watchers answer))
   row_made (reads file binds command) does told = does.made told
+  row_made (reads_last file binds last command) does told = does.made told
   row_made (makes is_outcome) does told = does.made
 
   pub row_kept : (row : Row) → DoesRow row keeps shelf result → IfOk result keeps
   row_kept (reads file binds command) does = does.kept
+  row_kept (reads_last file binds last command) does = does.kept
   row_kept (makes is_outcome) does = does.kept
 
   pub row_rest : (row : Row) → DoesRow row keeps shelf result → shelf.rest
   row_rest (reads file binds command) does = does.rest
+  row_rest (reads_last file binds last command) does = does.rest
   row_rest (makes is_outcome) does = does.rest
 
   -- each of its files was read once
@@ -49,6 +52,7 @@ module _ (shelf : Reading) (keeps : Answered → Type 0) (result : Result Answer
       → IfOk result (λ _. (watchers : List Watch) × IsRowRead shelf.files watchers row shelf.given_before shelf.given_after)
   row_read (reads file binds command) does told =
       IfOk-weaker result _ _ (λ answer read. let one = read [] in ([], (one.count, one.bytes, one.given))) (does.read told)
+  row_read (reads_last file binds last command) does told = IfOk-weaker result _ _ (λ answer read. ([], read)) (does.read told)
   row_read (makes is_outcome) does told = IfOk-weaker result _ _ (λ answer kept. ([], does.given)) does.kept
 
   memory_fault : (tells : Type 0) (is_refused : _) (has_turn : List ℕ → Type 0) (before after : ℕ) (report : Report) → report ≡ out_of_memory
@@ -60,6 +64,7 @@ module _ (shelf : Reading) (keeps : Answered → Type 0) (result : Result Answer
       → IfErr result (λ fault. IsLoadFault shelf.tells (λ why. IsRowOutcome shelf.files watchers row (refused (refusal why)))
       (HasRowTurn shelf.tells shelf.files watchers row) shelf.faults_before shelf.faults_after (report_of fault))
   row_undone (reads file binds command) does watchers = does.fault watchers
+  row_undone (reads_last file binds last command) does watchers = does.fault
   row_undone (makes is_outcome) does watchers =
       IfErr-weaker result _ _ (λ fault is. memory_fault shelf.tells _ _ shelf.faults_before shelf.faults_after (report_of fault) is) does.fault
 

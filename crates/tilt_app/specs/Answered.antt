@@ -1,7 +1,8 @@
 -- What a command's answer says, by its row.
 use Rattle.std.specs.Prelude.{◌≡◌, List, Result, IfOk, IfErr}
 use Rattle.tilt_app.specs.Outcome.{Saves, Shows, Streams}
-use Rattle.tilt_commands.specs.Table.{Row, reads, makes, row_of}
+use Rattle.tilt_commands.specs.LastFile.{DoesLast}
+use Rattle.tilt_commands.specs.Table.{Row, reads, reads_last, makes, row_of}
 use Rattle.tilt_load.specs.Does.{Does, Reading}
 use Rattle.tilt_printed.specs.Answer.{Fits, comes_to}
 use Rattle.tilt_printed.specs.declared.answered.Answered.{Answered}
@@ -22,6 +23,7 @@ pub record Makes (is_outcome : Outcome → Type 0) (keeps : Answered → Type 0)
 -- a row was done
 abbrev pub DoesRow : Row → (Answered → Type 0) → Reading → Result Answered Fault → Type 0
 DoesRow (reads file binds command) keeps shelf result = Does command comes_to keeps file binds shelf result
+DoesRow (reads_last file binds last command) keeps shelf result = DoesLast command comes_to keeps file binds last shelf result
 DoesRow (makes is_outcome) keeps shelf result = Makes is_outcome keeps shelf result
 
 -- a command was done, and it gives its text out by a pipe, shows snapshots, and saves exactly where it is to

@@ -1,27 +1,31 @@
 -- What words come to, given what each name holds and who watches: the text that is printed, or why nothing is. What each command does is
 -- a row of the table.
 use Rattle.std.specs.Prelude.{◌≡◌, ⊤, List, [], ℕ}
-use Rattle.tilt_commands.specs.Table.{Row, reads, makes, row_of}
+use Rattle.tilt_commands.specs.LastFile.{HasLastTurn, IsLastOutcome, IsLastRead}
+use Rattle.tilt_commands.specs.Table.{Row, reads, reads_last, makes, row_of}
 use Rattle.tilt_load.specs.FileCommand.{IsFileOutcome, HasFileTurn, HasBytes}
 use Rattle.tilt_outside.specs.Counts.{added_count}
 use Rattle.tilt_report.specs.Report.{Outcome, refused, usage}
 use Rattle.tilt_watch.specs.Watch.{Watch}
-use Rattle.tilt_words.specs.Command.{CommandValue, IsCommand, run, pipe, watch, start, resume_upto}
+use Rattle.tilt_words.specs.Command.{CommandValue, IsCommand, run, pipe, watch, flow, start, resume_upto}
 
 -- what a row comes to
 abbrev pub IsRowOutcome : (List ℕ → List ℕ) → List Watch → Row → Outcome → Type 0
 IsRowOutcome files watchers (reads file binds command) outcome = IsFileOutcome (command watchers) files file binds outcome
+IsRowOutcome files watchers (reads_last file binds last command) outcome = IsLastOutcome command files file binds last outcome
 IsRowOutcome files watchers (makes is_outcome) outcome = is_outcome outcome
 
 -- it is a file's turn to be read
 abbrev pub HasRowTurn : Type 0 → (List ℕ → List ℕ) → List Watch → Row → List ℕ → Type 0
 HasRowTurn tells files watchers (reads file binds command) name = HasFileTurn (command watchers) tells files file binds name
+HasRowTurn tells files watchers (reads_last file binds last command) name = HasLastTurn command files file binds last tells name
 HasRowTurn tells files watchers (makes is_outcome) name = ⊥
 
 -- reads gave each of its files once, and whole: this is the count of bytes given before and after
 abbrev pub IsRowRead : (List ℕ → List ℕ) → List Watch → Row → ℕ → ℕ → Type 0
 IsRowRead files watchers (reads file binds command) before after =
     (count : ℕ) × HasBytes (command watchers) files file binds count × (after ≡ added_count before count)
+IsRowRead files watchers (reads_last file binds last command) before after = IsLastRead command files file binds last before after
 IsRowRead files watchers (makes is_outcome) before after = after ≡ before
 
 -- what the words do
@@ -54,11 +58,12 @@ Saves command = ⊥
 abbrev pub IsSaving : List (List ℕ) → Type 0
 IsSaving words = (command : CommandValue) × IsCommand words command × Saves command
 
--- whether a command's text is given out by a pipe, which takes memory between puts: that of `run` without cuts, of `pipe` and of `watch`
+-- whether a command's text is given out by a pipe, which takes memory between puts: that of `run` without cuts, of `pipe`, `watch` and `flow`
 abbrev pub Streams : CommandValue → Type 0
 Streams (run query binds plain cuts) = cuts ≡ []
 Streams (pipe query binds plain) = ⊤
 Streams (watch query binds plain) = ⊤
+Streams (flow pipeline binds plain) = ⊤
 Streams command = ⊥
 
 -- the words are a command that does

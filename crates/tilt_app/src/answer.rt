@@ -12,7 +12,9 @@ ghost use Rattle.tilt_words.specs.Command.{IsWithin, command_of};
 ghost use Rattle.tilt_words.specs.Upto.{upto_of};
 
 use std::alloc::Global;
-use tilt_commands::{Division, Manner, compile, exec, explain, parts, pipe, run, try_, watch};
+use tilt_commands::{
+    Division, Manner, compile, exec, explain, fix, flow, parts, pipe, run, try_, watch,
+};
 use tilt_outside::Shelf;
 use tilt_printed::Answered;
 use tilt_report::Fault;
@@ -54,6 +56,17 @@ pub(crate) fn answer<'a, S: Shelf>(
             order,
             ..
         } => parts(alloc, shelf, query, binds, division(fuse, at, order)),
+        Command::Flow {
+            flow: file,
+            binds,
+            ..
+        } => flow(alloc, shelf, file, binds, fuse),
+        Command::Fix {
+            query,
+            binds,
+            edits,
+            ..
+        } => fix(alloc, shelf, query, binds, edits, fuse),
         Command::Try { seed, count } => try_(alloc, *seed, *count),
         Command::Start {
             query,

@@ -45,7 +45,7 @@ module _ (query : List ℕ) (gives : CoreParts → List (List Snapshot) → Outc
   turn_any tells files file binds name (input_turn bind among next) =
       input_turn bind among (λ t. let n = next t in record { says = n.says; taken = n.taken; input = n.input })
 
-  undone_any : (file : List ℕ) (binds : List Binding) (shelf : Reading) (report : Report) → IsUndone (refusing_row query) file binds shelf report
+  pub undone_any : (file : List ℕ) (binds : List Binding) (shelf : Reading) (report : Report) → IsUndone (refusing_row query) file binds shelf report
       → IsUndone (query_row query gives) file binds shelf report
   undone_any file binds shelf report fault =
       load_fault_weaker shelf.tells shelf.tells (λ why. IsFileOutcome (refusing_row query) shelf.files file binds (refused (refusal why)))

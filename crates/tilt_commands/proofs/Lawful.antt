@@ -7,9 +7,11 @@ use Rattle.tilt_code.specs.Listing.{listing}
 use Rattle.tilt_code.specs.Run.{run_of}
 use Rattle.tilt_commands.proofs.MadeQuery.{core, made_taken, two_inputs}
 use Rattle.tilt_commands.proofs.Divided.{parts_once, parts_refused_once, parts_refused_or_taken, parts_taken_or_refused, same_parted, some_parted}
+use Rattle.tilt_commands.proofs.Fixing.{fixed-once, fixed-some, fixed-no_usage}
 use Rattle.tilt_commands.proofs.Taken.{taken_domain, taken_gives}
+use Rattle.tilt_commands.specs.Fixed.{IsFixed, fix_row}
 use Rattle.tilt_commands.specs.Query.{IsMadeOfQuery, lone_row, query_row}
-use Rattle.tilt_commands.specs.Table.{IsCompiled, compile_row, exec_row, IsExplained, explain_row, IsPiped, parts_row, pipe_row, run_row, IsTryOutcome, made_inputs, summed, watch_row, Row, reads, makes, row_of}
+use Rattle.tilt_commands.specs.Table.{IsCompiled, compile_row, exec_row, IsExplained, explain_row, flow_row, flow_text, IsPiped, parts_row, pipe_row, run_row, IsTryOutcome, made_inputs, summed, watch_row, Row, reads, reads_last, makes, row_of}
 use Rattle.tilt_compiler.specs.Compiled.{IsCodeOf}
 use Rattle.tilt_core.specs.Core.{CoreParts}
 use Rattle.tilt_core.specs.Meaning.{output_of}
@@ -18,6 +20,7 @@ use Rattle.tilt_explain.specs.Explain.{explained}
 use Rattle.tilt_fuse.specs.Plan.{plan_of}
 use Rattle.tilt_load.proofs.FileCommands.{IsLawful}
 use Rattle.tilt_load.proofs.OneCode.{code_once, code_refused_once, code_refused_or_taken, code_taken_or_refused}
+use Rattle.tilt_load.proofs.OneFlow.{flow_once, flow_refused_once, flow_refused_or_taken, flow_taken_or_refused}
 use Rattle.tilt_load.proofs.OneQuery.{IsQueryFile, query_core, query_taken_or_refused, refused_once, refused_or_taken, taken_once}
 use Rattle.tilt_load.specs.QueryFile.{TakesQuery, RefusesQuery}
 use Rattle.tilt_lower.specs.Lowering.{code_of}
@@ -32,7 +35,7 @@ use Rattle.tilt_stream.specs.Snap.{Snapshot}
 use Rattle.tilt_stream.specs.Text.{text_of}
 use Rattle.tilt_types.specs.Checked.{core_of}
 use Rattle.tilt_watch.specs.Watch.{Watch}
-use Rattle.tilt_words.specs.Command.{CommandValue, IsWithin, run, compile, exec, explain, start, resume_upto, resume_end, pipe, watch, parts, try}
+use Rattle.tilt_words.specs.Command.{CommandValue, IsWithin, run, compile, exec, explain, start, resume_upto, resume_end, pipe, watch, parts, flow, fix, try}
 
 printed_usage : (text : List ℕ) → printed text ≡ refused usage → ⊥
 printed_usage text same = cc
@@ -164,6 +167,22 @@ parts_lawful query cuts order = record {
   no_usage = λ c rows is. printed_usage _ (sym is.is);
 }
 
+flow_lawful : (file : List ℕ) → IsLawful (flow_row file)
+flow_lawful file = record {
+  one = flow_once;
+  once = flow_refused_once file;
+  either = flow_refused_or_taken file;
+  some = flow_taken_or_refused file;
+  given_once = λ tree rows o p is is'. is ∙ sym is';
+  given_some = λ bytes tree rows taken many. (printed (flow_text tree rows), refl);
+  no_usage = λ tree rows is. printed_usage (flow_text tree rows) (sym is);
+}
+
+fix_lawful : (query name bytes : List ℕ) → IsLawful (fix_row query name bytes)
+fix_lawful query name bytes =
+    query_lawful query (IsFixed name bytes) (fixed-once name bytes) (λ text core rows taken many. fixed-some name bytes core rows text taken many)
+    (fixed-no_usage name bytes)
+
 -- `try` has one outcome
 try_once : (seed count : ℕ) (o p : Outcome) → IsTryOutcome seed count o → IsTryOutcome seed count p → o ≡ p
 try_once seed count o p (summed core list taken out) (summed core' list' taken' out') =
@@ -190,6 +209,7 @@ pub record IsOneOutcome (is_outcome : Outcome → Type 0) : Type 0 where
 -- a row has one outcome, whatever its files hold
 abbrev pub IsLawfulRow : Row → Type 0
 IsLawfulRow (reads file binds command) = (watchers : List Watch) → IsLawful (command watchers)
+IsLawfulRow (reads_last file binds last command) = (bytes : List ℕ) → IsLawful (command bytes)
 IsLawfulRow (makes is_outcome) = IsOneOutcome is_outcome
 
 -- each row is lawful
@@ -204,6 +224,8 @@ rows_lawful (resume_end checkpoint binds plain) within = λ watchers. resume_law
 rows_lawful (pipe query binds plain) within = λ watchers. pipe_lawful query (not plain)
 rows_lawful (watch query binds plain) within = λ watchers. watch_lawful query watchers
 rows_lawful (parts query binds plain at order) within = λ watchers. parts_lawful query at order
+rows_lawful (flow file binds plain) within = λ watchers. flow_lawful file
+rows_lawful (fix query binds plain edits) within = fix_lawful query edits
 rows_lawful (try seed count) within = record {
   once = try_once seed count;
   some = try_some seed count within.1;

@@ -5,6 +5,7 @@ use Rattle.tilt_code.specs.Code.{CodeParts}
 use Rattle.tilt_code.specs.Listing.{listing}
 use Rattle.tilt_code.specs.Run.{run_of}
 use Rattle.tilt_commands.specs.Divided.{IsParted, RefusesParts, TakesParts}
+use Rattle.tilt_commands.specs.Fixed.{fix_row}
 use Rattle.tilt_commands.specs.Query.{IsMadeOfQuery, lone_row, query_row}
 use Rattle.tilt_compiler.specs.Compiled.{IsCodeOf}
 use Rattle.tilt_core.specs.Core.{CoreParts}
@@ -12,11 +13,15 @@ use Rattle.tilt_core.specs.Meaning.{output_of}
 use Rattle.tilt_explain.specs.Explain.{explained}
 use Rattle.tilt_load.specs.CodeFile.{TakesCode, RefusesCode}
 use Rattle.tilt_load.specs.FileCommand.{FileCommand}
+use Rattle.tilt_load.specs.FlowFile.{TakesFlow, RefusesFlow}
 use Rattle.tilt_load.specs.QueryFile.{TakesQuery}
 use Rattle.tilt_load.specs.SeriesFiles.{no_bounds}
 use Rattle.tilt_made.specs.Generator.{first_rows, second_rows}
 use Rattle.tilt_made.specs.Summary.{summary_text}
 use Rattle.tilt_made.specs.TryQuery.{query_text}
+use Rattle.tilt_operators.specs.Flow.{FlowTree}
+use Rattle.tilt_operators.specs.Inputs.{inputs_of}
+use Rattle.tilt_operators.specs.Lists.{flow_list}
 use Rattle.tilt_pipe.specs.Rings.{most_ever}
 use Rattle.tilt_printed.specs.Figures.{watched_text}
 use Rattle.tilt_printed.specs.Rings.{rings_line}
@@ -24,10 +29,13 @@ use Rattle.tilt_report.specs.Report.{Outcome, printed}
 use Rattle.tilt_sessions.specs.Resume.{resume_row}
 use Rattle.tilt_sessions.specs.Start.{start_row}
 use Rattle.tilt_stream.specs.Snap.{Snapshot}
+use Rattle.tilt_stream.specs.Snapshots.{snapshots}
+use Rattle.tilt_stream.specs.Stream.{stream_of}
 use Rattle.tilt_stream.specs.Text.{text_of}
 use Rattle.tilt_watch.specs.Watch.{Watch}
 use Rattle.tilt_words.specs.Binding.{Binding}
-use Rattle.tilt_words.specs.Command.{CommandValue, run, compile, exec, explain, start, resume_upto, resume_end, pipe, watch, parts, try}
+use Rattle.tilt_words.specs.Command.{CommandValue, run, compile, exec, explain, start, resume_upto, resume_end, pipe, watch, parts}
+use Rattle.tilt_words.specs.Command.{flow, fix, try}
 
 -- `run` on the query in the file of a name prints the text of the snapshots of the query's meaning on its output domain
 abbrev pub run_row : List ℕ → FileCommand
@@ -89,6 +97,21 @@ parts_row query cuts order = record {
   gives = IsParted cuts;
 }
 
+-- the text of what a pipeline gives by lists, as snapshots on its domain
+abbrev pub flow_text : FlowTree → List (List Snapshot) → List ℕ
+flow_text tree rows = text_of (snapshots (stream_of (flow_list tree rows)) tree.domain.start tree.domain.end)
+
+-- `flow` on the pipeline in the file of a name prints the text of what the pipeline gives
+abbrev pub flow_row : List ℕ → FileCommand
+flow_row file = record {
+  Says = FlowTree;
+  takes = TakesFlow;
+  refuses = RefusesFlow file;
+  inputs = inputs_of;
+  within = λ tree place. no_bounds;
+  gives = λ tree rows outcome. outcome ≡ printed (flow_text tree rows);
+}
+
 -- the rows that `try` makes, of both inputs
 abbrev pub made_inputs : ℕ → ℕ → List (List Snapshot)
 made_inputs seed count = first_rows seed count ∷ second_rows seed count ∷ []
@@ -98,10 +121,11 @@ pub data IsTryOutcome (seed count : ℕ) : Outcome → Type 0 where
   summed : (core : CoreParts) (list : List Snapshot) → TakesQuery (query_text count) core
       → output_of core (made_inputs seed count) ≡ Some list → IsTryOutcome seed count (printed (summary_text count list))
 
--- what a command does: it reads a file and the files of its binds, and is such a command beside those who watch; or it reads nothing, and
--- this is what it comes to
+-- what a command does: it reads a file and the files of its binds, and is such a command beside those who watch; or it reads a file, the
+-- files of its binds and a last one, and is such a command by what the last one holds; or it reads nothing, and this is what it comes to
 pub data Row : Type 1 where
   reads : (file : List ℕ) (binds : List Binding) (command : List Watch → FileCommand) → Row
+  reads_last : (file : List ℕ) (binds : List Binding) (last : List ℕ) (command : List ℕ → FileCommand) → Row
   makes : (is_outcome : Outcome → Type 0) → Row
 
 -- the row of each command
@@ -117,4 +141,6 @@ row_of (resume_end checkpoint binds plain) = reads checkpoint binds (λ watchers
 row_of (pipe query binds plain) = reads query binds (λ watchers. pipe_row query (not plain))
 row_of (watch query binds plain) = reads query binds (watch_row query)
 row_of (parts query binds plain at order) = reads query binds (λ watchers. parts_row query at order)
+row_of (flow file binds plain) = reads file binds (λ watchers. flow_row file)
+row_of (fix query binds plain edits) = reads_last query binds edits (fix_row query edits)
 row_of (try seed count) = makes (IsTryOutcome seed count)

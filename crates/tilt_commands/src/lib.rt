@@ -2,13 +2,16 @@
 //! goes what the command comes to, or the first fault.
 //!
 //! Each command is a row of `specs/Table`: what its file may say, and what it comes to on the rows of its inputs. The clause `Does` of its
-//! function says that it does that, that each fault has its cause, and that each file was read once. That words and files
+//! function, or `DoesLast`, says that it does that, that each fault has its cause, and that each file was read once. That words and files
 //! have one outcome, and always one, is `IsLawful` of its row, in `proofs/`.
 #![tactic(auto)]
 
 mod compile_command;
+mod corrected;
 mod exec_command;
 mod explain_command;
+mod fix_command;
+mod flow_command;
 mod loaded;
 mod parts_command;
 mod pipe_command;
@@ -19,6 +22,8 @@ mod watch_command;
 pub use compile_command::compile;
 pub use exec_command::exec;
 pub use explain_command::explain;
+pub use fix_command::fix;
+pub use flow_command::flow;
 pub use parts_command::{Division, parts};
 pub use pipe_command::pipe;
 pub use run_command::{Manner, run};

@@ -5,6 +5,8 @@ pub mod InputRows
 pub mod Loads
 pub mod OneCheckpoint
 pub mod OneCode
+pub mod OneEdits
+pub mod OneFlow
 pub mod OneQuery
 pub mod OneSeries
 pub mod ReadRows

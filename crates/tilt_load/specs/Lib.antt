@@ -1,7 +1,9 @@
 pub mod CheckpointFile
 pub mod CodeFile
 pub mod Does
+pub mod EditsFile
 pub mod FileCommand
+pub mod FlowFile
 pub mod InputCuts
 pub mod Inputs
 pub mod Load

@@ -1,18 +1,21 @@
-//! From the files that the words name to what they say: a query with its core, a checkpoint, a loop code, the rows of each input.
+//! From the files that the words name to what they say: a query with its core, a pipeline of operators with that of its query, a
+//! checkpoint, a loop code, the rows of each input, edits of them.
 //!
-//! What comes in is a shelf, names of files and binds; what goes out is the query, the checkpoint, the code or the rows, or the
-//! first fault. The clauses `taken` say what was read, by `specs/QueryFile`, `specs/CheckpointFile`, `specs/CodeFile` and
-//! `specs/SeriesFiles`, and the clauses `fault` why nothing was, by `specs/Load`: a read fault only where its count rose, a refusal
-//! only where it is the outcome. The clauses `given` say that each file that is taken was read once and to its end. A query comes as
-//! what the compiler accepted, with fusion or without. The clauses of `cuts_by` say which cuts the words give to the inputs of a query, by
-//! `specs/InputCuts`.
+//! What comes in is a shelf, names of files and binds; what goes out is the query, the pipeline, the checkpoint, the code, the rows or
+//! the edits, or the first fault. The clauses `taken` say what was read, by `specs/QueryFile`, `specs/FlowFile`, `specs/CheckpointFile`,
+//! `specs/CodeFile`, `specs/SeriesFiles` and `specs/EditsFile`, and the clauses `fault` why nothing was, by `specs/Load`: a read fault
+//! only where its count rose, a refusal only where it is the outcome. The clauses `given` say that each file that is taken was read once
+//! and to its end. A query comes as what the compiler accepted, with fusion or without. The clauses of `cuts_by` say which cuts the words
+//! give to the inputs of a query, by `specs/InputCuts`.
 #![tactic(auto)]
 
 mod binds;
 mod checkpoint_file;
 mod code_file;
 mod cuts;
+mod edits_file;
 mod file;
+mod flow_file;
 mod inputs;
 mod names;
 mod query_file;
@@ -22,6 +25,8 @@ mod session;
 pub use checkpoint_file::{LoadedCheckpoint, load_checkpoint};
 pub use code_file::load_code;
 pub use cuts::cuts_by;
+pub use edits_file::load_edits;
+pub use flow_file::{LoadedFlow, load_flow};
 pub use inputs::{load_inputs, load_session_inputs};
 pub use query_file::{LoadedQuery, load_query, read_query};
 pub use session::Session;

@@ -2,6 +2,7 @@ pub mod Answer
 pub mod Figures
 pub mod Left
 pub mod Prints
+pub mod Reached
 pub mod Rings
 pub mod Saving
 pub mod Show

@@ -3,12 +3,13 @@ use Rattle.std.specs.Prelude.{◌≡◌, ⊤, List, ℕ}
 use Rattle.tilt_code.specs.Run.{run_of}
 use Rattle.tilt_pipe.specs.Value.{pipe_after}
 use Rattle.tilt_printed.specs.Figures.{watched_text}
+use Rattle.tilt_printed.specs.Reached.{corrected_text}
 use Rattle.tilt_printed.specs.Rings.{rings_text}
 use Rattle.tilt_printed.specs.Sizes.{parted_text}
 use Rattle.tilt_printed.specs.declared.printed.Printed.{Printed}
 use Rattle.tilt_printed.specs.declared.printed.Printed.TheVariants.{Whole, Run, Rings, Watched}
 use Rattle.tilt_printed.specs.declared.whole_text.WholeText.{WholeText}
-use Rattle.tilt_printed.specs.declared.whole_text.WholeText.TheVariants.{Snapshots, Lines, Parted, Text}
+use Rattle.tilt_printed.specs.declared.whole_text.WholeText.TheVariants.{Snapshots, Lines, Parted, Corrected, Text}
 use Rattle.tilt_stream.specs.Text.{lines_of, text_of}
 use Rattle.tilt_watch.specs.Watch.{Watch}
 
@@ -17,6 +18,7 @@ abbrev pub whole_text : WholeText → List ℕ
 whole_text (Snapshots list) = text_of list
 whole_text (Lines list) = lines_of list
 whole_text (Parted list sizes) = parted_text list sizes.items
+whole_text (Corrected list reached) = corrected_text list reached.items
 whole_text (Text text) = text.items
 
 -- the text that is printed, beside these watchers

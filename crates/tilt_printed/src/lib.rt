@@ -7,6 +7,7 @@
 
 mod answered;
 mod printed;
+mod reached;
 mod save;
 mod streamed;
 mod unput;

@@ -2,11 +2,14 @@
 ghost use Rattle.std.specs.Prelude.{length};
 ghost use Rattle.std.specs.List.{flat_map};
 ghost use Rattle.tilt_outside.specs.Written.{Puts};
+ghost use Rattle.tilt_printed.specs.Reached.{corrected_text};
 ghost use Rattle.tilt_printed.specs.Sizes.{parted_text, parts_line, size_text};
 ghost use Rattle.tilt_printed.specs.Text.{whole_text};
 ghost use Rattle.tilt_stream.specs.Text.{text_of};
 
+use crate::reached::put_reached;
 use itoa::Buffer;
+use tilt_base::Span;
 use tilt_outside::{Failed, Sink};
 use tilt_series::{put_header, put_rows};
 use tilt_stream::SnapList;
@@ -17,7 +20,15 @@ pub enum WholeText {
     /// The text of these snapshots.
     Snapshots(SnapList),
     /// The text of these snapshots, and then the line of how many come from each part.
-    Parted { list: SnapList, sizes: Vec<u64> },
+    Parted {
+        list: SnapList,
+        sizes: Vec<u64>,
+    },
+    /// The text of these snapshots, and then a line for each edit, by the ticks that it reached.
+    Corrected {
+        list: SnapList,
+        reached: Vec<Option<Span>>,
+    },
     /// The lines of these snapshots, without the header.
     Lines(SnapList),
     /// This text.
@@ -33,6 +44,7 @@ impl WholeText {
         match self {
             WholeText::Snapshots(list) => put_text(out, list),
             WholeText::Parted { list, sizes } => put_parted(out, list, sizes),
+            WholeText::Corrected { list, reached } => put_corrected(out, list, reached),
             WholeText::Lines(list) => put_rows(out, list),
             WholeText::Text(text) => out.put(text),
         }
@@ -46,6 +58,19 @@ fn put_text<O: Sink>(out: &mut O, list: &SnapList) -> Result<(), Failed>
 {
     put_header(out)?;
     put_rows(out, list)
+}
+
+// Puts the text of snapshots, and then a line for each edit.
+fn put_corrected<O: Sink>(
+    out: &mut O,
+    list: &SnapList,
+    reached: &[Option<Span>],
+) -> Result<(), Failed>
+    requires { O.takes out.old (length (corrected_text list.now reached.now)) }
+    ensures { Puts O.tells O.written O.faults O.takes out.old out.new (corrected_text list.now reached.now) result }
+{
+    put_text(out, list)?;
+    put_reached(out, reached)
 }
 
 // Puts the text of snapshots, and then the line of sizes.

@@ -1,6 +1,8 @@
 -- What is told where a command isn't done: the status that the program ends with, and one line.
 use Rattle.std.specs.Prelude.{ℕ, ℤ, List, ◌++◌, codes}
 use Rattle.std.specs.Fmt.{decimal, signed_decimal}
+use Rattle.tilt_stream.specs.Snap.{Snapshot}
+use Rattle.tilt_stream.specs.Text.{cell_text}
 use Rattle.tilt_lexer.specs.declared.fault.LexFault.{LexFault}
 use Rattle.tilt_lexer.specs.declared.fault.LexFault.TheVariants as lexical
 use Rattle.tilt_series.specs.declared.fault.SeriesFault.{SeriesFault}
@@ -13,8 +15,14 @@ use Rattle.tilt_types.specs.declared.fault.CheckFault.{CheckFault}
 use Rattle.tilt_types.specs.declared.fault.CheckFault.TheVariants as check
 use Rattle.tilt_bounds.specs.declared.fault.ReachFault.{ReachFault}
 use Rattle.tilt_bounds.specs.declared.fault.ReachFault.TheVariants as reach
+use Rattle.tilt_operators.specs.declared.fault.FlowFault.{FlowFault}
+use Rattle.tilt_operators.specs.declared.fault.FlowFault.TheVariants as pipeline
 use Rattle.tilt_code.specs.declared.fault.CodeFault.{CodeFault}
 use Rattle.tilt_code.specs.declared.fault.CodeFault.TheVariants as listing
+use Rattle.tilt_fix.specs.declared.fault.EditFault.{EditFault}
+use Rattle.tilt_fix.specs.declared.fault.EditFault.TheVariants as edits
+use Rattle.tilt_fix.specs.declared.fault.FixFault.{FixFault}
+use Rattle.tilt_fix.specs.declared.fault.FixFault.TheVariants as correction
 use Rattle.tilt_words.specs.declared.fault.WordsFault.{WordsFault}
 use Rattle.tilt_words.specs.declared.fault.WordsFault.TheVariants as words
 use Rattle.tilt_report.specs.declared.refusal.Refusal.{Refusal}
@@ -25,7 +33,8 @@ use Rattle.tilt_report.specs.declared.fault.Fault.{Fault}
 use Rattle.tilt_report.specs.declared.fault.Fault.TheVariants.{Usage, Refused, ReadFault, WriteFault, SaveFault, OutOfMemory}
 
 -- why words that are a command are refused, with the name of the file or of the input that it is about, the place, the statement, how far
--- the query looks back and ahead, the line of the code and its loop, the old cut and the new one, or the cut or the number of a part
+-- the query looks back and ahead, the line of the code and its loop, the old cut and the new one, the cut or the number of a part, the step
+-- of a pipeline, the row that another one overlaps, or the line of a correction
 pub data Reason : Type 0 where
   input_names : List ℕ → Reason
   file_too_long : List ℕ → Reason
@@ -42,6 +51,11 @@ pub data Reason : Type 0 where
   cut_names : List ℕ → Reason
   part_outside : ℤ → Reason
   no_such_part : ℕ → Reason
+  bad_step : ℕ → Reason
+  step_type : ℕ → Reason
+  no_such_row : Reason
+  overlaps : Snapshot → Reason
+  bad_edit : ℕ → Reason
 
 -- why a command isn't done
 pub data Report : Type 0 where
@@ -76,6 +90,11 @@ reason_of (code.CutBack old new) = cut_back old new
 reason_of (code.CutNames name) = cut_names name
 reason_of (code.PartOutside at) = part_outside at
 reason_of (code.NoSuchPart part) = no_such_part part
+reason_of (code.BadStep step) = bad_step step
+reason_of (code.StepType step) = step_type step
+reason_of code.NoSuchRow = no_such_row
+reason_of (code.Overlaps row) = overlaps row
+reason_of (code.BadEdit line) = bad_edit line
 
 -- the report of a fault
 abbrev pub report_of : Fault → Report
@@ -125,11 +144,30 @@ abbrev pub report_of_reach : ReachFault → Report
 report_of_reach (reach.TooFar back ahead) = refusal (too_far back ahead)
 report_of_reach reach.OutOfMemory = out_of_memory
 
+-- the report of a text that is no pipeline
+abbrev pub report_of_flow : FlowFault → Report
+report_of_flow (pipeline.BadByte at) = refusal (bad_byte at)
+report_of_flow (pipeline.BigNumber at) = refusal (big_number at)
+report_of_flow (pipeline.BadStep step) = refusal (bad_step step)
+report_of_flow (pipeline.StepType step) = refusal (step_type step)
+report_of_flow pipeline.OutOfMemory = out_of_memory
+
 -- the report of a listing that is refused
 abbrev pub report_of_code : CodeFault → Report
 report_of_code (listing.BadCode line) = refusal (bad_code line)
 report_of_code (listing.BadReference in_loop line) = refusal (bad_reference in_loop line)
 report_of_code listing.OutOfMemory = out_of_memory
+
+-- the report of a text that has no corrections
+abbrev pub report_of_edits : EditFault → Report
+report_of_edits (edits.BadEdit line) = refusal (bad_edit line)
+report_of_edits edits.OutOfMemory = out_of_memory
+
+-- the report of a correction that isn't done
+abbrev pub report_of_fix : FixFault → Report
+report_of_fix correction.NoSuchRow = refusal no_such_row
+report_of_fix (correction.Overlaps row) = refusal (overlaps row)
+report_of_fix correction.OutOfMemory = out_of_memory
 
 -- the status that the program ends with
 abbrev pub status_of : Report → ℕ
@@ -184,6 +222,10 @@ statement_words statement.TypeMismatch = codes ": type mismatch"
 statement_words statement.BadWindow = codes ": bad window"
 statement_words statement.BadDomain = codes ": bad domain"
 
+-- a row as a series has it, without the end of its line
+abbrev pub row_words : Snapshot → List ℕ
+row_words row = signed_decimal row.start ++ codes "," ++ signed_decimal row.end ++ codes "," ++ cell_text row.value
+
 -- the number and the words of a refusal
 abbrev pub reason_words : Reason → List ℕ
 reason_words (input_names name) = codes "2 input names: " ++ name
@@ -201,6 +243,11 @@ reason_words (cut_back old new) = codes "51 cut back from " ++ signed_decimal ol
 reason_words (cut_names name) = codes "52 cut names: " ++ name
 reason_words (part_outside at) = codes "56 part outside: " ++ signed_decimal at
 reason_words (no_such_part part) = codes "57 no such part: " ++ decimal part
+reason_words (bad_step step) = codes "53 bad step " ++ decimal step
+reason_words (step_type step) = codes "54 step " ++ decimal step ++ codes ": type"
+reason_words no_such_row = codes "60 no such row"
+reason_words (overlaps row) = codes "61 overlaps " ++ row_words row
+reason_words (bad_edit line) = codes "62 bad edit in line " ++ decimal line
 
 -- the number and the words of a fault
 abbrev pub words_of : Report → List ℕ

@@ -7,7 +7,9 @@ use crate::refusal::{Refusal, StatementFault};
 use std::alloc::AllocError;
 use tilt_bounds::ReachFault;
 use tilt_code::CodeFault;
+use tilt_fix::{EditFault, FixFault};
 use tilt_lexer::LexFault;
+use tilt_operators::FlowFault;
 use tilt_outside::{Failed, Sink};
 use tilt_syntax::{SyntaxFault, TextFault};
 use tilt_types::CheckFault;
@@ -151,6 +153,23 @@ impl From<ReachFault> for Fault<'_> {
     }
 }
 
+impl From<FlowFault> for Fault<'_> {
+    ghost use Rattle.std.specs.Prelude.{◌≡◌};
+    ghost use Rattle.tilt_report.specs.Report.{report_of, report_of_flow};
+
+    ghost from_gives = { λ flow fault. report_of fault ≡ report_of_flow flow };
+
+    fn from(flow: FlowFault) -> Self {
+        match flow {
+            FlowFault::BadByte { at } => Fault::Refused(Refusal::BadByte { at }),
+            FlowFault::BigNumber { at } => Fault::Refused(Refusal::BigNumber { at }),
+            FlowFault::BadStep { step } => Fault::Refused(Refusal::BadStep { step }),
+            FlowFault::StepType { step } => Fault::Refused(Refusal::StepType { step }),
+            FlowFault::OutOfMemory => Fault::OutOfMemory,
+        }
+    }
+}
+
 impl From<CodeFault> for Fault<'_> {
     ghost use Rattle.std.specs.Prelude.{◌≡◌};
     ghost use Rattle.tilt_report.specs.Report.{report_of, report_of_code};
@@ -164,6 +183,35 @@ impl From<CodeFault> for Fault<'_> {
                 Fault::Refused(Refusal::BadReference { in_loop, line })
             }
             CodeFault::OutOfMemory => Fault::OutOfMemory,
+        }
+    }
+}
+
+impl From<EditFault> for Fault<'_> {
+    ghost use Rattle.std.specs.Prelude.{◌≡◌};
+    ghost use Rattle.tilt_report.specs.Report.{report_of, report_of_edits};
+
+    ghost from_gives = { λ edits fault. report_of fault ≡ report_of_edits edits };
+
+    fn from(edits: EditFault) -> Self {
+        match edits {
+            EditFault::BadEdit { line } => Fault::Refused(Refusal::BadEdit { line }),
+            EditFault::OutOfMemory => Fault::OutOfMemory,
+        }
+    }
+}
+
+impl From<FixFault> for Fault<'_> {
+    ghost use Rattle.std.specs.Prelude.{◌≡◌};
+    ghost use Rattle.tilt_report.specs.Report.{report_of, report_of_fix};
+
+    ghost from_gives = { λ fix fault. report_of fault ≡ report_of_fix fix };
+
+    fn from(fix: FixFault) -> Self {
+        match fix {
+            FixFault::NoSuchRow => Fault::Refused(Refusal::NoSuchRow),
+            FixFault::Overlaps { row } => Fault::Refused(Refusal::Overlaps { row }),
+            FixFault::OutOfMemory => Fault::OutOfMemory,
         }
     }
 }

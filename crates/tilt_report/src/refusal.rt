@@ -2,12 +2,13 @@
 ghost use Rattle.std.specs.Prelude.{◌≡◌, ◌++◌, ℕ, codes};
 ghost use Rattle.std.specs.Fmt.{decimal, signed_decimal};
 ghost use Rattle.tilt_outside.specs.Written.{Puts};
-ghost use Rattle.tilt_report.specs.Report.{series_number, series_words, statement_front, statement_words};
+ghost use Rattle.tilt_report.specs.Report.{row_words, series_number, series_words, statement_front, statement_words};
 
 use crate::line::{put_counted, put_named, put_signed, put_text};
 use tilt_lexer::Name;
 use tilt_outside::{Failed, Sink};
-use tilt_series::SeriesFault;
+use tilt_series::{SeriesFault, row_text};
+use tilt_stream::Row;
 
 /// Why words that are a command are refused.
 #[derive(Drop)]
@@ -88,6 +89,28 @@ pub enum Refusal<'a> {
         /// The number of the part, counted from 0.
         part: u32,
     },
+    /// A step of a pipeline breaks a rule of pipelines.
+    BadStep {
+        /// The number of the step, counted from 1.
+        step: u32,
+    },
+    /// The expression of a step of a pipeline hasn't the type that the step asks for.
+    StepType {
+        /// The number of the step, counted from 1.
+        step: u32,
+    },
+    /// A correction names a row that isn't there.
+    NoSuchRow,
+    /// A correction adds a row that would overlap another.
+    Overlaps {
+        /// The first row that it would overlap.
+        row: Row,
+    },
+    /// A line of a file of corrections is none.
+    BadEdit {
+        /// The number of the line, counted from 1.
+        line: u64,
+    },
 }
 
 /// Why a statement of a query is refused.
@@ -137,6 +160,11 @@ impl Refusal<'_> {
             Refusal::CutNames { name } => put_named(err, b"52 cut names: ", name.bytes()),
             Refusal::PartOutside { at } => put_outside(err, *at),
             Refusal::NoSuchPart { part } => put_no_part(err, *part),
+            Refusal::BadStep { step } => put_counted(err, b"53 bad step ", u64::from(*step)),
+            Refusal::StepType { step } => put_step_type(err, *step),
+            Refusal::NoSuchRow => put_text(err, b"60 no such row"),
+            Refusal::Overlaps { row } => put_overlaps(err, row),
+            Refusal::BadEdit { line } => put_counted(err, b"62 bad edit in line ", *line),
         }
     }
 }
@@ -284,4 +312,26 @@ fn put_no_part<E: Sink>(err: &mut E, part: u32) -> Result<(), Failed>
         (codes "57 no such part: " ++ decimal part) result }
 {
     put_counted(err, b"57 no such part: ", u64::from(part))
+}
+
+// Puts the expression of which step has another type.
+fn put_step_type<E: Sink>(err: &mut E, step: u32) -> Result<(), Failed>
+    requires { (n : ℕ) → E.takes err.old n }
+    ensures { Puts E.tells E.written E.faults E.takes err.old err.new
+        (codes "54 step " ++ decimal step ++ codes ": type") result }
+{
+    put_counted(err, b"54 step ", u64::from(step))?;
+    put_text(err, b": type")
+}
+
+// Puts which row would be overlapped.
+fn put_overlaps<E: Sink>(err: &mut E, row: &Row) -> Result<(), Failed>
+    requires { (n : ℕ) → E.takes err.old n }
+    ensures { Puts E.tells E.written E.faults E.takes err.old err.new
+        (codes "61 overlaps " ++ row_words row.now) result }
+{
+    let mut room = [0; 64];
+    let length = row_text(row, &mut room);
+    // Without the LF at its end.
+    put_named(err, b"61 overlaps ", &room[..length - 1])
 }

@@ -11,7 +11,11 @@ mod chained;
 #[cfg(test)]
 mod codes;
 #[cfg(test)]
+mod correcting;
+#[cfg(test)]
 mod faults;
+#[cfg(test)]
+mod flowing;
 #[cfg(test)]
 mod hostile;
 #[cfg(test)]

@@ -20,6 +20,8 @@ mod fuse;
 #[cfg(test)]
 mod lexer;
 #[cfg(test)]
+mod operators;
+#[cfg(test)]
 mod parsing;
 #[cfg(test)]
 mod printing;

@@ -21,7 +21,8 @@ use Rattle.tilt_words.specs.Command.{Call, CommandValue, IsCommand, IsFile, IsFi
 use Rattle.tilt_words.specs.Number.{IsNumber, AreListed, AreRising, AreUpTo, before_comma, after_comma}
 use Rattle.tilt_words.specs.Upto.{CutBinding, IsCutBinding, IsUpto, UptoValue, all, each, parts_of}
 use Rattle.tilt_words.proofs.Answered.{try_texts}
-use Rattle.tilt_words.proofs.Determined.{IsOption, cut, upto, save, parts_at, order, after_plain, after_end, after_cut, after_upto, after_save, after_at, after_order}
+use Rattle.tilt_words.proofs.Determined.{IsOption, cut, upto, save, parts_at, order, edits}
+use Rattle.tilt_words.proofs.Determined.{after_plain, after_end, after_cut, after_upto, after_save, after_at, after_order, after_edits}
 use Rattle.tilt_words.proofs.Determined.{after_bind, alone, no_begins, behind_first, first_begins, same_settings as one_settings}
 use Rattle.tilt_words.proofs.Fronts.{not_option}
 use Rattle.tilt_words.proofs.OneCommand.{rebuilt, rebuilt_same, only_try, only_file, file_command, two_words}
@@ -108,6 +109,7 @@ record SameSettings (x y : Settings) : Type 0 where
   save : x.save ≡ y.save
   at : x.at ≡ y.at
   order : x.order ≡ y.order
+  edits : x.edits ≡ y.edits
 
 settings_same : (x y : Settings) → SameSettings x y → x ≡ y
 settings_same x y e = λ i. record {
@@ -119,12 +121,13 @@ settings_same x y e = λ i. record {
   save = e.save i;
   at = e.at i;
   order = e.order i;
+  edits = e.edits i;
 }
 
 same_settings : (x y : Settings) → Known (x ≡ y)
 same_settings x y =
     known_as (λ (e : (x.binds ≡ y.binds) × ((x.plain ≡ y.plain) × ((x.end ≡ y.end) × ((x.cuts ≡ y.cuts) × ((x.upto ≡ y.upto)
-    × ((x.save ≡ y.save) × ((x.at ≡ y.at) × (x.order ≡ y.order)))))))).
+    × ((x.save ≡ y.save) × ((x.at ≡ y.at) × ((x.order ≡ y.order) × (x.edits ≡ y.edits))))))))).
     settings_same x y (record {
       binds = e.0;
       plain = e.1.0;
@@ -133,7 +136,8 @@ same_settings x y =
       upto = e.1.1.1.1.0;
       save = e.1.1.1.1.1.0;
       at = e.1.1.1.1.1.1.0;
-      order = e.1.1.1.1.1.1.1;
+      order = e.1.1.1.1.1.1.1.0;
+      edits = e.1.1.1.1.1.1.1.1;
     }))
     (λ e. (
       ap (λ (s : Settings). s.binds) e,
@@ -145,7 +149,10 @@ same_settings x y =
             ap (λ (s : Settings). s.cuts) e,
             (
               ap (λ (s : Settings). s.upto) e,
-              (ap (λ (s : Settings). s.save) e, (ap (λ (s : Settings). s.at) e, ap (λ (s : Settings). s.order) e)),
+              (
+                ap (λ (s : Settings). s.save) e,
+                (ap (λ (s : Settings). s.at) e, (ap (λ (s : Settings). s.order) e, ap (λ (s : Settings). s.edits) e)),
+              ),
             ),
           ),
         ),
@@ -153,7 +160,7 @@ same_settings x y =
     ))
     (both (same_lists same_bindings x.binds y.binds) (both (same_bools x.plain y.plain) (both (same_bools x.end y.end)
     (both (same_lists same_integers x.cuts y.cuts) (both (same_options same_uptos x.upto y.upto) (both (same_options same_bytes x.save y.save)
-    (both (same_lists same_integers x.at y.at) (same_lists same_numbers x.order y.order))))))))
+    (both (same_lists same_integers x.at y.at) (both (same_lists same_numbers x.order y.order) (same_options same_bytes x.edits y.edits)))))))))
 
 same_calls : (x y : Call) → Known (x ≡ y)
 same_calls x y =
@@ -368,6 +375,14 @@ by_order old (value ∷ tail) =
       | inr stood ↦ inr (λ new rest begins. stood (after_order begins value tail refl).fresh)
     ]
 
+by_edits : (old : Settings) (tail : List (List ℕ)) → MayBegin old (codes "--edits" ∷ tail)
+by_edits old [] = inr (λ new rest begins. alone begins (codes "--edits") refl edits refl refl)
+by_edits old (value ∷ tail) =
+    elim (both (is_none old.edits) (some_bytes value)) [
+      | inl h ↦ inl (record { new = record old { edits = Some value }; rest = tail; begins = argument.edits h.0 h.1; shorter = omega arith })
+      | inr n ↦ inr (λ new rest begins. let given = after_edits begins value tail refl in n (given.0, given.1))
+    ]
+
 by_bind : (old : Settings) (word : List ℕ) (tail : List (List ℕ)) → (IsOption word → ⊥) → MayBegin old (word ∷ tail)
 by_bind old word tail no_option =
     elim (known_binding (binding_spelled word)) [
@@ -394,7 +409,10 @@ begun_or_none old (word ∷ tail) =
                 | inl e ↦ at (codes "--at") (by_at old tail) e
                 | inr no_at ↦ elim (same_bytes word (codes "--order")) [
                   | inl e ↦ at (codes "--order") (by_order old tail) e
-                  | inr no_order ↦ by_bind old word tail (not_option word no_plain no_end no_cut no_upto no_save no_at no_order)
+                  | inr no_order ↦ elim (same_bytes word (codes "--edits")) [
+                    | inl e ↦ at (codes "--edits") (by_edits old tail) e
+                    | inr no_edits ↦ by_bind old word tail (not_option word no_plain no_end no_cut no_upto no_save no_at no_order no_edits)
+                  ]
                 ]
               ]
             ]

@@ -20,6 +20,7 @@ pub data IsOption : List ℕ → Type 0 where
   save : IsOption (codes "--save")
   parts_at : IsOption (codes "--at")
   order : IsOption (codes "--order")
+  edits : IsOption (codes "--edits")
 
 -- no option is a bind
 no_bind : {option : List ℕ} → IsOption option → (word : List ℕ) → word ≡ option → IsBinding (binding_spelled word) → ⊥
@@ -30,14 +31,15 @@ no_bind upto word e is = false≢true (subst (λ w. IsBinding (binding_spelled w
 no_bind save word e is = false≢true (subst (λ w. IsBinding (binding_spelled w)) e is).named
 no_bind parts_at word e is = false≢true (subst (λ w. IsBinding (binding_spelled w)) e is).named
 no_bind order word e is = false≢true (subst (λ w. IsBinding (binding_spelled w)) e is).named
+no_bind edits word e is = false≢true (subst (λ w. IsBinding (binding_spelled w)) e is).named
 
--- the third byte of the first word, in which the options differ
-abbrev third : List (List ℕ) → ℕ
-third [] = 0
-third (word ∷ words) = get_or word 2 0
+-- the fourth byte of the first word, in which the options differ
+abbrev fourth : List (List ℕ) → ℕ
+fourth [] = 0
+fourth (word ∷ words) = get_or word 3 0
 
-clash : {words others : List (List ℕ)} → words ≡ others → (third words == third others) ≡ false → ⊥
-clash {words} {others} e differ = let same : third words ≡ third others = ap third e in grind (arith, nat_tests)
+clash : {words others : List (List ℕ)} → words ≡ others → (fourth words == fourth others) ≡ false → ⊥
+clash {words} {others} e differ = let same : fourth words ≡ fourth others = ap fourth e in grind (arith, nat_tests)
 
 -- what `--cut`, `--upto`, `--at` and `--order` give
 pub record GivesCuts (old new : Settings) (value : List ℕ) (rest tail : List (List ℕ)) : Type 0 where
@@ -79,6 +81,7 @@ after_plain (argument.upto fresh is) tail e = absurd (clash e refl)
 after_plain (argument.save fresh some) tail e = absurd (clash e refl)
 after_plain (argument.parts_at fresh are) tail e = absurd (clash e refl)
 after_plain (argument.order fresh are) tail e = absurd (clash e refl)
+after_plain (argument.edits fresh some) tail e = absurd (clash e refl)
 
 pub after_end : {old new : Settings} {words rest : List (List ℕ)} → Begins old words new rest → (tail : List (List ℕ)) →
     words ≡ codes "--end" ∷ tail → (old.end ≡ false) × (new ≡ record old { end = true }) × (rest ≡ tail)
@@ -90,6 +93,7 @@ after_end (argument.upto fresh is) tail e = absurd (clash e refl)
 after_end (argument.save fresh some) tail e = absurd (clash e refl)
 after_end (argument.parts_at fresh are) tail e = absurd (clash e refl)
 after_end (argument.order fresh are) tail e = absurd (clash e refl)
+after_end (argument.edits fresh some) tail e = absurd (clash e refl)
 
 pub after_cut : {old new : Settings} {words rest : List (List ℕ)} → Begins old words new rest →
     (value : List ℕ) (tail : List (List ℕ)) → words ≡ codes "--cut" ∷ value ∷ tail → GivesCuts old new value rest tail
@@ -103,6 +107,7 @@ after_cut (argument.upto fresh is) value tail e = absurd (clash e refl)
 after_cut (argument.save fresh some) value tail e = absurd (clash e refl)
 after_cut (argument.parts_at fresh are) value tail e = absurd (clash e refl)
 after_cut (argument.order fresh are) value tail e = absurd (clash e refl)
+after_cut (argument.edits fresh some) value tail e = absurd (clash e refl)
 
 pub after_upto : {old new : Settings} {words rest : List (List ℕ)} → Begins old words new rest →
     (value : List ℕ) (tail : List (List ℕ)) → words ≡ codes "--upto" ∷ value ∷ tail → GivesUpto old new value rest tail
@@ -116,6 +121,7 @@ after_upto (argument.upto {value = v} {given = g} fresh is) value tail e =
 after_upto (argument.save fresh some) value tail e = absurd (clash e refl)
 after_upto (argument.parts_at fresh are) value tail e = absurd (clash e refl)
 after_upto (argument.order fresh are) value tail e = absurd (clash e refl)
+after_upto (argument.edits fresh some) value tail e = absurd (clash e refl)
 
 pub after_save : {old new : Settings} {words rest : List (List ℕ)} → Begins old words new rest →
     (value : List ℕ) (tail : List (List ℕ)) → words ≡ codes "--save" ∷ value ∷ tail →
@@ -130,6 +136,7 @@ after_save (argument.save {file = v} fresh some) value tail e =
     (fresh, subst (λ w. w ≢ []) same some, (cc), (cc))
 after_save (argument.parts_at fresh are) value tail e = absurd (clash e refl)
 after_save (argument.order fresh are) value tail e = absurd (clash e refl)
+after_save (argument.edits fresh some) value tail e = absurd (clash e refl)
 
 pub after_at : {old new : Settings} {words rest : List (List ℕ)} → Begins old words new rest →
     (value : List ℕ) (tail : List (List ℕ)) → words ≡ codes "--at" ∷ value ∷ tail → GivesAt old new value rest tail
@@ -143,6 +150,7 @@ after_at (argument.parts_at {value = v} {times = ts} fresh are) value tail e =
     let same : v ≡ value = cc in
     record { fresh = fresh; times = ts; are = subst (λ w. AreRising (pos 1) (neg_ℤ T) T w ts) same are; gives = refl; rests = cc }
 after_at (argument.order fresh are) value tail e = absurd (clash e refl)
+after_at (argument.edits fresh some) value tail e = absurd (clash e refl)
 
 pub after_order : {old new : Settings} {words rest : List (List ℕ)} → Begins old words new rest →
     (value : List ℕ) (tail : List (List ℕ)) → words ≡ codes "--order" ∷ value ∷ tail → GivesOrder old new value rest tail
@@ -156,6 +164,22 @@ after_order (argument.parts_at fresh are) value tail e = absurd (clash e refl)
 after_order (argument.order {value = v} {parts = ps} fresh are) value tail e =
     let same : v ≡ value = cc in
     record { fresh = fresh; parts = ps; are = subst (λ w. AreUpTo 4294967295 w ps) same are; gives = refl; rests = cc }
+after_order (argument.edits fresh some) value tail e = absurd (clash e refl)
+
+pub after_edits : {old new : Settings} {words rest : List (List ℕ)} → Begins old words new rest →
+    (value : List ℕ) (tail : List (List ℕ)) → words ≡ codes "--edits" ∷ value ∷ tail →
+    (old.edits ≡ None) × (value ≢ []) × (new ≡ record old { edits = Some value }) × (rest ≡ tail)
+after_edits (argument.bind {word = word} is) value tail e = let heads : word ≡ codes "--edits" = cc in absurd (no_bind edits word heads is)
+after_edits (argument.plain fresh) value tail e = absurd (clash e refl)
+after_edits (argument.end fresh) value tail e = absurd (clash e refl)
+after_edits (argument.cut fresh are) value tail e = absurd (clash e refl)
+after_edits (argument.upto fresh is) value tail e = absurd (clash e refl)
+after_edits (argument.save fresh some) value tail e = absurd (clash e refl)
+after_edits (argument.parts_at fresh are) value tail e = absurd (clash e refl)
+after_edits (argument.order fresh are) value tail e = absurd (clash e refl)
+after_edits (argument.edits {file = v} fresh some) value tail e =
+    let same : v ≡ value = cc in
+    (fresh, subst (λ w. w ≢ []) same some, (cc), (cc))
 
 -- what words give that begin with no option
 pub after_bind : {old new : Settings} {words rest : List (List ℕ)} → Begins old words new rest →
@@ -171,6 +195,7 @@ after_bind (argument.upto fresh is) word tail e none = let same : codes "--upto"
 after_bind (argument.save fresh some) word tail e none = let same : codes "--save" ≡ word = cc in absurd (none (subst IsOption same save))
 after_bind (argument.parts_at fresh are) word tail e none = let same : codes "--at" ≡ word = cc in absurd (none (subst IsOption same parts_at))
 after_bind (argument.order fresh are) word tail e none = let same : codes "--order" ≡ word = cc in absurd (none (subst IsOption same order))
+after_bind (argument.edits fresh some) word tail e none = let same : codes "--edits" ≡ word = cc in absurd (none (subst IsOption same edits))
 
 -- words begin with one argument, and give one thing with it
 pub same_begins : {old new other : Settings} {words rest others : List (List ℕ)} → Begins old words new rest →
@@ -197,10 +222,11 @@ same_begins (argument.order {old = old} {value = value} {rest = rest} {parts = p
     let g = after_order b value rest refl in
     let same = same_parts 4294967295 value parts g.parts are g.are in
     (ap (λ ps. record old { order = ps }) same ∙ sym g.gives, sym g.rests)
+same_begins (argument.edits {file = file} {rest = rest} fresh some) b = let g = after_edits b file rest refl in (sym g.2, sym g.3)
 
 -- none begin with an option that has a value, and have none
 pub alone : {old new : Settings} {words rest : List (List ℕ)} → Begins old words new rest → (option : List ℕ) → words ≡ option ∷ [] →
-    IsOption option → (112 == get_or option 2 0) ≡ false → (101 == get_or option 2 0) ≡ false → ⊥
+    IsOption option → (108 == get_or option 3 0) ≡ false → (110 == get_or option 3 0) ≡ false → ⊥
 alone (argument.bind {word = word} is) option e o p q = let heads : word ≡ option = cc in no_bind o word heads is
 alone (argument.plain fresh) option e o p q = clash e p
 alone (argument.end fresh) option e o p q = clash e q
@@ -209,6 +235,7 @@ alone (argument.upto fresh is) option e o p q = cc
 alone (argument.save fresh some) option e o p q = cc
 alone (argument.parts_at fresh are) option e o p q = cc
 alone (argument.order fresh are) option e o p q = cc
+alone (argument.edits fresh some) option e o p q = cc
 
 -- no words begin with none
 pub no_begins : {old new : Settings} {words rest : List (List ℕ)} → Begins old words new rest → words ≡ [] → ⊥
@@ -220,6 +247,7 @@ no_begins (argument.upto fresh is) e = cc
 no_begins (argument.save fresh some) e = cc
 no_begins (argument.parts_at fresh are) e = cc
 no_begins (argument.order fresh are) e = cc
+no_begins (argument.edits fresh some) e = cc
 
 -- what no words give, and what words give behind their first argument
 pub behind_none : {old new : Settings} {words : List (List ℕ)} → AreArguments old words new → words ≡ [] → new ≡ old

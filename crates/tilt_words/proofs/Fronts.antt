@@ -4,7 +4,7 @@ use Rattle.std.specs.declared.alloc.Global.{Global}
 use Rattle.std.proofs.lemmas.List.{take_rest}
 use Rattle.tilt_words.specs.Arguments.{Settings, Begins}
 use Rattle.tilt_words.specs.Command.{texts}
-use Rattle.tilt_words.proofs.Determined.{IsOption, plain, end, cut, upto, save, parts_at, order}
+use Rattle.tilt_words.proofs.Determined.{IsOption, plain, end, cut, upto, save, parts_at, order, edits}
 
 -- the text of the first word, and the others
 pub first_text : (words : List (String Global)) (word : String Global) (text : List ℕ) → 0 < length words →
@@ -35,11 +35,12 @@ moved {old} {new} {new'} {words} {words'} {rest} {rest'} begins w n r =
 
 -- a word that is none of them is no option
 pub not_option : (word : List ℕ) → word ≢ codes "--plain" → word ≢ codes "--end" → word ≢ codes "--cut" → word ≢ codes "--upto" →
-    word ≢ codes "--save" → word ≢ codes "--at" → word ≢ codes "--order" → IsOption word → ⊥
-not_option word p e c u s a o plain = p refl
-not_option word p e c u s a o end = e refl
-not_option word p e c u s a o cut = c refl
-not_option word p e c u s a o upto = u refl
-not_option word p e c u s a o save = s refl
-not_option word p e c u s a o parts_at = a refl
-not_option word p e c u s a o order = o refl
+    word ≢ codes "--save" → word ≢ codes "--at" → word ≢ codes "--order" → word ≢ codes "--edits" → IsOption word → ⊥
+not_option word p e c u s a o d plain = p refl
+not_option word p e c u s a o d end = e refl
+not_option word p e c u s a o d cut = c refl
+not_option word p e c u s a o d upto = u refl
+not_option word p e c u s a o d save = s refl
+not_option word p e c u s a o d parts_at = a refl
+not_option word p e c u s a o d order = o refl
+not_option word p e c u s a o d edits = d refl

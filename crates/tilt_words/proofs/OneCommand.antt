@@ -4,7 +4,7 @@ use Rattle.std.proofs.lemmas.Bool.Decides.{nat_tests}
 use Rattle.std.proofs.lemmas.Option.{same_Some, none-some}
 use Rattle.tilt_base.specs.Number.{integer_spelled}
 use Rattle.tilt_words.specs.Arguments.{no_settings, AreArguments}
-use Rattle.tilt_words.specs.Command.{Call, CommandValue, IsCommand, IsFileCommand, IsTry, call_of, run, compile, exec, explain, start, resume_upto, resume_end, pipe, watch, parts, try}
+use Rattle.tilt_words.specs.Command.{Call, CommandValue, IsCommand, IsFileCommand, IsTry, call_of, run, compile, exec, explain, start, resume_upto, resume_end, pipe, watch, parts, flow, fix, try}
 use Rattle.tilt_words.specs.Upto.{all}
 use Rattle.tilt_words.proofs.Determined.{same_settings}
 
@@ -24,6 +24,8 @@ rebuilt call =
     else if third call == 97 then start file s.binds s.plain (unwrap_or s.upto (all (pos 0))) (unwrap_or s.save [])
     else if third call == 115 then (if s.end then resume_end file s.binds s.plain else resume_upto file s.binds s.plain (unwrap_or s.upto (all (pos 0))) (unwrap_or s.save []))
     else if third call == 114 then parts file s.binds s.plain s.at s.order
+    else if third call == 111 then flow file s.binds s.plain
+    else if third call == 120 then fix file s.binds s.plain (unwrap_or s.edits [])
     else watch file s.binds s.plain
 
 pub rebuilt_same : (command : CommandValue) (call : Call) → call_of command ≡ Some call → rebuilt call ≡ command

@@ -47,6 +47,7 @@ one_within (argument.save fresh some) before = record { cuts = before.cuts; upto
 one_within (argument.parts_at {value = value} {times = times} fresh are) before =
     record { cuts = before.cuts; upto = before.upto; at = climbs (neg_ℤ T) T value times are }
 one_within (argument.order fresh are) before = record { cuts = before.cuts; upto = before.upto; at = before.at }
+one_within (argument.edits fresh some) before = record { cuts = before.cuts; upto = before.upto; at = before.at }
 
 all_within : {old new : Settings} {words : List (List ℕ)} → AreArguments old words new → AreWithin old → AreWithin new
 all_within argument.none before = before

@@ -23,10 +23,13 @@ pub record Settings : Type 0 where
   pub at : List ℤ
   -- the numbers of `--order`, of which there is none where it doesn't stand
   pub order : List ℕ
+  -- the file of `--edits`
+  pub edits : Option (List ℕ)
 
 -- what no words give
 abbrev pub no_settings : Settings
-no_settings = record { binds = []; plain = false; end = false; cuts = []; upto = None; save = None; at = []; order = [] }
+no_settings =
+    record { binds = []; plain = false; end = false; cuts = []; upto = None; save = None; at = []; order = []; edits = None }
 
 -- The words begin with an argument and go on with the rest; the words before gave `old`, and with the argument they give `new`.
 -- An option stands only where it didn't stand before.
@@ -55,6 +58,9 @@ pub data Begins : (old : Settings) (words : List (List ℕ)) (new : Settings) (r
   -- `--order PART,PART ..`
   order : {old : Settings} {value : List ℕ} {rest : List (List ℕ)} {parts : List ℕ} → old.order ≡ []
       → AreUpTo 4294967295 value parts → Begins old (codes "--order" ∷ value ∷ rest) (record old { order = parts }) rest
+  -- `--edits FILE`
+  edits : {old : Settings} {file : List ℕ} {rest : List (List ℕ)} → old.edits ≡ None → file ≢ [] →
+      Begins old (codes "--edits" ∷ file ∷ rest) (record old { edits = Some file }) rest
 
 -- the words are arguments, one after another; the words before them gave `old`, and with them they give `new`
 pub data AreArguments : (old : Settings) (words : List (List ℕ)) (new : Settings) → Type 0 where

@@ -26,6 +26,8 @@ pub data CommandValue : Type 0 where
   pipe : (query : List ℕ) (binds : List Binding) (plain : Bool) → CommandValue
   watch : (query : List ℕ) (binds : List Binding) (plain : Bool) → CommandValue
   parts : (query : List ℕ) (binds : List Binding) (plain : Bool) (at : List ℤ) (order : List ℕ) → CommandValue
+  flow : (flow : List ℕ) (binds : List Binding) (plain : Bool) → CommandValue
+  fix : (query : List ℕ) (binds : List Binding) (plain : Bool) (edits : List ℕ) → CommandValue
   try : (seed count : ℕ) → CommandValue
 
 -- a command's first word, its file, and what else it is given
@@ -73,6 +75,14 @@ call_of (parts query binds plain (first ∷ later) order) =
       file = query;
       settings = record no_settings { binds = binds; plain = plain; at = first ∷ later; order = order };
     })
+call_of (flow pipeline binds plain) =
+    Some (record { name = codes "flow"; file = pipeline; settings = record no_settings { binds = binds; plain = plain } })
+call_of (fix query binds plain edits) =
+    Some (record {
+      name = codes "fix";
+      file = query;
+      settings = record no_settings { binds = binds; plain = plain; edits = Some edits };
+    })
 call_of (try seed count) = None
 
 -- a file that may stand behind a command's first word: not empty, and it doesn't begin with `--`
@@ -112,6 +122,8 @@ is_plain (resume_end checkpoint binds plain) = plain
 is_plain (pipe query binds plain) = plain
 is_plain (watch query binds plain) = plain
 is_plain (parts query binds plain at order) = plain
+is_plain (flow pipeline binds plain) = plain
+is_plain (fix query binds plain edits) = plain
 is_plain command = false
 
 -- the numbers of a command lie between their bounds, and its cuts are in order
@@ -137,4 +149,6 @@ command_of (variant.ResumeEnd file binds plain) = resume_end (string_bytes file)
 command_of (variant.Pipe query binds plain) = pipe (string_bytes query) (bindings_of binds.items) plain
 command_of (variant.Watch query binds plain) = watch (string_bytes query) (bindings_of binds.items) plain
 command_of (variant.Parts query binds plain at order) = parts (string_bytes query) (bindings_of binds.items) plain at.items order.items
+command_of (variant.Flow pipeline binds plain) = flow (string_bytes pipeline) (bindings_of binds.items) plain
+command_of (variant.Fix query binds plain edits) = fix (string_bytes query) (bindings_of binds.items) plain (string_bytes edits)
 command_of (variant.Try seed count) = try seed count

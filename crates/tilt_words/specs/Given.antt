@@ -19,6 +19,7 @@ settings_of arguments = record {
   save = option_map (λ s. string_bytes s) arguments.save;
   at = arguments.at.items;
   order = arguments.order.items;
+  edits = option_map (λ s. string_bytes s) arguments.edits;
 }
 
 -- the call with this first word, this file and these arguments

@@ -29,6 +29,7 @@ pub(crate) struct Arguments {
     pub(crate) at: Vec<i64>,
     // Empty where `--order` doesn't stand.
     pub(crate) order: Vec<u32>,
+    pub(crate) edits: Option<String>,
 }
 
 impl Arguments {
@@ -59,6 +60,7 @@ impl Arguments {
             save: None,
             at: Vec::new(alloc),
             order: Vec::new(alloc),
+            edits: None,
         }
     }
 
@@ -68,6 +70,15 @@ impl Arguments {
         ensures some { result ≡ true → self.now.at.items ≡ [] → self.now.order.items ≢ [] }
     {
         !self.at.is_empty() || !self.order.is_empty()
+    }
+
+    // Whether `--at`, `--order` or `--edits` stands.
+    pub(crate) fn has_parts_or_edits(&self) -> bool
+        ensures none { result ≡ false →
+            (self.now.at.items ≡ []) × (self.now.order.items ≡ []) × ((settings_of self.now).edits ≡ None) }
+        ensures some { result ≡ true → self.now.at.items ≡ [] → self.now.order.items ≡ [] → (settings_of self.now).edits ≢ None }
+    {
+        self.has_parts() || self.edits.is_some()
     }
 
     // Takes the argument with which the words begin, and answers how many words it has.
@@ -107,6 +118,10 @@ impl Arguments {
             }
             "--order" => {
                 self.take_order(alloc, value(rest)?)?;
+                Ok(2)
+            }
+            "--edits" => {
+                self.take_edits(alloc, value(rest)?)?;
                 Ok(2)
             }
             word => {
@@ -225,6 +240,20 @@ impl Arguments {
             return Err(WordsFault::Usage);
         }
         self.order = read_numbers(alloc, value)?;
+        Ok(())
+    }
+
+    // Notes the value of `--edits`, where it didn't stand before.
+    fn take_edits(&mut self, alloc: Global, value: &str) -> Result<(), WordsFault>
+        ensures { MatchResult result
+            (λ _. ((settings_of self.old).edits ≡ None) × (value.now ≢ [])
+            × (settings_of self.new ≡ record (settings_of self.old) { edits = Some value.now }))
+            (λ fault. fault ≡ WordsFault.Usage → (settings_of self.old).edits ≡ None → value.now ≡ []) }
+    {
+        if self.edits.is_some() || value.is_empty() {
+            return Err(WordsFault::Usage);
+        }
+        self.edits = Some(String::from_str(alloc, value)?);
         Ok(())
     }
 }

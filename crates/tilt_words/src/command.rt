@@ -78,6 +78,20 @@ pub enum Command {
         /// The parts, numbered from 0, from each of which one more snapshot is taken, in this order, before the others are.
         order: Vec<u32>,
     },
+    /// Run a pipeline of operators on the files that are bound.
+    Flow {
+        flow: String,
+        binds: Vec<Bind>,
+        plain: bool,
+    },
+    /// Run the query on the files that are bound, correct rows of theirs, and tell which times each correction reaches.
+    Fix {
+        query: String,
+        binds: Vec<Bind>,
+        plain: bool,
+        /// The file of the corrections.
+        edits: String,
+    },
     /// Run a fixed query on rows that are drawn from a seed.
     Try {
         /// At most 2147483647.
@@ -100,7 +114,9 @@ impl Command {
             | Command::ResumeEnd { plain, .. }
             | Command::Pipe { plain, .. }
             | Command::Watch { plain, .. }
-            | Command::Parts { plain, .. } => *plain,
+            | Command::Parts { plain, .. }
+            | Command::Flow { plain, .. }
+            | Command::Fix { plain, .. } => *plain,
             Command::Exec { .. } | Command::Explain { .. } | Command::Try { .. } => false,
         }
     }
@@ -119,6 +135,8 @@ impl Command {
             "pipe" => pipe(file, arguments),
             "watch" => watch(file, arguments),
             "parts" => parts(file, arguments),
+            "flow" => flow(file, arguments),
+            "fix" => fix(file, arguments),
             _ => None,
         }
     }
@@ -128,7 +146,7 @@ impl Command {
 fn run(query: String, arguments: Arguments) -> Option<Command>
     ensures { IsCalled (call_with (codes "run") query arguments) result }
 {
-    if arguments.has_parts() {
+    if arguments.has_parts_or_edits() {
         return None;
     }
     match (arguments.end, arguments.upto, arguments.save) {
@@ -146,7 +164,7 @@ fn run(query: String, arguments: Arguments) -> Option<Command>
 fn compile(query: String, arguments: Arguments) -> Option<Command>
     ensures { IsCalled (call_with (codes "compile") query arguments) result }
 {
-    if arguments.has_parts() || !arguments.binds.is_empty() || !arguments.cuts.is_empty() {
+    if arguments.has_parts_or_edits() || !arguments.binds.is_empty() || !arguments.cuts.is_empty() {
         return None;
     }
     match (arguments.end, arguments.upto, arguments.save) {
@@ -162,7 +180,7 @@ fn compile(query: String, arguments: Arguments) -> Option<Command>
 fn exec(code: String, arguments: Arguments) -> Option<Command>
     ensures { IsCalled (call_with (codes "exec") code arguments) result }
 {
-    if arguments.has_parts() || arguments.plain || !arguments.cuts.is_empty() {
+    if arguments.has_parts_or_edits() || arguments.plain || !arguments.cuts.is_empty() {
         return None;
     }
     match (arguments.end, arguments.upto, arguments.save) {
@@ -178,7 +196,7 @@ fn exec(code: String, arguments: Arguments) -> Option<Command>
 fn explain(query: String, arguments: Arguments) -> Option<Command>
     ensures { IsCalled (call_with (codes "explain") query arguments) result }
 {
-    if arguments.has_parts() || !arguments.binds.is_empty() {
+    if arguments.has_parts_or_edits() || !arguments.binds.is_empty() {
         return None;
     }
     if arguments.plain || !arguments.cuts.is_empty() {
@@ -194,7 +212,7 @@ fn explain(query: String, arguments: Arguments) -> Option<Command>
 fn start(query: String, arguments: Arguments) -> Option<Command>
     ensures { IsCalled (call_with (codes "start") query arguments) result }
 {
-    if arguments.has_parts() || !arguments.cuts.is_empty() {
+    if arguments.has_parts_or_edits() || !arguments.cuts.is_empty() {
         return None;
     }
     match (arguments.end, arguments.upto, arguments.save) {
@@ -213,7 +231,7 @@ fn start(query: String, arguments: Arguments) -> Option<Command>
 fn resume(file: String, arguments: Arguments) -> Option<Command>
     ensures { IsCalled (call_with (codes "resume") file arguments) result }
 {
-    if arguments.has_parts() || !arguments.cuts.is_empty() {
+    if arguments.has_parts_or_edits() || !arguments.cuts.is_empty() {
         return None;
     }
     match (arguments.end, arguments.upto, arguments.save) {
@@ -237,7 +255,7 @@ fn resume(file: String, arguments: Arguments) -> Option<Command>
 fn pipe(query: String, arguments: Arguments) -> Option<Command>
     ensures { IsCalled (call_with (codes "pipe") query arguments) result }
 {
-    if arguments.has_parts() || !arguments.cuts.is_empty() {
+    if arguments.has_parts_or_edits() || !arguments.cuts.is_empty() {
         return None;
     }
     match (arguments.end, arguments.upto, arguments.save) {
@@ -254,7 +272,7 @@ fn pipe(query: String, arguments: Arguments) -> Option<Command>
 fn watch(query: String, arguments: Arguments) -> Option<Command>
     ensures { IsCalled (call_with (codes "watch") query arguments) result }
 {
-    if arguments.has_parts() || !arguments.cuts.is_empty() {
+    if arguments.has_parts_or_edits() || !arguments.cuts.is_empty() {
         return None;
     }
     match (arguments.end, arguments.upto, arguments.save) {
@@ -271,7 +289,7 @@ fn watch(query: String, arguments: Arguments) -> Option<Command>
 fn parts(query: String, arguments: Arguments) -> Option<Command>
     ensures { IsCalled (call_with (codes "parts") query arguments) result }
 {
-    if arguments.at.is_empty() || !arguments.cuts.is_empty() {
+    if arguments.at.is_empty() || arguments.edits.is_some() || !arguments.cuts.is_empty() {
         return None;
     }
     match (arguments.end, arguments.upto, arguments.save) {
@@ -281,6 +299,46 @@ fn parts(query: String, arguments: Arguments) -> Option<Command>
             plain: arguments.plain,
             at: arguments.at,
             order: arguments.order,
+        }),
+        _ => None,
+    }
+}
+
+// `flow`, with `--plain` or without.
+fn flow(flow: String, arguments: Arguments) -> Option<Command>
+    ensures { IsCalled (call_with (codes "flow") flow arguments) result }
+{
+    if arguments.has_parts_or_edits() || !arguments.cuts.is_empty() {
+        return None;
+    }
+    match (arguments.end, arguments.upto, arguments.save) {
+        (false, None, None) => Some(Command::Flow {
+            flow,
+            binds: arguments.binds,
+            plain: arguments.plain,
+        }),
+        _ => None,
+    }
+}
+
+// `fix`, with `--edits`, and with `--plain` or without.
+fn fix(query: String, arguments: Arguments) -> Option<Command>
+    ensures { IsCalled (call_with (codes "fix") query arguments) result }
+{
+    if arguments.has_parts() || !arguments.cuts.is_empty() {
+        return None;
+    }
+    match (
+        arguments.end,
+        arguments.upto,
+        arguments.save,
+        arguments.edits,
+    ) {
+        (false, None, None, Some(edits)) => Some(Command::Fix {
+            query,
+            binds: arguments.binds,
+            plain: arguments.plain,
+            edits,
         }),
         _ => None,
     }

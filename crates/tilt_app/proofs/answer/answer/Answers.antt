@@ -46,6 +46,15 @@ parts-requires-clause-cuts g c =
     let within = rw c.in-Parts.is at c.requires.within in
     rw (c.division.ensures.cuts, c.deref-in-Parts-3.ensures.value) within
 
+pub flow-requires : goal.flow-requires
+flow-requires g c =
+    λ name turn. c.requires.lent [] name (rw c.in-Flow.is (rw (c.deref-in-Flow.ensures, c.deref-in-Flow-2.ensures.value) at turn))
+
+pub fix-requires : goal.fix-requires
+fix-requires g c =
+    λ name turn. c.requires.lent [] name
+    (rw c.in-Fix.is (rw (c.deref-in-Fix.ensures, c.deref-in-Fix-2.ensures.value, c.deref-in-Fix-3.ensures) at turn))
+
 pub start_session-requires-clause-lent : goal.start_session-requires-clause-lent
 start_session-requires-clause-lent g c =
     λ name turn. c.requires.lent [] name

@@ -3,7 +3,7 @@ use Rattle.std.proofs.lemmas.Bool.{false≢true}
 use Rattle.std.proofs.lemmas.Result.{err_from_is_err_and}
 use Rattle.tilt_words.specs.Arguments as argument
 use Rattle.tilt_words.specs.Command.{texts}
-use Rattle.tilt_words.proofs.Determined.{after_plain, after_end, after_cut, after_upto, after_save, after_at, after_order, after_bind}
+use Rattle.tilt_words.proofs.Determined.{after_plain, after_end, after_cut, after_upto, after_save, after_at, after_order, after_edits, after_bind}
 use Rattle.tilt_words.proofs.Fronts.{first_text, second_text, moved, not_option}
 use Rattle.tilt_words.proofs.arguments.Arguments.take.Goals as goal
 
@@ -151,13 +151,36 @@ returns-in_ok-take_order-in-text-7 c =
     let gives = c.in_ok-take_order-in-text-7.ensures in
     (omega arith, second.two, moved (argument.order gives.0 gives.1) (first ∙ ap (λ t. codes "--order" ∷ t) second.second) gives.2 refl)
 
+pub returns-in_err-take_edits-in-text-8 : goal.returns-in_err-take_edits-in-text-8
+returns-in_err-take_edits-in-text-8 c =
+    let words = c.args.words.now in
+    let first =
+    first_text words c.index-words-0.result (codes "--edits") c.requires c.index-words-0.is (sym c.as_str.ensures.value ∙ c.in-text-8.is) in
+    let value = c.in_ok-value-in-text-8.ensures in
+    let second = second_text words _ _ refl value.0 value.1 in
+    let p = err_from_is_err_and c.from_residual-in_err-take_edits-in-text-8.result c.from_residual-in_err-take_edits-in-text-8.ensures.1 in
+    rw (p.1, p.2) (λ usage new rest begins.
+    let given = after_edits begins _ (drop 2 (texts words)) (first ∙ ap (λ t. codes "--edits" ∷ t) second.second) in
+    given.1 (c.in_err-take_edits-in-text-8.ensures usage given.0))
+
+pub returns-in_ok-take_edits-in-text-8 : goal.returns-in_ok-take_edits-in-text-8
+returns-in_ok-take_edits-in-text-8 c =
+    let words = c.args.words.now in
+    let first =
+    first_text words c.index-words-0.result (codes "--edits") c.requires c.index-words-0.is (sym c.as_str.ensures.value ∙ c.in-text-8.is) in
+    let value = c.in_ok-value-in-text-8.ensures in
+    let second = second_text words _ _ refl value.0 value.1 in
+    let gives = c.in_ok-take_edits-in-text-8.ensures in
+    (omega arith, second.two, moved (argument.edits gives.0 gives.1) (first ∙ ap (λ t. codes "--edits" ∷ t) second.second) gives.2 refl)
+
 pub returns-in_err-take_bind-in_default : goal.returns-in_err-take_bind-in_default
 returns-in_err-take_bind-in_default c =
     let words = c.args.words.now in
     let word = c.as_str.result.now in
     let first = first_text words c.index-words-0.result word c.requires c.index-words-0.is (sym c.as_str.ensures.value) in
     let no_option =
-    not_option word c.in_default.not-text c.in_default.not-text-2 c.in_default.not-text-3 c.in_default.not-text-4 c.in_default.not-text-5 c.in_default.not-text-6 c.in_default.not-text-7 in
+    not_option word c.in_default.not-text c.in_default.not-text-2 c.in_default.not-text-3 c.in_default.not-text-4 c.in_default.not-text-5 c.in_default.not-text-6 c.in_default.not-text-7
+    c.in_default.not-text-8 in
     let p = err_from_is_err_and c.from_residual-in_err-take_bind-in_default.result c.from_residual-in_err-take_bind-in_default.ensures.1 in
     rw (p.1, p.2) (λ usage new rest begins.
     c.in_err-take_bind-in_default.ensures usage (after_bind begins word (drop 1 (texts words)) first no_option).0)
