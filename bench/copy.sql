@@ -1,0 +1,2 @@
+-- Reading and printing alone.
+select start, "end", value from x order by start;
