@@ -1,10 +1,13 @@
-// The files of the system, with calls that fail.
+// The files of the system, with calls that fail, reads that give one byte each, and writes that take a few.
 use std::alloc::Allocator;
 use std::cell::Cell;
 use std::fs::{Metadata, OpenFile, OpenOptions, Permissions};
 use std::io::{self, ErrorKind, Read, Seek, SeekFrom, Write};
 use std::path::PathBuf;
 use std::rt::Files;
+
+// How many bytes one read gives.
+const GIVEN: usize = 1;
 
 // How many of a piece's bytes one write takes.
 const TAKEN: usize = 3;
@@ -52,7 +55,8 @@ pub struct FaultyFile<'a, F> {
 impl<F: Read> Read for FaultyFile<'_, F> {
     fn read(&mut self, room: &mut [u8]) -> io::Result<usize> {
         self.faults.next()?;
-        self.file.read(room)
+        let count = room.len().min(GIVEN);
+        self.file.read(&mut room[..count])
     }
 }
 

@@ -7,8 +7,6 @@
 #[cfg(test)]
 mod faulty_files;
 #[cfg(test)]
-mod interrupted_files;
-#[cfg(test)]
 mod saves;
 #[cfg(test)]
 mod series;

@@ -4,6 +4,7 @@ use std::cell::Cell;
 use std::fs;
 use std::io::{self, ErrorKind};
 use std::os::unix::fs::{MetadataExt, PermissionsExt, symlink};
+use std::process::Abort;
 use std::rt::{Files, HostRuntime};
 use std::test::Fail;
 use tilt_outside::{DiskShelf, Failed, Shelf};
@@ -24,14 +25,24 @@ fn empty_folder(rt: &HostRuntime, folder: &str) -> io::Result<()> {
     fs::create_dir(rt, folder)
 }
 
+// Takes an entry of a folder for one name.
+fn one<E: Drop>(entry: io::Result<E>) -> io::Result<usize> {
+    entry?;
+    Ok(1)
+}
+
 // How many names the folder has.
 fn names_in(rt: &HostRuntime, folder: &str) -> io::Result<usize> {
     let mut count = 0usize;
     for entry in fs::read_dir(rt, folder)? {
-        entry?;
-        count = count.saturating_add(1);
+        count = count.saturating_add(one(entry)?);
     }
     Ok(count)
+}
+
+// Saves without faults.
+pub fn save(rt: &HostRuntime, name: &str, bytes: &[u8]) -> Result<(), Failed> {
+    DiskShelf::new(rt.alloc(), rt, PROGRAM).save(name, bytes)
 }
 
 // Saves the new bytes where the old ones stood, with faults of one kind from a call to another.
@@ -55,21 +66,34 @@ fn save_with(
     Ok(shelf.save(name, NEW))
 }
 
+// Saves with faults, and tells whether the save failed. The name holds the old bytes or the new ones, and the new ones where
+// the save didn't fail.
+fn fails_whole(
+    host: &HostRuntime,
+    rt: &impl Abort,
+    name: &str,
+    kind: ErrorKind,
+    first: u32,
+    last: u32,
+) -> io::Result<bool> {
+    let saved = save_with(host, name, kind, first, last)?;
+    let held = fs::read(host, name)?;
+    let is_new = held.as_slice() == NEW;
+    assert!(rt; is_new || held.as_slice() == OLD, "call {first}");
+    assert!(rt; is_new || saved == Err(Failed), "call {first}");
+    Ok(saved.is_err())
+}
+
 #[test]
 fn each_failing_call_leaves_the_old_or_the_new_bytes(rt: HostRuntime) -> Result<(), Fail> {
     empty_folder(&rt, "saves_failing")?;
     let name = "saves_failing/state";
     let mut failed = 0u32;
     for call in 1..CALLS {
-        let saved = save_with(&rt, name, ErrorKind::StorageFull, call, call)?;
-        let held = fs::read(&rt, name)?;
-        let is_new = held.as_slice() == NEW;
-        assert!(rt; is_new || held.as_slice() == OLD, "call {call}");
-        assert!(rt; is_new || saved == Err(Failed), "call {call}");
-        assert_eq!(rt; names_in(&rt, "saves_failing")?, 1, "call {call}");
-        if saved.is_err() {
+        if fails_whole(&rt, &rt, name, ErrorKind::StorageFull, call, call)? {
             failed = failed.saturating_add(1);
         }
+        assert_eq!(rt; names_in(&rt, "saves_failing")?, 1, "call {call}");
     }
     assert!(rt; failed > 10, "{failed}");
     fs::remove_dir_all(&rt, "saves_failing")?;
@@ -84,16 +108,11 @@ fn a_save_that_ends_at_any_call_leaves_the_old_or_the_new_bytes(
     let name = "saves_ended/state";
     let mut left = 0u32;
     for call in 1..CALLS {
-        let saved = save_with(&rt, name, ErrorKind::Other, call, u32::MAX)?;
-        let held = fs::read(&rt, name)?;
-        let is_new = held.as_slice() == NEW;
-        assert!(rt; is_new || held.as_slice() == OLD, "call {call}");
-        assert!(rt; is_new || saved == Err(Failed), "call {call}");
+        fails_whole(&rt, &rt, name, ErrorKind::Other, call, u32::MAX)?;
         if names_in(&rt, "saves_ended")? > 1 {
             left = left.saturating_add(1);
         }
-        let mut shelf = DiskShelf::new(rt.alloc(), &rt, PROGRAM);
-        assert_eq!(rt; shelf.save(name, OLD), Ok(()));
+        assert_eq!(rt; save(&rt, name, OLD), Ok(()));
         assert_eq!(rt; names_in(&rt, "saves_ended")?, 1, "call {call}");
     }
     assert!(rt; left > 3, "{left}");
@@ -106,9 +125,8 @@ fn an_interrupted_call_is_begun_again(rt: HostRuntime) -> Result<(), Fail> {
     empty_folder(&rt, "saves_interrupted")?;
     let name = "saves_interrupted/state";
     for call in 1..CALLS {
-        let saved = save_with(&rt, name, ErrorKind::Interrupted, call, call)?;
-        assert_eq!(rt; saved, Ok(()), "call {call}");
-        assert_eq!(rt; fs::read(&rt, name)?.as_slice(), NEW, "call {call}");
+        let is_failed = fails_whole(&rt, &rt, name, ErrorKind::Interrupted, call, call)?;
+        assert!(rt; !is_failed, "call {call}");
         assert_eq!(rt; names_in(&rt, "saves_interrupted")?, 1, "call {call}");
     }
     let saved = save_with(&rt, name, ErrorKind::Interrupted, 1, u32::MAX)?;
@@ -117,81 +135,100 @@ fn an_interrupted_call_is_begun_again(rt: HostRuntime) -> Result<(), Fail> {
     Ok(())
 }
 
+// The mode of a file that had this mode before a save.
+fn mode_kept(rt: &HostRuntime, name: &str, mode: u32) -> Result<u32, Fail> {
+    fs::set_permissions(rt, name, fs::Permissions::from_mode(mode))?;
+    save(rt, name, NEW)?;
+    Ok(fs::metadata(rt, name)?.mode() & 0o7777)
+}
+
 #[test]
 fn the_mode_of_the_old_file_is_kept(rt: HostRuntime) -> Result<(), Fail> {
     empty_folder(&rt, "saves_modes")?;
     let name = "saves_modes/state";
-    let mut shelf = DiskShelf::new(rt.alloc(), &rt, PROGRAM);
-    assert_eq!(rt; shelf.save(name, OLD), Ok(()));
+    assert_eq!(rt; save(&rt, name, OLD), Ok(()));
     for mode in [0o600u32, 0o640, 0o666, 0o755] {
-        fs::set_permissions(&rt, name, fs::Permissions::from_mode(mode))?;
-        assert_eq!(rt; shelf.save(name, NEW), Ok(()));
-        let found = fs::metadata(&rt, name)?.mode() & 0o7777;
-        assert_eq!(rt; found, mode);
+        assert_eq!(rt; mode_kept(&rt, name, mode)?, mode);
     }
     fs::remove_dir_all(&rt, "saves_modes")?;
     Ok(())
 }
 
+// A folder with a link that leads over a second one to a name.
+fn linked_folder(rt: &HostRuntime) -> io::Result<()> {
+    empty_folder(rt, "saves_links")?;
+    fs::create_dir(rt, "saves_links/below")?;
+    symlink(rt, "below/second", "saves_links/first")?;
+    symlink(rt, "../state", "saves_links/below/second")?;
+    symlink(rt, "around", "saves_links/around")
+}
+
+// What the name holds after a save by the first link.
+fn held_after(rt: &HostRuntime, bytes: &[u8]) -> Result<Vec<u8>, Fail> {
+    save(rt, "saves_links/first", bytes)?;
+    Ok(fs::read(rt, "saves_links/state")?)
+}
+
+fn is_link(rt: &HostRuntime, name: &str) -> io::Result<bool> {
+    Ok(fs::symlink_metadata(rt, name)?.is_symlink())
+}
+
 #[test]
 fn what_a_link_leads_to_is_replaced(rt: HostRuntime) -> Result<(), Fail> {
-    empty_folder(&rt, "saves_links")?;
-    fs::create_dir(&rt, "saves_links/below")?;
-    symlink(&rt, "below/second", "saves_links/first")?;
-    symlink(&rt, "../state", "saves_links/below/second")?;
-    let mut shelf = DiskShelf::new(rt.alloc(), &rt, PROGRAM);
-    for bytes in [OLD, NEW] {
-        assert_eq!(rt; shelf.save("saves_links/first", bytes), Ok(()));
-        let held = fs::read(&rt, "saves_links/state")?;
-        assert_eq!(rt; held.as_slice(), bytes);
-    }
-    for link in ["saves_links/first", "saves_links/below/second"] {
-        assert!(rt; fs::symlink_metadata(&rt, link)?.is_symlink(), "{link}");
-    }
-    symlink(&rt, "around", "saves_links/around")?;
-    assert_eq!(rt; shelf.save("saves_links/around", NEW), Err(Failed));
+    linked_folder(&rt)?;
+    assert_eq!(rt; held_after(&rt, OLD)?.as_slice(), OLD);
+    assert_eq!(rt; held_after(&rt, NEW)?.as_slice(), NEW);
+    assert!(rt; is_link(&rt, "saves_links/first")?);
+    assert!(rt; is_link(&rt, "saves_links/below/second")?);
+    assert_eq!(rt; save(&rt, "saves_links/around", NEW), Err(Failed));
     fs::remove_dir_all(&rt, "saves_links")?;
     Ok(())
 }
 
+const NO_FILES: &[&str] = &[
+    "saves_places",
+    "saves_places/",
+    "",
+    ".",
+    "saves_places/nowhere/state",
+];
+
 #[test]
 fn what_is_no_regular_file_is_written_in_place(rt: HostRuntime) -> Result<(), Fail> {
-    let mut shelf = DiskShelf::new(rt.alloc(), &rt, PROGRAM);
-    assert_eq!(rt; shelf.save("/dev/null", NEW), Ok(()));
+    assert_eq!(rt; save(&rt, "/dev/null", NEW), Ok(()));
     assert!(rt; !fs::metadata(&rt, "/dev/null")?.is_file());
     empty_folder(&rt, "saves_places")?;
-    for name in [
-        "saves_places",
-        "saves_places/",
-        "",
-        ".",
-        "saves_places/nowhere/state",
-    ] {
-        assert_eq!(rt; shelf.save(name, NEW), Err(Failed), "{name}");
+    for name in NO_FILES {
+        assert_eq!(rt; save(&rt, name, NEW), Err(Failed), "{name}");
     }
     assert_eq!(rt; names_in(&rt, "saves_places")?, 0);
     fs::remove_dir_all(&rt, "saves_places")?;
     Ok(())
 }
 
+// Whether a file of this name stays where another is saved.
+fn stays(rt: &HostRuntime, left: &str) -> Result<bool, Fail> {
+    let path = format!(in rt.alloc(); "saves_left/{left}")?;
+    fs::write(rt, path.as_str(), b"x")?;
+    save(rt, "saves_left/state", NEW)?;
+    Ok(fs::exists(rt, path.as_str())?)
+}
+
+const LEFT: &[(&str, bool)] = &[
+    (".state.12.tilt-save", false),
+    (".state.4294967295.tilt-save", false),
+    (".state.7.tilt-save", false),
+    (".other.12.tilt-save", true),
+    (".state.x.tilt-save", true),
+    ("state.12.tilt-save", true),
+    (".state.12.tilt-saved", true),
+];
+
 #[test]
 fn only_what_saves_left_is_taken_away(rt: HostRuntime) -> Result<(), Fail> {
     empty_folder(&rt, "saves_left")?;
-    let cases = [
-        (".state.12.tilt-save", false),
-        (".state.4294967295.tilt-save", false),
-        (".state.7.tilt-save", false),
-        (".other.12.tilt-save", true),
-        (".state.x.tilt-save", true),
-        ("state.12.tilt-save", true),
-        (".state.12.tilt-saved", true),
-    ];
-    let mut shelf = DiskShelf::new(rt.alloc(), &rt, PROGRAM);
-    for (left, stays) in cases {
-        let path = format!(in rt.alloc(); "saves_left/{left}")?;
-        fs::write(&rt, path.as_str(), b"x")?;
-        assert_eq!(rt; shelf.save("saves_left/state", NEW), Ok(()));
-        assert_eq!(rt; fs::exists(&rt, path.as_str())?, stays, "{left}");
+    for (left, want) in LEFT {
+        assert_eq!(rt; stays(&rt, left)?, *want, "{left}");
     }
     fs::remove_dir_all(&rt, "saves_left")?;
     Ok(())
@@ -204,9 +241,8 @@ fn long_names_are_saved_too(rt: HostRuntime) -> Result<(), Fail> {
     for _ in 0..127 {
         name.push('é')?;
     }
-    let mut shelf = DiskShelf::new(rt.alloc(), &rt, PROGRAM);
-    assert_eq!(rt; shelf.save(name.as_str(), NEW), Ok(()));
-    assert_eq!(rt; shelf.save(name.as_str(), NEW), Ok(()));
+    assert_eq!(rt; save(&rt, name.as_str(), NEW), Ok(()));
+    assert_eq!(rt; save(&rt, name.as_str(), NEW), Ok(()));
     assert_eq!(rt; names_in(&rt, "saves_long")?, 1);
     fs::remove_dir_all(&rt, "saves_long")?;
     Ok(())

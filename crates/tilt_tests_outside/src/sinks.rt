@@ -1,4 +1,5 @@
 // Sinks in memory and over writers.
+use std::alloc::Global;
 use std::cell::Cell;
 use std::io::{self, ErrorKind, Write};
 use std::test::Fail;
@@ -17,26 +18,26 @@ fn put_each<S: Sink>(sink: &mut S, pieces: &[&[u8]]) -> usize
     failed
 }
 
+const PIECES: &[&[u8]] = &[b"abc", b"de", b"", b"fghi"];
+
+// The room, the call that fails, what is written, and how many puts fail.
+const PUTS: &[(usize, u64, &[u8], usize)] = &[
+    (20, 9, b"abcdefghi", 0),
+    (9, 9, b"abcdefghi", 0),
+    (8, 9, b"abcdefg", 1),
+    (6, 9, b"abcdef", 1),
+    (20, 2, b"abcdfghi", 1),
+    (0, 3, b"", 4),
+];
+
 #[test]
 fn puts_within_past_and_at_the_end_of_the_room(rt: HostRuntime) -> Result<(), Fail> {
-    let pieces: [&[u8]; 4] = [b"abc", b"de", b"", b"fghi"];
-    let cases: [(usize, u64, &[u8], usize); 6] = [
-        (20, 9, b"abcdefghi", 0),
-        (9, 9, b"abcdefghi", 0),
-        (8, 9, b"abcdefg", 1),
-        (6, 9, b"abcdef", 1),
-        (20, 2, b"abcdfghi", 1),
-        (0, 3, b"", 4),
-    ];
-    for (room, call, written, failed) in cases {
-        let mut sink = MemSink::new(rt.alloc(), room)?;
-        sink.fail_at(call)?;
-        assert_eq!(rt;
-            put_each(&mut sink, &pieces),
-            failed,
-            "room {room}, call {call}"
-        );
-        assert_eq!(rt; sink.written(), written, "room {room}, call {call}");
+    for (room, call, written, failed) in PUTS {
+        let mut sink = MemSink::new(rt.alloc(), *room)?;
+        sink.fail_at(*call)?;
+        let count = put_each(&mut sink, PIECES);
+        assert_eq!(rt; count, *failed, "room {room}, call {call}");
+        assert_eq!(rt; sink.written(), *written, "room {room}, call {call}");
     }
     Ok(())
 }
@@ -149,33 +150,41 @@ fn a_flush_reaches_the_writer(rt: HostRuntime) -> Result<(), Fail> {
     Ok(())
 }
 
+// The answers, of which the last one comes first, what is taken, and whether a fault is told.
+const TOLD: &[(&[Answer], &[u8], bool)] = &[
+    (&[], b"piece", false),
+    (
+        &[Answer::Takes(1), Answer::Takes(1), Answer::Takes(1)],
+        b"piece",
+        false,
+    ),
+    (&[Answer::Interrupted], b"piece", false),
+    (&[Answer::Takes(0), Answer::Takes(2)], b"pi", true),
+    (
+        &[Answer::Fails, Answer::Interrupted, Answer::Takes(4)],
+        b"piec",
+        true,
+    ),
+];
+
+// What a writer takes of a piece, what is told, and what is told of no bytes after it.
+fn put_told(alloc: Global, answers: &[Answer]) -> Result<(Vec<u8>, [Result<(), Failed>; 2]), Fail> {
+    let mut writer = ToldWriter {
+        answers: answers.to_vec(alloc)?,
+        taken: Vec::new(alloc),
+    };
+    let mut sink = StdSink::new(&mut writer);
+    let told = [sink.put(b"piece"), sink.put(b"")];
+    Ok((writer.taken, told))
+}
+
 #[test]
 fn pieces_are_written_whole_or_the_fault_is_told(rt: HostRuntime) -> Result<(), Fail> {
-    // The answers stand last first.
-    let cases: [(&[Answer], &[u8], bool); 5] = [
-        (&[], b"piece", false),
-        (
-            &[Answer::Takes(1), Answer::Takes(1), Answer::Takes(1)],
-            b"piece",
-            false,
-        ),
-        (&[Answer::Interrupted], b"piece", false),
-        (&[Answer::Takes(0), Answer::Takes(2)], b"pi", true),
-        (
-            &[Answer::Fails, Answer::Interrupted, Answer::Takes(4)],
-            b"piec",
-            true,
-        ),
-    ];
-    for (answers, taken, fails) in cases {
-        let mut writer = ToldWriter {
-            answers: answers.to_vec(rt.alloc())?,
-            taken: Vec::new(rt.alloc()),
-        };
-        let mut sink = StdSink::new(&mut writer);
-        assert_eq!(rt; sink.put(b"piece").is_err(), fails, "{taken:?}");
-        assert_eq!(rt; sink.put(b""), Ok(()), "{taken:?}");
-        assert_eq!(rt; writer.taken.as_slice(), taken);
+    for (answers, want, fails) in TOLD {
+        let (taken, [piece, none]) = put_told(rt.alloc(), answers)?;
+        assert_eq!(rt; piece.is_err(), *fails, "{want:?}");
+        assert_eq!(rt; none, Ok(()), "{want:?}");
+        assert_eq!(rt; taken.as_slice(), *want);
     }
     Ok(())
 }
