@@ -1,5 +1,5 @@
 -- The shortest decimals of the numbers of 64 bits spell their numbers.
-use Rattle.std.proofs.Common.{◌≡◌, ◌≢◌, ℕ, suc, ◌^◌, ◌<◌, inl, inr, nat_lt, Bool, true, false, Decides, MatchOption, if◌then◌else◌, List, [], ◌∷◌, length, Some, None, option_map, ℤ, pos, negsuc}
+use Rattle.std.proofs.Common.{◌≡◌, ◌≢◌, ℕ, suc, ◌^◌, ◌<◌, inl, inr, nat_lt, Bool, true, false, Decides, MatchOption, List, [], ◌∷◌, Some, None, option_map, ℤ, pos, negsuc}
 use Rattle.std.proofs.Common.{FitsSigned, refl, sym, ap, subst, ◌∙◌, arith}
 use Rattle.std.proofs.lemmas.Bool.Decides.{nat_tests, eqb_tells, Decides-ltb}
 use Rattle.std.proofs.lemmas.Fmt.{digits_decimal, digits_value-decimal, decimal_is_IsNumeral, decimal_nonempty}
@@ -9,14 +9,9 @@ use Rattle.std.specs.Bool.{then_some}
 use Rattle.std.proofs.lemmas.Bool.{false≢true}
 use Rattle.std.specs.Fmt.{decimal, signed_decimal}
 use Rattle.std.specs.Int.{w64}
-use Rattle.std.specs.Str.{all_ascii_digits}
-use Rattle.std.specs.Str.Parse.{AllDigits, digits_value}
+use Rattle.std.specs.Str.Parse.{AllDigits}
 use Rattle.tilt_base.specs.Number.{natural_spelled, integer_spelled, within_64_bits, number_spelled}
-use Rattle.tilt_base.proofs.Spelling.{numerals}
-
-natural_spelled_digits : (ds : List ℕ) → all_ascii_digits ds ≡ true → 0 < length ds → natural_spelled ds ≡ Some (digits_value 10 ds)
-natural_spelled_digits [] all some = absurd (omega arith)
-natural_spelled_digits (d ∷ ds) all some = ap (λ t. if t then Some (digits_value 10 (d ∷ ds)) else None) all
+use Rattle.tilt_base.proofs.Spelling.{natural_spelled_digits, numerals}
 
 natural_spelled-decimal : (n : ℕ) → n < 2 ^ 64 → natural_spelled (decimal n) ≡ Some n
 natural_spelled-decimal n h = natural_spelled_digits (decimal n) (digits_decimal numerals n h) (decimal_nonempty n h) ∙ ap Some (digits_value-decimal numerals n h)

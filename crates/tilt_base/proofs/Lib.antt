@@ -9,3 +9,4 @@ pub mod Lists
 pub mod Multiples
 pub mod Spelling
 pub mod Totals
+pub mod Wide

@@ -11,6 +11,10 @@ pub guard_some : {A : Type 0} (t : Bool) (o : Option A) (y : A) → (if t then o
 guard_some true o y e = (refl, e)
 guard_some false o y e = absurd (none-some y e)
 
+-- what was found is one thing
+pub same_found : {A : Type 0} (found : Option A) (a b : A) → found ≡ Some a → found ≡ Some b → a ≡ b
+same_found found a b is too = same_Some a b (sym is ∙ too)
+
 -- what holds of all of two lists holds of all of both
 pub all-append : {X : Type 0} (P : X → Type 0) (xs ys : List X) → AllByRecursion P xs → AllByRecursion P ys → AllByRecursion P (xs ++ ys)
 all-append P [] ys h k = k
@@ -43,6 +47,11 @@ pub all-slice_get : {X : Type 0} (P : X → Type 0) (xs : List X) (place : ℕ) 
 all-slice_get P [] place x all is = absurd (none-some x is)
 all-slice_get P (y ∷ ys) zero x all is = subst P (same_Some y x is) all.0
 all-slice_get P (y ∷ ys) (suc place) x all is = all-slice_get P ys place x all.1 is
+
+-- what holds at each place of a list holds of all of it
+pub all-each : {X : Type 0} (P : X → Type 0) (xs : List X) → ((i : ℕ) (x : X) → slice_get xs i ≡ Some x → P x) → AllByRecursion P xs
+all-each P [] each = tt
+all-each P (x ∷ xs) each = (each 0 x refl, all-each P xs (λ i y is. each (suc i) y is))
 
 -- what is in a list is its first element or in the rest
 pub Contains-cons_cases : {X : Type 0} (x : X) (xs : List X) (y : X) → Contains (x ∷ xs) y → (x ≡ y) ⊎ Contains xs y

@@ -42,22 +42,30 @@ impl Grid {
     }
 
     /// The least grid point that isn't below the tick.
+    #[inline]
     pub fn ceil(&self, tick: i64) -> i64
         requires low { neg_ℤ (WIDE +ℤ pos 4 *ℤ OFFSET) ≤ℤ tick }
         requires high { tick ≤ℤ (WIDE +ℤ pos 4 *ℤ OFFSET) }
         ensures least { IsCeil self.now tick result }
         ensures value { result ≡ ceil self.now tick }
     {
+        if self.period == 1 {
+            return tick;
+        }
         tick + (self.offset - tick).rem_euclid(self.period)
     }
 
     /// The greatest grid point that isn't above the tick.
+    #[inline]
     pub fn floor(&self, tick: i64) -> i64
         requires low { neg_ℤ (WIDE +ℤ pos 4 *ℤ OFFSET) ≤ℤ tick }
         requires high { tick ≤ℤ (WIDE +ℤ pos 4 *ℤ OFFSET) }
         ensures greatest { IsFloor self.now tick result }
         ensures value { result ≡ floor self.now tick }
     {
+        if self.period == 1 {
+            return tick;
+        }
         tick - (tick - self.offset).rem_euclid(self.period)
     }
 

@@ -1,14 +1,64 @@
 // Numbers spelled in decimal digits.
-ghost use Rattle.std.specs.Prelude.{◌≡◌, ◌≢◌, ℤ, FitsSigned, MatchOption, option_and_then};
+ghost use Rattle.std.specs.Prelude.{◌≡◌, ◌≢◌, ◌^◌, ◌<◌, ◌≤◌, ℤ, length, FitsSigned, IfSome, MatchOption, option_and_then};
 ghost use Rattle.std.specs.Int.{w64};
 ghost use Rattle.std.specs.Fmt.{signed_decimal};
 ghost use Rattle.tilt_base.specs.Number.{natural_spelled, number_spelled, within_u64};
 
 use itoa::Buffer;
 
+// So many digits spell a number below 2^63, whichever they are.
+const SHORT: usize = 18;
+
 /// The number that the bytes spell: an optional `+` or `-` and then one or more digits. Leading zeros are allowed.
 /// `None` where the bytes are spelled otherwise, or the number lies outside 64 bits.
+#[inline]
 pub fn read_number(bytes: &[u8]) -> Option<i64>
+    ensures { result ≡ number_spelled bytes.now }
+{
+    if bytes.len() <= SHORT {
+        read_short(bytes)
+    } else {
+        read_long(bytes)
+    }
+}
+
+// The number that at most 18 bytes spell, which lies within 64 bits.
+#[inline]
+fn read_short(bytes: &[u8]) -> Option<i64>
+    requires { length bytes.now ≤ 18 }
+    ensures { result ≡ number_spelled bytes.now }
+{
+    match bytes {
+        [b'-', digits @ ..] => Some(-(read_digits(digits)? as i64)),
+        [b'+', digits @ ..] => Some(read_digits(digits)? as i64),
+        digits => Some(read_digits(digits)? as i64),
+    }
+}
+
+// The number that at most 18 digits spell, of which there is at least one.
+#[inline]
+fn read_digits(digits: &[u8]) -> Option<u64>
+    requires { length digits.now ≤ 18 }
+    ensures value { result ≡ natural_spelled digits.now }
+    ensures small { IfSome result (λ number. number < 10 ^ 18) }
+{
+    if digits.is_empty() {
+        return None;
+    }
+    let mut number = 0u64;
+    for digit in digits {
+        // A byte below `0` wraps to a number above 9 too.
+        let value = u64::from(*digit).wrapping_sub(u64::from(b'0'));
+        if value > 9 {
+            return None;
+        }
+        number = number * 10 + value;
+    }
+    Some(number)
+}
+
+// The number that more bytes spell.
+fn read_long(bytes: &[u8]) -> Option<i64>
     ensures { result ≡ number_spelled bytes.now }
 {
     match bytes {

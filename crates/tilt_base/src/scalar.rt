@@ -6,6 +6,7 @@ use crate::cell::Cell;
 use crate::operator::{Op1, Op2};
 
 /// What the operator gives on the cell. `Neg` and `Not` are null where it is null.
+#[inline]
 pub fn apply1(op: Op1, a: Cell) -> Cell
     ensures { result ≡ apply1 op a }
 {
@@ -17,6 +18,7 @@ pub fn apply1(op: Op1, a: Cell) -> Cell
 }
 
 /// What the operator gives on the cells. Each but `IfNull` is null where one of them is null.
+#[inline(always)]
 pub fn apply2(op: Op2, a: Cell, b: Cell) -> Cell
     ensures { result ≡ apply2 op a b }
 {
@@ -28,6 +30,7 @@ pub fn apply2(op: Op2, a: Cell, b: Cell) -> Cell
 
 /// The first cell where the condition is true, the second where it is 0, and null where it is null. The cell that
 /// isn't chosen may be null.
+#[inline]
 pub fn choose(c: Cell, a: Cell, b: Cell) -> Cell
     ensures { result ≡ choose c a b }
 {
@@ -35,6 +38,7 @@ pub fn choose(c: Cell, a: Cell, b: Cell) -> Cell
 }
 
 /// 1 where a test holds, else 0.
+#[inline]
 pub(crate) fn truth(holds: bool) -> Cell
     ensures { result ≡ truth holds }
 {
@@ -42,6 +46,7 @@ pub(crate) fn truth(holds: bool) -> Cell
 }
 
 // What the operator gives on two numbers.
+#[inline]
 fn on_numbers(op: Op2, x: i64, y: i64) -> Cell
     ensures { result ≡ apply2 op (Some x) (Some y) }
 {
@@ -65,6 +70,7 @@ fn on_numbers(op: Op2, x: i64, y: i64) -> Cell
 }
 
 // The remainder, with the sign of the dividend. `checked_rem` gives none at the least number and -1, where it is 0.
+#[inline]
 fn remainder(x: i64, y: i64) -> Cell
     ensures { result ≡ remainder x y }
 {

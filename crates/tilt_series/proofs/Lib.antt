@@ -1,5 +1,6 @@
 pub mod Examples
 pub mod Left
+pub mod Lines
 pub mod Loop
 pub mod Three
 pub mod Writes

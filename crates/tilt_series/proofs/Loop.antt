@@ -1,6 +1,7 @@
 -- Rows, read one behind another.
-use Rattle.std.proofs.Common.{◌≡◌, ℕ, ◌+◌, ℤ, List, [], ◌∷◌, ◌++◌, Option, Some, Result, Ok, Err, refl, sym, ap, append_assoc}
-use Rattle.std.specs.Option.{option_or}
+use Rattle.std.proofs.Common.{◌≡◌, ℕ, ◌+◌, ℤ, List, [], ◌∷◌, ◌++◌, Option, None, Some, Result, Ok, Err, refl, sym, ap, ◌∙◌, append_assoc}
+use Rattle.std.proofs.lemmas.Option.{none-some}
+use Rattle.std.specs.Option.{ForSome, option_or}
 use Rattle.tilt_stream.specs.Snap.{Snapshot, last_end}
 use Rattle.tilt_stream.proofs.Order.{last_end-push}
 use Rattle.tilt_series.specs.declared.fault.SeriesFault.{SeriesFault}
@@ -28,8 +29,18 @@ pub whole_of-row : (bounds : Bounds) (front : List Snapshot) (row : ℕ) (fields
 whole_of-row bounds front row fields left s is =
     rw (← is, last_end-push front s) (regroup front s (rows_of (record bounds { last_end = Some s.end }) (row + 1) left))
 
--- the bounds that a loop makes of the last end so far
-pub bounds_here : (bounds : Bounds) (rows : List Snapshot) (last from upto found end : Option ℤ)
-    → ◌≡◌ {A = Bounds} (record { last_end = last; from = from; upto = upto }) bounds → found ≡ option_or end last → end ≡ last_end rows
-    → ◌≡◌ {A = Bounds} (record { last_end = found; from = from; upto = upto }) (bounds_behind bounds rows)
-bounds_here bounds rows last from upto found end view or ends = rw (← view, or, ends) refl
+-- what holds of the bound of the next row holds of the last end so far
+for_last_end : (P : ℤ → Type 0) (end before : Option ℤ) → ForSome (option_or end before) P → ForSome end P
+for_last_end P None before h = λ x e. absurd (none-some x e)
+for_last_end P (Some end) before h = h
+
+pub behind_so_far : (P : ℤ → Type 0) (bounds here : Bounds) (rows : List Snapshot) → here ≡ bounds_behind bounds rows → ForSome here.last_end P → ForSome (last_end rows) P
+behind_so_far P bounds here rows is h = for_last_end P (last_end rows) bounds.last_end (rw is at h)
+
+-- the bounds after one more row
+pub bounds_behind-row : (bounds here : Bounds) (rows : List Snapshot) (s : Snapshot) (last from upto : Option ℤ) (end : ℤ)
+    → ◌≡◌ {A = Bounds} (record { last_end = last; from = from; upto = upto }) here → end ≡ s.end → here ≡ bounds_behind bounds rows
+    → ◌≡◌ {A = Bounds} (record { last_end = Some end; from = from; upto = upto }) (bounds_behind bounds (rows ++ s ∷ []))
+bounds_behind-row bounds here rows s last from upto end view e is =
+    let others = view ∙ is in
+    rw (last_end-push rows s) (λ i. record { last_end = Some (e i); from = ap (λ (b : Bounds). b.from) others i; upto = ap (λ (b : Bounds). b.upto) others i })

@@ -30,6 +30,7 @@ impl Model for Bounds {
 }
 
 /// Whether the tick lies below the bound, which it doesn't where there is none.
+#[inline]
 pub(crate) fn is_below(tick: i64, bound: Option<i64>) -> bool
     ensures value { result ≡ is_below tick bound }
     ensures not_below { OnFalse result (ForSome bound (λ b. b ≤ℤ tick)) }
@@ -41,6 +42,7 @@ pub(crate) fn is_below(tick: i64, bound: Option<i64>) -> bool
 }
 
 /// Whether the tick lies at the bound or above it, which it doesn't where there is none.
+#[inline]
 pub(crate) fn is_past(tick: i64, bound: Option<i64>) -> bool
     ensures { result ≡ is_past tick bound }
 {
@@ -51,6 +53,7 @@ pub(crate) fn is_past(tick: i64, bound: Option<i64>) -> bool
 }
 
 /// Whether the tick lies in `-T..=T`.
+#[inline]
 pub(crate) fn is_time(tick: i64) -> bool
     ensures value { result ≡ is_time tick }
     ensures within { OnTrue result ((neg_ℤ T ≤ℤ tick) × (tick ≤ℤ T)) }

@@ -7,6 +7,7 @@
 
 mod bounds;
 mod fault;
+mod line;
 mod print;
 mod records;
 mod row;

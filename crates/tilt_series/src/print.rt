@@ -3,6 +3,7 @@ ghost use Rattle.std.specs.Prelude.{◌≡◌, ◌≤◌, [], ◌∷◌, length,
 ghost use Rattle.tilt_stream.specs.Text.{row_text, lines_of};
 ghost use Rattle.tilt_outside.specs.Written.{Puts};
 
+use crate::line::{ROOM, line_before};
 use tilt_outside::{Failed, Sink};
 use tilt_stream::{Row, Snap, SnapList};
 use tilt_text::{append, append_number};
@@ -27,6 +28,7 @@ pub fn put_rows<O: Sink>(sink: &mut O, list: &SnapList) -> Result<(), Failed>
 }
 
 /// Puts the line of a snapshot, and nothing for a null one.
+#[inline]
 pub fn put_snap<O: Sink>(sink: &mut O, snap: &Snap) -> Result<(), Failed>
     requires { O.takes sink.old (length (lines_of (snap.now ∷ []))) }
     ensures { Puts O.tells O.written O.faults O.takes sink.old sink.new (lines_of (snap.now ∷ [])) result }
@@ -39,13 +41,14 @@ pub fn put_snap<O: Sink>(sink: &mut O, snap: &Snap) -> Result<(), Failed>
 }
 
 // Puts the line of a row.
+#[inline]
 fn put_row<O: Sink>(sink: &mut O, row: &Row) -> Result<(), Failed>
     requires { O.takes sink.old (length (row_text row.now)) }
     ensures { Puts O.tells O.written O.faults O.takes sink.old sink.new (row_text row.now) result }
 {
-    let mut room = [0; 64];
-    let length = row_text(row, &mut room);
-    sink.put(&room[..length])
+    let mut room = [0; ROOM];
+    let start = line_before(row, &mut room);
+    sink.put(&room[start..])
 }
 
 /// Writes `s,e,v` and LF into the front of the room, with nothing for a null value, and answers how long that is. Takes no

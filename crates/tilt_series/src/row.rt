@@ -24,11 +24,12 @@ pub(crate) fn is_header(fields: &ByteRecord) -> bool
 }
 
 /// The row of a record, or its first fault.
-pub(crate) fn read_row(fields: &ByteRecord, row: u64, bounds: Bounds) -> Result<Row, SeriesFault>
-    ensures read { result ≡ row_of bounds row (fields_of fields.now) }
+#[inline]
+pub(crate) fn read_row(fields: &ByteRecord, row: u64, bounds: &Bounds) -> Result<Row, SeriesFault>
+    ensures read { result ≡ row_of bounds.now row (fields_of fields.now) }
     ensures low { IfOk result (λ s. neg_ℤ T ≤ℤ s.start) }
     ensures high { IfOk result (λ s. s.end ≤ℤ T) }
-    ensures behind { IfOk result (λ s. ForSome bounds.last_end (λ end. end ≤ℤ s.start)) }
+    ensures behind { IfOk result (λ s. ForSome bounds.now.last_end (λ end. end ≤ℤ s.start)) }
 {
     let (start, end, value) = read_fields(fields, row)?;
     match time_fault(start, end, row, bounds) {
@@ -38,12 +39,13 @@ pub(crate) fn read_row(fields: &ByteRecord, row: u64, bounds: Bounds) -> Result<
 }
 
 // The first fault of the times of a row, if there is one.
-fn time_fault(start: i64, end: i64, row: u64, bounds: Bounds) -> Option<SeriesFault>
-    ensures fault { result ≡ time_fault bounds row start end }
+#[inline]
+fn time_fault(start: i64, end: i64, row: u64, bounds: &Bounds) -> Option<SeriesFault>
+    ensures fault { result ≡ time_fault bounds.now row start end }
     ensures low { IfNone result (neg_ℤ T ≤ℤ start) }
     ensures high { IfNone result (end ≤ℤ T) }
     ensures some_ticks { IfNone result (start <ℤ end) }
-    ensures behind { IfNone result (ForSome bounds.last_end (λ last. last ≤ℤ start)) }
+    ensures behind { IfNone result (ForSome bounds.now.last_end (λ last. last ≤ℤ start)) }
 {
     if !is_time(start) || !is_time(end) {
         Some(SeriesFault::TimeRange { row })
@@ -61,6 +63,7 @@ fn time_fault(start: i64, end: i64, row: u64, bounds: Bounds) -> Option<SeriesFa
 }
 
 // The start, the end and the value that the fields spell, or the first fault of them.
+#[inline]
 fn read_fields(fields: &ByteRecord, row: u64) -> Result<(i64, i64, Cell), SeriesFault>
     ensures { result ≡ fields_spelled row (fields_of fields.now) }
 {
@@ -72,6 +75,7 @@ fn read_fields(fields: &ByteRecord, row: u64) -> Result<(i64, i64, Cell), Series
 }
 
 // The fields of a record that has three.
+#[inline]
 fn three_fields(fields: &ByteRecord) -> Option<(&[u8], &[u8], &[u8])>
     ensures { option_map (λ f. (f.0.now, f.1.now, f.2.now)) result ≡ three_of (fields_of fields.now) }
 {
@@ -82,6 +86,7 @@ fn three_fields(fields: &ByteRecord) -> Option<(&[u8], &[u8], &[u8])>
 }
 
 // The value that a field spells, which is null where it is empty.
+#[inline]
 fn read_value(field: &[u8]) -> Option<Cell>
     ensures { result ≡ value_spelled field.now }
 {

@@ -55,13 +55,14 @@ fn read_behind_header(
     ensures { Gives result (rows_of bounds 1 (records_left reader.old)) }
 {
     let mut rows = Rows::new(alloc);
+    let mut here = bounds;
     for row in 1..u64::MAX {
         if !next_record(reader, fields)? {
             return Ok(rows);
         }
-        let last_end = rows.last_end().or(bounds.last_end);
-        let here = Bounds { last_end, ..bounds };
-        rows.push(read_row(fields, row, here)?)?;
+        let read = read_row(fields, row, &here)?;
+        rows.push(read)?;
+        here.last_end = Some(read.end);
     }
     // No memory holds so many rows.
     Err(ReadRowsFault::OutOfMemory)

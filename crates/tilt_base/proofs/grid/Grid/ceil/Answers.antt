@@ -11,3 +11,11 @@ pub returns-clause-least : goal.returns-clause-least
 returns-clause-least c =
     let grid = c.args.self.now in
     subst (IsCeil grid c.args.tick) (sym (returns-clause-value c)) (ceil-IsCeil grid c.args.tick (rw (← c.self.view_is) c.self.invariant.period_low))
+
+pub returns-then-self-eq1-clause-value : goal.returns-then-self-eq1-clause-value
+returns-then-self-eq1-clause-value c = rw (← c.self.view_is) (grind (arith, ints, to_z-of_z))
+
+pub returns-then-self-eq1-clause-least : goal.returns-then-self-eq1-clause-least
+returns-then-self-eq1-clause-least c =
+    let grid = c.args.self.now in
+    subst (IsCeil grid c.args.tick) (sym (returns-then-self-eq1-clause-value c)) (ceil-IsCeil grid c.args.tick (rw (← c.self.view_is) c.self.invariant.period_low))

@@ -11,3 +11,11 @@ pub returns-clause-greatest : goal.returns-clause-greatest
 returns-clause-greatest c =
     let grid = c.args.self.now in
     subst (IsFloor grid c.args.tick) (sym (returns-clause-value c)) (floor-IsFloor grid c.args.tick (rw (← c.self.view_is) c.self.invariant.period_low))
+
+pub returns-then-self-eq1-clause-value : goal.returns-then-self-eq1-clause-value
+returns-then-self-eq1-clause-value c = rw (← c.self.view_is) (grind (arith, ints, to_z-of_z))
+
+pub returns-then-self-eq1-clause-greatest : goal.returns-then-self-eq1-clause-greatest
+returns-then-self-eq1-clause-greatest c =
+    let grid = c.args.self.now in
+    subst (IsFloor grid c.args.tick) (sym (returns-then-self-eq1-clause-value c)) (floor-IsFloor grid c.args.tick (rw (← c.self.view_is) c.self.invariant.period_low))
