@@ -58,7 +58,8 @@ Saves command = ⊥
 abbrev pub IsSaving : List (List ℕ) → Type 0
 IsSaving words = (command : CommandValue) × IsCommand words command × Saves command
 
--- whether a command's text is given out by a pipe, which takes memory between puts: that of `run` without cuts, of `pipe`, `watch` and `flow`
+-- whether a command's text is given out by a pipe, which takes memory between puts: that of `run` without cuts, of `pipe`, `watch`
+-- and `flow`
 abbrev pub Streams : CommandValue → Type 0
 Streams (run query binds plain cuts) = cuts ≡ []
 Streams (pipe query binds plain) = ⊤

@@ -21,8 +21,8 @@ use tilt_report::Fault;
 use tilt_sessions::{SavedCut, resume_session, start_session};
 use tilt_words::{Command, Upto};
 
-/// What the command prints and saves. All files are read here, and all memory is taken but that of snapshots which are put as they
-/// are made.
+/// What the command prints and saves. All files are read here. Memory is taken later only where snapshots are put as they are made:
+/// by the pipe that makes them, and for the watchers.
 pub(crate) fn answer<'a, S: Shelf>(
     alloc: Global,
     command: &'a Command,

@@ -158,7 +158,8 @@ pub fn tilt<S: Shelf, O: Sink, E: Sink>(
         → (S.tells → IsOutcome (texts words.now) (S.files shelf.old) (watches pair step ends watchers.old.items) (outcome_of text save))
         → O.takes out.old (length text) }
     requires saves { (text : List ℕ) (save : SaveValue)
-        → (S.tells → IsOutcome (texts words.now) (S.files shelf.old) (watches pair step ends watchers.old.items) (outcome_of text (Some save)))
+        → (S.tells → IsOutcome (texts words.now) (S.files shelf.old) (watches pair step ends watchers.old.items)
+        (outcome_of text (Some save)))
         → S.takes shelf.old save.name (length save.bytes) }
     requires lines { (n : ℕ) → E.takes err.old n }
 

@@ -5,9 +5,10 @@ use Rattle.std.proofs.lemmas.Int.{ints, by_lt_z}
 use Rattle.std.proofs.lemmas.List.{length-map}
 use Rattle.tilt_core.proofs.Last.{last-need}
 use Rattle.tilt_bounds.proofs.Laws.{core-IsLocal, core-IsCausal}
+use Rattle.tilt_bounds.proofs.Margin.{margins-needs}
 use Rattle.tilt_bounds.proofs.Needs.{need_at-definition}
 use Rattle.tilt_bounds.specs.Laws.{AgreeAsAsked, AreContinued, IsLocal, IsCausal, StaysAsAsked}
-use Rattle.tilt_bounds.specs.Margins.{AreMargins, IsWithin, MarginsParts, is_too_far, margins_of, need_at}
+use Rattle.tilt_bounds.specs.Margins.{AreMargins, IsWithin, MarginsParts, margins_of, need_at}
 use Rattle.tilt_stream.proofs.Snapped.{snapshots-agree}
 use Rattle.tilt_stream.proofs.Cut.{snapshots-none}
 use Rattle.tilt_stream.proofs.Locality.{narrower-agrees}
@@ -17,31 +18,22 @@ use Rattle.tilt_stream.specs.Stream.{Stream, stream_of}
 use Rattle.tilt_core.proofs.Sources.{with_definitions-front}
 use Rattle.tilt_core.specs.Core.{CoreParts, IsCore, emitted_number}
 use Rattle.tilt_core.specs.Meaning.{meaning, source_of}
-use Rattle.tilt_core.specs.Needs.{Need, needs, no_margin, reach}
-use Rattle.tilt_checkpoint.proofs.Frames.{given_by}
+use Rattle.tilt_core.specs.Needs.{Need, no_margin}
 use Rattle.tilt_chunk.proofs.Lists.{length-added, sources-kept}
 use Rattle.tilt_compiler.specs.Compiled.{given}
 use Rattle.tilt_chunk.specs.NewRows.{added}
 use Rattle.tilt_stream.specs.Pieces.{kept}
 
--- margins have the look-back, the look-ahead and the needs of the core
-pub margins-reach : (core : CoreParts) (m : MarginsParts) → margins_of core ≡ Ok m
-    → (let w = reach (length core.inputs) core.defs in (w.back ≡ m.back) × (w.ahead ≡ m.ahead) × (m.needs ≡ needs (length core.inputs) core.defs))
-margins-reach core m near =
-    let w = reach (length core.inputs) core.defs in
-    let made = given_by (is_too_far w) w _ m near in
-    (ap (λ (p : MarginsParts). p.back) made, ap (λ (p : MarginsParts). p.ahead) made, sym (ap (λ (p : MarginsParts). p.needs) made))
-
 module _ (core : CoreParts) (margins : MarginsParts) (is : IsCore core) (near : margins_of core ≡ Ok margins) (bounded : AreMargins margins) where
   local : IsLocal core margins
-  local = core-IsLocal core margins is (margins-reach core margins near).2
+  local = core-IsLocal core margins is (margins-needs core margins near)
 
   causal : IsCausal core margins
   causal = core-IsCausal core margins local bounded.needs
 
   emits : need_at margins.needs (emitted_number core) ≡ Some no_margin
   emits =
-      ap (λ (ns : List (Option Need)). need_at ns (emitted_number core)) (margins-reach core margins near).2
+      ap (λ (ns : List (Option Need)). need_at ns (emitted_number core)) (margins-needs core margins near)
       ∙ need_at-definition (length core.inputs) core.defs (length core.names)
       ∙ last-need (length core.inputs) (length core.names) core.defs is.one_emitted
 

@@ -21,7 +21,8 @@ use Rattle.tilt_types.specs.Checked.{core_of}
 use Rattle.tilt_core.specs.Core.{CoreParts, IsCore, domain_of, emitted_number}
 use Rattle.tilt_core.specs.Meaning.{meaning}
 use Rattle.tilt_core.specs.Needs.{Need, reach}
-use Rattle.tilt_chunk.proofs.Given.{given-continued, given-kept, margins-reach}
+use Rattle.tilt_bounds.proofs.Margin.{margins-reach}
+use Rattle.tilt_chunk.proofs.Given.{given-continued, given-kept}
 use Rattle.tilt_stream.proofs.Joined.{snapshots-parted, snapshots-some}
 use Rattle.tilt_chunk.proofs.Lists.{continued, early-counted, kept-all, length-kept_each, new-counted, rows-kept}
 use Rattle.tilt_stream.proofs.Pieces.{last_start-append, length-joined_from, without_last-append}

@@ -7,6 +7,7 @@ use Rattle.tilt_base.proofs.Lists.{all-parts}
 use Rattle.tilt_code.proofs.Constancy.{loop_of-changes}
 use Rattle.tilt_stream.proofs.Filling.{snapshots-Fill}
 use Rattle.tilt_stream.proofs.Cutting.{snapshots-stream}
+use Rattle.tilt_stream.proofs.Same.{same_is}
 use Rattle.tilt_code.proofs.Turns.{turns-are}
 use Rattle.tilt_code.specs.Body.{last_or, body_of}
 use Rattle.tilt_code.specs.Code.{LoopParts, CodeParts}
@@ -56,10 +57,6 @@ turns-stream xs l timed h =
 pub turns-Fill : (xs : List Stream) (l : LoopParts) → IsTimed l → Fill l.lo l.hi (turns xs l)
 turns-Fill xs l timed = subst (Fill l.lo l.hi) (sym (turns-are xs l timed)) (snapshots-Fill (loop_of xs l) l.lo l.hi timed.stretch)
 
--- streams that are the same at every tick are one
-same-is : (x y : Stream) → SameStream x y → x ≡ y
-same-is x y same = λ i. record { cell = λ t. same.cells t i; mark = λ t. same.marks t i }
-
 -- each of the buffers changes only at marks
 streams-change : (lists : List (List Snapshot)) → AllByRecursion ChangesOnlyAtMarks (map stream_of lists)
 streams-change [] = tt
@@ -72,7 +69,7 @@ with_buffers-streams lists [] timed = refl
 with_buffers-streams lists (l ∷ loops) timed =
     let xs = map stream_of lists in
     let made = turns xs l in
-    let one = same-is (stream_of made) (loop_of xs l) (turns-stream xs l timed.0 (streams-change lists)) in
+    let one = same_is (stream_of made) (loop_of xs l) (turns-stream xs l timed.0 (streams-change lists)) in
     with_buffers-streams (lists ++ made ∷ []) loops timed.1
     ∙ ap (λ (ys : List Stream). with_loops ys loops) (map-append stream_of lists (made ∷ []) ∙ ap (λ (y : Stream). xs ++ y ∷ []) one)
 

@@ -1,5 +1,5 @@
 -- A query that is run in parts: its files have one outcome, its cuts lie inside the output domain, and how many snapshots come from each part.
-use Rattle.std.proofs.Common.{◌≡◌, ◌⊎◌, ◌∙◌, ◌<◌, ◌+◌, ◌++◌, ◌||◌, ◌<ℤ◌, ◌≤ℤ◌, ℕ, zero, suc, ℤ, pos, Bool, true, false, List, [], ◌∷◌, length, map, slice_get, take}
+use Rattle.std.proofs.Common.{◌≡◌, ◌⊎◌, ◌∙◌, ◌<◌, ◌+◌, ◌++◌, ◌||◌, ◌<ℤ◌, ℕ, zero, suc, ℤ, pos, Bool, true, false, List, [], ◌∷◌, length, map, slice_get, take}
 use Rattle.std.proofs.Common.{Option, Some, None, inl, inr, refl, sym, ap, subst, arith}
 use Rattle.std.proofs.lemmas.Bool.{cases_Bool}
 use Rattle.std.proofs.lemmas.Bool.Decides.{nat_tests}
@@ -8,7 +8,7 @@ use Rattle.std.proofs.lemmas.Option.{same_Some, none-some}
 use Rattle.std.specs.List.{AllByRecursion, find}
 use Rattle.std.specs.Option.{ForSome, option_or}
 use Rattle.std.specs.Prelude.{◌+ℤ◌, ◌-ℤ◌, int_le, nat_lt, option_map}
-use Rattle.tilt_base.proofs.Lists.{all-slice_get}
+use Rattle.tilt_base.proofs.Lists.{all-slice_get, same_found}
 use Rattle.tilt_base.specs.declared.span.Span.{Span}
 use Rattle.tilt_commands.proofs.Taken.{taken_domain, taken_gives}
 use Rattle.tilt_commands.specs.Divided.{IsParted, RefusesParts, TakesParts, no_query, no_parts, fault_within, first_outside, first_unnamed, parts_fault, sizes_on}
@@ -58,17 +58,11 @@ module _ (name : List ℕ) (cuts : List ℤ) (order bytes : List ℕ) where
   parts_taken_or_refused (inl (c, taken)) = by_fault c taken (parts_fault cuts order c) refl
   parts_taken_or_refused (inr (why, is)) = inr (why, no_query is)
 
-same_domain : (d e : Span) (o : Option Span) → o ≡ Some d → o ≡ Some e → d ≡ e
-same_domain d e o is is' = same_Some d e (sym is ∙ is')
-
-same_output : (list list' : List Snapshot) (o : Option (List Snapshot)) → o ≡ Some list → o ≡ Some list' → list ≡ list'
-same_output list list' o is is' = same_Some list list' (sym is ∙ is')
-
 -- it comes to one thing, and always to one
 pub same_parted : (cuts : List ℤ) (c : CoreParts) (rows : List (List Snapshot)) (o p : Outcome) → IsParted cuts c rows o → IsParted cuts c rows p → o ≡ p
 same_parted cuts c rows o p is is' =
-    let lists = same_output is.list is'.list (output_of c rows) is.means is'.means in
-    let domains = same_domain is.domain is'.domain (domain_of c.defs) is.stretch is'.stretch in
+    let lists = same_found (output_of c rows) is.list is'.list is.means is'.means in
+    let domains = same_found (domain_of c.defs) is.domain is'.domain is.stretch is'.stretch in
     is.is ∙ (λ i. printed (text_of (lists i) ++ parts_line (sizes_on c rows (stretches (domains i).start cuts (domains i).end)))) ∙ sym is'.is
 
 pub some_parted : (cuts : List ℤ) (bytes : List ℕ) (c : CoreParts) (rows : List (List Snapshot)) → TakesQuery bytes c → length rows ≡ length c.inputs

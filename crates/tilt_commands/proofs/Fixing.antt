@@ -1,7 +1,6 @@
 -- What makes the clause of `fix`, and that its row is lawful.
-use Rattle.std.proofs.Common.{◌≡◌, ◌≤◌, ◌⊎◌, ◌∙◌, ◌<◌, ◌^◌, ℕ, List, [], ◌∷◌, ◌++◌, length, Result, Ok, inl, inr, refl, sym, ap, subst, arith}
+use Rattle.std.proofs.Common.{◌≡◌, ◌≤◌, ◌⊎◌, ◌∙◌, ◌<◌, ◌^◌, ℕ, List, length, Result, Ok, inl, inr, refl, sym, ap, subst, arith}
 use Rattle.std.specs.Prelude.{⊤}
-use Rattle.std.proofs.lemmas.List.Elements.{Contains-append_left}
 use Rattle.tilt_bounds.specs.Margins.{MarginsParts, margins_of}
 use Rattle.tilt_commands.proofs.Corrections.{corrected-once, corrected-some, corrected-no_usage}
 use Rattle.tilt_commands.proofs.Doing.{turn_any, undone_any}
@@ -13,7 +12,6 @@ use Rattle.tilt_commands.specs.Loaded.{refusing_row}
 use Rattle.tilt_core.specs.Core.{CoreParts, IsCore}
 use Rattle.tilt_core.specs.Needs.{Need}
 use Rattle.tilt_fix.specs.declared.edit.Edit.{Edit}
-use Rattle.tilt_lexer.specs.Word.{AreDistinct}
 use Rattle.tilt_load.proofs.Loads.{load_fault_weaker}
 use Rattle.tilt_load.proofs.OneEdits.{edits_once, edits_refused_once, edits_refused_or_taken, edits_taken_or_refused}
 use Rattle.tilt_load.specs.Does.{IsRead, IsUndone, Reading}
@@ -29,18 +27,9 @@ use Rattle.tilt_report.specs.Report.{Reason, Outcome, refused, refusal, usage, R
 use Rattle.tilt_stream.specs.Snap.{Snapshot}
 use Rattle.tilt_words.specs.Binding.{Binding}
 
--- none of the first names stands twice, where none of all does
-distinct_front : (names more : List (List ℕ)) → AreDistinct (names ++ more) → AreDistinct names
-distinct_front [] more distinct = tt
-distinct_front (name ∷ names) more distinct =
-    (λ among. distinct.0 (Contains-append_left names more name among), distinct_front names more distinct.1)
-
--- the inputs of a query that is accepted have different names, and aren't many
+-- the inputs of a query that is accepted aren't many
 pub inputs_few : (core : CoreParts) → IsCore core → length core.inputs < 2 ^ 32
 inputs_few core is = let few = is.few in omega (arith, few)
-
-pub inputs_distinct : (core : CoreParts) → IsCore core → AreDistinct core.inputs
-inputs_distinct core is = distinct_front core.inputs core.names is.distinct
 
 -- of the query and the edits file of these names, on a shelf that was read
 module _ (query name : List ℕ) (binds : List Binding) (shelf : Reading) where

@@ -11,7 +11,8 @@ use Rattle.tilt_commands.proofs.Fixing.{fixed-once, fixed-some, fixed-no_usage}
 use Rattle.tilt_commands.proofs.Taken.{taken_domain, taken_gives}
 use Rattle.tilt_commands.specs.Fixed.{IsFixed, fix_row}
 use Rattle.tilt_commands.specs.Query.{IsMadeOfQuery, lone_row, query_row}
-use Rattle.tilt_commands.specs.Table.{IsCompiled, compile_row, exec_row, IsExplained, explain_row, flow_row, flow_text, IsPiped, parts_row, pipe_row, run_row, IsTryOutcome, made_inputs, summed, watch_row, Row, reads, reads_last, makes, row_of}
+use Rattle.tilt_commands.specs.Table.{IsCompiled, compile_row, exec_row, IsExplained, explain_row, flow_row, flow_text, IsPiped, parts_row, pipe_row, run_row, IsTryOutcome, made_inputs}
+use Rattle.tilt_commands.specs.Table.{summed, watch_row, Row, reads, reads_last, makes, row_of}
 use Rattle.tilt_compiler.specs.Compiled.{IsCodeOf}
 use Rattle.tilt_core.specs.Core.{CoreParts}
 use Rattle.tilt_core.specs.Meaning.{output_of}

@@ -1,5 +1,5 @@
 -- What a query that is taken has.
-use Rattle.std.proofs.Common.{◌≡◌, ◌==◌, List, ℕ, [], length, true, Option, Some, None, refl, subst, arith}
+use Rattle.std.proofs.Common.{◌≡◌, ◌==◌, List, ℕ, length, true, Option, Some, None, refl, subst, arith}
 use Rattle.std.specs.Prelude.{IsSome}
 use Rattle.tilt_base.specs.declared.span.Span.{Span}
 use Rattle.tilt_core.specs.Core.{CoreParts, domain_of, emitted_number}

@@ -85,8 +85,8 @@ pipe_row query fuse = query_row query (IsPiped fuse)
 abbrev pub watch_row : List ℕ → List Watch → FileCommand
 watch_row query watchers = query_row query (IsMadeOfQuery (λ list. printed (watched_text watchers list)))
 
--- `parts` on the query in the file of a name, with these cuts and in this order of steps, prints what `run` prints, and then the line of how
--- many snapshots come from each part
+-- `parts` on the query in the file of a name, with these cuts and in this order of steps, prints what `run` prints, and then the line
+-- of how many snapshots come from each part
 abbrev pub parts_row : List ℕ → List ℤ → List ℕ → FileCommand
 parts_row query cuts order = record {
   Says = CoreParts;

@@ -15,8 +15,8 @@ use tilt_printed::{Answered, Printed};
 use tilt_report::Fault;
 use tilt_words::Bind;
 
-/// What `flow` comes to: the pipeline in a file, on the files that are bound. What it prints is what the pipeline gives by lists; its query
-/// is run, with fusion or without, and a pipe gives it out.
+/// What `flow` comes to: the pipeline in a file, on the files that are bound. What it prints is what the pipeline gives by lists;
+/// its query is run, with fusion or without, and a pipe gives it out.
 pub fn flow<'a, S: Shelf>(
     alloc: Global,
     shelf: &mut S,

@@ -1,8 +1,9 @@
 -- The change of rows that an edit is.
-use Rattle.std.proofs.Common.{◌≡◌, ℕ, suc, zero, ◌+◌, ◌<◌, ℤ, neg_ℤ, pos, ◌+ℤ◌, ◌<ℤ◌, ◌≤ℤ◌, int_lt, List, [], ◌∷◌, ◌++◌, length, take, drop}
+use Rattle.std.proofs.Common.{◌≡◌, ℕ, suc, zero, ◌+◌, ℤ, neg_ℤ, pos, ◌+ℤ◌, ◌<ℤ◌, ◌≤ℤ◌, int_lt, List, [], ◌∷◌, ◌++◌, take, drop}
 use Rattle.std.proofs.Common.{Option, Some, Ok, slice_get, inl, inr, refl, sym, ap, ◌∙◌, subst, arith}
 use Rattle.std.proofs.lemmas.Bool.{cases_Bool}
 use Rattle.std.proofs.lemmas.Int.{ints}
+use Rattle.std.proofs.lemmas.Option.{slice_get_within}
 use Rattle.std.specs.List.{insert}
 use Rattle.tilt_base.specs.declared.limits.TheConstants.{T}
 use Rattle.tilt_fix.proofs.Changes.{has_room, with_row-at, some_has, has_own, taken_out, set_at, first_left}
@@ -40,11 +41,6 @@ insertion_is input row rows at place h low some high free =
       parts = refl;
     })
 
-read_below : (list : List Snapshot) (at : ℕ) (s : Snapshot) → slice_get list at ≡ Some s → at < length list
-read_below [] at s is = absurd (cc is)
-read_below (x ∷ xs) zero s is = omega arith
-read_below (x ∷ xs) (suc i) s is = let rest = read_below xs i s is in omega arith
-
 -- the row that was read at a place, by its times
 pub row_at : (rows : List Snapshot) (start end : ℤ) (at : ℕ) (s : Snapshot) → slice_get rows at ≡ Some s → s.start ≡ start → s.end ≡ end
     → HasRowAt rows start end at
@@ -60,7 +56,7 @@ removal_is input start end rows at h row =
     let one : at + 1 ≡ suc at = omega arith in
     record {
       is = rw (some_has start end rows at s row.is (has_own s)) (ap Ok (taken_out (neg_ℤ T) T rows at s h row.is));
-      within = read_below rows at s row.is;
+      within = slice_get_within rows at s row.is;
       in_order = subst (λ (n : ℕ). AreRows (take at rows ++ drop n rows)) one (InOrder-removed (neg_ℤ T) T rows at h);
       parts = refl;
     }
@@ -80,7 +76,7 @@ revaluation_is input row rows at h old =
     let s : Snapshot = record { start = row.start; end = row.end; value = old.value } in
     record {
       is = rw (some_has row.start row.end rows at s old.is (has_own s)) (ap Ok (set_at row (neg_ℤ T) T rows at s h old.is refl refl));
-      within = read_below rows at s old.is;
+      within = slice_get_within rows at s old.is;
       in_order = InOrder-valued (neg_ℤ T) T rows at row.value h;
       parts = valued-parts rows at row.start row.end old.value row.value old.is;
     }

@@ -3,6 +3,7 @@ use Rattle.std.proofs.Common.{◌≡◌, ℕ, suc, ℤ, pos, ◌+ℤ◌, ◌-ℤ
 use Rattle.std.specs.Prelude.{Ok, slice_get, slice_set}
 use Rattle.std.specs.List.{AllByRecursion, slice_index_or, splice}
 use Rattle.std.proofs.lemmas.Int.{ints, clamps, by_lt_z}
+use Rattle.tilt_base.proofs.Lists.{same_found}
 use Rattle.tilt_base.specs.declared.span.Span.{Span}
 use Rattle.tilt_bounds.specs.Laws.{AgreeAsAsked}
 use Rattle.tilt_bounds.specs.Margins.{MarginsParts, margins_of, need_at}
@@ -24,9 +25,6 @@ use Rattle.tilt_stream.specs.Agreement.{Agree, ChangesOnlyAtMarks}
 use Rattle.tilt_stream.specs.Snap.{Snapshot, AreRows, AreSnapshots, ended_below}
 use Rattle.tilt_stream.specs.Snapshots.{snapshots}
 use Rattle.tilt_stream.specs.Stream.{stream_of}
-
-same-some : (found : Option Snapshot) (a b : Snapshot) → found ≡ Some a → found ≡ Some b → a ≡ b
-same-some found a b is too = cc
 
 module _ (core : CoreParts) (margins : MarginsParts) (is : IsCore core) (near : margins_of core ≡ Ok margins) where
   changes : (rows : List (List Snapshot)) → ChangesOnlyAtMarks (meaning rows core.defs (emitted_number core))
@@ -111,8 +109,8 @@ module _ (core : CoreParts) (margins : MarginsParts) (is : IsCore core) (near : 
             fills = snapshots-Fill x from span.end b;
             first = f.within;
             last = g.within;
-            begun = λ s is. let e = same-some _ s f.at is f.is in let h : s.start ≡ f.at.start = ap (λ (t : Snapshot). t.start) e in omega (arith, ints);
-            reaches = λ s is. let e = same-some _ s g.at is g.is in let h : s.end ≡ g.at.end = ap (λ (t : Snapshot). t.end) e in omega (arith, ints);
+            begun = λ s is. let e = same_found _ s f.at is f.is in let h : s.start ≡ f.at.start = ap (λ (t : Snapshot). t.start) e in omega (arith, ints);
+            reaches = λ s is. let e = same_found _ s g.at is g.is in let h : s.end ≡ g.at.end = ap (λ (t : Snapshot). t.end) e in omega (arith, ints);
           }
 
       -- put in place of the old one it gives the output on the corrected rows

@@ -5,6 +5,8 @@ use Rattle.std.specs.List.{AllByRecursion, slice_index_or, splice}
 use Rattle.std.proofs.lemmas.Int.{ints, to_z-of_z}
 use Rattle.std.proofs.lemmas.List.{length-set}
 use Rattle.std.proofs.lemmas.Option.{slice_get-get_or}
+use Rattle.tilt_base.proofs.Lists.{same_found}
+use Rattle.tilt_base.proofs.Wide.{wide_fits}
 use Rattle.tilt_base.specs.declared.span.Span.{Span}
 use Rattle.tilt_bounds.specs.Margins.{need_at}
 use Rattle.tilt_compiler.specs.Accepted.{AcceptedParts, IsAccepted}
@@ -14,7 +16,7 @@ use Rattle.tilt_core.specs.Meaning.{output_of}
 use Rattle.tilt_core.specs.Needs.{Need}
 use Rattle.tilt_fix.proofs.Corrected.{far-stays, first-within, is-piece, output-snapshots, put-gives, windows-give}
 use Rattle.tilt_fix.proofs.Outside.{AreSameOutside, edited-same}
-use Rattle.tilt_fix.proofs.Stretch.{IsStretchOf, looking-none, looking-some, wide_fits}
+use Rattle.tilt_fix.proofs.Stretch.{IsStretchOf, looking-none, looking-some}
 use Rattle.tilt_fix.specs.Change.{IsChangeOf, all_made, made}
 use Rattle.tilt_fix.specs.Edited.{end_of, input_of, start_of}
 use Rattle.tilt_fix.specs.Piece.{IsPieceOf, first_before}
@@ -42,9 +44,6 @@ pub computed-is : (core : CoreParts) (needs found : List (Option Need)) (rows al
 computed-is core needs found rows all seen snaps from to lo hi is seen_is all_is found_is lo_is hi_is lo_fits hi_fits =
     is ∙ rw (to_z-of_z w64 lo lo_fits, to_z-of_z w64 hi hi_fits, seen_is, all_is, found_is, lo_is, hi_is) refl
 
-pub same-span : (a b : Span) (found : Option Span) → found ≡ Some a → found ≡ Some b → a ≡ b
-same-span a b found is too = cc
-
 -- the bounds of what is computed anew fit
 pub on-fits : (domain span : Span) (lo hi : ℤ) → IsStretch (Some domain) → lo ≡ first_before domain span → hi ≡ span.end
     → domain.start ≤ℤ first_before domain span → first_before domain span <ℤ span.end → span.end ≤ℤ domain.end → SFits w64 lo × SFits w64 hi
@@ -58,9 +57,6 @@ pub if_ok-three : {X E : Type 0} {P Q R S : X → Type 0} (r : Result X E) → I
     → ((x : X) → P x → Q x → R x → S x) → IfOk r S
 if_ok-three (Ok x) p q r f = f x p q r
 if_ok-three (Err e) p q r f = tt
-
-same-list : (a b : List Snapshot) (found : Option (List Snapshot)) → found ≡ Some a → found ≡ Some b → a ≡ b
-same-list a b found is too = cc
 
 module _ (query : AcceptedParts) (rows : List (List Snapshot)) (accepted : IsAccepted query) (many : length rows ≡ length query.core.inputs)
     (domain : Span) (domain_is : domain_of query.core.defs ≡ Some domain) (stretch : IsStretch (Some domain)) (edit : Edit)
@@ -82,7 +78,7 @@ module _ (query : AcceptedParts) (rows : List (List Snapshot)) (accepted : IsAcc
       (need_at query.margins.needs (input_of edit)) (accepted.within.needs.each (input_of edit)) stretch.1 some (sym reached-is ∙ none) in
       let stays = far-stays query.core query.margins accepted.valid accepted.near domain stretch rows (input_of edit)
       (made change (slice_index_or rows (input_of edit) [])) (start_of edit) (end_of edit) many same far in
-      let was = same-list output (given query.core rows domain.start domain.end) (output_of query.core rows) gives (output-given query.core rows domain domain_is many) in
+      let was = same_found (output_of query.core rows) output (given query.core rows domain.start domain.end) gives (output-given query.core rows domain domain_is many) in
       record {
         order = omega arith;
         upto = omega arith;
@@ -112,7 +108,7 @@ module _ (query : AcceptedParts) (rows : List (List Snapshot)) (accepted : IsAcc
         (made change (slice_index_or rows (input_of edit) [])) (start_of edit) (end_of edit) many same at.0 at.1 span at.2
 
     was : output ≡ given query.core rows domain.start domain.end
-    was = same-list output (given query.core rows domain.start domain.end) (output_of query.core rows) gives (output-given query.core rows domain domain_is many)
+    was = same_found (output_of query.core rows) output (given query.core rows domain.start domain.end) gives (output-given query.core rows domain domain_is many)
 
     snaps-are : snaps ≡ given query.core (all_made change (input_of edit) rows) (first_before domain span) span.end
     snaps-are =

@@ -1,35 +1,26 @@
 -- Where rows differ farther away than a query looks, what it means stays.
-use Rattle.std.proofs.Common.{◌≡◌, ℕ, zero, suc, ◌<◌, ℤ, pos, ◌+ℤ◌, ◌-ℤ◌, ◌<ℤ◌, ◌≤ℤ◌, Bool, true, false, if◌then◌else◌, List, [], ◌∷◌, length, map, Option, Some, None, ◌⊎◌, inl, inr, sym, ap, ◌∙◌, arith, subst}
-use Rattle.std.specs.Prelude.{Result, Ok, Err, slice_set}
+use Rattle.std.proofs.Common.{◌≡◌, ℕ, zero, suc, ◌<◌, ℤ, pos, ◌+ℤ◌, ◌-ℤ◌, ◌<ℤ◌, ◌≤ℤ◌, List, [], ◌∷◌, length, map, Option, Some, None, ◌⊎◌, inl, inr, ap, ◌∙◌, arith, subst}
+use Rattle.std.specs.Prelude.{Ok, slice_set}
 use Rattle.std.specs.Bool.{⊤}
 use Rattle.std.specs.List.{slice_index_or}
 use Rattle.std.proofs.lemmas.Int.{ints}
 use Rattle.std.proofs.lemmas.List.{length-map, length-set}
 use Rattle.tilt_bounds.proofs.Laws.{core-IsLocal}
+use Rattle.tilt_bounds.proofs.Margin.{margins-needs}
 use Rattle.tilt_bounds.proofs.Needs.{need_at-definition}
 use Rattle.tilt_bounds.specs.Laws.{AgreeAsAsked, IsLocal}
-use Rattle.tilt_bounds.specs.Margins.{MarginsParts, is_too_far, margins_of, need_at}
+use Rattle.tilt_bounds.specs.Margins.{MarginsParts, margins_of, need_at}
 use Rattle.tilt_core.proofs.Last.{last-need}
 use Rattle.tilt_core.proofs.Sources.{with_definitions-front}
 use Rattle.tilt_core.specs.Core.{CoreParts, IsCore, emitted_number}
 use Rattle.tilt_core.specs.Meaning.{meaning, source_of}
-use Rattle.tilt_core.specs.Needs.{Need, needs, no_margin, reach}
+use Rattle.tilt_core.specs.Needs.{Need, no_margin}
 use Rattle.tilt_fix.proofs.Outside.{AreSameOutside}
 use Rattle.tilt_fix.proofs.Windows.{same-asked}
 use Rattle.tilt_stream.proofs.Locality.{narrower-agrees}
 use Rattle.tilt_stream.specs.Agreement.{Agree}
 use Rattle.tilt_stream.specs.Snap.{Snapshot}
 use Rattle.tilt_stream.specs.Stream.{Stream, stream_of}
-
--- margins are those of the widest need
-given_by : (far : Bool) (w : Need) (made m : MarginsParts) → ◌≡◌ {A = Result MarginsParts Need} (if far then Err w else Ok made) (Ok m) → made ≡ m
-given_by true w made m e = absurd (cc e)
-given_by false w made m e = cc e
-
-needs-are : (core : CoreParts) (m : MarginsParts) → margins_of core ≡ Ok m → m.needs ≡ needs (length core.inputs) core.defs
-needs-are core m near =
-    let w = reach (length core.inputs) core.defs in
-    sym (ap (λ (p : MarginsParts). p.needs) (given_by (is_too_far w) w _ m near))
 
 -- for the output on `(lo, hi]`, a source with that need isn't looked at on `(start, end]`, and its mark one tick later isn't seen
 abbrev pub IsFar : Option Need → ℤ → ℤ → ℤ → ℤ → Type 0
@@ -65,11 +56,11 @@ set-source R same (r ∷ rows) (suc input) new h (suc i) = set-source (λ k. R (
 
 module _ (core : CoreParts) (margins : MarginsParts) (is : IsCore core) (near : margins_of core ≡ Ok margins) where
   local : IsLocal core margins
-  local = core-IsLocal core margins is (needs-are core margins near)
+  local = core-IsLocal core margins is (margins-needs core margins near)
 
   emits : need_at margins.needs (emitted_number core) ≡ Some no_margin
   emits =
-      ap (λ (ns : List (Option Need)). need_at ns (emitted_number core)) (needs-are core margins near)
+      ap (λ (ns : List (Option Need)). need_at ns (emitted_number core)) (margins-needs core margins near)
       ∙ need_at-definition (length core.inputs) core.defs (length core.names)
       ∙ last-need (length core.inputs) (length core.names) core.defs is.one_emitted
 

@@ -1,10 +1,12 @@
 -- Snapshots of a stretch that take the place of those of another stream, which is the same on both sides of it.
 use Rattle.std.proofs.Common.{◌≡◌, ◌⊎◌, ℕ, zero, suc, ◌<◌, ℤ, pos, ◌+ℤ◌, ◌-ℤ◌, ◌<ℤ◌, ◌≤ℤ◌, int_lt, true, false, List, [], ◌∷◌, ◌++◌, length, take, drop}
-use Rattle.std.proofs.Common.{Option, Some, slice_get, inl, inr, refl, sym, ap, ◌∙◌, subst, append_assoc, arith}
+use Rattle.std.proofs.Common.{Some, slice_get, inl, inr, refl, sym, ap, ◌∙◌, subst, append_assoc, arith}
 use Rattle.std.proofs.lemmas.Bool.{cases_Bool}
 use Rattle.std.proofs.lemmas.Int.{ints}
+use Rattle.std.proofs.lemmas.Option.{slice_get_within}
 use Rattle.std.specs.List.{splice}
 use Rattle.std.specs.Int.{int_gap}
+use Rattle.tilt_base.proofs.Lists.{same_found}
 use Rattle.tilt_fix.specs.Replaced.{ended_at, stretched}
 use Rattle.tilt_stream.proofs.Cut.{int_gap_is}
 use Rattle.tilt_stream.proofs.Filling.{snapshots-Fill, Fill-up}
@@ -151,11 +153,6 @@ parted x lo mid hi some p =
     parted_at lo hi mid (without_last (snapshots x lo mid)) p.rest (record { start = p.start; end = p.end; value = x.cell mid }) (snapshots x lo hi)
     (snapshots-Fill x lo hi some) p.all_is p.begun p.reaches
 
-read_below : (list : List Snapshot) (i : ℕ) (s : Snapshot) → slice_get list i ≡ Some s → i < length list
-read_below [] i s is = absurd (cc is)
-read_below (x ∷ xs) zero s is = omega arith
-read_below (x ∷ xs) (suc i) s is = let rest = read_below xs i s is in omega arith
-
 pub found : (x : Stream) (lo mid hi : ℤ) → ChangesOnlyAtMarks x → lo <ℤ mid → mid ≤ℤ hi → IsFound lo hi mid (snapshots x lo hi)
 found x lo mid hi h low high =
     let q = parts_of x lo mid hi h low high in
@@ -164,7 +161,7 @@ found x lo mid hi h low high =
     record {
       at = s;
       is = p.found;
-      within = read_below (snapshots x lo hi) (ended_below mid (snapshots x lo hi)) s p.found;
+      within = slice_get_within (snapshots x lo hi) (ended_below mid (snapshots x lo hi)) s p.found;
       low = p.low;
       begun = p.begun;
       reaches = p.reaches;
@@ -195,12 +192,6 @@ snapshots-single x last tick is =
 same_head : (list xs ys : List Snapshot) (a b : Snapshot) → list ≡ a ∷ xs → list ≡ b ∷ ys → (a ≡ b) × (xs ≡ ys)
 same_head list xs ys a b is too = (cc, cc)
 
-same_found : (found : Option Snapshot) (a b : Snapshot) → found ≡ Some a → found ≡ Some b → a ≡ b
-same_found found a b is too = cc
-
-same_start : (found : Option ℤ) (a b : ℤ) → found ≡ Some a → found ≡ Some b → a ≡ b
-same_start found a b is too = cc
-
 module _ (x : Stream) (h : ChangesOnlyAtMarks x) where
   -- the snapshots of a stretch are those of a shorter one, the last of which goes on
   gone_on : (from to hi : ℤ) → from <ℤ to → (high : to ≤ℤ hi) → (q : PartsOf x from to hi)
@@ -209,7 +200,7 @@ module _ (x : Stream) (h : ChangesOnlyAtMarks x) where
   gone_on from to hi low high q =
       let r = parts_of x from to to h low (omega (arith, ints)) in
       let none : r.rest ≡ [] = (same_head _ r.rest [] _ _ r.rest_is (snapshots-single x (to -ℤ pos 1) to (omega (arith, ints)))).1 in
-      let same : r.start ≡ q.start = same_start _ _ _ r.start_is q.start_is in
+      let same : r.start ≡ q.start = same_found _ _ _ r.start_is q.start_is in
       let before = without_last (snapshots x from to) in
       let last : Snapshot = record { start = q.start; end = q.end; value = x.cell to } in
       let short : snapshots x from to ≡ before ++ record { start = q.start; end = r.end; value = x.cell to } ∷ [] =
@@ -251,7 +242,7 @@ module _ (x y : Stream) (lo hi from to : ℤ) (gx : ChangesOnlyAtMarks x) (some 
     (y_right : PartsOf y lo to hi) (left : (from ≡ lo) ⊎ Agree x y lo (from +ℤ pos 1)) (right : (to ≡ hi) ⊎ Agree x y (to -ℤ pos 1) hi) where
   start_is : (s : Snapshot) → slice_get (snapshots y lo hi) (ended_below (from +ℤ pos 1) (snapshots y lo hi)) ≡ Some s → x_left.start ≡ s.start
   start_is s starts =
-      let same = same_start _ _ _ x_left.start_is ((same_before x y lo from left).1 ∙ y_left.start_is) in
+      let same = same_found _ _ _ x_left.start_is ((same_before x y lo from left).1 ∙ y_left.start_is) in
       same ∙ ap (λ (t : Snapshot). t.start) (same_found _ _ _ (parted y lo (from +ℤ pos 1) hi all y_left).found starts)
 
   end_is : (e : Snapshot) → slice_get (snapshots y lo hi) (ended_below to (snapshots y lo hi)) ≡ Some e → x_right.end ≡ e.end

@@ -1,5 +1,6 @@
 -- Which rows end after a tick, and which start before one: the last ones and the first ones, which a search finds.
-use Rattle.std.proofs.Common.{◌≡◌, ◌≤◌, ℕ, zero, suc, ℤ, pos, ◌+ℤ◌, ◌≤ℤ◌, Bool, true, false, int_lt, int_le, List, [], ◌∷◌, ◌++◌, length, take, drop, filter, inl, inr, refl, neg_ℤ, arith, ap, sym, subst, ◌∙◌}
+use Rattle.std.proofs.Common.{◌≡◌, ◌≤◌, ℕ, zero, suc, ℤ, pos, ◌+ℤ◌, ◌≤ℤ◌, Bool, true, false, int_lt, int_le, List, [], ◌∷◌, ◌++◌, length, take, drop, filter, inl, inr, refl, neg_ℤ, arith}
+use Rattle.std.proofs.Common.{ap, sym, subst, ◌∙◌}
 use Rattle.std.specs.List.{AllByRecursion}
 use Rattle.std.specs.List.Sorted.{IsPartitionPoint, IsPartitionedBy}
 use Rattle.std.specs.Option.{ForSome}

@@ -1,9 +1,10 @@
 -- Where the ticks that an edit reaches lie.
-use Rattle.std.proofs.Common.{◌≡◌, ℤ, pos, negsuc, neg_ℤ, SFits, w64, to_z, of_z, ◌∙◌, ◌+ℤ◌, ◌-ℤ◌, ◌<ℤ◌, ◌≤ℤ◌, Bool, true, false, if◌then◌else◌, Option, Some, None, ◌⊎◌, inl, inr, refl, sym, ap, arith}
+use Rattle.std.proofs.Common.{◌≡◌, ℤ, pos, neg_ℤ, SFits, w64, to_z, of_z, ◌∙◌, ◌+ℤ◌, ◌-ℤ◌, ◌<ℤ◌, ◌≤ℤ◌, Bool, true, false, if◌then◌else◌, Option, Some, None, ◌⊎◌, inl, inr, refl, sym, ap, arith}
 use Rattle.std.specs.Prelude.{int_lt, option_and_then}
 use Rattle.std.specs.Int.{int_max, int_min}
 use Rattle.std.proofs.lemmas.Int.{ints, clamps, by_lt_z, to_z-of_z}
-use Rattle.tilt_base.specs.declared.limits.TheConstants.{REACH, T, WIDE}
+use Rattle.tilt_base.proofs.Wide.{wide_fits}
+use Rattle.tilt_base.specs.declared.limits.TheConstants.{REACH, T}
 use Rattle.tilt_base.specs.declared.span.Span.{Span}
 use Rattle.tilt_bounds.specs.Margins.{IsWithin, evenly}
 use Rattle.tilt_core.specs.Core.{IsStretch}
@@ -92,11 +93,6 @@ module _ (domain : Span) (start end : ℤ) where
       let lo = int_max domain.start (start -ℤ n.ahead) in
       let hi = int_min domain.end (end +ℤ n.back +ℤ pos 1) in
       none-far n within.0 within.2 some width (ticks-none lo hi (int_lt lo hi) refl is)
-
--- a tick within the limits fits
-pub wide_fits : (tick : ℤ) → neg_ℤ WIDE ≤ℤ tick → tick ≤ℤ WIDE → SFits w64 tick
-wide_fits (pos n) low high = record { sfits = omega (arith, ints) }
-wide_fits (negsuc n) low high = record { sfits = omega (arith, ints) }
 
 -- the ticks that look at a stretch, from their bounds
 pub looking-is : (domain : Span) (start end first last : ℤ) (n : Need) → first ≡ int_max domain.start (start -ℤ n.ahead)

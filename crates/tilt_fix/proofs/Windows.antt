@@ -1,5 +1,6 @@
 -- On a stretch of ticks, the rows that have a tick of it agree with all rows.
-use Rattle.std.proofs.Common.{◌≡◌, ℕ, zero, suc, ◌+◌, ℤ, pos, ◌+ℤ◌, ◌-ℤ◌, ◌<ℤ◌, ◌≤ℤ◌, Bool, false, int_lt, List, [], ◌∷◌, length, map, Option, Some, None, inl, inr, refl, sym, ap, ◌∙◌, ◌++◌, filter, arith, subst, take, drop, ◌<◌, set, append_assoc, get_or}
+use Rattle.std.proofs.Common.{◌≡◌, ℕ, zero, suc, ◌+◌, ℤ, pos, ◌+ℤ◌, ◌-ℤ◌, ◌<ℤ◌, ◌≤ℤ◌, Bool, false, int_lt, List, [], ◌∷◌, length, map, Option, Some, None, inl, inr, refl, sym, ap, ◌∙◌, ◌++◌}
+use Rattle.std.proofs.Common.{filter, arith, subst, take, drop, ◌<◌, set, append_assoc, get_or}
 use Rattle.std.specs.List.{AllByRecursion, splice}
 use Rattle.std.specs.Ordering.{int_eq}
 use Rattle.std.proofs.lemmas.Bool.{cases_Bool}

@@ -15,7 +15,7 @@ use Rattle.tilt_lexer.specs.declared.fault.LexFault.{LexFault}
 use Rattle.tilt_lexer.specs.declared.fault.LexFault.TheVariants as lexical
 use Rattle.tilt_lexer.specs.declared.token.Tok.{Tok}
 use Rattle.tilt_lexer.specs.declared.token.Token.{Token}
-use Rattle.tilt_load.proofs.Told.{IsRefusal, place_told}
+use Rattle.tilt_load.proofs.Told.{IsRefusal, place_told, same_far, same_reason}
 use Rattle.tilt_load.specs.FlowFile.{HasFlow, TakesFlow, RefusesFlow, long, no_flow, far}
 use Rattle.tilt_load.specs.Load.{IsLoadFault, IsTooLong}
 use Rattle.tilt_operators.proofs.Accepted.{accepted}
@@ -27,7 +27,7 @@ use Rattle.tilt_operators.specs.Steps.{IsFlow, IsFlowOf, IsFlowText, IsRefused, 
 use Rattle.tilt_operators.specs.Steps as text
 use Rattle.tilt_operators.specs.declared.fault.FlowFault.{FlowFault}
 use Rattle.tilt_operators.specs.declared.fault.FlowFault.TheVariants as fault
-use Rattle.tilt_report.specs.Report.{Reason, Report, refusal, file_too_long, too_far, out_of_memory, report_of_check, report_of_flow, report_of_reach}
+use Rattle.tilt_report.specs.Report.{Reason, refusal, file_too_long, too_far, out_of_memory, report_of_check, report_of_flow, report_of_reach}
 use Rattle.tilt_syntax.proofs.Parsing.{sound-kinds}
 use Rattle.tilt_syntax.specs.Query.{kinds}
 use Rattle.tilt_syntax.specs.Tree.{StatementTree}
@@ -40,14 +40,8 @@ use Rattle.tilt_types.specs.declared.fault.CheckFault.TheVariants as check
 abbrev core : FlowTree → CoreParts
 core flow = core_of (query_of flow)
 
-same_far : {m n : Need} → (let x : Result MarginsParts Need = Err m in x ≡ Err n) → m ≡ n
-same_far e = cc
-
 near_or_far : {m : MarginsParts} {n : Need} → (let x : Result MarginsParts Need = Ok m in x ≡ Err n) → ⊥
 near_or_far e = cc
-
-same_reason : (report : Report) (r s : Reason) → report ≡ refusal r → report ≡ refusal s → r ≡ s
-same_reason report r s is other = cc
 
 no_memory : (r : Reason) → out_of_memory ≡ refusal r → ⊥
 no_memory r e = cc

@@ -21,8 +21,8 @@ use Rattle.tilt_types.specs.WellFormed.{first_fault}
 use Rattle.tilt_core.specs.Core.{CoreParts}
 use Rattle.tilt_core.specs.Needs.{Need}
 use Rattle.tilt_types.specs.declared.fault.CheckFault.{CheckFault}
-use Rattle.tilt_report.specs.Report.{Reason, Report, refusal, file_too_long, too_far, report_of_place, report_of_syntax, report_of_check}
-use Rattle.tilt_load.proofs.Told.{place_told, refused_told, check_told}
+use Rattle.tilt_report.specs.Report.{Reason, file_too_long, too_far, report_of_place, report_of_syntax, report_of_check}
+use Rattle.tilt_load.proofs.Told.{check_told, place_told, refused_told, same_far, same_reason}
 use Rattle.tilt_load.specs.QueryFile.{HasCore, HasQuery, TakesQuery, HasNoCore, RefusesQuery, no_core, far, long, no_tokens, no_statements, ill_formed}
 
 same_err : {f g : CheckFault} → (let x : Result CoreParts CheckFault = Err f in x ≡ Err g) → f ≡ g
@@ -30,13 +30,6 @@ same_err e = cc
 
 same_ok : {c d : CoreParts} → (let x : Result CoreParts CheckFault = Ok c in x ≡ Ok d) → c ≡ d
 same_ok e = cc
-
-same_far : {m n : Need} → (let x : Result MarginsParts Need = Err m in x ≡ Err n) → m ≡ n
-same_far e = cc
-
--- a report is of one refusal
-same_reason : (report : Report) (r s : Reason) → report ≡ refusal r → report ≡ refusal s → r ≡ s
-same_reason report r s is other = cc
 
 -- a query has no core for one reason
 no_core_once : (name bytes : List ℕ) (r s : Reason) → HasNoCore name bytes r → HasNoCore name bytes s → r ≡ s

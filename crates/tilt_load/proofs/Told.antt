@@ -1,5 +1,7 @@
 -- Each fault of a query's text has a reason that is told.
-use Rattle.std.proofs.Common.{◌≡◌, ◌+◌, ℕ, List, Err, refl}
+use Rattle.std.proofs.Common.{◌≡◌, ◌+◌, ℕ, List, Result, Err, refl}
+use Rattle.tilt_bounds.specs.Margins.{MarginsParts}
+use Rattle.tilt_core.specs.Needs.{Need}
 use Rattle.tilt_lexer.specs.Tokens.{IsFaultyAt, bad_byte, big_number, behind_blank, behind_token}
 use Rattle.tilt_lexer.specs.declared.fault.LexFault.{LexFault}
 use Rattle.tilt_lexer.specs.declared.token.Tok.{Tok}
@@ -15,6 +17,14 @@ use Rattle.tilt_types.specs.declared.fault.CheckFault.TheVariants as check
 -- a report is a refusal
 abbrev pub IsRefusal : Report → Type 0
 IsRefusal report = (why : Reason) × (report ≡ refusal why)
+
+-- a report is of one refusal
+pub same_reason : (report : Report) (r s : Reason) → report ≡ refusal r → report ≡ refusal s → r ≡ s
+same_reason report r s is other = cc
+
+-- a query that is too far is so by one need
+pub same_far : {m n : Need} → (let x : Result MarginsParts Need = Err m in x ≡ Err n) → m ≡ n
+same_far e = cc
 
 -- the first faulty place of a text
 pub place_told : (at : ℕ) (bytes : List ℕ) (f : LexFault) → IsFaultyAt at bytes f → IsRefusal (report_of_place f)

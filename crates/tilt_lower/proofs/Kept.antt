@@ -1,11 +1,10 @@
 -- The code of a plan keeps what a code keeps, where its constants are numbers of 64 bits.
-use Rattle.std.proofs.Common.{◌≡◌, ℕ, suc, ◌+◌, ◌*◌, ◌<◌, ◌≤◌, ℤ, pos, ◌+ℤ◌, ◌-ℤ◌, ◌≤ℤ◌, ◌<ℤ◌, Bool, true, false, List, [], ◌∷◌, ◌++◌, length, map, get_or, Option, Some, refl, sym, ap, ◌∙◌, arith}
+use Rattle.std.proofs.Common.{◌≡◌, ℕ, suc, ◌+◌, ◌*◌, ◌<◌, ◌≤◌, ℤ, pos, ◌+ℤ◌, ◌-ℤ◌, ◌≤ℤ◌, ◌<ℤ◌, Bool, true, false, List, [], ◌∷◌, length, map, get_or, Option, Some, refl, sym, ap, ◌∙◌, arith}
 use Rattle.std.proofs.Common.{subst, IsTrue}
 use Rattle.std.specs.Prelude.{⊤, neg_ℤ}
 use Rattle.std.specs.List.{AllByRecursion}
 use Rattle.std.specs.Option.{unwrap_or}
 use Rattle.std.proofs.lemmas.Int.{ints}
-use Rattle.std.proofs.lemmas.List.Elements.{Contains-append_left}
 use Rattle.tilt_base.proofs.Lists.{all-parts}
 use Rattle.tilt_base.specs.declared.limits.TheConstants.{T, REACH}
 use Rattle.tilt_bounds.proofs.Needs.{need_at-definition}
@@ -17,12 +16,13 @@ use Rattle.tilt_code.specs.Code.{Block, LoopParts}
 use Rattle.tilt_code.specs.Grammar.{IsInstr, IsBlock, IsLoop, stands_in_body, stands_in_map}
 use Rattle.tilt_code.specs.References.{RefersBack, ReadsBefore, IsCode}
 use Rattle.tilt_code.specs.declared.instr.Instr.{Instr}
+use Rattle.tilt_core.proofs.Inputs.{inputs-distinct}
 use Rattle.tilt_fuse.proofs.Asks.{asks-weaker}
 use Rattle.tilt_fuse.proofs.Planned.{held-within}
 use Rattle.tilt_fuse.specs.FusedTree.{FusedTree, PlannedLoop}
 use Rattle.tilt_fuse.specs.Plan.{nodes, plan_of}
 use Rattle.tilt_fuse.specs.Trees.{EachAsks, Holds, IsKnown}
-use Rattle.tilt_lexer.specs.Word.{AreDistinct, IsName}
+use Rattle.tilt_lexer.specs.Word.{IsName}
 use Rattle.tilt_lower.proofs.Blocks.{registers-some, length-block, length-maps_of}
 use Rattle.tilt_lower.proofs.Bounds.{IsGood, IsGoodMap, Bounded, good, back, maps-good, registers-few, maps-few}
 use Rattle.tilt_lower.proofs.States.{IsLowered, AreLowered}
@@ -111,10 +111,6 @@ module _ (buffer : ℕ → ℕ) (number count : ℕ) (few : count ≤ 256) (def 
         body = back buffer count few w back_low ahead_low t asks 0 0 (length (maps_of t)) (omega (arith, length-maps_of t));
       }
 
-front-distinct : (one two : List (List ℕ)) → AreDistinct (one ++ two) → AreDistinct one
-front-distinct [] two h = tt
-front-distinct (name ∷ one) two h = (λ among. h.0 (Contains-append_left one two name among), front-distinct one two h.1)
-
 module _ (query : CoreParts) (margins : MarginsParts) (lo hi : ℤ) (used : List Bool) (known : IsKnown (length query.inputs) query.defs used)
     (margins_are : margins.needs ≡ needs (length query.inputs) query.defs) (fuse : Bool) (loops : List PlannedLoop) (plan : loops ≡ plan_of query fuse)
     (low : neg_ℤ T ≤ℤ lo) (some : lo <ℤ hi) (high : hi ≤ℤ T) where
@@ -163,7 +159,7 @@ module _ (query : CoreParts) (margins : MarginsParts) (lo hi : ℤ) (used : List
       record {
         grammatical = record {
           named = (all-parts IsName query.inputs query.names is.named).0;
-          distinct = front-distinct query.inputs query.names is.distinct;
+          distinct = inputs-distinct query is;
           some = some_loops;
           loops = kept-loops inputs (map lower loops) all;
         };

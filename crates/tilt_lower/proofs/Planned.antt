@@ -1,5 +1,5 @@
 -- What the loops of a plan are, one by one, and the loops of the code that they are lowered to.
-use Rattle.std.proofs.Common.{◌≡◌, ℕ, zero, suc, ◌+◌, ◌<◌, ◌≤◌, ℤ, ◌≤ℤ◌, ◌<ℤ◌, Bool, true, false, List, [], ◌∷◌, ◌++◌, length, map, take, get_or, Option, Some, None, Ok, Err, if◌then◌else◌, refl}
+use Rattle.std.proofs.Common.{◌≡◌, ℕ, zero, suc, ◌+◌, ◌<◌, ◌≤◌, ℤ, ◌≤ℤ◌, ◌<ℤ◌, Bool, true, false, List, [], ◌∷◌, ◌++◌, length, map, take, get_or, Option, Some, None, Ok, if◌then◌else◌, refl}
 use Rattle.std.proofs.Common.{sym, ap, ◌∙◌, arith, subst}
 use Rattle.std.specs.Prelude.{neg_ℤ, ◌&&◌, ◌*◌, is_some, replicate, IsOk}
 use Rattle.std.specs.List.{AllByRecursion, slice_index_or}
@@ -8,8 +8,9 @@ use Rattle.std.proofs.lemmas.Int.{ints}
 use Rattle.std.proofs.lemmas.List.{take_more, map-append, length-map, length-replicate, get_or_default}
 use Rattle.tilt_base.proofs.Lists.{all-push}
 use Rattle.tilt_base.specs.declared.limits.TheConstants.{T}
+use Rattle.tilt_bounds.proofs.Margin.{margins-needs}
 use Rattle.tilt_bounds.proofs.Needs.{need_at-definition}
-use Rattle.tilt_bounds.specs.Margins.{MarginsParts, need_at, margins_of, is_too_far}
+use Rattle.tilt_bounds.specs.Margins.{MarginsParts, need_at, margins_of}
 use Rattle.tilt_bounds.specs.Stretch.{stretch_of}
 use Rattle.tilt_bounds.specs.declared.loop_span.LoopSpan.{LoopSpan}
 use Rattle.tilt_code.specs.Code.{LoopParts}
@@ -28,18 +29,7 @@ use Rattle.tilt_base.specs.declared.span.Span.{Span}
 use Rattle.tilt_core.specs.Core.{CoreParts, IsCore, IsStretch, domain_of}
 use Rattle.tilt_core.proofs.Last.{domain_of-stretch}
 use Rattle.tilt_core.specs.CoreTree.{Definition}
-use Rattle.tilt_core.specs.Needs as bounds
 use Rattle.tilt_core.specs.Needs.{Need, no_margin, body_need, needs_from, needs}
-
--- the margins of a core have its needs
-same_margins : (test : Bool) (far : Need) (made margins : MarginsParts) → (if test then Err far else Ok made) ≡ Ok margins → margins.needs ≡ made.needs
-same_margins true far made margins is = absurd (cc is)
-same_margins false far made margins is = let same : made ≡ margins = cc is in ap (λ (m : MarginsParts). m.needs) (sym same)
-
-pub margins-needs : (query : CoreParts) (margins : MarginsParts) → margins_of query ≡ Ok margins → margins.needs ≡ needs (length query.inputs) query.defs
-margins-needs query margins is =
-    let widest = bounds.reach (length query.inputs) query.defs in
-    same_margins (is_too_far widest) widest (record { back = widest.back; ahead = widest.ahead; needs = needs (length query.inputs) query.defs }) margins is
 
 -- the output lies within the times that a query may write
 output-bounds : (over : Option Span) (lo hi : ℤ) → IsStretch over → LiesWithin over lo hi → (neg_ℤ T ≤ℤ lo) × (lo <ℤ hi) × (hi ≤ℤ T)

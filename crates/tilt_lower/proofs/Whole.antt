@@ -2,13 +2,14 @@
 use Rattle.std.proofs.Common.{◌≡◌, ℕ, ◌≤◌, ℤ, List, length, map, take, Ok, sym, ◌∙◌, arith, subst}
 use Rattle.std.specs.List.{AllByRecursion}
 use Rattle.std.proofs.lemmas.List.{take_all, length-map}
+use Rattle.tilt_bounds.proofs.Margin.{margins-needs}
 use Rattle.tilt_bounds.specs.Margins.{MarginsParts, margins_of}
 use Rattle.tilt_code.proofs.Runs.{loops-timed}
 use Rattle.tilt_code.specs.Code.{LoopParts, CodeParts}
 use Rattle.tilt_code.specs.References.{IsCode}
 use Rattle.tilt_fuse.specs.FusedTree.{PlannedLoop}
 use Rattle.tilt_lower.proofs.Kept.{code-is}
-use Rattle.tilt_lower.proofs.Planned.{margins-needs, output-of, sources_used, known, few-all, lowered-all, some-loops}
+use Rattle.tilt_lower.proofs.Planned.{output-of, sources_used, known, few-all, lowered-all, some-loops}
 use Rattle.tilt_lower.proofs.Theorem.{means}
 use Rattle.tilt_lower.specs.Law.{IsPlan, LiesWithin, MeansTheQuery}
 use Rattle.tilt_lower.specs.Constants.{ConstantsFit}

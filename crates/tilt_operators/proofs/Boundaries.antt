@@ -1,10 +1,9 @@
 -- Boundaries in order, and the marks that stand at them.
-use Rattle.std.proofs.Common.{◌≡◌, ℤ, pos, ◌+ℤ◌, ◌-ℤ◌, neg_ℤ, ◌≤ℤ◌, ◌<ℤ◌, Bool, true, false, ◌||◌, List, [], ◌∷◌, map, int_lt, if◌then◌else◌, refl, sym, ap, ◌∙◌, arith}
+use Rattle.std.proofs.Common.{◌≡◌, ℤ, pos, ◌+ℤ◌, ◌-ℤ◌, neg_ℤ, ◌≤ℤ◌, ◌<ℤ◌, Bool, true, false, ◌||◌, List, [], ◌∷◌, map, int_lt, if◌then◌else◌, refl, ◌∙◌, arith}
 use Rattle.std.specs.Ordering.{int_eq}
 use Rattle.std.specs.Prelude.{⊤}
 use Rattle.std.proofs.lemmas.Int.{ints}
-use Rattle.std.proofs.lemmas.Bool.{or_left}
-use Rattle.tilt_base.proofs.Booleans.{or_step}
+use Rattle.tilt_base.proofs.Booleans.{or_again, or_step}
 use Rattle.tilt_stream.specs.Snap.{Snapshot, InOrder, Touch}
 use Rattle.tilt_stream.specs.Stream.{mark_at}
 use Rattle.tilt_operators.specs.Lists.{boundaries, with_boundary, merged}
@@ -36,10 +35,6 @@ marks-before low high (b ∷ bs) tick h before =
     rw none (marks-before (b +ℤ pos 1) high bs tick h.2 (omega (arith, ints)))
 
 -- one more
-again : (a x : Bool) → (a || x) ≡ (a || (a || x))
-again true x = refl
-again false x = refl
-
 exchanged : (a b x : Bool) → (b || (a || x)) ≡ (a || (b || x))
 exchanged true true x = refl
 exchanged true false x = refl
@@ -52,7 +47,7 @@ with_boundary-by : (b c : ℤ) (cs : List ℤ) (tick : ℤ) (less same : Bool) �
 with_boundary-by b c cs tick true same is_less is_same rest = refl
 with_boundary-by b c cs tick false true is_less is_same rest =
     let one : b ≡ c = grind (arith, ints) in
-    rw one (again (int_eq tick (c +ℤ pos 1)) (marks_of cs tick))
+    rw one (or_again (int_eq tick (c +ℤ pos 1)) (marks_of cs tick))
 with_boundary-by b c cs tick false false is_less is_same rest =
     rw rest (exchanged (int_eq tick (b +ℤ pos 1)) (int_eq tick (c +ℤ pos 1)) (marks_of cs tick))
 

@@ -1,5 +1,6 @@
 -- The list of a pipeline has the stream of its query's core: step by step, each definition over the sources before it.
-use Rattle.std.proofs.Common.{◌≡◌, ◌≢◌, ◌≤◌, ◌<◌, ◌^◌, ℕ, zero, suc, ◌+◌, ◌==◌, ℤ, pos, ◌+ℤ◌, neg_ℤ, ◌≤ℤ◌, ◌<ℤ◌, Bool, true, false, List, [], ◌∷◌, ◌++◌, length, map, Option, Some, None, if◌then◌else◌, refl, sym, ap, ◌∙◌, subst, arith, append_assoc, append-nil, length-append}
+use Rattle.std.proofs.Common.{◌≡◌, ◌≢◌, ◌≤◌, ◌<◌, ◌^◌, ℕ, zero, suc, ◌+◌, ◌==◌, ℤ, pos, ◌+ℤ◌, neg_ℤ, ◌≤ℤ◌, ◌<ℤ◌, Bool, true, false, List, [], ◌∷◌, ◌++◌, length, map, Option, Some, None}
+use Rattle.std.proofs.Common.{if◌then◌else◌, refl, sym, ap, ◌∙◌, subst, arith, append_assoc, append-nil, length-append}
 use Rattle.std.specs.List.{AllByRecursion}
 use Rattle.std.specs.Str.{bytes_eq}
 use Rattle.std.proofs.lemmas.Bool.{cases_Bool, false≢true}
@@ -12,7 +13,7 @@ use Rattle.tilt_core.specs.Core.{domain_of}
 use Rattle.tilt_core.specs.CoreTree.{Definition}
 use Rattle.tilt_core.specs.Meaning.{source_of, body_of, definition_of, with_definitions}
 use Rattle.tilt_stream.proofs.Restricted.{uncut}
-use Rattle.tilt_stream.proofs.Same.{period-one}
+use Rattle.tilt_stream.proofs.Same.{period-one, same_is}
 use Rattle.tilt_stream.specs.Agreement.{Agree}
 use Rattle.tilt_stream.specs.Domain.{on_grid, restricted}
 use Rattle.tilt_stream.specs.Pointwise.{shifted}
@@ -29,11 +30,8 @@ use Rattle.tilt_operators.specs.declared.operands.Operands.TheVariants.{Value, B
 use Rattle.tilt_operators.proofs.Bodies.{body, body-cell, body-mark}
 use Rattle.tilt_operators.proofs.Known.{IsKnown}
 use Rattle.tilt_operators.proofs.Names.{is_among, IsNoneOf, place_of-at, numbers_differ, none_of-push}
-use Rattle.tilt_operators.proofs.StepLists.{IsList, revalued-is_list, selected-same, filtered-same, moved-same, moved-is_list, windowed-same, windowed-is_list, join-same, joined-is_list, filled-same, filled-is_list}
-
--- the same stream is one stream
-pub same_is : (x y : Stream) → SameStream x y → x ≡ y
-same_is x y h = λ i. record { cell = λ tick. h.cells tick i; mark = λ tick. h.marks tick i }
+use Rattle.tilt_operators.proofs.StepLists.{IsList, revalued-is_list, selected-same, filtered-same, moved-same, moved-is_list, windowed-same, windowed-is_list, join-same, joined-is_list}
+use Rattle.tilt_operators.proofs.StepLists.{filled-same, filled-is_list}
 
 unshifted : (x : Stream) → shifted x (pos 0) ≡ x
 unshifted x =

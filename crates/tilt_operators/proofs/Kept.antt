@@ -1,5 +1,6 @@
 -- The core of a pipeline's query gives what the pipeline gives.
-use Rattle.std.proofs.Common.{◌≡◌, inl, inr, ◌<◌, ◌^◌, ℕ, zero, suc, ◌+◌, ◌==◌, Bool, true, false, List, [], ◌∷◌, ◌++◌, length, map, Option, Some, None, if◌then◌else◌, refl, sym, ap, ◌∙◌, subst, arith, length-append, append-nil}
+use Rattle.std.proofs.Common.{◌≡◌, inl, inr, ◌<◌, ◌^◌, ℕ, zero, suc, ◌+◌, ◌==◌, Bool, true, false, List, [], ◌∷◌, ◌++◌, length, map, Option, Some, None, if◌then◌else◌, refl, sym, ap, ◌∙◌}
+use Rattle.std.proofs.Common.{subst, arith, length-append, append-nil}
 use Rattle.std.proofs.Common.{option_and_then, option_map}
 use Rattle.std.specs.List.{AllByRecursion}
 use Rattle.std.specs.Str.{bytes_eq}
@@ -9,6 +10,7 @@ use Rattle.tilt_base.proofs.Comparisons.{same_number}
 use Rattle.tilt_base.specs.declared.span.Span.{Span}
 use Rattle.tilt_core.specs.Core.{domain_of, emitted_number}
 use Rattle.tilt_core.specs.Meaning.{emitted, output_of, source_of, with_definitions, meaning}
+use Rattle.tilt_stream.proofs.Same.{same_is}
 use Rattle.tilt_stream.proofs.Snapped.{snapshots-agree}
 use Rattle.tilt_stream.specs.Agreement.{Agree}
 use Rattle.tilt_stream.specs.Snap.{Snapshot, AreRows}
@@ -22,7 +24,7 @@ use Rattle.tilt_operators.specs.Inputs.{inputs_of}
 use Rattle.tilt_operators.specs.Law.{AreSeries, KeepsMeaning}
 use Rattle.tilt_operators.specs.Lists.{filled, flow_list, rows_of, steps_list}
 use Rattle.tilt_operators.specs.Steps.{IsFlow}
-use Rattle.tilt_operators.proofs.Composed.{same_is, tail, steps-agree, IsAt}
+use Rattle.tilt_operators.proofs.Composed.{tail, steps-agree, IsAt}
 use Rattle.tilt_operators.proofs.Known.{IsKnownFlow, flow-known}
 use Rattle.tilt_operators.proofs.Names.{is_among, place_of-front, place_of-within, none_of-inputs}
 use Rattle.tilt_operators.proofs.StepLists.{filled-same, filled-is_list}

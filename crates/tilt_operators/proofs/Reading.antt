@@ -1,20 +1,18 @@
 -- How the steps of a pipeline are read, over plain tokens.
-use Rattle.std.proofs.Common.{◌≡◌, ◌≢◌, ℕ, ℤ, pos, ◌≤ℤ◌, true, false, List, [], ◌∷◌, ◌++◌, length, codes, All, Option, Some, None, MatchOption, refl, sym, ap, ◌∙◌, arith, length-append}
-use Rattle.std.specs.List.{AllByRecursion}
+use Rattle.std.proofs.Common.{◌≡◌, ◌≢◌, ℕ, ℤ, pos, ◌≤ℤ◌, true, false, List, [], ◌∷◌, ◌++◌, length, codes, Option, Some, None, MatchOption, refl, sym, ap, ◌∙◌, arith, length-append}
 use Rattle.std.specs.Str.{bytes_eq}
 use Rattle.std.proofs.lemmas.Bool.{false≢true}
-use Rattle.std.proofs.lemmas.List.Elements.{All-from_recursion}
 use Rattle.tilt_base.proofs.Comparisons.{same_bytes}
 use Rattle.tilt_base.specs.declared.reducer.Reducer.{Reducer}
 use Rattle.tilt_base.specs.declared.span.Span.{Span}
-use Rattle.tilt_lexer.specs.Tokens.{AreTokens, IsSound}
+use Rattle.tilt_lexer.specs.Tokens.{AreTokens}
 use Rattle.tilt_lexer.specs.declared.key.Key.TheVariants as key
 use Rattle.tilt_lexer.specs.declared.mark.Mark.TheVariants as mark
 use Rattle.tilt_lexer.specs.declared.token.Tok.{Tok}
 use Rattle.tilt_lexer.specs.declared.token.Tok.TheVariants.{Word, Number, Key as Reserved, Mark as Sign}
 use Rattle.tilt_syntax.specs.Grammar.{IsBound, reducer_key}
 use Rattle.tilt_lexer.specs.declared.token.Token.{Token}
-use Rattle.tilt_syntax.specs.Query.{AreSound, kinds}
+use Rattle.tilt_syntax.specs.Query.{kinds}
 use Rattle.tilt_syntax.specs.Tree.{ExprTree}
 use Rattle.tilt_types.specs.WellFormed.{is_stretch}
 use Rattle.tilt_operators.specs.Flow.{FlowTree, StepTree, Select, Keep, Shift, Window, Join, step_tree}
@@ -26,16 +24,6 @@ use Rattle.tilt_operators.specs.declared.operands.Operands.TheVariants.{Value, B
 use Rattle.tilt_operators.specs.declared.step.Step.{Step}
 use Rattle.tilt_operators.proofs.Spans.{last_emits, last_inside, one_has, opened, parted}
 use Rattle.tilt_operators.proofs.Unique.{ended-inj, one_reducer, word_number}
-
--- tokens that are sound one after another are so each
-sound-each : (ts : List Token) → AreSound (kinds ts) → AllByRecursion (λ token. IsSound token.kind) ts
-sound-each [] h = tt
-sound-each (t ∷ ts) h = (h.0, sound-each ts h.1)
-
-pub sound-all : (ts : List Token) → AreSound (kinds ts) → All (λ token. IsSound token.kind) ts
-sound-all ts h = All-from_recursion (λ token. IsSound token.kind) ts (sound-each ts h)
-
--- spans
 
 pub one_inside : (ts : List Tok) (a b : Span) → IsInside ts a → IsInside ts b → a ≡ b
 one_inside ts a b g h =

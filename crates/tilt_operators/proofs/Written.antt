@@ -1,5 +1,6 @@
 -- The query of a pipeline is that of some tokens: those of its steps, with other names.
-use Rattle.std.proofs.Common.{◌≡◌, ◌<◌, ◌≤◌, ◌^◌, ◌/◌, ◌%◌, ℕ, zero, suc, ◌+◌, ℤ, pos, negsuc, neg_ℤ, ◌≤ℤ◌, Bool, true, false, ◌&&◌, ◌||◌, List, [], ◌∷◌, ◌++◌, length, map, codes, get_or, decimal, Option, Some, None, if◌then◌else◌, IsTrue, refl, sym, ap, ◌∙◌, subst, arith, length-append}
+use Rattle.std.proofs.Common.{◌≡◌, ◌<◌, ◌≤◌, ◌^◌, ◌/◌, ◌%◌, ℕ, zero, suc, ◌+◌, ℤ, pos, negsuc, neg_ℤ, ◌≤ℤ◌, Bool, true, false, ◌&&◌, ◌||◌, List, [], ◌∷◌, ◌++◌, length, map, codes, get_or}
+use Rattle.std.proofs.Common.{decimal, Option, Some, None, if◌then◌else◌, IsTrue, refl, sym, ap, ◌∙◌, subst, arith, length-append}
 use Rattle.std.specs.Char.{is_ascii_digit}
 use Rattle.std.specs.List.{AllByRecursion, list_all, flat_map}
 use Rattle.std.specs.Prelude.{⊤}

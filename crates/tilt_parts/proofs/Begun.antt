@@ -1,11 +1,11 @@
 -- Parts that are made one after another.
-use Rattle.std.proofs.Common.{◌≡◌, ◌<◌, ◌+◌, ◌-ℤ◌, ◌<ℤ◌, ◌≤ℤ◌, ◌++◌, ◌∙◌, ℕ, suc, ℤ, pos, negsuc, neg_ℤ, false, List, [], ◌∷◌, length, drop, get_or, Some, SFits, w64, sym, ap, subst, arith, append_assoc}
+use Rattle.std.proofs.Common.{◌≡◌, ◌<◌, ◌+◌, ◌-ℤ◌, ◌<ℤ◌, ◌≤ℤ◌, ◌++◌, ◌∙◌, ℕ, suc, ℤ, pos, false, List, [], ◌∷◌, length, drop, get_or, Some, SFits, w64, sym, ap, subst, arith, append_assoc}
 use Rattle.std.proofs.lemmas.Int.{ints}
 use Rattle.std.proofs.lemmas.List.{length_push}
 use Rattle.std.proofs.Math.Nat.{min-zero}
 use Rattle.std.specs.List.{AllByRecursion}
 use Rattle.tilt_base.proofs.Lists.{all-push, drop-at}
-use Rattle.tilt_base.specs.declared.limits.TheConstants.{WIDE}
+use Rattle.tilt_base.proofs.Wide.{wide_fits}
 use Rattle.tilt_base.specs.declared.span.Span.{Span}
 use Rattle.tilt_code.specs.Run.{run_of}
 use Rattle.tilt_compiler.specs.Accepted.{AcceptedParts}
@@ -25,10 +25,6 @@ stands-new query rows place stretch part means is = record {
   means = ap (λ (p : PartValue). run_of p.pipe.code rows) (sym is) ∙ means;
   after = λ granted. is ∙ ap (λ (n : ℕ). part_after stretch (code_on query stretch) rows n) (sym (min-zero (length (all_on query rows stretch))));
 }
-
-wide_fits : (tick : ℤ) → neg_ℤ WIDE ≤ℤ tick → tick ≤ℤ WIDE → SFits w64 tick
-wide_fits (pos n) low high = record { sfits = omega (arith, ints) }
-wide_fits (negsuc n) low high = record { sfits = omega (arith, ints) }
 
 -- the parts up to a cut: whatever stands from there on goes on from them
 pub record AreBegun (query : AcceptedParts) (rows : List (List Snapshot)) (domain : Span) (cuts : List ℤ) (start : ℤ) (left : List ℤ)

@@ -1,8 +1,8 @@
 -- Lists, part by part; snapshots after others.
-use Rattle.std.proofs.Common.{◌≡◌, ◌≢◌, ◌<◌, ◌+◌, ◌&&◌, Bool, true, false, nat_eq, inl, inr, ℕ, zero, suc, ℤ, neg_ℤ, ◌<ℤ◌, ◌≤ℤ◌, List, [], ◌∷◌, ◌++◌, length, take, drop, get_or, slice_get, slice_set, Option, Some, None, MatchOption, Result, Ok, Err}
+use Rattle.std.proofs.Common.{◌≡◌, ◌≢◌, ◌<◌, ◌+◌, ◌&&◌, Bool, true, false, nat_eq, inl, inr, ℕ, zero, suc, ℤ, neg_ℤ, ◌<ℤ◌, ◌≤ℤ◌, List, [], ◌∷◌, ◌++◌, length, take, get_or, slice_get}
+use Rattle.std.proofs.Common.{slice_set, Option, Some, None, MatchOption, Result, Ok, Err}
 use Rattle.std.proofs.Common.{refl, sym, ap, ◌∙◌, subst, arith, append_assoc, append-nil}
 use Rattle.std.proofs.lemmas.Int.{ints}
-use Rattle.std.proofs.lemmas.List.{take-append-drop}
 use Rattle.std.proofs.lemmas.Option.{none-some, same_Some}
 use Rattle.std.proofs.Math.Seq.{take-suc}
 use Rattle.std.proofs.lemmas.Bool.{cases_Bool, false≢true}
@@ -11,7 +11,7 @@ use Rattle.std.specs.List.{AllByRecursion, list_all}
 use Rattle.std.specs.Option.{ForSome}
 use Rattle.std.specs.Prelude.{OnOk, OnErr}
 use Rattle.std.specs.declared.alloc.AllocError.{AllocError}
-use Rattle.tilt_base.proofs.Lists.{all-slice_get, drop-at}
+use Rattle.tilt_base.proofs.Lists.{all-each, all-slice_get}
 use Rattle.tilt_base.specs.declared.limits.TheConstants.{WIDE}
 use Rattle.tilt_parts.specs.Parts.{joint}
 use Rattle.tilt_stream.proofs.Pieces.{without_last-push, last_start-push}
@@ -34,11 +34,6 @@ pub set-same : {X : Type 0} (xs : List X) (i : ℕ) (x : X) → slice_get xs i �
 set-same [] i x is = refl
 set-same (y ∷ ys) zero x is = ap (λ z. z ∷ ys) (sym (same_Some y x is))
 set-same (y ∷ ys) (suc i) x is = ap (λ zs. y ∷ zs) (set-same ys i x is)
-
--- what holds of each place holds of all
-pub all-each : {X : Type 0} (P : X → Type 0) (xs : List X) → ((i : ℕ) (x : X) → slice_get xs i ≡ Some x → P x) → AllByRecursion P xs
-all-each P [] each = tt
-all-each P (x ∷ xs) each = (each 0 x refl, all-each P xs (λ i y is. each (suc i) y is))
 
 -- what a call gave where it went well, or didn't
 pub on_ok : {X Y : Type 0} (result : Result (Unit {0}) AllocError) → (X → Y) → OnOk result X → OnOk result Y

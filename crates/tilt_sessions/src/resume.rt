@@ -36,8 +36,8 @@ use tilt_words::Bind;
 /// A session after the checkpoint in a file: what is printed newly, and where the session ends by cuts its own checkpoint, which is
 /// to be saved; where no cut is given, the session goes on to the last row, and nothing is saved. Each row of an input starts at its
 /// cut of the checkpoint or after it, not before the last row ended, and before its new cut. Whether the cuts are given to the inputs,
-/// and then whether one falls, is tested before the input names are. All memory is taken here. `beyond` says that sessions print together, and leave, what one session
-/// does on all rows, and `good` that what a session leaves is never refused.
+/// and then whether one falls, is tested before the input names are. All memory is taken here. `beyond` says that sessions print
+/// together, and leave, what one session does on all rows, and `good` that what a session leaves is never refused.
 pub fn resume_session<'a, S: Shelf>(
     alloc: Global,
     shelf: &mut S,
@@ -109,8 +109,9 @@ fn load_onward<'a, S: Shelf>(
     ensures core { IfOk result (λ onward. onward.loaded.accepted.core ≡ core_of onward.loaded.checkpoint.query) }
     ensures cut { IfOk result (λ onward. onward.cut ≡ end_after (ending_of ending.entry) onward.loaded.checkpoint) }
     ensures onward { IfOk result (λ onward. IsOnward (cuts_of onward.loaded.checkpoint) onward.cut) }
-    ensures fault { IfErr result (λ fault. IsLoadFault S.tells (RefusesToGoOn name.now (ending_of ending.entry) (S.files shelf.old name.now))
-        (λ which. which ≡ name.now) (S.read_faults shelf.old) (S.read_faults shelf.new) (report_of fault)) }
+    ensures fault { IfErr result (λ fault. IsLoadFault S.tells
+        (RefusesToGoOn name.now (ending_of ending.entry) (S.files shelf.old name.now)) (λ which. which ≡ name.now)
+        (S.read_faults shelf.old) (S.read_faults shelf.new) (report_of fault)) }
     ensures given { S.tells → IfOk result (λ _. S.given shelf.new ≡ added_count (S.given shelf.old) (length (S.files shelf.old name.now))) }
     ensures rest { OnlyReads S.files S.read_faults S.save_faults S.takes shelf.old shelf.new }
 {

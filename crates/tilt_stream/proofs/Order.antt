@@ -1,5 +1,6 @@
 -- Lists of snapshots in the order of time.
-use Rattle.std.proofs.Common.{IfSome, Option, None, unwrap_or, ◌≡◌, ◌+◌, ◌<◌, get_or, slice_set, ℕ, zero, suc, take, drop, ℤ, ◌<ℤ◌, ◌≤ℤ◌, List, [], ◌∷◌, ◌++◌, Some, refl, arith, slice_get, option_map, sym, ◌∙◌, ap, length, ◌-◌, sub-one, neg_ℤ}
+use Rattle.std.proofs.Common.{IfSome, Option, None, unwrap_or, ◌≡◌, ◌+◌, ◌<◌, get_or, slice_set, ℕ, zero, suc, take, drop, ℤ, ◌<ℤ◌, ◌≤ℤ◌, List, [], ◌∷◌, ◌++◌, Some, refl, arith, slice_get}
+use Rattle.std.proofs.Common.{option_map, sym, ◌∙◌, ap, length, ◌-◌, sub-one, neg_ℤ}
 use Rattle.std.specs.List.{AllByRecursion}
 use Rattle.tilt_base.specs.declared.limits.TheConstants.{WIDE}
 use Rattle.std.specs.Option.{ForSome}

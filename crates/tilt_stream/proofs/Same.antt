@@ -27,6 +27,10 @@ same-sym x y h = record { cells = λ tick. sym (h.cells tick); marks = λ tick. 
 pub same-trans : (x y z : Stream) → SameStream x y → SameStream y z → SameStream x z
 same-trans x y z g h = record { cells = λ tick. g.cells tick ∙ h.cells tick; marks = λ tick. g.marks tick ∙ h.marks tick }
 
+-- streams that are the same at every tick are one
+pub same_is : (x y : Stream) → SameStream x y → x ≡ y
+same_is x y same = λ i. record { cell = λ tick. same.cells tick i; mark = λ tick. same.marks tick i }
+
 pub shifted-same : (x y : Stream) (by : ℤ) → SameStream x y → SameStream (shifted x by) (shifted y by)
 shifted-same x y by h = record { cells = λ tick. h.cells (tick +ℤ by); marks = λ tick. h.marks (tick +ℤ by) }
 

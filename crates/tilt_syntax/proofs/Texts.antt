@@ -28,7 +28,7 @@ each_sound : (ts : List Token) → AreSound (kinds ts) → AllByRecursion (λ (t
 each_sound [] h = tt
 each_sound (t ∷ ts) h = (h.0, each_sound ts h.1)
 
-sound_back : (ts : List Token) → AreSound (kinds ts) → All (λ token. IsSound token.kind) ts
+pub sound_back : (ts : List Token) → AreSound (kinds ts) → All (λ token. IsSound token.kind) ts
 sound_back ts h = All-from_recursion (λ (token : Token). IsSound token.kind) ts (each_sound ts h)
 
 module _ (bytes : List ℕ) where

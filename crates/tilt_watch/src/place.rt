@@ -35,7 +35,8 @@ impl Place {
 
 // Lets a watcher see a row, and answers its place then.
 pub(crate) fn see_row(watcher: &mut Box<dyn Watcher>, row: &Row) -> Place
-    ensures place { result ≡ place_after (record { pair = pair watcher.old; step = step watcher.old; ends = ends watcher.old }) (row.now ∷ []) }
+    ensures place { result
+        ≡ place_after (record { pair = pair watcher.old; step = step watcher.old; ends = ends watcher.old }) (row.now ∷ []) }
     ensures watcher { record { pair = pair watcher.new; step = step watcher.new; ends = ends watcher.new }
         ≡ with_pair (record { pair = pair watcher.old; step = step watcher.old; ends = ends watcher.old }) (figures_at result) }
 {

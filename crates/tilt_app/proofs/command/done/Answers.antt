@@ -35,7 +35,8 @@ pub returns-in_err-answered-clause-seen : goal.returns-in_err-answered-clause-se
 returns-in_err-answered-clause-seen g c =
     let p = err_from_is_err_and c.from_residual.result c.from_residual.ensures.1 in
     rw (p.1, p.2) (fault_seen g.S.Shelf.tells g.S.Shelf.files g.S.Shelf.read_faults g.S.Shelf.save_faults g.S.Shelf.takes g.S.Shelf.given c.args.shelf.now c.answer.new.shelf
-    (command_of c.args.command.now) c.in_err-answered.field-0.0 c.in_err-answered.ensures.does _ (IsShow g.S.Shelf.tells (g.S.Shelf.files c.args.shelf.now) (command_of c.args.command.now)) (record { kept = refl; unwritten = λ t. refl }))
+    (command_of c.args.command.now) c.in_err-answered.field-0.0 c.in_err-answered.ensures.does _ (IsShow g.S.Shelf.tells (g.S.Shelf.files c.args.shelf.now) (command_of c.args.command.now))
+    (record { kept = refl; unwritten = λ t. refl }))
 
 pub returns-in_err-answered-clause-saving : goal.returns-in_err-answered-clause-saving
 returns-in_err-answered-clause-saving g c =
@@ -50,6 +51,12 @@ put-requires-clause-room g c =
     let answered = c.in_ok-answered.answered in
     let does = c.in_ok-answered.ensures.does in
     c.requires.room _ (save_of answered.save) (λ t. answer_made command read answered does t _)
+
+pub returns-in-Err-clause-rest : goal.returns-in-Err-clause-rest
+returns-in-Err-clause-rest g c = λ unsaved.
+    let command = command_of c.args.command.now in
+    let read = reading g.S.Shelf.tells g.S.Shelf.files g.S.Shelf.read_faults g.S.Shelf.save_faults g.S.Shelf.takes g.S.Shelf.given c.args.shelf.now c.answer.new.shelf in
+    answer_rest command read c.in_ok-answered.answered c.in_ok-answered.ensures.does
 
 pub returns-in-Err-clause-cause : goal.returns-in-Err-clause-cause
 returns-in-Err-clause-cause g c =

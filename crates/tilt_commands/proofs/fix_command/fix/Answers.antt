@@ -1,9 +1,10 @@
 use Rattle.std.proofs.Common.{refl}
 use Rattle.std.proofs.lemmas.Result.{err_from_is_err_and}
 use Rattle.tilt_commands.proofs.Doing.{fits_unsaved, none_shown}
-use Rattle.tilt_commands.proofs.Fixing.{all_read, correction_undone, edits_undone, fix_turn, fixed, inputs_distinct, inputs_few, loads_undone}
+use Rattle.tilt_commands.proofs.Fixing.{all_read, correction_undone, edits_undone, fix_turn, fixed, inputs_few, loads_undone}
 use Rattle.tilt_commands.specs.Fixed.{with_edits}
 use Rattle.tilt_commands.specs.LastFile.{last_turn}
+use Rattle.tilt_core.proofs.Inputs.{inputs-distinct}
 use Rattle.tilt_load.specs.Does.{reading}
 use Rattle.tilt_outside.proofs.MoreReads.{reads-then}
 use Rattle.tilt_printed.specs.declared.printed.Printed.TheVariants.{Whole}
@@ -44,7 +45,7 @@ pub load_edits-requires-clause-few : goal.load_edits-requires-clause-few
 load_edits-requires-clause-few g c = rw c.inputs.ensures.names (inputs_few c.core.result.now c.inputs.ensures.accepted)
 
 pub load_edits-requires-clause-distinct : goal.load_edits-requires-clause-distinct
-load_edits-requires-clause-distinct g c = rw c.inputs.ensures.names (inputs_distinct c.core.result.now c.inputs.ensures.accepted)
+load_edits-requires-clause-distinct g c = rw c.inputs.ensures.names (inputs-distinct c.core.result.now c.inputs.ensures.accepted)
 
 pub returns-in_err-edits : goal.returns-in_err-edits
 returns-in_err-edits g c =

@@ -20,11 +20,13 @@ returns-in_err-loaded-clause-fault g c =
 pub returns-in-None-clause-taken : goal.returns-in-None-clause-taken
 returns-in-None-clause-taken g c = λ told. record {
   taken = c.in_ok-loaded.ensures.taken told;
-  fits = told_none c.args.division.cuts.now c.args.division.order.now c.in_ok-loaded.loaded.accepted.core c.domain.result c.domain.ensures.value (ap (option_map (λ r. reason_of r)) (sym c.in-None.is) ∙ c.division_fault.ensures);
+  fits = told_none c.args.division.cuts.now c.args.division.order.now c.in_ok-loaded.loaded.accepted.core c.domain.result c.domain.ensures.value (ap (option_map (λ r. reason_of r))
+      (sym c.in-None.is) ∙ c.division_fault.ensures);
 }
 
 pub returns-in-None-clause-fits : goal.returns-in-None-clause-fits
-returns-in-None-clause-fits g c = told_none c.args.division.cuts.now c.args.division.order.now c.in_ok-loaded.loaded.accepted.core c.domain.result c.domain.ensures.value (ap (option_map (λ r. reason_of r)) (sym c.in-None.is) ∙ c.division_fault.ensures)
+returns-in-None-clause-fits g c = told_none c.args.division.cuts.now c.args.division.order.now c.in_ok-loaded.loaded.accepted.core c.domain.result c.domain.ensures.value (ap (option_map
+    (λ r. reason_of r)) (sym c.in-None.is) ∙ c.division_fault.ensures)
 
 pub returns-clause-fault : goal.returns-clause-fault
 returns-clause-fault g c =

@@ -1,8 +1,9 @@
 use Rattle.std.proofs.Common.{◌≡◌, ◌∙◌, ◌<◌, ◌≤◌, List, length, ap, subst, arith, to_z, of_z, get_or}
 use Rattle.std.specs.Int.{w64}
 use Rattle.std.proofs.lemmas.Int.{to_z-of_z}
+use Rattle.tilt_bounds.proofs.Margin.{margins-needs}
 use Rattle.tilt_fuse.specs.FusedTree.{PlannedLoop, fused_tree_of}
-use Rattle.tilt_lower.proofs.Planned.{margins-needs, output-of, all-pushed, planned-at, few-all, used-at, lowered-is, lowered-more}
+use Rattle.tilt_lower.proofs.Planned.{output-of, all-pushed, planned-at, few-all, used-at, lowered-is, lowered-more}
 use Rattle.tilt_lower.proofs.Whole.{whole-kept, whole-means}
 use Rattle.tilt_lower.specs.Constants.{ConstantsFit}
 use Rattle.tilt_lower.specs.Lowering.{buffer_of, loop_on, lowered}

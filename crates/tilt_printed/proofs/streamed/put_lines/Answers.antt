@@ -1,8 +1,9 @@
 use Rattle.std.proofs.Common.{◌≡◌, ◌∙◌, ◌≤◌, ℕ, length, max, ap, subst, sym, arith}
+use Rattle.std.proofs.lemmas.Option.{slice_get_within}
 use Rattle.std.proofs.lemmas.Result.{err_from_is_err_and}
 use Rattle.tilt_printed.proofs.Streams.{line-failed, line-put, line-room, line-wanting, lines-none, lines-put, most-first, most-later, next-of, none-of, one-later, place-end}
 use Rattle.tilt_code.specs.Run.{run_of}
-use Rattle.tilt_pipe.proofs.Collected.{nothing-left, placed}
+use Rattle.tilt_pipe.proofs.Collected.{nothing-left}
 use Rattle.tilt_pipe.specs.Rings.{most_held}
 use Rattle.tilt_pipe.specs.Value.{PipeParts, pipe_after}
 use Rattle.tilt_printed.proofs.streamed.put_lines.Goals as goal
@@ -32,7 +33,7 @@ pub loop-pipe-smaller : goal.loop-pipe-smaller
 loop-pipe-smaller g c =
     let i = c.loop-pipe.invariant in
     let next = next-of c.args.pipe.code c.args.pipe.inputs c.loop-pipe.pipe c.in_ok-snap.field-0 i.is c.in_ok-snap.ensures.given in
-    let within = placed (run_of c.args.pipe.code c.args.pipe.inputs) c.loop-pipe.pipe.given c.in-Some.snap (next ∙ c.in-Some.is) in
+    let within = slice_get_within (run_of c.args.pipe.code c.args.pipe.inputs) c.loop-pipe.pipe.given c.in-Some.snap (next ∙ c.in-Some.is) in
     let later = one-later c.args.pipe.code c.args.pipe.inputs c.loop-pipe.pipe c.next.new.self i.is (rw c.in-Some.is at (c.in_ok-snap.ensures.after (ap (λ (p : PipeParts). p.refused) i.is))) in
     let given = later.0 in
     omega arith
@@ -42,7 +43,7 @@ loop-pipe-preserved g c =
     let i = c.loop-pipe.invariant in
     let next = next-of c.args.pipe.code c.args.pipe.inputs c.loop-pipe.pipe c.in_ok-snap.field-0 i.is c.in_ok-snap.ensures.given in
     let later = one-later c.args.pipe.code c.args.pipe.inputs c.loop-pipe.pipe c.next.new.self i.is (rw c.in-Some.is at (c.in_ok-snap.ensures.after (ap (λ (p : PipeParts). p.refused) i.is))) in
-    let within = placed (run_of c.args.pipe.code c.args.pipe.inputs) c.loop-pipe.pipe.given c.in-Some.snap (next ∙ c.in-Some.is) in
+    let within = slice_get_within (run_of c.args.pipe.code c.args.pipe.inputs) c.loop-pipe.pipe.given c.in-Some.snap (next ∙ c.in-Some.is) in
     let given = later.0 in
     record {
       is = later.1;

@@ -1,10 +1,11 @@
 use Rattle.std.proofs.Common.{◌≡◌, ◌∙◌, ◌≤◌, ℕ, length, ap, refl, subst, sym, arith}
+use Rattle.std.proofs.lemmas.Option.{slice_get_within}
 use Rattle.std.proofs.lemmas.Result.{err_from_is_err_and}
 use Rattle.tilt_printed.proofs.SeenLines.{seen-failed, seen-more, seen-none, seen-wanting}
 use Rattle.tilt_printed.proofs.Streams.{line-failed, line-put, line-room, line-wanting, lines-none, lines-put, next-of, one-later}
 use Rattle.tilt_printed.specs.Left.{left_of}
 use Rattle.tilt_code.specs.Run.{run_of}
-use Rattle.tilt_pipe.proofs.Collected.{nothing-left, placed}
+use Rattle.tilt_pipe.proofs.Collected.{nothing-left}
 use Rattle.tilt_pipe.specs.Value.{PipeParts, pipe_after}
 use Rattle.tilt_printed.proofs.watched.put_seen_lines.Goals as goal
 
@@ -44,7 +45,7 @@ pub loop-pipe-smaller : goal.loop-pipe-smaller
 loop-pipe-smaller g c =
     let i = c.loop-pipe.invariant in
     let next = next-of c.args.pipe.code c.args.pipe.inputs c.loop-pipe.pipe c.in_ok-snap.field-0 i.is c.in_ok-snap.ensures.given in
-    let within = placed (run_of c.args.pipe.code c.args.pipe.inputs) c.loop-pipe.pipe.given c.in-Some.snap (next ∙ c.in-Some.is) in
+    let within = slice_get_within (run_of c.args.pipe.code c.args.pipe.inputs) c.loop-pipe.pipe.given c.in-Some.snap (next ∙ c.in-Some.is) in
     let later = one-later c.args.pipe.code c.args.pipe.inputs c.loop-pipe.pipe c.next.new.self i.is (rw c.in-Some.is at (c.in_ok-snap.ensures.after (ap (λ (p : PipeParts). p.refused) i.is))) in
     let given = later.0 in
     omega arith
@@ -55,7 +56,7 @@ loop-pipe-preserved g c =
     let i = c.loop-pipe.invariant in
     let next = next-of c.args.pipe.code c.args.pipe.inputs c.loop-pipe.pipe c.in_ok-snap.field-0 i.is c.in_ok-snap.ensures.given in
     let later = one-later c.args.pipe.code c.args.pipe.inputs c.loop-pipe.pipe c.next.new.self i.is (rw c.in-Some.is at (c.in_ok-snap.ensures.after (ap (λ (p : PipeParts). p.refused) i.is))) in
-    let within = placed all c.loop-pipe.pipe.given c.in-Some.snap (next ∙ c.in-Some.is) in
+    let within = slice_get_within all c.loop-pipe.pipe.given c.in-Some.snap (next ∙ c.in-Some.is) in
     let given = later.0 in
     let more = seen-more _ c.loop-pipe.panel c.show_snap.new.panel _ _ _ all c.loop-pipe.pipe.given c.next.new.self.given c.in-Some.snap i.places i.list later.0 (next ∙ c.in-Some.is)
     c.show_snap.ensures.places c.show_snap.ensures.list in

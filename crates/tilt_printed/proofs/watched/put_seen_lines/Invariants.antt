@@ -15,11 +15,15 @@ invariant-loop-pipe g l =
       is : l.pipe ≡ pipe_after code rows l.pipe.given;
       within : l.pipe.given ≤ length (run_of code rows);
       prints : Prints {T = Unit {0}} g.O.Sink.tells g.O.Sink.written g.O.Sink.faults g.O.Sink.takes l.initial.out l.out (lines_of (take l.pipe.given (run_of code rows))) (Ok tt);
-      places : l.panel ≡ places_after l.initial.panel (watches (λ b. (goal.Watcher-dyn g (b.vtable, b.value)).pair b.value) (λ b. (goal.Watcher-dyn g (b.vtable, b.value)).step b.value) (λ b. (goal.Watcher-dyn g (b.vtable, b.value)).ends b.value) l.initial.watchers.items)
+      places : l.panel ≡ places_after l.initial.panel (watches (λ b. (goal.Watcher-dyn g (b.vtable, b.value)).pair b.value) (λ b. (goal.Watcher-dyn g (b.vtable, b.value)).step b.value)
+          (λ b. (goal.Watcher-dyn g (b.vtable, b.value)).ends b.value) l.initial.watchers.items)
           (rows_of (take l.pipe.given (run_of code rows)));
-      list : watches (λ b. (goal.Watcher-dyn g (b.vtable, b.value)).pair b.value) (λ b. (goal.Watcher-dyn g (b.vtable, b.value)).step b.value) (λ b. (goal.Watcher-dyn g (b.vtable, b.value)).ends b.value) l.watchers.items
-          ≡ left_after (watches (λ b. (goal.Watcher-dyn g (b.vtable, b.value)).pair b.value) (λ b. (goal.Watcher-dyn g (b.vtable, b.value)).step b.value) (λ b. (goal.Watcher-dyn g (b.vtable, b.value)).ends b.value) l.initial.watchers.items) (rows_of (take l.pipe.given (run_of code rows)));
-      in_step : AreInStep l.panel (watches (λ b. (goal.Watcher-dyn g (b.vtable, b.value)).pair b.value) (λ b. (goal.Watcher-dyn g (b.vtable, b.value)).step b.value) (λ b. (goal.Watcher-dyn g (b.vtable, b.value)).ends b.value) l.watchers.items);
+      list : watches (λ b. (goal.Watcher-dyn g (b.vtable, b.value)).pair b.value) (λ b. (goal.Watcher-dyn g (b.vtable, b.value)).step b.value) (λ b. (goal.Watcher-dyn g
+          (b.vtable, b.value)).ends b.value) l.watchers.items
+          ≡ left_after (watches (λ b. (goal.Watcher-dyn g (b.vtable, b.value)).pair b.value) (λ b. (goal.Watcher-dyn g (b.vtable, b.value)).step b.value) (λ b. (goal.Watcher-dyn g
+          (b.vtable, b.value)).ends b.value) l.initial.watchers.items) (rows_of (take l.pipe.given (run_of code rows)));
+      in_step : AreInStep l.panel (watches (λ b. (goal.Watcher-dyn g (b.vtable, b.value)).pair b.value) (λ b. (goal.Watcher-dyn g (b.vtable, b.value)).step b.value) (λ b.
+          (goal.Watcher-dyn g (b.vtable, b.value)).ends b.value) l.watchers.items);
     }
 
 abbrev pub decreases-loop-pipe : goal.decreases-loop-pipe

@@ -102,7 +102,8 @@ resume-requires-clause-rows g c =
     let bounds = c.bounds_after-bounds.ensures.bounds ∙ ap (λ (k : Cut). later_bounds k c0) ends in
     let goes = c.in_ok-onward.ensures.taken in
     let many = c.in_ok-rows.ensures.many ∙ ap (λ (ns : List (List ℕ)). length ns) names ∙ sym c.in_ok-onward.ensures.valid.counted in
-    let each : AreCounted (end_after ending c0) c.in_ok-rows.rows.items = λ cuts same. given_counted ending (inputs_of c0) cuts same ∙ sym (c.in_ok-rows.ensures.many ∙ ap (λ (ns : List (List ℕ)). length ns) names) in
+    let each : AreCounted (end_after ending c0) c.in_ok-rows.rows.items = λ cuts same. given_counted ending (inputs_of c0) cuts same ∙ sym (c.in_ok-rows.ensures.many ∙ ap (λ (ns : List
+    (List ℕ)). length ns) names) in
     rw ends (later_handed (end_after ending c0) c0.series c.in_ok-rows.rows.items many each (rw bounds at c.in_ok-rows.ensures.within))
 
 pub resume-requires-clause-range : goal.resume-requires-clause-range

@@ -9,7 +9,11 @@ use Rattle.tilt_words.proofs.Listed.{HasComma, IsTime, after_time, before_all, b
 use Rattle.tilt_words.proofs.number.read_rising.Goals as goal
 
 pub loop-piece-init : goal.loop-piece-init
-loop-piece-init c = (c.utf8.word, rw (c.new-times.ensures.items, to_z-of_z w64 c.args.apart c.ranges.apart) (before_all (IsTime T) (after_time c.args.apart) (times_spelled T) (neg_ℤ T) c.args.word.now))
+loop-piece-init c = (
+  c.utf8.word,
+  rw (c.new-times.ensures.items, to_z-of_z w64 c.args.apart c.ranges.apart) (before_all (IsTime T) (after_time c.args.apart) (times_spelled T)
+      (neg_ℤ T) c.args.word.now),
+)
 
 pub returns-in_err-least : goal.returns-in_err-least
 returns-in_err-least c =

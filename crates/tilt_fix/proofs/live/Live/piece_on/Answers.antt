@@ -2,8 +2,9 @@ use Rattle.std.proofs.Common.{◌≡◌, refl, [], Some, List, w64, ap, sym, sub
 use Rattle.std.proofs.lemmas.Int.{ints, to_z-of_z}
 use Rattle.std.proofs.lemmas.List.{length-set}
 use Rattle.std.specs.List.{AllByRecursion, slice_index_or}
+use Rattle.tilt_base.proofs.Lists.{same_found}
 use Rattle.tilt_bounds.specs.Margins.{need_of}
-use Rattle.tilt_fix.proofs.Pieced.{computed-is, if_ok-three, on-fits, piece-fits, piece-put, same-span, span-within}
+use Rattle.tilt_fix.proofs.Pieced.{computed-is, if_ok-three, on-fits, piece-fits, piece-put, span-within}
 use Rattle.tilt_fix.proofs.Windows.{length-windows}
 use Rattle.tilt_fix.specs.Change.{IsChangeOf, all_made, made}
 use Rattle.tilt_fix.specs.Edited.{input_of}
@@ -48,7 +49,7 @@ run_on-requires-clause-within c = λ x is.
     let some = subst (λ (l : LiveParts). reached l.query c.args.edit.now ≡ Some c.args.span) (sym c.self.view_is) c.requires.reached in
     let within = span-within c.self.inside.accepted c.self.inside.rows.items c.self.invariant.accepted c.self.invariant.many c.domain.result c.domain.ensures.value
     c.domain.ensures.stretch c.args.edit.now c.requires.edit.some c.args.change.now does c.args.span some in
-    let e : c.domain.result ≡ x = same-span c.domain.result x _ c.domain.ensures.value is in
+    let e : c.domain.result ≡ x = same_found _ c.domain.result x c.domain.ensures.value is in
     let fits = on-fits c.domain.result c.args.span c.widened-on.result.start c.widened-on.result.end c.domain.ensures.stretch c.widened-on.ensures.start c.widened-on.ensures.end
     within.1 within.2 within.3 in
     rw (to_z-of_z w64 c.widened-on.result.start fits.0, to_z-of_z w64 c.widened-on.result.end fits.1, c.widened-on.ensures.start, c.widened-on.ensures.end, ← e)

@@ -1,6 +1,7 @@
 use Rattle.std.proofs.Common.{◌≡◌, ◌++◌, ◌∙◌, List, ℕ, length, true, ap, subst, arith, append_assoc}
 use Rattle.std.proofs.lemmas.Option.{slice_get_within}
-use Rattle.tilt_parts.proofs.Lists.{all-each, up-to-next}
+use Rattle.tilt_base.proofs.Lists.{all-each}
+use Rattle.tilt_parts.proofs.Lists.{up-to-next}
 use Rattle.tilt_parts.specs.Part.{PartValue, is_finished}
 use Rattle.tilt_parts.specs.Parts.{AreParts}
 use Rattle.tilt_parts.proofs.parts.Parts.finish.Goals as goal

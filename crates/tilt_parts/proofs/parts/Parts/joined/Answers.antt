@@ -51,5 +51,6 @@ returns-in_default-clause-finished c = λ all. elim c.in_default.branch [
   | in_default-via-in-Some+else-finished w ↦ false≢true (sym w.if-finished.false ∙ c.are_finished-finished.ensures
       ∙ ap (λ (l : List PartValue). list_all is_finished l) (c.deref.ensures.value ∙ c.self.view_is) ∙ true-all is_finished c.args.self.now all)
   | in_default-via-in_default w ↦
-      stand-some c.self.invariant.0 c.self.invariant.1 c.self.invariant.3 c.self.invariant.2 c.self.inside.parts.items (sym c.deref-2.ensures.value ∙ nil_from_length c.deref-2.result.now w.in_default.ensures.cases) c.self.invariant.4
+      stand-some c.self.invariant.0 c.self.invariant.1 c.self.invariant.3 c.self.invariant.2 c.self.inside.parts.items
+      (sym c.deref-2.ensures.value ∙ nil_from_length c.deref-2.result.now w.in_default.ensures.cases) c.self.invariant.4
 ]
