@@ -6,6 +6,7 @@ ghost use Rattle.tilt_stream.specs.Snap.{InOrder, ended_below};
 ghost use Rattle.tilt_stream.specs.Stream.{cell_at, stream_of};
 
 use crate::buffer::Buffer;
+use crate::seen::Seen;
 use crate::snap::Snap;
 use tilt_base::Cell;
 
@@ -29,6 +30,7 @@ impl Cursor {
     }
 
     /// The tick at which it stands.
+    #[inline]
     pub fn tick(&self) -> i64
         ensures { result ≡ self.now.tick }
     {
@@ -36,6 +38,7 @@ impl Cursor {
     }
 
     /// The place of the first snapshot that doesn't end below the tick: no earlier one is read any more.
+    #[inline]
     pub fn place(&self) -> usize
         ensures { result ≡ self.now.place }
     {
@@ -56,22 +59,27 @@ impl Cursor {
         self.tick = tick;
     }
 
+    /// Moves to a later tick, where it is known that no snapshot ends from its own tick on and below that one: it reads nothing.
+    #[inline]
+    pub fn stay_until(&mut self, tick: i64)
+        ensures { self.new ≡ record { tick = tick; place = self.old.place } }
+    {
+        self.tick = tick;
+    }
+
     /// The cell of the buffer's stream at the tick where the cursor stands.
+    #[inline]
     pub fn value<B: Buffer>(&self, buffer: &B) -> Cell
         requires stands { self.now.place ≡ ended_below self.now.tick (B.list buffer.now) }
         requires kept { B.forgotten buffer.now ≤ self.now.place }
         ensures { result ≡ cell_at (B.list buffer.now) self.now.tick }
     {
-        let snap = snap_at(buffer, self.place)?;
-        if snap.start < self.tick {
-            snap.value
-        } else {
-            None
-        }
+        self.seen(buffer).cell
     }
 
     /// The least tick above that of the cursor at which the buffer's stream has a mark: where a snapshot begins, or one has ended.
     /// `None` exactly where no such tick has a mark.
+    #[inline]
     pub fn next<B: Buffer>(&self, buffer: &B) -> Option<i64>
         requires stands { self.now.place ≡ ended_below self.now.tick (B.list buffer.now) }
         requires kept { B.forgotten buffer.now ≤ self.now.place }
@@ -79,16 +87,41 @@ impl Cursor {
         ensures low { IfSome result (λ next. neg_ℤ WIDE <ℤ next) }
         ensures high { IfSome result (λ next. next ≤ℤ (WIDE +ℤ pos 1)) }
     {
-        let snap = snap_at(buffer, self.place)?;
-        if self.tick <= snap.start {
-            Some(snap.start + 1)
+        self.seen(buffer).next
+    }
+
+    /// The cell where the cursor stands, and the next mark above it, by one look at the buffer.
+    #[inline]
+    pub fn seen<B: Buffer>(&self, buffer: &B) -> Seen
+        requires stands { self.now.place ≡ ended_below self.now.tick (B.list buffer.now) }
+        requires kept { B.forgotten buffer.now ≤ self.now.place }
+        ensures cell { result.cell ≡ cell_at (B.list buffer.now) self.now.tick }
+        ensures next { NamesNextMark (stream_of (B.list buffer.now)) self.now.tick result.next }
+        ensures low { IfSome result.next (λ next. neg_ℤ WIDE <ℤ next) }
+        ensures high { IfSome result.next (λ next. next ≤ℤ (WIDE +ℤ pos 1)) }
+    {
+        let Some(snap) = snap_at(buffer, self.place) else {
+            return Seen {
+                cell: None,
+                next: None,
+            };
+        };
+        if snap.start < self.tick {
+            Seen {
+                cell: snap.value,
+                next: Some(snap.end + 1),
+            }
         } else {
-            Some(snap.end + 1)
+            Seen {
+                cell: None,
+                next: Some(snap.start + 1),
+            }
         }
     }
 }
 
 // The snapshot at a place, or none where so many weren't made.
+#[inline]
 fn snap_at<B: Buffer>(buffer: &B, place: usize) -> Option<Snap>
     requires kept { B.forgotten buffer.now ≤ place }
     ensures snap { result ≡ slice_get (B.list buffer.now) place }
@@ -104,6 +137,7 @@ fn snap_at<B: Buffer>(buffer: &B, place: usize) -> Option<Snap>
 }
 
 // Whether the snapshot at a place ends below a tick.
+#[inline]
 fn is_passed<B: Buffer>(buffer: &B, place: usize, tick: i64) -> bool
     requires made { place < length (B.list buffer.now) }
     requires kept { B.forgotten buffer.now ≤ place }
@@ -112,7 +146,8 @@ fn is_passed<B: Buffer>(buffer: &B, place: usize, tick: i64) -> bool
     buffer.get(place).end < tick
 }
 
-// Two places between which the first snapshot lies that doesn't end below a tick, or at one of them: by steps that double.
+// Two places between which the first snapshot lies that doesn't end below a tick, or at one of them: by steps of 1, 1, 2, 4
+// and so on, so that a cursor which passes one snapshot reads two.
 fn reach<B: Buffer>(buffer: &B, from: usize, tick: i64) -> (usize, usize)
     requires fits { from ≤ ended_below tick (B.list buffer.now) }
     requires kept { B.forgotten buffer.now ≤ from }
@@ -129,7 +164,7 @@ fn reach<B: Buffer>(buffer: &B, from: usize, tick: i64) -> (usize, usize)
             return (low, low + (step - 1));
         }
         low += step;
-        step = step.saturating_add(step);
+        step = low - from;
     }
     (low, made)
 }

@@ -13,21 +13,24 @@ use Rattle.tilt_code.specs.declared.instr.Instr.{Instr}
 use Rattle.tilt_code.specs.declared.instr.Instr.TheVariants.{Const, Null, Argument, Port, Win, One, Two, If}
 use Rattle.tilt_stream.proofs.Cut.{int_gap_is, int_gap_none}
 use Rattle.tilt_stream.proofs.Locality.{met-agrees}
+use Rattle.tilt_stream.specs.Marks.{NamesNextMark}
 use Rattle.tilt_stream.specs.Snap.{Snapshot, ended_below}
 use Rattle.tilt_stream.specs.Stream.{Stream, cell_at, mark_at, stream_of}
 use Rattle.tilt_stream.specs.Window.{met}
 use Rattle.tilt_stream.specs.declared.cursor.Cursor.{Cursor}
+use Rattle.tilt_turn.proofs.NextElsewhere.{names-back, names-there}
 use Rattle.tilt_turn.proofs.Numbered.{read-stream}
 use Rattle.tilt_turn.proofs.Origins.{all-only}
 use Rattle.tilt_stream.proofs.SameMarks.{SameNext, either-same, next_mark-same, port-same, window-same}
 use Rattle.tilt_turn.proofs.Stepwise.{all-weaker}
-use Rattle.tilt_turn.specs.Held.{Holds, IsFit, IsLeafAt, MayGo, MayMove, leaf_only, origin}
+use Rattle.tilt_turn.specs.Held.{Holds, IsFit, IsLeafAt, Knows, MayGo, MayMove, Tells, leaf_only, origin}
 use Rattle.tilt_stream.specs.Marked.{marked, marked_behind}
 use Rattle.tilt_turn.specs.Ready.{IsReadable, IsReady}
 use Rattle.tilt_turn.specs.Same.{IsSameFor}
 use Rattle.tilt_turn.specs.declared.leaf.Leaf.{Leaf}
 use Rattle.tilt_turn.specs.declared.leaf.Leaf.TheVariants as leaf
 use Rattle.tilt_turn.specs.declared.moving.Moving.{Moving}
+use Rattle.tilt_turn.specs.declared.port.PortLeaf.{PortLeaf}
 use Rattle.tilt_turn.specs.declared.state.LoopState.{LoopState}
 
 -- a cursor that may move over one may move over the other
@@ -71,14 +74,45 @@ holds-same a b last first f w cells marks within held =
       marks = held.marks ∙ marked-same (stream_of a) (stream_of b) first w.back.tick near;
     }
 
+-- and one that knows where its last tick stands, and its next mark, knows it of the other
+knows-same : (a b : List Snapshot) (last : ℤ) (w : Moving) → ((at : ℤ) → at ≤ℤ last → ended_below at a ≡ ended_below at b)
+    → ((answer : Option ℤ) → NamesNextMark (stream_of a) w.back.tick answer → NamesNextMark (stream_of b) w.back.tick answer)
+    → w.back.tick ≤ℤ last → Knows a w → Knows b w
+knows-same a b last w ended names within knows = record {
+  place = knows.place ∙ ended w.back.tick within;
+  next = names w.next knows.next;
+  low = knows.low;
+  high = knows.high;
+}
+
+-- the same of a port, and of the cell that it knows
+tells-same : (a b : List Snapshot) (last : ℤ) (p : PortLeaf) → ((at : ℤ) → at ≤ℤ last → ended_below at a ≡ ended_below at b)
+    → ((at : ℤ) → at ≤ℤ last → cell_at a at ≡ cell_at b at)
+    → ((answer : Option ℤ) → NamesNextMark (stream_of a) p.cursor.tick answer → NamesNextMark (stream_of b) p.cursor.tick answer)
+    → p.cursor.tick ≤ℤ last → Tells a p → Tells b p
+tells-same a b last p ended cells names within tells = record {
+  place = tells.place ∙ ended p.cursor.tick within;
+  cell = tells.cell ∙ cells p.cursor.tick within;
+  next = names p.seen.next tells.next;
+  low = tells.low;
+  high = tells.high;
+}
+
 leaf-there : (a b : List (List Snapshot)) (maps : List Block) (before point : ℤ) (own : Leaf) → before ≤ℤ point
     → IsSameFor a b point (origin own) → IsLeafAt MayGo a [] maps before own → IsLeafAt MayGo b [] maps before own
 leaf-there a b maps before point leaf.Idle onwards s at = tt
-leaf-there a b maps before point (leaf.Port p) onwards s at = (
-  at.0,
-  cursor-same (get_or a p.buffer []) (get_or b p.buffer []) (point +ℤ p.offset) (before +ℤ p.offset) p.cursor s.ended
-      (omega (arith, ints)) at.1,
-)
+leaf-there a b maps before point (leaf.Again r) onwards s at = tt
+leaf-there a b maps before point (leaf.Port p) onwards s at =
+    let stands = at.1.cursor.onwards in (
+      at.0,
+      record {
+        cursor = cursor-same (get_or a p.buffer []) (get_or b p.buffer []) (point +ℤ p.offset) (before +ℤ p.offset) p.cursor s.ended
+            (omega (arith, ints)) at.1.cursor;
+        known = λ some. tells-same (get_or a p.buffer []) (get_or b p.buffer []) (point +ℤ p.offset) p s.ended s.cells
+            (names-there (get_or a p.buffer []) (get_or b p.buffer []) (point +ℤ p.offset) p.cursor.tick s (omega (arith, ints)))
+            (omega (arith, ints)) (at.1.known some);
+      },
+    )
 leaf-there a b maps before point (leaf.Window w) onwards s at =
     let stands = at.1.cursor.onwards in (
       at.0,
@@ -87,17 +121,28 @@ leaf-there a b maps before point (leaf.Window w) onwards s at =
             (omega (arith, ints)) at.1.cursor;
         held = holds-same (get_or a w.buffer []) (get_or b w.buffer []) (point +ℤ w.to) (before +ℤ w.from +ℤ pos 1) (mapped maps w.map)
             w.window s.cells s.marks (omega (arith, ints)) at.1.held;
+        known = λ some. knows-same (get_or a w.buffer []) (get_or b w.buffer []) (point +ℤ w.to) w.window s.ended
+            (names-there (get_or a w.buffer []) (get_or b w.buffer []) (point +ℤ w.to) w.window.back.tick s (omega (arith, ints)))
+            (omega (arith, ints)) (at.1.known some);
       },
     )
 
 leaf-back : (a b : List (List Snapshot)) (maps : List Block) (before point : ℤ) (own : Leaf) → before ≤ℤ point
     → IsSameFor a b point (origin own) → IsLeafAt MayGo b [] maps before own → IsLeafAt MayGo a [] maps before own
 leaf-back a b maps before point leaf.Idle onwards s at = tt
-leaf-back a b maps before point (leaf.Port p) onwards s at = (
-  at.0,
-  cursor-same (get_or b p.buffer []) (get_or a p.buffer []) (point +ℤ p.offset) (before +ℤ p.offset) p.cursor
-      (λ tick below. sym (s.ended tick below)) (omega (arith, ints)) at.1,
-)
+leaf-back a b maps before point (leaf.Again r) onwards s at = tt
+leaf-back a b maps before point (leaf.Port p) onwards s at =
+    let stands = at.1.cursor.onwards in (
+      at.0,
+      record {
+        cursor = cursor-same (get_or b p.buffer []) (get_or a p.buffer []) (point +ℤ p.offset) (before +ℤ p.offset) p.cursor
+            (λ tick below. sym (s.ended tick below)) (omega (arith, ints)) at.1.cursor;
+        known = λ some. tells-same (get_or b p.buffer []) (get_or a p.buffer []) (point +ℤ p.offset) p
+            (λ tick below. sym (s.ended tick below)) (λ tick below. sym (s.cells tick below))
+            (names-back (get_or a p.buffer []) (get_or b p.buffer []) (point +ℤ p.offset) p.cursor.tick s (omega (arith, ints)))
+            (omega (arith, ints)) (at.1.known some);
+      },
+    )
 leaf-back a b maps before point (leaf.Window w) onwards s at =
     let stands = at.1.cursor.onwards in (
       at.0,
@@ -106,6 +151,10 @@ leaf-back a b maps before point (leaf.Window w) onwards s at =
             (λ tick below. sym (s.ended tick below)) (omega (arith, ints)) at.1.cursor;
         held = holds-same (get_or b w.buffer []) (get_or a w.buffer []) (point +ℤ w.to) (before +ℤ w.from +ℤ pos 1) (mapped maps w.map)
             w.window (λ tick below. sym (s.cells tick below)) (λ tick below. sym (s.marks tick below)) (omega (arith, ints)) at.1.held;
+        known = λ some. knows-same (get_or b w.buffer []) (get_or a w.buffer []) (point +ℤ w.to) w.window
+            (λ tick below. sym (s.ended tick below))
+            (names-back (get_or a w.buffer []) (get_or b w.buffer []) (point +ℤ w.to) w.window.back.tick s (omega (arith, ints)))
+            (omega (arith, ints)) (at.1.known some);
       },
     )
 
@@ -124,6 +173,8 @@ pub fit-elsewhere : (a b : List (List Snapshot)) (l : LoopParts) (before point :
     → AllByRecursion (IsSameFor a b point) l.body → before ≤ℤ point → IsFit a l before state → IsFit b l before state
 fit-elsewhere a b l before point state same onwards fit = record {
   same = fit.same;
+  registers = fit.registers;
+  again = fit.again;
   leaves = all-by origin (IsSameFor a b point) (λ (own : Leaf). IsLeafAt MayGo a [] l.maps before own)
       (λ (own : Leaf). IsLeafAt MayGo b [] l.maps before own) state.leaves.items
       (λ own s at. leaf-there a b l.maps before point own onwards s at)
@@ -135,6 +186,8 @@ pub fit-back : (a b : List (List Snapshot)) (l : LoopParts) (before point : ℤ)
     → AllByRecursion (IsSameFor a b point) l.body → before ≤ℤ point → IsFit b l before state → IsFit a l before state
 fit-back a b l before point state same onwards fit = record {
   same = fit.same;
+  registers = fit.registers;
+  again = fit.again;
   leaves = all-by origin (IsSameFor a b point) (λ (own : Leaf). IsLeafAt MayGo b [] l.maps before own)
       (λ (own : Leaf). IsLeafAt MayGo a [] l.maps before own) state.leaves.items
       (λ own s at. leaf-back a b l.maps before point own onwards s at)

@@ -2,10 +2,13 @@ pub mod Cursors
 pub mod Elsewhere
 pub mod MarkBounds
 pub mod Moves
+pub mod NextElsewhere
 pub mod NextMarks
 pub mod Numbered
 pub mod Origins
 pub mod Readies
 pub mod Registers
+pub mod Repeats
+pub mod Staying
 pub mod Stepwise
 pub mod TurnTicks

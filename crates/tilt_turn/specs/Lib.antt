@@ -2,3 +2,4 @@ pub mod Held
 pub mod Kinds
 pub mod Ready
 pub mod Same
+pub mod Sight

@@ -43,14 +43,17 @@ impl<S: Buffers> Buffer for BufferAt<'_, S> {
 
     ghost forgotten = { λ b. get_or (S.forgotten b.buffers.now) b.number 0 };
 
+    #[inline]
     fn made(&self) -> usize {
         self.buffers.made(self.number)
     }
 
+    #[inline]
     fn first_kept(&self) -> usize {
         self.buffers.first_kept(self.number)
     }
 
+    #[inline]
     fn get(&self, place: usize) -> Snap {
         self.buffers.get(self.number, place)
     }

@@ -11,6 +11,7 @@ use tilt_base::Cell;
 use tilt_code::{Instr, Loop};
 
 // What a map gives on a cell, and the cell itself where no map is named. The registers are written anew.
+#[inline]
 pub(crate) fn mapped(
     each: &Loop,
     map: Option<u32>,
@@ -42,14 +43,15 @@ fn block_cell(block: &[Instr], cell: Cell, registers: &mut Vec<Cell>) -> Result<
 {
     registers.clear();
     for instr in block {
-        registers.push(register(*instr, registers, argument(*instr, cell)))?;
+        registers.push(register(instr, registers, argument(instr, cell)))?;
     }
     Ok(last(registers))
 }
 
 // What the leaf of a map gives: its argument is the cell that the map is run on.
-fn argument(instr: Instr, cell: Cell) -> Cell
-    ensures { result ≡ map_leaf cell instr }
+#[inline]
+fn argument(instr: &Instr, cell: Cell) -> Cell
+    ensures { result ≡ map_leaf cell instr.now }
 {
     match instr {
         Instr::Argument => cell,

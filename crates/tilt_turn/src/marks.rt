@@ -6,6 +6,7 @@ ghost use Rattle.tilt_stream.specs.Stream.{Stream};
 ghost use Rattle.tilt_turn.specs.Ready.{IsMarkTick};
 
 // The next mark of a stream that is read so many ticks behind the tick.
+#[inline]
 pub(crate) fn earlier(next: Option<i64>, offset: i64) -> Option<i64>
     requires { IfSome next (λ mark. IsMarkTick (mark -ℤ offset)) }
     ensures next { (x : Stream) (tick : ℤ) → NamesNextMark x (tick +ℤ offset) next → NamesNextMark (shifted x offset) tick result }
@@ -14,14 +15,16 @@ pub(crate) fn earlier(next: Option<i64>, offset: i64) -> Option<i64>
     Some(next? - offset)
 }
 
-// The lesser of two ticks, where both are there, or else the one that is there.
+// The lesser of two ticks, where both are there, or else the one that is there. The second is looked at first: most instructions
+// have none.
+#[inline]
 pub(crate) fn lesser(a: Option<i64>, b: Option<i64>) -> Option<i64>
     ensures next { (x y : Stream) (tick : ℤ) → NamesNextMark x tick a → NamesNextMark y tick b → NamesNextMark (joined x y) tick result }
     ensures bounds { IfSome a IsMarkTick → IfSome b IsMarkTick → IfSome result IsMarkTick }
 {
-    match (a, b) {
-        (Some(a), Some(b)) => Some(a.min(b)),
-        (Some(a), None) => Some(a),
-        (None, b) => b,
+    match (b, a) {
+        (None, a) => a,
+        (Some(b), Some(a)) => Some(a.min(b)),
+        (Some(b), None) => Some(b),
     }
 }

@@ -1,6 +1,6 @@
 // A window over one buffer, which moves on with time.
 ghost use Rattle.std.specs.Prelude.{◌≡◌, ◌<◌, ◌≤◌, ℤ, pos, neg_ℤ, ◌+ℤ◌, ◌*ℤ◌, ◌<ℤ◌, ◌≤ℤ◌, [], ◌∷◌, ◌++◌};
-ghost use Rattle.std.specs.Prelude.{length, false, slice_get, Option, Some, IfSome, IsTrue, ◌↔◌, OnOk};
+ghost use Rattle.std.specs.Prelude.{List, length, false, slice_get, Option, Some, IfSome, IsTrue, ◌↔◌, OnOk};
 ghost use Rattle.std.specs.Prelude.{MatchOption};
 ghost use Rattle.std.specs.Int.{int_max};
 ghost use Rattle.std.specs.List.{AllByRecursion};
@@ -10,9 +10,9 @@ ghost use Rattle.tilt_base.specs.Reduce.{numbers, reduce};
 ghost use Rattle.tilt_code.specs.Body.{mapped};
 ghost use Rattle.tilt_stream.specs.Agreement.{ChangesOnlyAtMarks};
 ghost use Rattle.tilt_stream.specs.Marks.{IsNextMark, NamesNextMark};
-ghost use Rattle.tilt_stream.specs.Snap.{ended_below};
+ghost use Rattle.tilt_stream.specs.Snap.{Snapshot, ended_below};
 ghost use Rattle.tilt_stream.specs.Stream.{Stream, cell_at, stream_of};
-ghost use Rattle.tilt_turn.specs.Held.{Holds, MayMove, StandsAt};
+ghost use Rattle.tilt_turn.specs.Held.{Holds, Knows, MayMove, StandsAt};
 ghost use Rattle.tilt_turn.specs.Kinds.{kind_cells, kind_reducer};
 ghost use Rattle.tilt_turn.specs.Ready.{NameEarlier};
 
@@ -25,12 +25,14 @@ use tilt_code::Loop;
 use tilt_stream::{Buffer, Cursor};
 
 // The cells that some ticks meet: one for the first tick, and one for each mark behind it. The cursor stands at the last tick, so
-// no snapshot that ended before is looked at again.
+// no snapshot that ended before is looked at again. The next mark above the last tick is kept: as long as the last tick stays below
+// it, the buffer isn't read.
 #[derive(Drop)]
 pub(crate) struct Moving {
     kind: Kind,
     marks: VecDeque<i64>,
     back: Cursor,
+    next: Option<i64>,
 }
 
 // The buffer that a window goes over, and the map by which it takes the cells.
@@ -53,6 +55,7 @@ impl Moving {
             kind: Kind::new(alloc, reducer),
             marks: VecDeque::new(alloc),
             back: Cursor::new(),
+            next: None,
         }
     }
 
@@ -71,11 +74,13 @@ impl Moving {
         requires cursor { MayMove (B.list source.now.buffer.now) last self.old.back }
         requires kept { B.forgotten source.now.buffer.now ≤ ended_below first (B.list source.now.buffer.now) }
         requires held { (begin : ℤ) × (begin ≤ℤ first)
-            × Holds (stream_of (B.list source.now.buffer.now)) (mapped source.now.each.now.maps source.now.map) begin self.old }
+            × Holds (stream_of (B.list source.now.buffer.now)) (mapped source.now.each.now.maps source.now.map) begin self.old
+            × (begin ≤ℤ self.old.back.tick → Knows (B.list source.now.buffer.now) self.old) }
         ensures cursor { OnOk result
             (StandsAt (B.list source.now.buffer.now) (B.forgotten source.now.buffer.now) last self.new.back) }
         ensures held { OnOk result
             (Holds (stream_of (B.list source.now.buffer.now)) (mapped source.now.each.now.maps source.now.map) first self.new) }
+        ensures knows { OnOk result (Knows (B.list source.now.buffer.now) self.new) }
         ensures reducer { OnOk result (kind_reducer self.new.kind ≡ kind_reducer self.old.kind) }
     {
         self.begin_from(source, first, registers)?;
@@ -94,20 +99,20 @@ impl Moving {
         requires cursor { MayMove (B.list source.now.buffer.now) self.old.back.tick self.old.back }
         requires kept { B.forgotten source.now.buffer.now ≤ ended_below first (B.list source.now.buffer.now) }
         requires held { (begin : ℤ) × (begin ≤ℤ first)
-            × Holds (stream_of (B.list source.now.buffer.now)) (mapped source.now.each.now.maps source.now.map) begin self.old }
+            × Holds (stream_of (B.list source.now.buffer.now)) (mapped source.now.each.now.maps source.now.map) begin self.old
+            × (begin ≤ℤ self.old.back.tick → Knows (B.list source.now.buffer.now) self.old) }
         ensures cursor { OnOk result
             (StandsAt (B.list source.now.buffer.now) (B.forgotten source.now.buffer.now) self.new.back.tick self.new.back) }
         ensures low { OnOk result (first ≤ℤ self.new.back.tick) }
         ensures high { OnOk result (self.new.back.tick ≤ℤ int_max first self.old.back.tick) }
         ensures held { OnOk result
             (Holds (stream_of (B.list source.now.buffer.now)) (mapped source.now.each.now.maps source.now.map) first self.new) }
+        ensures knows { OnOk result (Knows (B.list source.now.buffer.now) self.new) }
         ensures reducer { OnOk result (kind_reducer self.new.kind ≡ kind_reducer self.old.kind) }
     {
-        let tick = self.back.tick();
-        if tick < first {
+        if self.back.tick() < first {
             self.begin_at(source, first, registers)
         } else {
-            self.back.move_to(source.buffer, tick);
             self.drop_before(first)
         }
     }
@@ -127,6 +132,7 @@ impl Moving {
             (StandsAt (B.list source.now.buffer.now) (B.forgotten source.now.buffer.now) first self.new.back) }
         ensures held { OnOk result
             (Holds (stream_of (B.list source.now.buffer.now)) (mapped source.now.each.now.maps source.now.map) first self.new) }
+        ensures knows { OnOk result (Knows (B.list source.now.buffer.now) self.new) }
         ensures reducer { OnOk result (kind_reducer self.new.kind ≡ kind_reducer self.old.kind) }
     {
         self.kind.clear();
@@ -140,6 +146,7 @@ impl Moving {
         ensures held { OnOk result ((x : Stream) (by_map : Option ℤ → Option ℤ) (begin : ℤ) → ChangesOnlyAtMarks x
             → begin ≤ℤ first → Holds x by_map begin self.old → Holds x by_map first self.new) }
         ensures back { OnOk result (self.new.back ≡ self.old.back) }
+        ensures next { OnOk result (self.new.next ≡ self.old.next) }
         ensures reducer { OnOk result (kind_reducer self.new.kind ≡ kind_reducer self.old.kind) }
     {
         while self.has_mark_within(first) {
@@ -150,6 +157,7 @@ impl Moving {
     }
 
     // Whether the first mark isn't above a tick.
+    #[inline]
     fn has_mark_within(&self, tick: i64) -> bool
         ensures { IsTrue result ↔ ((mark : ℤ) × (slice_get self.now.marks.items 0 ≡ Some mark) × (mark ≤ℤ tick)) }
     {
@@ -160,6 +168,7 @@ impl Moving {
     }
 
     // The first mark, or none where there is none.
+    #[inline]
     fn first_mark(&self) -> Option<i64>
         ensures { result ≡ slice_get self.now.marks.items 0 }
     {
@@ -177,6 +186,7 @@ impl Moving {
         requires known { ForSome source.now.map (λ number. number < length source.now.each.now.maps) }
         requires some { self.old.back.tick ≤ℤ last }
         requires cursor { StandsAt (B.list source.now.buffer.now) (B.forgotten source.now.buffer.now) self.old.back.tick self.old.back }
+        requires knows { Knows (B.list source.now.buffer.now) self.old }
         requires held { (first : ℤ) × (first ≤ℤ self.old.back.tick) × (last ≤ℤ (first +ℤ pos 2 *ℤ OFFSET))
             × Holds (stream_of (B.list source.now.buffer.now)) (mapped source.now.each.now.maps source.now.map) first self.old }
         ensures cursor { OnOk result
@@ -184,13 +194,14 @@ impl Moving {
         ensures held { OnOk result ((first : ℤ) → first ≤ℤ self.old.back.tick
             → Holds (stream_of (B.list source.now.buffer.now)) (mapped source.now.each.now.maps source.now.map) first self.old
             → Holds (stream_of (B.list source.now.buffer.now)) (mapped source.now.each.now.maps source.now.map) first self.new) }
+        ensures knows { OnOk result (Knows (B.list source.now.buffer.now) self.new) }
         ensures reducer { OnOk result (kind_reducer self.new.kind ≡ kind_reducer self.old.kind) }
     {
-        while let Some(mark) = next_within(&self.back, source.buffer, last) {
+        while let Some(mark) = self.next_up_to(last) {
             self.push_at(source, mark, registers)?;
             self.marks.push_back(mark)?;
         }
-        self.back.move_to(source.buffer, last);
+        self.back.stay_until(last);
         Ok(())
     }
 
@@ -210,20 +221,19 @@ impl Moving {
             (StandsAt (B.list source.now.buffer.now) (B.forgotten source.now.buffer.now) tick self.new.back) }
         ensures cells { OnOk result (kind_cells self.new.kind ≡ kind_cells self.old.kind
             ++ mapped source.now.each.now.maps source.now.map (cell_at (B.list source.now.buffer.now) tick) ∷ []) }
+        ensures knows { OnOk result (Knows (B.list source.now.buffer.now) self.new) }
         ensures marks { self.new.marks ≡ self.old.marks }
         ensures reducer { kind_reducer self.new.kind ≡ kind_reducer self.old.kind }
     {
         self.back.move_to(source.buffer, tick);
-        let cell = mapped(
-            source.each,
-            source.map,
-            self.back.value(source.buffer),
-            registers,
-        )?;
+        let seen = self.back.seen(source.buffer);
+        self.next = seen.next;
+        let cell = mapped(source.each, source.map, seen.cell, registers)?;
         self.kind.push_back(cell)
     }
 
     // What the reducer gives on the cells that aren't null.
+    #[inline]
     pub(crate) fn result(&self) -> Cell
         ensures { result ≡ reduce (kind_reducer self.now.kind) (numbers (kind_cells self.now.kind)) }
     {
@@ -231,39 +241,37 @@ impl Moving {
     }
 
     // The next mark above the last tick.
-    pub(crate) fn next_behind<B: Buffer>(&self, buffer: &B) -> Option<i64>
-        requires cursor { StandsAt (B.list buffer.now) (B.forgotten buffer.now) self.now.back.tick self.now.back }
-        ensures next { NamesNextMark (stream_of (B.list buffer.now)) self.now.back.tick result }
-        ensures low { IfSome result (λ next. neg_ℤ WIDE <ℤ next) }
-        ensures high { IfSome result (λ next. next ≤ℤ (WIDE +ℤ pos 1)) }
+    #[inline]
+    pub(crate) fn next_behind(&self) -> Option<i64>
+        ensures { result ≡ self.now.next }
     {
-        self.back.next(buffer)
+        self.next
     }
 
     // The next mark above the first tick: the first one in the window, and else the next above the last tick.
-    pub(crate) fn next_within<B: Buffer>(&self, buffer: &B) -> Option<i64>
-        requires cursor { StandsAt (B.list buffer.now) (B.forgotten buffer.now) self.now.back.tick self.now.back }
-        ensures next { (by_map : Option ℤ → Option ℤ) (first : ℤ) → first ≤ℤ self.now.back.tick
-            → Holds (stream_of (B.list buffer.now)) by_map first self.now
-            → NamesNextMark (stream_of (B.list buffer.now)) first result }
-        ensures bounds { (by_map : Option ℤ → Option ℤ) (first : ℤ) → first ≤ℤ self.now.back.tick
-            → Holds (stream_of (B.list buffer.now)) by_map first self.now
+    #[inline]
+    pub(crate) fn next_within(&self) -> Option<i64>
+        ensures next { (list : List Snapshot) (by_map : Option ℤ → Option ℤ) (first : ℤ) → first ≤ℤ self.now.back.tick
+            → Holds (stream_of list) by_map first self.now → Knows list self.now
+            → NamesNextMark (stream_of list) first result }
+        ensures bounds { (list : List Snapshot) (by_map : Option ℤ → Option ℤ) (first : ℤ) → first ≤ℤ self.now.back.tick
+            → Holds (stream_of list) by_map first self.now → Knows list self.now
             → IfSome result (λ next. (first <ℤ next) × (next ≤ℤ int_max self.now.back.tick (WIDE +ℤ pos 1))) }
     {
         match self.first_mark() {
             Some(mark) => Some(mark),
-            None => self.back.next(buffer),
+            None => self.next,
         }
     }
-}
 
-// The next mark above the tick of a cursor, where it isn't above a last tick.
-fn next_within<B: Buffer>(cursor: &Cursor, buffer: &B, last: i64) -> Option<i64>
-    requires cursor { StandsAt (B.list buffer.now) (B.forgotten buffer.now) cursor.now.tick cursor.now }
-    ensures { MatchOption result
-        ((other : ℤ) → cursor.now.tick <ℤ other → other ≤ℤ last → (stream_of (B.list buffer.now)).mark other ≡ false)
-        (λ mark. IsNextMark (stream_of (B.list buffer.now)) cursor.now.tick mark × (mark ≤ℤ last)) }
-{
-    let next = cursor.next(buffer)?;
-    if next <= last { Some(next) } else { None }
+    // The next mark above the last tick, where it isn't above a later one.
+    #[inline]
+    fn next_up_to(&self, last: i64) -> Option<i64>
+        ensures { (list : List Snapshot) → Knows list self.now → MatchOption result
+            ((other : ℤ) → self.now.back.tick <ℤ other → other ≤ℤ last → (stream_of list).mark other ≡ false)
+            (λ mark. IsNextMark (stream_of list) self.now.back.tick mark × (mark ≤ℤ last)) }
+    {
+        let next = self.next?;
+        if next <= last { Some(next) } else { None }
+    }
 }

@@ -1,5 +1,5 @@
 // A window over a buffer, and what it holds.
-ghost use Rattle.std.specs.Prelude.{◌≡◌, ℕ, ℤ, List, [], ◌≤ℤ◌, IfSome, OnOk, map};
+ghost use Rattle.std.specs.Prelude.{◌≡◌, ℕ, ℤ, List, [], ◌≤ℤ◌, IfOk, IfSome, OnOk, map};
 ghost use Rattle.std.specs.List.{AllByRecursion};
 ghost use Rattle.tilt_code.specs.Body.{leaf_of};
 ghost use Rattle.tilt_code.specs.Code.{Block};
@@ -10,13 +10,16 @@ ghost use Rattle.tilt_stream.specs.Stream.{stream_of};
 ghost use Rattle.tilt_turn.specs.Held.{IsWindowAt, MayGo, StandsAt};
 ghost use Rattle.tilt_turn.specs.Kinds.{kind_reducer};
 ghost use Rattle.tilt_turn.specs.Ready.{IsBodyTick, IsKept, IsMarkTick, NameEarlier};
+ghost use Rattle.tilt_turn.specs.Sight.{Sees};
 
 use crate::buffers::{BufferAt, Buffers};
 use crate::marks::{earlier, lesser};
 use crate::moving::{Moving, Source};
+use crate::reading::Reading;
 use std::alloc::AllocError as OutOfMemory;
 use tilt_base::Cell;
 use tilt_code::Loop;
+use tilt_stream::Seen;
 
 // The ticks from `from + 1` to `to` behind the grid point, over a buffer, each cell by a map.
 #[derive(Drop)]
@@ -29,8 +32,34 @@ pub(crate) struct WindowLeaf {
 }
 
 impl WindowLeaf {
+    // Moves on to the grid point of a reading, and gives what it reads there.
+    pub(crate) fn look<S: Buffers>(
+        &mut self,
+        reading: &Reading<'_, '_, S>,
+        registers: &mut Vec<Cell>,
+    ) -> Result<Seen, OutOfMemory>
+        requires earlier { AllByRecursion (NameEarlier 0) reading.now.each.now.maps }
+        requires near { IsBodyTick reading.now.point }
+        requires fit { (before : ℤ) × (before ≤ℤ reading.now.point)
+            × IsWindowAt MayGo (S.lists reading.now.buffers.now) [] reading.now.each.now.maps before self.old }
+        requires kept { IsKept (S.lists reading.now.buffers.now) (S.forgotten reading.now.buffers.now) reading.now.point
+            (Win (kind_reducer self.old.window.kind) self.old.buffer self.old.from self.old.to self.old.map) }
+        ensures at { OnOk result (IsWindowAt StandsAt (S.lists reading.now.buffers.now) (S.forgotten reading.now.buffers.now)
+            reading.now.each.now.maps reading.now.point self.new) }
+        ensures same { OnOk result (Win (kind_reducer self.new.window.kind) self.new.buffer self.new.from self.new.to self.new.map
+            ≡ Win (kind_reducer self.old.window.kind) self.old.buffer self.old.from self.old.to self.old.map) }
+        ensures seen { IfOk result (Sees (leaf_of (map stream_of (S.lists reading.now.buffers.now)) reading.now.each.now.maps
+            (Win (kind_reducer self.old.window.kind) self.old.buffer self.old.from self.old.to self.old.map)) reading.now.point) }
+    {
+        self.move_to(reading.buffers, reading.each, reading.point, registers)?;
+        Ok(Seen {
+            cell: self.cell(),
+            next: self.next(),
+        })
+    }
+
     // Moves on to a grid point.
-    pub(crate) fn move_to<S: Buffers>(
+    fn move_to<S: Buffers>(
         &mut self,
         buffers: &S,
         each: &Loop,
@@ -63,7 +92,8 @@ impl WindowLeaf {
     }
 
     // What the reducer gives at the grid point to which it moved last.
-    pub(crate) fn cell(&self) -> Cell
+    #[inline]
+    fn cell(&self) -> Cell
         ensures { (lists : List (List Snapshot)) (forgotten : List ℕ) (maps : List Block) (point : ℤ)
             → IsWindowAt StandsAt lists forgotten maps point self.now → result ≡ (leaf_of (map stream_of lists) maps
             (Win (kind_reducer self.now.window.kind) self.now.buffer self.now.from self.now.to self.now.map)).cell point }
@@ -72,22 +102,18 @@ impl WindowLeaf {
     }
 
     // Its next mark above that grid point: that of its last tick or of its first.
-    pub(crate) fn next<S: Buffers>(&self, buffers: &S) -> Option<i64>
-        requires at { (maps : List Block) × (point : ℤ) × IsBodyTick point
-            × IsWindowAt StandsAt (S.lists buffers.now) (S.forgotten buffers.now) maps point self.now }
-        ensures next { (maps : List Block) (point : ℤ)
-            → IsWindowAt StandsAt (S.lists buffers.now) (S.forgotten buffers.now) maps point self.now
-            → NamesNextMark (leaf_of (map stream_of (S.lists buffers.now)) maps
+    #[inline]
+    fn next(&self) -> Option<i64>
+        requires at { (lists : List (List Snapshot)) × (forgotten : List ℕ) × (maps : List Block) × (point : ℤ) × IsBodyTick point
+            × IsWindowAt StandsAt lists forgotten maps point self.now }
+        ensures next { (lists : List (List Snapshot)) (forgotten : List ℕ) (maps : List Block) (point : ℤ)
+            → IsWindowAt StandsAt lists forgotten maps point self.now → NamesNextMark (leaf_of (map stream_of lists) maps
             (Win (kind_reducer self.now.window.kind) self.now.buffer self.now.from self.now.to self.now.map)) point result }
         ensures bounds { IfSome result IsMarkTick }
     {
-        let buffer = BufferAt {
-            buffers,
-            number: self.buffer as usize,
-        };
         lesser(
-            earlier(self.window.next_behind(&buffer), self.to),
-            earlier(self.window.next_within(&buffer), self.from + 1),
+            earlier(self.window.next_behind(), self.to),
+            earlier(self.window.next_within(), self.from + 1),
         )
     }
 }

@@ -4,25 +4,27 @@ ghost use Rattle.std.specs.List.{AllByRecursion};
 ghost use Rattle.tilt_base.specs.Grid.{ceil};
 ghost use Rattle.tilt_base.specs.declared.limits.TheConstants.{WIDE};
 ghost use Rattle.tilt_code.specs.Body.{body_of};
-ghost use Rattle.tilt_code.specs.Code.{Block, LoopParts};
+ghost use Rattle.tilt_code.specs.Code.{Block};
 ghost use Rattle.tilt_code.specs.Turn.{turn};
 ghost use Rattle.tilt_stream.specs.Marks.{NamesNextMark};
 ghost use Rattle.tilt_stream.specs.Snap.{Snapshot};
 ghost use Rattle.tilt_stream.specs.Stream.{Stream, stream_of};
-ghost use Rattle.tilt_turn.specs.Held.{IsFit, IsLeafAt, MayGo, StandsAt, leaf_only, origin};
-ghost use Rattle.tilt_turn.specs.Ready.{IsBodyTick, IsKept, IsMarkTick, IsReady, NameEarlier};
+ghost use Rattle.tilt_turn.specs.Held.{ConstantsStand, IsFit, IsLeafAt, MayGo, RepeatEarlier, StandsAt, leaf_only, origin, repeated};
+ghost use Rattle.tilt_turn.specs.Ready.{IsBodyTick, IsKept, IsMarkTick, IsReadable, IsReady, NameEarlier};
+ghost use Rattle.tilt_turn.specs.Sight.{Sees};
 
 use crate::buffers::Buffers;
 use crate::leaf::Leaf;
 use crate::marks::lesser;
-use crate::register::{last, register};
+use crate::reading::Reading;
+use crate::register::{constants, last};
 use std::alloc::{AllocError as OutOfMemory, Global};
 use tilt_base::Cell;
-use tilt_code::Loop;
-use tilt_stream::Snap;
+use tilt_code::{Instr, Loop};
+use tilt_stream::{Seen, Snap};
 
-/// What is kept of a loop from one turn to the next: where each port was last read, and what each window holds. It takes memory
-/// as its windows grow, and for its registers the first time.
+/// What is kept of a loop from one turn to the next: what each port saw last, what each window holds, and a register for each
+/// instruction, in which constants stand all the time. It takes memory as its windows grow, and for the registers of its maps.
 #[derive(Drop)]
 pub struct LoopState {
     leaves: Vec<Leaf>,
@@ -36,13 +38,11 @@ impl LoopState {
         ensures { IfOk result (λ state. (lists : List (List Snapshot)) (point : ℤ) → IsReady (length lists) each.now
             → neg_ℤ WIDE ≤ℤ point → IsFit lists each.now point state) }
     {
-        let mut leaves = Vec::new(alloc);
-        for instr in &each.body {
-            leaves.push(Leaf::new(alloc, *instr))?;
-        }
+        let registers = constants(alloc, &each.body)?;
+        let leaves = leaves_of(alloc, &each.body)?;
         Ok(LoopState {
             leaves,
-            registers: Vec::new(alloc),
+            registers,
             arguments: Vec::new(alloc),
         })
     }
@@ -69,14 +69,44 @@ impl LoopState {
         ensures fit { OnOk result (IsFit (S.lists buffers.now) each.now (ceil each.now.grid (start +ℤ pos 1)) self.new) }
     {
         let point = point_of(each, start);
-        move_leaves(&mut self.leaves, buffers, each, point, &mut self.arguments)?;
-        let value = body_cell(&self.leaves, buffers, each, &mut self.registers)?;
-        let end = turn_end(each, next_mark(&self.leaves, buffers));
-        Ok(Snap { start, end, value })
+        let reading = Reading {
+            buffers,
+            each,
+            point,
+        };
+        let seen = body_seen(
+            &mut self.leaves,
+            &reading,
+            &mut self.registers,
+            &mut self.arguments,
+        )?;
+        let end = turn_end(each, seen.next);
+        Ok(Snap {
+            start,
+            end,
+            value: seen.cell,
+        })
     }
 }
 
+// The leaves of a body, which have read nothing so far.
+fn leaves_of(alloc: Global, body: &[Instr]) -> Result<Vec<Leaf>, OutOfMemory>
+    ensures same { IfOk result (λ leaves. map origin leaves.items ≡ map leaf_only body.now) }
+    ensures fit { IfOk result (λ leaves. (lists : List (List Snapshot)) (maps : List Block) (point : ℤ)
+        → AllByRecursion (IsReadable (length lists) (length maps)) body.now → neg_ℤ WIDE ≤ℤ point
+        → AllByRecursion (IsLeafAt MayGo lists [] maps point) leaves.items) }
+    ensures again { IfOk result (λ leaves. RepeatEarlier body.now (map repeated leaves.items)) }
+{
+    let mut leaves = Vec::new(alloc);
+    let mut distinct = Vec::new(alloc);
+    for place in 0..body.len() {
+        leaves.push(Leaf::at(alloc, body, place, &mut distinct)?)?;
+    }
+    Ok(leaves)
+}
+
 // The grid point at which the snapshot that begins at a start has its value.
+#[inline]
 fn point_of(each: &Loop, start: i64) -> i64
     requires ready { (buffers : ℕ) × IsReady buffers each.now }
     requires low { each.now.lo ≤ℤ start }
@@ -87,70 +117,46 @@ fn point_of(each: &Loop, start: i64) -> i64
     each.grid.ceil(start + 1)
 }
 
-// Moves all leaves to a grid point.
-fn move_leaves<S: Buffers>(
+// Moves the leaves to the grid point of a reading, and gives the result of the body there, and its next mark: the least of those of
+// the leaves. Every register but those of constants is written by its number, after those that its instruction names.
+fn body_seen<S: Buffers>(
     leaves: &mut [Leaf],
-    buffers: &S,
-    each: &Loop,
-    point: i64,
-    registers: &mut Vec<Cell>,
-) -> Result<(), OutOfMemory>
-    requires earlier { AllByRecursion (NameEarlier 0) each.now.maps }
-    requires near { IsBodyTick point }
-    requires fit { (before : ℤ) × (before ≤ℤ point)
-        × AllByRecursion (IsLeafAt MayGo (S.lists buffers.now) [] each.now.maps before) leaves.old }
-    requires kept { AllByRecursion (IsKept (S.lists buffers.now) (S.forgotten buffers.now) point) (map origin leaves.old) }
-    ensures at { OnOk result
-        (AllByRecursion (IsLeafAt StandsAt (S.lists buffers.now) (S.forgotten buffers.now) each.now.maps point) leaves.new) }
+    reading: &Reading<'_, '_, S>,
+    registers: &mut [Cell],
+    arguments: &mut Vec<Cell>,
+) -> Result<Seen, OutOfMemory>
+    requires same { map origin leaves.old ≡ map leaf_only reading.now.each.now.body }
+    requires names { NameEarlier 0 reading.now.each.now.body }
+    requires earlier { AllByRecursion (NameEarlier 0) reading.now.each.now.maps }
+    requires again { RepeatEarlier reading.now.each.now.body (map repeated leaves.old) }
+    requires stand { ConstantsStand reading.now.each.now.body registers.old }
+    requires near { IsBodyTick reading.now.point }
+    requires fit { (before : ℤ) × (before ≤ℤ reading.now.point)
+        × AllByRecursion (IsLeafAt MayGo (S.lists reading.now.buffers.now) [] reading.now.each.now.maps before) leaves.old }
+    requires kept { AllByRecursion (IsKept (S.lists reading.now.buffers.now) (S.forgotten reading.now.buffers.now) reading.now.point)
+        reading.now.each.now.body }
+    ensures at { OnOk result (AllByRecursion (IsLeafAt StandsAt (S.lists reading.now.buffers.now) (S.forgotten reading.now.buffers.now)
+        reading.now.each.now.maps reading.now.point) leaves.new) }
     ensures same { OnOk result (map origin leaves.new ≡ map origin leaves.old) }
+    ensures again { OnOk result (map repeated leaves.new ≡ map repeated leaves.old) }
+    ensures stand { OnOk result (ConstantsStand reading.now.each.now.body registers.new) }
+    ensures seen { IfOk result
+        (Sees (body_of (map stream_of (S.lists reading.now.buffers.now)) reading.now.each.now) reading.now.point) }
 {
-    for place in 0..leaves.len() {
-        leaves[place].move_to(buffers, each, point, registers)?;
-    }
-    Ok(())
-}
-
-// The result of the body at the grid point to which the leaves moved. The registers are written anew.
-fn body_cell<S: Buffers>(
-    leaves: &[Leaf],
-    buffers: &S,
-    each: &Loop,
-    registers: &mut Vec<Cell>,
-) -> Result<Cell, OutOfMemory>
-    requires earlier { NameEarlier 0 each.now.body }
-    requires same { map origin leaves.now ≡ map leaf_only each.now.body }
-    requires at { (point : ℤ) × IsBodyTick point
-        × AllByRecursion (IsLeafAt StandsAt (S.lists buffers.now) (S.forgotten buffers.now) each.now.maps point) leaves.now }
-    ensures { IfOk result (λ cell. (point : ℤ)
-        → AllByRecursion (IsLeafAt StandsAt (S.lists buffers.now) (S.forgotten buffers.now) each.now.maps point) leaves.now
-        → cell ≡ (body_of (map stream_of (S.lists buffers.now)) each.now).cell point) }
-{
-    registers.clear();
-    for (place, instr) in each.body.iter().enumerate() {
-        let leaf = leaves[place].cell(buffers);
-        registers.push(register(*instr, registers, leaf))?;
-    }
-    Ok(last(registers))
-}
-
-// The next mark of the body above that grid point: the least of those of its leaves.
-fn next_mark<S: Buffers>(leaves: &[Leaf], buffers: &S) -> Option<i64>
-    requires at { (maps : List Block) × (point : ℤ) × IsBodyTick point
-        × AllByRecursion (IsLeafAt StandsAt (S.lists buffers.now) (S.forgotten buffers.now) maps point) leaves.now }
-    ensures next { (l : LoopParts) (point : ℤ)
-        → AllByRecursion (IsLeafAt StandsAt (S.lists buffers.now) (S.forgotten buffers.now) l.maps point) leaves.now
-        → map origin leaves.now ≡ map leaf_only l.body
-        → NamesNextMark (body_of (map stream_of (S.lists buffers.now)) l) point result }
-    ensures bounds { IfSome result IsMarkTick }
-{
+    let each = reading.each;
     let mut next = None;
-    for leaf in leaves {
-        next = lesser(next, leaf.next(buffers));
+    for (place, instr) in each.body.iter().enumerate() {
+        let above = leaves[place].step(instr, place, reading, registers, arguments)?;
+        next = lesser(next, above);
     }
-    next
+    Ok(Seen {
+        cell: last(registers),
+        next,
+    })
 }
 
 // Where a snapshot ends whose body next has a mark there.
+#[inline]
 fn turn_end(each: &Loop, next: Option<i64>) -> i64
     requires ready { (buffers : ℕ) × IsReady buffers each.now }
     requires bounds { IfSome next IsMarkTick }

@@ -13,4 +13,4 @@ returns-in-Some-Some-clause-next c =
     let fits_b : FitsSigned w64 b = search rules in
     let least : to_z w64 (of_z w64 c.min.result) ≡ int_min a b =
     to_z-of_z w64 c.min.result fits ∙ rw (to_z-of_z w64 a fits_a, to_z-of_z w64 b fits_b) at c.min.ensures.value in
-    λ x y tick f g. rw least (joined-both x y tick a b (rw c.in-Some-Some.is-0 at f) (rw c.in-Some-Some.is-1 at g))
+    λ x y tick f g. rw least (joined-both x y tick a b (rw c.in-Some-Some.is-1 at f) (rw c.in-Some-Some.is-0 at g))

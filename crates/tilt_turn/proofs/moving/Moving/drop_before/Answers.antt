@@ -16,6 +16,7 @@ loop-self-preserved c =
     let mark = c.has_mark_within.ensures.0 c.loop-self-test.true in
     record {
       back = i.back;
+      next = i.next;
       reducer = c.in_ok-pop_front.ensures.reducer ∙ i.reducer;
       held = λ x by_map begin low holds.
           let h = i.held x by_map begin low holds in

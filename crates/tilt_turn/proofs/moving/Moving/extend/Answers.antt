@@ -1,11 +1,12 @@
-use Rattle.std.proofs.Common.{◌≡◌, ◌≤ℤ◌, ◌∙◌, ◌∷◌, ◌++◌, [], ap, FitsSigned, w64, to_z, of_z, arith, rules}
+use Rattle.std.proofs.Common.{◌≡◌, ◌≤ℤ◌, ◌∙◌, ◌∷◌, ◌++◌, [], ap, refl, FitsSigned, w64, to_z, of_z, arith, rules}
 use Rattle.std.proofs.lemmas.Int.{ints, to_z-of_z}
 use Rattle.tilt_code.specs.Body.{mapped}
 use Rattle.tilt_stream.specs.Stream.{stream_of}
 use Rattle.tilt_stream.specs.declared.cursor.Cursor.{Cursor}
-use Rattle.tilt_turn.proofs.Cursors.{stands-after, stands-own, kept-behind}
+use Rattle.tilt_turn.proofs.Cursors.{stands-own, kept-behind}
 use Rattle.tilt_stream.proofs.MarkedTicks.{few-met}
 use Rattle.tilt_turn.proofs.Moves.{pushed, moved}
+use Rattle.tilt_turn.proofs.Staying.{knows-later, stands-later}
 use Rattle.tilt_turn.specs.Kinds.{kind_cells}
 use Rattle.tilt_turn.proofs.moving.Moving.extend.Goals as goal
 
@@ -28,19 +29,11 @@ push_at-requires-clause-kept g c =
     let s = c.args.source.now in
     let w = c.loop-mark.self in
     let mark_fits : FitsSigned w64 c.in-Some.mark = search rules in
-    let above = c.in-Some.ensures.0.above in
+    let found = c.in-Some.ensures (g.B.Buffer.list s.buffer.now) c.loop-mark.invariant.knows in
+    let above = found.0.above in
     rw (to_z-of_z w64 c.in-Some.mark mark_fits)
     (kept-behind (g.B.Buffer.list s.buffer.now) (g.B.Buffer.forgotten s.buffer.now) w.back.tick c.in-Some.mark w.back
     c.loop-mark.invariant.cursor (omega (arith, ints)))
-
-pub move_to-requires-clause-kept : goal.move_to-requires-clause-kept
-move_to-requires-clause-kept g c =
-    let s = c.args.source.now in
-    let w = c.loop-mark.self in
-    let fits = to_z-of_z w64 c.args.last c.ranges.last in
-    let high : w.back.tick ≤ℤ c.args.last = rw fits at c.loop-mark.invariant.high in
-    rw fits (kept-behind (g.B.Buffer.list s.buffer.now) (g.B.Buffer.forgotten s.buffer.now) w.back.tick c.args.last w.back
-    c.loop-mark.invariant.cursor high)
 
 pub loop-mark-preserved : goal.loop-mark-preserved
 loop-mark-preserved g c =
@@ -50,7 +43,7 @@ loop-mark-preserved g c =
     let mark = c.in-Some.mark in
     let mark_fits : FitsSigned w64 mark = search rules in
     let read = to_z-of_z w64 mark mark_fits in
-    let found = c.in-Some.ensures in
+    let found = c.in-Some.ensures (g.B.Buffer.list s.buffer.now) i.knows in
     let above = found.0.above in
     let below = found.1 in
     let low = i.low in
@@ -64,6 +57,7 @@ loop-mark-preserved g c =
       high = rw stands (omega (arith, ints));
       cursor = stands-own (g.B.Buffer.list s.buffer.now) (g.B.Buffer.forgotten s.buffer.now) (to_z w64 (of_z w64 mark)) c.push_at.new.self.back
           pushed_at.cursor;
+      knows = record { place = pushed_at.knows.place; next = pushed_at.knows.next; low = pushed_at.knows.low; high = pushed_at.knows.high };
       reducer = pushed_at.reducer ∙ i.reducer;
       held = λ first begins holds.
           let h = i.held first begins holds in
@@ -77,25 +71,37 @@ pub returns-clause-cursor : goal.returns-clause-cursor
 returns-clause-cursor g c =
     let s = c.args.source.now in
     let list = g.B.Buffer.list s.buffer.now in
-    let forgotten = g.B.Buffer.forgotten s.buffer.now in
-    let w = c.loop-mark.self in
-    let fits = to_z-of_z w64 c.args.last c.ranges.last in
-    let high : w.back.tick ≤ℤ c.args.last = rw fits at c.loop-mark.invariant.high in
-    stands-after list forgotten c.args.last c.move_to.new.self
-    (kept-behind list forgotten w.back.tick c.args.last w.back c.loop-mark.invariant.cursor high) (rw fits at c.move_to.ensures)
-
-pub returns-clause-held : goal.returns-clause-held
-returns-clause-held g c =
-    let s = c.args.source.now in
     let w = c.loop-mark.self in
     let i = c.loop-mark.invariant in
     let fits = to_z-of_z w64 c.args.last c.ranges.last in
     let high : w.back.tick ≤ℤ c.args.last = rw fits at i.high in
-    let clear = rw fits at c.in_default.ensures in
-    let stands : c.move_to.new.self.tick ≡ c.args.last = ap (λ (b : Cursor). b.tick) (rw fits at c.move_to.ensures) in
+    let clear = (rw fits at c.in_default.ensures) list i.knows in
+    stands-later list (g.B.Buffer.forgotten s.buffer.now) w.back.tick c.args.last w.back c.stay_until.new.self i.cursor high clear
+    (rw fits at c.stay_until.ensures)
+
+pub returns-clause-knows : goal.returns-clause-knows
+returns-clause-knows g c =
+    let list = g.B.Buffer.list c.args.source.now.buffer.now in
+    let w = c.loop-mark.self in
+    let i = c.loop-mark.invariant in
+    let fits = to_z-of_z w64 c.args.last c.ranges.last in
+    let high : w.back.tick ≤ℤ c.args.last = rw fits at i.high in
+    let clear = (rw fits at c.in_default.ensures) list i.knows in
+    knows-later list c.args.last w _ i.knows high clear (rw fits at c.stay_until.ensures) refl
+
+pub returns-clause-held : goal.returns-clause-held
+returns-clause-held g c =
+    let s = c.args.source.now in
+    let list = g.B.Buffer.list s.buffer.now in
+    let w = c.loop-mark.self in
+    let i = c.loop-mark.invariant in
+    let fits = to_z-of_z w64 c.args.last c.ranges.last in
+    let high : w.back.tick ≤ℤ c.args.last = rw fits at i.high in
+    let clear = (rw fits at c.in_default.ensures) list i.knows in
+    let stands : c.stay_until.new.self.tick ≡ c.args.last = ap (λ (b : Cursor). b.tick) (rw fits at c.stay_until.ensures) in
     let low = i.low in
     λ first begins holds.
     let h = i.held first begins holds in
-    let met = moved (stream_of (g.B.Buffer.list s.buffer.now)) (mapped s.each.now.maps s.map) first w.back.tick c.args.last
+    let met = moved (stream_of list) (mapped s.each.now.maps s.map) first w.back.tick c.args.last
     (kind_cells w.kind) w.marks.items (omega (arith, ints)) high clear (record { cells_met = h.cells; marks_met = h.marks }) in
     record { cells = rw stands met.cells_met; marks = rw stands met.marks_met }

@@ -2,7 +2,7 @@ use Rattle.std.proofs.Common.{◌≡◌, ℤ, ◌≤ℤ◌}
 use Rattle.std.specs.Int.{int_gap}
 use Rattle.tilt_code.specs.Body.{mapped}
 use Rattle.tilt_stream.specs.Stream.{stream_of}
-use Rattle.tilt_turn.specs.Held.{Holds, StandsAt}
+use Rattle.tilt_turn.specs.Held.{Holds, Knows, StandsAt}
 use Rattle.tilt_turn.specs.Kinds.{kind_reducer}
 use Rattle.tilt_turn.proofs.moving.Moving.extend.Given as goal
 
@@ -14,6 +14,7 @@ invariant-loop-mark g l =
       low : l.fn.self.back.tick ≤ℤ l.self.back.tick;
       high : l.self.back.tick ≤ℤ l.last;
       cursor : StandsAt list (g.B.Buffer.forgotten l.source.buffer.now) l.self.back.tick l.self.back;
+      knows : Knows list l.self;
       reducer : kind_reducer l.self.kind ≡ kind_reducer l.fn.self.kind;
       held : (first : ℤ) → first ≤ℤ l.fn.self.back.tick → Holds (stream_of list) by_map first l.fn.self → Holds (stream_of list) by_map first l.self;
     }

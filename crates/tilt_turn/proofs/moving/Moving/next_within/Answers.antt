@@ -2,28 +2,33 @@ use Rattle.std.proofs.Common.{FitsSigned, w64, sym, pos, ◌+ℤ◌, rules}
 use Rattle.std.proofs.lemmas.Int.{to_z-of_z}
 use Rattle.tilt_base.specs.declared.limits.TheConstants.{WIDE}
 use Rattle.tilt_stream.specs.Stream.{stream_of}
-use Rattle.tilt_turn.proofs.MarkBounds.{held-next, later-next, held-bounds}
+use Rattle.tilt_turn.proofs.MarkBounds.{held-next, later-next, held-bounds, later-bounds}
 use Rattle.tilt_turn.proofs.moving.Moving.next_within.Goals as goal
 
 pub returns-in-Some-clause-next : goal.returns-in-Some-clause-next
-returns-in-Some-clause-next g c =
+returns-in-Some-clause-next c =
     let fits : FitsSigned w64 c.in-Some.mark = search rules in
     let w = c.args.self.now in
-    λ by_map first some held.
+    λ list by_map first some held knows.
     rw (to_z-of_z w64 c.in-Some.mark fits)
-    (held-next (stream_of (g.B.Buffer.list c.args.buffer.now)) first w.back.tick c.in-Some.mark w.marks.items some held.marks (sym c.in-Some.ensures)).0
+    (held-next (stream_of list) first w.back.tick c.in-Some.mark w.marks.items some held.marks (sym c.in-Some.ensures)).0
 
 pub returns-in-Some-clause-bounds : goal.returns-in-Some-clause-bounds
-returns-in-Some-clause-bounds g c =
+returns-in-Some-clause-bounds c =
     let fits : FitsSigned w64 c.in-Some.mark = search rules in
     let w = c.args.self.now in
-    λ by_map first some held.
-    let next = held-next (stream_of (g.B.Buffer.list c.args.buffer.now)) first w.back.tick c.in-Some.mark w.marks.items some held.marks (sym c.in-Some.ensures) in
+    λ list by_map first some held knows.
+    let next = held-next (stream_of list) first w.back.tick c.in-Some.mark w.marks.items some held.marks (sym c.in-Some.ensures) in
     rw (to_z-of_z w64 c.in-Some.mark fits) (held-bounds first w.back.tick c.in-Some.mark (WIDE +ℤ pos 1) next.0.above next.1)
 
 pub returns-in-None-clause-next : goal.returns-in-None-clause-next
-returns-in-None-clause-next g c =
+returns-in-None-clause-next c =
     let w = c.args.self.now in
-    λ by_map first some held.
-    later-next (stream_of (g.B.Buffer.list c.args.buffer.now)) first w.back.tick w.marks.items c.next.result some held.marks (sym c.in-None.ensures)
-    c.next.ensures.next
+    λ list by_map first some held knows.
+    later-next (stream_of list) first w.back.tick w.marks.items w.next some held.marks (sym c.in-None.ensures)
+    knows.next
+
+pub returns-in-None-clause-bounds : goal.returns-in-None-clause-bounds
+returns-in-None-clause-bounds c =
+    let w = c.args.self.now in
+    λ list by_map first some held knows. later-bounds (stream_of list) first w.back.tick (WIDE +ℤ pos 1) w.next some knows.next knows.high

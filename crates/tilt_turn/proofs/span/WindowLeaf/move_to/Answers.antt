@@ -4,7 +4,7 @@ use Rattle.std.proofs.lemmas.Result.{on_ok_weaker}
 use Rattle.tilt_base.specs.declared.reducer.Reducer.{Reducer}
 use Rattle.tilt_code.specs.declared.instr.Instr.TheVariants.{Win}
 use Rattle.tilt_turn.proofs.Cursors.{may-later}
-use Rattle.tilt_turn.proofs.Numbered.{both-ok}
+use Rattle.tilt_turn.proofs.Numbered.{all-ok}
 use Rattle.tilt_turn.proofs.span.WindowLeaf.move_to.Goals as goal
 
 pub move_to-requires-clause-cursor : goal.move_to-requires-clause-cursor
@@ -44,7 +44,7 @@ move_to-requires-clause-held g c =
     let high = r.low.1 in
     let first = c.requires.near.low in
     let last = c.requires.near.high in
-    (before +ℤ w.from +ℤ pos 1, omega (arith, ints), c.requires.fit.2.1.held)
+    (before +ℤ w.from +ℤ pos 1, omega (arith, ints), c.requires.fit.2.1.held, c.requires.fit.2.1.known)
 
 pub returns-clause-at : goal.returns-clause-at
 returns-clause-at g c =
@@ -59,8 +59,8 @@ returns-clause-at g c =
     let last_is : to_z w64 (of_z w64 (to_z w64 (of_z w64 c.args.point) +ℤ to_z w64 (of_z w64 w.to))) ≡ c.args.point +ℤ w.to = omega (arith, ints) in
     let first_is : to_z w64 (of_z w64 (to_z w64 (of_z w64 (to_z w64 (of_z w64 c.args.point) +ℤ to_z w64 (of_z w64 w.from))) +ℤ pos 1))
     ≡ c.args.point +ℤ w.from +ℤ pos 1 = omega (arith, ints) in
-    both-ok c.move_to.result _ _ _ c.move_to.ensures.cursor c.move_to.ensures.held
-    (λ cursor held. (r, record { cursor = rw last_is at cursor; held = rw first_is at held }))
+    all-ok c.move_to.result _ _ _ _ c.move_to.ensures.cursor c.move_to.ensures.held c.move_to.ensures.knows
+    (λ cursor held knows. (r, record { cursor = rw last_is at cursor; held = rw first_is at held; known = λ some. knows }))
 
 pub returns-clause-same : goal.returns-clause-same
 returns-clause-same g c =

@@ -1,64 +1,39 @@
-use Rattle.std.proofs.Common.{◌≡◌, ◌∙◌, ap, sym, subst, ℤ, FitsSigned, w64, to_z, of_z, pos, ◌+ℤ◌, List, [], map, drop, length, rules, arith}
+use Rattle.std.proofs.Common.{◌≡◌, ◌∙◌, ap, sym, subst, FitsSigned, w64, to_z, of_z, pos, ◌+ℤ◌, List, [], map, drop, length, rules, arith}
 use Rattle.std.specs.List.{AllByRecursion}
 use Rattle.std.proofs.lemmas.Int.{to_z-of_z}
 use Rattle.std.proofs.lemmas.List.{length-map, take_at}
 use Rattle.tilt_base.specs.Grid.{ceil}
 use Rattle.tilt_code.proofs.Turns.{turn-ends}
 use Rattle.tilt_code.specs.Body.{body_of}
-use Rattle.tilt_code.specs.Code.{Block}
 use Rattle.tilt_code.specs.Turn.{turn}
 use Rattle.tilt_stream.specs.Stream.{stream_of}
-use Rattle.tilt_turn.proofs.Origins.{all-only, leaf-may}
+use Rattle.tilt_turn.proofs.Origins.{leaf-may}
+use Rattle.tilt_turn.proofs.Registers.{stand-length}
 use Rattle.tilt_turn.proofs.Stepwise.{all-weaker}
-use Rattle.tilt_turn.specs.Held.{IsLeafAt, MayGo, StandsAt, leaf_only, origin}
-use Rattle.tilt_turn.specs.Ready.{IsKept}
+use Rattle.tilt_turn.specs.Held.{ConstantsStand, IsLeafAt, MayGo, RepeatEarlier, StandsAt, leaf_only, origin, repeated}
+use Rattle.tilt_turn.specs.Sight.{Sees}
 use Rattle.tilt_turn.specs.declared.leaf.Leaf.{Leaf}
 use Rattle.tilt_turn.proofs.state.LoopState.turn.Goals as goal
-use Rattle.tilt_turn.proofs.state.LoopState.turn.Goals.{After-turn_end-end}
+use Rattle.tilt_turn.proofs.state.LoopState.turn.Goals.{After-turn_end-end, In_ok-seen}
 use Rattle.tilt_turn.proofs.state.LoopState.turn.Given.{Over}
 
-pub move_leaves-requires-clause-kept : goal.move_leaves-requires-clause-kept
-move_leaves-requires-clause-kept g c =
-    let lists = g.S.Buffers.lists c.args.buffers.now in
-    let forgotten = g.S.Buffers.forgotten c.args.buffers.now in
-    let each = c.args.each.now in
+pub body_seen-requires-clause-kept : goal.body_seen-requires-clause-kept
+body_seen-requires-clause-kept g c =
     let point = c.point_of-point.result in
     let fits : FitsSigned w64 point = search rules in
-    let value : point ≡ ceil each.grid (c.args.start +ℤ pos 1) =
+    let value : point ≡ ceil c.args.each.now.grid (c.args.start +ℤ pos 1) =
     rw (to_z-of_z w64 c.args.start c.ranges.start) at c.point_of-point.ensures.value in
-    let instrs : map origin c.deref_mut.result.now ≡ map leaf_only each.body =
-    ap (map origin) c.deref_mut.ensures.value ∙ c.requires.fit.2.same in
-    rw (to_z-of_z w64 point fits, value)
-    (subst (λ (block : Block). AllByRecursion (IsKept lists forgotten (ceil each.grid (c.args.start +ℤ pos 1))) block) (sym instrs)
-    (all-only (IsKept lists forgotten (ceil each.grid (c.args.start +ℤ pos 1))) each.body tt c.requires.kept))
+    rw (to_z-of_z w64 point fits, value) c.requires.kept
 
-pub body_cell-requires-clause-at : goal.body_cell-requires-clause-at
-body_cell-requires-clause-at g c =
-    let new = c.move_leaves.new.leaves in
-    let old = c.deref_mut.result.now in
-    let same = ap length c.in_ok-move_leaves.ensures.same in
-    let a = length-map new origin in
-    let b = length-map old origin in
-    let len : length new ≡ c.args.self.now.leaves.len = omega arith in
-    let leaves = c.deref.ensures.value ∙ take_at new _ c.args.self.now.leaves.len len in
+-- what is seen of the body
+seen_is : (g : Over) (c : In_ok-seen g) → Sees (body_of (map stream_of (g.S.Buffers.lists c.args.buffers.now)) c.args.each.now)
+    (ceil c.args.each.now.grid (c.args.start +ℤ pos 1)) c.in_ok-seen.seen
+seen_is g c =
     let point = c.point_of-point.result in
     let fits : FitsSigned w64 point = search rules in
-    let at = rw (to_z-of_z w64 point fits) at c.in_ok-move_leaves.ensures.at in
-    rw leaves (point, c.point_of-point.ensures.near, at)
-
-pub next_mark-requires : goal.next_mark-requires
-next_mark-requires g c =
-    let new = c.move_leaves.new.leaves in
-    let old = c.deref_mut.result.now in
-    let same = ap length c.in_ok-move_leaves.ensures.same in
-    let a = length-map new origin in
-    let b = length-map old origin in
-    let len : length new ≡ c.args.self.now.leaves.len = omega arith in
-    let leaves = c.deref-2.ensures.value ∙ take_at new _ c.args.self.now.leaves.len len in
-    let point = c.point_of-point.result in
-    let fits : FitsSigned w64 point = search rules in
-    let at = rw (to_z-of_z w64 point fits) at c.in_ok-move_leaves.ensures.at in
-    record { at = rw leaves (c.args.each.now.maps, point, c.point_of-point.ensures.near, at) }
+    let value : point ≡ ceil c.args.each.now.grid (c.args.start +ℤ pos 1) =
+    rw (to_z-of_z w64 c.args.start c.ranges.start) at c.point_of-point.ensures.value in
+    rw (to_z-of_z w64 point fits, value) at c.in_ok-seen.ensures.seen
 
 -- where the turn ends
 end_is : (g : Over) (c : After-turn_end-end g) → to_z w64 (of_z w64 c.turn_end-end.result)
@@ -66,23 +41,9 @@ end_is : (g : Over) (c : After-turn_end-end g) → to_z w64 (of_z w64 c.turn_end
 end_is g c =
     let each = c.args.each.now in
     let body = body_of (map stream_of (g.S.Buffers.lists c.args.buffers.now)) each in
-    let new = c.move_leaves.new.leaves in
-    let old = c.deref_mut.result.now in
-    let same = ap length c.in_ok-move_leaves.ensures.same in
-    let a = length-map new origin in
-    let b = length-map old origin in
-    let len : length new ≡ c.args.self.now.leaves.len = omega arith in
-    let leaves = c.deref-2.ensures.value ∙ take_at new _ c.args.self.now.leaves.len len in
-    let point = c.point_of-point.result in
-    let fits : FitsSigned w64 point = search rules in
     let end_fits : FitsSigned w64 c.turn_end-end.result = search rules in
-    let at = rw (to_z-of_z w64 point fits) at c.in_ok-move_leaves.ensures.at in
-    let value : point ≡ ceil each.grid (c.args.start +ℤ pos 1) = rw (to_z-of_z w64 c.args.start c.ranges.start) at c.point_of-point.ensures.value in
-    let instrs : map origin new ≡ map leaf_only each.body =
-    c.in_ok-move_leaves.ensures.same ∙ ap (map origin) c.deref_mut.ensures.value ∙ c.requires.fit.2.same in
-    let names = c.next_mark.ensures.next each point (rw leaves at) (rw leaves instrs) in
     to_z-of_z w64 c.turn_end-end.result end_fits
-    ∙ c.turn_end-end.ensures body c.args.start c.requires.high (rw value at names)
+    ∙ c.turn_end-end.ensures body c.args.start c.requires.high (seen_is g c.before).next
 
 pub invariant_of-result : goal.invariant_of-result
 invariant_of-result g c =
@@ -93,22 +54,9 @@ invariant_of-result g c =
 
 pub returns-clause-snap : goal.returns-clause-snap
 returns-clause-snap g c =
-    let each = c.args.each.now in
-    let body = body_of (map stream_of (g.S.Buffers.lists c.args.buffers.now)) each in
-    let new = c.move_leaves.new.leaves in
-    let old = c.deref_mut.result.now in
-    let same = ap length c.in_ok-move_leaves.ensures.same in
-    let a = length-map new origin in
-    let b = length-map old origin in
-    let len : length new ≡ c.args.self.now.leaves.len = omega arith in
-    let leaves = c.deref.ensures.value ∙ take_at new _ c.args.self.now.leaves.len len in
-    let point = c.point_of-point.result in
-    let fits : FitsSigned w64 point = search rules in
-    let at = rw (to_z-of_z w64 point fits) at c.in_ok-move_leaves.ensures.at in
-    let point_is : point ≡ ceil each.grid (c.args.start +ℤ pos 1) = rw (to_z-of_z w64 c.args.start c.ranges.start) at c.point_of-point.ensures.value in
     let start = to_z-of_z w64 c.args.start c.ranges.start in
     let end = end_is g c in
-    let value = c.in_ok-value.ensures point (rw leaves at) ∙ ap (λ (t : ℤ). body.cell t) point_is in
+    let value = (seen_is g c.before).cell in
     λ i. record { start = start i; end = end i; value = value i }
 
 pub returns-clause-fit : goal.returns-clause-fit
@@ -116,22 +64,33 @@ returns-clause-fit g c =
     let lists = g.S.Buffers.lists c.args.buffers.now in
     let forgotten = g.S.Buffers.forgotten c.args.buffers.now in
     let each = c.args.each.now in
-    let new = c.move_leaves.new.leaves in
+    let new = c.body_seen.new.leaves in
     let old = c.deref_mut.result.now in
-    let same = ap length c.in_ok-move_leaves.ensures.same in
+    let same = ap length c.in_ok-seen.ensures.same in
     let a = length-map new origin in
     let b = length-map old origin in
     let len : length new ≡ c.args.self.now.leaves.len = omega arith in
+    let cells = c.body_seen.new.registers in
+    let here : c.deref_mut-2.result.now ≡ c.args.self.now.registers.items = c.deref_mut-2.ensures.value in
+    let stand = c.in_ok-seen.ensures.stand in
+    let many = stand-length each.body cells stand in
+    let were = stand-length each.body c.args.self.now.registers.items c.requires.fit.2.registers in
+    let room : length cells ≡ c.args.self.now.registers.len = omega arith in
+    let registers = take_at cells (drop (length cells) c.args.self.now.registers.items) c.args.self.now.registers.len room in
     let leaves = take_at new (drop (length new) c.args.self.now.leaves.items) c.args.self.now.leaves.len len in
     let point = c.point_of-point.result in
     let fits : FitsSigned w64 point = search rules in
-    let at = rw (to_z-of_z w64 point fits) at c.in_ok-move_leaves.ensures.at in
+    let at = rw (to_z-of_z w64 point fits) at c.in_ok-seen.ensures.at in
     let value : point ≡ ceil each.grid (c.args.start +ℤ pos 1) = rw (to_z-of_z w64 c.args.start c.ranges.start) at c.point_of-point.ensures.value in
     let instrs : map origin new ≡ map leaf_only each.body =
-    c.in_ok-move_leaves.ensures.same ∙ ap (map origin) c.deref_mut.ensures.value ∙ c.requires.fit.2.same in
+    c.in_ok-seen.ensures.same ∙ ap (map origin) c.deref_mut.ensures.value ∙ c.requires.fit.2.same in
+    let repeats : map repeated new ≡ map repeated c.args.self.now.leaves.items =
+    c.in_ok-seen.ensures.again ∙ ap (map repeated) c.deref_mut.ensures.value in
     let may = all-weaker (λ (own : Leaf). IsLeafAt StandsAt lists forgotten each.maps point own)
     (λ (own : Leaf). IsLeafAt MayGo lists [] each.maps point own) new (leaf-may lists forgotten each.maps point) at in
     rw (← value) (record {
       same = ap (map origin) leaves ∙ instrs;
       leaves = subst (λ (ls : List Leaf). AllByRecursion (IsLeafAt MayGo lists [] each.maps point) ls) (sym leaves) may;
+      again = subst (RepeatEarlier each.body) (sym (ap (map repeated) leaves ∙ repeats)) c.requires.fit.2.again;
+      registers = subst (ConstantsStand each.body) (sym registers) stand;
     })
