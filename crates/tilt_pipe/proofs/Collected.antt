@@ -50,12 +50,6 @@ touches-at (x ∷ y ∷ xs) (suc zero) s touch is =
     λ end last. sym (same_Some x.end end last) ∙ touch.0 ∙ ap (λ (n : Snapshot). n.start) (same_Some y s is)
 touches-at (x ∷ y ∷ xs) (suc (suc place)) s touch is = touches-at (y ∷ xs) (suc place) s touch.1 is
 
--- there is one at the place
-pub placed : (all : List Snapshot) (place : ℕ) (s : Snapshot) → slice_get all place ≡ Some s → place < length all
-placed [] place s is = absurd (none-some s is)
-placed (x ∷ xs) zero s is = omega arith
-placed (x ∷ xs) (suc place) s is = let rest = placed xs place s is in omega arith
-
 -- all of them, where there is none at the place
 pub all-taken : (all : List Snapshot) (place : ℕ) → slice_get all place ≡ None → take place all ≡ all
 all-taken [] zero is = refl

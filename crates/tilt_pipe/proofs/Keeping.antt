@@ -24,6 +24,7 @@ use Rattle.tilt_turn.specs.Held.{IsFit}
 use Rattle.tilt_turn.specs.Ready.{IsKept, IsReady}
 use Rattle.tilt_turn.specs.Same.{IsSameFor}
 use Rattle.tilt_turn.specs.declared.state.LoopState.{LoopState}
+use Rattle.tilt_pipe.proofs.Covered.{all-of, contains-at}
 use Rattle.tilt_pipe.proofs.Nears.{reads-near, ready-more, work-sound}
 use Rattle.tilt_pipe.proofs.OpenLists.{input-forgotten, open-at}
 use Rattle.tilt_pipe.proofs.RingsKept.{ring-of, loops-there}
@@ -125,19 +126,14 @@ keeps-block p point (i ∷ block) keeps =
     let parts = all-parts (KeepsRead p point) (reads_of i) (body_reads block) keeps in
     (keeps-leaf p point i parts.0, keeps-block p point block parts.1)
 
-all-by_each : (P : Read → Type 0) (xs : List Read) → ((r : Read) → Contains xs r → P r) → AllByRecursion P xs
-all-by_each P [] each = tt
-all-by_each P (x ∷ xs) each =
-    (each x (0, omega arith, refl), all-by_each P xs (λ r among. let within = among.1 in each r (suc among.0, omega arith, among.2)))
-
 -- what the next turn of a loop that is used reads first is kept
 pub keeps-body : (p : RingsParts) (place : ℕ) (w : Work) → IsCode p.code → AreRings p → ((k : ℕ) → IsTrimmed p k) → IsOpen p place w
     → w.used ≡ true → AllByRecursion (IsKept (lists_of p) (forgotten_of p) (turn_point w.loop (start_at p place))) w.loop.body
 keeps-body p place w code are trimmed is_open used =
     let near = reads-near (length p.inputs + place) w.loop.body (work-sound p place w code are is_open.is).near in
     keeps-block p (turn_point w.loop (start_at p place)) w.loop.body
-    (all-by_each (KeepsRead p (turn_point w.loop (start_at p place))) (body_reads w.loop.body)
-    (λ r among. keeps-read p place w r code are trimmed is_open used among
+    (all-of (KeepsRead p (turn_point w.loop (start_at p place))) (body_reads w.loop.body)
+    (λ i r at. let among = contains-at (body_reads w.loop.body) i r at in keeps-read p place w r code are trimmed is_open used among
     (all-contains (IsNear (length p.inputs + place)) (body_reads w.loop.body) r near among).there))
 
 -- how many lists there are

@@ -12,9 +12,12 @@ pub mod Making
 pub mod Nears
 pub mod OpenLists
 pub mod Placed
+pub mod Points
 pub mod Pulling
 pub mod RingsKept
 pub mod Seen
+pub mod Covered
+pub mod Short
 pub mod Standing
 pub mod Starts
 pub mod Telling

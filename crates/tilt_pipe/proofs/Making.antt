@@ -1,8 +1,10 @@
 -- A turn of a chain: what it asks, and what the chain keeps.
-use Rattle.std.proofs.Common.{◌≡◌, ◌≢◌, inl, inr, false, ◌+◌, ◌∙◌, ℕ, suc, ℤ, pos, true, List, map, drop, length, get_or, slice_get, slice_set, Some, sym, ap, subst, arith}
+use Rattle.std.proofs.Common.{◌≡◌, ◌≢◌, inl, inr, false, ◌+◌, ◌∙◌, ℕ, ℤ, pos, ◌≤ℤ◌, true, List, map, length, get_or, slice_get, slice_set, Some, sym, ap, subst, arith}
 use Rattle.std.proofs.lemmas.Bool.{cases_eq}
 use Rattle.std.proofs.lemmas.Int.{ints}
+use Rattle.std.proofs.lemmas.List.{length-map}
 use Rattle.std.proofs.lemmas.Option.{get_or_from_slice_get, same_Some}
+use Rattle.circular_buffer.proofs.Places.{slice_get-set_same}
 use Rattle.tilt_code.specs.References.{IsCode}
 use Rattle.tilt_code.specs.Run.{buffers_of}
 use Rattle.tilt_stream.specs.Snap.{Snapshot}
@@ -11,36 +13,26 @@ use Rattle.tilt_pipe.proofs.Keeping.{keeps-body}
 use Rattle.tilt_pipe.proofs.Nears.{work-sound}
 use Rattle.tilt_pipe.proofs.RingsKept.{next-kept, ring-of}
 use Rattle.tilt_pipe.proofs.Trimming.{IsTurn, alike-works, exact-trimmed, trimmed-other, turned, turned-starts, turned-trimmed, turned-wanted, wanted-too}
-use Rattle.tilt_pipe.proofs.Turning.{found-turns, own-turns, start-there, turns-set}
+use Rattle.tilt_pipe.proofs.Turning.{has-many, own-turns, turns-set}
 use Rattle.tilt_pipe.proofs.Wanted.{turn_point-rises}
 use Rattle.tilt_pipe.specs.Chain.{AreTold, AreTurns, AreTurnsOf}
 use Rattle.tilt_pipe.specs.Made.{Work, reads_buffer}
 use Rattle.tilt_pipe.specs.Positions.{AreRings, IsOpen, RingParts, RingsParts, made_at, made_by, stages_at, start_at, starts_of, works_in}
 use Rattle.tilt_pipe.specs.Reads.{body_reads, turn_point}
 use Rattle.tilt_pipe.specs.Rings.{rings_of}
+use Rattle.tilt_pipe.specs.Sources.{AreReaders, AreSources}
 use Rattle.tilt_pipe.specs.Trimmed.{IsTrimmed, KeepsWanted, MayTurn, StandAlike}
 use Rattle.tilt_pipe.specs.declared.chain.LoopTurns.{LoopTurns}
 
--- the turns of the loop at a place of a chain, where it stands
-turns-here : (p : RingsParts) (all : List LoopTurns) (place : ℕ) (w : Work) (turns : LoopTurns)
-    → AreTurns (buffers_of p.code p.inputs) (length p.inputs) 0 (starts_of p.rings) (works_in p) all → slice_get (works_in p) place ≡ Some w
-    → turns ≡ get_or all place turns
-    → AreTurnsOf (buffers_of p.code p.inputs) (length p.inputs + place) place (start_at p place) w (drop (suc place) (works_in p)) turns
-turns-here p all place w turns are is at =
-    let start = start-there p all place w are is in
-    let stands : start.0 ≡ start_at p place = sym (get_or_from_slice_get (starts_of p.rings) place start.0 (pos 0) start.1) in
-    subst (λ (t : ℤ). AreTurnsOf (buffers_of p.code p.inputs) (length p.inputs + place) place t w (drop (suc place) (works_in p)) turns) stands
-    (own-turns p all place start.0 w turns are start.1 is (found-turns p all place w turns are is at))
-
 pub may-turn : (p : RingsParts) (all : List LoopTurns) (place : ℕ) (w : Work) (turns : LoopTurns) → IsCode p.code → AreRings p
-    → AreTurns (buffers_of p.code p.inputs) (length p.inputs) 0 (starts_of p.rings) (works_in p) all
+    → AreTurns p.code p.inputs (starts_of p.rings) all
     → map (λ (r : RingParts). r.held) p.rings ≡ rings_of (length p.inputs) (stages_at (works_in p) (starts_of p.rings))
     → IsOpen p place w → w.used ≡ true → AreTold p place w → turns ≡ get_or all place turns → MayTurn p place turns w
 may-turn p all place w turns code are fit exact is_open used told at = record {
   is_open = is_open;
   told = told;
   kept = keeps-body p place w code are (λ k. exact-trimmed p k are exact) is_open used;
-  fit = (turns-here p all place w turns fit is_open.is at).fit;
+  fit = (own-turns p all place w turns fit is_open.is at).fit;
 }
 
 -- the next snapshot of the loop is a turn of it
@@ -70,24 +62,32 @@ made-turn p place w s code are is_open is =
 
 -- and then the chain has the turns that it is to have
 pub new-turns : (p : RingsParts) (all : List LoopTurns) (place : ℕ) (w : Work) (old new : LoopTurns) (r : RingParts) (s : Snapshot)
-    → AreTurns (buffers_of p.code p.inputs) (length p.inputs) 0 (starts_of p.rings) (works_in p) all → IsTurn p place w r s
-    → start_at p place ≡ r.start → old ≡ get_or all place old → new.used ≡ old.used → new.readers.items ≡ old.readers.items
+    → AreTurns p.code p.inputs (starts_of p.rings) all → IsTurn p place w r s
+    → start_at p place ≡ r.start → old ≡ get_or all place old → new.used ≡ old.used → new.sources.items ≡ old.sources.items
+    → new.readers.items ≡ old.readers.items
     → IsFit (buffers_of p.code p.inputs) w.loop (turn_point w.loop (start_at p place)) new.state
-    → AreTurns (buffers_of p.code p.inputs) (length p.inputs) 0 (starts_of (turned p place r s).rings) (works_in p) (slice_set all place new)
-new-turns p all place w old new r s are turn stands at used readers fit =
-    let wholes = buffers_of p.code p.inputs in
-    let behind = drop (suc place) (works_in p) in
-    let here = turns-here p all place w old are turn.of at in
+    → AreTurns p.code p.inputs (starts_of (turned p place r s).rings) (slice_set all place new)
+new-turns p all place w old new r s are turn stands at used sources readers fit =
+    let here = own-turns p all place w old are turn.of at in
     let up = turn.next.rises in
-    let own : AreTurnsOf wholes (length p.inputs + place) place s.end w behind new = record {
+    let within = (has-many p all place w are turn.of).rings in
+    let long = length-map p.rings (λ (x : RingParts). x.start) in
+    let start : get_or (slice_set (starts_of p.rings) place s.end) place (pos 0) ≡ s.end =
+    get_or_from_slice_get (slice_set (starts_of p.rings) place s.end) place s.end (pos 0)
+    (slice_get-set_same (starts_of p.rings) place s.end (omega arith)) in
+    let later = turn_point-rises w.loop (start_at p place) s.end turn.grid (omega (arith, ints)) in
+    let own : AreTurnsOf p.code p.inputs (slice_set (starts_of p.rings) place s.end) place w new = record {
       used = used ∙ here.used;
-      readers = readers ∙ here.readers;
-      fit = (turn_point w.loop (start_at p place), turn_point-rises w.loop (start_at p place) s.end turn.grid (omega (arith, ints)), fit);
+      sources = subst (AreSources (length p.inputs) (body_reads w.loop.body)) (sym sources) here.sources;
+      readers = subst (AreReaders (length p.inputs) p.code.loops (length p.code.loops) place) (sym readers) here.readers;
+      fit = (
+        turn_point w.loop (start_at p place),
+        subst (λ (t : ℤ). turn_point w.loop (start_at p place) ≤ℤ turn_point w.loop t) (sym start) later,
+        fit,
+      );
     } in
-    let same : place ≡ 0 + place = omega arith in
-    let own_ = subst (λ (n : ℕ). AreTurnsOf wholes (length p.inputs + place) n s.end w behind new) same own in
-    subst (λ (starts : List ℤ). AreTurns wholes (length p.inputs) 0 starts (works_in p) (slice_set all place new)) (sym (turned-starts p place r s))
-    (turns-set wholes (length p.inputs) 0 (starts_of p.rings) (works_in p) all place s.end w new are turn.of own_)
+    subst (λ (starts : List ℤ). AreTurns p.code p.inputs starts (slice_set all place new)) (sym (turned-starts p place r s))
+    (turns-set p.code p.inputs (starts_of p.rings) all place s.end w new are turn.of own)
 
 -- once the loop's own ring is trimmed, those that it doesn't read are too
 pub record IsTrimmedAfter (z : RingsParts) (place : ℕ) : Type 0 where

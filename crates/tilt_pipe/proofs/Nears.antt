@@ -1,11 +1,10 @@
 -- What the instructions of a code's loops read, within bounds, and that its loops may be run.
-use Rattle.std.proofs.Common.{◌≡◌, ◌≤◌, ◌<◌, ◌+◌, ℕ, zero, suc, ◌==◌, ◌||◌, Bool, true, false, List, [], ◌∷◌, ◌++◌, length, slice_get, Some, None, IsTrue, Contains, refl, sym, subst, arith, rules}
+use Rattle.std.proofs.Common.{◌≡◌, ◌≤◌, ◌<◌, ◌+◌, ℕ, zero, suc, ◌==◌, ◌||◌, Bool, true, false, List, [], ◌∷◌, length, slice_get, Some, None, IsTrue, Contains, refl, sym, subst, arith, rules}
 use Rattle.std.proofs.Common.{tests}
 use Rattle.std.proofs.lemmas.Int.{ints}
 use Rattle.std.proofs.lemmas.Option.{same_Some}
 use Rattle.std.specs.List.{AllByRecursion}
-use Rattle.tilt_base.proofs.Booleans.{or_step}
-use Rattle.tilt_base.proofs.Lists.{all-append, all-slice_get}
+use Rattle.tilt_base.proofs.Lists.{all-contains, all-append, all-slice_get}
 use Rattle.tilt_stream.proofs.Filling.{Fill-up}
 use Rattle.tilt_code.specs.Code.{Block, LoopParts}
 use Rattle.tilt_code.specs.Grammar.{IsInstr, IsLoop, stands_in_body}
@@ -149,11 +148,6 @@ near-there buffers buffer (r ∷ reads) near is =
     let rest = near-there buffers buffer reads near.1 in
     near-either buffers r.buffer buffer (reads_buffer buffer reads) there rest is
 
--- the reads of some instructions, and of one more before them
-pub reads-of-both : (buffer : ℕ) (xs ys : List Read) → reads_buffer buffer (xs ++ ys) ≡ (reads_buffer buffer xs || reads_buffer buffer ys)
-reads-of-both buffer [] ys = refl
-reads-of-both buffer (r ∷ xs) ys = or_step (r.buffer == buffer) (reads_buffer buffer (xs ++ ys)) (reads_buffer buffer xs) (reads_buffer buffer ys) (reads-of-both buffer xs ys)
-
 -- the grid point of a loop's next turn
 pub turn-near : (p : RingsParts) (place : ℕ) (w : Work) → IsCode p.code → AreRings p → IsOpen p place w
     → IsBodyTick (turn_point w.loop (start_at p place))
@@ -170,8 +164,9 @@ reads-near buffers [] near = tt
 reads-near buffers (i ∷ block) near =
     all-append (IsNear buffers) (reads_of i) (body_reads block) near.0.near (reads-near buffers block near.1)
 
-pub all-of_one : {X : Type 0} (P : X → Type 0) (xs : List X) (x : X) → xs ≡ x ∷ [] → AllByRecursion P xs → P x
-all-of_one P xs x is all = (subst (AllByRecursion P) is all).0
-
-pub among-one : (xs : List Read) (x : Read) → xs ≡ x ∷ [] → Contains xs x
-among-one xs x is = subst (λ (list : List Read). Contains list x) (sym is) (0, omega arith, refl)
+-- a loop reads earlier buffers alone, no further off than an offset goes and one tick more
+pub loop-reads : (p : RingsParts) (k : ℕ) (l : LoopParts) (r : Read) → IsCode p.code → AreRings p → slice_get p.code.loops k ≡ Some l
+    → Contains (body_reads l.body) r → IsNear (length p.inputs + k) r
+loop-reads p k l r code are is among =
+    all-contains (IsNear (length p.inputs + k)) (body_reads l.body) r
+    (reads-near (length p.inputs + k) l.body (loop-sound p k l code are is).near) among

@@ -4,8 +4,9 @@ use Rattle.std.proofs.Common.{◌≡◌, ◌≢◌, ◌⊎◌, ◌<◌, ℕ, zer
 use Rattle.std.proofs.Common.{slice_set, Option, Some, None, refl, sym, ap, ◌∙◌, subst, arith}
 use Rattle.std.proofs.lemmas.Bool.{false≢true}
 use Rattle.std.proofs.lemmas.Int.{ints, by_lt_z}
-use Rattle.std.proofs.lemmas.List.{length-map, length-take}
+use Rattle.std.proofs.lemmas.List.{get_or-set_other, length-map, length-take}
 use Rattle.std.proofs.lemmas.Option.{same_Some, slice_get_within, slice_get-get_or, slice_get_past}
+use Rattle.circular_buffer.proofs.Places.{slice_get-some}
 use Rattle.tilt_base.proofs.Lists.{all-contains}
 use Rattle.tilt_code.specs.Body.{last_or}
 use Rattle.tilt_code.specs.Code.{CodeParts, LoopParts}
@@ -29,14 +30,6 @@ use Rattle.tilt_pipe.specs.Made.{Stage, Work, begun_below, stages_from, stages_a
 use Rattle.tilt_pipe.specs.Positions.{AreRings, IsOpen, RingParts, RingsParts, made_at, made_by, stages_at, start_at, starts_of, works_in}
 use Rattle.tilt_pipe.specs.Pulled.{AreFalling, ArePulled, IsAsked, IsBegun, IsPulled, given_in, stages_in, steps_left}
 use Rattle.tilt_pipe.specs.Reads.{body_reads, turn_point}
-
--- another place of a list keeps its element
-pub get_or-other : (xs : List ℤ) (place other : ℕ) (x d : ℤ) → other ≢ place → get_or (slice_set xs place x) other d ≡ get_or xs other d
-get_or-other [] place other x d apart = refl
-get_or-other (y ∷ xs) zero zero x d apart = absurd (apart refl)
-get_or-other (y ∷ xs) zero (suc other) x d apart = refl
-get_or-other (y ∷ xs) (suc place) zero x d apart = refl
-get_or-other (y ∷ xs) (suc place) (suc other) x d apart = get_or-other xs place other x d (λ same. apart (ap suc same))
 
 -- where the loop at a place stands
 start-is : (works : List Work) (starts : List ℤ) (place : ℕ) (w : Work) → AreStanding works starts → slice_get works place ≡ Some w
@@ -131,7 +124,7 @@ turned given buffer works starts asked place w s h is told found =
           work = h.1.work;
           is = h.1.is;
           used = h.1.used;
-          before = subst (λ (t : ℤ). t <ℤ h.1.work.loop.hi) (sym (get_or-other starts place p end (pos 0) apart)) h.1.before;
+          before = subst (λ (t : ℤ). t <ℤ h.1.work.loop.hi) (sym (get_or-set_other starts place p end (pos 0) apart)) h.1.before;
           fewer = subst (λ (n : ℕ). n < made_in star p) (sym (made_in-other works starts place p end apart)) h.1.fewer;
         }
 
@@ -289,12 +282,6 @@ none-left p w standing is ended =
     let long : length (made_at p last w) ≡ length (run_of p.code p.inputs) = ap (λ (list : List Snapshot). length list) (all ∙ run) in
     slice_get_past (run_of p.code p.inputs) (given_in p) (omega arith)
 
--- a list has an element at each place
-some-at : (works : List Work) (place : ℕ) → place < length works → (w : Work) × (slice_get works place ≡ Some w)
-some-at [] place within = absurd (omega arith)
-some-at (w ∷ works) zero within = (w, refl)
-some-at (w ∷ works) (suc place) within = some-at works place (omega arith)
-
 -- the last loop, by its place among the loops of the code
 pub last-is : (p : RingsParts) → length p.code.loops - 1 ≡ length (works_in p) - 1
 last-is p = ap (λ (n : ℕ). n - 1) (sym (works-length p.code p.inputs))
@@ -303,7 +290,7 @@ pub last-work : (p : RingsParts) → IsCode p.code → (w : Work) × (slice_get 
 last-work p code =
     let some = code.grammatical.some in
     let long = works-length p.code p.inputs in
-    some-at (works_in p) (length (works_in p) - 1) (omega arith)
+    slice_get-some (works_in p) (length (works_in p) - 1) (omega arith)
 
 pub last-within : (p : RingsParts) → IsCode p.code → AreRings p → length p.code.loops - 1 < length p.rings
 last-within p code rings =

@@ -1,359 +1,304 @@
--- The loops of a pipe before their first turns: their states, which loops read their buffers, and which are used.
-use Rattle.std.proofs.Common.{◌≡◌, ◌<◌, ◌≤◌, ℕ, zero, suc, ◌+◌, ◌-◌, ◌==◌, ◌&&◌, ◌||◌, ℤ, Bool, true, false, if◌then◌else◌, List, [], ◌∷◌, ◌++◌, map, length, take, drop, get_or, slice_set, refl}
-use Rattle.std.proofs.Common.{sym, ap, ◌∙◌, subst, arith, append_assoc, length-drop}
-use Rattle.std.proofs.lemmas.List.{append-nil, drop-set, drop_all, drop_more, get_or-map, length-map, map_push, map_more, take_more}
-use Rattle.std.specs.Bool.{⊤}
+-- The loops of a pipe before their first turns: which loops read their buffers, and which are used.
+use Rattle.std.proofs.Common.{◌≢◌, ◌≡◌, inl, inr, ◌<◌, ◌≤◌, ℕ, zero, suc, ◌+◌, ◌-◌, ◌==◌, ◌&&◌, ◌||◌, Bool, true, false, if◌then◌else◌}
+use Rattle.std.proofs.Common.{List, [], ◌∷◌, ◌++◌, length, take, drop, get_or, slice_get, slice_set, Some, Contains, refl}
+use Rattle.std.proofs.Common.{sym, ap, ◌∙◌, subst, arith, append_assoc, length-append, length-drop}
+use Rattle.std.proofs.Math.Bool.{or-true}
+use Rattle.std.proofs.lemmas.Bool.{cases_eq}
+use Rattle.std.proofs.lemmas.List.{append-nil, get_or-map, length-set, take_at}
+use Rattle.std.proofs.lemmas.List.Elements.{Contains-append_left, Contains-append_right}
+use Rattle.std.proofs.lemmas.Option.{get_or_from_slice_get, same_Some, slice_get_within}
+use Rattle.circular_buffer.proofs.Places.{slice_get-drop, slice_get-last, slice_get-push, slice_get-set_other, slice_get-set_same, slice_get-some}
 use Rattle.std.specs.List.{AllByRecursion}
-use Rattle.tilt_base.proofs.Booleans.{or_step}
-use Rattle.tilt_base.proofs.Lists.{all-append}
-use Rattle.tilt_code.specs.Code.{Block, LoopParts}
-use Rattle.tilt_code.specs.declared.instr.Instr.{Instr}
-use Rattle.tilt_pipe.specs.Chain.{readers_in, readers_from}
-use Rattle.tilt_pipe.specs.Gathered.{AreFresh, AreUsed, IsFresh, added, gathered, has_used, readers_behind, readers_of, states_of, used_of}
+use Rattle.tilt_base.proofs.Lists.{all-append, all-contains, all-slice_get}
+use Rattle.tilt_code.specs.Code.{LoopParts}
+use Rattle.tilt_code.specs.References.{IsCode}
+use Rattle.tilt_pipe.proofs.Covered.{all-of, one-read}
+use Rattle.tilt_pipe.proofs.Nears.{loop-reads}
+use Rattle.tilt_pipe.proofs.Wanted.{is_used_by-found}
+use Rattle.tilt_pipe.proofs.Works.{work-is, works-length}
+use Rattle.tilt_pipe.specs.Gathered.{AreKept, AreRead, HasBegun, HasMore, HaveBegun, IsFresh, has_used, readers_of, used_of}
 use Rattle.tilt_pipe.specs.Made.{Work, reads_buffer, is_used_by, is_used}
-use Rattle.tilt_pipe.specs.Reads.{body_reads, reads_of}
+use Rattle.tilt_pipe.specs.Positions.{AreRings, RingsParts, works_in}
+use Rattle.tilt_pipe.specs.Reads.{body_reads}
+use Rattle.tilt_pipe.specs.Sources.{AreReaders, AreSources, IsRead, IsReaderOf, IsSource, readers_in}
 use Rattle.tilt_pipe.specs.declared.chain.LoopTurns.{LoopTurns}
 use Rattle.tilt_pipe.specs.declared.chain.Reader.{Reader}
 use Rattle.tilt_pipe.specs.declared.read.Read.{Read}
-use Rattle.tilt_turn.specs.declared.state.LoopState.{LoopState}
+use Rattle.tilt_pipe.specs.declared.sources.Source.{Source}
 
--- one more loop, with a state that is fit for its first turn
-pub fresh-push : (loops : List LoopParts) (states : List LoopState) (l : LoopParts) (state : LoopState) → AreFresh loops states
-    → IsFresh l state → AreFresh (loops ++ l ∷ []) (states ++ state ∷ [])
-fresh-push [] [] l state all fresh = (fresh, tt)
-fresh-push [] (other ∷ states) l state all fresh = absurd all
-fresh-push (x ∷ loops) [] l state all fresh = absurd all
-fresh-push (x ∷ loops) (other ∷ states) l state all fresh = (all.0, fresh-push loops states l state all.1 fresh)
-
--- the same of the turns of one more loop
-pub fresh-more : (loops : List LoopParts) (i : ℕ) (l : LoopParts) (all : List LoopTurns) (turns : LoopTurns) → l ≡ get_or loops i l
-    → i < length loops → AreFresh (take i loops) (states_of all) → IsFresh l turns.state
-    → AreFresh (take (i + 1) loops) (states_of (all ++ turns ∷ []))
-fresh-more loops i l all turns is within fresh own =
-    rw (take_more loops i l within, ← is, map_push (λ (t : LoopTurns). t.state) all turns)
-    (fresh-push (take i loops) (states_of all) l turns.state fresh own)
-
-pub none-more : (loops : List LoopParts) (i : ℕ) (all : List LoopTurns) (turns : LoopTurns) (l : LoopParts) → i < length loops
-    → readers_of all ≡ map (λ (each : LoopParts). []) (take i loops) → turns.readers.items ≡ []
-    → readers_of (all ++ turns ∷ []) ≡ map (λ (each : LoopParts). []) (take (i + 1) loops)
-none-more loops i all turns l within before none =
-    map_push (λ (t : LoopTurns). t.readers.items) all turns
-    ∙ ap (λ (own : List Reader). readers_of all ++ own ∷ []) none
-    ∙ ap (λ (lists : List (List Reader)). lists ++ [] ∷ []) before
-    ∙ sym (map_more (λ (each : LoopParts). []) loops i l within)
-
--- the readers among reads, and among others behind them
+-- the readers that sources make, and others after them
 readers_in-more : (r : Reader) (xs ys : List Reader) (test : Bool) (all : List Reader) → all ≡ xs ++ ys
     → (if test then r ∷ all else all) ≡ (if test then r ∷ xs else xs) ++ ys
 readers_in-more r xs ys true all is = ap (λ (rest : List Reader). r ∷ rest) is
 readers_in-more r xs ys false all is = is
 
-readers_in-both : (buffer place : ℕ) (xs ys : List Read)
-    → readers_in buffer place (xs ++ ys) ≡ readers_in buffer place xs ++ readers_in buffer place ys
-readers_in-both buffer place [] ys = refl
-readers_in-both buffer place (r ∷ xs) ys =
-    readers_in-more (record { place = place; first = r.first }) (readers_in buffer place xs) (readers_in buffer place ys)
-    (r.buffer == buffer) (readers_in buffer place (xs ++ ys)) (readers_in-both buffer place xs ys)
+readers_in-both : (k place : ℕ) (xs ys : List Source)
+    → readers_in k place (xs ++ ys) ≡ readers_in k place xs ++ readers_in k place ys
+readers_in-both k place [] ys = refl
+readers_in-both k place (s ∷ xs) ys =
+    readers_in-more (record { place = place; first = s.first }) (readers_in k place xs) (readers_in k place ys)
+    (s.place == k) (readers_in k place (xs ++ ys)) (readers_in-both k place xs ys)
 
--- what is added by no reads, and by some and others behind them
-pub added-none : (buffer place : ℕ) (lists : List (List Reader)) → added buffer place [] lists ≡ lists
-added-none buffer place [] = refl
-added-none buffer place (list ∷ lists) =
-    ap (λ (first : List Reader). first ∷ added (suc buffer) place [] lists) (append-nil list)
-    ∙ ap (λ (rest : List (List Reader)). list ∷ rest) (added-none (suc buffer) place lists)
-
-pub added-both : (buffer place : ℕ) (xs ys : List Read) (lists : List (List Reader))
-    → added buffer place ys (added buffer place xs lists) ≡ added buffer place (xs ++ ys) lists
-added-both buffer place xs ys [] = refl
-added-both buffer place xs ys (list ∷ lists) =
-    let first : (list ++ readers_in buffer place xs) ++ readers_in buffer place ys ≡ list ++ readers_in buffer place (xs ++ ys) =
-    append_assoc list (readers_in buffer place xs) (readers_in buffer place ys)
-    ∙ ap (λ (more : List Reader). list ++ more) (sym (readers_in-both buffer place xs ys)) in
-    ap (λ (own : List Reader). own ∷ added (suc buffer) place ys (added (suc buffer) place xs lists)) first
-    ∙ ap (λ (rest : List (List Reader)). (list ++ readers_in buffer place (xs ++ ys)) ∷ rest) (added-both (suc buffer) place xs ys lists)
-
--- one read is one of one buffer
-other_number : (a b : ℕ) → a < b → (a == b) ≡ false
-other_number a b less = grind arith
-
--- a read of a buffer before these adds to none
-pub added-before : (buffer place : ℕ) (r : Read) (lists : List (List Reader)) → r.buffer < buffer
-    → added buffer place (r ∷ []) lists ≡ lists
-added-before buffer place r [] before = refl
-added-before buffer place r (list ∷ lists) before =
-    rw (other_number r.buffer buffer before, added-before (suc buffer) place r lists (omega arith))
-    (ap (λ (first : List Reader). first ∷ lists) (append-nil list))
-
--- a read of one of them to that one
-pub added-at : (buffer place source : ℕ) (r : Read) (lists : List (List Reader)) → r.buffer ≡ buffer + source → source < length lists
-    → added buffer place (r ∷ []) lists
-    ≡ slice_set lists source (get_or lists source [] ++ (record { place = place; first = r.first }) ∷ [])
-added-at buffer place source r [] is there = absurd (omega arith)
-added-at buffer place zero r (list ∷ lists) is there =
-    let test : (r.buffer == buffer) ≡ true = grind arith in
-    rw (test, added-before (suc buffer) place r lists (omega arith)) refl
-added-at buffer place (suc source) r (list ∷ lists) is there =
-    let test : (r.buffer == buffer) ≡ false = grind arith in
-    rw (test, added-at (suc buffer) place source r lists (omega arith) (omega arith))
-    (ap (λ (first : List Reader).
-    first ∷ slice_set lists source (get_or lists source [] ++ (record { place = place; first = r.first }) ∷ [])) (append-nil list))
-
--- reads of earlier buffers alone add nothing
-abbrev pub AreBelow : ℕ → List Read → Type 0
-AreBelow buffer reads = AllByRecursion (λ r. r.buffer < buffer) reads
-
-below-more : (few many : ℕ) (reads : List Read) → few ≤ many → AreBelow few reads → AreBelow many reads
-below-more few many [] more h = tt
-below-more few many (r ∷ reads) more h = let first = h.0 in (omega arith, below-more few many reads more h.1)
-
-readers_in-below : (buffer place : ℕ) (reads : List Read) → AreBelow buffer reads → readers_in buffer place reads ≡ []
-readers_in-below buffer place [] h = refl
-readers_in-below buffer place (r ∷ reads) h =
-    rw (other_number r.buffer buffer h.0, readers_in-below buffer place reads h.1) refl
-
-added-below : (buffer place : ℕ) (reads : List Read) (lists : List (List Reader)) → AreBelow buffer reads
-    → added buffer place reads lists ≡ lists
-added-below buffer place reads [] h = refl
-added-below buffer place reads (list ∷ lists) h =
-    rw (
-      readers_in-below buffer place reads h,
-      added-below (suc buffer) place reads lists (below-more buffer (suc buffer) reads (omega arith) h),
-    )
-    (ap (λ (first : List Reader). first ∷ lists) (append-nil list))
-
--- each of some loops, of which the first fills the buffer with the number, reads earlier buffers alone
-abbrev pub ReadEarlier : ℕ → List LoopParts → Type 0
-ReadEarlier buffer [] = ⊤
-ReadEarlier buffer (l ∷ loops) = AreBelow buffer (body_reads l.body) × ReadEarlier (suc buffer) loops
-
--- the loops of works
-abbrev pub loops_of : List Work → List LoopParts
-loops_of works = map (λ (w : Work). w.loop) works
-
--- the readers of the first of some buffers, and of the others
-gathered-first : (buffer place : ℕ) (works : List Work) (list : List Reader) (lists : List (List Reader))
-    → gathered buffer place (loops_of works) (list ∷ lists)
-    ≡ (list ++ readers_from buffer place works) ∷ gathered (suc buffer) place (loops_of works) lists
-gathered-first buffer place [] list lists = ap (λ (first : List Reader). first ∷ lists) (sym (append-nil list))
-gathered-first buffer place (w ∷ works) list lists =
-    let own = readers_in buffer place (body_reads w.loop.body) in
-    let rest = added (suc buffer) place (body_reads w.loop.body) lists in
-    gathered-first buffer (suc place) works (list ++ own) rest
-    ∙ ap (λ (first : List Reader). first ∷ gathered (suc buffer) (suc place) (loops_of works) rest)
-    (append_assoc list own (readers_from buffer (suc place) works))
-
--- all readers of the buffers of loops are loops behind them
-pub gathered-all : (buffer place : ℕ) (works : List Work) → ReadEarlier buffer (loops_of works)
-    → gathered buffer place (loops_of works) (map (λ (l : LoopParts). []) (loops_of works)) ≡ readers_behind buffer place works
-gathered-all buffer place [] h = refl
-gathered-all buffer place (w ∷ works) h =
-    let none : List (List Reader) = map (λ (l : LoopParts). []) (loops_of works) in
-    ap (λ (lists : List (List Reader)). gathered buffer (suc place) (loops_of works) lists)
-    (added-below buffer place (body_reads w.loop.body) ([] ∷ none) h.0)
-    ∙ gathered-first buffer (suc place) works [] none
-    ∙ ap (λ (rest : List (List Reader)). readers_from buffer (suc place) works ∷ rest)
-    (gathered-all (suc buffer) (suc place) works h.1)
-
--- whether one of some readers is used, or one of others after them
-has_used-both : (used : List Bool) (xs ys : List Reader) → has_used used (xs ++ ys) ≡ (has_used used xs || has_used used ys)
-has_used-both used [] ys = refl
-has_used-both used (x ∷ xs) ys =
-    or_step (get_or used x.place false) (has_used used (xs ++ ys)) (has_used used xs) (has_used used ys) (has_used-both used xs ys)
-
--- of the readers in one loop: whether that loop is used and reads the buffer
-has_used-more : (used : List Bool) (place : ℕ) (first : ℤ) (readers : List Reader) (mark test found : Bool)
-    → get_or used place false ≡ mark → has_used used readers ≡ (mark && found)
-    → has_used used (if test then record { place = place; first = first } ∷ readers else readers) ≡ (mark && (test || found))
-has_used-more used place first readers true true found at is = rw at refl
-has_used-more used place first readers true false found at is = is
-has_used-more used place first readers false true found at is = rw at is
-has_used-more used place first readers false false found at is = is
-
-used-nothing : (mark : Bool) → false ≡ (mark && false)
-used-nothing true = refl
-used-nothing false = refl
-
-has_used-in : (used : List Bool) (buffer place : ℕ) (reads : List Read) (mark : Bool) → get_or used place false ≡ mark
-    → has_used used (readers_in buffer place reads) ≡ (mark && reads_buffer buffer reads)
-has_used-in used buffer place [] mark at = used-nothing mark
-has_used-in used buffer place (r ∷ reads) mark at =
-    has_used-more used place r.first (readers_in buffer place reads) mark (r.buffer == buffer) (reads_buffer buffer reads) at
-    (has_used-in used buffer place reads mark at)
-
--- the marks from a place on
-drop-first : (used : List Bool) (place : ℕ) (mark : Bool) (marks : List Bool) → drop place used ≡ mark ∷ marks
-    → get_or used place false ≡ mark
-drop-first [] zero mark marks is = absurd (cc is)
-drop-first [] (suc place) mark marks is = absurd (cc is)
-drop-first (x ∷ used) zero mark marks is = cc is
-drop-first (x ∷ used) (suc place) mark marks is = drop-first used place mark marks is
-
-drop-rest : (used : List Bool) (place : ℕ) (mark : Bool) (marks : List Bool) → drop place used ≡ mark ∷ marks
-    → drop (suc place) used ≡ marks
-drop-rest [] zero mark marks is = absurd (cc is)
-drop-rest [] (suc place) mark marks is = absurd (cc is)
-drop-rest (x ∷ used) zero mark marks is = cc is
-drop-rest (x ∷ used) (suc place) mark marks is = drop-rest used place mark marks is
-
--- whether a reader of a buffer is used, where the marks of the loops from a place on are right
-has_used-from : (used : List Bool) (buffer place : ℕ) (works : List Work) → drop place used ≡ map (λ (w : Work). w.used) works
-    → has_used used (readers_from buffer place works) ≡ is_used_by buffer works
-has_used-from used buffer place [] right = refl
-has_used-from used buffer place (w ∷ works) right =
-    let marks = map (λ (x : Work). x.used) works in
-    let own = has_used-in used buffer place (body_reads w.loop.body) w.used (drop-first used place w.used marks right) in
-    let rest = has_used-from used buffer (suc place) works (drop-rest used place w.used marks right) in
-    has_used-both used (readers_in buffer place (body_reads w.loop.body)) (readers_from buffer (suc place) works)
-    ∙ ap (λ (a : Bool). a || has_used used (readers_from buffer (suc place) works)) own
-    ∙ ap (λ (b : Bool). (w.used && reads_buffer buffer (body_reads w.loop.body)) || b) rest
-
--- turns with others at a place: the readers there are others, and the state is the same
-pub states-kept : (turns : List LoopTurns) (k : ℕ) (d new : LoopTurns) → k < length turns → new.state ≡ (get_or turns k d).state
-    → states_of (slice_set turns k new) ≡ states_of turns
-states-kept [] k d new there is = refl
-states-kept (t ∷ turns) zero d new there is = ap (λ (state : LoopState). state ∷ states_of turns) is
-states-kept (t ∷ turns) (suc k) d new there is =
-    ap (λ (rest : List LoopState). t.state ∷ rest) (states-kept turns k d new (omega arith) is)
-
-readers-set : (turns : List LoopTurns) (k : ℕ) (new : LoopTurns)
-    → readers_of (slice_set turns k new) ≡ slice_set (readers_of turns) k new.readers.items
-readers-set [] k new = refl
-readers-set (t ∷ turns) zero new = refl
-readers-set (t ∷ turns) (suc k) new =
-    ap (λ (rest : List (List Reader)). t.readers.items ∷ rest) (readers-set turns k new)
-
-pub turns-length : (turns : List LoopTurns) → length (readers_of turns) ≡ length turns
-turns-length turns = length-map turns (λ (t : LoopTurns). t.readers.items)
-
-pub states-length : (turns others : List LoopTurns) → states_of turns ≡ states_of others → length turns ≡ length others
-states-length turns others same =
-    let count = ap (λ (states : List LoopState). length states) same in
-    let a = length-map turns (λ (t : LoopTurns). t.state) in
-    let b = length-map others (λ (t : LoopTurns). t.state) in
-    omega arith
-
--- what is pushed onto the readers at a place
-pub record IsPushed (turns : List LoopTurns) (source : ℕ) (d new : LoopTurns) (reader : Reader) : Type 0 where
-  pub there : source < length turns
-  pub state : new.state ≡ (get_or turns source d).state
-  pub readers : new.readers.items ≡ (get_or turns source d).readers.items ++ reader ∷ []
-
-pub pushed-readers : (buffer place source : ℕ) (r : Read) (turns : List LoopTurns) (d new : LoopTurns) → r.buffer ≡ buffer + source
-    → IsPushed turns source d new (record { place = place; first = r.first })
-    → readers_of (slice_set turns source new) ≡ added buffer place (r ∷ []) (readers_of turns)
-pushed-readers buffer place source r turns d new is pushed =
-    let there = pushed.there in
-    let count = turns-length turns in
-    readers-set turns source new
-    ∙ ap (λ (readers : List Reader). slice_set (readers_of turns) source readers)
-    (pushed.readers ∙ ap (λ (readers : List Reader). readers ++ record { place = place; first = r.first } ∷ [])
-    (sym (get_or-map (λ (t : LoopTurns). t.readers.items) turns source d [] there)))
-    ∙ sym (added-at buffer place source r (readers_of turns) is (omega arith))
-
-pub pushed-states : (turns : List LoopTurns) (source : ℕ) (d new : LoopTurns) (reader : Reader) → IsPushed turns source d new reader
-    → states_of (slice_set turns source new) ≡ states_of turns
-pushed-states turns source d new reader pushed = states-kept turns source d new pushed.there pushed.state
-
--- the reads of one more instruction are added
-pub added-instr : (buffer place i : ℕ) (body : Block) (d : Instr) (lists : List (List Reader)) → i < length body
-    → added buffer place (body_reads (drop (i + 1) body)) (added buffer place (reads_of (get_or body i d)) lists)
-    ≡ added buffer place (body_reads (drop i body)) lists
-added-instr buffer place i body d lists within =
-    added-both buffer place (reads_of (get_or body i d)) (body_reads (drop (i + 1) body)) lists
-    ∙ ap (λ (block : Block). added buffer place (body_reads block) lists) (sym (drop_more body i d within))
-
-pub added-end : (buffer place i : ℕ) (body : Block) (lists : List (List Reader)) → length body ≤ i
-    → added buffer place (body_reads (drop i body)) lists ≡ lists
-added-end buffer place i body lists none =
-    ap (λ (block : Block). added buffer place (body_reads block) lists) (drop_all i body none) ∙ added-none buffer place lists
-
--- what holds of the instructions from a place on holds of those behind it
-pub all-rest : (P : Instr → Type 0) (body : Block) (i : ℕ) (d : Instr) → i < length body → AllByRecursion P (drop i body)
-    → AllByRecursion P (drop (i + 1) body)
-all-rest P body i d within all =
-    let split : AllByRecursion P (get_or body i d ∷ drop (i + 1) body) = subst (AllByRecursion P) (drop_more body i d within) all in
-    split.1
-
--- turns that are marked at a place have the same readers and states, and that mark there
-pub readers-kept : (turns : List LoopTurns) (k : ℕ) (d new : LoopTurns) → k < length turns
-    → new.readers.items ≡ (get_or turns k d).readers.items → readers_of (slice_set turns k new) ≡ readers_of turns
-readers-kept [] k d new there is = refl
-readers-kept (t ∷ turns) zero d new there is = ap (λ (own : List Reader). own ∷ readers_of turns) is
-readers-kept (t ∷ turns) (suc k) d new there is =
-    ap (λ (rest : List (List Reader)). t.readers.items ∷ rest) (readers-kept turns k d new (omega arith) is)
-
-used-set : (turns : List LoopTurns) (k : ℕ) (new : LoopTurns) → used_of (slice_set turns k new) ≡ slice_set (used_of turns) k new.used
-used-set [] k new = refl
-used-set (t ∷ turns) zero new = refl
-used-set (t ∷ turns) (suc k) new = ap (λ (rest : List Bool). t.used ∷ rest) (used-set turns k new)
-
--- the readers of a loop are loops that are there
-in-there : (buffer place count : ℕ) (reads : List Read) → place < count
-    → AllByRecursion (λ reader. reader.place < count) (readers_in buffer place reads)
-in-there buffer place count [] there = tt
-in-there buffer place count (r ∷ reads) there = by (r.buffer == buffer) (in-there buffer place count reads there)
+-- each stands for a read of the loop
+in-readers : (inputs : ℕ) (loops : List LoopParts) (k place : ℕ) (l : LoopParts) (sources : List Source) → slice_get loops place ≡ Some l
+    → AllByRecursion (IsSource inputs (body_reads l.body)) sources
+    → AllByRecursion (IsReaderOf inputs loops k) (readers_in k place sources)
+in-readers inputs loops k place l [] is all = tt
+in-readers inputs loops k place l (s ∷ sources) is all =
+    by (s.place == k) refl (in-readers inputs loops k place l sources is all.1)
   where
-    by : (test : Bool) → AllByRecursion (λ reader. reader.place < count) (readers_in buffer place reads)
-        → AllByRecursion (λ reader. reader.place < count)
-        (if test then record { place = place; first = r.first } ∷ readers_in buffer place reads else readers_in buffer place reads)
-    by true rest = (there, rest)
+    by : (test : Bool) → (s.place == k) ≡ test → AllByRecursion (IsReaderOf inputs loops k) (readers_in k place sources)
+        → AllByRecursion (IsReaderOf inputs loops k)
+        (if test then record { place = place; first = s.first } ∷ readers_in k place sources else readers_in k place sources)
+    by true here rest =
+        let same : s.place ≡ k = grind arith in
+        let low = all.0.first in (
+          record {
+            loop = l;
+            is = is;
+            read = low.0;
+            reads = record { among = low.1.among; of = low.1.of ∙ ap (λ (n : ℕ). inputs + n) same };
+            first = low.2;
+          },
+          rest,
+        )
+    by false here rest = rest
+
+-- and each source of the buffer makes one
+in-found : (k place : ℕ) (sources : List Source) (s : Source) → Contains sources s → s.place ≡ k
+    → Contains (readers_in k place sources) (record { place = place; first = s.first })
+in-found k place [] s among is = absurd (omega (arith, among.1))
+in-found k place (x ∷ sources) s (zero, within, at) is =
+    let same : x ≡ s = at in
+    let test : (x.place == k) ≡ true = (let here = ap (λ (y : Source). y.place) same in grind arith) in
+    rw test (0, omega arith, ap (λ (y : Source). record { place = place; first = y.first }) same)
+in-found k place (x ∷ sources) s (suc i, within, at) is =
+    let rest = in-found k place sources s (i, omega arith, at) is in
+    by (x.place == k) rest
+  where
+    by : (test : Bool) → Contains (readers_in k place sources) (record { place = place; first = s.first })
+        → Contains (if test then record { place = place; first = x.first } ∷ readers_in k place sources else readers_in k place sources)
+        (record { place = place; first = s.first })
+    by true rest = let inside = rest.1 in (suc rest.0, omega arith, rest.2)
     by false rest = rest
 
-from-there : (buffer place count : ℕ) (works : List Work) → place + length works ≤ count
-    → AllByRecursion (λ reader. reader.place < count) (readers_from buffer place works)
-from-there buffer place count [] fit = tt
-from-there buffer place count (w ∷ works) fit =
-    all-append (λ (reader : Reader). reader.place < count) (readers_in buffer place (body_reads w.loop.body)) (readers_from buffer (suc place) works)
-    (in-there buffer place count (body_reads w.loop.body) (omega arith)) (from-there buffer (suc place) count works (omega arith))
+-- the readers among one loop more
+pub readers-more : (inputs : ℕ) (loops : List LoopParts) (n k : ℕ) (l : LoopParts) (sources : List Source) (readers : List Reader)
+    → slice_get loops n ≡ Some l → AreSources inputs (body_reads l.body) sources → AreReaders inputs loops n k readers
+    → AreReaders inputs loops (suc n) k (readers ++ readers_in k n sources)
+readers-more inputs loops n k l sources readers is of old = record {
+  each = all-append (IsReaderOf inputs loops k) readers (readers_in k n sources) old.each (in-readers inputs loops k n l sources is of.each);
+  all = λ j m r below at read.
+      elim (cases_eq j n) [
+        | inl same ↦ (
+            let loop : m ≡ l = same_Some m l (sym at ∙ ap (slice_get loops) same ∙ is) in
+            let among = subst (λ (x : LoopParts). Contains (body_reads x.body) r) loop read.among in
+            let buffer = read.of in
+            let covered = of.all r among (omega arith) in
+            let source = covered.of in
+            let here : covered.source.place ≡ k = omega arith in
+            record {
+              reader = record { place = n; first = covered.source.first };
+              among = Contains-append_right readers (readers_in k n sources) (record { place = n; first = covered.source.first })
+                  (in-found k n sources covered.source covered.among here);
+              place = sym same;
+              first = covered.first;
+            }
+            )
+        | inr other ↦ (
+            let has = old.all j m r (omega arith) at read in
+            record {
+              reader = has.reader;
+              among = Contains-append_left readers (readers_in k n sources) has.reader has.among;
+              place = has.place;
+              first = has.first;
+            }
+            )
+      ];
+}
 
-behind-there : (buffer place count : ℕ) (works : List Work) (k : ℕ) → place + length works ≤ count
-    → AllByRecursion (λ reader. reader.place < count) (get_or (readers_behind buffer place works) k [])
-behind-there buffer place count [] k fit = tt
-behind-there buffer place count (w ∷ works) zero fit = from-there buffer (suc place) count works (omega arith)
-behind-there buffer place count (w ∷ works) (suc k) fit = behind-there (suc buffer) (suc place) count works k (omega arith)
+-- no loop up to one reads its buffer
+pub readers-none : (p : RingsParts) (place : ℕ) → IsCode p.code → AreRings p
+    → AreReaders (length p.inputs) p.code.loops (suc place) place []
+readers-none p place code are = record {
+  each = tt;
+  all = λ j m r below at read.
+      let buffer = read.of in
+      let high = (loop-reads p j m r code are at read.among).there in
+      absurd (omega arith);
+}
 
-behind-length : (buffer place : ℕ) (works : List Work) → length (readers_behind buffer place works) ≡ length works
-behind-length buffer place [] = refl
-behind-length buffer place (w ∷ works) = ap suc (behind-length (suc buffer) (suc place) works)
+-- turns that are read by one loop more, and its own
+pub begun-more : (p : RingsParts) (place : ℕ) (l : LoopParts) (sources : List Source) (old new : List LoopTurns) (own : LoopTurns)
+    → IsCode p.code → AreRings p → slice_get p.code.loops place ≡ Some l → HaveBegun p place old → AreRead place sources old new
+    → AreSources (length p.inputs) (body_reads l.body) sources → HasBegun p (suc place) place l own
+    → HaveBegun p (suc place) (new ++ own ∷ [])
+begun-more p place l sources old new own code are is begun read of fresh =
+    let many = read.many in
+    let count = begun.many in
+    let long = length-append new (own ∷ []) in
+    record {
+      many = omega arith;
+      each = λ k m t at there.
+          elim (cases_eq k (length new)) [
+            | inl same ↦ (
+                let here : k ≡ place = omega arith in
+                let loop : l ≡ m = same_Some l m (sym is ∙ ap (slice_get p.code.loops) (sym here) ∙ at) in
+                let last : own ≡ t = same_Some own t (sym (slice_get-last new own k same) ∙ there) in
+                subst (λ (n : ℕ). HasBegun p (suc place) n m t) (sym here)
+                (subst (λ (x : LoopParts). HasBegun p (suc place) place x t) loop (subst (HasBegun p (suc place) place l) last fresh))
+                )
+            | inr other ↦ (
+                let more = read.each k t (sym (slice_get-push new own k other) ∙ there) in
+                let was = begun.each k m more.was at more.at in
+                record {
+                  state = subst (IsFresh m) (sym more.state) was.state;
+                  sources = subst (AreSources (length p.inputs) (body_reads m.body)) (sym more.reads) was.sources;
+                  readers = subst (AreReaders (length p.inputs) p.code.loops (suc place) k) (sym more.readers)
+                      (readers-more (length p.inputs) p.code.loops place k l sources more.was.readers.items is of was.readers);
+                }
+                )
+          ];
+    }
 
-works-count : (turns : List LoopTurns) (buffer : ℕ) (works : List Work) → readers_of turns ≡ readers_behind buffer 0 works
-    → length turns ≡ length works
-works-count turns buffer works is =
-    sym (turns-length turns) ∙ ap (λ (lists : List (List Reader)). length lists) is ∙ behind-length buffer 0 works
+-- turns that are kept have begun where those before had
+pub begun-kept : (p : RingsParts) (count : ℕ) (old new : List LoopTurns) → HaveBegun p count old → AreKept old new → HaveBegun p count new
+begun-kept p count old new begun kept = record {
+  many = kept.many ∙ begun.many;
+  each = λ k l t at there.
+      let more = kept.each k t there in
+      let was = begun.each k l more.was at more.at in
+      record {
+        state = subst (IsFresh l) (sym more.state) was.state;
+        sources = subst (AreSources (length p.inputs) (body_reads l.body)) (sym more.reads) was.sources;
+        readers = subst (AreReaders (length p.inputs) p.code.loops count k)
+            (sym (more.readers ∙ append-nil more.was.readers.items)) was.readers;
+      };
+}
 
-pub readers-there : (turns : List LoopTurns) (buffer : ℕ) (works : List Work) (k : ℕ) → readers_of turns ≡ readers_behind buffer 0 works
-    → AllByRecursion (λ reader. reader.place < length turns) (get_or (readers_of turns) k [])
-readers-there turns buffer works k is =
-    let count = works-count turns buffer works is in
-    subst (λ (lists : List (List Reader)). AllByRecursion (λ reader. reader.place < length turns) (get_or lists k [])) (sym is)
-    (behind-there buffer 0 (length turns) works k (omega arith))
+pub kept-same : (turns : List LoopTurns) → AreKept turns turns
+kept-same turns = record {
+  many = refl;
+  each = λ k t there. record { was = t; at = there; state = refl; reads = refl; readers = sym (append-nil t.readers.items) };
+}
 
--- the readers of the loop at a place
-behind-at : (buffer place : ℕ) (works : List Work) (k : ℕ)
-    → get_or (readers_behind buffer place works) k [] ≡ readers_from (buffer + k) (suc (place + k)) (drop (suc k) works)
-behind-at buffer place [] k = refl
-behind-at buffer place (w ∷ works) zero =
-    let here : buffer ≡ buffer + 0 = omega arith in
-    let there : place ≡ place + 0 = omega arith in
-    ap (λ (n : ℕ). readers_from n (suc place) works) here ∙ ap (λ (n : ℕ). readers_from (buffer + 0) (suc n) works) there
-behind-at buffer place (w ∷ works) (suc k) =
-    let here : suc buffer + k ≡ buffer + suc k = omega arith in
-    let there : suc place + k ≡ place + suc k = omega arith in
-    behind-at (suc buffer) (suc place) works k ∙ ap (λ (n : ℕ). readers_from n (suc (suc place + k)) (drop (suc k) works)) here
-    ∙ ap (λ (n : ℕ). readers_from (buffer + suc k) (suc n) (drop (suc k) works)) there
+-- others at a place, where the sources make no reader more at the other places
+read-at : (place k : ℕ) (xs ys : List Source) (old turns : List LoopTurns) (new : LoopTurns) → AreRead place xs old turns
+    → k < length turns → ((j : ℕ) → j ≢ k → readers_in j place ys ≡ readers_in j place xs) → HasMore place ys old k new
+    → AreRead place ys old (slice_set turns k new)
+read-at place k xs ys old turns new read within same more = record {
+  many = length-set turns k new ∙ read.many;
+  each = λ j t there.
+      elim (cases_eq j k) [
+        | inl here ↦ (
+            let own : new ≡ t = same_Some new t
+            (sym (slice_get-set_same turns k new within) ∙ ap (slice_get (slice_set turns k new)) (sym here) ∙ there) in
+            subst (λ (n : ℕ). HasMore place ys old n t) (sym here) (subst (HasMore place ys old k) own more)
+            )
+        | inr other ↦ (
+            let was = read.each j t (sym (slice_get-set_other turns k j new other) ∙ there) in
+            record {
+              was = was.was;
+              at = was.at;
+              state = was.state;
+              reads = was.reads;
+              readers = was.readers ∙ ap (λ (list : List Reader). was.was.readers.items ++ list) (sym (same j other));
+            }
+            )
+      ];
+}
 
--- the mark of the loop at a place
-used-here : (buffer : ℕ) (works : List Work) (k : ℕ) → AreUsed buffer works → k < length works
-    → map (λ (w : Work). w.used) (drop k works)
-    ≡ is_used (buffer + k) (drop (suc k) works) ∷ map (λ (w : Work). w.used) (drop (suc k) works)
-used-here buffer [] k all there = absurd (omega arith)
-used-here buffer (w ∷ works) zero all there =
-    let here : buffer ≡ buffer + 0 = omega arith in
-    ap (λ (mark : Bool). mark ∷ map (λ (x : Work). x.used) works) (all.0 ∙ ap (λ (n : ℕ). is_used n works) here)
-used-here buffer (w ∷ works) (suc k) all there =
-    let here : suc buffer + k ≡ buffer + suc k = omega arith in
-    used-here (suc buffer) works k all.1 (omega arith)
-    ∙ ap (λ (n : ℕ). is_used n (drop (suc k) works) ∷ map (λ (x : Work). x.used) (drop (suc k) works)) here
+-- with the readers more that one source makes there
+pub read-set : (place : ℕ) (done : List Source) (s : Source) (old turns : List LoopTurns) (own new : LoopTurns) → AreRead place done old turns
+    → slice_get turns s.place ≡ Some own → new.state ≡ own.state → new.sources.items ≡ own.sources.items
+    → new.readers.items ≡ own.readers.items ++ record { place = place; first = s.first } ∷ []
+    → AreRead place (done ++ s ∷ []) old (slice_set turns s.place new)
+read-set place done s old turns own new read at state sources readers =
+    let was = read.each s.place own at in
+    let one : readers_in s.place place (s ∷ []) ≡ record { place = place; first = s.first } ∷ [] =
+    (let test : (s.place == s.place) ≡ true = grind arith in rw test refl) in
+    read-at place s.place done (done ++ s ∷ []) old turns new read (slice_get_within turns s.place own at)
+    (λ j other.
+    let test : (s.place == j) ≡ false = grind arith in
+    let none : readers_in j place (s ∷ []) ≡ [] = rw test refl in
+    readers_in-both j place done (s ∷ []) ∙ ap (λ (list : List Reader). readers_in j place done ++ list) none
+    ∙ append-nil (readers_in j place done))
+    (record {
+      was = was.was;
+      at = was.at;
+      state = state ∙ was.state;
+      reads = sources ∙ was.reads;
+      readers = readers ∙ ap (λ (list : List Reader). list ++ record { place = place; first = s.first } ∷ []) was.readers
+          ∙ append_assoc was.was.readers.items (readers_in s.place place done) (record { place = place; first = s.first } ∷ [])
+          ∙ ap (λ (list : List Reader). was.was.readers.items ++ (readers_in s.place place done ++ list)) (sym one)
+          ∙ ap (λ (list : List Reader). was.was.readers.items ++ list) (sym (readers_in-both s.place place done (s ∷ [])));
+    })
+
+-- turns with others at a place that say alone whether the loop is used
+pub kept-set : (old turns : List LoopTurns) (k : ℕ) (own new : LoopTurns) → AreKept old turns → slice_get turns k ≡ Some own
+    → new.state ≡ own.state → new.sources.items ≡ own.sources.items → new.readers.items ≡ own.readers.items
+    → AreKept old (slice_set turns k new)
+kept-set old turns k own new kept at state sources readers =
+    let was = kept.each k own at in
+    read-at 0 k [] [] old turns new kept (slice_get_within turns k own at) (λ j other. refl)
+    (record { was = was.was; at = was.at; state = state ∙ was.state; reads = sources ∙ was.reads; readers = readers ∙ was.readers })
+
+-- a reader that is used, and one of readers of which one is
+used-reader : (used : List Bool) (readers : List Reader) → has_used used readers ≡ true
+    → (r : Reader) × Contains readers r × (get_or used r.place false ≡ true)
+used-reader used [] is = absurd (cc is)
+used-reader used (x ∷ readers) is = by (get_or used x.place false) refl is (used-reader used readers)
+  where
+    by : (mark : Bool) → get_or used x.place false ≡ mark → (mark || has_used used readers) ≡ true
+        → (has_used used readers ≡ true → (r : Reader) × Contains readers r × (get_or used r.place false ≡ true))
+        → (r : Reader) × Contains (x ∷ readers) r × (get_or used r.place false ≡ true)
+    by true here is next = (x, (0, omega arith, refl), here)
+    by false here is next =
+        let rest = next is in
+        let among = rest.1 in
+        let within = among.1 in
+        (rest.0, (suc among.0, omega arith, among.2), rest.2)
+
+has_used-found : (used : List Bool) (readers : List Reader) (r : Reader) → Contains readers r → get_or used r.place false ≡ true
+    → has_used used readers ≡ true
+has_used-found used [] r among mark = absurd (omega (arith, among.1))
+has_used-found used (x ∷ readers) r (zero, within, at) mark =
+    let same : x ≡ r = at in
+    let here : get_or used x.place false ≡ true = ap (λ (y : Reader). get_or used y.place false) same ∙ mark in
+    rw here refl
+has_used-found used (x ∷ readers) r (suc i, within, at) mark =
+    rw (has_used-found used readers r (i, omega arith, at) mark) (or-true (get_or used x.place false))
+
+-- a used loop that reads a buffer, where one does
+record IsAsking (buffer : ℕ) (works : List Work) : Type 0 where
+  place : ℕ
+  work : Work
+  is : slice_get works place ≡ Some work
+  used : work.used ≡ true
+  read : Read
+  reads : IsRead (body_reads work.loop.body) buffer read
+
+asking-later : (buffer : ℕ) (x : Work) (works : List Work) → IsAsking buffer works → IsAsking buffer (x ∷ works)
+asking-later buffer x works it =
+    record { place = suc it.place; work = it.work; is = it.is; used = it.used; read = it.read; reads = it.reads }
+
+used-work : (buffer : ℕ) (works : List Work) → is_used_by buffer works ≡ true → IsAsking buffer works
+used-work buffer [] is = absurd (cc is)
+used-work buffer (x ∷ works) is = by x.used (reads_buffer buffer (body_reads x.loop.body)) refl refl is (used-work buffer works)
+  where
+    by : (used reads : Bool) → x.used ≡ used → reads_buffer buffer (body_reads x.loop.body) ≡ reads
+        → ((used && reads) || is_used_by buffer works) ≡ true → (is_used_by buffer works ≡ true → IsAsking buffer works)
+        → IsAsking buffer (x ∷ works)
+    by true true mark found is next =
+        let read = one-read buffer (body_reads x.loop.body) found in
+        record { place = 0; work = x; is = refl; used = mark; read = read.0; reads = read.1 }
+    by true false mark found is next = asking-later buffer x works (next is)
+    by false reads mark found is next = asking-later buffer x works (next is)
+
+both-ways : (a b : Bool) → (a ≡ true → b ≡ true) → (b ≡ true → a ≡ true) → a ≡ b
+both-ways true b h k = sym (h refl)
+both-ways false true h k = k refl
+both-ways false false h k = refl
 
 -- a loop is used where it is the last one, or a later one asks for it
 last-or : (buffer k count : ℕ) (behind : List Work) (found : Bool) → length behind ≡ count - suc k → k < count
@@ -365,51 +310,126 @@ last-or buffer k count (w ∷ behind) found long there is =
     let test : (suc k == count) ≡ false = grind arith in
     rw test is
 
--- no loop is behind the last one
-pub marks-none : (turns : List LoopTurns) (buffer : ℕ) (works : List Work) → readers_of turns ≡ readers_behind buffer 0 works
-    → drop (length turns) (used_of turns) ≡ map (λ (w : Work). w.used) (drop (length turns) works)
-marks-none turns buffer works is =
-    let count = works-count turns buffer works is in
-    let marks = length-map turns (λ (t : LoopTurns). t.used) in
-    drop_all (length turns) (used_of turns) (omega arith)
-    ∙ sym (ap (λ (rest : List Work). map (λ (w : Work). w.used) rest) (drop_all (length turns) works (omega arith)))
+-- the marks from a place on are right
+abbrev pub AreMarked : RingsParts → ℕ → List LoopTurns → Type 0
+AreMarked p from all =
+    (k : ℕ) (w : Work) (t : LoopTurns) → from ≤ k → slice_get (works_in p) k ≡ Some w → slice_get all k ≡ Some t → t.used ≡ w.used
 
--- the mark at a place is the one of the loop there
-pub record IsMarked (turns : List LoopTurns) (k : ℕ) (mark : Bool) (buffer : ℕ) (works : List Work) : Type 0 where
-  pub there : k < length turns
-  pub is : mark ≡ ((suc k == length turns) || has_used (used_of turns) (get_or (readers_of turns) k []))
-  pub used : AreUsed buffer works
-  pub readers : readers_of turns ≡ readers_behind buffer 0 works
-  pub right : drop (suc k) (used_of turns) ≡ map (λ (w : Work). w.used) (drop (suc k) works)
+-- the readers of the loop at a place
+readers-at : (all : List LoopTurns) (k : ℕ) (t : LoopTurns) → slice_get all k ≡ Some t → get_or (readers_of all) k [] ≡ t.readers.items
+readers-at all k t is =
+    get_or-map (λ (x : LoopTurns). x.readers.items) all k t [] (slice_get_within all k t is)
+    ∙ ap (λ (x : LoopTurns). x.readers.items) (get_or_from_slice_get all k t t is)
 
-mark-right : (turns : List LoopTurns) (k : ℕ) (mark : Bool) (buffer : ℕ) (works : List Work) → IsMarked turns k mark buffer works
-    → mark ≡ is_used (buffer + k) (drop (suc k) works)
-mark-right turns k mark buffer works is =
-    let there = is.there in
-    let count = works-count turns buffer works is.readers in
-    let behind = drop (suc k) works in
-    let zero_more : 0 + k ≡ k = omega arith in
-    let readers : get_or (readers_of turns) k [] ≡ readers_from (buffer + k) (suc k) behind =
-    ap (λ (lists : List (List Reader)). get_or lists k []) is.readers ∙ behind-at buffer 0 works k
-    ∙ ap (λ (n : ℕ). readers_from (buffer + k) (suc n) behind) zero_more in
-    let found : has_used (used_of turns) (get_or (readers_of turns) k []) ≡ is_used_by (buffer + k) behind =
-    ap (λ (list : List Reader). has_used (used_of turns) list) readers
-    ∙ has_used-from (used_of turns) (buffer + k) (suc k) behind is.right in
-    let long = length-drop (suc k) works in
-    is.is
-    ∙ last-or (buffer + k) k (length turns) behind (has_used (used_of turns) (get_or (readers_of turns) k [])) (omega arith) there found
+mark-at : (all : List LoopTurns) (k : ℕ) (t : LoopTurns) → slice_get all k ≡ Some t → get_or (used_of all) k false ≡ t.used
+mark-at all k t is =
+    get_or-map (λ (x : LoopTurns). x.used) all k t false (slice_get_within all k t is)
+    ∙ ap (λ (x : LoopTurns). x.used) (get_or_from_slice_get all k t t is)
 
-pub marks-more : (turns : List LoopTurns) (k : ℕ) (new : LoopTurns) (buffer : ℕ) (works : List Work)
-    → IsMarked turns k new.used buffer works
-    → drop k (used_of (slice_set turns k new)) ≡ map (λ (w : Work). w.used) (drop k works)
-marks-more turns k new buffer works is =
-    let there = is.there in
-    let count = works-count turns buffer works is.readers in
-    let marks = length-map turns (λ (t : LoopTurns). t.used) in
-    let one_more : k + 1 ≡ suc k = omega arith in
-    ap (λ (used : List Bool). drop k used) (used-set turns k new)
-    ∙ drop-set (used_of turns) k new.used (omega arith)
-    ∙ ap (λ (n : ℕ). new.used ∷ drop n (used_of turns)) one_more
-    ∙ ap (λ (mark : Bool). mark ∷ drop (suc k) (used_of turns)) (mark-right turns k new.used buffer works is)
-    ∙ ap (λ (rest : List Bool). is_used (buffer + k) (drop (suc k) works) ∷ rest) is.right
-    ∙ sym (used-here buffer works k is.used (omega arith))
+-- the readers of a loop are loops that are there
+pub readers-there : (p : RingsParts) (all : List LoopTurns) (k : ℕ) → HaveBegun p (length p.code.loops) all → k < length all
+    → AllByRecursion (λ reader. reader.place < length all) (get_or (readers_of all) k [])
+readers-there p all k begun there =
+    let t = slice_get-some all k there in
+    let many = begun.many in
+    let l = slice_get-some p.code.loops k (omega arith) in
+    let each = (begun.each k l.0 t.0 l.1 t.1).readers.each in
+    subst (AllByRecursion (λ reader. reader.place < length all)) (sym (readers-at all k t.0 t.1))
+    (all-of (λ reader. reader.place < length all) t.0.readers.items
+    (λ i x is.
+    let own = all-slice_get (IsReaderOf (length p.inputs) p.code.loops k) t.0.readers.items i x each is in
+    let within = slice_get_within p.code.loops x.place own.loop own.is in
+    omega arith))
+
+-- a reader is used exactly where a later loop asks for the buffer
+found-right : (p : RingsParts) (all : List LoopTurns) (k : ℕ) (t : LoopTurns) → IsCode p.code → AreRings p
+    → HaveBegun p (length p.code.loops) all → slice_get all k ≡ Some t → AreMarked p (suc k) all
+    → has_used (used_of all) t.readers.items ≡ is_used_by (length p.inputs + k) (drop (suc k) (works_in p))
+found-right p all k t code are begun is right =
+    let buffer = length p.inputs + k in
+    let behind = drop (suc k) (works_in p) in
+    let within = slice_get_within all k t is in
+    let many = begun.many in
+    let count = works-length p.code p.inputs in
+    let l = slice_get-some p.code.loops k (omega arith) in
+    let readers = (begun.each k l.0 t l.1 is).readers in
+    both-ways (has_used (used_of all) t.readers.items) (is_used_by buffer behind)
+    (λ used.
+    let it = used-reader (used_of all) t.readers.items used in
+    let own = all-contains (IsReaderOf (length p.inputs) p.code.loops k) t.readers.items it.0 readers.each it.1 in
+    let below = (loop-reads p it.0.place own.loop own.read code are own.is own.reads.among).there in
+    let at = own.reads.of in
+    let i = it.0.place - suc k in
+    let place : it.0.place ≡ suc k + i = omega arith in
+    let there = slice_get_within p.code.loops it.0.place own.loop own.is in
+    let w = slice_get-some (works_in p) it.0.place (omega arith) in
+    let x = slice_get-some all it.0.place (omega arith) in
+    let mark : w.0.used ≡ true = sym (right it.0.place w.0 x.0 (omega arith) w.1 x.1) ∙ sym (mark-at all it.0.place x.0 x.1) ∙ it.2 in
+    let loop : own.loop ≡ w.0.loop = same_Some own.loop w.0.loop (sym own.is ∙ (work-is p.code p.inputs it.0.place w.0 w.1).loop) in
+    is_used_by-found buffer behind i w.0 own.read (slice_get-drop (suc k) (works_in p) i it.0.place place ∙ w.1) mark
+    (subst (λ (y : LoopParts). Contains (body_reads y.body) own.read) loop own.reads.among) own.reads.of)
+    (λ used.
+    let it = used-work buffer behind used in
+    let j = suc k + it.place in
+    let of : slice_get (works_in p) j ≡ Some it.work = sym (slice_get-drop (suc k) (works_in p) it.place j refl) ∙ it.is in
+    let there = slice_get_within (works_in p) j it.work of in
+    let has = readers.all j it.work.loop it.read (omega arith) (work-is p.code p.inputs j it.work of).loop it.reads in
+    let x = slice_get-some all j (omega arith) in
+    let mark : get_or (used_of all) j false ≡ true = mark-at all j x.0 x.1 ∙ right j it.work x.0 (omega arith) of x.1 ∙ it.used in
+    has_used-found (used_of all) t.readers.items has.reader has.among (ap (λ (n : ℕ). get_or (used_of all) n false) has.place ∙ mark))
+
+pub mark-right : (p : RingsParts) (all : List LoopTurns) (k : ℕ) (w : Work) (mark : Bool) → IsCode p.code → AreRings p
+    → HaveBegun p (length p.code.loops) all → slice_get (works_in p) k ≡ Some w → AreMarked p (suc k) all
+    → mark ≡ ((suc k == length all) || has_used (used_of all) (get_or (readers_of all) k [])) → mark ≡ w.used
+mark-right p all k w mark code are begun of right is =
+    let many = begun.many in
+    let count = works-length p.code p.inputs in
+    let within = slice_get_within (works_in p) k w of in
+    let t = slice_get-some all k (omega arith) in
+    let found : has_used (used_of all) (get_or (readers_of all) k []) ≡ is_used_by (length p.inputs + k) (drop (suc k) (works_in p)) =
+    ap (has_used (used_of all)) (readers-at all k t.0 t.1) ∙ found-right p all k t.0 code are begun t.1 right in
+    let long = length-drop (suc k) (works_in p) in
+    is ∙ last-or (length p.inputs + k) k (length all) (drop (suc k) (works_in p))
+    (has_used (used_of all) (get_or (readers_of all) k [])) (omega arith) (omega arith) found
+    ∙ sym (work-is p.code p.inputs k w of).used
+
+-- with the mark at a place the marks from there on are right
+pub marks-more : (p : RingsParts) (turns : List LoopTurns) (k : ℕ) (new : LoopTurns) → IsCode p.code → AreRings p
+    → HaveBegun p (length p.code.loops) turns → k < length turns → AreMarked p (suc k) turns
+    → new.used ≡ ((suc k == length turns) || has_used (used_of turns) (get_or (readers_of turns) k []))
+    → AreMarked p k (slice_set turns k new)
+marks-more p turns k new code are begun there right is = λ j w t from of at.
+    elim (cases_eq j k) [
+      | inl same ↦ (
+          let here : new ≡ t = same_Some new t
+          (sym (slice_get-set_same turns k new there) ∙ ap (slice_get (slice_set turns k new)) (sym same) ∙ at) in
+          let of_ : slice_get (works_in p) k ≡ Some w = ap (slice_get (works_in p)) (sym same) ∙ of in
+          ap (λ (x : LoopTurns). x.used) (sym here) ∙ mark-right p turns k w new.used code are begun of_ right is
+          )
+      | inr other ↦ right j w t (omega arith) of (sym (slice_get-set_other turns k j new other) ∙ at)
+    ]
+
+-- no loop has begun
+pub begun-none : (p : RingsParts) → HaveBegun p 0 []
+begun-none p = record { many = refl; each = λ k l t at there. absurd (cc there) }
+
+-- no loop is past the last one
+pub marked-none : (p : RingsParts) (turns : List LoopTurns) → AreMarked p (length turns) turns
+marked-none p turns = λ k w t from of at. let within = slice_get_within turns k t at in absurd (omega arith)
+
+-- the sources of a loop stand before it
+pub sources-before : (p : RingsParts) (place : ℕ) (l : LoopParts) (sources : List Source) → IsCode p.code → AreRings p
+    → slice_get p.code.loops place ≡ Some l → AreSources (length p.inputs) (body_reads l.body) sources
+    → AllByRecursion (λ s. s.place < place) sources
+sources-before p place l sources code are is of =
+    all-of (λ s. s.place < place) sources
+    (λ i s at.
+    let own = (all-slice_get (IsSource (length p.inputs) (body_reads l.body)) sources i s of.each at).first in
+    let below = (loop-reads p place l own.0 code are is own.1.among).there in
+    let buffer = own.1.of in
+    omega arith)
+
+-- a list that is written back over one of the same length
+pub written : (count : ℕ) (all changed : List LoopTurns) → count ≡ length all → length changed ≡ length all
+    → take count (changed ++ drop (length changed) all) ≡ changed
+written count all changed long same = take_at changed (drop (length changed) all) count (same ∙ sym long)

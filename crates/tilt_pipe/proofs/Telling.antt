@@ -1,11 +1,13 @@
 -- A turn reads of the rings what it reads of the whole buffers.
-use Rattle.std.proofs.Common.{◌≡◌, ◌⊎◌, inl, inr, ◌≤◌, ◌<◌, ◌+◌, ◌-◌, ℕ, zero, suc, ℤ, pos, ◌+ℤ◌, ◌≤ℤ◌, List, [], ◌∷◌, ◌++◌, length, get_or, slice_get, Some, Contains, sym, ap, ◌∙◌, subst, arith}
+use Rattle.std.proofs.Common.{◌≡◌, ◌⊎◌, inl, inr, ◌≤◌, ◌<◌, ◌+◌, ◌-◌, ℕ, zero, suc, ℤ, pos, ◌+ℤ◌, ◌≤ℤ◌, List, [], ◌∷◌, length, get_or, slice_get, Some, Contains, sym, ap, ◌∙◌, subst, arith}
 use Rattle.std.proofs.lemmas.Bool.{cases_lt}
+use Rattle.std.proofs.lemmas.Int.{ints}
+use Rattle.std.proofs.lemmas.List.Elements.{Contains-append_cases, Contains-append_left, Contains-append_right}
 use Rattle.std.proofs.lemmas.List.{get_or-append-add, get_or_append_left}
 use Rattle.std.proofs.lemmas.Option.{get_or_from_slice_get}
 use Rattle.circular_buffer.proofs.Places.{slice_get-some}
 use Rattle.std.specs.List.{AllByRecursion}
-use Rattle.tilt_base.proofs.Lists.{all-contains, all-parts}
+use Rattle.tilt_base.proofs.Lists.{all-parts}
 use Rattle.tilt_stream.specs.Agreement.{IsSameUpTo}
 use Rattle.tilt_code.specs.Code.{Block}
 use Rattle.tilt_code.specs.References.{IsCode}
@@ -18,11 +20,11 @@ use Rattle.tilt_pipe.proofs.MadeSame.{made-same, same-is}
 use Rattle.tilt_pipe.proofs.OpenLists.{open-at, open_at}
 use Rattle.tilt_pipe.proofs.RingsKept.{rings-length, loops-there}
 use Rattle.tilt_pipe.proofs.Works.{input-is, work-is}
-use Rattle.tilt_pipe.specs.Chain.{IsBehind, IsTold}
+use Rattle.tilt_pipe.specs.Chain.{IsReached, IsTold}
 use Rattle.tilt_pipe.specs.Made.{Work}
 use Rattle.tilt_pipe.specs.Positions.{RingParts, RingsParts, AreRings, lists_of, open_lists, start_at, starts_of, works_in}
-use Rattle.tilt_pipe.specs.Reads.{body_reads, reads_of, turn_point}
-use Rattle.tilt_pipe.specs.Trimmed.{IsNear, IsShort, ReadsNear}
+use Rattle.tilt_pipe.specs.Reads.{body_reads, reads_of}
+use Rattle.tilt_pipe.specs.Trimmed.{ReadsNear}
 use Rattle.tilt_pipe.specs.declared.read.Read.{Read}
 
 abbrev pub none_held : RingParts
@@ -102,13 +104,16 @@ same-body p wholes buffers point (i ∷ block) code are within hold near told =
     )
 
 -- a read of the buffer of a loop is told, where that loop has made enough
-pub told-one : (p : RingsParts) (point : ℤ) (r : Read) (source : ℕ) → r.buffer ≡ length p.inputs + source
-    → ((w : Work) → slice_get (works_in p) source ≡ Some w → (w.loop.hi ≤ℤ start_at p source) ⊎ ((point +ℤ r.last) ≤ℤ start_at p source))
-    → IsTold p point r
-told-one p point r source at made = λ other w is of.
+pub told-one : (p : RingsParts) (point last : ℤ) (r : Read) (source : ℕ) → r.buffer ≡ length p.inputs + source → r.last ≤ℤ last
+    → IsReached p source (point +ℤ last) → IsTold p point r
+told-one p point last r source at most reached = λ other w is of.
     let same : other ≡ source = omega arith in
+    let made = reached w (subst (λ (n : ℕ). slice_get (works_in p) n ≡ Some w) same of) in
     subst (λ (n : ℕ). (w.loop.hi ≤ℤ start_at p n) ⊎ ((point +ℤ r.last) ≤ℤ start_at p n)) (sym same)
-    (made w (subst (λ (n : ℕ). slice_get (works_in p) n ≡ Some w) same of))
+    (elim made as (λ _. (w.loop.hi ≤ℤ start_at p source) ⊎ ((point +ℤ r.last) ≤ℤ start_at p source)) [
+      | inl end ↦ inl end
+      | inr far ↦ inr (omega (arith, ints))
+    ])
 
 pub works-there : (p : RingsParts) (place : ℕ) → AreRings p → place < length p.rings → (w : Work) × (slice_get (works_in p) place ≡ Some w)
 works-there p place are within =
@@ -116,41 +121,20 @@ works-there p place are within =
     slice_get-some (works_in p) place (omega arith)
 
 -- what one instruction reads, the body does
-among-later : (xs ys : List Read) (r : Read) → Contains ys r → Contains (xs ++ ys) r
-among-later [] ys r among = among
-among-later (x ∷ xs) ys r among =
-    let rest = among-later xs ys r among in
-    let within = rest.1 in
-    (suc rest.0, omega arith, rest.2)
-
-among-first : (xs ys : List Read) (r : Read) → Contains xs r → Contains (xs ++ ys) r
-among-first [] ys r among = absurd (omega (arith, among.1))
-among-first (x ∷ xs) ys r (zero, within, at) = (zero, omega arith, at)
-among-first (x ∷ xs) ys r (suc k, within, at) =
-    let rest = among-first xs ys r (k, omega arith, at) in
-    let inside = rest.1 in
-    (suc rest.0, omega arith, rest.2)
-
 pub among-body : (body : Block) (i : ℕ) (d : Instr) (r : Read) → i < length body → Contains (reads_of (get_or body i d)) r
     → Contains (body_reads body) r
 among-body [] i d r within among = absurd (omega arith)
-among-body (x ∷ body) zero d r within among = among-first (reads_of x) (body_reads body) r among
+among-body (x ∷ body) zero d r within among = Contains-append_left (reads_of x) (body_reads body) r among
 among-body (x ∷ body) (suc i) d r within among =
-    among-later (reads_of x) (body_reads body) r (among-body body i d r (omega arith) among)
+    Contains-append_right (reads_of x) (body_reads body) r (among-body body i d r (omega arith) among)
 
--- a loop that has made less than an instruction of a body reads
-pub short-behind : (p : RingsParts) (place : ℕ) (w : Work) (body : Block) (i : ℕ) (d : Instr) (source : ℕ) → i < length body → body ≡ w.loop.body
-    → AllByRecursion (IsNear (length p.inputs + place)) (reads_of (get_or body i d))
-    → IsShort p (turn_point w.loop (start_at p place)) (reads_of (get_or body i d)) source → IsBehind p place w source
-short-behind p place w body i d source within is near short =
-    let there_ = (all-contains (IsNear (length p.inputs + place)) (reads_of (get_or body i d)) short.read near short.among).there in
-    let at = short.of in
-    record {
-      read = short.read;
-      reads = subst (λ (block : Block). Contains (body_reads block) short.read) is (among-body body i d short.read within short.among);
-      of = short.of;
-      earlier = omega arith;
-      behind = short.behind;
-      is_open = short.is_open;
-      short = short.short;
-    }
+-- and what the body reads, one instruction does
+pub read-found : (body : Block) (r : Read) (d : Instr) → Contains (body_reads body) r
+    → (k : ℕ) × (k < length body) × Contains (reads_of (get_or body k d)) r
+read-found [] r d among = absurd (omega (arith, among.1))
+read-found (x ∷ body) r d among =
+    elim (Contains-append_cases (reads_of x) (body_reads body) r among) as
+    (λ _. (k : ℕ) × (k < length (x ∷ body)) × Contains (reads_of (get_or (x ∷ body) k d)) r) [
+      | inl first ↦ (0, omega arith, first)
+      | inr rest ↦ (let it = read-found body r d rest in let inside = it.1 in (suc it.0, omega arith, it.2))
+    ]

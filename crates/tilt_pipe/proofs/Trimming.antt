@@ -1,18 +1,21 @@
 -- What rings keep after a turn of one loop, and while they are trimmed one after the other.
-use Rattle.std.proofs.Common.{◌≡◌, ◌≢◌, inl, inr, ◌≤◌, ◌<◌, ◌+◌, ◌-◌, ℕ, suc, ℤ, pos, int_lt, Bool, true, false, if◌then◌else◌, List, [], ◌∷◌, ◌++◌, map, length, drop, get_or, slice_get, slice_set}
+use Rattle.std.proofs.Common.{◌≡◌, ◌≢◌, inl, inr, ◌≤◌, ◌<◌, ◌+◌, ◌-◌, ℕ, suc, ℤ, pos, neg_ℤ, int_lt, Bool, true, false, if◌then◌else◌, List, [], ◌∷◌, ◌++◌, map, length, drop, get_or}
+use Rattle.std.proofs.Common.{slice_get, slice_set}
 use Rattle.std.proofs.Common.{option_map, Option, Some, None, refl, sym, ap, ◌∙◌, subst, arith, length-drop, length-append}
 use Rattle.std.proofs.lemmas.Bool.{cases_lt, cases_eq}
 use Rattle.std.proofs.lemmas.Int.{ints}
 use Rattle.std.proofs.lemmas.List.{drop-set-lt, drop-set-add, length-map, map-set, set-get_or}
 use Rattle.std.proofs.lemmas.Option.{same_Some, get_or_from_slice_get, slice_get-map, slice_get_within}
-use Rattle.circular_buffer.proofs.Places.{slice_get-drop, slice_get-set_other, slice_get-set_same, slice_get-some}
+use Rattle.circular_buffer.proofs.Places.{slice_get-append_left, slice_get-drop, slice_get-set_other, slice_get-set_same, slice_get-some}
 use Rattle.tilt_base.specs.Grid.{IsGrid}
 use Rattle.tilt_code.specs.Code.{CodeParts}
 use Rattle.tilt_code.specs.References.{IsCode}
-use Rattle.tilt_code.specs.Run.{buffers_of}
-use Rattle.tilt_stream.specs.Snap.{Snapshot, ended_below}
+use Rattle.tilt_base.specs.declared.limits.TheConstants.{WIDE}
+use Rattle.tilt_stream.proofs.Filling.{Fill-AreSnapshots}
+use Rattle.tilt_stream.proofs.Places.{passed-at}
+use Rattle.tilt_stream.specs.Snap.{Snapshot, InOrder, ended_below}
 use Rattle.tilt_pipe.proofs.Kept.{let_go-within}
-use Rattle.tilt_pipe.proofs.RingsKept.{IsAt, IsKept, pushed_ring, read-at, ring-at, rings-length, trimmed_ring}
+use Rattle.tilt_pipe.proofs.RingsKept.{IsAt, IsKept, kept-count, kept-made, pushed_ring, read-at, ring-at, rings-length, trimmed_ring}
 use Rattle.tilt_pipe.proofs.Standing.{IsNextMade, end-made}
 use Rattle.tilt_pipe.proofs.Wanted.{ring_at, rings_of-are, rings_of-at, stage_at, stages_at-found, stages_at-get, stages_at-length, stages_at-set, wanted-rises, wanted-unread}
 use Rattle.tilt_pipe.proofs.Wanting.{stands-there}
@@ -37,16 +40,12 @@ alike-wanted p q k a =
     ∙ ap (λ (works : List Work). wanted (length p.inputs + k) (drop (suc k) (stages_at works (starts_of q.rings)))) (alike-works p q a)
     ∙ ap (λ (starts : List ℤ). wanted (length p.inputs + k) (drop (suc k) (stages_at (works_in p) starts))) a.starts
 
-abbrev TurnsOf : CodeParts → List (List Snapshot) → List ℤ → List LoopTurns → Type 0
-TurnsOf code inputs starts all = AreTurns (buffers_of code inputs) (length inputs) 0 starts (works_of code inputs) all
-
-pub alike-turns : (p q : RingsParts) (all : List LoopTurns) → StandAlike p q
-    → AreTurns (buffers_of p.code p.inputs) (length p.inputs) 0 (starts_of p.rings) (works_in p) all
-    → AreTurns (buffers_of q.code q.inputs) (length q.inputs) 0 (starts_of q.rings) (works_in q) all
+pub alike-turns : (p q : RingsParts) (all : List LoopTurns) → StandAlike p q → AreTurns p.code p.inputs (starts_of p.rings) all
+    → AreTurns q.code q.inputs (starts_of q.rings) all
 alike-turns p q all a h =
-    subst (λ (code : CodeParts). TurnsOf code q.inputs (starts_of q.rings) all) (sym a.code)
-    (subst (λ (inputs : List (List Snapshot)). TurnsOf p.code inputs (starts_of q.rings) all) (sym a.inputs)
-    (subst (λ (starts : List ℤ). TurnsOf p.code p.inputs starts all) (sym a.starts) h))
+    subst (λ (code : CodeParts). AreTurns code q.inputs (starts_of q.rings) all) (sym a.code)
+    (subst (λ (inputs : List (List Snapshot)). AreTurns p.code inputs (starts_of q.rings) all) (sym a.inputs)
+    (subst (λ (starts : List ℤ). AreTurns p.code p.inputs starts all) (sym a.starts) h))
 
 pub alike-long : (p q : RingsParts) → StandAlike p q → length q.rings ≡ length p.rings
 alike-long p q a =
@@ -75,6 +74,14 @@ wanted-other p q place k a same h = λ w r of is.
     let works : slice_get (works_in p) k ≡ Some w = subst (λ (ws : List Work). slice_get ws k ≡ Some w) (alike-works p q a) of in
     subst (λ (t : Option ℤ). r.forgotten ≤ let_go t (made_by r.start w.whole)) (sym (alike-wanted p q k a))
     (h w r works (sym same ∙ is))
+
+pub trimmed-too : (p q : RingsParts) (place k : ℕ) → StandAlike p q → ((j : ℕ) → j ≢ place → slice_get q.rings j ≡ slice_get p.rings j)
+    → IsTrimmed q place → IsTrimmed p k → IsTrimmed q k
+trimmed-too p q place k a others new old =
+    elim (cases_eq k place) as (λ _. IsTrimmed q k) [
+      | inl same ↦ subst (λ (n : ℕ). IsTrimmed q n) (sym same) new
+      | inr other ↦ trimmed-other p q place k a (others k other) old
+    ]
 
 pub wanted-trimmed : (p : RingsParts) (k : ℕ) → IsTrimmed p k → KeepsWanted p k
 wanted-trimmed p k h = λ w r of is. let same = h w r of is in omega arith
@@ -244,6 +251,42 @@ turned-own p place w r s t trimmed = λ v q of is.
     let one : r.forgotten ≤ let_go first (made_by s.end w.whole) = omega arith in
     let two : goal w (pushed_ring r s) = subst (λ (tick : Option ℤ). r.forgotten ≤ let_go tick (made_by s.end w.whole))
     (sym (turned-later p place place w r s t.of (omega arith))) one in
+    subst (λ (x : Work). goal x q) same (subst (λ (y : RingParts). goal w y) own two)
+
+-- where the ring held a snapshot, that one is wanted still, and no more is let go
+let_go-still : (first : Option ℤ) (from limit : ℤ) (list more : List Snapshot) → InOrder from limit list → InOrder from limit (list ++ more)
+    → let_go first list < length list → let_go first (list ++ more) ≡ let_go first list
+let_go-still None from limit list more before after few = absurd (omega arith)
+let_go-still (Some tick) from limit list more before after few =
+    let n = ended_below tick list in
+    let it = slice_get-some list n few in
+    let old = (passed-at from limit list n it.0 tick before it.1).0 in
+    let new = (passed-at from limit (list ++ more) n it.0 tick after (slice_get-append_left list more n few ∙ it.1)).1 in
+    let low = ended-front tick list more in
+    elim (cases_lt n (ended_below tick (list ++ more))) as (λ _. ended_below tick (list ++ more) ≡ n) [
+      | inl passed ↦ (let again = old (new passed) in absurd (omega arith))
+      | inr high ↦ omega arith
+    ]
+
+pub turned-still : (p : RingsParts) (place : ℕ) (w : Work) (r : RingParts) (s : Snapshot) → IsTurn p place w r s → IsTrimmed p place
+    → 0 < length r.held → IsTrimmed (turned p place r s) place
+turned-still p place w r s t trimmed some = λ v q of is.
+    let within = slice_get_within p.rings place r t.at in
+    let own : pushed_ring r s ≡ q = same_Some (pushed_ring r s) q (sym (slice_get-set_same p.rings place (pushed_ring r s) within) ∙ is) in
+    let same : w ≡ v = same_Some w v (sym t.of ∙ of) in
+    let goal : Work → RingParts → Type 0 = λ x y. y.forgotten ≡ let_go (wanted_at (turned p place r s) place) (made_by y.start x.whole) in
+    let first = wanted_at p place in
+    let made = made_by r.start w.whole in
+    let was = trimmed w r t.of t.at in
+    let count = kept-count w r t.kept in
+    let end = t.next.within in
+    let high = t.kept.high in
+    let all = (Fill-AreSnapshots w.loop.lo s.end (made_by s.end w.whole) t.kept.low (omega (arith, ints)) t.next.fill).in_order in
+    let still = let_go-still first (neg_ℤ WIDE) WIDE made (s ∷ []) (kept-made w r t.kept).in_order
+    (subst (InOrder (neg_ℤ WIDE) WIDE) t.next.more all) (omega arith) in
+    let one : r.forgotten ≡ let_go first (made_by s.end w.whole) = was ∙ sym still ∙ sym (ap (let_go first) t.next.more) in
+    let two : goal w (pushed_ring r s) = one ∙ ap (λ (tick : Option ℤ). let_go tick (made_by s.end w.whole))
+    (sym (turned-later p place place w r s t.of (omega arith))) in
     subst (λ (x : Work). goal x q) same (subst (λ (y : RingParts). goal w y) own two)
 
 turned-else : (p : RingsParts) (place k : ℕ) (w : Work) (r : RingParts) (s : Snapshot) → IsTurn p place w r s → k ≢ place → IsTrimmed p k

@@ -1,22 +1,23 @@
 -- What the next turns of loops want of a buffer, what is let go of it, and what the rings hold, place by place.
-use Rattle.std.proofs.Common.{◌≡◌, ◌<◌, ◌≤◌, ℕ, zero, suc, ◌+◌, ◌==◌, ℤ, pos, ◌+ℤ◌, ◌<ℤ◌, ◌≤ℤ◌, int_lt, Bool, true, false, ◌&&◌, ◌||◌, if◌then◌else◌, List, [], ◌∷◌, ◌++◌, map, length, drop}
+use Rattle.std.proofs.Common.{◌≡◌, ◌<◌, ◌≤◌, ℕ, zero, suc, ◌+◌, ◌-◌, ◌==◌, ℤ, pos, ◌+ℤ◌, ◌<ℤ◌, ◌≤ℤ◌, int_lt, Bool, true, false, ◌&&◌, ◌||◌, if◌then◌else◌, List, [], ◌∷◌, length, drop}
 use Rattle.std.proofs.Common.{slice_get, slice_set, Option, Some, None, refl, sym, ap, ◌∙◌, subst, arith, Contains}
 use Rattle.std.proofs.lemmas.Int.{ints, clamps}
 use Rattle.std.proofs.lemmas.Option.{same_Some}
 use Rattle.std.specs.Bool.{⊤}
+use Rattle.std.proofs.Math.Bool.{or-true}
 use Rattle.std.proofs.lemmas.Bool.{eq-eqb}
 use Rattle.tilt_base.specs.Grid.{IsGrid, ceil}
 use Rattle.tilt_base.proofs.GridPoints.{ceil-IsCeil}
 use Rattle.tilt_code.specs.Code.{LoopParts, CodeParts}
-use Rattle.tilt_code.specs.Turn.{turns}
-use Rattle.tilt_pipe.specs.Made.{Work, Stage, reads_buffer, is_used_by, is_used, works_from, works_of}
+use Rattle.circular_buffer.proofs.Places.{slice_get-drop}
+use Rattle.tilt_pipe.proofs.Works.{work-is}
+use Rattle.tilt_pipe.specs.Made.{Work, Stage, reads_buffer, is_used_by, is_used, works_of}
 use Rattle.tilt_pipe.specs.Positions.{made_by, stages_at}
 use Rattle.tilt_pipe.specs.Reads.{body_reads, earlier, first_tick, turn_point}
 use Rattle.tilt_pipe.specs.Rings.{position, is_at_work, next_read, wanted, let_go, kept_from, rings_of}
 use Rattle.tilt_pipe.specs.declared.read.Read.{Read}
 use Rattle.tilt_stream.proofs.Places.{ended-within, ended-rises}
 use Rattle.tilt_stream.specs.Snap.{Snapshot}
-use Rattle.tilt_stream.specs.Stream.{stream_of}
 
 -- of two ticks the second is no earlier one; no tick is later than all
 abbrev pub IsNotLater : Option ℤ → Option ℤ → Type 0
@@ -34,12 +35,12 @@ not_later-tick None b h = absurd h
 not_later-tick (Some a) b h = (a, refl, h)
 
 -- the earlier of two ticks
-earlier-left : (a b : Option ℤ) (tick : ℤ) → IsNotLater a (Some tick) → IsNotLater (earlier a b) (Some tick)
+pub earlier-left : (a b : Option ℤ) (tick : ℤ) → IsNotLater a (Some tick) → IsNotLater (earlier a b) (Some tick)
 earlier-left None b tick h = absurd h
 earlier-left (Some a) None tick h = h
 earlier-left (Some a) (Some b) tick h = omega (arith, ints, clamps)
 
-earlier-right : (a b : Option ℤ) (tick : ℤ) → IsNotLater b (Some tick) → IsNotLater (earlier a b) (Some tick)
+pub earlier-right : (a b : Option ℤ) (tick : ℤ) → IsNotLater b (Some tick) → IsNotLater (earlier a b) (Some tick)
 earlier-right None b tick h = h
 earlier-right (Some a) None tick h = absurd h
 earlier-right (Some a) (Some b) tick h = omega (arith, ints, clamps)
@@ -167,7 +168,7 @@ next_read-within : (buffer : ℕ) (s : Stage) (r : Read) → is_at_work s ≡ tr
 next_read-within buffer s r work among is =
     rw work (first_tick-within buffer (turn_point s.work.loop (position s)) (body_reads s.work.loop.body) r among is)
 
-wanted-not_later : (buffer : ℕ) (stages : List Stage) (k : ℕ) (s : Stage) (r : Read) → slice_get stages k ≡ Some s → is_at_work s ≡ true
+pub wanted-not_later : (buffer : ℕ) (stages : List Stage) (k : ℕ) (s : Stage) (r : Read) → slice_get stages k ≡ Some s → is_at_work s ≡ true
     → Contains (body_reads s.work.loop.body) r → r.buffer ≡ buffer
     → IsNotLater (wanted buffer stages) (Some (turn_point s.work.loop (position s) +ℤ r.first))
 wanted-not_later buffer [] k s r is work among at = absurd (cc is)
@@ -216,14 +217,10 @@ reads_buffer-found buffer (x ∷ reads) r (zero, within, at) is =
     let test : (x.buffer == buffer) ≡ true = eq-eqb x.buffer buffer (ap (λ (y : Read). y.buffer) same ∙ is) in
     rw test refl
 reads_buffer-found buffer (x ∷ reads) r (suc k, within, at) is =
-    either_of (x.buffer == buffer) (reads_buffer buffer reads) (reads_buffer-found buffer reads r (k, omega arith, at) is)
-  where
-    either_of : (a b : Bool) → b ≡ true → (a || b) ≡ true
-    either_of true b h = refl
-    either_of false b h = h
+    rw (reads_buffer-found buffer reads r (k, omega arith, at) is) (or-true (x.buffer == buffer))
 
 -- a loop is used whose buffer a used loop behind it reads
-is_used_by-found : (buffer : ℕ) (works : List Work) (k : ℕ) (w : Work) (r : Read) → slice_get works k ≡ Some w → w.used ≡ true
+pub is_used_by-found : (buffer : ℕ) (works : List Work) (k : ℕ) (w : Work) (r : Read) → slice_get works k ≡ Some w → w.used ≡ true
     → Contains (body_reads w.loop.body) r → r.buffer ≡ buffer → is_used_by buffer works ≡ true
 is_used_by-found buffer [] k w r is used among at = absurd (cc is)
 is_used_by-found buffer (x ∷ works) zero w r is used among at =
@@ -232,43 +229,24 @@ is_used_by-found buffer (x ∷ works) zero w r is used among at =
     subst (λ (y : Work). ((y.used && reads_buffer buffer (body_reads y.loop.body)) || is_used_by buffer works) ≡ true) same
     (rw (used, reads) refl)
 is_used_by-found buffer (x ∷ works) (suc k) w r is used among at =
-    either_of (x.used && reads_buffer buffer (body_reads x.loop.body)) (is_used_by buffer works)
-    (is_used_by-found buffer works k w r is used among at)
-  where
-    either_of : (a b : Bool) → b ≡ true → (a || b) ≡ true
-    either_of true b h = refl
-    either_of false b h = h
+    rw (is_used_by-found buffer works k w r is used among at) (or-true (x.used && reads_buffer buffer (body_reads x.loop.body)))
 
 is_used-found : (buffer : ℕ) (works : List Work) (k : ℕ) (w : Work) (r : Read) → slice_get works k ≡ Some w → w.used ≡ true
     → Contains (body_reads w.loop.body) r → r.buffer ≡ buffer → is_used buffer works ≡ true
 is_used-found buffer [] k w r is used among at = refl
 is_used-found buffer (x ∷ works) k w r is used among at = is_used_by-found buffer (x ∷ works) k w r is used among at
 
-works_from-used : (buffer : ℕ) (lists : List (List Snapshot)) (loops : List LoopParts) (place source : ℕ) (w v : Work) (r : Read)
-    → slice_get (works_from buffer lists loops) place ≡ Some w → w.used ≡ true → Contains (body_reads w.loop.body) r
-    → r.buffer ≡ buffer + source → source < place → slice_get (works_from buffer lists loops) source ≡ Some v → v.used ≡ true
-works_from-used buffer lists [] place source w v r is used among at before found = absurd (cc is)
-works_from-used buffer lists (l ∷ loops) zero source w v r is used among at before found = absurd (omega arith)
-works_from-used buffer lists (l ∷ loops) (suc place) zero w v r is used among at before found =
-    let whole = turns (map stream_of lists) l in
-    let behind = works_from (suc buffer) (lists ++ whole ∷ []) loops in
-    let first : record { loop = l; whole = whole; used = is_used buffer behind } ≡ v = cc in
-    ap (λ (y : Work). y.used) (sym first) ∙ is_used-found buffer behind place w r is used among (omega arith)
-works_from-used buffer lists (l ∷ loops) (suc place) (suc source) w v r is used among at before found =
-    works_from-used (suc buffer) (lists ++ turns (map stream_of lists) l ∷ []) loops place source w v r is used among (omega arith)
-    (omega arith) found
-
 pub used-source : (code : CodeParts) (inputs : List (List Snapshot)) (place source : ℕ) (w v : Work) (r : Read)
     → slice_get (works_of code inputs) place ≡ Some w → w.used ≡ true → Contains (body_reads w.loop.body) r
     → r.buffer ≡ length inputs + source → source < place → slice_get (works_of code inputs) source ≡ Some v → v.used ≡ true
 used-source code inputs place source w v r is used among at before found =
-    works_from-used (length inputs) inputs code.loops place source w v r is used among at before found
+    let works = works_of code inputs in
+    let later : place ≡ suc source + (place - suc source) = omega arith in
+    (work-is code inputs source v found).used
+    ∙ is_used-found (length inputs + source) (drop (suc source) works) (place - suc source) w r
+    (slice_get-drop (suc source) works (place - suc source) place later ∙ is) used among at
 
 -- loops where they stand, place by place
-stages_at-none : (works : List Work) → stages_at works [] ≡ []
-stages_at-none [] = refl
-stages_at-none (w ∷ works) = refl
-
 pub stages_at-length : (works : List Work) (starts : List ℤ) → length works ≡ length starts
     → length (stages_at works starts) ≡ length works
 stages_at-length [] starts h = refl
@@ -306,13 +284,6 @@ stages_at-found (x ∷ works) (y ∷ starts) zero s is =
 stages_at-found (x ∷ works) (y ∷ starts) (suc place) s is =
     let rest = stages_at-found works starts place s is in
     record { start = rest.start; work = rest.work; at = rest.at; made = rest.made }
-
-pub stages_at-drop : (n : ℕ) (works : List Work) (starts : List ℤ)
-    → drop n (stages_at works starts) ≡ stages_at (drop n works) (drop n starts)
-stages_at-drop zero works starts = refl
-stages_at-drop (suc n) [] starts = refl
-stages_at-drop (suc n) (w ∷ works) [] = sym (stages_at-none (drop n works))
-stages_at-drop (suc n) (w ∷ works) (start ∷ starts) = stages_at-drop n works starts
 
 pub stages_at-set : (works : List Work) (starts : List ℤ) (place : ℕ) (w : Work) (start : ℤ) → slice_get works place ≡ Some w
     → stages_at works (slice_set starts place start) ≡ slice_set (stages_at works starts) place (stage_at w start)

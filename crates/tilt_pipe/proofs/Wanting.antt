@@ -1,26 +1,30 @@
 -- What the readers of a buffer want is what the loops behind it want.
-use Rattle.std.proofs.Common.{◌≡◌, ◌<◌, ◌+◌, ℕ, zero, suc, ◌==◌, ℤ, ◌+ℤ◌, ◌<ℤ◌, ◌≤ℤ◌, int_lt, Bool, true, false, ◌&&◌, if◌then◌else◌, List, [], ◌∷◌, ◌++◌, length, drop, get_or, slice_get, Option}
-use Rattle.std.proofs.Common.{Some, None, refl, sym, ap, ◌∙◌, subst, arith}
+use Rattle.std.proofs.Common.{◌≡◌, ◌<◌, ◌≤◌, ◌+◌, ◌-◌, ℕ, zero, suc, ◌==◌, ℤ, ◌+ℤ◌, ◌≤ℤ◌, int_lt, Bool, true, false}
+use Rattle.std.proofs.Common.{◌&&◌, if◌then◌else◌, List, [], ◌∷◌, ◌++◌, length, drop, take, get_or, slice_get, option_map, Option}
+use Rattle.std.proofs.Common.{Some, None, Contains, refl, sym, ap, ◌∙◌, subst, arith}
 use Rattle.std.proofs.lemmas.Int.{ints, clamps}
-use Rattle.std.proofs.lemmas.List.{drop-map}
-use Rattle.circular_buffer.proofs.Places.{slice_get-drop}
+use Rattle.std.proofs.lemmas.List.{take-append-drop}
+use Rattle.std.proofs.lemmas.Option.{same_Some, slice_get-map, slice_get_within}
+use Rattle.circular_buffer.proofs.Places.{slice_get-drop, slice_get-some}
 use Rattle.std.specs.Int.{int_min}
 use Rattle.std.specs.List.{AllByRecursion}
 use Rattle.tilt_base.proofs.Booleans.{by_test}
-use Rattle.tilt_base.proofs.Lists.{all-append}
+use Rattle.tilt_code.specs.Code.{LoopParts}
 use Rattle.tilt_code.specs.References.{IsCode}
-use Rattle.tilt_pipe.proofs.Nears.{reads-near, work-sound}
-use Rattle.tilt_pipe.proofs.RingsKept.{start-is}
+use Rattle.tilt_pipe.proofs.Nears.{loop-reads}
+use Rattle.tilt_pipe.proofs.RingsKept.{ring-of}
 use Rattle.tilt_pipe.proofs.Standing.{end-made}
-use Rattle.tilt_pipe.proofs.Wanted.{stages_at-drop}
-use Rattle.tilt_pipe.specs.Chain.{readers_in, readers_from}
+use Rattle.tilt_pipe.proofs.Wanted.{IsNotLater, earlier-left, earlier-right, let_go-rises, stage_at, stages_at-found, stages_at-get, wanted-not_later}
+use Rattle.tilt_pipe.proofs.Works.{work-is, works-length}
 use Rattle.tilt_pipe.specs.Made.{Work, Stage}
-use Rattle.tilt_pipe.specs.Positions.{RingParts, RingsParts, AreRings, AreRingsOf, IsRing, made_by, stages_at, start_at, starts_of, works_in}
+use Rattle.tilt_pipe.specs.Positions.{RingParts, RingsParts, AreRings, IsRing, made_by, stages_at, start_at, starts_of, works_in}
 use Rattle.tilt_pipe.specs.Reads.{body_reads, earlier, first_tick, turn_point}
-use Rattle.tilt_pipe.specs.Rings.{next_read, position, wanted}
-use Rattle.tilt_pipe.specs.Trimmed.{IsNear, IsReader, read_next, wanted_at, wanted_by}
+use Rattle.tilt_pipe.specs.Rings.{end_or, is_at_work, let_go, next_read, position, wanted}
+use Rattle.tilt_pipe.specs.Sources.{AreReaders, HasReader, IsRead, IsReaderOf}
+use Rattle.tilt_pipe.specs.Trimmed.{IsReader, IsTrimmed, KeepsWanted, read_next, wanted_at, wanted_by}
 use Rattle.tilt_pipe.specs.declared.chain.Reader.{Reader}
 use Rattle.tilt_pipe.specs.declared.read.Read.{Read}
+use Rattle.tilt_stream.specs.Snap.{Snapshot, last_end}
 
 pub earlier-assoc : (a b c : Option ℤ) → earlier (earlier a b) c ≡ earlier a (earlier b c)
 earlier-assoc None b c = refl
@@ -34,190 +38,229 @@ pub earlier-none : (a : Option ℤ) → earlier a None ≡ a
 earlier-none None = refl
 earlier-none (Some a) = refl
 
-pub wanted_by-both : (p : RingsParts) (xs ys : List Reader) → wanted_by p (xs ++ ys) ≡ earlier (wanted_by p xs) (wanted_by p ys)
-wanted_by-both p [] ys = refl
-wanted_by-both p (reader ∷ xs) ys =
-    let first = read_next p reader (slice_get (works_in p) reader.place) in
-    ap (λ (t : Option ℤ). earlier first t) (wanted_by-both p xs ys) ∙ sym (earlier-assoc first (wanted_by p xs) (wanted_by p ys))
+earlier-swapped : (a b : Option ℤ) → earlier a b ≡ earlier b a
+earlier-swapped None None = refl
+earlier-swapped None (Some b) = refl
+earlier-swapped (Some a) None = refl
+earlier-swapped (Some a) (Some b) =
+    let least : int_min a b ≡ int_min b a = omega (arith, ints, clamps) in
+    ap (λ (t : ℤ). Some t) least
 
--- the readers of a loop that is at work want what its next turn reads
-one-reader : (here : Bool) (buffer place : ℕ) (p : RingsParts) (r : Read) (point : ℤ) (rest : List Reader) (other : Option ℤ)
-    → read_next p (record { place = place; first = r.first }) (slice_get (works_in p) place) ≡ Some (point +ℤ r.first)
-    → wanted_by p rest ≡ other
-    → wanted_by p (if here then record { place = place; first = r.first } ∷ rest else rest)
-    ≡ (if here then earlier (Some (point +ℤ r.first)) other else other)
-one-reader true buffer place p r point rest other first more =
-    ap (λ (t : Option ℤ). earlier t (wanted_by p rest)) first ∙ ap (λ (t : Option ℤ). earlier (Some (point +ℤ r.first)) t) more
-one-reader false buffer place p r point rest other first more = more
+-- what two lists of readers want is what both of them do
+wanted_by-append : (p : RingsParts) (xs ys : List Reader) → wanted_by p (xs ++ ys) ≡ earlier (wanted_by p xs) (wanted_by p ys)
+wanted_by-append p [] ys = refl
+wanted_by-append p (x ∷ xs) ys =
+    let next = read_next p x (slice_get (works_in p) x.place) in
+    ap (earlier next) (wanted_by-append p xs ys) ∙ sym (earlier-assoc next (wanted_by p xs) (wanted_by p ys))
 
-at-work : (p : RingsParts) (buffer place : ℕ) (w : Work) (reads : List Read) → slice_get (works_in p) place ≡ Some w
-    → (w.used && int_lt (start_at p place) w.loop.hi) ≡ true
-    → wanted_by p (readers_in buffer place reads) ≡ first_tick buffer (turn_point w.loop (start_at p place)) reads
-at-work p buffer place w [] is test = refl
-at-work p buffer place w (r ∷ reads) is test =
-    let point = turn_point w.loop (start_at p place) in
-    one-reader (r.buffer == buffer) buffer place p r point (readers_in buffer place reads) (first_tick buffer point reads)
-    (ap (read_next p (record { place = place; first = r.first })) is
-    ∙ ap (λ (b : Bool). if b then Some (point +ℤ r.first) else None) test)
-    (at-work p buffer place w reads is test)
-
-no-reader : (here : Bool) (place : ℕ) (p : RingsParts) (first : ℤ) (rest : List Reader)
-    → read_next p (record { place = place; first = first }) (slice_get (works_in p) place) ≡ None → wanted_by p rest ≡ None
-    → wanted_by p (if here then record { place = place; first = first } ∷ rest else rest) ≡ None
-no-reader true place p first rest none more = ap (λ (t : Option ℤ). earlier t (wanted_by p rest)) none ∙ more
-no-reader false place p first rest none more = more
-
--- and those of another nothing
-idle : (p : RingsParts) (buffer place : ℕ) (w : Work) (reads : List Read) → slice_get (works_in p) place ≡ Some w
-    → (w.used && int_lt (start_at p place) w.loop.hi) ≡ false → wanted_by p (readers_in buffer place reads) ≡ None
-idle p buffer place w [] is test = refl
-idle p buffer place w (r ∷ reads) is test =
-    let point = turn_point w.loop (start_at p place) in
-    no-reader (r.buffer == buffer) place p r.first (readers_in buffer place reads)
-    (ap (read_next p (record { place = place; first = r.first })) is
-    ∙ ap (λ (b : Bool). if b then Some (point +ℤ r.first) else None) test)
-    (idle p buffer place w reads is test)
-
-own-readers : (p : RingsParts) (buffer place : ℕ) (w : Work) (reads : List Read) → slice_get (works_in p) place ≡ Some w
-    → wanted_by p (readers_in buffer place reads)
-    ≡ (if w.used && int_lt (start_at p place) w.loop.hi then first_tick buffer (turn_point w.loop (start_at p place)) reads else None)
-own-readers p buffer place w reads is =
-    let test = w.used && int_lt (start_at p place) w.loop.hi in
-    let want = first_tick buffer (turn_point w.loop (start_at p place)) reads in
-    by_test test (wanted_by p (readers_in buffer place reads) ≡ (if test then want else None))
-    (λ h. at-work p buffer place w reads is h ∙ ap (λ (b : Bool). if b then want else None) (sym h))
-    (λ h. idle p buffer place w reads is h ∙ ap (λ (b : Bool). if b then want else None) (sym h))
+-- the readers may be gone over from any one of them, round
+pub wanted_by-round : (p : RingsParts) (readers : List Reader) (first : ℕ)
+    → earlier (wanted_by p (drop first readers)) (wanted_by p (take first readers)) ≡ wanted_by p readers
+wanted_by-round p readers first =
+    earlier-swapped (wanted_by p (drop first readers)) (wanted_by p (take first readers))
+    ∙ sym (wanted_by-append p (take first readers) (drop first readers))
+    ∙ ap (wanted_by p) (take-append-drop first readers)
 
 -- a loop stands where what it has made ends
 pub stands-there : (w : Work) (r : RingParts) → IsRing w r → position (record { work = w; made = made_by r.start w.whole }) ≡ r.start
 stands-there w r is = end-made w.loop.lo r.start (made_by r.start w.whole) is.fill
 
-next-of : (p : RingsParts) (buffer place : ℕ) (w : Work) (r : RingParts) → IsRing w r → start_at p place ≡ r.start
-    → (if w.used && int_lt (start_at p place) w.loop.hi then first_tick buffer (turn_point w.loop (start_at p place)) (body_reads w.loop.body) else None)
-    ≡ next_read buffer (record { work = w; made = made_by r.start w.whole })
-next-of p buffer place w r is at =
-    let s : Stage = record { work = w; made = made_by r.start w.whole } in
-    let same : start_at p place ≡ position s = at ∙ sym (stands-there w r is) in
-    ap (λ (t : ℤ). if w.used && int_lt t w.loop.hi then first_tick buffer (turn_point w.loop t) (body_reads w.loop.body) else None) same
+-- what all readers want isn't later than what one of them reads
+earlier-first : (a b : Option ℤ) → IsNotLater (earlier a b) a
+earlier-first None b = tt
+earlier-first (Some a) b = earlier-left (Some a) b a (omega (arith, ints))
 
--- the loops of which the first has a number among all
-pub record StandFrom (p : RingsParts) (place : ℕ) (works : List Work) (rings : List RingParts) : Type 0 where
-  pub of : (k : ℕ) (w : Work) → slice_get works k ≡ Some w → slice_get (works_in p) (place + k) ≡ Some w
-  pub at : (k : ℕ) (r : RingParts) → slice_get rings k ≡ Some r → start_at p (place + k) ≡ r.start
+earlier-rest : (a b c : Option ℤ) → IsNotLater b c → IsNotLater (earlier a b) c
+earlier-rest a b None h = tt
+earlier-rest a b (Some c) h = earlier-right a b c h
 
-stand-rest : (p : RingsParts) (place : ℕ) (w : Work) (works : List Work) (r : RingParts) (rings : List RingParts)
-    → StandFrom p place (w ∷ works) (r ∷ rings) → StandFrom p (suc place) works rings
-stand-rest p place w works r rings h = record {
-  of = λ k v is. let at : place + suc k ≡ suc place + k = omega arith in
-      subst (λ (n : ℕ). slice_get (works_in p) n ≡ Some v) at (h.of (suc k) v is);
-  at = λ k s is. let at : place + suc k ≡ suc place + k = omega arith in
-      subst (λ (n : ℕ). start_at p n ≡ s.start) at (h.at (suc k) s is);
-}
+pub reader-wants : (p : RingsParts) (readers : List Reader) (i : ℕ) (d : Reader) → i < length readers
+    → IsNotLater (wanted_by p readers) (read_next p (get_or readers i d) (slice_get (works_in p) (get_or readers i d).place))
+reader-wants p [] i d within = absurd (omega arith)
+reader-wants p (x ∷ readers) zero d within = earlier-first (read_next p x (slice_get (works_in p) x.place)) (wanted_by p readers)
+reader-wants p (x ∷ readers) (suc i) d within =
+    earlier-rest (read_next p x (slice_get (works_in p) x.place)) (wanted_by p readers)
+    (read_next p (get_or readers i d) (slice_get (works_in p) (get_or readers i d).place)) (reader-wants p readers i d (omega arith))
 
-pub wanted_by-is : (p : RingsParts) (buffer place : ℕ) (works : List Work) (rings : List RingParts) → AreRingsOf works rings
-    → StandFrom p place works rings
-    → wanted_by p (readers_from buffer place works) ≡ wanted buffer (stages_at works (starts_of rings))
-wanted_by-is p buffer place [] [] are stand = refl
-wanted_by-is p buffer place [] (r ∷ rings) are stand = absurd are
-wanted_by-is p buffer place (w ∷ works) [] are stand = absurd are
-wanted_by-is p buffer place (w ∷ works) (r ∷ rings) are stand =
-    let s : Stage = record { work = w; made = made_by r.start w.whole } in
-    let here : place + 0 ≡ place = omega arith in
-    let of : slice_get (works_in p) place ≡ Some w = subst (λ (n : ℕ). slice_get (works_in p) n ≡ Some w) here (stand.of 0 w refl) in
-    let at : start_at p place ≡ r.start = subst (λ (n : ℕ). start_at p n ≡ r.start) here (stand.at 0 r refl) in
-    let first = own-readers p buffer place w (body_reads w.loop.body) of ∙ next-of p buffer place w r are.0 at in
-    let rest = wanted_by-is p buffer (suc place) works rings are.1 (stand-rest p place w works r rings stand) in
-    wanted_by-both p (readers_in buffer place (body_reads w.loop.body)) (readers_from buffer (suc place) works)
-    ∙ ap (λ (t : Option ℤ). earlier t (wanted_by p (readers_from buffer (suc place) works))) first
-    ∙ ap (λ (t : Option ℤ). earlier (next_read buffer s) t) rest
+-- where a tick that is wanted lets go no more than was let go, just what isn't wanted was
+pub held-trimmed : (p : RingsParts) (place : ℕ) (next : Option ℤ) → KeepsWanted p place → IsNotLater (wanted_at p place) next
+    → ((w : Work) (r : RingParts) → slice_get (works_in p) place ≡ Some w → slice_get p.rings place ≡ Some r
+    → let_go next (made_by r.start w.whole) ≤ r.forgotten)
+    → IsTrimmed p place
+held-trimmed p place next keeps wants held = λ w r of at.
+    let low = keeps w r of at in
+    let up = let_go-rises (wanted_at p place) next (made_by r.start w.whole) wants in
+    let high = held w r of at in
+    omega arith
 
-none-of : (used : Bool) (next : Option ℤ) → (if used && false then next else None) ≡ None
-none-of true next = refl
-none-of false next = refl
+-- a tick that is no later than two is no later than the earlier one
+not_later-both : (x a b : Option ℤ) → IsNotLater x a → IsNotLater x b → IsNotLater x (earlier a b)
+not_later-both x None b h k = k
+not_later-both x (Some a) None h k = h
+not_later-both None (Some a) (Some b) h k = absurd h
+not_later-both (Some x) (Some a) (Some b) h k = omega (arith, ints, clamps)
 
--- a reader that is at work, and one that isn't
-pub reads-next : (p : RingsParts) (reader : Reader) (w : Work) → slice_get (works_in p) reader.place ≡ Some w → w.used ≡ true
-    → start_at p reader.place <ℤ w.loop.hi
-    → Some (turn_point w.loop (start_at p reader.place) +ℤ reader.first) ≡ read_next p reader (slice_get (works_in p) reader.place)
-reads-next p reader w is used before =
-    let test : int_lt (start_at p reader.place) w.loop.hi ≡ true = grind (arith, ints) in
-    let next : Option ℤ = Some (turn_point w.loop (start_at p reader.place) +ℤ reader.first) in
-    sym (ap (read_next p reader) is
-    ∙ ap (λ (b : Bool). if b && int_lt (start_at p reader.place) w.loop.hi then next else None) used
-    ∙ ap (λ (b : Bool). if b then next else None) test)
+not_later-trans : (x : Option ℤ) (a b : ℤ) → IsNotLater x (Some a) → a ≤ℤ b → IsNotLater x (Some b)
+not_later-trans None a b h le = absurd h
+not_later-trans (Some x) a b h le = omega (arith, ints)
 
-pub reads-unused : (p : RingsParts) (reader : Reader) (w : Work) → slice_get (works_in p) reader.place ≡ Some w → w.used ≡ false
-    → None ≡ read_next p reader (slice_get (works_in p) reader.place)
-reads-unused p reader w is used =
-    let next : Option ℤ = Some (turn_point w.loop (start_at p reader.place) +ℤ reader.first) in
-    sym (ap (read_next p reader) is
-    ∙ ap (λ (b : Bool). if b && int_lt (start_at p reader.place) w.loop.hi then next else None) used)
+not_later-two : (a b : Option ℤ) → IsNotLater a b → IsNotLater b a → a ≡ b
+not_later-two None None h k = refl
+not_later-two None (Some b) h k = absurd h
+not_later-two (Some a) None h k = absurd k
+not_later-two (Some a) (Some b) h k = let same : a ≡ b = omega (arith, ints) in ap (λ (t : ℤ). Some t) same
 
-pub reads-none : (p : RingsParts) (reader : Reader) (w : Work) → slice_get (works_in p) reader.place ≡ Some w
-    → w.loop.hi ≤ℤ start_at p reader.place → None ≡ read_next p reader (slice_get (works_in p) reader.place)
-reads-none p reader w is end =
-    let test : int_lt (start_at p reader.place) w.loop.hi ≡ false = grind (arith, ints) in
-    let next : Option ℤ = Some (turn_point w.loop (start_at p reader.place) +ℤ reader.first) in
-    sym (ap (read_next p reader) is
-    ∙ ap (λ (b : Bool). if w.used && b then next else None) test ∙ none-of w.used next)
+-- no later than what each of some loops reads next, and than what each of some reads reads
+wants-all : (x : Option ℤ) (buffer : ℕ) (stages : List Stage)
+    → ((i : ℕ) (s : Stage) → slice_get stages i ≡ Some s → IsNotLater x (next_read buffer s)) → IsNotLater x (wanted buffer stages)
+wants-all x buffer [] each = tt
+wants-all x buffer (s ∷ stages) each =
+    not_later-both x (next_read buffer s) (wanted buffer stages) (each 0 s refl) (wants-all x buffer stages (λ i t is. each (suc i) t is))
 
--- what the readers of a loop's buffer want is what is wanted of it
-stand-behind : (p : RingsParts) (n : ℕ) → StandFrom p n (drop n (works_in p)) (drop n p.rings)
-stand-behind p n = record {
-  of = λ k w is. sym (slice_get-drop n (works_in p) k (n + k) refl) ∙ is;
-  at = λ k r is. start-is p (n + k) r (sym (slice_get-drop n p.rings k (n + k) refl) ∙ is);
-}
+ticks-all : (x : Option ℤ) (buffer : ℕ) (point : ℤ) (reads : List Read)
+    → ((r : Read) → IsRead reads buffer r → IsNotLater x (Some (point +ℤ r.first))) → IsNotLater x (first_tick buffer point reads)
+ticks-all x buffer point [] each = tt
+ticks-all x buffer point (r ∷ reads) each =
+    by (r.buffer == buffer) refl
+    (ticks-all x buffer point reads
+    (λ y read. let among = read.among in let within = among.1 in
+    each y (record { among = (suc among.0, omega arith, among.2); of = read.of })))
+  where
+    by : (test : Bool) → (r.buffer == buffer) ≡ test → IsNotLater x (first_tick buffer point reads)
+        → IsNotLater x (if test then earlier (Some (point +ℤ r.first)) (first_tick buffer point reads) else first_tick buffer point reads)
+    by true here rest =
+        not_later-both x (Some (point +ℤ r.first)) (first_tick buffer point reads)
+        (each r (record { among = (0, omega arith, refl); of = grind arith })) rest
+    by false here rest = rest
 
-rings-behind : (n : ℕ) (works : List Work) (rings : List RingParts) → AreRingsOf works rings → AreRingsOf (drop n works) (drop n rings)
-rings-behind zero works rings are = are
-rings-behind (suc n) [] [] are = are
-rings-behind (suc n) [] (r ∷ rings) are = absurd are
-rings-behind (suc n) (w ∷ works) [] are = absurd are
-rings-behind (suc n) (w ∷ works) (r ∷ rings) are = rings-behind n works rings are.1
+-- where a loop stands, and what it has made ends there
+record StandsThere (p : RingsParts) (place : ℕ) (w : Work) : Type 0 where
+  at : slice_get (starts_of p.rings) place ≡ Some (start_at p place)
+  position : position (stage_at w (start_at p place)) ≡ start_at p place
 
-pub wanted_at-is : (p : RingsParts) (place : ℕ) → AreRings p
-    → wanted_by p (readers_from (length p.inputs + place) (suc place) (drop (suc place) (works_in p))) ≡ wanted_at p place
-wanted_at-is p place are =
-    let buffer = length p.inputs + place in
-    wanted_by-is p buffer (suc place) (drop (suc place) (works_in p)) (drop (suc place) p.rings)
-    (rings-behind (suc place) (works_in p) p.rings are.rings) (stand-behind p (suc place))
-    ∙ ap (λ (starts : List ℤ). wanted buffer (stages_at (drop (suc place) (works_in p)) starts)) (sym (drop-map (λ (r : RingParts). r.start) (suc place) p.rings))
-    ∙ sym (ap (λ (stages : List Stage). wanted buffer stages) (stages_at-drop (suc place) (works_in p) (starts_of p.rings)))
+stands-at : (p : RingsParts) (place : ℕ) (w : Work) → IsCode p.code → AreRings p → slice_get (works_in p) place ≡ Some w
+    → StandsThere p place w
+stands-at p place w code are is =
+    let it = ring-of p place w code are is in
+    record {
+      at = slice_get-map (λ (x : RingParts). x.start) p.rings place ∙ ap (option_map (λ (x : RingParts). x.start)) it.at
+          ∙ ap (λ (t : ℤ). Some t) (sym it.start);
+      position = subst (λ (t : ℤ). position (stage_at w t) ≡ t) (sym it.start) (stands-there w it.ring it.kept.ring);
+    }
 
--- each reader is there, and reads near
-one-more : {X : Type 0} (P : X → Type 0) (here : Bool) (x : X) (xs : List X) → P x → AllByRecursion P xs
-    → AllByRecursion P (if here then x ∷ xs else xs)
-one-more P true x xs h all = (h, all)
-one-more P false x xs h all = all
+-- the loop of a reader
+reader-work : (p : RingsParts) (k : ℕ) (reader : Reader) → IsReaderOf (length p.inputs) p.code.loops k reader
+    → (w : Work) × (slice_get (works_in p) reader.place ≡ Some w)
+reader-work p k reader own =
+    let within = slice_get_within p.code.loops reader.place own.loop own.is in
+    let count = works-length p.code p.inputs in
+    slice_get-some (works_in p) reader.place (omega arith)
 
-readers-in-there : (p : RingsParts) (buffer place buffers : ℕ) (w : Work) (reads : List Read) → slice_get (works_in p) place ≡ Some w
-    → AllByRecursion (IsNear buffers) reads → AllByRecursion (IsReader p) (readers_in buffer place reads)
-readers-in-there p buffer place buffers w [] is near = tt
-readers-in-there p buffer place buffers w (r ∷ reads) is near =
-    one-more (IsReader p) (r.buffer == buffer) (record { place = place; first = r.first }) (readers_in buffer place reads)
-    (record { work = w; is = is; low = near.0.first_low; high = near.0.first_high })
-    (readers-in-there p buffer place buffers w reads is near.1)
+-- it is there, and reads near
+pub reader-near : (p : RingsParts) (k : ℕ) (reader : Reader) → IsCode p.code → AreRings p
+    → IsReaderOf (length p.inputs) p.code.loops k reader → IsReader p reader
+reader-near p k reader code are own =
+    let w = reader-work p k reader own in
+    let near = loop-reads p reader.place own.loop own.read code are own.is own.reads.among in
+    let low = near.first_low in
+    let high = near.first_high in
+    let same = own.first in
+    record { work = w.0; is = w.1; low = omega (arith, ints); high = omega (arith, ints) }
 
-readers-from-there : (p : RingsParts) (buffer place : ℕ) (works : List Work) → IsCode p.code → AreRings p
-    → ((k : ℕ) (w : Work) → slice_get works k ≡ Some w → slice_get (works_in p) (place + k) ≡ Some w)
-    → AllByRecursion (IsReader p) (readers_from buffer place works)
-readers-from-there p buffer place [] code are of = tt
-readers-from-there p buffer place (w ∷ works) code are of =
-    let here : place + 0 ≡ place = omega arith in
-    let is : slice_get (works_in p) place ≡ Some w = subst (λ (n : ℕ). slice_get (works_in p) n ≡ Some w) here (of 0 w refl) in
-    let near = reads-near (length p.inputs + place) w.loop.body (work-sound p place w code are is).near in
-    all-append (IsReader p) (readers_in buffer place (body_reads w.loop.body)) (readers_from buffer (suc place) works)
-    (readers-in-there p buffer place (length p.inputs + place) w (body_reads w.loop.body) is near)
-    (readers-from-there p buffer (suc place) works code are
-    (λ k v at. let next : place + suc k ≡ suc place + k = omega arith in
-    subst (λ (n : ℕ). slice_get (works_in p) n ≡ Some v) next (of (suc k) v at)))
+-- a reader that is at work
+next-is : (p : RingsParts) (reader : Reader) (w : Work) (test : Bool) → slice_get (works_in p) reader.place ≡ Some w
+    → (w.used && int_lt (start_at p reader.place) w.loop.hi) ≡ test
+    → read_next p reader (slice_get (works_in p) reader.place)
+    ≡ (if test then Some (turn_point w.loop (start_at p reader.place) +ℤ reader.first) else None)
+next-is p reader w test is same =
+    ap (read_next p reader) is
+    ∙ ap (λ (b : Bool). if b then Some (turn_point w.loop (start_at p reader.place) +ℤ reader.first) else None) same
 
-pub readers-there : (p : RingsParts) (place : ℕ) → IsCode p.code → AreRings p
-    → AllByRecursion (IsReader p) (readers_from (length p.inputs + place) (suc place) (drop (suc place) (works_in p)))
-readers-there p place code are =
-    readers-from-there p (length p.inputs + place) (suc place) (drop (suc place) (works_in p)) code are (stand-behind p (suc place)).of
+-- what is wanted of a buffer isn't later than what a reader reads next
+pub reader-later : (p : RingsParts) (k : ℕ) (reader : Reader) → IsCode p.code → AreRings p
+    → IsReaderOf (length p.inputs) p.code.loops k reader
+    → IsNotLater (wanted_at p k) (read_next p reader (slice_get (works_in p) reader.place))
+reader-later p k reader code are own =
+    let j = reader.place in
+    let buffer = length p.inputs + k in
+    let it = reader-work p k reader own in
+    let w = it.0 in
+    let loop : own.loop ≡ w.loop = same_Some own.loop w.loop (sym own.is ∙ (work-is p.code p.inputs j w it.1).loop) in
+    let among = subst (λ (l : LoopParts). Contains (body_reads l.body) own.read) loop own.reads.among in
+    let below = (loop-reads p j own.loop own.read code are own.is own.reads.among).there in
+    let of = own.reads.of in
+    let stands = stands-at p j w code are it.1 in
+    let all = stages_at (works_in p) (starts_of p.rings) in
+    let s = stage_at w (start_at p j) in
+    let place : j ≡ suc k + (j - suc k) = omega arith in
+    let later = slice_get-drop (suc k) all (j - suc k) j place ∙ stages_at-get (works_in p) (starts_of p.rings) j w (start_at p j) it.1 stands.at in
+    by_test (w.used && int_lt (start_at p j) w.loop.hi) (IsNotLater (wanted_at p k) (read_next p reader (slice_get (works_in p) j)))
+    (λ busy.
+    let at_work : is_at_work s ≡ true = ap (λ (t : ℤ). w.used && int_lt t w.loop.hi) stands.position ∙ busy in
+    let low = wanted-not_later buffer (drop (suc k) all) (j - suc k) s own.read later at_work among own.reads.of in
+    let here = subst (λ (t : ℤ). IsNotLater (wanted_at p k) (Some (turn_point w.loop t +ℤ own.read.first))) stands.position low in
+    subst (λ (o : Option ℤ). IsNotLater (wanted_at p k) o) (sym (next-is p reader w true it.1 busy))
+    (subst (λ (t : ℤ). IsNotLater (wanted_at p k) (Some (turn_point w.loop (start_at p j) +ℤ t))) (sym own.first) here))
+    (λ idle. subst (λ (o : Option ℤ). IsNotLater (wanted_at p k) o) (sym (next-is p reader w false it.1 idle)) tt)
 
-pub all-get : {X : Type 0} (P : X → Type 0) (xs : List X) (i : ℕ) (d : X) → AllByRecursion P xs → i < length xs → P (get_or xs i d)
-all-get P [] i d all within = absurd (omega arith)
-all-get P (x ∷ xs) zero d all within = all.0
-all-get P (x ∷ xs) (suc i) d all within = all-get P xs i d all.1 (omega arith)
+wanted-most : (p : RingsParts) (k : ℕ) (readers : List Reader) → IsCode p.code → AreRings p
+    → AllByRecursion (IsReaderOf (length p.inputs) p.code.loops k) readers → IsNotLater (wanted_at p k) (wanted_by p readers)
+wanted-most p k [] code are each = tt
+wanted-most p k (reader ∷ readers) code are each =
+    not_later-both (wanted_at p k) (read_next p reader (slice_get (works_in p) reader.place)) (wanted_by p readers)
+    (reader-later p k reader code are each.0) (wanted-most p k readers code are each.1)
+
+-- what the readers want isn't later than what a later loop reads next
+read-wanted : (p : RingsParts) (k j : ℕ) (w : Work) (r : Read) (readers : List Reader) → slice_get (works_in p) j ≡ Some w
+    → (w.used && int_lt (start_at p j) w.loop.hi) ≡ true → HasReader readers j r
+    → IsNotLater (wanted_by p readers) (Some (turn_point w.loop (start_at p j) +ℤ r.first))
+read-wanted p k j w r readers is busy has =
+    let among = has.among in
+    let next = λ (x : Reader). read_next p x (slice_get (works_in p) x.place) in
+    let wants = subst (λ (x : Reader). IsNotLater (wanted_by p readers) (next x)) among.2 (reader-wants p readers among.0 has.reader among.1) in
+    let is_ : slice_get (works_in p) has.reader.place ≡ Some w = ap (slice_get (works_in p)) has.place ∙ is in
+    let busy_ : (w.used && int_lt (start_at p has.reader.place) w.loop.hi) ≡ true =
+    ap (λ (n : ℕ). w.used && int_lt (start_at p n) w.loop.hi) has.place ∙ busy in
+    let at = subst (λ (o : Option ℤ). IsNotLater (wanted_by p readers) o) (next-is p has.reader w true is_ busy_) wants in
+    let here = subst (λ (n : ℕ). IsNotLater (wanted_by p readers) (Some (turn_point w.loop (start_at p n) +ℤ has.reader.first))) has.place at in
+    let first = has.first in
+    not_later-trans (wanted_by p readers) (turn_point w.loop (start_at p j) +ℤ has.reader.first)
+    (turn_point w.loop (start_at p j) +ℤ r.first) here (omega (arith, ints))
+
+stage-wanted : (p : RingsParts) (k i : ℕ) (s : Stage) (readers : List Reader) → IsCode p.code → AreRings p
+    → AreReaders (length p.inputs) p.code.loops (length p.code.loops) k readers
+    → slice_get (drop (suc k) (stages_at (works_in p) (starts_of p.rings))) i ≡ Some s
+    → IsNotLater (wanted_by p readers) (next_read (length p.inputs + k) s)
+stage-wanted p k i s readers code are of is =
+    let buffer = length p.inputs + k in
+    let j = suc k + i in
+    let found = stages_at-found (works_in p) (starts_of p.rings) j s
+    (sym (slice_get-drop (suc k) (stages_at (works_in p) (starts_of p.rings)) i j refl) ∙ is) in
+    let w = s.work in
+    let stands = stands-at p j w code are found.work in
+    let start : found.start ≡ start_at p j = same_Some found.start (start_at p j) (sym found.at ∙ stands.at) in
+    let at : position s ≡ start_at p j =
+    ap (λ (list : List Snapshot). end_or w.loop.lo (last_end list)) (found.made ∙ ap (λ (t : ℤ). made_by t w.whole) start) ∙ stands.position in
+    let within = slice_get_within (works_in p) j w found.work in
+    let count = works-length p.code p.inputs in
+    let point = turn_point w.loop (position s) in
+    by_test (is_at_work s) (IsNotLater (wanted_by p readers) (next_read buffer s))
+    (λ busy.
+    let busy_ : (w.used && int_lt (start_at p j) w.loop.hi) ≡ true = ap (λ (t : ℤ). w.used && int_lt t w.loop.hi) (sym at) ∙ busy in
+    subst (λ (b : Bool). IsNotLater (wanted_by p readers) (if b then first_tick buffer point (body_reads w.loop.body) else None)) (sym busy)
+    (ticks-all (wanted_by p readers) buffer point (body_reads w.loop.body)
+    (λ r read.
+    subst (λ (t : ℤ). IsNotLater (wanted_by p readers) (Some (turn_point w.loop t +ℤ r.first))) (sym at)
+    (read-wanted p k j w r readers found.work busy_
+    (of.all j w.loop r (omega arith) (work-is p.code p.inputs j w found.work).loop read)))))
+    (λ idle.
+    subst (λ (b : Bool). IsNotLater (wanted_by p readers) (if b then first_tick buffer point (body_reads w.loop.body) else None)) (sym idle) tt)
+
+-- the readers of a loop's buffer want just what is wanted of it
+pub wanted_by-is : (p : RingsParts) (k : ℕ) (readers : List Reader) → IsCode p.code → AreRings p
+    → AreReaders (length p.inputs) p.code.loops (length p.code.loops) k readers → wanted_by p readers ≡ wanted_at p k
+wanted_by-is p k readers code are of =
+    not_later-two (wanted_by p readers) (wanted_at p k)
+    (wants-all (wanted_by p readers) (length p.inputs + k) (drop (suc k) (stages_at (works_in p) (starts_of p.rings)))
+    (λ i s is. stage-wanted p k i s readers code are of is))
+    (wanted-most p k readers code are of.each)

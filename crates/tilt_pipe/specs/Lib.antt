@@ -7,5 +7,6 @@ pub mod Positions
 pub mod Pulled
 pub mod Reads
 pub mod Rings
+pub mod Sources
 pub mod Trimmed
 pub mod Value

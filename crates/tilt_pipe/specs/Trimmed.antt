@@ -1,14 +1,14 @@
 -- What is let go of the rings of a pipe after a turn.
-use Rattle.std.specs.Prelude.{neg_ℤ, ◌≡◌, ◌<◌, ◌≤◌, ◌+◌, ℕ, suc, ℤ, pos, ◌+ℤ◌, ◌<ℤ◌, ◌≤ℤ◌, ◌&&◌, if◌then◌else◌, List, [], ◌∷◌, drop}
+use Rattle.std.specs.Prelude.{neg_ℤ, ◌≡◌, ◌<◌, ◌≤◌, ◌+◌, ℕ, suc, ℤ, pos, ◌+ℤ◌, ◌≤ℤ◌, ◌&&◌, if◌then◌else◌, List, [], ◌∷◌, drop}
 use Rattle.std.specs.Prelude.{length, slice_get, Option, Some, None, int_lt}
-use Rattle.std.specs.List.{AllByRecursion, Contains}
+use Rattle.std.specs.List.{AllByRecursion}
 use Rattle.tilt_base.specs.declared.limits.TheConstants.{OFFSET}
 use Rattle.tilt_code.specs.Grammar.{IsInstr}
 use Rattle.tilt_code.specs.Run.{buffers_of}
 use Rattle.tilt_code.specs.declared.instr.Instr.{Instr}
 use Rattle.tilt_turn.specs.Held.{IsFit}
 use Rattle.tilt_turn.specs.Ready.{IsKept}
-use Rattle.tilt_pipe.specs.Chain.{AreTold, AreTurns}
+use Rattle.tilt_pipe.specs.Chain.{ArePoints, AreTold, AreTurns}
 use Rattle.tilt_pipe.specs.Made.{Work}
 use Rattle.tilt_pipe.specs.Positions.{RingParts, RingsParts, IsOpen, forgotten_of, lists_of, made_by, stages_at, start_at, starts_of}
 use Rattle.tilt_pipe.specs.Positions.{works_in}
@@ -32,19 +32,13 @@ pub record ReadsNear (buffers : ℕ) (instr : Instr) : Type 0 where
   pub bounds : IsInstr instr
   pub near : AllByRecursion (IsNear buffers) (reads_of instr)
 
--- a loop that has made less than one of these reads asks for at a grid point, and not all
-pub record IsShort (p : RingsParts) (point : ℤ) (list : List Read) (source : ℕ) : Type 0 where
-  pub read : Read
-  pub among : Contains list read
-  pub of : read.buffer ≡ length p.inputs + source
-  pub behind : Work
-  pub is_open : IsOpen p source behind
-  pub short : start_at p source <ℤ (point +ℤ read.last)
-
 -- the turns of a chain, whatever its rings hold
 abbrev pub HasTurns : Chain → Type 0
-HasTurns c =
-    AreTurns (buffers_of c.rings.code c.rings.inputs) (length c.rings.inputs) 0 (starts_of c.rings.rings) (works_in c.rings) c.turns.items
+HasTurns c = AreTurns c.rings.code c.rings.inputs (starts_of c.rings.rings) c.turns.items
+
+-- and its points
+abbrev pub HasPoints : Chain → Type 0
+HasPoints c = ArePoints c.rings c.points.items
 
 -- the first tick of a loop's buffer that the next turns of later loops read
 abbrev pub wanted_at : RingsParts → ℕ → Option ℤ

@@ -1,26 +1,27 @@
 // The loops of a pipe, and their turns.
-ghost use Rattle.std.specs.Prelude.{◌≡◌, ◌↔◌, ◌≢◌, ◌<◌, ◌≤◌, ◌+◌, ℕ, ℤ, pos, ◌+ℤ◌, ◌<ℤ◌, ◌≤ℤ◌, List, [], ◌∷◌, ◌++◌};
-ghost use Rattle.std.specs.Prelude.{length, drop, map, slice_get, slice_set, Some, true, false, IfOk, OnOk};
+ghost use Rattle.std.specs.Prelude.{◌≡◌, ◌↔◌, ◌≢◌, ◌<◌, ◌≤◌, ◌+◌, ℕ, ℤ, ◌+ℤ◌, ◌<ℤ◌, ◌≤ℤ◌, [], ◌∷◌, ◌++◌};
+ghost use Rattle.std.specs.Prelude.{length, slice_get, slice_set, Some, true, false, IfOk, OnOk, OnErr};
 ghost use Rattle.std.specs.Prelude.{MatchOption};
 ghost use Rattle.std.specs.List.{AllByRecursion};
-ghost use Rattle.tilt_code.specs.Code.{LoopParts};
 ghost use Rattle.tilt_code.specs.References.{IsCode};
 ghost use Rattle.tilt_code.specs.Run.{buffers_of};
-ghost use Rattle.tilt_pipe.specs.Chain.{AreTold, IsBehind, IsChain, IsTold};
+ghost use Rattle.tilt_pipe.specs.Chain.{AreTold, IsBehind, IsChain, IsLate, IsNearSource, IsReached, point_at};
 ghost use Rattle.tilt_pipe.specs.Made.{Work, reads_buffer};
-ghost use Rattle.tilt_pipe.specs.Positions.{AreRings, IsOpen, RingParts, RingsParts, made_at};
-ghost use Rattle.tilt_pipe.specs.Positions.{stages_at, start_at, starts_of, with_ring, works_in};
-ghost use Rattle.tilt_pipe.specs.Reads.{body_reads, earlier, reads_of, turn_point};
+ghost use Rattle.tilt_pipe.specs.Positions.{AreRings, IsOpen, made_at};
+ghost use Rattle.tilt_pipe.specs.Positions.{start_at, starts_of, works_in};
+ghost use Rattle.tilt_pipe.specs.Reads.{body_reads, earlier, turn_point};
 ghost use Rattle.tilt_pipe.specs.Rings.{wanted};
-ghost use Rattle.tilt_pipe.specs.Trimmed.{HasTurns, IsReader, IsShort, IsTrimmed, KeepsWanted};
-ghost use Rattle.tilt_pipe.specs.Trimmed.{MayTurn, ReadsNear, StandAlike, read_next, wanted_at};
+ghost use Rattle.tilt_pipe.specs.Trimmed.{HasPoints, HasTurns, IsReader, IsTrimmed, KeepsWanted};
+ghost use Rattle.tilt_pipe.specs.Sources.{IsReaderOf};
+ghost use Rattle.tilt_pipe.specs.Trimmed.{MayTurn, StandAlike, read_next, wanted_at, wanted_by};
 ghost use Rattle.tilt_turn.specs.Held.{IsFit};
 ghost use Rattle.tilt_turn.specs.Ready.{IsBodyTick};
+ghost use Rattle.tilt_pipe.specs.declared.sources.Source.{Source};
 
-use crate::read::read_of;
+use crate::hints::Hints;
 use crate::rings::Rings;
+use crate::sources::Source;
 use std::alloc::AllocError as OutOfMemory;
-use tilt_code::Instr;
 use tilt_stream::Snap;
 use tilt_turn::LoopState;
 
@@ -31,37 +32,46 @@ pub(crate) struct Reader {
     pub(crate) first: i64,
 }
 
-// What is kept for the turns of a loop: its state, whether it is used, and the loops that read its buffer.
+// What is kept for the turns of a loop: its state, whether it is used, the loops that it reads, and those that read its buffer.
 #[derive(Drop)]
 pub(crate) struct LoopTurns {
     pub(crate) state: LoopState,
     pub(crate) used: bool,
+    pub(crate) sources: Vec<Source>,
     pub(crate) readers: Vec<Reader>,
 }
 
-// The rings of a code, and what is kept for the turns of each loop.
+// The rings of a code, and what is kept for the turns of each loop; the grid point of its next turn, where it is at work: used, and
+// not at the end of its stretch; which of the sources of a loop was found last to have made less than it reads, and which of its
+// readers to read the first snapshot that its ring held.
 #[derive(Drop)]
 pub(crate) struct Chain {
     pub(crate) rings: Rings,
     pub(crate) turns: Vec<LoopTurns>,
+    pub(crate) points: Vec<Option<i64>>,
+    pub(crate) shorts: Hints,
+    pub(crate) holders: Hints,
 }
 
 impl Chain {
-    // The first loop that has made less than the next turn of a loop reads. `None` where all that this turn reads is made.
-    pub(crate) fn behind(&self, place: usize) -> Option<usize>
-        requires open { (w : Work) × IsOpen self.now.rings place w }
-        ensures behind { (w : Work) → IsOpen self.now.rings place w
-            → MatchOption result (AreTold self.now.rings place w) (λ source. IsBehind self.now.rings place w source) }
-        ensures rings { AreRings self.now.rings }
+    // A loop that has made less than the next turn of a loop reads. `None` where all that this turn reads is made. The loop that was
+    // found last is looked at first.
+    pub(crate) fn behind(&mut self, place: usize) -> Option<usize>
+        requires open { (w : Work) × IsOpen self.old.rings place w × (w.used ≡ true) }
+        requires is { IsChain self.old }
+        ensures behind { (w : Work) → IsOpen self.old.rings place w
+            → MatchOption result (AreTold self.old.rings place w) (λ source. IsBehind self.old.rings place w source) }
+        ensures is { IsChain self.new }
+        ensures rings { self.new.rings ≡ self.old.rings }
     {
-        prove!(place < self.rings.loops().len());
-        let point = self.rings.point(place);
-        for instr in body(&self.rings, place) {
-            if let Some(source) = short_source(&self.rings, place, *instr, point) {
-                return Some(source);
-            }
-        }
-        None
+        // What rings keep is known from here on.
+        let _ = self.rings.loops();
+        let point = self.point(place);
+        let sources = &self.turns[place].sources;
+        let number = short_source(&self.rings, sources, point, self.shorts.at(place))?;
+        let source = sources[number].place;
+        self.shorts.set(place, number);
+        Some(source)
     }
 
     // Makes the next turn of a loop, and lets go what no next turn reads any more.
@@ -75,99 +85,172 @@ impl Chain {
         ensures code { self.new.rings.code ≡ self.old.rings.code }
         ensures inputs { self.new.rings.inputs ≡ self.old.rings.inputs }
     {
-        prove!(place < self.rings.loops().len());
+        // What rings keep is known from here on.
+        let _ = self.rings.loops();
+        let had = self.rings.holds(place);
         let snap = next_snap(&mut self.turns[place], &self.rings, place)?;
         self.rings.push(place, snap)?;
-        self.trim(place);
+        self.set_point(place);
+        self.trim_own(place, had);
         self.trim_sources(place);
         Ok(snap)
     }
 
-    // The first tick of a loop's buffer that the next turns of later loops read; none where none of them is at work and reads it.
-    fn wanted(&self, place: usize) -> Option<i64>
+    // The first tick of a loop's buffer that the next turns of later loops read; none where none of them is at work and reads it. An
+    // error is the number of a reader that holds the ring as it is: its next turn reads the first snapshot there still, or there is
+    // none, so that nothing goes. The reader that was found last is asked first, then those after it, and those before it last: so
+    // all of them together are asked about twice for each snapshot that goes.
+    fn wanted(&self, place: usize) -> Result<Option<i64>, usize>
         requires turns { HasTurns self.now }
+        requires points { HasPoints self.now }
         requires there { place < length self.now.rings.rings }
-        ensures wanted { result ≡ wanted_at self.now.rings place }
-        ensures code { IsCode self.now.rings.code }
-        ensures rings { AreRings self.now.rings }
+        requires wanted { KeepsWanted self.now.rings place }
+        ensures wanted { IfOk result (λ first. first ≡ wanted_at self.now.rings place) }
+        ensures held { OnErr result (IsTrimmed self.now.rings place) }
     {
-        prove!(place < self.rings.loops().len());
-        let mut wanted = None;
-        for reader in &self.turns[place].readers {
-            wanted = earlier(wanted, self.next_read(*reader));
+        // What rings keep is known from here on.
+        let _ = self.rings.loops();
+        let readers = &self.turns[place].readers;
+        let first = self.holders.at(place).min(readers.len());
+        let later = self.wanted_among(place, &readers[first..], first, None)?;
+        self.wanted_among(place, &readers[..first], 0, later)
+    }
+
+    // The earlier one of a tick and the first tick that the next turns of these readers read, the first of which has the number.
+    fn wanted_among(
+        &self,
+        place: usize,
+        readers: &[Reader],
+        from: usize,
+        before: Option<i64>,
+    ) -> Result<Option<i64>, usize>
+        requires points { HasPoints self.now }
+        requires wanted { KeepsWanted self.now.rings place }
+        requires there { place < length self.now.rings.rings }
+        requires own { AllByRecursion (IsReaderOf (length self.now.rings.inputs) self.now.rings.code.loops place) readers.now }
+        ensures wanted { IfOk result (λ first. first ≡ earlier before (wanted_by self.now.rings readers.now)) }
+        ensures held { OnErr result (IsTrimmed self.now.rings place) }
+    {
+        // What rings keep is known from here on.
+        let _ = self.rings.loops();
+        let mut wanted = before;
+        for number in 0..readers.len() {
+            let next = self.next_read(readers[number]);
+            if !self.rings.lets_go(place, next) {
+                return Err(from.wrapping_add(number));
+            }
+            wanted = earlier(wanted, next);
         }
-        wanted
+        Ok(wanted)
+    }
+
+    // The grid point of the next turn of a loop that is at work.
+    #[inline]
+    fn point(&self, place: usize) -> i64
+        requires points { HasPoints self.now }
+        requires at_work { (w : Work) × IsOpen self.now.rings place w × (w.used ≡ true) }
+        ensures { (w : Work) → IsOpen self.now.rings place w → result ≡ turn_point w.loop (start_at self.now.rings place) }
+    {
+        self.points[place].unwrap()
+    }
+
+    // Says where the next turn lies of a loop that is used.
+    #[inline]
+    fn set_point(&mut self, place: usize)
+        requires there { place < length self.old.rings.rings }
+        requires kept { place < length self.old.points.items }
+        ensures points { (w : Work) → slice_get (works_in self.old.rings) place ≡ Some w → w.used ≡ true
+            → self.new.points.items ≡ slice_set self.old.points.items place (point_at self.old.rings place w) }
+        ensures rings { self.new.rings ≡ self.old.rings }
+        ensures turns { self.new.turns.items ≡ self.old.turns.items }
+    {
+        let point = next_point(&self.rings, place, true);
+        self.points[place] = point;
     }
 
     // The tick that a reader's next turn reads first; none where it isn't at work.
+    #[inline]
     fn next_read(&self, reader: Reader) -> Option<i64>
-        requires turns { HasTurns self.now }
+        requires points { HasPoints self.now }
         requires reader { IsReader self.now.rings reader }
         ensures { result ≡ read_next self.now.rings reader (slice_get (works_in self.now.rings) reader.place) }
     {
-        prove!(reader.place < self.rings.loops().len());
-        if self.turns[reader.place].used && self.rings.is_open(reader.place) {
-            Some(self.rings.point(reader.place) + reader.first)
-        } else {
-            None
+        // What rings keep is known from here on.
+        let _ = self.rings.loops();
+        match self.points[reader.place] {
+            Some(point) => Some(point + reader.first),
+            None => None,
+        }
+    }
+
+    // Lets go what no next turn reads any more of the buffer of a loop whose turn was made. Where its ring held a snapshot before, that
+    // one is read still, so that nothing goes.
+    #[inline]
+    fn trim_own(&mut self, place: usize, had: bool)
+        requires turns { HasTurns self.old }
+        requires points { HasPoints self.old }
+        requires there { place < length self.old.rings.rings }
+        requires wanted { KeepsWanted self.old.rings place }
+        requires had { had ≡ true → IsTrimmed self.old.rings place }
+        ensures turns { HasTurns self.new }
+        ensures points { HasPoints self.new }
+        ensures alike { StandAlike self.old.rings self.new.rings }
+        ensures trimmed { IsTrimmed self.new.rings place }
+        ensures others { (k : ℕ) → k ≢ place → slice_get self.new.rings.rings k ≡ slice_get self.old.rings.rings k }
+    {
+        if !had {
+            self.trim(place);
         }
     }
 
     // Lets go what no next turn reads any more of a loop's buffer.
     fn trim(&mut self, place: usize)
         requires turns { HasTurns self.old }
+        requires points { HasPoints self.old }
         requires there { place < length self.old.rings.rings }
         requires wanted { KeepsWanted self.old.rings place }
         ensures turns { HasTurns self.new }
+        ensures points { HasPoints self.new }
         ensures rings { AreRings self.new.rings }
         ensures alike { StandAlike self.old.rings self.new.rings }
         ensures trimmed { IsTrimmed self.new.rings place }
         ensures others { (k : ℕ) → k ≢ place → slice_get self.new.rings.rings k ≡ slice_get self.old.rings.rings k }
+        ensures kept { self.new.turns.items ≡ self.old.turns.items }
     {
-        let first = self.wanted(place);
-        self.rings.keep_from(place, first);
+        // What rings keep is known from here on.
+        let _ = self.rings.loops();
+        match self.wanted(place) {
+            Ok(first) => self.rings.keep_from(place, first),
+            Err(number) => self.holders.set(place, number),
+        }
     }
 
     // The same of the buffers that a loop reads.
     fn trim_sources(&mut self, place: usize)
         requires turns { HasTurns self.old }
+        requires points { HasPoints self.old }
         requires there { place < length self.old.rings.rings }
         requires wanted { (k : ℕ) → KeepsWanted self.old.rings k }
         requires unread { (w : Work) → slice_get (works_in self.old.rings) place ≡ Some w
             → (k : ℕ) → reads_buffer (length self.old.rings.inputs + k) (body_reads w.loop.body) ≡ false → IsTrimmed self.old.rings k }
         ensures turns { HasTurns self.new }
+        ensures points { HasPoints self.new }
         ensures rings { AreRings self.new.rings }
         ensures alike { StandAlike self.old.rings self.new.rings }
         ensures trimmed { (k : ℕ) → IsTrimmed self.new.rings k }
     {
-        let count = body(&self.rings, place).len();
+        // What rings keep is known from here on.
+        let _ = self.rings.loops();
+        let count = self.turns[place].sources.len();
         for number in 0..count {
-            let instr = body(&self.rings, place)[number];
-            self.trim_source(place, instr);
-        }
-    }
-
-    // Lets go what no next turn reads any more of the loop's buffer that an instruction reads.
-    fn trim_source(&mut self, place: usize, instr: Instr)
-        requires turns { HasTurns self.old }
-        requires there { place < length self.old.rings.rings }
-        requires near { ReadsNear (length self.old.rings.inputs + place) instr }
-        requires wanted { (k : ℕ) → KeepsWanted self.old.rings k }
-        requires rings { AreRings self.old.rings }
-        ensures turns { HasTurns self.new }
-        ensures rings { AreRings self.new.rings }
-        ensures alike { StandAlike self.old.rings self.new.rings }
-        ensures wanted { (k : ℕ) → KeepsWanted self.new.rings k }
-        ensures trimmed { (k : ℕ) → reads_buffer (length self.old.rings.inputs + k) (reads_of instr) ≡ true → IsTrimmed self.new.rings k }
-        ensures others { (k : ℕ) → IsTrimmed self.old.rings k → IsTrimmed self.new.rings k }
-    {
-        if let Some(source) = source_of(&self.rings, instr) {
+            let source = self.turns[place].sources[number].place;
             self.trim(source);
         }
     }
 }
 
 // The earlier one of two ticks, where both are there.
+#[inline]
 fn earlier(a: Option<i64>, b: Option<i64>) -> Option<i64>
     ensures { result ≡ earlier a b }
 {
@@ -178,45 +261,68 @@ fn earlier(a: Option<i64>, b: Option<i64>) -> Option<i64>
     }
 }
 
-// The body of a loop.
-fn body(rings: &Rings, place: usize) -> &[Instr]
+// The grid point of the next turn of a loop; none where it isn't at work: not used, or at the end of its stretch.
+#[inline]
+pub(crate) fn next_point(rings: &Rings, place: usize, used: bool) -> Option<i64>
     requires { place < length rings.now.rings }
-    ensures body { (w : Work) → slice_get (works_in rings.now) place ≡ Some w → result.now ≡ w.loop.body }
-    ensures near { AllByRecursion (ReadsNear (length rings.now.inputs + place)) result.now }
-    ensures code { IsCode rings.now.code }
-    ensures rings { AreRings rings.now }
+    ensures { (w : Work) → slice_get (works_in rings.now) place ≡ Some w → w.used ≡ used → result ≡ point_at rings.now place w }
 {
-    let each = &rings.loops()[place];
-    &each.body
-}
-
-// The loop whose buffer an instruction reads.
-fn source_of(rings: &Rings, instr: Instr) -> Option<usize>
-    requires { (buffers : ℕ) × ReadsNear buffers instr }
-    ensures { (k : ℕ) → (reads_buffer (length rings.now.inputs + k) (reads_of instr) ≡ true) ↔ (result ≡ Some k) }
-{
-    match read_of(instr) {
-        Some(read) => rings.source(read.buffer),
-        None => None,
-    }
-}
-
-// That loop, where it has made less than the instruction reads at a grid point, and not all.
-fn short_source(rings: &Rings, place: usize, instr: Instr, point: i64) -> Option<usize>
-    requires there { place < length rings.now.rings }
-    requires near { ReadsNear (length rings.now.inputs + place) instr }
-    requires rings { AreRings rings.now }
-    requires point { IsBodyTick point }
-    ensures { MatchOption result (AllByRecursion (IsTold rings.now point) (reads_of instr))
-        (λ source. IsShort rings.now point (reads_of instr) source) }
-{
-    let read = read_of(instr)?;
-    let source = rings.source(read.buffer)?;
-    if rings.is_open(source) && rings.start(source) < point + read.last {
-        Some(source)
+    // What rings keep is known from here on.
+    let _ = rings.loops();
+    if used && rings.is_open(place) {
+        Some(rings.point(place))
     } else {
         None
     }
+}
+
+// The number of a source that has made less than is read at a grid point, and not all. The hint is looked at first.
+fn short_source(rings: &Rings, sources: &[Source], point: i64, hint: usize) -> Option<usize>
+    requires near { AllByRecursion (IsNearSource (length rings.now.rings)) sources.now }
+    requires rings { AreRings rings.now }
+    requires point { IsBodyTick point }
+    ensures { MatchOption result ((k : ℕ) (s : Source) → slice_get sources.now k ≡ Some s → IsReached rings.now s.place (point +ℤ s.last))
+        (λ number. (s : Source) × (slice_get sources.now number ≡ Some s) × IsLate rings.now s.place (point +ℤ s.last)) }
+{
+    if let Some(number) = short_among(rings, sources, point, hint, sources.len()) {
+        return Some(number);
+    }
+    short_among(rings, sources, point, 0, hint)
+}
+
+// The first of these numbers that is one of such a source.
+fn short_among(
+    rings: &Rings,
+    sources: &[Source],
+    point: i64,
+    from: usize,
+    to: usize,
+) -> Option<usize>
+    requires near { AllByRecursion (IsNearSource (length rings.now.rings)) sources.now }
+    requires rings { AreRings rings.now }
+    requires point { IsBodyTick point }
+    ensures { MatchOption result ((k : ℕ) (s : Source) → from ≤ k → k < to → slice_get sources.now k ≡ Some s
+        → IsReached rings.now s.place (point +ℤ s.last))
+        (λ number. (s : Source) × (slice_get sources.now number ≡ Some s) × IsLate rings.now s.place (point +ℤ s.last)) }
+{
+    for number in from..to.min(sources.len()) {
+        if is_short(rings, sources[number], point) {
+            return Some(number);
+        }
+    }
+    None
+}
+
+// Whether a source has made less than is read at a grid point, and not all.
+#[inline]
+fn is_short(rings: &Rings, source: Source, point: i64) -> bool
+    requires near { IsNearSource (length rings.now.rings) source }
+    requires rings { AreRings rings.now }
+    requires point { IsBodyTick point }
+    ensures late { result ≡ true → IsLate rings.now source.place (point +ℤ source.last) }
+    ensures reached { result ≡ false → IsReached rings.now source.place (point +ℤ source.last) }
+{
+    rings.start(source.place) < point + source.last && rings.is_open(source.place)
 }
 
 // The snapshot of a loop's next turn. Its state is then fit for the turn after that.
@@ -228,6 +334,7 @@ fn next_snap(turns: &mut LoopTurns, rings: &Rings, place: usize) -> Result<Snap,
         → OnOk result (IsFit (buffers_of rings.now.code rings.now.inputs) w.loop
         (turn_point w.loop (start_at rings.now place)) turns.new.state) }
     ensures used { turns.new.used ≡ turns.old.used }
+    ensures sources { turns.new.sources.items ≡ turns.old.sources.items }
     ensures readers { turns.new.readers.items ≡ turns.old.readers.items }
     ensures code { IsCode rings.now.code }
     ensures rings { AreRings rings.now }

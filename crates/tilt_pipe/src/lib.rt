@@ -8,12 +8,14 @@
 #![tactic(auto)]
 
 mod chain;
+mod hints;
 mod loop_ring;
 mod pipe;
 mod read;
 mod rings;
 mod run;
 mod snap_ring;
+mod sources;
 mod starting;
 
 pub use pipe::Pipe;

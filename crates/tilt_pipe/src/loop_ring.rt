@@ -42,6 +42,7 @@ impl LoopRing {
     }
 
     // Where the next snapshot starts.
+    #[inline]
     pub(crate) fn start(&self) -> i64
         ensures { result ≡ self.now.start }
     {
@@ -49,6 +50,7 @@ impl LoopRing {
     }
 
     // How many snapshots were let go.
+    #[inline]
     pub(crate) fn forgotten(&self) -> usize
         ensures { result ≡ self.now.forgotten }
     {
@@ -56,6 +58,7 @@ impl LoopRing {
     }
 
     // How many snapshots are kept.
+    #[inline]
     pub(crate) fn len(&self) -> usize
         ensures { result ≡ length self.now.held }
     {
@@ -63,6 +66,7 @@ impl LoopRing {
     }
 
     // The snapshot at a place, counted from 0 at the first that was made.
+    #[inline]
     pub(crate) fn get(&self, place: usize) -> Snap
         requires kept { self.now.forgotten ≤ place }
         requires made { place < self.now.forgotten + length self.now.held }
@@ -72,6 +76,7 @@ impl LoopRing {
     }
 
     // Adds a snapshot that starts where the last one ends. After want of memory all is as before.
+    #[inline]
     pub(crate) fn push(&mut self, snap: Snap) -> Result<(), OutOfMemory>
         requires touches { ForSome (last_end self.old.held) (λ end. end ≡ snap.start) }
         requires low { neg_ℤ WIDE ≤ℤ snap.start }
@@ -86,6 +91,7 @@ impl LoopRing {
     }
 
     // Lets go the snapshots that end below a tick, and all where there is no tick: of what was made, the others are kept.
+    #[inline]
     pub(crate) fn keep_from(&mut self, first: Option<i64>)
         requires { self.old.forgotten + length self.old.held < 2 ^ 64 }
         ensures { (made : List Snapshot) → InOrder (neg_ℤ WIDE) WIDE made
@@ -98,7 +104,8 @@ impl LoopRing {
     }
 
     // Whether there is a first snapshot, and it ends below the tick, or there is no tick.
-    fn lets_go(&self, first: Option<i64>) -> bool
+    #[inline]
+    pub(crate) fn lets_go(&self, first: Option<i64>) -> bool
         ensures some { IsTrue result → 0 < length self.now.held }
         ensures more { (made : List Snapshot) → InOrder (neg_ℤ WIDE) WIDE made → self.now.held ≡ drop self.now.forgotten made
             → IsTrue result ↔ (self.now.forgotten < let_go first made) }
@@ -113,6 +120,7 @@ impl LoopRing {
     }
 
     // Lets the first snapshot go.
+    #[inline]
     fn let_first_go(&mut self)
         requires some { 0 < length self.old.held }
         requires fits { self.old.forgotten + length self.old.held < 2 ^ 64 }

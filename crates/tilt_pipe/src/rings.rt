@@ -1,11 +1,11 @@
 // The buffers that the loops of a pipe read: the rows of the inputs, and a ring for each loop.
 ghost use Rattle.std.specs.Prelude.{◌≡◌, ◌<◌, ◌≤◌, ◌+◌, ℕ, ℤ, pos, neg_ℤ, ◌<ℤ◌, List, [], ◌∷◌, ◌++◌, get_or};
-ghost use Rattle.std.specs.Prelude.{length, map, slice_get, Some, IfOk, OnOk, OnErr, IsTrue, ◌↔◌, MatchOption};
+ghost use Rattle.std.specs.Prelude.{length, map, slice_get, Some, true, IfOk, OnOk, OnErr, IsTrue, ◌↔◌, MatchOption};
 ghost use Rattle.tilt_code.specs.References.{IsCode};
 ghost use Rattle.tilt_base.specs.declared.limits.TheConstants.{WIDE};
 ghost use Rattle.tilt_pipe.specs.Made.{Work};
 ghost use Rattle.tilt_pipe.specs.Positions.{AreRings, IsOpen, RingParts, forgotten_of, lists_of};
-ghost use Rattle.tilt_pipe.specs.Positions.{made_at, open_lists, start_at, starts_of, with_ring};
+ghost use Rattle.tilt_pipe.specs.Positions.{made_at, made_by, open_lists, start_at, starts_of, with_ring};
 ghost use Rattle.tilt_pipe.specs.Positions.{works_in};
 ghost use Rattle.tilt_pipe.specs.Reads.{turn_point};
 ghost use Rattle.tilt_pipe.specs.Rings.{held, kept_from, let_go};
@@ -44,6 +44,7 @@ impl Buffers for Rings {
 
     ghost forgotten = { forgotten_of };
 
+    #[inline]
     fn made(&self, buffer: usize) -> usize {
         match self.inputs.get(buffer) {
             Some(rows) => rows.made(),
@@ -51,6 +52,7 @@ impl Buffers for Rings {
         }
     }
 
+    #[inline]
     fn first_kept(&self, buffer: usize) -> usize {
         if buffer < self.inputs.len() {
             return 0;
@@ -61,6 +63,7 @@ impl Buffers for Rings {
         }
     }
 
+    #[inline]
     fn get(&self, buffer: usize, place: usize) -> Snap {
         match self.inputs.get(buffer) {
             Some(rows) => Buffer::get(rows, place),
@@ -89,6 +92,7 @@ impl Rings {
     }
 
     // The loops of the code.
+    #[inline]
     pub(crate) fn loops(&self) -> &[Loop]
         ensures loops { result.now ≡ self.now.code.loops }
         ensures code { IsCode self.now.code }
@@ -105,6 +109,7 @@ impl Rings {
     }
 
     // Where a loop stands.
+    #[inline]
     pub(crate) fn start(&self, place: usize) -> i64
         requires { place < length self.now.rings }
         ensures { result ≡ start_at self.now place }
@@ -113,6 +118,7 @@ impl Rings {
     }
 
     // Whether a loop stands before the end of its stretch.
+    #[inline]
     pub(crate) fn is_open(&self, place: usize) -> bool
         requires { place < length self.now.rings }
         ensures { (w : Work) → slice_get (works_in self.now) place ≡ Some w → IsTrue result ↔ (start_at self.now place <ℤ w.loop.hi) }
@@ -122,6 +128,7 @@ impl Rings {
     }
 
     // The grid point of a loop's next turn.
+    #[inline]
     pub(crate) fn point(&self, place: usize) -> i64
         requires { (w : Work) × IsOpen self.now place w }
         ensures { (w : Work) → IsOpen self.now place w → result ≡ turn_point w.loop (start_at self.now place) }
@@ -131,6 +138,7 @@ impl Rings {
     }
 
     // The loop that fills a buffer, if it is none of an input.
+    #[inline]
     pub(crate) fn source(&self, buffer: u32) -> Option<usize>
         ensures { MatchOption result (buffer < length self.now.inputs) (λ source. buffer ≡ length self.now.inputs + source) }
     {
@@ -144,9 +152,31 @@ impl Rings {
             (record { held = r.held ++ snap ∷ []; forgotten = r.forgotten; start = snap.end })) }
         ensures err { OnErr result (self.new ≡ self.old) }
     {
-        prove!(place < self.code.loops().len());
+        // What a code keeps is known from here on.
+        let _ = self.code.loops();
         self.rings[place].push(snap)?;
         Ok(())
+    }
+
+    // Whether a loop's ring holds a snapshot.
+    #[inline]
+    pub(crate) fn holds(&self, place: usize) -> bool
+        requires { place < length self.now.rings }
+        ensures { (r : RingParts) → slice_get self.now.rings place ≡ Some r → result ≡ true → 0 < length r.held }
+    {
+        self.rings[place].len() > 0
+    }
+
+    // Whether a loop's ring holds a snapshot that ends below a tick, or any where there is no tick.
+    #[inline]
+    pub(crate) fn lets_go(&self, place: usize, first: Option<i64>) -> bool
+        requires { place < length self.now.rings }
+        ensures { (w : Work) (r : RingParts) → slice_get (works_in self.now) place ≡ Some w → slice_get self.now.rings place ≡ Some r
+            → IsTrue result ↔ (r.forgotten < let_go first (made_by r.start w.whole)) }
+    {
+        // What a code keeps is known from here on.
+        let _ = self.code.loops();
+        self.rings[place].lets_go(first)
     }
 
     // Lets go what a loop has made and ends below a tick, and all of it where there is no tick. It may have let go less before.
@@ -160,7 +190,8 @@ impl Rings {
           start = start_at self.old place;
         }) }
     {
-        prove!(place < self.code.loops().len());
+        // What a code keeps is known from here on.
+        let _ = self.code.loops();
         self.rings[place].keep_from(first);
     }
 
@@ -176,6 +207,7 @@ impl Rings {
     }
 
     // How many snapshots a turn reads of a loop: those that are made, and one more where the loop isn't at the end of its stretch.
+    #[inline]
     fn ring_made(&self, place: usize) -> usize
         ensures count { result ≡ length (get_or (open_lists (works_in self.now) (starts_of self.now.rings)) place []) }
         ensures in_order { InOrder (neg_ℤ WIDE) WIDE (get_or (open_lists (works_in self.now) (starts_of self.now.rings)) place []) }
@@ -189,6 +221,7 @@ impl Rings {
     }
 
     // The one at a place of these.
+    #[inline]
     fn ring_get(&self, place: usize, number: usize) -> Snap
         requires made { number < length (get_or (open_lists (works_in self.now) (starts_of self.now.rings)) place []) }
         requires kept { get_or (map (λ r. r.forgotten) self.now.rings) place 0 ≤ number }

@@ -71,6 +71,7 @@ impl SnapRing {
     }
 
     /// How many snapshots it holds.
+    #[inline]
     pub fn len(&self) -> usize
         ensures { result ≡ length self.now }
     {
@@ -78,6 +79,7 @@ impl SnapRing {
     }
 
     /// The snapshot at a place, counted from 0.
+    #[inline]
     pub fn get(&self, place: usize) -> Snap
         requires { place < length self.now }
         ensures { slice_get self.now place ≡ Some result }

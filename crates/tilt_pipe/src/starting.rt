@@ -1,19 +1,19 @@
 // The loops of a pipe before their first turns.
-ghost use Rattle.std.specs.Prelude.{◌≡◌, ◌<◌, ◌≤◌, ◌+◌, ◌||◌, ◌==◌, ℕ, suc, List, [], get_or, length, map, IfOk, OnOk};
+ghost use Rattle.std.specs.Prelude.{◌≡◌, ◌<◌, ◌||◌, ◌==◌, ℕ, suc, [], get_or, length, map, slice_get, Some, IfOk, OnOk};
 ghost use Rattle.std.specs.List.{AllByRecursion};
 ghost use Rattle.tilt_code.specs.References.{IsCode};
-ghost use Rattle.tilt_pipe.specs.Chain.{IsChain};
-ghost use Rattle.tilt_pipe.specs.Gathered.{AreFresh, AreUsed, added, gathered, has_used, readers_behind, readers_of, states_of, used_of};
+ghost use Rattle.tilt_pipe.specs.Chain.{ArePoints, AreTurns, IsChain};
+ghost use Rattle.tilt_pipe.specs.Gathered.{AreRead, HaveBegun, has_used, readers_of, used_of, AreKept};
 ghost use Rattle.tilt_pipe.specs.Made.{Work};
-ghost use Rattle.tilt_pipe.specs.Positions.{starts_of};
-ghost use Rattle.tilt_pipe.specs.Reads.{body_reads, reads_of};
-ghost use Rattle.tilt_pipe.specs.Trimmed.{ReadsNear};
+ghost use Rattle.tilt_pipe.specs.Positions.{AreRings, RingsParts, starts_of, works_in};
+ghost use Rattle.tilt_pipe.specs.declared.chain.LoopTurns.{LoopTurns};
 
-use crate::chain::{Chain, LoopTurns, Reader};
-use crate::read::read_of;
+use crate::chain::{Chain, LoopTurns, Reader, next_point};
+use crate::hints::Hints;
 use crate::rings::Rings;
+use crate::sources::{Source, sources_of};
 use std::alloc::{AllocError as OutOfMemory, Global};
-use tilt_code::{Code, Instr, Loop};
+use tilt_code::Code;
 use tilt_stream::Rows;
 use tilt_turn::LoopState;
 
@@ -28,100 +28,111 @@ impl Chain {
         ensures starts { IfOk result (λ c. starts_of c.rings.rings ≡ map (λ l. l.lo) code.loops) }
     {
         let rings = Rings::new(alloc, code, inputs)?;
-        let mut turns = first_turns(alloc, rings.loops())?;
-        gather(&mut turns, &rings)?;
+        let count = rings.loops().len();
+        let mut shorts = Hints::new(alloc, count)?;
+        let holders = Hints::new(alloc, count)?;
+        let mut turns = first_turns(alloc, &rings, &mut shorts)?;
         mark_used(&mut turns);
-        Ok(Chain { rings, turns })
+        let points = first_points(alloc, &rings, &turns)?;
+        Ok(Chain {
+            rings,
+            turns,
+            points,
+            shorts,
+            holders,
+        })
     }
 }
 
-// The first turns of loops, as if no loop was used or read.
-fn first_turns(alloc: Global, loops: &[Loop]) -> Result<Vec<LoopTurns>, OutOfMemory>
-    ensures states { IfOk result (λ turns. AreFresh loops.now (states_of turns.items)) }
-    ensures readers { IfOk result (λ turns. readers_of turns.items ≡ map (λ l. []) loops.now) }
+// What is kept for the turns of loops before the first ones, as if no loop was used. The numbers are for `sources_of`.
+fn first_turns(
+    alloc: Global,
+    rings: &Rings,
+    numbers: &mut Hints,
+) -> Result<Vec<LoopTurns>, OutOfMemory>
+    ensures begun { IfOk result (λ turns. HaveBegun rings.now (length rings.now.code.loops) turns.items) }
+    ensures code { IsCode rings.now.code }
+    ensures rings { AreRings rings.now }
 {
     let mut turns = Vec::new(alloc);
-    for each in loops {
-        turns.push(LoopTurns {
-            state: LoopState::new(alloc, each)?,
-            used: false,
-            readers: Vec::new(alloc),
-        })?;
+    for place in 0..rings.loops().len() {
+        add_turns(alloc, rings, place, &mut turns, numbers)?;
     }
     Ok(turns)
 }
 
-// Adds each loop to the readers of the loops whose buffers its body reads.
-fn gather(turns: &mut [LoopTurns], rings: &Rings) -> Result<(), OutOfMemory>
-    requires { length turns.old ≡ length rings.now.code.loops }
-    ensures readers { OnOk result (readers_of turns.new ≡
-        gathered (length rings.now.inputs) 0 rings.now.code.loops (readers_of turns.old)) }
-    ensures states { OnOk result (states_of turns.new ≡ states_of turns.old) }
+// Adds those of one loop more.
+fn add_turns(
+    alloc: Global,
+    rings: &Rings,
+    place: usize,
+    turns: &mut Vec<LoopTurns>,
+    numbers: &mut Hints,
+) -> Result<(), OutOfMemory>
+    requires there { place < length rings.now.code.loops }
+    requires begun { HaveBegun rings.now place turns.old.items }
+    ensures { OnOk result (HaveBegun rings.now (suc place) turns.new.items) }
 {
-    let loops = rings.loops();
-    for place in 0..loops.len() {
-        let each = &loops[place];
-        gather_body(turns, rings, place, &each.body)?;
+    let each = &rings.loops()[place];
+    let sources = sources_of(alloc, rings, &each.body, numbers)?;
+    add_readers(turns, place, &sources)?;
+    turns.push(LoopTurns {
+        state: LoopState::new(alloc, each)?,
+        used: false,
+        sources,
+        readers: Vec::new(alloc),
+    })?;
+    Ok(())
+}
+
+// Adds a loop to the readers of those that it reads.
+fn add_readers(turns: &mut [LoopTurns], place: usize, sources: &[Source]) -> Result<(), OutOfMemory>
+    requires { AllByRecursion (λ s. s.place < length turns.old) sources.now }
+    ensures { OnOk result (AreRead place sources.now turns.old turns.new) }
+{
+    for source in sources {
+        turns[source.place].readers.push(reader_of(place, *source))?;
     }
     Ok(())
 }
 
-// The same of the loop at a place, whose body this is.
-fn gather_body(
-    turns: &mut [LoopTurns],
-    rings: &Rings,
-    place: usize,
-    body: &[Instr],
-) -> Result<(), OutOfMemory>
-    requires there { place ≤ length turns.old }
-    requires near { AllByRecursion (ReadsNear (length rings.now.inputs + place)) body.now }
-    ensures readers { OnOk result (readers_of turns.new ≡
-        added (length rings.now.inputs) place (body_reads body.now) (readers_of turns.old)) }
-    ensures states { OnOk result (states_of turns.new ≡ states_of turns.old) }
+// The reader that a source of the loop at a place makes.
+fn reader_of(place: usize, source: Source) -> Reader
+    ensures { result ≡ record { place = place; first = source.first } }
 {
-    for instr in body {
-        gather_instr(turns, rings, place, *instr)?;
+    Reader {
+        place,
+        first: source.first,
     }
-    Ok(())
-}
-
-// The same of one instruction of it.
-fn gather_instr(
-    turns: &mut [LoopTurns],
-    rings: &Rings,
-    place: usize,
-    instr: Instr,
-) -> Result<(), OutOfMemory>
-    requires there { place ≤ length turns.old }
-    requires near { ReadsNear (length rings.now.inputs + place) instr }
-    ensures readers { OnOk result (readers_of turns.new ≡
-        added (length rings.now.inputs) place (reads_of instr) (readers_of turns.old)) }
-    ensures states { OnOk result (states_of turns.new ≡ states_of turns.old) }
-{
-    if let Some(read) = read_of(instr)
-        && let Some(source) = rings.source(read.buffer)
-    {
-        let reader = Reader {
-            place,
-            first: read.first,
-        };
-        turns[source].readers.push(reader)?;
-    }
-    Ok(())
 }
 
 // Says of each loop whether it is used, from the last one down.
 fn mark_used(turns: &mut [LoopTurns])
-    requires { (buffer : ℕ) × (works : List Work) × (readers_of turns.old ≡ readers_behind buffer 0 works) }
-    ensures used { (buffer : ℕ) (works : List Work) → AreUsed buffer works → readers_of turns.old ≡ readers_behind buffer 0 works
-        → used_of turns.new ≡ map (λ w. w.used) works }
-    ensures readers { readers_of turns.new ≡ readers_of turns.old }
-    ensures states { states_of turns.new ≡ states_of turns.old }
+    requires { (p : RingsParts) × IsCode p.code × AreRings p × HaveBegun p (length p.code.loops) turns.old }
+    ensures used { (p : RingsParts) → IsCode p.code → AreRings p → HaveBegun p (length p.code.loops) turns.old
+        → (k : ℕ) (w : Work) (t : LoopTurns) → slice_get (works_in p) k ≡ Some w → slice_get turns.new k ≡ Some t → t.used ≡ w.used }
+    ensures kept { AreKept turns.old turns.new }
 {
     for place in (0..turns.len()).rev() {
         let used = is_used(turns, place);
         turns[place].used = used;
     }
+}
+
+// The grid points of the first turns of the loops that are used, and stand before the ends of their stretches.
+fn first_points(
+    alloc: Global,
+    rings: &Rings,
+    turns: &[LoopTurns],
+) -> Result<Vec<Option<i64>>, OutOfMemory>
+    requires { AreTurns rings.now.code rings.now.inputs (starts_of rings.now.rings) turns.now }
+    ensures { IfOk result (λ points. ArePoints rings.now points.items) }
+{
+    let mut points = Vec::new(alloc);
+    for place in 0..turns.len() {
+        points.push(next_point(rings, place, turns[place].used))?;
+    }
+    Ok(points)
 }
 
 // Whether a loop is the last one, or one of its readers is used.

@@ -1,6 +1,7 @@
 use Rattle.std.proofs.Common.{◌≡◌, ◌∙◌, suc, sym, ap, arith, take}
 use Rattle.tilt_code.specs.Run.{run_of}
-use Rattle.tilt_pipe.proofs.Collected.{given-out, next-touches, next-low, next-high, with-next, placed, nothing-left}
+use Rattle.std.proofs.lemmas.Option.{slice_get_within}
+use Rattle.tilt_pipe.proofs.Collected.{given-out, next-touches, next-low, next-high, with-next, nothing-left}
 use Rattle.tilt_pipe.specs.Value.{PipeParts}
 use Rattle.tilt_pipe.proofs.run.run_pipe.Goals as goal
 
@@ -26,7 +27,7 @@ pub loop-list-smaller : goal.loop-list-smaller
 loop-list-smaller c =
     let i = c.loop-list.invariant in
     let next = given-out c.loop-list.pipe c.args.code c.args.inputs.items c.in_ok-snap.field-0 i.code i.inputs (c.in_ok-snap.ensures.given i.granted) in
-    let within = placed (run_of c.args.code c.args.inputs.items) c.loop-list.pipe.given c.in-Some.snap (next ∙ c.in-Some.is) in
+    let within = slice_get_within (run_of c.args.code c.args.inputs.items) c.loop-list.pipe.given c.in-Some.snap (next ∙ c.in-Some.is) in
     let after = rw c.in-Some.is at (c.in_ok-snap.ensures.after i.granted) in
     let one_more : c.next.new.self.given ≡ suc c.loop-list.pipe.given = ap (λ (p : PipeParts). p.given) after in
     omega arith

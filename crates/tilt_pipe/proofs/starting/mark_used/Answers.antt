@@ -1,28 +1,23 @@
-use Rattle.std.proofs.Common.{refl, arith, ◌≡◌, ◌<◌, ◌-◌, ◌∙◌, ℕ, suc, List, drop, get_or, length, map, subst}
-use Rattle.tilt_pipe.proofs.Starts.{marks-more, marks-none, readers-kept, readers-there, states-kept}
-use Rattle.tilt_pipe.specs.Gathered.{used_of}
-use Rattle.tilt_pipe.specs.Made.{Work}
+use Rattle.std.proofs.Common.{refl, arith, ◌≡◌, ◌<◌, ◌-◌, suc, get_or, length, subst}
+use Rattle.std.proofs.lemmas.Option.{slice_get-get_or}
+use Rattle.tilt_pipe.proofs.Starts.{AreMarked, begun-kept, kept-same, kept-set, marked-none, marks-more, readers-there}
 use Rattle.tilt_pipe.specs.declared.chain.LoopTurns.{LoopTurns}
 use Rattle.tilt_pipe.proofs.starting.mark_used.Goals as goal
 
 pub loop-place-init : goal.loop-place-init
 loop-place-init c = record {
-  used = λ buffer works used readers. marks-none c.args.turns.now buffer works readers;
-  readers = refl;
-  states = refl;
+  used = λ p code are begun. marked-none p c.args.turns.now;
+  kept = kept-same c.args.turns.now;
 }
 
 pub is_used-used-requires-clause-readers : goal.is_used-used-requires-clause-readers
 is_used-used-requires-clause-readers c =
-    readers-there c.loop-place.turns c.requires.0 c.requires.1 (c.loop-place.place - 1) (c.loop-place.invariant.readers ∙ c.requires.2)
-
--- the place below a place
-place_below : (turns : List LoopTurns) (works : List Work) (place : ℕ) → 0 < place
-    → drop place (used_of turns) ≡ map (λ (w : Work). w.used) (drop place works)
-    → drop (suc (place - 1)) (used_of turns) ≡ map (λ (w : Work). w.used) (drop (suc (place - 1)) works)
-place_below turns works place some right =
-    let same : place ≡ suc (place - 1) = omega arith in
-    subst (λ (n : ℕ). drop n (used_of turns) ≡ map (λ (w : Work). w.used) (drop n works)) same right
+    let p = c.requires.0 in
+    let begun = begun-kept p (length p.code.loops) c.args.turns.now c.loop-place.turns c.requires.3 c.loop-place.invariant.kept in
+    let some = c.loop-place-test.true in
+    let long = c.loop-place.auto.turns in
+    let within = c.loop-place.auto.place in
+    readers-there p c.loop-place.turns (c.loop-place.place - 1) begun (omega arith)
 
 pub loop-place-preserved : goal.loop-place-preserved
 loop-place-preserved c =
@@ -30,21 +25,15 @@ loop-place-preserved c =
     let k = c.loop-place.place - 1 in
     let d = c.index-turns-place.result in
     let own = get_or turns k d in
-    let new : LoopTurns = record { state = own.state; used = c.is_used-used.result; readers = own.readers } in
+    let new : LoopTurns = record { state = own.state; used = c.is_used-used.result; sources = own.sources; readers = own.readers } in
     let some = c.loop-place-test.true in
     let long = c.loop-place.auto.turns in
     let within = c.loop-place.auto.place in
     let there : k < length turns = omega arith in
+    let next : c.loop-place.place ≡ suc k = omega arith in
     record {
-      used = λ buffer works used readers.
-          marks-more turns k new buffer works
-          (record {
-            there = there;
-            is = c.is_used-used.ensures;
-            used = used;
-            readers = c.loop-place.invariant.readers ∙ readers;
-            right = place_below turns works c.loop-place.place some (c.loop-place.invariant.used buffer works used readers);
-          });
-      readers = readers-kept turns k d new there refl ∙ c.loop-place.invariant.readers;
-      states = states-kept turns k d new there refl ∙ c.loop-place.invariant.states;
+      used = λ p code are begun.
+          marks-more p turns k new code are (begun-kept p (length p.code.loops) c.args.turns.now turns begun c.loop-place.invariant.kept) there
+          (subst (λ n. AreMarked p n turns) next (c.loop-place.invariant.used p code are begun)) c.is_used-used.ensures;
+      kept = kept-set c.args.turns.now turns k own new c.loop-place.invariant.kept (slice_get-get_or turns k d there) refl refl refl;
     }

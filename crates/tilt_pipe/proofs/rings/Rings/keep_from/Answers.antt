@@ -1,14 +1,7 @@
-use Rattle.std.proofs.Common.{◌≡◌, ◌<◌, length, slice_get, Some, refl, ap, arith, rules}
-use Rattle.tilt_pipe.proofs.RingsKept.{forgot-at, kept-count, kept-few, kept-made, read-at, ring-of, trim-at, loops-there}
+use Rattle.std.proofs.Common.{◌≡◌, ◌<◌, length, slice_get, Some, refl, arith, rules}
+use Rattle.tilt_pipe.proofs.RingsKept.{forgot-at, kept-count, kept-few, kept-made, read-at, ring-of, trim-at}
 use Rattle.tilt_pipe.specs.Positions.{RingsParts, made_by, works_in}
 use Rattle.tilt_pipe.proofs.rings.Rings.keep_from.Goals as goal
-
-pub prove-unreachable-requires : goal.prove-unreachable-requires
-prove-unreachable-requires c =
-    let here = rw (← c.self.view_is) at c.requires in
-    let it = ring-of _ c.args.place here.0 c.loops.ensures.code c.self.invariant here.2 in
-    let count = loops-there _ c.self.invariant in
-    omega (arith, it.within, count, ap length c.loops.ensures.loops, c.if-prove.true)
 
 pub index_mut-requires : goal.index_mut-requires
 index_mut-requires c =

@@ -1,13 +1,7 @@
-use Rattle.std.proofs.Common.{◌≡◌, ◌<◌, length, refl, ap, sym, ◌∙◌, arith, rules}
+use Rattle.std.proofs.Common.{◌≡◌, ◌<◌, length, refl, sym, ◌∙◌, rules}
 use Rattle.std.proofs.lemmas.Option.{same_Some}
 use Rattle.tilt_pipe.proofs.RingsKept.{placed, push-at, read-at}
 use Rattle.tilt_pipe.proofs.rings.Rings.push.Goals as goal
-
-pub prove-unreachable-requires : goal.prove-unreachable-requires
-prove-unreachable-requires c =
-    let next = rw (← c.self.view_is) at c.requires in
-    let it = placed _ c.args.place next.0 c.loops.ensures.code c.self.invariant next.1 in
-    omega (arith, it.within_loops, ap length c.loops.ensures.loops, c.if-prove.true)
 
 pub index_mut-requires : goal.index_mut-requires
 index_mut-requires c =
