@@ -1,7 +1,8 @@
 -- A run over two shelves that hold the same: it saves nothing, and its text has one length.
 use mathlib.Core.Path.{fun_ext}
-use Rattle.std.proofs.Common.{◌≡◌, ◌≢◌, ◌∙◌, inl, inr, List, [], ℕ, ℤ, Bool, false, length, Option, None, Some, unwrap_or, refl, sym, ap, subst}
+use Rattle.std.proofs.Common.{◌≡◌, ◌∙◌, inl, inr, List, [], ℕ, ℤ, Bool, length, Option, None, Some, unwrap_or, refl, sym, ap, subst}
 use Rattle.std.proofs.lemmas.Bool.{cases_Bool}
+use Rattle.std.proofs.lemmas.Bool.Decides.{not_from_Decides}
 use Rattle.std.proofs.lemmas.Slice.Eq.{bytes_eq-Decides}
 use Rattle.std.specs.Str.{bytes_eq}
 use Rattle.tilt_app.specs.Outcome.{IsOutcome, IsRowOutcome, no_command, does}
@@ -15,21 +16,19 @@ use Rattle.tilt_watch.specs.Watch.{Watch, watches}
 use Rattle.tilt_words.specs.Binding.{Binding}
 use Rattle.tilt_words.specs.Command.{CommandValue, IsCommand, run}
 
-differs : (name other : List ℕ) → bytes_eq name other ≡ false → name ≢ other
-differs name other not_so same = let yes = (bytes_eq-Decides name other).1 same in cc
-
 module _ (a b c d : List HeldFile) (q s x y : List ℕ) (l m n o : ℕ) (first : HoldsInstead [] a q x l) (second : HoldsInstead a b s y m)
     (first' : HoldsInstead [] c q x n) (second' : HoldsInstead c d s y o) where
   first_held : (name : List ℕ) → bytes_held a name ≡ bytes_held c name
   first_held name = elim (cases_Bool (bytes_eq name q)) [
     | inl is ↦ subst (λ (k : List ℕ). bytes_held a k ≡ bytes_held c k) (sym ((bytes_eq-Decides name q).0 is)) (first.held ∙ sym first'.held)
-    | inr other ↦ first.others name (differs name q other) ∙ sym (first'.others name (differs name q other))
+    | inr other ↦ first.others name (not_from_Decides (bytes_eq name q) (bytes_eq-Decides name q) other) ∙ sym (first'.others name (not_from_Decides (bytes_eq name q) (bytes_eq-Decides name q) other))
   ]
 
   both_held : (name : List ℕ) → bytes_held b name ≡ bytes_held d name
   both_held name = elim (cases_Bool (bytes_eq name s)) [
     | inl is ↦ subst (λ (k : List ℕ). bytes_held b k ≡ bytes_held d k) (sym ((bytes_eq-Decides name s).0 is)) (second.held ∙ sym second'.held)
-    | inr other ↦ second.others name (differs name s other) ∙ first_held name ∙ sym (second'.others name (differs name s other))
+    | inr other ↦ second.others name (not_from_Decides (bytes_eq name s) (bytes_eq-Decides name s) other) ∙ first_held name ∙ sym (second'.others name (not_from_Decides (bytes_eq name s)
+        (bytes_eq-Decides name s) other))
   ]
 
   -- two files that were held one after the other

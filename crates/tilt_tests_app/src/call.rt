@@ -63,39 +63,60 @@ pub fn end_of(
     files: &[File<'_>],
     failing: Failing,
 ) -> Result<End, Fail> {
-    let mut watchers = Vec::new(alloc);
-    end_beside(alloc, words, files, failing, &mut watchers)
+    let mut shelf = shelf_of(alloc, files, failing.0)?;
+    end_over(alloc, words, &mut shelf, failing)
 }
 
-// What the call leaves beside watchers.
+// What the call leaves over a shelf where nobody watches.
+pub fn end_over(
+    alloc: Global,
+    words: &str,
+    shelf: &mut MemShelf,
+    failing: Failing,
+) -> Result<End, Fail> {
+    let mut watchers = Vec::new(alloc);
+    end_beside(alloc, words, shelf, failing, &mut watchers)
+}
+
+// What the call leaves over a shelf beside watchers.
 pub fn end_beside(
     alloc: Global,
     words: &str,
-    files: &[File<'_>],
+    shelf: &mut MemShelf,
     failing: Failing,
     watchers: &mut Vec<Box<dyn Watcher>>,
 ) -> Result<End, Fail> {
-    let (read, put, line) = failing;
     let words = words_of(alloc, words)?;
-    let mut shelf = shelf_of(alloc, files, read)?;
-    let mut out = sink_of(alloc, put)?;
-    let mut err = sink_of(alloc, line)?;
-    let status = tilt(alloc, &words, &mut shelf, &mut out, &mut err, watchers);
+    let mut out = sink_of(alloc, failing.1)?;
+    let mut err = sink_of(alloc, failing.2)?;
+    let status = tilt(alloc, &words, shelf, &mut out, &mut err, watchers);
     Ok(End { status, out, err })
 }
 
-// Ends the test unless the call ends so.
+// Ends the test unless the call ends so: its status, its output and its line.
 pub fn assert_end(rt: &impl Abort, end: &End, status: u8, out: &[u8], err: &[u8], case: usize) {
-    assert_eq!(rt; end.status, status, "status of case {case}");
-    assert_eq!(rt; end.out.written(), out, "output of case {case}");
-    assert_eq!(rt; end.err.written(), err, "line of case {case}");
+    let found = (end.status, end.out.written(), end.err.written());
+    assert_eq!(rt; found, (status, out, err), "case {case}");
+}
+
+// Ends the test unless the case ends as it is to.
+pub fn assert_case(
+    rt: &impl Abort,
+    alloc: Global,
+    case: &Case<'_>,
+    failing: Failing,
+    number: usize,
+) -> Result<(), Fail> {
+    let (words, files, status, out, err) = *case;
+    let end = end_of(alloc, words, files, failing)?;
+    assert_end(rt, &end, status, out, err, number);
+    Ok(())
 }
 
 // Ends the test unless each case ends as it is to.
 pub fn assert_cases(rt: &impl Abort, alloc: Global, cases: &[Case<'_>]) -> Result<(), Fail> {
-    for (i, (words, files, status, out, err)) in cases.iter().enumerate() {
-        let end = end_of(alloc, words, files, NONE)?;
-        assert_end(rt, &end, *status, out, err, i);
+    for (i, case) in cases.iter().enumerate() {
+        assert_case(rt, alloc, case, NONE, i)?;
     }
     Ok(())
 }
@@ -107,9 +128,25 @@ pub type Text<'a> = (&'a [u8], &'a [u8], &'a [u8], &'a [u8]);
 pub fn assert_texts(rt: &impl Abort, alloc: Global, cases: &[Text<'_>]) -> Result<(), Fail> {
     for (i, (query, series, out, err)) in cases.iter().enumerate() {
         let files = [("q", *query), ("s", *series)];
-        let end = end_of(alloc, WORDS, &files, NONE)?;
         let status = if err.is_empty() { 0 } else { 1 };
-        assert_end(rt, &end, status, out, err, i);
+        assert_case(rt, alloc, &(WORDS, &files, status, out, err), NONE, i)?;
     }
+    Ok(())
+}
+
+// What a call that may save ends in: its status, its output, its line, and what `c` holds then.
+pub type Saved<'a> = (u8, &'a [u8], &'a [u8], &'a [u8]);
+
+// Ends the test unless the call over the shelf ends so.
+pub fn assert_saved(
+    rt: &impl Abort,
+    alloc: Global,
+    words: &str,
+    shelf: &mut MemShelf,
+    saved: &Saved<'_>,
+) -> Result<(), Fail> {
+    let end = end_over(alloc, words, shelf, NONE)?;
+    assert_end(rt, &end, saved.0, saved.1, saved.2, 0);
+    assert_eq!(rt; shelf.bytes("c"), Some(saved.3), "at {words}");
     Ok(())
 }

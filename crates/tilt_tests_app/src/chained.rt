@@ -1,9 +1,8 @@
 // Sessions one after another over one shelf: each goes on from the checkpoint that the one before saved.
-use crate::call::{shelf_of, sink_of, words_of};
+use crate::call::{NONE, assert_saved, end_over, shelf_of};
 use std::alloc::Global;
 use std::process::Abort;
 use std::test::Fail;
-use tilt_app::tilt;
 use tilt_outside::MemShelf;
 
 const COUNT: &[u8] = b"input x; emit count(x[t-3:t]) over (0, 10];";
@@ -172,18 +171,9 @@ fn assert_session(
     shelf: &mut MemShelf,
     session: &Session<'_>,
 ) -> Result<(), Fail> {
-    let (words, series, status, text, line, saved) = session;
+    let (words, series, status, text, line, held) = *session;
     shelf.hold("s", series, 0)?;
-    let words = words_of(alloc, words)?;
-    let mut out = sink_of(alloc, 0)?;
-    let mut err = sink_of(alloc, 0)?;
-    let mut watchers = Vec::new(alloc);
-    let end = tilt(alloc, &words, shelf, &mut out, &mut err, &mut watchers);
-    assert_eq!(rt; end, *status);
-    assert_eq!(rt; out.written(), *text);
-    assert_eq!(rt; err.written(), *line);
-    assert_eq!(rt; shelf.bytes("c"), Some(*saved));
-    Ok(())
+    assert_saved(rt, alloc, words, shelf, &(status, text, line, held))
 }
 
 // Ends the test unless the sessions go so, one after another.
@@ -236,23 +226,25 @@ fn series_between(
     Ok(series)
 }
 
-// What a session prints, of which the words are these and the series of x that.
-fn text_of_session(
+// A session: its words, and from which tick on and below which its rows start.
+type Part<'a> = (&'a str, i64, i64);
+
+// Adds what a session prints to the text.
+fn add_session(
     rt: &impl Abort,
     alloc: Global,
     shelf: &mut MemShelf,
-    words: &str,
-    series: &str,
-) -> Result<Vec<u8>, Fail> {
+    rows: &[(i64, &str)],
+    part: &Part<'_>,
+    text: &mut Vec<u8>,
+) -> Result<(), Fail> {
+    let (words, from, upto) = *part;
+    let series = series_between(alloc, rows, from, upto)?;
     shelf.hold("s", series.as_bytes(), 0)?;
-    let words = words_of(alloc, words)?;
-    let mut out = sink_of(alloc, 0)?;
-    let mut err = sink_of(alloc, 0)?;
-    let mut watchers = Vec::new(alloc);
-    let end = tilt(alloc, &words, shelf, &mut out, &mut err, &mut watchers);
-    assert_eq!(rt; end, 0);
-    let text = out.written().to_vec(alloc)?;
-    Ok(text)
+    let end = end_over(alloc, words, shelf, NONE)?;
+    assert_eq!(rt; end.status, 0);
+    text.extend_from_slice(end.out.written())?;
+    Ok(())
 }
 
 // What three sessions print, joined, which end at two cuts and at the end.
@@ -263,18 +255,17 @@ fn text_of_sessions(
     first: i64,
     second: i64,
 ) -> Result<Vec<u8>, Fail> {
-    let (query, rows, _) = run;
+    let (query, rows, _) = *run;
     let mut shelf = shelf_with(alloc, query)?;
-    let words = format!(in alloc; "start\nq\nx=s\n--upto\n{first}\n--save\nc")?;
-    let series = series_between(alloc, rows, i64::MIN, first)?;
-    let mut text = text_of_session(rt, alloc, &mut shelf, words.as_str(), series.as_str())?;
-    let words = format!(in alloc; "resume\nc\nx=s\n--upto\n{second}\n--save\nc")?;
-    let series = series_between(alloc, rows, first, second)?;
-    let more = text_of_session(rt, alloc, &mut shelf, words.as_str(), series.as_str())?;
-    text.extend_from_slice(&more)?;
-    let series = series_between(alloc, rows, second, i64::MAX)?;
-    let more = text_of_session(rt, alloc, &mut shelf, END, series.as_str())?;
-    text.extend_from_slice(&more)?;
+    let start = format!(in alloc; "start\nq\nx=s\n--upto\n{first}\n--save\nc")?;
+    let resume = format!(in alloc; "resume\nc\nx=s\n--upto\n{second}\n--save\nc")?;
+    let mut text = Vec::new(alloc);
+    let part = (start.as_str(), i64::MIN, first);
+    add_session(rt, alloc, &mut shelf, rows, &part, &mut text)?;
+    let part = (resume.as_str(), first, second);
+    add_session(rt, alloc, &mut shelf, rows, &part, &mut text)?;
+    let part = (END, second, i64::MAX);
+    add_session(rt, alloc, &mut shelf, rows, &part, &mut text)?;
     Ok(text)
 }
 

@@ -1,5 +1,5 @@
 // Listings of code, what is told of a plan, and runs of listings.
-use crate::call::{NONE, assert_end, end_of};
+use crate::call::{NONE, assert_case};
 use std::test::Fail;
 
 // Words, a query, and what is printed of its code.
@@ -59,8 +59,9 @@ const CODES: &[(&str, &str, &str)] = &[
 #[test]
 fn the_code_of_a_query_is_told(rt: HostRuntime) -> Result<(), Fail> {
     for (i, (words, query, text)) in CODES.iter().enumerate() {
-        let end = end_of(rt.alloc(), words, &[("q", query.as_bytes())], NONE)?;
-        assert_end(&rt, &end, 0, text.as_bytes(), b"", i);
+        let files = [("q", query.as_bytes())];
+        let case = (*words, files.as_slice(), 0, text.as_bytes(), b"".as_slice());
+        assert_case(&rt, rt.alloc(), &case, NONE, i)?;
     }
     Ok(())
 }
@@ -101,9 +102,15 @@ const SERIES: &[u8] = b"start,end,value\n0,4,1\n4,8,5\n";
 fn a_listing_is_run_or_refused(rt: HostRuntime) -> Result<(), Fail> {
     for (i, (listing, out, line)) in LISTINGS.iter().enumerate() {
         let files = [("c", listing.as_bytes()), ("s", SERIES)];
-        let end = end_of(rt.alloc(), "exec\nc\nx=s", &files, NONE)?;
         let status = if line.is_empty() { 0 } else { 1 };
-        assert_end(&rt, &end, status, out.as_bytes(), line.as_bytes(), i);
+        let case = (
+            "exec\nc\nx=s",
+            files.as_slice(),
+            status,
+            out.as_bytes(),
+            line.as_bytes(),
+        );
+        assert_case(&rt, rt.alloc(), &case, NONE, i)?;
     }
     Ok(())
 }

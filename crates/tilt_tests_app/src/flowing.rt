@@ -1,6 +1,6 @@
 // What `flow` prints.
 
-use crate::call::{Case, File, NONE, assert_cases, assert_end, end_of};
+use crate::call::{Case, File, NONE, assert_case, assert_cases};
 use std::test::Fail;
 
 // What stays is 7 on (0, 5], and null on (5, 8]. The count has the boundaries of that, 0, 5 and 8, and those two ticks later, 2, 7 and 10.
@@ -207,11 +207,13 @@ const REFUSED: &[(&[u8], &[u8])] = &[
 #[test]
 fn a_text_that_is_no_pipeline_is_refused(rt: HostRuntime) -> Result<(), Fail> {
     for (i, (text, line)) in REFUSED.iter().enumerate() {
-        let end = end_of(rt.alloc(), "flow\np", &[("p", *text)], NONE)?;
-        assert_end(&rt, &end, 1, b"", line, i);
+        let files = [("p", *text)];
+        assert_case(&rt, rt.alloc(), &("flow\np", &files, 1, b"", line), NONE, i)?;
     }
     Ok(())
 }
+
+const FAULT: &[u8] = b"tilt: 5 write fault\n";
 
 // The numbers of calls of the output that fail, and the prefix that is put then. The calls are the header, three lines, and the flush.
 const PREFIXES: &[(u64, &[u8])] = &[
@@ -223,8 +225,8 @@ const PREFIXES: &[(u64, &[u8])] = &[
 #[test]
 fn a_put_of_a_pipeline_fails(rt: HostRuntime) -> Result<(), Fail> {
     for (i, (put, prefix)) in PREFIXES.iter().enumerate() {
-        let end = end_of(rt.alloc(), "flow\np\nx=s", COUNTED, (0, *put, 0))?;
-        assert_end(&rt, &end, 4, prefix, b"tilt: 5 write fault\n", i);
+        let case = ("flow\np\nx=s", COUNTED, 4, *prefix, FAULT);
+        assert_case(&rt, rt.alloc(), &case, (0, *put, 0), i)?;
     }
     Ok(())
 }

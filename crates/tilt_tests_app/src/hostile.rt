@@ -1,26 +1,28 @@
 // Files that are cut short, numbers out of their range, and faults of each read, of a save and of the line.
 use crate::call::{
-    Case, File, NONE, QUERY, SERIES, Text, WORDS, assert_cases, assert_end, assert_texts, end_of,
-    shelf_of, sink_of, words_of,
+    Case, File, NONE, QUERY, SERIES, Text, WORDS, assert_case, assert_cases, assert_saved,
+    assert_texts, end_of, shelf_of,
 };
 use std::alloc::Global;
 use std::process::Abort;
 use std::test::Fail;
-use tilt_app::tilt;
 
-// Each file takes two reads: the second finds its end. What is printed, and the file that is told where the read fails.
-const READS: &[(&[u8], &str)] = &[(b"", "q"), (b"", "q"), (b"", "s"), (b"", "s")];
+const READ: &[File<'_>] = &[("q", QUERY), ("s", SERIES)];
+
+// The number of the read that fails, and how the call ends then. Each file takes two reads: the second finds its end.
+const READS: &[(u64, Case<'_>)] = &[
+    (1, (WORDS, READ, 3, b"", b"tilt: 4 read fault: q\n")),
+    (2, (WORDS, READ, 3, b"", b"tilt: 4 read fault: q\n")),
+    (3, (WORDS, READ, 3, b"", b"tilt: 4 read fault: s\n")),
+    (4, (WORDS, READ, 3, b"", b"tilt: 4 read fault: s\n")),
+    (5, (WORDS, READ, 0, SERIES, b"")),
+];
 
 #[test]
 fn a_shelf_may_fail_at_each_read(rt: HostRuntime) -> Result<(), Fail> {
-    let files = [("q", QUERY), ("s", SERIES)];
-    for (i, (out, name)) in READS.iter().enumerate() {
-        let line = format!(in rt.alloc(); "tilt: 4 read fault: {name}\n")?;
-        let end = end_of(rt.alloc(), WORDS, &files, (i as u64 + 1, 0, 0))?;
-        assert_end(&rt, &end, 3, out, line.as_bytes(), i);
+    for (i, (read, case)) in READS.iter().enumerate() {
+        assert_case(&rt, rt.alloc(), case, (*read, 0, 0), i)?;
     }
-    let end = end_of(rt.alloc(), WORDS, &files, (5, 0, 0))?;
-    assert_end(&rt, &end, 0, SERIES, b"", 5);
     Ok(())
 }
 
@@ -41,10 +43,10 @@ fn a_refusal_stands_where_its_line_fails(rt: HostRuntime) -> Result<(), Fail> {
     for (i, series) in REFUSED.iter().enumerate() {
         let files = [("q", QUERY), ("s", *series)];
         let end = end_of(rt.alloc(), WORDS, &files, (0, 0, 1))?;
-        assert_eq!(rt; end.status, 1, "case {i}");
-        assert!(rt; end.out.written().is_empty(), "case {i}");
         let told = end.err.written();
-        assert!(rt; b"tilt: 1".starts_with(told), "case {i}: {told:?}");
+        let is_cut = b"tilt: 1".starts_with(told);
+        let found = (end.status, end.out.written().len(), is_cut);
+        assert_eq!(rt; found, (1, 0, true), "case {i}: {told:?}");
     }
     Ok(())
 }
@@ -136,25 +138,17 @@ const SAVED: &[Saving<'_>] = &[
 ];
 
 // Ends the test unless the call ends so.
-fn assert_saved(rt: &impl Abort, alloc: Global, case: &Saving<'_>) -> Result<(), Fail> {
-    let words = words_of(alloc, case.words)?;
+fn assert_saving(rt: &impl Abort, alloc: Global, case: &Saving<'_>) -> Result<(), Fail> {
     let mut shelf = shelf_of(alloc, case.files, case.failing)?;
     shelf.hold("c", case.old, 1000)?;
-    let mut out = sink_of(alloc, 0)?;
-    let mut err = sink_of(alloc, 0)?;
-    let mut watchers = Vec::new(alloc);
-    let end = tilt(alloc, &words, &mut shelf, &mut out, &mut err, &mut watchers);
-    assert_eq!(rt; end, case.status);
-    assert_eq!(rt; out.written(), case.out);
-    assert_eq!(rt; err.written(), case.line);
-    assert_eq!(rt; shelf.bytes("c"), Some(case.held));
-    Ok(())
+    let saved = (case.status, case.out, case.line, case.held);
+    assert_saved(rt, alloc, case.words, &mut shelf, &saved)
 }
 
 #[test]
 fn a_save_that_fails_leaves_the_old_bytes(rt: HostRuntime) -> Result<(), Fail> {
     for case in SAVED {
-        assert_saved(&rt, rt.alloc(), case)?;
+        assert_saving(&rt, rt.alloc(), case)?;
     }
     Ok(())
 }
@@ -165,8 +159,14 @@ const CUT: &[u8] = b"tilt: 50 bad checkpoint\n";
 fn a_checkpoint_that_is_cut_is_bad(rt: HostRuntime) -> Result<(), Fail> {
     for length in 0..AT_5.len() {
         let files = [("c", &AT_5[..length]), ("s", SERIES)];
-        let end = end_of(rt.alloc(), "resume\nc\nx=s\n--end", &files, NONE)?;
-        assert_end(&rt, &end, 1, b"", CUT, length);
+        let case = (
+            "resume\nc\nx=s\n--end",
+            files.as_slice(),
+            1,
+            b"".as_slice(),
+            CUT,
+        );
+        assert_case(&rt, rt.alloc(), &case, NONE, length)?;
     }
     Ok(())
 }
@@ -271,8 +271,14 @@ fn a_code_that_is_cut_is_bad_where_it_ends(rt: HostRuntime) -> Result<(), Fail> 
         let line = last_line(prefix);
         let told = format!(in rt.alloc(); "tilt: 40 bad code in line {line}\n")?;
         let files = [("c", prefix), ("s", SERIES)];
-        let end = end_of(rt.alloc(), "exec\nc\nx=s", &files, NONE)?;
-        assert_end(&rt, &end, 1, b"", told.as_bytes(), length);
+        let case = (
+            "exec\nc\nx=s",
+            files.as_slice(),
+            1,
+            b"".as_slice(),
+            told.as_bytes(),
+        );
+        assert_case(&rt, rt.alloc(), &case, NONE, length)?;
     }
     Ok(())
 }

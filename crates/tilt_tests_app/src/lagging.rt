@@ -1,9 +1,8 @@
 // Sessions whose inputs don't reach the same moment: each has a cut of its own.
-use crate::call::{shelf_of, sink_of, words_of};
+use crate::call::{assert_saved, end_over, shelf_of};
 use std::alloc::Global;
 use std::process::Abort;
 use std::test::Fail;
-use tilt_app::tilt;
 use tilt_outside::MemShelf;
 
 const SUM: &[u8] = b"input x; input y; emit x + y over (0, 10];";
@@ -471,19 +470,10 @@ fn assert_session(
     shelf: &mut MemShelf,
     session: &Session<'_>,
 ) -> Result<(), Fail> {
-    let (words, x, y, status, text, line, saved) = session;
+    let (words, x, y, status, text, line, held) = *session;
     shelf.hold("s", x, 0)?;
     shelf.hold("t", y, 0)?;
-    let called = words_of(alloc, words)?;
-    let mut out = sink_of(alloc, 0)?;
-    let mut err = sink_of(alloc, 0)?;
-    let mut watchers = Vec::new(alloc);
-    let end = tilt(alloc, &called, shelf, &mut out, &mut err, &mut watchers);
-    assert_eq!(rt; end, *status, "at {words}");
-    assert_eq!(rt; out.written(), *text, "at {words}");
-    assert_eq!(rt; err.written(), *line, "at {words}");
-    assert_eq!(rt; shelf.bytes("c"), Some(*saved), "at {words}");
-    Ok(())
+    assert_saved(rt, alloc, words, shelf, &(status, text, line, held))
 }
 
 // Ends the test unless the sessions go so, one after another.
@@ -536,13 +526,8 @@ fn assert_refused(
     line: &str,
 ) -> Result<(), Fail> {
     let mut shelf = shelf_with(alloc, query.as_bytes())?;
-    let words = words_of(alloc, words)?;
-    let mut out = sink_of(alloc, 0)?;
-    let mut err = sink_of(alloc, 0)?;
-    let mut watchers = Vec::new(alloc);
-    let end = tilt(alloc, &words, &mut shelf, &mut out, &mut err, &mut watchers);
-    assert_eq!(rt; end, 1);
-    assert_eq!(rt; err.written(), line.as_bytes());
+    let end = end_over(alloc, words, &mut shelf, (0, 0, 0))?;
+    assert_eq!(rt; (end.status, end.err.written()), (1, line.as_bytes()));
     Ok(())
 }
 

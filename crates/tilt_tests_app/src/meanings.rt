@@ -1,6 +1,7 @@
 // What queries mean, on small series that were worked out by hand.
-use crate::call::{End, NONE, assert_end, end_of};
+use crate::call::{File, NONE, assert_case};
 use std::alloc::Global;
+use std::process::Abort;
 use std::test::Fail;
 
 // Each with the rows of x, those of y where there is one, and the lines after the header of the output.
@@ -232,27 +233,38 @@ fn series_of(alloc: Global, rows: &str) -> Result<Vec<u8>, Fail> {
     Ok(bytes)
 }
 
-// The end over these files of the query, of x and of y. The words say which of them are bound.
-fn end_on(alloc: Global, words: &str, query: &str, x: &[u8], y: &[u8]) -> Result<End, Fail> {
-    let files = [("q", query.as_bytes()), ("x", x), ("y", y)];
-    end_of(alloc, words, &files, NONE)
+// The words where x alone is bound, with fusion and without.
+const ONE_INPUT: [&str; 2] = ["run\nq\nx=x", "run\nq\n--plain\nx=x"];
+
+// The same where y is bound too.
+const TWO_INPUTS: [&str; 2] = ["run\nq\nx=x\ny=y", "run\nq\nx=x\ny=y\n--plain"];
+
+// Ends the test unless the query prints this with fusion and without.
+fn assert_meaning(
+    rt: &impl Abort,
+    alloc: Global,
+    words: &[&str; 2],
+    files: &[File<'_>],
+    out: &[u8],
+    number: usize,
+) -> Result<(), Fail> {
+    assert_case(rt, alloc, &(words[0], files, 0, out, b""), NONE, number)?;
+    assert_case(rt, alloc, &(words[1], files, 0, out, b""), NONE, number)
 }
 
 #[test]
 fn the_meaning_of_a_query_is_printed(rt: HostRuntime) -> Result<(), Fail> {
     for (i, (query, x, y, out)) in MEANINGS.iter().enumerate() {
-        let (words, plain) = if y.is_empty() {
-            ("run\nq\nx=x", "run\nq\n--plain\nx=x")
+        let words = if y.is_empty() {
+            &ONE_INPUT
         } else {
-            ("run\nq\nx=x\ny=y", "run\nq\nx=x\ny=y\n--plain")
+            &TWO_INPUTS
         };
         let x = series_of(rt.alloc(), x)?;
         let y = series_of(rt.alloc(), y)?;
         let out = series_of(rt.alloc(), out)?;
-        let end = end_on(rt.alloc(), words, query, &x, &y)?;
-        assert_end(&rt, &end, 0, out.as_slice(), b"", i);
-        let end = end_on(rt.alloc(), plain, query, &x, &y)?;
-        assert_end(&rt, &end, 0, out.as_slice(), b"", i);
+        let files = [("q", query.as_bytes()), ("x", &x), ("y", &y)];
+        assert_meaning(&rt, rt.alloc(), words, &files, &out, i)?;
     }
     Ok(())
 }

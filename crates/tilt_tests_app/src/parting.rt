@@ -1,11 +1,12 @@
 // What `parts` prints.
 //
-// On the ticks from 1 to n a query gives as many snapshots as it has marks from 2 to n, and one more. So a part that begins at a tick and ends
-// at another has one snapshot, and one more for each mark from two ticks after its begin to its end.
+// On the ticks from 1 to n a query gives as many snapshots as it has marks from 2 to n, and one more. So a part that begins at a tick and
+// ends at another has one snapshot, and one more for each mark from two ticks after its begin to its end.
 
-use crate::call::{Case, File, NONE, assert_cases, assert_end, end_of};
+use crate::call::{Case, File, NONE, assert_case, assert_cases};
 use std::alloc::Global;
 use std::test::Fail;
+use tilt_testing::repeated;
 
 const FILES: &[File<'_>] = &[
     ("q", b"input x; emit count(x[t-3:t]) over (0, 10];"),
@@ -41,21 +42,41 @@ fn a_domain_is_cut_into_parts(rt: HostRuntime) -> Result<(), Fail> {
 }
 
 // Orders that name one part alone, end in the middle, name a part that is finished, and go to and fro.
-const ORDERS: &[&str] = &[
-    "parts\nq\nx=s\n--at\n5\n--order\n1,0,1",
-    "parts\nq\nx=s\n--at\n5\n--order\n0",
-    "parts\nq\nx=s\n--at\n5\n--order\n1,1,1",
-    "parts\nq\nx=s\n--at\n5\n--order\n0,0,0,0,0",
-    "parts\nq\n--order\n1,0,1,0,1,0,1,0\n--at\n5\nx=s\n--plain",
+const ORDERS: &[Case<'_>] = &[
+    (
+        "parts\nq\nx=s\n--at\n5\n--order\n1,0,1",
+        FILES,
+        0,
+        TEXT,
+        b"",
+    ),
+    ("parts\nq\nx=s\n--at\n5\n--order\n0", FILES, 0, TEXT, b""),
+    (
+        "parts\nq\nx=s\n--at\n5\n--order\n1,1,1",
+        FILES,
+        0,
+        TEXT,
+        b"",
+    ),
+    (
+        "parts\nq\nx=s\n--at\n5\n--order\n0,0,0,0,0",
+        FILES,
+        0,
+        TEXT,
+        b"",
+    ),
+    (
+        "parts\nq\n--order\n1,0,1,0,1,0,1,0\n--at\n5\nx=s\n--plain",
+        FILES,
+        0,
+        TEXT,
+        b"",
+    ),
 ];
 
 #[test]
 fn steps_are_taken_in_any_order(rt: HostRuntime) -> Result<(), Fail> {
-    for (i, words) in ORDERS.iter().enumerate() {
-        let end = end_of(rt.alloc(), words, FILES, NONE)?;
-        assert_end(&rt, &end, 0, TEXT, b"", i);
-    }
-    Ok(())
+    assert_cases(&rt, rt.alloc(), ORDERS)
 }
 
 // The value at 5 stands from 1 to 5, and that at 10 from 6 to 10: one mark, at 6.
@@ -134,27 +155,23 @@ const LONG: &[File<'_>] = &[
     ("s", b"start,end,value\n0,399,5\n"),
 ];
 
-// A text, and the same piece so many times after it.
-fn with_pieces(alloc: Global, text: &str, piece: &str, count: u32) -> Result<String, Fail> {
-    let mut all = String::from_str(alloc, text)?;
-    for _ in 0..count {
-        all.push_str(piece)?;
+// The words that cut the domain at each second tick.
+fn words_of_cuts(alloc: Global) -> Result<String, Fail> {
+    let mut words = String::from_str(alloc, "parts\nq\nx=s\n--at\n2")?;
+    for part in 2_u32..200 {
+        let cut = format!(in alloc; ",{}", 2 * part)?;
+        words.push_str(cut.as_str())?;
     }
-    Ok(all)
+    Ok(words)
 }
 
 #[test]
 fn two_hundred_parts_are_joined(rt: HostRuntime) -> Result<(), Fail> {
-    let mut words = String::from_str(rt.alloc(), "parts\nq\nx=s\n--at\n2")?;
-    for part in 2_u32..200 {
-        let cut = format!(in rt.alloc(); ",{}", 2 * part)?;
-        words.push_str(cut.as_str())?;
-    }
-    let mut text = with_pieces(rt.alloc(), "start,end,value\n0,399,5\nparts", " 1", 199)?;
-    text.push_str(" 2\n")?;
-    let end = end_of(rt.alloc(), words.as_str(), LONG, NONE)?;
-    assert_end(&rt, &end, 0, text.as_bytes(), b"", 0);
-    Ok(())
+    let words = words_of_cuts(rt.alloc())?;
+    let start = "start,end,value\n0,399,5\nparts";
+    let text = repeated(rt.alloc(), start, " 1", 199, " 2\n")?;
+    let case = (words.as_str(), LONG, 0, text.as_bytes(), b"".as_slice());
+    assert_case(&rt, rt.alloc(), &case, NONE, 0)
 }
 
 const OUTSIDE: &[u8] = b"tilt: 56 part outside: 10\n";
@@ -234,6 +251,8 @@ fn cuts_outside_and_parts_that_are_none_are_refused(rt: HostRuntime) -> Result<(
     assert_cases(&rt, rt.alloc(), REFUSED)
 }
 
+const FAULT: &[u8] = b"tilt: 5 write fault\n";
+
 // The numbers of calls of the output that fail, and the prefix that is put then. The calls are the header, five lines, `parts`, a blank and
 // a number for each part, LF, and the flush.
 const PREFIXES: &[(u64, &[u8])] = &[
@@ -252,8 +271,8 @@ const PREFIXES: &[(u64, &[u8])] = &[
 #[test]
 fn a_put_of_parts_fails(rt: HostRuntime) -> Result<(), Fail> {
     for (i, (put, prefix)) in PREFIXES.iter().enumerate() {
-        let end = end_of(rt.alloc(), "parts\nq\nx=s\n--at\n5", FILES, (0, *put, 0))?;
-        assert_end(&rt, &end, 4, prefix, b"tilt: 5 write fault\n", i);
+        let case = ("parts\nq\nx=s\n--at\n5", FILES, 4, *prefix, FAULT);
+        assert_case(&rt, rt.alloc(), &case, (0, *put, 0), i)?;
     }
     Ok(())
 }

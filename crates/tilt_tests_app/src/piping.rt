@@ -1,6 +1,6 @@
 // What `pipe` prints.
 
-use crate::call::{Case, File, assert_cases, assert_end, end_of};
+use crate::call::{Case, File, assert_case, assert_cases};
 use std::test::Fail;
 
 const QUERY: &[u8] = b"input x; let y = x[t-2]; emit sum(y[t-3:t]) over (0, 5];";
@@ -26,17 +26,20 @@ const READ: &[u8] = b"tilt: 4 read fault: none\n";
 
 const USAGE: &[u8] = b"tilt: 1 usage\n";
 
+const PIPED: &[Case<'_>] = &[
+    ("pipe\nq\nx=s", FILES, 0, FUSED, b""),
+    ("pipe\nq\n--plain\nx=s", FILES, 0, PLAIN, b""),
+    ("pipe\nq", FILES, 1, b"", NAMES),
+    ("pipe\nq\nx=none", FILES, 3, b"", READ),
+    ("pipe\nq\nx=s\n--cut\n3", FILES, 2, b"", USAGE),
+];
+
 #[test]
 fn a_query_is_piped(rt: HostRuntime) -> Result<(), Fail> {
-    let cases: [Case<'_>; 5] = [
-        ("pipe\nq\nx=s", FILES, 0, FUSED, b""),
-        ("pipe\nq\n--plain\nx=s", FILES, 0, PLAIN, b""),
-        ("pipe\nq", FILES, 1, b"", NAMES),
-        ("pipe\nq\nx=none", FILES, 3, b"", READ),
-        ("pipe\nq\nx=s\n--cut\n3", FILES, 2, b"", USAGE),
-    ];
-    assert_cases(&rt, rt.alloc(), &cases)
+    assert_cases(&rt, rt.alloc(), PIPED)
 }
+
+const FAULT: &[u8] = b"tilt: 5 write fault\n";
 
 // The numbers of calls of the output that fail, and the prefix that is put then. The first snapshot is null, and has no line.
 // The calls are the header, three lines, `rings `, the number, LF, and the flush.
@@ -51,8 +54,8 @@ const PREFIXES: &[(u64, &[u8])] = &[
 #[test]
 fn a_put_fails_in_mid_stream(rt: HostRuntime) -> Result<(), Fail> {
     for (i, (put, prefix)) in PREFIXES.iter().enumerate() {
-        let end = end_of(rt.alloc(), "pipe\nq\n--plain\nx=s", FILES, (0, *put, 0))?;
-        assert_end(&rt, &end, 4, prefix, b"tilt: 5 write fault\n", i);
+        let case = ("pipe\nq\n--plain\nx=s", FILES, 4, *prefix, FAULT);
+        assert_case(&rt, rt.alloc(), &case, (0, *put, 0), i)?;
     }
     Ok(())
 }

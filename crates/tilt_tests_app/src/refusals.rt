@@ -1,5 +1,7 @@
 // Queries and series that are refused, and the line that tells why.
-use crate::call::{Case, File, QUERY, SERIES, TWO, Text, assert_cases, assert_texts};
+use crate::call::{
+    Case, File, NONE, QUERY, SERIES, TWO, Text, WORDS, assert_case, assert_cases, assert_texts,
+};
 use std::test::Fail;
 use tilt_testing::repeated;
 
@@ -242,37 +244,49 @@ fn what_is_refused_is_told(rt: HostRuntime) -> Result<(), Fail> {
 }
 
 // How a text starts, a piece that stands so often after it, how it ends, and what is told of it.
-const LONG: &[(&str, &str, usize, &str, &str)] = &[
+const LONG: &[(&str, &str, usize, &str, &[u8])] = &[
     (
         "",
         "let a=1;",
         256,
         "emit 1 over (0, 5];",
-        "22 too many statements",
+        b"tilt: 22 too many statements\n",
     ),
-    ("", "- ", 248, "1 over (0, 5];", "24 statement 1: syntax"),
-    ("", "emit ", 1, "1 over (0, 5];", "2 input names: x"),
+    (
+        "",
+        "- ",
+        248,
+        "1 over (0, 5];",
+        b"tilt: 24 statement 1: syntax\n",
+    ),
+    (
+        "",
+        "emit ",
+        1,
+        "1 over (0, 5];",
+        b"tilt: 2 input names: x\n",
+    ),
     (
         "emit ",
         "- ",
         248,
         "1 over (0, 5];",
-        "23 statement 1: too long",
+        b"tilt: 23 statement 1: too long\n",
     ),
 ];
 
 #[test]
 fn queries_past_the_limits_are_refused(rt: HostRuntime) -> Result<(), Fail> {
-    for (start, piece, count, end, told) in LONG {
+    for (start, piece, count, end, line) in LONG {
         let query = repeated(rt.alloc(), start, piece, *count, end)?;
-        let line = format!(in rt.alloc(); "tilt: {told}\n")?;
-        let case = [(
-            query.as_str().as_bytes(),
-            SERIES,
-            b"".as_slice(),
-            line.as_str().as_bytes(),
-        )];
-        assert_texts(&rt, rt.alloc(), &case)?;
+        let files = [("q", query.as_bytes()), ("s", SERIES)];
+        assert_case(
+            &rt,
+            rt.alloc(),
+            &(WORDS, &files, 1, b"", line),
+            NONE,
+            *count,
+        )?;
     }
     Ok(())
 }

@@ -1,9 +1,8 @@
 // Runs that are cut, and sessions after a checkpoint.
-use crate::call::{Case, File, assert_cases, shelf_of, sink_of, words_of};
+use crate::call::{Case, File, Saved, assert_cases, assert_saved, shelf_of};
 use std::alloc::Global;
 use std::process::Abort;
 use std::test::Fail;
-use tilt_app::tilt;
 
 const COUNT: &[u8] = b"input x; emit count(x[t-3:t]) over (0, 10];";
 
@@ -65,10 +64,12 @@ fn sessions_print_what_one_run_prints(rt: HostRuntime) -> Result<(), Fail> {
     assert_cases(&rt, rt.alloc(), SESSIONS)
 }
 
-// The number of the save or the read that fails, the status, the line and what `c` holds then. The four reads come before the save.
-const STARTED: &[(u64, u8, &[u8], &[u8])] = &[
-    (0, 0, b"", CHECKPOINT),
-    (5, 6, b"tilt: 6 save fault: c\n", b""),
+const HEADED: &[u8] = b"start,end,value\n0,2,1\n";
+
+// The number of the save or the read that fails, and what the call ends in. The four reads come before the save.
+const STARTED: &[(u64, Saved<'_>)] = &[
+    (0, (0, HEADED, b"", CHECKPOINT)),
+    (5, (6, HEADED, b"tilt: 6 save fault: c\n", b"")),
 ];
 
 // Ends the test unless the first session ends so.
@@ -76,28 +77,18 @@ fn assert_started(
     rt: &impl Abort,
     alloc: Global,
     failing: u64,
-    status: u8,
-    line: &[u8],
-    saved: &[u8],
+    saved: &Saved<'_>,
 ) -> Result<(), Fail> {
-    let words = words_of(alloc, "start\nq\nx=s\n--upto\n5\n--save\nc")?;
     let mut shelf = shelf_of(alloc, FIRST, failing)?;
     shelf.hold("c", b"", 1000)?;
-    let mut out = sink_of(alloc, 0)?;
-    let mut err = sink_of(alloc, 0)?;
-    let mut watchers = Vec::new(alloc);
-    let end = tilt(alloc, &words, &mut shelf, &mut out, &mut err, &mut watchers);
-    assert_eq!(rt; end, status);
-    assert_eq!(rt; out.written(), b"start,end,value\n0,2,1\n".as_slice());
-    assert_eq!(rt; err.written(), line);
-    assert_eq!(rt; shelf.bytes("c"), Some(saved));
-    Ok(())
+    let words = "start\nq\nx=s\n--upto\n5\n--save\nc";
+    assert_saved(rt, alloc, words, &mut shelf, saved)
 }
 
 #[test]
 fn a_first_session_saves_its_checkpoint(rt: HostRuntime) -> Result<(), Fail> {
-    for (failing, status, line, saved) in STARTED {
-        assert_started(&rt, rt.alloc(), *failing, *status, line, saved)?;
+    for (failing, saved) in STARTED {
+        assert_started(&rt, rt.alloc(), *failing, saved)?;
     }
     Ok(())
 }

@@ -1,7 +1,9 @@
 // Watchers of a run, of the kinds that there are and of kinds of one's own.
 ghost use Rattle.std.specs.Prelude.{◌≡◌, false, true};
 
-use crate::call::{Case, Failing, File, QUERY, SERIES, assert_cases, assert_end, end_beside};
+use crate::call::{
+    Case, End, Failing, File, NONE, QUERY, SERIES, assert_cases, assert_end, end_beside, shelf_of,
+};
 use std::alloc::Global;
 use std::process::Abort;
 use std::test::Fail;
@@ -25,7 +27,7 @@ type Watched<'a> = (&'a str, Failing, u8, &'a [u8], &'a [u8], &'a [(i64, i64)]);
 const WATCHED: &[Watched<'_>] = &[
     (
         "watch\nq\nx=s",
-        (0, 0, 0),
+        NONE,
         0,
         b"start,end,value\n0,5,7\n6,8,9\nfigures 2 16\nfigures 7 9\nfigures 0 8\nfigures 2 16\n",
         b"",
@@ -33,7 +35,7 @@ const WATCHED: &[Watched<'_>] = &[
     ),
     (
         "watch\nq\nx=s\n--plain",
-        (0, 0, 0),
+        NONE,
         0,
         b"start,end,value\n0,5,7\n6,8,9\nfigures 2 16\nfigures 7 9\nfigures 0 8\nfigures 2 16\n",
         b"",
@@ -41,7 +43,7 @@ const WATCHED: &[Watched<'_>] = &[
     ),
     (
         "watch\nq\nx=none",
-        (0, 0, 0),
+        NONE,
         0,
         b"start,end,value\nfigures 0 0\nfigures 9223372036854775807 -9223372036854775808\n\
           figures 9223372036854775807 -9223372036854775808\nfigures 0 0\n",
@@ -49,10 +51,10 @@ const WATCHED: &[Watched<'_>] = &[
         BEFORE,
     ),
     // Nobody watches a run, or a query that is refused.
-    ("run\nq\nx=s", (0, 0, 0), 0, SERIES, b"", BEFORE),
+    ("run\nq\nx=s", NONE, 0, SERIES, b"", BEFORE),
     (
         "watch\nq",
-        (0, 0, 0),
+        NONE,
         1,
         b"",
         b"tilt: 2 input names: x\n",
@@ -134,10 +136,23 @@ fn assert_figures(rt: &impl Abort, list: &[Box<dyn Watcher>], figures: &[(i64, i
     }
 }
 
+// What the call leaves over these files beside watchers.
+fn end_watched(
+    alloc: Global,
+    words: &str,
+    files: &[File<'_>],
+    failing: Failing,
+    watchers: &mut Vec<Box<dyn Watcher>>,
+) -> Result<End, Fail> {
+    let mut shelf = shelf_of(alloc, files, failing.0)?;
+    end_beside(alloc, words, &mut shelf, failing, watchers)
+}
+
 // Ends the test unless the call ends so beside a watcher of each kind without a limit, and one of the first three rows.
 fn assert_watched(
     rt: &impl Abort,
     alloc: Global,
+    files: &[File<'_>],
     case: &Watched<'_>,
     i: usize,
 ) -> Result<(), Fail> {
@@ -147,19 +162,21 @@ fn assert_watched(
     watchers.push(Box::new(alloc, Range::new())?)?;
     watchers.push(Box::new(alloc, Ends::new())?)?;
     watchers.push(Box::new(alloc, FirstRows::new(3))?)?;
-    let end = end_beside(alloc, words, FILES, failing, &mut watchers)?;
+    let end = end_watched(alloc, words, files, failing, &mut watchers)?;
     assert_end(rt, &end, status, out, err, i);
     assert_figures(rt, &watchers, figures);
     Ok(())
 }
 
+// Nobody watches.
+const ALONE: &[Case<'_>] = &[("watch\nq\nx=s", FILES, 0, SERIES, b"")];
+
 #[test]
 fn watchers_see_what_is_printed(rt: HostRuntime) -> Result<(), Fail> {
     for (i, case) in WATCHED.iter().enumerate() {
-        assert_watched(&rt, rt.alloc(), case, i)?;
+        assert_watched(&rt, rt.alloc(), FILES, case, i)?;
     }
-    let alone: [Case<'_>; 1] = [("watch\nq\nx=s", FILES, 0, SERIES, b"")];
-    assert_cases(&rt, rt.alloc(), &alone)
+    assert_cases(&rt, rt.alloc(), ALONE)
 }
 
 // A count over three ticks, of two rows that touch: it has five rows.
@@ -171,17 +188,19 @@ const COUNT: &[File<'_>] = &[
 const COUNTS: &[u8] = b"start,end,value\n0,2,1\n2,5,1\n5,7,2\n7,8,1\n8,10,1\n\
     figures 5 6\nfigures 1 2\nfigures 0 10\nfigures 3 4\n";
 
+// The watcher of the first three rows is dropped.
+const ENOUGH: Watched<'_> = (
+    "watch\nq\nx=s",
+    NONE,
+    0,
+    COUNTS,
+    b"",
+    &[(5, 6), (1, 2), (0, 10)],
+);
+
 #[test]
 fn a_watcher_that_has_seen_enough_is_dropped(rt: HostRuntime) -> Result<(), Fail> {
-    let mut watchers: Vec<Box<dyn Watcher>> = Vec::new(rt.alloc());
-    watchers.push(Box::new(rt.alloc(), Tally::new())?)?;
-    watchers.push(Box::new(rt.alloc(), Range::new())?)?;
-    watchers.push(Box::new(rt.alloc(), Ends::new())?)?;
-    watchers.push(Box::new(rt.alloc(), FirstRows::new(3))?)?;
-    let end = end_beside(rt.alloc(), "watch\nq\nx=s", COUNT, (0, 0, 0), &mut watchers)?;
-    assert_end(&rt, &end, 0, COUNTS, b"", 0);
-    assert_figures(&rt, &watchers, &[(5, 6), (1, 2), (0, 10)]);
-    Ok(())
+    assert_watched(&rt, rt.alloc(), COUNT, &ENOUGH, 0)
 }
 
 #[test]
@@ -189,7 +208,7 @@ fn all_watchers_may_end(rt: HostRuntime) -> Result<(), Fail> {
     let mut watchers: Vec<Box<dyn Watcher>> = Vec::new(rt.alloc());
     watchers.push(Box::new(rt.alloc(), UntilAbove::new(1))?)?;
     watchers.push(Box::new(rt.alloc(), UntilTime::new(5))?)?;
-    let end = end_beside(rt.alloc(), "watch\nq\nx=s", COUNT, (0, 0, 0), &mut watchers)?;
+    let end = end_watched(rt.alloc(), "watch\nq\nx=s", COUNT, NONE, &mut watchers)?;
     let text = b"start,end,value\n0,2,1\n2,5,1\n5,7,2\n7,8,1\n8,10,1\nfigures 3 2\nfigures 2 5\n";
     assert_end(&rt, &end, 0, text, b"", 0);
     assert_figures(&rt, &watchers, &[]);
@@ -200,7 +219,7 @@ fn all_watchers_may_end(rt: HostRuntime) -> Result<(), Fail> {
 fn a_row_whose_put_fails_is_not_seen(rt: HostRuntime) -> Result<(), Fail> {
     let mut watchers: Vec<Box<dyn Watcher>> = Vec::new(rt.alloc());
     watchers.push(Box::new(rt.alloc(), Tally::new())?)?;
-    let end = end_beside(rt.alloc(), "watch\nq\nx=s", FILES, (0, 2, 0), &mut watchers)?;
+    let end = end_watched(rt.alloc(), "watch\nq\nx=s", FILES, (0, 2, 0), &mut watchers)?;
     assert_end(&rt, &end, 4, b"start,end,value\n0,5", FAULT, 0);
     assert_figures(&rt, &watchers, &[(0, 0)]);
     Ok(())
@@ -261,7 +280,7 @@ fn a_watcher_of_ones_own_serves(rt: HostRuntime) -> Result<(), Fail> {
     let mut watchers: Vec<Box<dyn Watcher>> = Vec::new(rt.alloc());
     watchers.push(Box::new(rt.alloc(), First { start: 0, end: 0 })?)?;
     watchers.push(Box::new(rt.alloc(), Last { start: 0, end: 0 })?)?;
-    let end = end_beside(rt.alloc(), "watch\nq\nx=s", FILES, (0, 0, 0), &mut watchers)?;
+    let end = end_watched(rt.alloc(), "watch\nq\nx=s", FILES, NONE, &mut watchers)?;
     let text = b"start,end,value\n0,5,7\n6,8,9\nfigures 0 5\nfigures 6 8\n";
     assert_end(&rt, &end, 0, text, b"", 0);
     assert_figures(&rt, &watchers, &[(6, 8)]);
@@ -272,13 +291,7 @@ fn a_watcher_of_ones_own_serves(rt: HostRuntime) -> Result<(), Fail> {
 fn an_end_before_the_first_row_has_no_effect(rt: HostRuntime) -> Result<(), Fail> {
     let mut watchers: Vec<Box<dyn Watcher>> = Vec::new(rt.alloc());
     watchers.push(Box::new(rt.alloc(), First { start: 1, end: 2 })?)?;
-    let end = end_beside(
-        rt.alloc(),
-        "watch\nq\nx=none",
-        FILES,
-        (0, 0, 0),
-        &mut watchers,
-    )?;
+    let end = end_watched(rt.alloc(), "watch\nq\nx=none", FILES, NONE, &mut watchers)?;
     assert_end(&rt, &end, 0, b"start,end,value\nfigures 1 2\n", b"", 0);
     assert_figures(&rt, &watchers, &[(1, 2)]);
     Ok(())

@@ -1,4 +1,5 @@
 // How far queries look, and the stretches of their definitions.
+use crate::table::{Shown, assert_shown, assert_text};
 use std::alloc::Global;
 use std::test::Fail;
 use tilt_bounds::{Margins, Need, reach, stretch};
@@ -17,11 +18,16 @@ fn show(alloc: Global, margins: &Margins) -> Result<String, Fail> {
     Ok(shown)
 }
 
-fn outcome(alloc: Global, text: &str) -> Result<String, Fail> {
-    let core = core_of(alloc, text)?;
-    match reach(alloc, &core) {
-        Ok(margins) => show(alloc, &margins),
-        Err(fault) => Ok(format!(in alloc; "{fault:?}")?),
+// How far the query of a text looks, or its fault.
+struct Looks;
+
+impl Shown for Looks {
+    fn shown(&self, alloc: Global, text: &str) -> Result<String, Fail> {
+        let core = core_of(alloc, text)?;
+        match reach(alloc, &core) {
+            Ok(margins) => show(alloc, &margins),
+            Err(fault) => Ok(format!(in alloc; "{fault:?}")?),
+        }
     }
 }
 
@@ -121,33 +127,27 @@ const QUERIES: &[(&str, &str)] = &[
 
 #[test]
 fn needs_are_those_worked_out(rt: HostRuntime) -> Result<(), Fail> {
-    for (text, want) in QUERIES {
-        let shown = outcome(rt.alloc(), text)?;
-        assert_eq!(rt; shown.as_str(), *want, "at {text}");
-    }
-    Ok(())
+    assert_shown(&rt, rt.alloc(), QUERIES, &Looks)
 }
 
-// A query of so many definitions that each read the one before twice.
-fn doubled(alloc: Global, times: u32) -> Result<String, Fail> {
+// A query of 253 definitions that each read the one before twice.
+fn doubled(alloc: Global) -> Result<String, Fail> {
     let mut text = String::from_str(alloc, "input x; let y0 = x;")?;
-    for i in 0..times {
-        let one = format!(in alloc; "let y{} = y{i} + y{i}[t-1];", u64::from(i) + 1)?;
+    for i in 0..253_u64 {
+        let one = format!(in alloc; "let y{} = y{i} + y{i}[t-1];", i + 1)?;
         text.push_str(one.as_str())?;
     }
-    let end = format!(in alloc; "emit y{times} over (0, 5];")?;
-    text.push_str(end.as_str())?;
+    text.push_str("emit y253 over (0, 5];")?;
     Ok(text)
 }
 
 #[test]
 fn many_definitions_take_no_time(rt: HostRuntime) -> Result<(), Fail> {
     let alloc = rt.alloc();
-    let text = doubled(alloc, 253)?;
+    let text = doubled(alloc)?;
     let core = core_of(alloc, text.as_str())?;
     let margins = reach(alloc, &core)?;
-    assert_eq!(rt; margins.back(), 253);
-    assert_eq!(rt; margins.ahead(), 0);
+    assert_eq!(rt; (margins.back(), margins.ahead()), (253, 0));
     Ok(())
 }
 
@@ -203,7 +203,7 @@ fn span_of(alloc: Global, text: &str, def: u32) -> Result<String, Fail> {
 fn stretches_are_those_worked_out(rt: HostRuntime) -> Result<(), Fail> {
     for (text, def, want) in SPANS {
         let shown = span_of(rt.alloc(), text, *def)?;
-        assert_eq!(rt; shown.as_str(), *want, "at {text}");
+        assert_text(&rt, shown.as_str(), want, text);
     }
     Ok(())
 }

@@ -1,4 +1,5 @@
 // Queries, and their cores or their faults.
+use crate::table::{Shown, assert_shown};
 use std::alloc::Global;
 use std::test::Fail;
 use tilt_core::Core;
@@ -29,11 +30,16 @@ fn show(alloc: Global, core: &Core) -> Result<String, Fail> {
     Ok(shown)
 }
 
-fn outcome(alloc: Global, text: &str) -> Result<String, Fail> {
-    let query = query_of(alloc, text)?;
-    match check(alloc, &query) {
-        Ok(core) => show(alloc, &core),
-        Err(fault) => Ok(format!(in alloc; "{fault:?}")?),
+// The core of the query of a text, or its fault.
+struct Checked;
+
+impl Shown for Checked {
+    fn shown(&self, alloc: Global, text: &str) -> Result<String, Fail> {
+        let query = query_of(alloc, text)?;
+        match check(alloc, &query) {
+            Ok(core) => show(alloc, &core),
+            Err(fault) => Ok(format!(in alloc; "{fault:?}")?),
+        }
     }
 }
 
@@ -262,13 +268,6 @@ const FAULTS: &[(&str, &str)] = &[
 
 #[test]
 fn queries_are_checked(rt: HostRuntime) -> Result<(), Fail> {
-    for (text, want) in CORES {
-        let shown = outcome(rt.alloc(), text)?;
-        assert_eq!(rt; shown.as_str(), *want, "at {text}");
-    }
-    for (text, want) in FAULTS {
-        let shown = outcome(rt.alloc(), text)?;
-        assert_eq!(rt; shown.as_str(), *want, "at {text}");
-    }
-    Ok(())
+    assert_shown(&rt, rt.alloc(), CORES, &Checked)?;
+    assert_shown(&rt, rt.alloc(), FAULTS, &Checked)
 }

@@ -1,4 +1,5 @@
 // What is told of queries.
+use crate::table::{Shown, assert_shown};
 use std::alloc::Global;
 use std::test::Fail;
 use tilt_bounds::reach;
@@ -6,13 +7,18 @@ use tilt_explain::explain_text;
 use tilt_testing::core_of;
 
 // What is told of a query.
-fn told(alloc: Global, query: &str) -> Result<Vec<u8>, Fail> {
-    let core = core_of(alloc, query)?;
-    let margins = reach(alloc, &core)?;
-    Ok(explain_text(alloc, &core, &margins)?)
+struct Told;
+
+impl Shown for Told {
+    fn shown(&self, alloc: Global, text: &str) -> Result<String, Fail> {
+        let core = core_of(alloc, text)?;
+        let margins = reach(alloc, &core)?;
+        let told = explain_text(alloc, &core, &margins)?;
+        Ok(String::from_utf8_lossy(alloc, &told)?)
+    }
 }
 
-const QUERIES: [(&str, &str); 4] = [
+const QUERIES: &[(&str, &str)] = &[
     (
         "input x; let y = x[t-2]; emit sum(y[t-3:t]) over (0, 5];",
         "reach 4 0\ninput x 4 0\nlet y merged 2 0\nemit loop 0 0\nloops 1 2\n",
@@ -35,9 +41,5 @@ const QUERIES: [(&str, &str); 4] = [
 
 #[test]
 fn queries_are_explained(rt: HostRuntime) -> Result<(), Fail> {
-    for (query, want) in QUERIES {
-        let text = told(rt.alloc(), query)?;
-        assert_eq!(rt; text.as_slice(), want.as_bytes(), "at {query}");
-    }
-    Ok(())
+    assert_shown(&rt, rt.alloc(), QUERIES, &Told)
 }

@@ -26,4 +26,6 @@ mod parsing;
 #[cfg(test)]
 mod printing;
 #[cfg(test)]
+mod table;
+#[cfg(test)]
 mod worked_queries;

@@ -1,5 +1,7 @@
 // Pipelines of operators: which texts are some, for which fault a text is none, and the query of each.
+use crate::table::{Shown, assert_same, assert_shown};
 use std::alloc::Global;
+use std::process::Abort;
 use std::test::Fail;
 use tilt_operators::{FlowFault, desugar, flow_inputs, read_flow};
 use tilt_syntax::print;
@@ -47,19 +49,21 @@ const PIPELINES: &[(&str, &str)] = &[
     ),
 ];
 
-fn printed_query(alloc: Global, text: &str) -> Result<Vec<u8>, Fail> {
-    let flow = read_flow(alloc, text.as_bytes())?;
-    let query = desugar(alloc, &flow)?;
-    Ok(print(alloc, &query)?)
+// The query of a pipeline, as it is printed.
+struct Desugared;
+
+impl Shown for Desugared {
+    fn shown(&self, alloc: Global, text: &str) -> Result<String, Fail> {
+        let flow = read_flow(alloc, text.as_bytes())?;
+        let query = desugar(alloc, &flow)?;
+        let printed = print(alloc, &query)?;
+        Ok(String::from_utf8_lossy(alloc, &printed)?)
+    }
 }
 
 #[test]
 fn pipelines_have_queries(rt: HostRuntime) -> Result<(), Fail> {
-    for (text, want) in PIPELINES {
-        let printed = printed_query(rt.alloc(), text)?;
-        assert_eq!(rt; printed.as_slice(), want.as_bytes(), "at {text}");
-    }
-    Ok(())
+    assert_shown(&rt, rt.alloc(), PIPELINES, &Desugared)
 }
 
 // Pipelines, and the names of the series that they read, in the order of their first mention.
@@ -75,25 +79,31 @@ const INPUTS: &[(&str, &str)] = &[
     ),
 ];
 
-fn inputs_text(alloc: Global, text: &str) -> Result<String, Fail> {
-    let flow = read_flow(alloc, text.as_bytes())?;
-    let names = flow_inputs(alloc, &flow)?;
-    let mut all = String::new(alloc);
-    for name in &names {
-        let name = name_text(name)?;
-        all.push_str(name)?;
-        all.push_str(" ")?;
+// The names of the series that a pipeline reads.
+struct InputNames;
+
+impl Shown for InputNames {
+    fn shown(&self, alloc: Global, text: &str) -> Result<String, Fail> {
+        let flow = read_flow(alloc, text.as_bytes())?;
+        let names = flow_inputs(alloc, &flow)?;
+        let mut all = String::new(alloc);
+        for name in &names {
+            all.push_str(name_text(name)?)?;
+            all.push_str(" ")?;
+        }
+        Ok(all)
     }
-    Ok(all)
 }
 
 #[test]
 fn pipelines_read_inputs_in_order(rt: HostRuntime) -> Result<(), Fail> {
-    for (text, want) in INPUTS {
-        let names = inputs_text(rt.alloc(), text)?;
-        assert_eq!(rt; names.as_str(), *want, "at {text}");
-    }
-    Ok(())
+    assert_shown(&rt, rt.alloc(), INPUTS, &InputNames)
+}
+
+// Ends the test unless this is the fault for which the text is no pipeline.
+fn assert_fault(rt: &impl Abort, alloc: Global, text: &str, want: Option<&FlowFault>) {
+    let found = read_flow(alloc, text.as_bytes()).err();
+    assert_same(rt, &found.as_ref(), &want, &text);
 }
 
 // Texts of which a step breaks a rule, and the number of the first that does.
@@ -159,13 +169,11 @@ const BAD_STEPS: &[(&str, u32)] = &[
 ];
 
 #[test]
-fn the_first_bad_step_is_told(rt: HostRuntime) -> Result<(), Fail> {
+fn the_first_bad_step_is_told(rt: HostRuntime) {
     for (text, step) in BAD_STEPS {
-        let found = read_flow(rt.alloc(), text.as_bytes()).err();
         let want = FlowFault::BadStep { step: *step };
-        assert_eq!(rt; found, Some(want), "at {text}");
+        assert_fault(&rt, rt.alloc(), text, Some(&want));
     }
-    Ok(())
 }
 
 // Texts of which an expression has the wrong type, and the number of its step.
@@ -185,82 +193,57 @@ const WRONG_TYPES: &[(&str, u32)] = &[
 ];
 
 #[test]
-fn the_first_step_of_a_wrong_type_is_told(rt: HostRuntime) -> Result<(), Fail> {
+fn the_first_step_of_a_wrong_type_is_told(rt: HostRuntime) {
     for (text, step) in WRONG_TYPES {
-        let found = read_flow(rt.alloc(), text.as_bytes()).err();
         let want = FlowFault::StepType { step: *step };
-        assert_eq!(rt; found, Some(want), "at {text}");
+        assert_fault(&rt, rt.alloc(), text, Some(&want));
     }
-    Ok(())
 }
+
+const FAULTY_PLACES: &[(&str, FlowFault)] = &[
+    ("from x; select v ~ 1;", FlowFault::BadByte { at: 17 }),
+    ("~", FlowFault::BadByte { at: 0 }),
+    (
+        "to x; where v; ~ 9223372036854775808",
+        FlowFault::BadByte { at: 15 },
+    ),
+    (
+        "from x; shift 9223372036854775808;",
+        FlowFault::BigNumber { at: 14 },
+    ),
+];
 
 #[test]
-fn a_faulty_place_is_told_before_all_steps(rt: HostRuntime) -> Result<(), Fail> {
-    for (text, want) in [
-        ("from x; select v ~ 1;", FlowFault::BadByte { at: 17 }),
-        ("~", FlowFault::BadByte { at: 0 }),
-        (
-            "to x; where v; ~ 9223372036854775808",
-            FlowFault::BadByte { at: 15 },
-        ),
-        (
-            "from x; shift 9223372036854775808;",
-            FlowFault::BigNumber { at: 14 },
-        ),
-    ] {
-        let found = read_flow(rt.alloc(), text.as_bytes()).err();
-        assert_eq!(rt; found, Some(want), "at {text}");
+fn a_faulty_place_is_told_before_all_steps(rt: HostRuntime) {
+    for (text, want) in FAULTY_PLACES {
+        assert_fault(&rt, rt.alloc(), text, Some(want));
     }
-    Ok(())
 }
 
-// Steps of 200 and 201 tokens, and 100 and 101 steps.
+const BAD_2: Option<FlowFault> = Some(FlowFault::BadStep { step: 2 });
+
+const BAD_100: Option<FlowFault> = Some(FlowFault::BadStep { step: 100 });
+
+const BAD_101: Option<FlowFault> = Some(FlowFault::BadStep { step: 101 });
+
+// How a text starts, a part that stands so often after it, how it ends, and its fault: steps of 200 and 201 tokens, and 100 and 101 steps.
+const LONG: &[(&str, &str, usize, &str, Option<FlowFault>)] = &[
+    ("from x; select ", "-", 197, "v; emit over (0, 5];", None),
+    ("from x; select ", "-", 198, "v; emit over (0, 5];", BAD_2),
+    ("from x; where ", "(", 300, "", BAD_2),
+    ("from x; ", "shift 1;", 98, "emit over (0, 5];", None),
+    ("from x; ", "shift 1;", 99, "emit over (0, 5];", BAD_101),
+    ("from x; ", "shift 1;", 100, "", BAD_101),
+    ("from x; ", "shift 1;", 98, "emit over (0, 5]; v;", BAD_100),
+    ("from x; ", "shift 1;", 98, "shift v; shift w;", BAD_100),
+    ("from x; ", "shift 1;", 300, "shift v;", BAD_101),
+];
+
 #[test]
 fn steps_are_short_and_few(rt: HostRuntime) -> Result<(), Fail> {
-    let alloc = rt.alloc();
-    for (start, part, times, end, want) in [
-        ("from x; select ", "-", 197, "v; emit over (0, 5];", None),
-        (
-            "from x; select ",
-            "-",
-            198,
-            "v; emit over (0, 5];",
-            bad_step(2),
-        ),
-        ("from x; where ", "(", 300, "", bad_step(2)),
-        ("from x; ", "shift 1;", 98, "emit over (0, 5];", None),
-        (
-            "from x; ",
-            "shift 1;",
-            99,
-            "emit over (0, 5];",
-            bad_step(101),
-        ),
-        ("from x; ", "shift 1;", 100, "", bad_step(101)),
-        (
-            "from x; ",
-            "shift 1;",
-            98,
-            "emit over (0, 5]; v;",
-            bad_step(100),
-        ),
-        (
-            "from x; ",
-            "shift 1;",
-            98,
-            "shift v; shift w;",
-            bad_step(100),
-        ),
-        ("from x; ", "shift 1;", 300, "shift v;", bad_step(101)),
-    ] {
-        let text = repeated(alloc, start, part, times, end)?;
-        let found = read_flow(alloc, text.as_bytes()).err();
-        assert_eq!(rt; found, want, "at {start}{part}{end} with {times}");
+    for (start, part, times, end, want) in LONG {
+        let text = repeated(rt.alloc(), start, part, *times, end)?;
+        assert_fault(&rt, rt.alloc(), text.as_str(), want.as_ref());
     }
     Ok(())
-}
-
-// That the step breaks a rule.
-fn bad_step(step: u32) -> Option<FlowFault> {
-    Some(FlowFault::BadStep { step })
 }

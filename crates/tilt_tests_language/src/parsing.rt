@@ -1,10 +1,12 @@
 // Texts, and the trees that they are read as.
+use crate::table::{Shown, assert_same, assert_shown};
 use std::alloc::Global;
+use std::process::Abort;
 use std::test::Fail;
 use tilt_base::Span;
 use tilt_lexer::{LexFault, lex};
 use tilt_syntax::{
-    Every, Expr, Query, Statement, SyntaxFault, TextFault, parse, parse_expression, read_text,
+    Every, Expr, Statement, SyntaxFault, TextFault, parse, parse_expression, read_text,
 };
 use tilt_testing::{name_text, query_of, repeated};
 
@@ -102,24 +104,24 @@ fn show(alloc: Global, expr: &Expr) -> Result<String, Fail> {
 }
 
 // The tree that the text is, or nothing.
-fn show_read(alloc: Global, text: &str) -> Result<String, Fail> {
-    let tokens = lex(alloc, text.as_bytes())?;
-    if tokens.len() > 256 {
-        return Err("the text is too long".into());
-    }
-    match parse_expression(alloc, &tokens)? {
-        Some(expr) => show(alloc, &expr),
-        None => Ok(String::new(alloc)),
+struct Parsed;
+
+impl Shown for Parsed {
+    fn shown(&self, alloc: Global, text: &str) -> Result<String, Fail> {
+        let tokens = lex(alloc, text.as_bytes())?;
+        if tokens.len() > 256 {
+            return Err("the text is too long".into());
+        }
+        match parse_expression(alloc, &tokens)? {
+            Some(expr) => show(alloc, &expr),
+            None => Ok(String::new(alloc)),
+        }
     }
 }
 
 #[test]
 fn expressions_are_read_as_they_bind(rt: HostRuntime) -> Result<(), Fail> {
-    for (text, want) in EXPRESSIONS {
-        let shown = show_read(rt.alloc(), text)?;
-        assert_eq!(rt; shown.as_str(), *want, "at {text}");
-    }
-    Ok(())
+    assert_shown(&rt, rt.alloc(), EXPRESSIONS, &Parsed)
 }
 
 fn show_over(alloc: Global, over: Option<Span>) -> Result<String, Fail> {
@@ -163,226 +165,244 @@ fn show_statement(alloc: Global, statement: &Statement) -> Result<String, Fail> 
     })
 }
 
-fn show_query(alloc: Global, query: &Query) -> Result<String, Fail> {
-    let mut shown = String::new(alloc);
-    for statement in query.statements() {
-        let statement = show_statement(alloc, statement)?;
-        shown.push_str(statement.as_str())?;
+// The statements of a query.
+struct Statements;
+
+impl Shown for Statements {
+    fn shown(&self, alloc: Global, text: &str) -> Result<String, Fail> {
+        let query = query_of(alloc, text)?;
+        let mut shown = String::new(alloc);
+        for statement in query.statements() {
+            let statement = show_statement(alloc, statement)?;
+            shown.push_str(statement.as_str())?;
+        }
+        Ok(shown)
     }
-    Ok(shown)
 }
+
+const QUERIES: &[(&str, &str)] = &[
+    ("emit 1 over (0, 5];", "emit 1 over 0 5;"),
+    (
+        "input x; let y = x over (-10, 10] every 5; let z = y every 2; emit z over (5, -0] every 3;",
+        "input x;let y x over -10 10 every 5 from 0;let z y every 2 from 0;emit z over 5 0 every 3 from 0;",
+    ),
+    (
+        "input x; let y = x every 5 from 0; let z = y over (1, 2] every 2 from 7; emit z over (5, 6] every 3 from 02;",
+        "input x;let y x every 5 from 0;let z y over 1 2 every 2 from 7;emit z over 5 6 every 3 from 2;",
+    ),
+    (
+        "let a = 1; input b; let c = a when b; emit c over (0, 1];",
+        "let a 1;input b;let c (When a b);emit c over 0 1;",
+    ),
+];
 
 #[test]
 fn statements_are_read_in_order(rt: HostRuntime) -> Result<(), Fail> {
-    for (text, want) in [
-        ("emit 1 over (0, 5];", "emit 1 over 0 5;"),
-        (
-            "input x; let y = x over (-10, 10] every 5; let z = y every 2; emit z over (5, -0] every 3;",
-            "input x;let y x over -10 10 every 5 from 0;let z y every 2 from 0;emit z over 5 0 every 3 from 0;",
-        ),
-        (
-            "input x; let y = x every 5 from 0; let z = y over (1, 2] every 2 from 7; emit z over (5, 6] every 3 from 02;",
-            "input x;let y x every 5 from 0;let z y over 1 2 every 2 from 7;emit z over 5 6 every 3 from 2;",
-        ),
-        (
-            "let a = 1; input b; let c = a when b; emit c over (0, 1];",
-            "let a 1;input b;let c (When a b);emit c over 0 1;",
-        ),
-    ] {
-        let query = query_of(rt.alloc(), text)?;
-        let shown = show_query(rt.alloc(), &query)?;
-        assert_eq!(rt; shown.as_str(), want, "at {text}");
-    }
+    assert_shown(&rt, rt.alloc(), QUERIES, &Statements)
+}
+
+const FAULTS: &[(&str, SyntaxFault)] = &[
+    ("", SyntaxFault::EmitPlace { statement: 1 }),
+    (";", SyntaxFault::Syntax { statement: 1 }),
+    ("input x;", SyntaxFault::EmitPlace { statement: 1 }),
+    (
+        "input x; emit x over (0, 5]",
+        SyntaxFault::Syntax { statement: 2 },
+    ),
+    (
+        "emit 1 over (0, 5]; input x;",
+        SyntaxFault::EmitPlace { statement: 1 },
+    ),
+    (
+        "emit 1 over (0, 5]; input t;",
+        SyntaxFault::EmitPlace { statement: 1 },
+    ),
+    (
+        "input t; emit 1 over (0, 5];",
+        SyntaxFault::Syntax { statement: 1 },
+    ),
+    (
+        "input x; let sum = x; emit;",
+        SyntaxFault::Syntax { statement: 2 },
+    ),
+    (
+        "input x; let y = x; let z = y;",
+        SyntaxFault::EmitPlace { statement: 3 },
+    ),
+    ("emit 1;", SyntaxFault::Syntax { statement: 1 }),
+    ("emit 1 over (0, 5);", SyntaxFault::Syntax { statement: 1 }),
+    (
+        "emit 1 over (0, --5];",
+        SyntaxFault::Syntax { statement: 1 },
+    ),
+    (
+        "emit 1 every 5 over (0, 5];",
+        SyntaxFault::Syntax { statement: 1 },
+    ),
+    (
+        "emit 1 over (0, 5] every -5;",
+        SyntaxFault::Syntax { statement: 1 },
+    ),
+    // An offset is a number after a period, and its word is no name.
+    (
+        "emit 1 over (0, 5] every 5 from;",
+        SyntaxFault::Syntax { statement: 1 },
+    ),
+    (
+        "emit 1 over (0, 5] every 5 from -1;",
+        SyntaxFault::Syntax { statement: 1 },
+    ),
+    (
+        "emit 1 over (0, 5] every from 1;",
+        SyntaxFault::Syntax { statement: 1 },
+    ),
+    (
+        "emit 1 over (0, 5] from 1;",
+        SyntaxFault::Syntax { statement: 1 },
+    ),
+    (
+        "emit 1 over (0, 5] every 5 from 1 from 2;",
+        SyntaxFault::Syntax { statement: 1 },
+    ),
+    (
+        "input from; emit 1 over (0, 5];",
+        SyntaxFault::Syntax { statement: 1 },
+    ),
+    (
+        "input x; emit from over (0, 5];",
+        SyntaxFault::Syntax { statement: 2 },
+    ),
+];
+
+// Ends the test unless this is the fault for which the text is no query.
+fn assert_fault(
+    rt: &impl Abort,
+    alloc: Global,
+    text: &str,
+    want: Option<&SyntaxFault>,
+) -> Result<(), Fail> {
+    let tokens = lex(alloc, text.as_bytes())?;
+    let found = parse(alloc, &tokens).err();
+    assert_same(rt, &found.as_ref(), &want, &text);
     Ok(())
 }
 
 #[test]
 fn the_first_faulty_statement_is_refused(rt: HostRuntime) -> Result<(), Fail> {
-    for (text, want) in [
-        ("", SyntaxFault::EmitPlace { statement: 1 }),
-        (";", SyntaxFault::Syntax { statement: 1 }),
-        ("input x;", SyntaxFault::EmitPlace { statement: 1 }),
-        (
-            "input x; emit x over (0, 5]",
-            SyntaxFault::Syntax { statement: 2 },
-        ),
-        (
-            "emit 1 over (0, 5]; input x;",
-            SyntaxFault::EmitPlace { statement: 1 },
-        ),
-        (
-            "emit 1 over (0, 5]; input t;",
-            SyntaxFault::EmitPlace { statement: 1 },
-        ),
-        (
-            "input t; emit 1 over (0, 5];",
-            SyntaxFault::Syntax { statement: 1 },
-        ),
-        (
-            "input x; let sum = x; emit;",
-            SyntaxFault::Syntax { statement: 2 },
-        ),
-        (
-            "input x; let y = x; let z = y;",
-            SyntaxFault::EmitPlace { statement: 3 },
-        ),
-        ("emit 1;", SyntaxFault::Syntax { statement: 1 }),
-        ("emit 1 over (0, 5);", SyntaxFault::Syntax { statement: 1 }),
-        (
-            "emit 1 over (0, --5];",
-            SyntaxFault::Syntax { statement: 1 },
-        ),
-        (
-            "emit 1 every 5 over (0, 5];",
-            SyntaxFault::Syntax { statement: 1 },
-        ),
-        (
-            "emit 1 over (0, 5] every -5;",
-            SyntaxFault::Syntax { statement: 1 },
-        ),
-        // An offset is a number after a period, and its word is no name.
-        (
-            "emit 1 over (0, 5] every 5 from;",
-            SyntaxFault::Syntax { statement: 1 },
-        ),
-        (
-            "emit 1 over (0, 5] every 5 from -1;",
-            SyntaxFault::Syntax { statement: 1 },
-        ),
-        (
-            "emit 1 over (0, 5] every from 1;",
-            SyntaxFault::Syntax { statement: 1 },
-        ),
-        (
-            "emit 1 over (0, 5] from 1;",
-            SyntaxFault::Syntax { statement: 1 },
-        ),
-        (
-            "emit 1 over (0, 5] every 5 from 1 from 2;",
-            SyntaxFault::Syntax { statement: 1 },
-        ),
-        (
-            "input from; emit 1 over (0, 5];",
-            SyntaxFault::Syntax { statement: 1 },
-        ),
-        (
-            "input x; emit from over (0, 5];",
-            SyntaxFault::Syntax { statement: 2 },
-        ),
-    ] {
-        let tokens = lex(rt.alloc(), text.as_bytes())?;
-        match parse(rt.alloc(), &tokens) {
-            Ok(_) => assert!(rt; false, "at {text}"),
-            Err(fault) => assert_eq!(rt; fault, want, "at {text}"),
-        }
+    for (text, want) in FAULTS {
+        assert_fault(&rt, rt.alloc(), text, Some(want))?;
     }
     Ok(())
 }
+
+// How a text starts, a part that stands so often after it, how it ends, and its fault.
+const LONG: &[(&str, &str, usize, &str, Option<SyntaxFault>)] = &[
+    // 256 and 257 statements, and tokens of one statement.
+    ("", "input x;", 255, "emit 1 over (0, 5];", None),
+    (
+        "",
+        "input x;",
+        256,
+        "emit 1 over (0, 5];",
+        Some(SyntaxFault::TooManyStatements),
+    ),
+    ("", ";", 257, "", Some(SyntaxFault::TooManyStatements)),
+    ("emit ", "-", 247, "1 over (0, 5];", None),
+    (
+        "emit ",
+        "-",
+        248,
+        "1 over (0, 5];",
+        Some(SyntaxFault::StatementTooLong { statement: 1 }),
+    ),
+    (
+        "input x; emit ",
+        "(",
+        300,
+        "",
+        Some(SyntaxFault::StatementTooLong { statement: 2 }),
+    ),
+    (
+        "input; emit ",
+        "(",
+        300,
+        "",
+        Some(SyntaxFault::Syntax { statement: 1 }),
+    ),
+    (
+        "emit ",
+        "(",
+        255,
+        "",
+        Some(SyntaxFault::Syntax { statement: 1 }),
+    ),
+];
 
 #[test]
 fn sizes_are_bounded(rt: HostRuntime) -> Result<(), Fail> {
-    let alloc = rt.alloc();
-    for (start, part, times, end, want) in [
-        // 256 and 257 statements, and tokens of one statement.
-        ("", "input x;", 255, "emit 1 over (0, 5];", None),
-        (
-            "",
-            "input x;",
-            256,
-            "emit 1 over (0, 5];",
-            Some(SyntaxFault::TooManyStatements),
-        ),
-        ("", ";", 257, "", Some(SyntaxFault::TooManyStatements)),
-        ("emit ", "-", 247, "1 over (0, 5];", None),
-        (
-            "emit ",
-            "-",
-            248,
-            "1 over (0, 5];",
-            Some(SyntaxFault::StatementTooLong { statement: 1 }),
-        ),
-        (
-            "input x; emit ",
-            "(",
-            300,
-            "",
-            Some(SyntaxFault::StatementTooLong { statement: 2 }),
-        ),
-        (
-            "input; emit ",
-            "(",
-            300,
-            "",
-            Some(SyntaxFault::Syntax { statement: 1 }),
-        ),
-        (
-            "emit ",
-            "(",
-            255,
-            "",
-            Some(SyntaxFault::Syntax { statement: 1 }),
-        ),
-    ] {
-        let text = repeated(alloc, start, part, times, end)?;
-        let tokens = lex(alloc, text.as_bytes())?;
-        assert_eq!(rt; parse(alloc, &tokens).err(), want, "at {start}");
+    for (start, part, times, end, want) in LONG {
+        let text = repeated(rt.alloc(), start, part, *times, end)?;
+        assert_fault(&rt, rt.alloc(), text.as_str(), want.as_ref())?;
     }
     Ok(())
 }
+
+// The same for a text that need not be few tokens: the fault for which it is none.
+const LONGER: &[(&str, &str, usize, &str, Option<TextFault>)] = &[
+    // 256 and 257 statements, and tokens of one statement, with a `;` and without.
+    ("", "input x;", 255, "emit 1 over (0, 5];", None),
+    ("", "input x;", 256, "emit 1 over (0, 5];", TOO_MANY),
+    ("emit ", "-", 247, "1 over (0, 5];", None),
+    ("emit ", "-", 248, "1 over (0, 5];", TOO_LONG_1),
+    ("emit ", "-", 255, "", REFUSED_1),
+    ("emit ", "-", 256, "", TOO_LONG_1),
+    ("emit ", "-", 254, ";", REFUSED_1),
+    ("emit ", "-", 255, ";", TOO_LONG_1),
+    ("input x;emit ", "-", 600, ";input y;", TOO_LONG_2),
+    ("input;emit ", "-", 600, ";", REFUSED_1),
+    // A faulty place is told before all of them.
+    (
+        "",
+        ";",
+        600,
+        "@",
+        Some(TextFault::Lexical(LexFault::BadByte { at: 600 })),
+    ),
+    (
+        "emit ",
+        "-",
+        600,
+        " 9223372036854775808",
+        Some(TextFault::Lexical(LexFault::BigNumber { at: 606 })),
+    ),
+    // No tokens.
+    (
+        "",
+        " ",
+        600,
+        "",
+        Some(TextFault::Refused(SyntaxFault::EmitPlace { statement: 1 })),
+    ),
+];
+
+const TOO_MANY: Option<TextFault> = Some(TextFault::Refused(SyntaxFault::TooManyStatements));
+
+const TOO_LONG_1: Option<TextFault> = Some(TextFault::Refused(SyntaxFault::StatementTooLong {
+    statement: 1,
+}));
+
+const TOO_LONG_2: Option<TextFault> = Some(TextFault::Refused(SyntaxFault::StatementTooLong {
+    statement: 2,
+}));
+
+const REFUSED_1: Option<TextFault> = Some(TextFault::Refused(SyntaxFault::Syntax { statement: 1 }));
 
 #[test]
 fn a_text_may_have_more_tokens_than_a_query(rt: HostRuntime) -> Result<(), Fail> {
-    let alloc = rt.alloc();
-    let many = TextFault::Refused(SyntaxFault::TooManyStatements);
-    for (start, part, times, end, want) in [
-        // 256 and 257 statements, and tokens of one statement, with a `;` and without.
-        ("", "input x;", 255, "emit 1 over (0, 5];", None),
-        ("", "input x;", 256, "emit 1 over (0, 5];", Some(many)),
-        ("emit ", "-", 247, "1 over (0, 5];", None),
-        ("emit ", "-", 248, "1 over (0, 5];", too_long(1)),
-        ("emit ", "-", 255, "", refused(1)),
-        ("emit ", "-", 256, "", too_long(1)),
-        ("emit ", "-", 254, ";", refused(1)),
-        ("emit ", "-", 255, ";", too_long(1)),
-        ("input x;emit ", "-", 600, ";input y;", too_long(2)),
-        ("input;emit ", "-", 600, ";", refused(1)),
-        // A faulty place is told before all of them.
-        (
-            "",
-            ";",
-            600,
-            "@",
-            Some(TextFault::Lexical(LexFault::BadByte { at: 600 })),
-        ),
-        (
-            "emit ",
-            "-",
-            600,
-            " 9223372036854775808",
-            Some(TextFault::Lexical(LexFault::BigNumber { at: 606 })),
-        ),
-        // No tokens.
-        (
-            "",
-            " ",
-            600,
-            "",
-            Some(TextFault::Refused(SyntaxFault::EmitPlace { statement: 1 })),
-        ),
-    ] {
-        let text = repeated(alloc, start, part, times, end)?;
-        let found = read_text(alloc, text.as_bytes()).err();
-        assert_eq!(rt; found, want, "at {start}{part}{end} with {times}");
+    for (start, part, times, end, want) in LONGER {
+        let text = repeated(rt.alloc(), start, part, *times, end)?;
+        let found = read_text(rt.alloc(), text.as_bytes()).err();
+        assert_same(&rt, &found, want, &text.as_str());
     }
     Ok(())
-}
-
-// That the statement is too long.
-fn too_long(statement: u32) -> Option<TextFault> {
-    Some(TextFault::Refused(SyntaxFault::StatementTooLong { statement }))
-}
-
-// That the statement isn't in the grammar.
-fn refused(statement: u32) -> Option<TextFault> {
-    Some(TextFault::Refused(SyntaxFault::Syntax { statement }))
 }
