@@ -27,8 +27,8 @@ impl Buffers for MadeSoFar<'_> {
         0
     }
 
-    fn get(&self, buffer: usize, place: usize) -> Snap {
-        self.list(buffer)[place]
+    fn at(&self, buffer: usize, place: usize) -> Option<Snap> {
+        self.list(buffer).get(place).copied()
     }
 }
 

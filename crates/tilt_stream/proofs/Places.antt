@@ -1,6 +1,7 @@
 -- How many snapshots end below a tick, seen from one place.
 use Rattle.std.proofs.Common.{◌≡◌, ◌≤◌, ◌<◌, ℕ, zero, suc, ℤ, ◌<ℤ◌, ◌≤ℤ◌, Bool, true, false, if◌then◌else◌, int_lt, List, [], ◌∷◌, length, slice_get, Option, Some, None, IfSome, IsTrue, ◌↔◌, refl}
-use Rattle.std.proofs.Common.{arith, sym}
+use Rattle.std.proofs.Common.{arith, sym, ◌∙◌, inl, inr}
+use Rattle.std.proofs.lemmas.Bool.{cases_lt, false≢true}
 use Rattle.std.proofs.lemmas.Int.{ints}
 use Rattle.tilt_stream.proofs.Ended.{none_ended}
 use Rattle.tilt_stream.specs.Snap.{Snapshot, InOrder, ended_below}
@@ -79,3 +80,28 @@ passed-at from limit (x ∷ xs) zero s tick h is =
     rw (← e) (first_passed from limit x xs tick (int_lt x.end tick) refl h)
 passed-at from limit (x ∷ xs) (suc i) s tick h is =
     later_passed from limit x xs i s tick (int_lt x.end tick) refl h is (passed-at x.end limit xs i s tick h.3 is)
+
+-- where there is none at a place, there are no more than so many
+pub past-all : (list : List Snapshot) (place : ℕ) → slice_get list place ≡ None → length list ≤ place
+past-all [] place is = omega arith
+past-all (s ∷ ss) zero is = absurd (cc is)
+past-all (s ∷ ss) (suc place) is = let rest = past-all ss place is in omega arith
+
+-- a place up to which all end below a tick is that of the first that doesn't, where there is none
+pub none-stands : (list : List Snapshot) (place : ℕ) (tick : ℤ) → slice_get list place ≡ None → place ≤ ended_below tick list
+    → place ≡ ended_below tick list
+none-stands list place tick is low =
+    let all = past-all list place is in
+    let ended = ended-within tick list in
+    omega arith
+
+-- or where the one there doesn't
+pub found-stands : (from limit : ℤ) (list : List Snapshot) (place : ℕ) (s : Snapshot) (tick : ℤ) → InOrder from limit list
+    → slice_get list place ≡ Some s → tick ≤ℤ s.end → place ≤ ended_below tick list → place ≡ ended_below tick list
+found-stands from limit list place s tick h is stays low =
+    let out : int_lt s.end tick ≡ false = grind (arith, ints) in
+    let passed = passed-at from limit list place s tick h is in
+    elim (cases_lt place (ended_below tick list)) [
+      | inl below ↦ absurd (false≢true (sym out ∙ passed.1 below))
+      | inr other ↦ omega arith
+    ]

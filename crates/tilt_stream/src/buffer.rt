@@ -1,5 +1,5 @@
 // What a cursor reads.
-ghost use Rattle.std.specs.Prelude.{◌≡◌, ◌<◌, ◌≤◌, ℕ, List, Some, length, neg_ℤ, slice_get};
+ghost use Rattle.std.specs.Prelude.{◌≡◌, ◌≤◌, ℕ, List, length, neg_ℤ, slice_get};
 ghost use Rattle.tilt_base.specs.declared.limits.TheConstants.{WIDE};
 ghost use Rattle.tilt_stream.specs.Snap.{InOrder, Snapshot};
 
@@ -25,11 +25,10 @@ pub trait Buffer {
     fn first_kept(&self) -> usize
         ensures { result ≡ forgotten self.now };
 
-    /// The one at a place, counted in the same way.
-    fn get(&self, place: usize) -> Snap
-        requires made { place < length (list self.now) }
+    /// The one at a place, counted in the same way, or none where no more were made.
+    fn at(&self, place: usize) -> Option<Snap>
         requires kept { forgotten self.now ≤ place }
-        ensures snap { slice_get (list self.now) place ≡ Some result }
+        ensures snap { result ≡ slice_get (list self.now) place }
         ensures in_order { InOrder (neg_ℤ WIDE) WIDE (list self.now) };
 }
 
@@ -46,8 +45,8 @@ impl Buffer for SnapList {
         0
     }
 
-    fn get(&self, place: usize) -> Snap {
-        self.as_slice()[place]
+    fn at(&self, place: usize) -> Option<Snap> {
+        self.as_slice().get(place).copied()
     }
 }
 
@@ -64,7 +63,7 @@ impl Buffer for Rows {
         0
     }
 
-    fn get(&self, place: usize) -> Snap {
-        self.as_slice()[place]
+    fn at(&self, place: usize) -> Option<Snap> {
+        self.as_slice().get(place).copied()
     }
 }

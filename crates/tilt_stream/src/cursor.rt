@@ -1,5 +1,5 @@
 // Reading a buffer onwards.
-ghost use Rattle.std.specs.Prelude.{◌≡◌, ◌+◌, ◌<◌, ◌≤◌, neg_ℤ, pos, ◌+ℤ◌, ◌<ℤ◌, ◌≤ℤ◌, IfSome, IsTrue, ◌↔◌, length, slice_get};
+ghost use Rattle.std.specs.Prelude.{◌≡◌, ◌<◌, ◌≤◌, neg_ℤ, pos, ◌+ℤ◌, ◌<ℤ◌, ◌≤ℤ◌, IfSome, IsTrue, ◌↔◌, MatchOption, length, slice_get};
 ghost use Rattle.tilt_base.specs.declared.limits.TheConstants.{WIDE};
 ghost use Rattle.tilt_stream.specs.Marks.{NamesNextMark};
 ghost use Rattle.tilt_stream.specs.Snap.{InOrder, ended_below};
@@ -54,9 +54,35 @@ impl Cursor {
         ensures { self.new ≡ record { tick = tick; place = ended_below tick (B.list buffer.now) } }
     {
         let from = self.place.max(buffer.first_kept());
-        let (low, high) = reach(buffer, from, tick);
-        self.place = parted(buffer, low, high, tick);
+        self.place = passing(buffer, from, tick);
         self.tick = tick;
+    }
+
+    /// Moves to a tick as `move_to` does, and gives what `seen` gives there. Where it passes no snapshot or one, it reads none twice.
+    #[inline]
+    pub fn look<B: Buffer>(&mut self, buffer: &B, tick: i64) -> Seen
+        requires fits { self.old.place ≤ ended_below self.old.tick (B.list buffer.now) }
+        requires kept { B.forgotten buffer.now ≤ ended_below tick (B.list buffer.now) }
+        requires onwards { self.old.tick ≤ℤ tick }
+        ensures moved { self.new ≡ record { tick = tick; place = ended_below tick (B.list buffer.now) } }
+        ensures cell { result.cell ≡ cell_at (B.list buffer.now) tick }
+        ensures next { NamesNextMark (stream_of (B.list buffer.now)) tick result.next }
+        ensures low { IfSome result.next (λ next. neg_ℤ WIDE <ℤ next) }
+        ensures high { IfSome result.next (λ next. next ≤ℤ (WIDE +ℤ pos 1)) }
+    {
+        let from = self.place.max(buffer.first_kept());
+        self.tick = tick;
+        if let Some(seen) = seen_at(buffer, from, tick) {
+            self.place = from;
+            return seen;
+        }
+        let second = from.saturating_add(1);
+        if let Some(seen) = seen_at(buffer, second, tick) {
+            self.place = second;
+            return seen;
+        }
+        self.place = passing(buffer, second, tick);
+        self.seen(buffer)
     }
 
     /// Moves to a later tick, where it is known that no snapshot ends from its own tick on and below that one: it reads nothing.
@@ -100,24 +126,52 @@ impl Cursor {
         ensures low { IfSome result.next (λ next. neg_ℤ WIDE <ℤ next) }
         ensures high { IfSome result.next (λ next. next ≤ℤ (WIDE +ℤ pos 1)) }
     {
-        let Some(snap) = snap_at(buffer, self.place) else {
-            return Seen {
-                cell: None,
-                next: None,
-            };
-        };
-        if snap.start < self.tick {
-            Seen {
-                cell: snap.value,
-                next: Some(snap.end + 1),
-            }
-        } else {
-            Seen {
-                cell: None,
-                next: Some(snap.start + 1),
-            }
-        }
+        seen_at(buffer, self.place, self.tick).unwrap()
     }
+}
+
+// What is seen at a tick, where no snapshot from a place on ends below it: by the one at that place, or where there is none.
+#[inline]
+fn seen_at<B: Buffer>(buffer: &B, place: usize, tick: i64) -> Option<Seen>
+    requires fits { place ≤ ended_below tick (B.list buffer.now) }
+    requires kept { B.forgotten buffer.now ≤ place }
+    ensures stands { MatchOption result (place < ended_below tick (B.list buffer.now))
+        (λ _. place ≡ ended_below tick (B.list buffer.now)) }
+    ensures cell { IfSome result (λ seen. seen.cell ≡ cell_at (B.list buffer.now) tick) }
+    ensures next { IfSome result (λ seen. NamesNextMark (stream_of (B.list buffer.now)) tick seen.next) }
+    ensures low { IfSome result (λ seen. IfSome seen.next (λ next. neg_ℤ WIDE <ℤ next)) }
+    ensures high { IfSome result (λ seen. IfSome seen.next (λ next. next ≤ℤ (WIDE +ℤ pos 1))) }
+{
+    let Some(snap) = snap_at(buffer, place) else {
+        return Some(Seen {
+            cell: None,
+            next: None,
+        });
+    };
+    if snap.end < tick {
+        return None;
+    }
+    if snap.start < tick {
+        Some(Seen {
+            cell: snap.value,
+            next: Some(snap.end + 1),
+        })
+    } else {
+        Some(Seen {
+            cell: None,
+            next: Some(snap.start + 1),
+        })
+    }
+}
+
+// The place of the first snapshot from a place on that doesn't end below a tick: by steps that grow, and then by halves.
+fn passing<B: Buffer>(buffer: &B, from: usize, tick: i64) -> usize
+    requires fits { from ≤ ended_below tick (B.list buffer.now) }
+    requires kept { B.forgotten buffer.now ≤ from }
+    ensures { result ≡ ended_below tick (B.list buffer.now) }
+{
+    let (low, high) = reach(buffer, from, tick);
+    parted(buffer, low, high, tick)
 }
 
 // The snapshot at a place, or none where so many weren't made.
@@ -129,11 +183,7 @@ fn snap_at<B: Buffer>(buffer: &B, place: usize) -> Option<Snap>
     ensures high { IfSome result (λ snap. snap.end ≤ℤ WIDE) }
     ensures in_order { InOrder (neg_ℤ WIDE) WIDE (B.list buffer.now) }
 {
-    if place < buffer.made() {
-        Some(buffer.get(place))
-    } else {
-        None
-    }
+    buffer.at(place)
 }
 
 // Whether the snapshot at a place ends below a tick.
@@ -143,7 +193,10 @@ fn is_passed<B: Buffer>(buffer: &B, place: usize, tick: i64) -> bool
     requires kept { B.forgotten buffer.now ≤ place }
     ensures { IsTrue result ↔ (place < ended_below tick (B.list buffer.now)) }
 {
-    buffer.get(place).end < tick
+    match buffer.at(place) {
+        Some(snap) => snap.end < tick,
+        None => false,
+    }
 }
 
 // Two places between which the first snapshot lies that doesn't end below a tick, or at one of them: by steps of 1, 1, 2, 4

@@ -3,12 +3,12 @@
 //! What comes in is rows; what goes out is a list of snapshots without gaps that has the same cell and the same mark at every tick:
 //! the clause `stream` of `SnapList::from_rows`. A list answers for each tick which cell its stream has there (`value_at`), and
 //! where its next mark stands (`next_begin`), by a search that halves. A `Cursor` answers the same of any `Buffer`, rows too, as it
-//! moves on with time: the clauses of `move_to` and `seen`. It takes the logarithm of how far it goes, and takes no
+//! moves on with time: the clauses of `look`. It takes the logarithm of how far it goes, and takes no
 //! memory.
 //!
 //! The machines read rows and lists by cursors, and the commands read them as slices: no code but tests calls
-//! `SnapList::from_rows`, `value_at` and `next_begin`, `get` of `Rows` and of `SnapList`, `Rows::is_empty`, and `value`, `next` and
-//! `place` of `Cursor`.
+//! `SnapList::from_rows`, `value_at` and `next_begin`, `get` of `Rows` and of `SnapList`, `Rows::is_empty`, and `move_to`, `value`,
+//! `next` and `place` of `Cursor`.
 //!
 //! The definitions that all crates above share stand in `specs/`: streams and their marks, what scalar operators, windows, grids
 //! and stretches of time make of them, when two streams agree, and the snapshots of a stream and their text. Their laws stand in

@@ -1,5 +1,5 @@
 // What a loop reads.
-ghost use Rattle.std.specs.Prelude.{◌≡◌, ◌<◌, ◌≤◌, ℕ, List, [], Some, get_or, length, neg_ℤ, slice_get};
+ghost use Rattle.std.specs.Prelude.{◌≡◌, ◌≤◌, ℕ, List, [], get_or, length, neg_ℤ, slice_get};
 ghost use Rattle.tilt_base.specs.declared.limits.TheConstants.{WIDE};
 ghost use Rattle.tilt_stream.specs.Snap.{InOrder, Snapshot};
 
@@ -23,11 +23,10 @@ pub trait Buffers {
     fn first_kept(&self, buffer: usize) -> usize
         ensures { result ≡ get_or (forgotten self.now) buffer 0 };
 
-    /// The one at a place, counted in the same way.
-    fn get(&self, buffer: usize, place: usize) -> Snap
-        requires made { place < length (get_or (lists self.now) buffer []) }
+    /// The one at a place, counted in the same way, or none where no more were made.
+    fn at(&self, buffer: usize, place: usize) -> Option<Snap>
         requires kept { get_or (forgotten self.now) buffer 0 ≤ place }
-        ensures snap { slice_get (get_or (lists self.now) buffer []) place ≡ Some result }
+        ensures snap { result ≡ slice_get (get_or (lists self.now) buffer []) place }
         ensures in_order { InOrder (neg_ℤ WIDE) WIDE (get_or (lists self.now) buffer []) };
 }
 
@@ -54,7 +53,7 @@ impl<S: Buffers> Buffer for BufferAt<'_, S> {
     }
 
     #[inline]
-    fn get(&self, place: usize) -> Snap {
-        self.buffers.get(self.number, place)
+    fn at(&self, place: usize) -> Option<Snap> {
+        self.buffers.at(self.number, place)
     }
 }

@@ -225,8 +225,7 @@ impl Moving {
         ensures marks { self.new.marks ≡ self.old.marks }
         ensures reducer { kind_reducer self.new.kind ≡ kind_reducer self.old.kind }
     {
-        self.back.move_to(source.buffer, tick);
-        let seen = self.back.seen(source.buffer);
+        let seen = self.back.look(source.buffer, tick);
         self.next = seen.next;
         let cell = mapped(source.each, source.map, seen.cell, registers)?;
         self.kind.push_back(cell)

@@ -67,8 +67,7 @@ impl PortLeaf {
                 buffers,
                 number: self.buffer as usize,
             };
-            self.cursor.move_to(&buffer, tick);
-            self.seen = self.cursor.seen(&buffer);
+            self.seen = self.cursor.look(&buffer, tick);
         }
     }
 
