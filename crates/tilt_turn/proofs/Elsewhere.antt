@@ -20,16 +20,18 @@ use Rattle.tilt_stream.specs.Window.{met}
 use Rattle.tilt_stream.specs.declared.cursor.Cursor.{Cursor}
 use Rattle.tilt_turn.proofs.NextElsewhere.{names-back, names-there}
 use Rattle.tilt_turn.proofs.Numbered.{read-stream}
-use Rattle.tilt_turn.proofs.Origins.{all-only}
+use Rattle.tilt_turn.proofs.Picked.{IsPicked, all-picked}
 use Rattle.tilt_stream.proofs.SameMarks.{SameNext, either-same, next_mark-same, port-same, window-same}
 use Rattle.tilt_turn.proofs.Stepwise.{all-weaker}
-use Rattle.tilt_turn.specs.Held.{Holds, IsFit, IsLeafAt, Knows, MayGo, MayMove, Tells, leaf_only, origin}
+use Rattle.tilt_turn.specs.Held.{Holds, IsFit, IsLeafAt, IsPlacedAt, Knows, MayGo, MayMove, Tells, as_listed, origin}
 use Rattle.tilt_stream.specs.Marked.{marked, marked_behind}
+use Rattle.tilt_turn.specs.Picked.{picked, reads}
 use Rattle.tilt_turn.specs.Ready.{IsReadable, IsReady}
 use Rattle.tilt_turn.specs.Same.{IsSameFor}
 use Rattle.tilt_turn.specs.declared.leaf.Leaf.{Leaf}
 use Rattle.tilt_turn.specs.declared.leaf.Leaf.TheVariants as leaf
 use Rattle.tilt_turn.specs.declared.moving.Moving.{Moving}
+use Rattle.tilt_turn.specs.declared.placed.Placed.{Placed}
 use Rattle.tilt_turn.specs.declared.port.PortLeaf.{PortLeaf}
 use Rattle.tilt_turn.specs.declared.state.LoopState.{LoopState}
 
@@ -100,7 +102,6 @@ tells-same a b last p ended cells names within tells = record {
 
 leaf-there : (a b : List (List Snapshot)) (maps : List Block) (before point : ℤ) (own : Leaf) → before ≤ℤ point
     → IsSameFor a b point (origin own) → IsLeafAt MayGo a [] maps before own → IsLeafAt MayGo b [] maps before own
-leaf-there a b maps before point leaf.Idle onwards s at = tt
 leaf-there a b maps before point (leaf.Again r) onwards s at = tt
 leaf-there a b maps before point (leaf.Port p) onwards s at =
     let stands = at.1.cursor.onwards in (
@@ -129,7 +130,6 @@ leaf-there a b maps before point (leaf.Window w) onwards s at =
 
 leaf-back : (a b : List (List Snapshot)) (maps : List Block) (before point : ℤ) (own : Leaf) → before ≤ℤ point
     → IsSameFor a b point (origin own) → IsLeafAt MayGo b [] maps before own → IsLeafAt MayGo a [] maps before own
-leaf-back a b maps before point leaf.Idle onwards s at = tt
 leaf-back a b maps before point (leaf.Again r) onwards s at = tt
 leaf-back a b maps before point (leaf.Port p) onwards s at =
     let stands = at.1.cursor.onwards in (
@@ -163,10 +163,10 @@ all-by : {X Y : Type 0} (f : X → Y) (P : Y → Type 0) (Q R : X → Type 0) (x
 all-by f P Q R [] step p q = tt
 all-by f P Q R (x ∷ xs) step p q = (step x p.0 q.0, all-by f P Q R xs step p.1 q.1)
 
-same-leaves : (a b : List (List Snapshot)) (l : LoopParts) (point : ℤ) (leaves : List Leaf) → map origin leaves ≡ map leaf_only l.body
-    → AllByRecursion (IsSameFor a b point) l.body → AllByRecursion (IsSameFor a b point) (map origin leaves)
+same-leaves : (a b : List (List Snapshot)) (l : LoopParts) (point : ℤ) (leaves : List Placed) → map as_listed leaves ≡ picked reads 0 l.body
+    → AllByRecursion (IsSameFor a b point) l.body → AllByRecursion (IsPicked reads (IsSameFor a b point) l.body) (map as_listed leaves)
 same-leaves a b l point leaves is same =
-    subst (λ (block : Block). AllByRecursion (IsSameFor a b point) block) (sym is) (all-only (IsSameFor a b point) l.body tt same)
+    subst (AllByRecursion (IsPicked reads (IsSameFor a b point) l.body)) (sym is) (all-picked reads (IsSameFor a b point) l.body same)
 
 -- a state that is fit over lists is fit over others that tell the same up to where the loop reads at a later grid point
 pub fit-elsewhere : (a b : List (List Snapshot)) (l : LoopParts) (before point : ℤ) (state : LoopState)
@@ -174,10 +174,10 @@ pub fit-elsewhere : (a b : List (List Snapshot)) (l : LoopParts) (before point :
 fit-elsewhere a b l before point state same onwards fit = record {
   same = fit.same;
   registers = fit.registers;
-  again = fit.again;
-  leaves = all-by origin (IsSameFor a b point) (λ (own : Leaf). IsLeafAt MayGo a [] l.maps before own)
-      (λ (own : Leaf). IsLeafAt MayGo b [] l.maps before own) state.leaves.items
-      (λ own s at. leaf-there a b l.maps before point own onwards s at)
+  computed = fit.computed;
+  leaves = all-by as_listed (IsPicked reads (IsSameFor a b point) l.body) (IsPlacedAt MayGo a [] l.maps l.body before)
+      (IsPlacedAt MayGo b [] l.maps l.body before) state.leaves.items
+      (λ own s at. (leaf-there a b l.maps before point own.leaf onwards s.holds at.0, at.1))
       (same-leaves a b l point state.leaves.items fit.same same) fit.leaves;
 }
 
@@ -187,10 +187,10 @@ pub fit-back : (a b : List (List Snapshot)) (l : LoopParts) (before point : ℤ)
 fit-back a b l before point state same onwards fit = record {
   same = fit.same;
   registers = fit.registers;
-  again = fit.again;
-  leaves = all-by origin (IsSameFor a b point) (λ (own : Leaf). IsLeafAt MayGo b [] l.maps before own)
-      (λ (own : Leaf). IsLeafAt MayGo a [] l.maps before own) state.leaves.items
-      (λ own s at. leaf-back a b l.maps before point own onwards s at)
+  computed = fit.computed;
+  leaves = all-by as_listed (IsPicked reads (IsSameFor a b point) l.body) (IsPlacedAt MayGo b [] l.maps l.body before)
+      (IsPlacedAt MayGo a [] l.maps l.body before) state.leaves.items
+      (λ own s at. (leaf-back a b l.maps before point own.leaf onwards s.holds at.0, at.1))
       (same-leaves a b l point state.leaves.items fit.same same) fit.leaves;
 }
 

@@ -6,6 +6,7 @@ pub mod NextElsewhere
 pub mod NextMarks
 pub mod Numbered
 pub mod Origins
+pub mod Picked
 pub mod Readies
 pub mod Registers
 pub mod Repeats

@@ -1,88 +1,77 @@
 -- Leaves that read again what an earlier one of their body reads.
-use Rattle.std.proofs.Common.{ℕ, zero, suc, ℤ, pos, ◌||◌, Bool, true, false, List, [], ◌∷◌, ◌++◌, Option, None}
-use Rattle.std.proofs.Common.{◌≡◌, ◌<◌, ◌≤◌, ◌+◌, length, length-append, map, take, drop, get_or, refl, sym, ap, ◌∙◌, subst, arith}
-use Rattle.std.proofs.lemmas.List.{get_or_append_left, get_or_push, get_or-take, length-map, length-take-le}
-use Rattle.tilt_code.specs.Body.{body_of, instr_cell, leaf_marked, leaf_of, with_registers}
+use Rattle.std.proofs.Common.{ℕ, zero, suc, ℤ, pos, ◌||◌, Bool, true, false, List, [], ◌∷◌, Option, None, below_more}
+use Rattle.std.proofs.Common.{◌≡◌, ◌<◌, ◌≤◌, ◌+◌, length, map, take, get_or, set, refl, sym, ap, ◌∙◌, arith}
+use Rattle.std.proofs.lemmas.List.{get_or-map, get_or-set_same, get_or_past, length-map}
+use Rattle.tilt_code.specs.Body.{body_of, leaf_marked, leaf_of}
 use Rattle.tilt_code.specs.Code.{Block, LoopParts}
 use Rattle.tilt_code.specs.declared.instr.Instr.{Instr}
-use Rattle.tilt_code.specs.declared.instr.Instr.TheVariants.{Const, Null, Argument, Port, Win, One, Two, If}
+use Rattle.tilt_code.specs.declared.instr.Instr.TheVariants.{Const}
+use Rattle.tilt_code.specs.declared.instr.Instr.TheVariants as instr
 use Rattle.tilt_stream.proofs.Ended.{names-same}
 use Rattle.tilt_stream.specs.Marks.{NamesNextMark, joined}
 use Rattle.tilt_stream.specs.Stream.{Stream}
-use Rattle.tilt_turn.proofs.Numbered.{read-map}
-use Rattle.tilt_turn.specs.Held.{IsEarlier, IsRead, RepeatEarlier, leaf_only, origin, repeated, told_by}
+use Rattle.tilt_turn.proofs.Picked.{instr_of, leaf_at, picked-earlier}
+use Rattle.tilt_turn.specs.Held.{IsEarlier, IsRead, origin, repeated, told_by}
+use Rattle.tilt_turn.specs.Picked.{AreRead, picked, reads}
+use Rattle.tilt_turn.specs.declared.computed.Listed.{Listed}
 use Rattle.tilt_turn.specs.declared.leaf.Leaf.{Leaf}
 use Rattle.tilt_turn.specs.declared.leaf.Leaf.TheVariants as kind
 use Rattle.tilt_turn.specs.declared.repeat.Repeat.{Repeat}
 
--- what is said of each place of a list, and of none behind it, is said with one item more
-pub push-each : {X : Type 0} (P : ℕ → X → Type 0) (xs : List X) (x d : X) → ((n : ℕ) → P n d) → ((n : ℕ) → P n (get_or xs n d))
-    → P (length xs) x → (n : ℕ) → P n (get_or (xs ++ x ∷ []) n d)
-push-each P [] x d none h new zero = new
-push-each P [] x d none h new (suc n) = none (suc n)
-push-each P (y ∷ ys) x d none h new zero = h zero
-push-each P (y ∷ ys) x d none h new (suc n) = push-each (λ k. P (suc k)) ys x d (λ k. none (suc k)) (λ k. h (suc k)) new n
+-- what is repeated is one of the leaves before
+repeat-found : (body : Block) (i place : ℕ) (r : Repeat) → leaf_at body i ≡ record { place = place; instr = r.instr } → place < length body
+    → reads r.instr ≡ true → r.register < place → get_or body r.register (Const (pos 0)) ≡ r.instr
+    → (j : ℕ) × (j < i) × (j < length (picked reads 0 body)) × (leaf_at body j ≡ record { place = r.register; instr = r.instr })
+repeat-found body i place r is within by below same =
+    let low : r.register < (leaf_at body i).place = rw is below in
+    let found = picked-earlier reads 0 body i r.register r.register (Const (pos 0)) (record { place = length body; instr = instr.Null })
+    (omega arith) (omega arith) (rw same by) low in
+    rw same at found
 
--- what the leaf in a place repeats is earlier, where the leaves repeat what they did
-pub earlier-in : (body : Block) (leaves old : List Leaf) (place : ℕ) (own : Leaf) → map repeated leaves ≡ map repeated old
-    → RepeatEarlier body (map repeated old) → place < length leaves → own ≡ get_or leaves place own → IsEarlier body place (repeated own)
-earlier-in body leaves old place own same again within is =
-    let count = length-map leaves repeated in
-    let read : get_or (map repeated old) place None ≡ repeated own =
-    ap (λ (repeats : List (Option Repeat)). get_or repeats place None) (sym same) ∙ read-map repeated leaves place own None (omega arith) is in
-    subst (IsEarlier body place) read (again place)
+-- the registers of so many leaves hold their cells
+abbrev pub ReadTo : (Instr → Option ℤ) → Block → ℕ → List (Option ℤ) → Type 0
+ReadTo leaf body i cells = (j : ℕ) → j < i
+    → get_or cells (leaf_at body j).place None ≡ leaf (get_or body (leaf_at body j).place (Const (pos 0)))
 
--- the registers so far stay as they are
-kept-at : (leaf : Instr → Option ℤ) (cells : List (Option ℤ)) (block : Block) (k : ℕ) → k < length cells
-    → get_or (with_registers leaf cells block) k None ≡ get_or cells k None
-kept-at leaf cells [] k within = refl
-kept-at leaf cells (i ∷ block) k within =
-    let more = length-append cells (instr_cell leaf cells i ∷ []) in
-    kept-at leaf (cells ++ instr_cell leaf cells i ∷ []) block k (omega arith)
-    ∙ get_or_append_left cells (instr_cell leaf cells i ∷ []) None k within
+-- what is written rightly leaves what is right as it is
+right-set : (right : ℕ → Option ℤ) (cells : List (Option ℤ)) (place n : ℕ) → get_or cells n None ≡ right n
+    → get_or (set cells place (right place)) n None ≡ right n
+right-set right [] place n is = is
+right-set right (c ∷ cs) zero zero is = refl
+right-set right (c ∷ cs) zero (suc n) is = is
+right-set right (c ∷ cs) (suc place) zero is = is
+right-set right (c ∷ cs) (suc place) (suc n) is = right-set (λ k. right (suc k)) cs place n is
 
--- and the register of an instruction that is a leaf holds the cell of the leaf
-filled-at : (leaf : Instr → Option ℤ) (cells : List (Option ℤ)) (block : Block) (k n : ℕ) (d : Instr) → k < length block
-    → n ≡ length cells + k → ((before : List (Option ℤ)) → instr_cell leaf before (get_or block k d) ≡ leaf (get_or block k d))
-    → get_or (with_registers leaf cells block) n None ≡ leaf (get_or block k d)
-filled-at leaf cells [] k n d within is by = absurd (omega arith)
-filled-at leaf cells (i ∷ block) zero n d within is by =
-    let more = length-append cells (instr_cell leaf cells i ∷ []) in
-    kept-at leaf (cells ++ instr_cell leaf cells i ∷ []) block n (omega arith)
-    ∙ get_or_push cells (instr_cell leaf cells i) None n (omega arith) ∙ by cells
-filled-at leaf cells (i ∷ block) (suc k) n d within is by =
-    let more = length-append cells (instr_cell leaf cells i ∷ []) in
-    filled-at leaf (cells ++ instr_cell leaf cells i ∷ []) block k n d (omega arith) (omega arith) by
+pub read-step : (leaf : Instr → Option ℤ) (body : Block) (i : ℕ) (cells : List (Option ℤ)) (own : Listed) → leaf_at body i ≡ own
+    → get_or body own.place (Const (pos 0)) ≡ own.instr → own.place < length cells → ReadTo leaf body i cells
+    → ReadTo leaf body (i + 1) (set cells own.place (leaf own.instr))
+read-step leaf body i cells own is from within read =
+    let right : ℕ → Option ℤ = λ place. leaf (get_or body place (Const (pos 0))) in
+    rw (← from) (below_more
+    (λ j. get_or (set cells own.place (right own.place)) (leaf_at body j).place None ≡ right (leaf_at body j).place) i
+    (λ j below. right-set right cells own.place (leaf_at body j).place (read j below))
+    (rw is (get_or-set_same cells own.place (right own.place) None within)))
 
-leaf-cell : (leaf : Instr → Option ℤ) → leaf Null ≡ None → (j : Instr) (before : List (Option ℤ))
-    → instr_cell leaf before (leaf_only j) ≡ leaf (leaf_only j)
-leaf-cell leaf none (Const number) before = sym none
-leaf-cell leaf none Null before = sym none
-leaf-cell leaf none Argument before = sym none
-leaf-cell leaf none (Port buffer offset) before = refl
-leaf-cell leaf none (Win reducer buffer from to number) before = refl
-leaf-cell leaf none (One op a) before = sym none
-leaf-cell leaf none (Two op a b) before = sym none
-leaf-cell leaf none (If c a b) before = sym none
+-- once all are read, each instruction that reads a buffer has its cell in its register
+pub read-all : (leaf : Instr → Option ℤ) (body : Block) (i : ℕ) (cells : List (Option ℤ)) → length (picked reads 0 body) ≤ i
+    → ReadTo leaf body i cells → AreRead leaf body cells
+read-all leaf body i cells all read = λ place within by.
+    let past : Listed = record { place = length body; instr = instr.Null } in
+    let last = get_or_past (picked reads 0 body) i past all in
+    let low : place < (leaf_at body i).place = rw last within in
+    let found = picked-earlier reads 0 body i place place (Const (pos 0)) past (omega arith) within by low in
+    rw found.3 at (read found.0 found.1)
 
--- where the registers up to a place are those of a block, what is repeated in that place stands in its register
-pub read-earlier : (leaf : Instr → Option ℤ) → leaf Null ≡ None → (body : Block) (cells : List (Option ℤ)) (place : ℕ) (j : Instr) (own : Leaf)
-    → IsEarlier body place (repeated own) → origin own ≡ leaf_only j → place < length body → length cells ≡ length body
-    → with_registers leaf (take place cells) (drop place body) ≡ with_registers leaf [] body → IsRead leaf cells (repeated own)
-read-earlier leaf none body cells place j kind.Idle earlier is within count made = tt
-read-earlier leaf none body cells place j (kind.Port p) earlier is within count made = tt
-read-earlier leaf none body cells place j (kind.Window w) earlier is within count made = tt
-read-earlier leaf none body cells place j (kind.Again r) earlier is within count made =
+-- so what is repeated stands in its register
+pub read-earlier : (leaf : Instr → Option ℤ) (body : Block) (cells : List (Option ℤ)) (i place : ℕ) (own : Leaf)
+    → leaf_at body i ≡ record { place = place; instr = origin own } → place < length body → reads (origin own) ≡ true
+    → IsEarlier body place (repeated own) → length cells ≡ length body → ReadTo leaf body i cells → IsRead leaf cells (repeated own)
+read-earlier leaf body cells i place (kind.Port p) is within by earlier count read = tt
+read-earlier leaf body cells i place (kind.Window w) is within by earlier count read = tt
+read-earlier leaf body cells i place (kind.Again r) is within by earlier count read =
     let below = earlier.0 in
-    let front = length-take-le place cells (omega arith) in
-    let other : get_or body r.register (Const (pos 0)) ≡ leaf_only j = earlier.1 ∙ is in (
-      omega arith,
-      sym (get_or-take place cells r.register None below) ∙ sym (kept-at leaf (take place cells) (drop place body) r.register (omega arith))
-          ∙ ap (λ (all : List (Option ℤ)). get_or all r.register None) made
-          ∙ filled-at leaf [] body r.register r.register (Const (pos 0)) (omega arith) (omega arith)
-          (rw other (leaf-cell leaf none j))
-          ∙ ap leaf earlier.1,
-    )
+    let found = repeat-found body i place r is within by below earlier.1 in
+    (omega arith, rw found.3 at (read found.0 found.1) ∙ ap leaf earlier.1)
 
 or-again : (m rest : Bool) → ((m || rest) || m) ≡ (m || rest)
 or-again true rest = refl
@@ -108,36 +97,34 @@ or-none : (b : Bool) → (b || false) ≡ b
 or-none true = refl
 or-none false = refl
 
-only-marks : (xs : List Stream) (maps : List Block) (tick : ℤ) (j : Instr) → (leaf_of xs maps (leaf_only j)).mark tick ≡ (leaf_of xs maps j).mark tick
-only-marks xs maps tick (Const number) = refl
-only-marks xs maps tick Null = refl
-only-marks xs maps tick Argument = refl
-only-marks xs maps tick (Port buffer offset) = refl
-only-marks xs maps tick (Win reducer buffer from to number) = refl
-only-marks xs maps tick (One op a) = refl
-only-marks xs maps tick (Two op a b) = refl
-only-marks xs maps tick (If c a b) = refl
-
-told-marks : (xs : List Stream) (maps : List Block) (tick : ℤ) (body : Block) (place : ℕ) (j : Instr) (own : Leaf)
-    → IsEarlier body place (repeated own) → origin own ≡ leaf_only j → place < length body
-    → (leaf_marked xs maps tick (take place body) || (leaf_of xs maps j).mark tick)
-    ≡ (leaf_marked xs maps tick (take place body) || (told_by (repeated own) (leaf_of xs maps j)).mark tick)
-told-marks xs maps tick body place j kind.Idle earlier is within = refl
-told-marks xs maps tick body place j (kind.Port p) earlier is within = refl
-told-marks xs maps tick body place j (kind.Window w) earlier is within = refl
-told-marks xs maps tick body place j (kind.Again r) earlier is within =
-    let marked = leaf_marked xs maps tick (take place body) in
-    let same : (leaf_of xs maps j).mark tick ≡ (leaf_of xs maps (get_or body r.register (Const (pos 0)))).mark tick =
-    sym (only-marks xs maps tick j) ∙ ap (λ (i : Instr). (leaf_of xs maps i).mark tick) (sym (earlier.1 ∙ is)) in
-    ap (λ (m : Bool). marked || m) same
-    ∙ marked-among xs maps tick body place r.register (Const (pos 0)) earlier.0 (omega arith) ∙ sym (or-none marked)
+told-marks : (xs : List Stream) (maps : List Block) (tick : ℤ) (body : Block) (i place : ℕ) (own : Leaf)
+    → leaf_at body i ≡ record { place = place; instr = origin own } → place < length body → reads (origin own) ≡ true
+    → IsEarlier body place (repeated own) → i ≤ length (picked reads 0 body)
+    → (leaf_marked xs maps tick (take i (map instr_of (picked reads 0 body))) || (leaf_of xs maps (origin own)).mark tick)
+    ≡ (leaf_marked xs maps tick (take i (map instr_of (picked reads 0 body)))
+    || (told_by (repeated own) (leaf_of xs maps (origin own))).mark tick)
+told-marks xs maps tick body i place (kind.Port p) is within by earlier all = refl
+told-marks xs maps tick body i place (kind.Window w) is within by earlier all = refl
+told-marks xs maps tick body i place (kind.Again r) is within by earlier all =
+    let found = repeat-found body i place r is within by earlier.0 earlier.1 in
+    let block = map instr_of (picked reads 0 body) in
+    let count = length-map (picked reads 0 body) instr_of in
+    let marked = leaf_marked xs maps tick (take i block) in
+    let same : get_or block found.0 instr.Null ≡ r.instr =
+    get_or-map instr_of (picked reads 0 body) found.0 (record { place = length body; instr = instr.Null }) instr.Null found.2
+    ∙ ap instr_of found.3 in
+    ap (λ (i : Instr). marked || (leaf_of xs maps i).mark tick) (sym same)
+    ∙ marked-among xs maps tick block i found.0 instr.Null found.1 (omega arith) ∙ sym (or-none marked)
 
 -- the marks so far and those that a leaf tells are the marks so far and those of the leaf
-pub told-next : (xs : List Stream) (l : LoopParts) (place : ℕ) (j : Instr) (own : Leaf) (tick : ℤ) (answer : Option ℤ)
-    → IsEarlier l.body place (repeated own) → origin own ≡ leaf_only j → place < length l.body
-    → NamesNextMark (joined (body_of xs (record l { body = take place l.body })) (told_by (repeated own) (leaf_of xs l.maps j))) tick answer
-    → NamesNextMark (joined (body_of xs (record l { body = take place l.body })) (leaf_of xs l.maps j)) tick answer
-told-next xs l place j own tick answer earlier is within names =
-    names-same (joined (body_of xs (record l { body = take place l.body })) (leaf_of xs l.maps j))
-    (joined (body_of xs (record l { body = take place l.body })) (told_by (repeated own) (leaf_of xs l.maps j))) tick
-    (λ other above. told-marks xs l.maps other l.body place j own earlier is within) answer names
+pub told-next : (xs : List Stream) (l : LoopParts) (i place : ℕ) (own : Leaf) (tick : ℤ) (answer : Option ℤ)
+    → leaf_at l.body i ≡ record { place = place; instr = origin own } → place < length l.body → reads (origin own) ≡ true
+    → IsEarlier l.body place (repeated own) → i ≤ length (picked reads 0 l.body)
+    → NamesNextMark (joined (body_of xs (record l { body = take i (map instr_of (picked reads 0 l.body)) }))
+    (told_by (repeated own) (leaf_of xs l.maps (origin own)))) tick answer
+    → NamesNextMark (joined (body_of xs (record l { body = take i (map instr_of (picked reads 0 l.body)) }))
+    (leaf_of xs l.maps (origin own))) tick answer
+told-next xs l i place own tick answer is within by earlier all names =
+    names-same (joined (body_of xs (record l { body = take i (map instr_of (picked reads 0 l.body)) })) (leaf_of xs l.maps (origin own)))
+    (joined (body_of xs (record l { body = take i (map instr_of (picked reads 0 l.body)) })) (told_by (repeated own) (leaf_of xs l.maps (origin own))))
+    tick (λ other above. told-marks xs l.maps other l.body i place own is within by earlier all) answer names

@@ -15,10 +15,13 @@ use Rattle.tilt_stream.specs.Window.{met}
 use Rattle.tilt_stream.specs.declared.cursor.Cursor.{Cursor}
 use Rattle.tilt_turn.specs.Kinds.{kind_cells, kind_reducer}
 use Rattle.tilt_stream.specs.Marked.{marked}
+use Rattle.tilt_turn.specs.Picked.{computes, picked, reads}
 use Rattle.tilt_turn.specs.Ready.{IsReadableWindow}
+use Rattle.tilt_turn.specs.declared.computed.Listed.{Listed}
 use Rattle.tilt_turn.specs.declared.leaf.Leaf.{Leaf}
-use Rattle.tilt_turn.specs.declared.leaf.Leaf.TheVariants.{Again, Idle, Port, Window}
+use Rattle.tilt_turn.specs.declared.leaf.Leaf.TheVariants.{Again, Port, Window}
 use Rattle.tilt_turn.specs.declared.port.PortLeaf.{PortLeaf}
+use Rattle.tilt_turn.specs.declared.placed.Placed.{Placed}
 use Rattle.tilt_turn.specs.declared.repeat.Repeat.{Repeat}
 use Rattle.tilt_turn.specs.declared.span.WindowLeaf.{WindowLeaf}
 use Rattle.tilt_turn.specs.declared.moving.Moving.{Moving}
@@ -48,18 +51,15 @@ pub record Knows (list : List Snapshot) (w : Moving) : Type 0 where
   pub low : IfSome w.next (λ next. neg_ℤ WIDE <ℤ next)
   pub high : IfSome w.next (λ next. next ≤ℤ (WIDE +ℤ pos 1))
 
--- what a leaf reads, as the instruction that it was made of; no leaf is a null
+-- what a leaf reads, as the instruction that it was made of
 abbrev pub origin : Leaf → Instr
-origin Idle = instr.Null
 origin (Again r) = r.instr
 origin (Port p) = instr.Port p.buffer p.offset
 origin (Window w) = instr.Win (kind_reducer w.window.kind) w.buffer w.from w.to w.map
 
--- an instruction where it is a leaf, and else a null
-abbrev pub leaf_only : Instr → Instr
-leaf_only (instr.Port buffer offset) = instr.Port buffer offset
-leaf_only (instr.Win reducer buffer from to number) = instr.Win reducer buffer from to number
-leaf_only other = instr.Null
+-- the instruction of a leaf, with the number of its register
+abbrev pub as_listed : Placed → Listed
+as_listed p = record { place = p.place; instr = origin p.leaf }
 
 -- what is said of a cursor over a list, of which so many aren't kept, and of a tick
 abbrev pub OfCursor : Type 1
@@ -100,23 +100,9 @@ IsWindowAt says lists forgotten maps point w =
 
 -- a leaf that may be read, at a grid point
 abbrev pub IsLeafAt : OfCursor → List (List Snapshot) → List ℕ → List Block → ℤ → Leaf → Type 0
-IsLeafAt says lists forgotten maps point Idle = ⊤
 IsLeafAt says lists forgotten maps point (Again r) = ⊤
 IsLeafAt says lists forgotten maps point (Port p) = IsPortAt says lists forgotten point p
 IsLeafAt says lists forgotten maps point (Window w) = IsWindowAt says lists forgotten maps point w
-
--- a cell that may stand in the register of an instruction between turns: of a constant its value, of any other any cell
-abbrev pub IsStanding : Instr → Option ℤ → Type 0
-IsStanding (instr.Const number) cell = cell ≡ Some number
-IsStanding instr.Null cell = cell ≡ None
-IsStanding other cell = ⊤
-
--- one register for each instruction of a block, and in those of constants their values
-abbrev pub ConstantsStand : Block → List (Option ℤ) → Type 0
-ConstantsStand [] [] = ⊤
-ConstantsStand [] (cell ∷ cells) = ⊥
-ConstantsStand (i ∷ block) [] = ⊥
-ConstantsStand (i ∷ block) (cell ∷ cells) = IsStanding i cell × ConstantsStand block cells
 
 -- what a leaf repeats: one that reads again what an earlier one reads
 abbrev pub repeated : Leaf → Option Repeat
@@ -128,9 +114,24 @@ abbrev pub IsEarlier : Block → ℕ → Option Repeat → Type 0
 IsEarlier body place None = ⊤
 IsEarlier body place (Some r) = (r.register < place) × (get_or body r.register (instr.Const (pos 0)) ≡ r.instr)
 
--- and so at each place
-abbrev pub RepeatEarlier : Block → List (Option Repeat) → Type 0
-RepeatEarlier body repeats = (place : ℕ) → IsEarlier body place (get_or repeats place None)
+-- a leaf of a body that may be read, at a grid point
+abbrev pub IsPlacedAt : OfCursor → List (List Snapshot) → List ℕ → List Block → Block → ℤ → Placed → Type 0
+IsPlacedAt says lists forgotten maps body point p =
+    IsLeafAt says lists forgotten maps point p.leaf × IsEarlier body p.place (repeated p.leaf)
+
+-- a cell that may stand in the register of an instruction between turns: of a constant its value, of one that is gone over any cell
+abbrev pub IsStanding : Instr → Option ℤ → Type 0
+IsStanding (instr.Const number) cell = cell ≡ Some number
+IsStanding instr.Null cell = cell ≡ None
+IsStanding instr.Argument cell = cell ≡ None
+IsStanding other cell = ⊤
+
+-- one register for each instruction of a block, and in those of constants their values
+abbrev pub ConstantsStand : Block → List (Option ℤ) → Type 0
+ConstantsStand [] [] = ⊤
+ConstantsStand [] (cell ∷ cells) = ⊥
+ConstantsStand (i ∷ block) [] = ⊥
+ConstantsStand (i ∷ block) (cell ∷ cells) = IsStanding i cell × ConstantsStand block cells
 
 -- the register of what is repeated holds the cell of its leaf
 abbrev pub IsRead : (Instr → Option ℤ) → List (Option ℤ) → Option Repeat → Type 0
@@ -146,10 +147,11 @@ tells_marks (Some r) = false
 abbrev pub told_by : Option Repeat → Stream → Stream
 told_by repeat x = record { cell = x.cell; mark = λ tick. tells_marks repeat && x.mark tick }
 
--- the state of a loop that may go on to any grid point from this one on: its leaves are those of the body, and each holds what its ticks
--- meet at the grid point; what is kept of the lists doesn't matter to it. It has a register for each instruction of the body
+-- the state of a loop that may go on to any grid point from this one on: it goes over the leaves of the body, each of which holds what its
+-- ticks meet at the grid point, and over what is computed; what is kept of the lists doesn't matter to it. It has a register for each
+-- instruction of the body
 pub record IsFit (lists : List (List Snapshot)) (l : LoopParts) (point : ℤ) (state : LoopState) : Type 0 where
-  pub same : map origin state.leaves.items ≡ map leaf_only l.body
-  pub leaves : AllByRecursion (IsLeafAt MayGo lists [] l.maps point) state.leaves.items
+  pub same : map as_listed state.leaves.items ≡ picked reads 0 l.body
+  pub leaves : AllByRecursion (IsPlacedAt MayGo lists [] l.maps l.body point) state.leaves.items
+  pub computed : state.computed.items ≡ picked computes 0 l.body
   pub registers : ConstantsStand l.body state.registers.items
-  pub again : RepeatEarlier l.body (map repeated state.leaves.items)

@@ -1,5 +1,6 @@
 pub mod Held
 pub mod Kinds
+pub mod Picked
 pub mod Ready
 pub mod Same
 pub mod Sight

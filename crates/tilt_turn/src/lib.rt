@@ -3,10 +3,11 @@
 //! What comes in is a loop, the buffers before its own as one value, and the start of a snapshot; what goes out is that snapshot:
 //! the clause `snap` of `LoopState::turn` says that it is the one that `specs/Turn` of `tilt_code` defines. What is kept from turn
 //! to turn is a `LoopState`: for each port what it saw last, for each window the cells that it meets, the next mark of both, and a
-//! register for each instruction. The clause `fit` says that it is fit for the turns that follow. A turn goes over the body once. It
-//! reads a buffer only for a port or a window that comes to its next mark, and for a window that jumps past all that it held. It takes
-//! a few steps for each snapshot that its windows let in or out, and as many as the logarithm of those that its cursors pass; it takes
-//! memory as its windows grow, and for the registers of its maps.
+//! register for each instruction. The clause `fit` says that it is fit for the turns that follow. A turn goes over the leaves of the
+//! body, and then over what is computed by them; it doesn't look at constants. It reads a buffer only for a port or a window that
+//! comes to its next mark, and for a window that jumps past all that it held. It takes a few steps for each snapshot that its windows
+//! let in or out, and as many as the logarithm of those that its cursors pass; it takes memory as its windows grow, and for the
+//! registers of its maps.
 //!
 //! A turn reads no snapshot that ends below the first tick that it reads at its own grid point, so the buffers needn't keep any
 //! (`specs/Ready`, `IsKept`). Over other lists that tell the same up to the last tick that it reads (`specs/Same`), a fit state
@@ -14,11 +15,13 @@
 #![tactic(auto)]
 
 mod buffers;
+mod computed;
 mod kind;
 mod leaf;
 mod maps;
 mod marks;
 mod moving;
+mod placed;
 mod port;
 mod reading;
 mod register;

@@ -3,31 +3,33 @@ ghost use Rattle.std.specs.Prelude.{◌≡◌, ℕ, ℤ, pos, List, [], ◌+ℤ�
 ghost use Rattle.std.specs.List.{AllByRecursion};
 ghost use Rattle.tilt_base.specs.Grid.{ceil};
 ghost use Rattle.tilt_base.specs.declared.limits.TheConstants.{WIDE};
-ghost use Rattle.tilt_code.specs.Body.{body_of};
-ghost use Rattle.tilt_code.specs.Code.{Block};
+ghost use Rattle.tilt_code.specs.Body.{body_of, leaf_of};
 ghost use Rattle.tilt_code.specs.Turn.{turn};
 ghost use Rattle.tilt_stream.specs.Marks.{NamesNextMark};
 ghost use Rattle.tilt_stream.specs.Snap.{Snapshot};
 ghost use Rattle.tilt_stream.specs.Stream.{Stream, stream_of};
-ghost use Rattle.tilt_turn.specs.Held.{ConstantsStand, IsFit, IsLeafAt, MayGo, RepeatEarlier, StandsAt, leaf_only, origin, repeated};
-ghost use Rattle.tilt_turn.specs.Ready.{IsBodyTick, IsKept, IsMarkTick, IsReadable, IsReady, NameEarlier};
+ghost use Rattle.tilt_turn.specs.Held.{ConstantsStand, IsFit, IsPlacedAt, MayGo, StandsAt, as_listed};
+ghost use Rattle.tilt_turn.specs.Picked.{AreRead, computes, picked, reads};
+ghost use Rattle.tilt_turn.specs.Ready.{IsBodyTick, IsKept, IsMarkTick, IsReady, NameEarlier};
 ghost use Rattle.tilt_turn.specs.Sight.{Sees};
 
 use crate::buffers::Buffers;
-use crate::leaf::Leaf;
+use crate::computed::{Listed, compute, computed_of};
 use crate::marks::lesser;
+use crate::placed::{Placed, leaves_of};
 use crate::reading::Reading;
 use crate::register::{constants, last};
 use std::alloc::{AllocError as OutOfMemory, Global};
 use tilt_base::Cell;
-use tilt_code::{Instr, Loop};
+use tilt_code::Loop;
 use tilt_stream::{Seen, Snap};
 
 /// What is kept of a loop from one turn to the next: what each port saw last, what each window holds, and a register for each
 /// instruction, in which constants stand all the time. It takes memory as its windows grow, and for the registers of its maps.
 #[derive(Drop)]
 pub struct LoopState {
-    leaves: Vec<Leaf>,
+    leaves: Vec<Placed>,
+    computed: Vec<Listed>,
     registers: Vec<Cell>,
     arguments: Vec<Cell>,
 }
@@ -40,8 +42,10 @@ impl LoopState {
     {
         let registers = constants(alloc, &each.body)?;
         let leaves = leaves_of(alloc, &each.body)?;
+        let computed = computed_of(alloc, &each.body)?;
         Ok(LoopState {
             leaves,
+            computed,
             registers,
             arguments: Vec::new(alloc),
         })
@@ -76,6 +80,7 @@ impl LoopState {
         };
         let seen = body_seen(
             &mut self.leaves,
+            &self.computed,
             &reading,
             &mut self.registers,
             &mut self.arguments,
@@ -87,22 +92,6 @@ impl LoopState {
             value: seen.cell,
         })
     }
-}
-
-// The leaves of a body, which have read nothing so far.
-fn leaves_of(alloc: Global, body: &[Instr]) -> Result<Vec<Leaf>, OutOfMemory>
-    ensures same { IfOk result (λ leaves. map origin leaves.items ≡ map leaf_only body.now) }
-    ensures fit { IfOk result (λ leaves. (lists : List (List Snapshot)) (maps : List Block) (point : ℤ)
-        → AllByRecursion (IsReadable (length lists) (length maps)) body.now → neg_ℤ WIDE ≤ℤ point
-        → AllByRecursion (IsLeafAt MayGo lists [] maps point) leaves.items) }
-    ensures again { IfOk result (λ leaves. RepeatEarlier body.now (map repeated leaves.items)) }
-{
-    let mut leaves = Vec::new(alloc);
-    let mut distinct = Vec::new(alloc);
-    for place in 0..body.len() {
-        leaves.push(Leaf::at(alloc, body, place, &mut distinct)?)?;
-    }
-    Ok(leaves)
 }
 
 // The grid point at which the snapshot that begins at a start has its value.
@@ -117,42 +106,75 @@ fn point_of(each: &Loop, start: i64) -> i64
     each.grid.ceil(start + 1)
 }
 
-// Moves the leaves to the grid point of a reading, and gives the result of the body there, and its next mark: the least of those of
-// the leaves. Every register but those of constants is written by its number, after those that its instruction names.
+// The result of a body at the grid point of a reading, and its next mark: first the leaves move there, and then what is computed by them
+// is computed.
+#[inline]
 fn body_seen<S: Buffers>(
-    leaves: &mut [Leaf],
+    leaves: &mut [Placed],
+    computed: &[Listed],
     reading: &Reading<'_, '_, S>,
     registers: &mut [Cell],
     arguments: &mut Vec<Cell>,
 ) -> Result<Seen, OutOfMemory>
-    requires same { map origin leaves.old ≡ map leaf_only reading.now.each.now.body }
+    requires same { map as_listed leaves.old ≡ picked reads 0 reading.now.each.now.body }
+    requires computed { computed.now ≡ picked computes 0 reading.now.each.now.body }
     requires names { NameEarlier 0 reading.now.each.now.body }
     requires earlier { AllByRecursion (NameEarlier 0) reading.now.each.now.maps }
-    requires again { RepeatEarlier reading.now.each.now.body (map repeated leaves.old) }
     requires stand { ConstantsStand reading.now.each.now.body registers.old }
     requires near { IsBodyTick reading.now.point }
-    requires fit { (before : ℤ) × (before ≤ℤ reading.now.point)
-        × AllByRecursion (IsLeafAt MayGo (S.lists reading.now.buffers.now) [] reading.now.each.now.maps before) leaves.old }
+    requires fit { (before : ℤ) × (before ≤ℤ reading.now.point) × AllByRecursion (IsPlacedAt MayGo
+        (S.lists reading.now.buffers.now) [] reading.now.each.now.maps reading.now.each.now.body before) leaves.old }
     requires kept { AllByRecursion (IsKept (S.lists reading.now.buffers.now) (S.forgotten reading.now.buffers.now) reading.now.point)
         reading.now.each.now.body }
-    ensures at { OnOk result (AllByRecursion (IsLeafAt StandsAt (S.lists reading.now.buffers.now) (S.forgotten reading.now.buffers.now)
-        reading.now.each.now.maps reading.now.point) leaves.new) }
-    ensures same { OnOk result (map origin leaves.new ≡ map origin leaves.old) }
-    ensures again { OnOk result (map repeated leaves.new ≡ map repeated leaves.old) }
+    ensures at { OnOk result (AllByRecursion (IsPlacedAt StandsAt (S.lists reading.now.buffers.now)
+        (S.forgotten reading.now.buffers.now) reading.now.each.now.maps reading.now.each.now.body reading.now.point) leaves.new) }
+    ensures same { OnOk result (map as_listed leaves.new ≡ map as_listed leaves.old) }
     ensures stand { OnOk result (ConstantsStand reading.now.each.now.body registers.new) }
     ensures seen { IfOk result
         (Sees (body_of (map stream_of (S.lists reading.now.buffers.now)) reading.now.each.now) reading.now.point) }
 {
-    let each = reading.each;
-    let mut next = None;
-    for (place, instr) in each.body.iter().enumerate() {
-        let above = leaves[place].step(instr, place, reading, registers, arguments)?;
-        next = lesser(next, above);
-    }
+    let next = leaves_next(leaves, reading, registers, arguments)?;
+    compute(computed, registers);
     Ok(Seen {
         cell: last(registers),
         next,
     })
+}
+
+// Moves the leaves to the grid point of a reading, and gives the next mark of the body, which is the least of theirs. Each writes its
+// register.
+#[inline]
+fn leaves_next<S: Buffers>(
+    leaves: &mut [Placed],
+    reading: &Reading<'_, '_, S>,
+    registers: &mut [Cell],
+    arguments: &mut Vec<Cell>,
+) -> Result<Option<i64>, OutOfMemory>
+    requires same { map as_listed leaves.old ≡ picked reads 0 reading.now.each.now.body }
+    requires earlier { AllByRecursion (NameEarlier 0) reading.now.each.now.maps }
+    requires stand { ConstantsStand reading.now.each.now.body registers.old }
+    requires near { IsBodyTick reading.now.point }
+    requires fit { (before : ℤ) × (before ≤ℤ reading.now.point) × AllByRecursion (IsPlacedAt MayGo
+        (S.lists reading.now.buffers.now) [] reading.now.each.now.maps reading.now.each.now.body before) leaves.old }
+    requires kept { AllByRecursion (IsKept (S.lists reading.now.buffers.now) (S.forgotten reading.now.buffers.now) reading.now.point)
+        reading.now.each.now.body }
+    ensures at { OnOk result (AllByRecursion (IsPlacedAt StandsAt (S.lists reading.now.buffers.now)
+        (S.forgotten reading.now.buffers.now) reading.now.each.now.maps reading.now.each.now.body reading.now.point) leaves.new) }
+    ensures same { OnOk result (map as_listed leaves.new ≡ map as_listed leaves.old) }
+    ensures stand { OnOk result (ConstantsStand reading.now.each.now.body registers.new) }
+    ensures read { OnOk result (AreRead
+        (λ leaf. (leaf_of (map stream_of (S.lists reading.now.buffers.now)) reading.now.each.now.maps leaf).cell reading.now.point)
+        reading.now.each.now.body registers.new) }
+    ensures next { IfOk result
+        (NamesNextMark (body_of (map stream_of (S.lists reading.now.buffers.now)) reading.now.each.now) reading.now.point) }
+    ensures bounds { IfOk result (λ next. IfSome next IsMarkTick) }
+{
+    let mut next = None;
+    for number in 0..leaves.len() {
+        let above = leaves[number].step(reading, registers, arguments)?;
+        next = lesser(next, above);
+    }
+    Ok(next)
 }
 
 // Where a snapshot ends whose body next has a mark there.

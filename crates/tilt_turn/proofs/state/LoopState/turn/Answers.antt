@@ -1,4 +1,4 @@
-use Rattle.std.proofs.Common.{◌≡◌, ◌∙◌, ap, sym, subst, FitsSigned, w64, to_z, of_z, pos, ◌+ℤ◌, List, [], map, drop, length, rules, arith}
+use Rattle.std.proofs.Common.{◌≡◌, ◌∙◌, ap, sym, subst, FitsSigned, w64, to_z, of_z, pos, ◌+ℤ◌, [], map, drop, length, rules, arith}
 use Rattle.std.specs.List.{AllByRecursion}
 use Rattle.std.proofs.lemmas.Int.{to_z-of_z}
 use Rattle.std.proofs.lemmas.List.{length-map, take_at}
@@ -7,12 +7,12 @@ use Rattle.tilt_code.proofs.Turns.{turn-ends}
 use Rattle.tilt_code.specs.Body.{body_of}
 use Rattle.tilt_code.specs.Turn.{turn}
 use Rattle.tilt_stream.specs.Stream.{stream_of}
-use Rattle.tilt_turn.proofs.Origins.{leaf-may}
+use Rattle.tilt_turn.proofs.Origins.{placed-may}
 use Rattle.tilt_turn.proofs.Registers.{stand-length}
 use Rattle.tilt_turn.proofs.Stepwise.{all-weaker}
-use Rattle.tilt_turn.specs.Held.{ConstantsStand, IsLeafAt, MayGo, RepeatEarlier, StandsAt, leaf_only, origin, repeated}
+use Rattle.tilt_turn.specs.Held.{ConstantsStand, IsPlacedAt, MayGo, StandsAt, as_listed}
+use Rattle.tilt_turn.specs.Picked.{picked, reads}
 use Rattle.tilt_turn.specs.Sight.{Sees}
-use Rattle.tilt_turn.specs.declared.leaf.Leaf.{Leaf}
 use Rattle.tilt_turn.proofs.state.LoopState.turn.Goals as goal
 use Rattle.tilt_turn.proofs.state.LoopState.turn.Goals.{After-turn_end-end, In_ok-seen}
 use Rattle.tilt_turn.proofs.state.LoopState.turn.Given.{Over}
@@ -67,8 +67,8 @@ returns-clause-fit g c =
     let new = c.body_seen.new.leaves in
     let old = c.deref_mut.result.now in
     let same = ap length c.in_ok-seen.ensures.same in
-    let a = length-map new origin in
-    let b = length-map old origin in
+    let a = length-map new as_listed in
+    let b = length-map old as_listed in
     let len : length new ≡ c.args.self.now.leaves.len = omega arith in
     let cells = c.body_seen.new.registers in
     let here : c.deref_mut-2.result.now ≡ c.args.self.now.registers.items = c.deref_mut-2.ensures.value in
@@ -82,15 +82,13 @@ returns-clause-fit g c =
     let fits : FitsSigned w64 point = search rules in
     let at = rw (to_z-of_z w64 point fits) at c.in_ok-seen.ensures.at in
     let value : point ≡ ceil each.grid (c.args.start +ℤ pos 1) = rw (to_z-of_z w64 c.args.start c.ranges.start) at c.point_of-point.ensures.value in
-    let instrs : map origin new ≡ map leaf_only each.body =
-    c.in_ok-seen.ensures.same ∙ ap (map origin) c.deref_mut.ensures.value ∙ c.requires.fit.2.same in
-    let repeats : map repeated new ≡ map repeated c.args.self.now.leaves.items =
-    c.in_ok-seen.ensures.again ∙ ap (map repeated) c.deref_mut.ensures.value in
-    let may = all-weaker (λ (own : Leaf). IsLeafAt StandsAt lists forgotten each.maps point own)
-    (λ (own : Leaf). IsLeafAt MayGo lists [] each.maps point own) new (leaf-may lists forgotten each.maps point) at in
+    let instrs : map as_listed new ≡ picked reads 0 each.body =
+    c.in_ok-seen.ensures.same ∙ ap (map as_listed) c.deref_mut.ensures.value ∙ c.requires.fit.2.same in
+    let may = all-weaker (IsPlacedAt StandsAt lists forgotten each.maps each.body point) (IsPlacedAt MayGo lists [] each.maps each.body point) new
+    (placed-may lists forgotten each.maps each.body point) at in
     rw (← value) (record {
-      same = ap (map origin) leaves ∙ instrs;
-      leaves = subst (λ (ls : List Leaf). AllByRecursion (IsLeafAt MayGo lists [] each.maps point) ls) (sym leaves) may;
-      again = subst (RepeatEarlier each.body) (sym (ap (map repeated) leaves ∙ repeats)) c.requires.fit.2.again;
+      same = ap (map as_listed) leaves ∙ instrs;
+      leaves = subst (AllByRecursion (IsPlacedAt MayGo lists [] each.maps each.body point)) (sym leaves) may;
+      computed = c.requires.fit.2.computed;
       registers = subst (ConstantsStand each.body) (sym registers) stand;
     })
