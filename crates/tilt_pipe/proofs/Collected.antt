@@ -1,44 +1,30 @@
 -- The snapshots of a code's run, taken one after the other.
-use Rattle.std.proofs.Common.{◌≡◌, ◌<◌, ℕ, zero, suc, neg_ℤ, ◌≤ℤ◌, List, [], ◌∷◌, ◌++◌, length, take, slice_get, Option, Some, None, refl, sym, ap, ◌∙◌, arith}
+use Rattle.std.proofs.Common.{◌≡◌, ◌-◌, ℕ, zero, suc, neg_ℤ, ◌≤ℤ◌, List, [], ◌∷◌, ◌++◌, length, take, slice_get, Option, Some, None, refl, sym, ap, ◌∙◌, subst}
 use Rattle.std.proofs.lemmas.Option.{same_Some, none-some}
-use Rattle.std.specs.List.{AllByRecursion}
 use Rattle.std.specs.Option.{ForSome}
-use Rattle.tilt_base.proofs.Lists.{one-more}
+use Rattle.tilt_base.proofs.Lists.{all-slice_get, one-more}
 use Rattle.tilt_base.specs.declared.limits.TheConstants.{WIDE}
 use Rattle.tilt_stream.proofs.Filling.{Fill-AreSnapshots}
-use Rattle.tilt_code.proofs.Runs.{run-Fill, loops-timed}
-use Rattle.tilt_code.specs.Code.{LoopParts, CodeParts}
+use Rattle.tilt_code.proofs.Runs.{loops-timed}
+use Rattle.tilt_code.specs.Code.{CodeParts}
 use Rattle.tilt_code.specs.Grammar.{IsLoop}
 use Rattle.tilt_code.specs.References.{IsCode}
 use Rattle.tilt_code.specs.Run.{run_of}
+use Rattle.tilt_pipe.proofs.Works.{last-loop, work-fills, work-is}
 use Rattle.tilt_pipe.specs.Value.{PipeParts}
 use Rattle.tilt_stream.proofs.Places.{read-within}
 use Rattle.tilt_stream.specs.Snap.{Snapshot, AreSnapshots, Touch, last_end}
 
--- loops of which there are some end with one
-pub record EndsWith (loops : List LoopParts) : Type 0 where
-  pub front : List LoopParts
-  pub loop : LoopParts
-  pub ends : loops ≡ front ++ loop ∷ []
-  pub bounded : IsLoop loop
-
-last-loop : (l : LoopParts) (loops : List LoopParts) → AllByRecursion IsLoop (l ∷ loops) → EndsWith (l ∷ loops)
-last-loop l [] h = record { front = []; loop = l; ends = refl; bounded = h.0 }
-last-loop l (next ∷ loops) h =
-    let rest = last-loop next loops h.1 in
-    record { front = l ∷ rest.front; loop = rest.loop; ends = ap (λ ls. l ∷ ls) rest.ends; bounded = rest.bounded }
-
-ends-with : (loops : List LoopParts) → 0 < length loops → AllByRecursion IsLoop loops → EndsWith loops
-ends-with [] some h = absurd (omega arith)
-ends-with (l ∷ loops) some h = last-loop l loops h
-
 -- the run of a code is a list of snapshots
 pub run-snapshots : (code : CodeParts) (inputs : List (List Snapshot)) → IsCode code → AreSnapshots (run_of code inputs)
 run-snapshots code inputs is =
-    let last = ends-with code.loops is.grammatical.some is.grammatical.loops in
-    let stretch = last.bounded.stretch in
-    Fill-AreSnapshots last.loop.lo last.loop.hi (run_of code inputs) stretch.low stretch.high
-    (run-Fill code inputs last.front last.loop last.ends (loops-timed code.loops is.grammatical.loops))
+    let l = last-loop code inputs is in
+    let loop = (work-is code inputs (length code.loops - 1) l.work l.is).loop in
+    let stretch = (all-slice_get IsLoop code.loops (length code.loops - 1) l.work.loop is.grammatical.loops loop).stretch in
+    let timed = loops-timed code.loops is.grammatical.loops in
+    subst AreSnapshots l.run
+    (Fill-AreSnapshots l.work.loop.lo l.work.loop.hi l.work.whole stretch.low stretch.high
+    (work-fills code inputs (length code.loops - 1) l.work timed l.is).0)
 
 -- the one at a place starts where those before it end
 touches-at : (all : List Snapshot) (place : ℕ) (s : Snapshot) → Touch all → slice_get all place ≡ Some s

@@ -1,298 +1,304 @@
--- When what the loops of a pipe have made is exactly what they have made after so many snapshots were given out.
-use Rattle.std.proofs.Common.{◌≡◌, ◌⊎◌, inl, inr, ◌<◌, ◌≤◌, ℕ, zero, suc, ◌+◌, ℤ, ◌+ℤ◌, ◌<ℤ◌, ◌≤ℤ◌, List, [], ◌∷◌, map, length, take, slice_get, Option, Some, None, refl, sym, ap, ◌∙◌, subst}
-use Rattle.std.proofs.Common.{arith, Contains}
-use Rattle.std.proofs.lemmas.Int.{ints, by_lt_z}
-use Rattle.std.proofs.lemmas.List.{length-take, take_min}
+-- When what the loops of a pipe have made is exactly what they have made after so many snapshots were given out: it is the least that is
+-- enough for what the last turns of later loops read.
+use Rattle.std.proofs.Common.{◌≡◌, ◌<◌, ◌≤◌, ℕ, zero, suc, ℤ, ◌<ℤ◌, ◌≤ℤ◌, Bool, true, false, if◌then◌else◌, int_lt, int_le, List, [], ◌∷◌, length, take, Option, Some, None, refl, sym, ap, ◌∙◌, arith}
+use Rattle.std.proofs.Common.{◌==◌, ◌+ℤ◌, slice_get, subst, Contains, ◌-◌, option_map}
+use Rattle.std.proofs.lemmas.Int.{ints, by_lt_z, clamps}
 use Rattle.std.specs.Bool.{⊤}
+use Rattle.std.proofs.lemmas.Bool.{eq-eqb}
+use Rattle.std.proofs.lemmas.List.{length-take, take_min}
+use Rattle.std.proofs.lemmas.Option.{same_Some}
+use Rattle.tilt_stream.proofs.Filling.{Fill-up}
 use Rattle.tilt_stream.specs.Pieces.{last_start}
-use Rattle.tilt_pipe.proofs.Begun.{made-front, begun-front, begun-more, begun-enough}
-use Rattle.tilt_pipe.proofs.Standing.{none-made}
-use Rattle.tilt_pipe.proofs.Wanted.{stage_at, turn_point-rises}
-use Rattle.tilt_pipe.specs.Enough.{IsFilled, AreFilled, IsStanding, AreStanding, made_in, AreWithin, IsEnough, AreEnough}
-use Rattle.tilt_pipe.specs.Made.{Work, Stage, read_by_turn, asked, begun_below, stages_from}
-use Rattle.tilt_pipe.specs.Positions.{made_by, stages_at}
-use Rattle.tilt_pipe.specs.Reads.{body_reads, last_tick, turn_point}
+use Rattle.tilt_stream.specs.Snap.{Snapshot, Fill, last_end}
+use Rattle.tilt_pipe.proofs.Standing.{ended-after}
+use Rattle.tilt_pipe.specs.Made.{begun_below, Stage, read_by_turn, asked, Work, stages_from}
+use Rattle.tilt_pipe.specs.Positions.{made_by}
+use Rattle.tilt_pipe.specs.Rings.{end_or}
+use Rattle.tilt_pipe.specs.Reads.{body_reads, later, last_tick, turn_point}
 use Rattle.tilt_pipe.specs.declared.read.Read.{Read}
-use Rattle.tilt_stream.specs.Snap.{Snapshot}
-use Rattle.tilt_pipe.proofs.Placed.{standing-at, stage-position, made_in-at}
-use Rattle.tilt_pipe.proofs.Asked.{IsAsFar, later-rises, last_tick-found, read_by_turn-rises, begun-as_far, starts-rise, begins-beyond, asked-found, far-trans}
+use Rattle.tilt_pipe.proofs.Wanted.{turn_point-rises}
+use Rattle.tilt_pipe.specs.Pulled.{AreEnough, AreFilled, IsFilled, made_in, start_after}
 
--- two fronts of a list that are as long are one
-fronts-same : (whole a b : List Snapshot) → a ≡ take (length a) whole → b ≡ take (length b) whole → length a ≡ length b → a ≡ b
-fronts-same whole a b is also long = is ∙ ap (λ (n : ℕ). take n whole) long ∙ sym also
+-- where so many of them end
+abbrev pub ended : ℤ → List Snapshot → ℕ → ℤ
+ended lo whole n = end_or lo (last_end (take n whole))
 
--- a loop that has made enough, and no more than begins below what is asked of it, has made exactly that
-enough-length : (w : Work) (start : ℤ) (tick : Option ℤ) → IsStanding w start → IsEnough (stage_at w start) tick
-    → length (begun_below tick w.whole) ≤ length (made_by start w.whole)
-enough-length w start None stands enough = omega arith
-enough-length w start (Some tick) stands enough =
-    begun-enough w.loop.lo w.loop.hi start tick w.whole stands.filled.whole stands.fill
-    (subst (λ (at : ℤ). (w.loop.hi ≤ℤ at) ⊎ (tick ≤ℤ at)) (stage-position w start stands) enough)
+-- more of them end no earlier
+pub ended-rises : (lo hi : ℤ) (whole : List Snapshot) (m n : ℕ) → Fill lo hi whole → m ≤ n → ended lo whole m ≤ℤ ended lo whole n
+ended-rises lo hi whole zero zero h le = omega (arith, ints)
+ended-rises lo hi [] zero (suc n) h le = omega (arith, ints)
+ended-rises lo hi (s ∷ ss) zero (suc n) h le =
+    rw (ended-after lo s (take n ss)) (omega (arith, ints, h.1, ended-rises s.end hi ss 0 n h.2 (omega arith)))
+ended-rises lo hi whole (suc m) zero h le = absurd (omega arith)
+ended-rises lo hi [] (suc m) (suc n) h le = omega (arith, ints)
+ended-rises lo hi (s ∷ ss) (suc m) (suc n) h le =
+    rw (ended-after lo s (take m ss), ended-after lo s (take n ss)) (ended-rises s.end hi ss m n h.2 (omega arith))
 
-made-exactly : (w : Work) (start : ℤ) (tick : Option ℤ) → IsStanding w start → IsEnough (stage_at w start) tick
-    → length (made_by start w.whole) ≤ length (begun_below tick w.whole) → made_by start w.whole ≡ begun_below tick w.whole
-made-exactly w start tick stands enough within =
-    let least = enough-length w start tick stands enough in
-    fronts-same w.whole (made_by start w.whole) (begun_below tick w.whole) (made-front start w.whole) (begun-front tick w.whole)
-    (omega arith)
+-- the last of one more starts there
+pub begins-at : (lo hi : ℤ) (whole : List Snapshot) (n : ℕ) → Fill lo hi whole → n < length whole
+    → last_start (take (suc n) whole) ≡ Some (ended lo whole n)
+begins-at lo hi [] n h less = absurd (omega arith)
+begins-at lo hi (s ∷ ss) zero h less = ap (λ (tick : ℤ). Some tick) h.0
+begins-at lo hi (s ∷ []) (suc n) h less = absurd (omega arith)
+begins-at lo hi (s ∷ next ∷ ss) (suc n) h less =
+    begins-at s.end hi (next ∷ ss) n h.2 (omega arith) ∙ ap (λ (tick : ℤ). Some tick) (sym (ended-after lo s (take n (next ∷ ss))))
 
--- loops that have made enough, and no more than after so many snapshots, have made exactly that, where the last one has
-pub exact : (given buffer : ℕ) (works : List Work) (starts : List ℤ) (last : ℕ) (w : Work) (start : ℤ) → AreStanding works starts
-    → AreWithin (stages_at works starts) (stages_from given buffer works) → AreEnough buffer (stages_at works starts)
-    → suc last ≡ length works → slice_get works last ≡ Some w → slice_get starts last ≡ Some start
-    → made_by start w.whole ≡ take given w.whole → stages_at works starts ≡ stages_from given buffer works
-exact given buffer [] starts last w start all within enough long is at made = absurd (cc is)
-exact given buffer (x ∷ works) [] last w start all within enough long is at made = absurd all
-exact given buffer (x ∷ []) (y ∷ []) zero w start all within enough long is at made =
-    let same : w ≡ x = cc in
-    let stands : start ≡ y = cc in
-    let whole : made_by y x.whole ≡ take given x.whole =
-    subst (λ (t : ℤ). made_by t x.whole ≡ take given x.whole) stands
-    (subst (λ (v : Work). made_by start v.whole ≡ take given v.whole) same made) in
-    ap (λ (list : List Snapshot). record { work = x; made = list } ∷ []) whole
-exact given buffer (x ∷ []) (y ∷ z ∷ starts) zero w start all within enough long is at made = absurd all.1
-exact given buffer (x ∷ []) (y ∷ starts) (suc last) w start all within enough long is at made = absurd (cc is)
-exact given buffer (x ∷ next ∷ works) (y ∷ starts) zero w start all within enough long is at made = absurd (omega arith)
-exact given buffer (x ∷ next ∷ works) (y ∷ starts) (suc last) w start all within enough long is at made =
-    let behind = stages_from given (suc buffer) (next ∷ works) in
-    let rest : stages_at (next ∷ works) starts ≡ behind =
-    exact given (suc buffer) (next ∷ works) starts last w start all.1 within.1 enough.1 (omega arith) is at made in
-    let first = made-exactly x y (asked buffer behind) all.0
-    (subst (λ (stages : List Stage). IsEnough (stage_at x y) (asked buffer stages)) rest enough.0) within.0 in
-    ap (λ (stages : List Stage). stage_at x y ∷ stages) rest
-    ∙ ap (λ (list : List Snapshot). record { work = x; made = list } ∷ behind) first
+-- both are the first ones
+prefix-of : (first : List Snapshot → List Snapshot) (test : Snapshot → Bool) → first [] ≡ []
+    → ((s : Snapshot) (ss : List Snapshot) → first (s ∷ ss) ≡ (if test s then s ∷ first ss else [])) → (list : List Snapshot)
+    → first list ≡ take (length (first list)) list
+prefix-of first test none one [] = rw none refl
+prefix-of first test none one (s ∷ ss) = rw (one s ss) (by (test s) (prefix-of first test none one ss))
+  where
+    by : (is : Bool) → first ss ≡ take (length (first ss)) ss
+        → (if is then s ∷ first ss else []) ≡ take (length (if is then s ∷ first ss else [])) (s ∷ ss)
+    by true rest = ap (λ (list : List Snapshot). s ∷ list) rest
+    by false rest = refl
 
--- a loop that has made what begins below a tick that is asked of it has made enough
-enough-of : (w : Work) (start : ℤ) (tick : Option ℤ) → IsStanding w start → made_by start w.whole ≡ begun_below tick w.whole
-    → IsEnough (stage_at w start) tick
-enough-of w start None stands is = tt
-enough-of w start (Some tick) stands is =
-    subst (λ (at : ℤ). (w.loop.hi ≤ℤ at) ⊎ (tick ≤ℤ at)) (sym (stage-position w start stands))
-    (by_lt_z start w.loop.hi
-    (λ before. by_lt_z start tick
-    (λ below.
-    let more = begun-more w.loop.lo w.loop.hi start tick w.whole stands.filled.whole stands.fill before below in
-    let long = ap (λ (list : List Snapshot). length list) is in
-    absurd (omega arith))
-    (λ reached. inr reached))
-    (λ ended. inl ended))
+pub made-prefix : (tick : ℤ) (list : List Snapshot) → made_by tick list ≡ take (length (made_by tick list)) list
+made-prefix tick = prefix-of (made_by tick) (λ s. int_le s.end tick) refl (λ s ss. refl)
 
-pub star-enough : (given buffer : ℕ) (works : List Work) (starts : List ℤ) → AreStanding works starts
-    → stages_at works starts ≡ stages_from given buffer works → AreEnough buffer (stages_at works starts)
-star-enough given buffer [] starts all is = tt
-star-enough given buffer (x ∷ works) [] all is = absurd all
-star-enough given buffer (x ∷ []) (y ∷ starts) all is = (tt, tt)
-star-enough given buffer (x ∷ next ∷ works) (y ∷ starts) all is =
-    let behind = stages_from given (suc buffer) (next ∷ works) in
-    let rest : stages_at (next ∷ works) starts ≡ behind = cc is in
-    let first : stage_at x y ≡ record { work = x; made = begun_below (asked buffer behind) x.whole } = cc is in
-    let made = ap (λ (s : Stage). s.made) first in (
-      subst (λ (stages : List Stage). IsEnough (stage_at x y) (asked buffer stages)) (sym rest)
-          (enough-of x y (asked buffer behind) all.0 made),
-      star-enough given (suc buffer) (next ∷ works) starts all.1 rest,
-    )
+begun-prefix : (tick : Option ℤ) (list : List Snapshot) → begun_below tick list ≡ take (length (begun_below tick list)) list
+begun-prefix None list = refl
+begun-prefix (Some tick) list = prefix-of (begun_below (Some tick)) (λ s. int_lt s.start tick) refl (λ s ss. refl) list
 
--- before the first snapshot no loop has made any
-pub asked-none : (buffer first : ℕ) (works : List Work) → asked buffer (stages_from 0 first works) ≡ None
-asked-none buffer first [] = refl
-asked-none buffer first (w ∷ []) = refl
-asked-none buffer first (w ∷ next ∷ works) =
-    rw (asked-none first (suc first) (next ∷ works)) (asked-none buffer (suc first) (next ∷ works))
+-- a tick is none, or no later than one
+abbrev pub IsUpTo : ℤ → Option ℤ → Type 0
+IsUpTo at None = ⊤
+IsUpTo at (Some tick) = tick ≤ℤ at
 
-pub none-yet : (buffer : ℕ) (works : List Work) → AreFilled works
-    → stages_at works (map (λ (w : Work). w.loop.lo) works) ≡ stages_from 0 buffer works
-none-yet buffer [] all = refl
-none-yet buffer (w ∷ []) all =
-    ap (λ (list : List Snapshot). record { work = w; made = list } ∷ []) (none-made w.loop.lo w.loop.hi w.whole all.0.whole)
-none-yet buffer (w ∷ next ∷ works) all =
-    let behind = stages_from 0 (suc buffer) (next ∷ works) in
-    let none : made_by w.loop.lo w.whole ≡ begun_below (asked buffer behind) w.whole =
-    none-made w.loop.lo w.loop.hi w.whole all.0.whole
-    ∙ sym (ap (λ (tick : Option ℤ). begun_below tick w.whole) (asked-none buffer (suc buffer) (next ∷ works))) in
-    let rest = stages_at (next ∷ works) (map (λ (v : Work). v.loop.lo) (next ∷ works)) in
-    ap (λ (list : List Snapshot). record { work = w; made = list } ∷ rest) none
-    ∙ ap (λ (stages : List Stage). record { work = w; made = begun_below (asked buffer behind) w.whole } ∷ stages)
-    (none-yet (suc buffer) (next ∷ works) all.1)
+-- those that begin below a tick are the fewest that reach it, or their end
+pub begun-least : (lo hi : ℤ) (tick : Option ℤ) (whole : List Snapshot) (n : ℕ) → Fill lo hi whole
+    → (ended lo whole n <ℤ hi → IsUpTo (ended lo whole n) tick) → length (begun_below tick whole) ≤ n
+begun-least lo hi None whole n h reached = omega arith
+begun-least lo hi (Some tick) [] n h reached = omega arith
+begun-least lo hi (Some tick) (s ∷ ss) zero h reached =
+    let starts = h.0 in
+    let high = reached (omega (arith, ints, h.1, Fill-up s.end hi ss h.2)) in
+    let outside : int_lt s.start tick ≡ false = grind (arith, ints) in
+    rw outside (omega arith)
+begun-least lo hi (Some tick) (s ∷ ss) (suc n) h reached =
+    by (int_lt s.start tick) (begun-least s.end hi (Some tick) ss n h.2 (rw (ended-after lo s (take n ss)) at reached))
+  where
+    by : (is : Bool) → length (begun_below (Some tick) ss) ≤ n → length (if is then s ∷ begun_below (Some tick) ss else []) ≤ suc n
+    by true rest = omega arith
+    by false rest = omega arith
 
--- a loop that has made a front of its buffer, and there as much or more
-record HasMore (s t : Stage) : Type 0 where
-  work : t.work ≡ s.work
-  filled : IsFilled s.work
-  front : s.made ≡ take (length s.made) s.work.whole
-  more : t.made ≡ take (length t.made) s.work.whole
-  count : length s.made ≤ length t.made
+pub begun-reaches : (lo hi tick : ℤ) (whole : List Snapshot) → Fill lo hi whole
+    → ended lo whole (length (begun_below (Some tick) whole)) <ℤ hi → tick ≤ℤ ended lo whole (length (begun_below (Some tick) whole))
+begun-reaches lo hi tick [] h = λ before. absurd (omega (arith, ints))
+begun-reaches lo hi tick (s ∷ ss) h =
+    let starts = h.0 in
+    by_lt_z s.start tick
+    (λ low.
+    let inside : int_lt s.start tick ≡ true = grind (arith, ints) in
+    rw (inside, ended-after lo s (take (length (begun_below (Some tick) ss)) ss)) (begun-reaches s.end hi tick ss h.2))
+    (λ high.
+    let outside : int_lt s.start tick ≡ false = grind (arith, ints) in
+    rw outside (λ before. omega (arith, ints)))
 
-abbrev HaveMore : List Stage → List Stage → Type 0
-HaveMore [] [] = ⊤
-HaveMore [] (t ∷ ts) = ⊥
-HaveMore (s ∷ ss) [] = ⊥
-HaveMore (s ∷ ss) (t ∷ ts) = HasMore s t × HaveMore ss ts
+-- the later of two ticks is where both are
+later-up : (at : ℤ) (a b : Option ℤ) → IsUpTo at a → IsUpTo at b → IsUpTo at (later a b)
+later-up at None b h k = k
+later-up at (Some a) None h k = h
+later-up at (Some a) (Some b) h k = omega (arith, ints, clamps)
 
-more-within : (ss ts : List Stage) → HaveMore ss ts → AreWithin ss ts
-more-within [] [] h = tt
-more-within [] (t ∷ ts) h = absurd h
-more-within (s ∷ ss) [] h = absurd h
-more-within (s ∷ ss) (t ∷ ts) h = (h.0.count, more-within ss ts h.1)
+later-both : (at : ℤ) (a b : Option ℤ) → IsUpTo at (later a b) → IsUpTo at a × IsUpTo at b
+later-both at None b h = (tt, h)
+later-both at (Some a) None h = (h, tt)
+later-both at (Some a) (Some b) h = (omega (arith, ints, clamps), omega (arith, ints, clamps))
 
-more-read : (buffer : ℕ) (s t : Stage) → HasMore s t
-    → IsAsFar (read_by_turn buffer s.work.loop (last_start s.made)) (read_by_turn buffer t.work.loop (last_start t.made))
-more-read buffer s t h =
-    let starts : IsAsFar (last_start s.made) (last_start t.made) =
-    subst (λ (list : List Snapshot). IsAsFar (last_start s.made) (last_start list)) (sym h.more)
-    (subst (λ (list : List Snapshot). IsAsFar (last_start list) (last_start (take (length t.made) s.work.whole))) (sym h.front)
-    (starts-rise s.work.loop.lo s.work.loop.hi s.work.whole (length s.made) (length t.made) h.filled.whole h.count)) in
-    subst (λ (w : Work). IsAsFar (read_by_turn buffer s.work.loop (last_start s.made)) (read_by_turn buffer w.loop (last_start t.made)))
-    (sym h.work) (read_by_turn-rises buffer s.work.loop (last_start s.made) (last_start t.made) h.filled.grid starts)
+-- the last tick of some reads is where that of each is
+last_tick-up : (buffer : ℕ) (point at : ℤ) (reads : List Read)
+    → ((r : Read) → Contains reads r → r.buffer ≡ buffer → (point +ℤ r.last) ≤ℤ at) → IsUpTo at (last_tick buffer point reads)
+last_tick-up buffer point at [] each = tt
+last_tick-up buffer point at (x ∷ reads) each =
+    by (x.buffer == buffer) refl
+    (last_tick-up buffer point at reads (λ r among is. each r (suc among.0, omega (arith, among.1), among.2) is))
+  where
+    by : (test : Bool) → (x.buffer == buffer) ≡ test → IsUpTo at (last_tick buffer point reads)
+        → IsUpTo at (if test then later (Some (point +ℤ x.last)) (last_tick buffer point reads) else last_tick buffer point reads)
+    by true is rest =
+        later-up at (Some (point +ℤ x.last)) (last_tick buffer point reads) (each x (0, omega arith, refl) (grind arith)) rest
+    by false is rest = rest
 
-more-asked : (buffer : ℕ) (ss ts : List Stage) → HaveMore ss ts → IsAsFar (asked buffer ss) (asked buffer ts)
-more-asked buffer [] [] h = tt
-more-asked buffer [] (t ∷ ts) h = absurd h
-more-asked buffer (s ∷ ss) [] h = absurd h
-more-asked buffer (s ∷ ss) (t ∷ ts) h =
-    later-rises (read_by_turn buffer s.work.loop (last_start s.made)) (read_by_turn buffer t.work.loop (last_start t.made))
-    (asked buffer ss) (asked buffer ts) (more-read buffer s t h.0) (more-asked buffer ss ts h.1)
+last_tick-each : (buffer : ℕ) (point at : ℤ) (reads : List Read) (r : Read) → IsUpTo at (last_tick buffer point reads)
+    → Contains reads r → r.buffer ≡ buffer → (point +ℤ r.last) ≤ℤ at
+last_tick-each buffer point at [] r up among of = absurd (omega (arith, among.1))
+last_tick-each buffer point at (x ∷ reads) r up (zero, within, is) of =
+    let same : x ≡ r = is in
+    let test : (x.buffer == buffer) ≡ true = eq-eqb x.buffer buffer (ap (λ (y : Read). y.buffer) same ∙ of) in
+    let first = (later-both at (Some (point +ℤ x.last)) (last_tick buffer point reads) (rw test at up)).0 in
+    subst (λ (y : Read). (point +ℤ y.last) ≤ℤ at) same first
+last_tick-each buffer point at (x ∷ reads) r up (suc k, within, is) of =
+    last_tick-each buffer point at reads r (by (x.buffer == buffer) up) (k, omega arith, is) of
+  where
+    by : (test : Bool)
+        → IsUpTo at (if test then later (Some (point +ℤ x.last)) (last_tick buffer point reads) else last_tick buffer point reads)
+        → IsUpTo at (last_tick buffer point reads)
+    by true both = (later-both at (Some (point +ℤ x.last)) (last_tick buffer point reads) both).1
+    by false rest = rest
 
-take-front : (n : ℕ) (whole : List Snapshot) → take n whole ≡ take (length (take n whole)) whole
-take-front n whole = sym (ap (λ (k : ℕ). take k whole) (length-take n whole) ∙ take_min n whole)
+-- what is asked of a buffer is where what each turn reads is
+pub asked-up : (buffer : ℕ) (at : ℤ) (stages : List Stage)
+    → ((k : ℕ) (s : Stage) (tick : ℤ) (r : Read) → slice_get stages k ≡ Some s → last_start s.made ≡ Some tick
+    → Contains (body_reads s.work.loop.body) r → r.buffer ≡ buffer → (turn_point s.work.loop tick +ℤ r.last) ≤ℤ at)
+    → IsUpTo at (asked buffer stages)
+asked-up buffer at [] each = tt
+asked-up buffer at (s ∷ stages) each =
+    later-up at (read_by_turn buffer s.work.loop (last_start s.made)) (asked buffer stages) (by (last_start s.made) refl)
+    (asked-up buffer at stages (λ k. each (suc k)))
+  where
+    by : (start : Option ℤ) → last_start s.made ≡ start → IsUpTo at (read_by_turn buffer s.work.loop start)
+    by None is = tt
+    by (Some tick) is =
+        last_tick-up buffer (turn_point s.work.loop tick) at (body_reads s.work.loop.body) (λ r. each 0 s tick r refl is)
 
-take-count : (m n : ℕ) (whole : List Snapshot) → m ≤ n → length (take m whole) ≤ length (take n whole)
-take-count m n whole le = let a = length-take m whole in let b = length-take n whole in omega arith
+pub asked-each : (buffer : ℕ) (at : ℤ) (stages : List Stage) (k : ℕ) (s : Stage) (tick : ℤ) (r : Read) → IsUpTo at (asked buffer stages)
+    → slice_get stages k ≡ Some s → last_start s.made ≡ Some tick → Contains (body_reads s.work.loop.body) r → r.buffer ≡ buffer
+    → (turn_point s.work.loop tick +ℤ r.last) ≤ℤ at
+asked-each buffer at [] k s tick r up is starts among of = absurd (cc is)
+asked-each buffer at (x ∷ stages) zero s tick r up is starts among of =
+    let same : x ≡ s = cc in
+    let first = (later-both at (read_by_turn buffer x.work.loop (last_start x.made)) (asked buffer stages) up).0 in
+    let here = subst (λ (y : Stage). IsUpTo at (read_by_turn buffer y.work.loop (last_start y.made))) same first in
+    last_tick-each buffer (turn_point s.work.loop tick) at (body_reads s.work.loop.body) r (rw starts at here) among of
+asked-each buffer at (x ∷ stages) (suc k) s tick r up is starts among of =
+    asked-each buffer at stages k s tick r (later-both at (read_by_turn buffer x.work.loop (last_start x.made)) (asked buffer stages) up).1
+    is starts among of
 
-more-later : (given more buffer : ℕ) (works : List Work) → given ≤ more → AreFilled works
-    → HaveMore (stages_from given buffer works) (stages_from more buffer works)
-more-later given more buffer [] le all = tt
-more-later given more buffer (w ∷ []) le all = (
-  record {
-    work = refl;
-    filled = all.0;
-    front = take-front given w.whole;
-    more = take-front more w.whole;
-    count = take-count given more w.whole le;
-  },
-  tt,
-)
-more-later given more buffer (w ∷ next ∷ works) le all =
-    let rest = more-later given more (suc buffer) (next ∷ works) le all.1 in
-    let before = asked buffer (stages_from given (suc buffer) (next ∷ works)) in
-    let after = asked buffer (stages_from more (suc buffer) (next ∷ works)) in (
-      record {
-        work = refl;
-        filled = all.0;
-        front = begun-front before w.whole;
-        more = begun-front after w.whole;
-        count = begun-as_far before after w.whole
-            (more-asked buffer (stages_from given (suc buffer) (next ∷ works)) (stages_from more (suc buffer) (next ∷ works)) rest);
-      },
-      rest,
-    )
+-- a loop that has made so many snapshots
+abbrev pub stage_of : ℕ → Work → Stage
+stage_of count w = record { work = w; made = take count w.whole }
 
--- no loop has made less once more snapshots were given out
-pub within-later : (given more buffer : ℕ) (works : List Work) → given ≤ more → AreFilled works
-    → AreWithin (stages_from given buffer works) (stages_from more buffer works)
-within-later given more buffer works le all =
-    more-within (stages_from given buffer works) (stages_from more buffer works) (more-later given more buffer works le all)
+-- each has made the first snapshots of its buffer
+abbrev pub ArePrefixes : List Work → List Stage → Type 0
+ArePrefixes works stages = (k : ℕ) → slice_get stages k ≡ option_map (stage_of (made_in stages k)) (slice_get works k)
 
-pub within-next : (given buffer : ℕ) (works : List Work) → AreFilled works
-    → AreWithin (stages_from given buffer works) (stages_from (suc given) buffer works)
-within-next given buffer works all = within-later given (suc given) buffer works (omega arith) all
+-- so they are the same where they have made as many
+same-at : {A : Type 0} (xs ys : List A) → ((k : ℕ) → slice_get xs k ≡ slice_get ys k) → xs ≡ ys
+same-at [] [] each = refl
+same-at [] (y ∷ ys) each = absurd (cc (each 0))
+same-at (x ∷ xs) [] each = absurd (cc (each 0))
+same-at (x ∷ xs) (y ∷ ys) each =
+    let first : x ≡ y = same_Some x y (each 0) in
+    let rest = same-at xs ys (λ k. each (suc k)) in
+    cc
 
--- what the loop at a place has made after so many snapshots: a front of its buffer
-record HasFrontAt (stages : List Stage) (place : ℕ) (w : Work) : Type 0 where
-  made : List Snapshot
-  found : slice_get stages place ≡ Some (record { work = w; made = made })
-  front : made ≡ take (length made) w.whole
-  count : made_in stages place ≡ length made
+pub same-stages : (works : List Work) (ss ts : List Stage) → ArePrefixes works ss → ArePrefixes works ts
+    → ((k : ℕ) → made_in ss k ≡ made_in ts k) → ss ≡ ts
+same-stages works ss ts prefixes also same =
+    same-at ss ts
+    (λ k. prefixes k ∙ ap (λ (n : ℕ). option_map (stage_of n) (slice_get works k)) (same k) ∙ sym (also k))
 
-front_at : (given buffer : ℕ) (works : List Work) (place : ℕ) (w : Work) → slice_get works place ≡ Some w
-    → HasFrontAt (stages_from given buffer works) place w
-front_at given buffer [] place w is = absurd (cc is)
-front_at given buffer (x ∷ []) zero w is =
-    let same : x ≡ w = cc in
-    subst (HasFrontAt (stages_from given buffer (x ∷ [])) 0) same
-    (record { made = take given x.whole; found = refl; front = take-front given x.whole; count = refl })
-front_at given buffer (x ∷ []) (suc place) w is = absurd (cc is)
-front_at given buffer (x ∷ next ∷ works) zero w is =
-    let same : x ≡ w = cc in
-    let tick = asked buffer (stages_from given (suc buffer) (next ∷ works)) in
-    subst (HasFrontAt (stages_from given buffer (x ∷ next ∷ works)) 0) same
-    (record { made = begun_below tick x.whole; found = refl; front = begun-front tick x.whole; count = refl })
-front_at given buffer (x ∷ next ∷ works) (suc place) w is =
-    let rest = front_at given (suc buffer) (next ∷ works) place w is in
-    record { made = rest.made; found = rest.found; front = rest.front; count = rest.count }
+made_in-found : (stages : List Stage) (k : ℕ) (s : Stage) → slice_get stages k ≡ Some s → made_in stages k ≡ length s.made
+made_in-found [] k s is = absurd (cc is)
+made_in-found (x ∷ stages) zero s is = ap (λ (y : Stage). length y.made) (same_Some x s is)
+made_in-found (x ∷ stages) (suc k) s is = made_in-found stages k s is
 
--- a loop that will have made more: what it reads next will be asked
-asked-next : (given buffer first : ℕ) (works : List Work) (place : ℕ) (w : Work) (start : ℤ) (r : Read)
-    → slice_get works place ≡ Some w → IsStanding w start
-    → length (made_by start w.whole) < made_in (stages_from given first works) place
-    → Contains (body_reads w.loop.body) r → r.buffer ≡ buffer
-    → IsAsFar (Some (turn_point w.loop start +ℤ r.last)) (asked buffer (stages_from given first works))
-asked-next given buffer first works place w start r is stands more among at =
-    let star = stages_from given first works in
-    let has = front_at given first works place w is in
-    let count = has.count in
-    let shorter = length-take (length has.made) w.whole in
-    let long = ap (λ (list : List Snapshot). length list) has.front in
-    let beyond = begins-beyond w.loop.lo w.loop.hi start w.whole (length has.made) stands.filled.whole stands.fill
-    (omega arith) (omega arith) in
-    let last : last_start has.made ≡ Some beyond.0 = ap last_start has.front ∙ beyond.1 in
-    let rises = turn_point-rises w.loop start beyond.0 stands.filled.grid beyond.2 in
-    let read : IsAsFar (Some (turn_point w.loop start +ℤ r.last))
-    (last_tick buffer (turn_point w.loop beyond.0) (body_reads w.loop.body)) =
-    far-trans (turn_point w.loop start +ℤ r.last) (turn_point w.loop beyond.0 +ℤ r.last)
-    (last_tick buffer (turn_point w.loop beyond.0) (body_reads w.loop.body)) (omega (arith, ints))
-    (last_tick-found buffer (turn_point w.loop beyond.0) (body_reads w.loop.body) r among at) in
-    asked-found buffer star place (record { work = w; made = has.made }) (Some (turn_point w.loop start +ℤ r.last)) has.found
-    (subst (λ (o : Option ℤ). IsAsFar (Some (turn_point w.loop start +ℤ r.last)) (read_by_turn buffer w.loop o)) (sym last) read)
+pub prefix-few : (works : List Work) (stages : List Stage) (k : ℕ) (w : Work) → ArePrefixes works stages → slice_get works k ≡ Some w
+    → made_in stages k ≤ length w.whole
+prefix-few works stages k w prefixes is =
+    let n = made_in stages k in
+    omega (arith, made_in-found stages k (stage_of n w) (prefixes k ∙ ap (option_map (stage_of n)) is), length-take n w.whole)
 
--- a loop below a tick that is asked of it, and before the end of its stretch, will have made more
-more-asked_of : (w : Work) (start tick : ℤ) (o : Option ℤ) → IsStanding w start → start <ℤ w.loop.hi → start <ℤ tick
-    → IsAsFar (Some tick) o
-    → length (made_by start w.whole) < length (begun_below o w.whole)
-more-asked_of w start tick None stands before below far = absurd far
-more-asked_of w start tick (Some after) stands before below far =
-    begun-more w.loop.lo w.loop.hi start after w.whole stands.filled.whole stands.fill before (omega (arith, ints))
+-- a loop that has made some, the last of which starts at a tick
+record HasTurned (works : List Work) (stages : List Stage) (k : ℕ) (s : Stage) (tick : ℤ) : Type 0 where
+  last : ℕ
+  is : slice_get works k ≡ Some s.work
+  count : made_in stages k ≡ suc last
+  starts : start_after s.work last ≡ tick
 
--- a loop will have made more where another one will that reads it beyond where it stands
-pub star-asks : (given buffer : ℕ) (works : List Work) (starts : List ℤ) (place source : ℕ) (w v : Work) (start from : ℤ) (r : Read)
-    → AreStanding works starts → slice_get works place ≡ Some w → slice_get starts place ≡ Some start
-    → slice_get works source ≡ Some v → slice_get starts source ≡ Some from
-    → made_in (stages_at works starts) place < made_in (stages_from given buffer works) place
-    → Contains (body_reads w.loop.body) r → r.buffer ≡ buffer + source → source < place
-    → from <ℤ v.loop.hi → from <ℤ (turn_point w.loop start +ℤ r.last)
-    → made_in (stages_at works starts) source < made_in (stages_from given buffer works) source
-star-asks given buffer [] starts place source w v start from r all is at found stands less among of behind before short = absurd (cc is)
-star-asks given buffer (x ∷ works) [] place source w v start from r all is at found stands less among of behind before short = absurd all
-star-asks given buffer (x ∷ works) (y ∷ starts) zero source w v start from r all is at found stands less among of behind before short =
-    absurd (omega arith)
-star-asks given buffer (x ∷ []) (y ∷ starts) (suc place) source w v start from r all is at found stands less among of behind before short =
-    absurd (cc is)
-star-asks given buffer (x ∷ next ∷ works) (y ∷ starts) (suc place) zero w v start from r all is at found stands less among of behind
-    before short =
-    let later_works = next ∷ works in
-    let here = made_in-at later_works starts place w start is at in
-    let far = asked-next given buffer (suc buffer) later_works place w start r is
-    (standing-at later_works starts place w start all.1 is at) (omega arith) among (omega arith) in
+has-turned : (works : List Work) (stages : List Stage) (k : ℕ) (s : Stage) (tick : ℤ) → AreFilled works → ArePrefixes works stages
+    → slice_get stages k ≡ Some s → last_start s.made ≡ Some tick → HasTurned works stages k s tick
+has-turned works stages k s tick filled prefixes is starts = by (slice_get works k) refl (made_in stages k) refl (sym is ∙ prefixes k)
+  where
+    by : (of : Option Work) → slice_get works k ≡ of → (n : ℕ) → made_in stages k ≡ n
+        → Some s ≡ option_map (stage_of (made_in stages k)) (slice_get works k) → HasTurned works stages k s tick
+    by None of n count same = absurd (cc (rw of at same))
+    by (Some w) of zero count same =
+        let stage : s ≡ stage_of 0 w = same_Some s (stage_of 0 w) (rw (of, count) at same) in
+        let none : None ≡ Some tick = sym (ap (λ (x : Stage). last_start x.made) stage) ∙ starts in
+        absurd (cc none)
+    by (Some w) of (suc last) count same =
+        let stage : s ≡ stage_of (suc last) w = same_Some s (stage_of (suc last) w) (rw (of, count) at same) in
+        let few = prefix-few works stages k w prefixes of in
+        let begins = begins-at w.loop.lo w.loop.hi w.whole last (filled k w of).whole (omega arith) in
+        let both : Some (start_after w last) ≡ Some tick = sym begins ∙ sym (ap (λ (x : Stage). last_start x.made) stage) ∙ starts in
+        subst (λ (x : Stage). HasTurned works stages k x tick) (sym stage)
+        (record { last = last; is = of; count = count; starts = same_Some (start_after w last) tick both })
+
+-- after so many snapshots each has made the first ones of its buffer
+pub star-prefixes : (given buffer : ℕ) (works : List Work) → ArePrefixes works (stages_from given buffer works)
+star-prefixes given buffer [] k = refl
+star-prefixes given buffer (w ∷ []) zero =
+    ap (λ (made : List Snapshot). Some (record { work = w; made = made }))
+    (sym (ap (λ (n : ℕ). take n w.whole) (length-take given w.whole) ∙ take_min given w.whole))
+star-prefixes given buffer (w ∷ []) (suc k) = refl
+star-prefixes given buffer (w ∷ next ∷ works) zero =
+    ap (λ (made : List Snapshot). Some (record { work = w; made = made }))
+    (begun-prefix (asked buffer (stages_from given (suc buffer) (next ∷ works))) w.whole)
+star-prefixes given buffer (w ∷ next ∷ works) (suc k) = star-prefixes given (suc buffer) (next ∷ works) k
+
+-- and they have made enough
+pub star-enough : (given buffer : ℕ) (works : List Work) → AreFilled works → AreEnough buffer works (made_in (stages_from given buffer works))
+star-enough given buffer [] filled source place v w r last read is = absurd (cc read.from)
+star-enough given buffer (x ∷ works) filled source zero v w r last read is = absurd (omega (arith, read.earlier))
+star-enough given buffer (x ∷ []) filled source (suc place) v w r last read is = absurd (cc read.by)
+star-enough given buffer (x ∷ next ∷ works) filled zero (suc place) v w r last read is =
+    let stages = stages_from given (suc buffer) (next ∷ works) in
     let same : v ≡ x = cc in
-    let same_start : from ≡ y = cc in
-    more-asked_of x y (turn_point w.loop start +ℤ r.last) (asked buffer (stages_from given (suc buffer) later_works)) all.0
-    (subst (λ (t : ℤ). t <ℤ x.loop.hi) same_start (subst (λ (u : Work). from <ℤ u.loop.hi) same before))
-    (subst (λ (t : ℤ). t <ℤ (turn_point w.loop start +ℤ r.last)) same_start short) far
-star-asks given buffer (x ∷ next ∷ works) (y ∷ starts) (suc place) (suc source) w v start from r all is at found stands less among of behind
-    before short =
-    star-asks given (suc buffer) (next ∷ works) starts place source w v start from r all.1 is at found stands less among (omega arith)
-    (omega arith) before short
+    let prefixes = star-prefixes given (suc buffer) (next ∷ works) in
+    let few = prefix-few (next ∷ works) stages place w prefixes read.by in
+    let found : slice_get stages place ≡ Some (stage_of (suc last) w) =
+    prefixes place ∙ ap (option_map (stage_of (made_in stages place))) read.by ∙ ap (λ (n : ℕ). Some (stage_of n w)) is in
+    let begins = begins-at w.loop.lo w.loop.hi w.whole last (filled (suc place) w read.by).whole (omega arith) in
+    rw same
+    (λ before.
+    asked-each buffer (start_after x (length (begun_below (asked buffer stages) x.whole))) stages place (stage_of (suc last) w)
+    (start_after w last) r (up x (asked buffer stages) (filled 0 x refl) before) found begins read.among (omega (arith, read.of)))
+  where
+    up : (x : Work) (o : Option ℤ) → IsFilled x → start_after x (length (begun_below o x.whole)) <ℤ x.loop.hi
+        → IsUpTo (start_after x (length (begun_below o x.whole))) o
+    up x None is before = tt
+    up x (Some tick) is before = begun-reaches x.loop.lo x.loop.hi tick x.whole is.whole before
+star-enough given buffer (x ∷ next ∷ works) filled (suc source) (suc place) v w r last read is =
+    star-enough given (suc buffer) (next ∷ works) (λ k. filled (suc k)) source place v w r last
+    (record { earlier = omega (arith, read.earlier); from = read.from; by = read.by; among = read.among; of = omega (arith, read.of) }) is
 
--- before the next snapshot is given out, the last loop has made one less than after it
-pub last-less : (given buffer : ℕ) (works : List Work) (last : ℕ) (w : Work) → suc last ≡ length works → slice_get works last ≡ Some w
-    → given < length w.whole → made_in (stages_from given buffer works) last < made_in (stages_from (suc given) buffer works) last
-last-less given buffer [] last w long is less = absurd (cc is)
-last-less given buffer (x ∷ []) zero w long is less =
-    let same : x ≡ w = cc in
-    let long_as = ap (λ (v : Work). length v.whole) same in
-    let a = length-take given x.whole in
-    let b = length-take (suc given) x.whole in
-    omega arith
-last-less given buffer (x ∷ []) (suc last) w long is less = absurd (cc is)
-last-less given buffer (x ∷ next ∷ works) zero w long is less = absurd (omega arith)
-last-less given buffer (x ∷ next ∷ works) (suc last) w long is less =
-    last-less given (suc buffer) (next ∷ works) last w (omega arith) is less
+-- loops that have made enough, and the last one so many, have made no fewer
+first-least : (buffer : ℕ) (x : Work) (works : List Work) (stages : List Stage) (count : ℕ → ℕ) → AreFilled (x ∷ works)
+    → ArePrefixes works stages → AreEnough buffer (x ∷ works) count → ((k : ℕ) → made_in stages k ≤ count (suc k))
+    → length (begun_below (asked buffer stages) x.whole) ≤ count 0
+first-least buffer x works stages count filled prefixes enough rest =
+    begun-least x.loop.lo x.loop.hi (asked buffer stages) x.whole (count 0) (filled 0 x refl).whole
+    (λ before. asked-up buffer (start_after x (count 0)) stages
+    (λ k s tick r is starts among of.
+    let t = has-turned works stages k s tick (λ j. filled (suc j)) prefixes is starts in
+    let last = count (suc k) - 1 in
+    let f = filled (suc k) s.work t.is in
+    let rises = ended-rises s.work.loop.lo s.work.loop.hi s.work.whole t.last last f.whole (omega (arith, t.count, rest k)) in
+    let point = turn_point-rises s.work.loop tick (start_after s.work last) f.grid (rw t.starts at rises) in
+    let reads = enough 0 (suc k) x s.work r last
+    (record { earlier = omega arith; from = refl; by = t.is; among = among; of = omega arith }) (omega (arith, t.count, rest k)) before in
+    omega (arith, ints)))
+
+pub least : (given buffer : ℕ) (works : List Work) (count : ℕ → ℕ) → AreFilled works → AreEnough buffer works count
+    → ((last : ℕ) → suc last ≡ length works → given ≤ count last) → (k : ℕ) → made_in (stages_from given buffer works) k ≤ count k
+least given buffer [] count filled enough most k = omega arith
+least given buffer (x ∷ []) count filled enough most zero =
+    omega (arith, length-take given x.whole, most 0 refl)
+least given buffer (x ∷ []) count filled enough most (suc k) = omega arith
+least given buffer (x ∷ next ∷ works) count filled enough most k =
+    by k
+    (least given (suc buffer) (next ∷ works) (λ j. count (suc j)) (λ j. filled (suc j))
+    (λ source place v w r last read. enough (suc source) (suc place) v w r last
+    (record { earlier = omega (arith, read.earlier); from = read.from; by = read.by; among = read.among; of = omega (arith, read.of) }))
+    (λ last is. most (suc last) (ap suc is)))
+  where
+    by : (k : ℕ) → ((j : ℕ) → made_in (stages_from given (suc buffer) (next ∷ works)) j ≤ count (suc j))
+        → made_in (stages_from given buffer (x ∷ next ∷ works)) k ≤ count k
+    by zero rest =
+        first-least buffer x (next ∷ works) (stages_from given (suc buffer) (next ∷ works)) count filled
+        (star-prefixes given (suc buffer) (next ∷ works)) enough rest
+    by (suc k) rest = rest k

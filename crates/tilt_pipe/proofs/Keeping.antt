@@ -6,7 +6,7 @@ use Rattle.std.proofs.lemmas.Int.{ints}
 use Rattle.std.proofs.lemmas.List.{get_or-append-add, get_or-take, length-map}
 use Rattle.std.proofs.lemmas.Option.{same_Some, slice_get_within}
 use Rattle.std.specs.List.{AllByRecursion}
-use Rattle.tilt_base.proofs.Lists.{all-contains, all-parts}
+use Rattle.tilt_base.proofs.Lists.{all-contains, all-each, all-parts}
 use Rattle.tilt_base.specs.Grid.{ceil}
 use Rattle.tilt_stream.proofs.Filling.{Fill-up}
 use Rattle.tilt_code.specs.Body.{body_of}
@@ -24,12 +24,11 @@ use Rattle.tilt_turn.specs.Held.{IsFit}
 use Rattle.tilt_turn.specs.Ready.{IsKept, IsReady}
 use Rattle.tilt_turn.specs.Same.{IsSameFor}
 use Rattle.tilt_turn.specs.declared.state.LoopState.{LoopState}
-use Rattle.tilt_pipe.proofs.Covered.{all-of, contains-at}
-use Rattle.tilt_pipe.proofs.Nears.{reads-near, ready-more, work-sound}
-use Rattle.tilt_pipe.proofs.OpenLists.{input-forgotten, open-at}
+use Rattle.tilt_pipe.proofs.Covered.{contains-at}
+use Rattle.tilt_pipe.proofs.Nears.{reads-near, ready-more, work-ready}
+use Rattle.tilt_pipe.proofs.Telling.{input-forgotten, open-at, none_held, same-body, there}
 use Rattle.tilt_pipe.proofs.RingsKept.{ring-of, loops-there}
 use Rattle.tilt_pipe.proofs.Standing.{next-made}
-use Rattle.tilt_pipe.proofs.Telling.{none_held, same-body, there}
 use Rattle.tilt_pipe.proofs.Trimming.{ended-front, stage-behind}
 use Rattle.tilt_pipe.proofs.Wanted.{stage_at, wanted-within}
 use Rattle.tilt_pipe.proofs.Wanting.{stands-there}
@@ -130,9 +129,9 @@ keeps-block p point (i ∷ block) keeps =
 pub keeps-body : (p : RingsParts) (place : ℕ) (w : Work) → IsCode p.code → AreRings p → ((k : ℕ) → IsTrimmed p k) → IsOpen p place w
     → w.used ≡ true → AllByRecursion (IsKept (lists_of p) (forgotten_of p) (turn_point w.loop (start_at p place))) w.loop.body
 keeps-body p place w code are trimmed is_open used =
-    let near = reads-near (length p.inputs + place) w.loop.body (work-sound p place w code are is_open.is).near in
+    let near = reads-near (length p.inputs + place) (length w.loop.maps) w.loop.body (work-ready p place w code are is_open.is).leaves in
     keeps-block p (turn_point w.loop (start_at p place)) w.loop.body
-    (all-of (KeepsRead p (turn_point w.loop (start_at p place))) (body_reads w.loop.body)
+    (all-each (KeepsRead p (turn_point w.loop (start_at p place))) (body_reads w.loop.body)
     (λ i r at. let among = contains-at (body_reads w.loop.body) i r at in keeps-read p place w r code are trimmed is_open used among
     (all-contains (IsNear (length p.inputs + place)) (body_reads w.loop.body) r near among).there))
 
@@ -164,8 +163,8 @@ pub same-all : (p : RingsParts) (place : ℕ) (w : Work) → IsCode p.code → A
 same-all p place w code are is told =
     let within = slice_get_within (works_in p) place w is in
     let count = works-length p.code p.inputs in
-    same-body p (buffers_of p.code p.inputs) (length p.inputs + place) (turn_point w.loop (start_at p place)) w.loop.body code are (omega arith)
-    (λ n below. refl) (work-sound p place w code are is).near told
+    same-body p (buffers_of p.code p.inputs) (length p.inputs + place) (length w.loop.maps) (turn_point w.loop (start_at p place)) w.loop.body
+    code are (omega arith) (λ n below. refl) (work-ready p place w code are is).leaves told
 
 pub may-go_on : (p : RingsParts) (place : ℕ) (turns : LoopTurns) (w : Work) → IsCode p.code → AreRings p → MayTurn p place turns w
     → MayGoOn p w.loop (start_at p place) turns.state
@@ -179,7 +178,7 @@ may-go_on p place turns w code are may =
     let long = lists-long p are in
     let same = same-all p place w code are is_open.is may.told in
     record {
-      ready = ready-more (length p.inputs + place) (length (lists_of p)) w.loop (omega arith) (work-sound p place w code are is_open.is).ready;
+      ready = ready-more (length p.inputs + place) (length (lists_of p)) w.loop (omega arith) (work-ready p place w code are is_open.is);
       low = omega (arith, ints);
       high = is_open.before;
       kept = may.kept;
@@ -202,16 +201,16 @@ turn-next p place w code are is_open told =
     let work = work-is p.code p.inputs place w is_open.is in
     let within = slice_get_within (works_in p) place w is_open.is in
     let count = works-length p.code p.inputs in
-    let sound = work-sound p place w code are is_open.is in
-    let same = same-body p front n (turn_point w.loop start) w.loop.body code are (omega arith)
-    (λ i below. sym (get_or-take n (buffers_of p.code p.inputs) i [] below)) sound.near told in
-    let over = turn-elsewhere (lists_of p) front w.loop start n sound.ready same in
+    let ready = work-ready p place w code are is_open.is in
+    let same = same-body p front n (length w.loop.maps) (turn_point w.loop start) w.loop.body code are (omega arith)
+    (λ i below. sym (get_or-take n (buffers_of p.code p.inputs) i [] below)) ready.leaves told in
+    let over = turn-elsewhere (lists_of p) front w.loop start n ready same in
     let timed = work-timed p.code p.inputs place w (loops-timed p.code.loops code.grammatical.loops) is_open.is in
     let stands : Fill w.loop.lo start (made_by start w.whole) = subst (λ (t : ℤ). Fill w.loop.lo t (made_by t w.whole)) (sym it.start) it.kept.ring.fill in
     let whole : Fill w.loop.lo start (made_by start (turns (map stream_of front) w.loop)) =
     subst (λ (list : List Snapshot). Fill w.loop.lo start (made_by start list)) work.whole stands in
     let next = next-made (map stream_of front) w.loop start timed whole is_open.before in
-    ap (λ (list : List Snapshot). slice_get list (length (made_by start list))) work.whole ∙ next.found ∙ ap (λ (s : Snapshot). Some s) (sym over)
+    ap (λ (list : List Snapshot). slice_get list (length (made_by start list))) work.whole ∙ next ∙ ap (λ (s : Snapshot). Some s) (sym over)
 
 -- the same of an equal loop and start
 pub told-too : (p : RingsParts) (place : ℕ) (w v : Work) → slice_get (works_in p) place ≡ Some w → slice_get (works_in p) place ≡ Some v

@@ -1,5 +1,5 @@
 -- A turn of a chain: what it asks, and what the chain keeps.
-use Rattle.std.proofs.Common.{◌≡◌, ◌≢◌, inl, inr, false, ◌+◌, ◌∙◌, ℕ, ℤ, pos, ◌≤ℤ◌, true, List, map, length, get_or, slice_get, slice_set, Some, sym, ap, subst, arith}
+use Rattle.std.proofs.Common.{◌≡◌, ◌≢◌, inl, inr, false, ◌+◌, ◌∙◌, ℕ, ℤ, pos, ◌≤ℤ◌, Bool, true, List, map, length, get_or, slice_get, slice_set, Some, None, sym, ap, subst, arith}
 use Rattle.std.proofs.lemmas.Bool.{cases_eq}
 use Rattle.std.proofs.lemmas.Int.{ints}
 use Rattle.std.proofs.lemmas.List.{length-map}
@@ -10,7 +10,7 @@ use Rattle.tilt_code.specs.Run.{buffers_of}
 use Rattle.tilt_stream.specs.Snap.{Snapshot}
 use Rattle.tilt_turn.specs.Held.{IsFit}
 use Rattle.tilt_pipe.proofs.Keeping.{keeps-body}
-use Rattle.tilt_pipe.proofs.Nears.{work-sound}
+use Rattle.tilt_pipe.proofs.Nears.{work-ready}
 use Rattle.tilt_pipe.proofs.RingsKept.{next-kept, ring-of}
 use Rattle.tilt_pipe.proofs.Trimming.{IsTurn, alike-works, exact-trimmed, trimmed-other, turned, turned-starts, turned-trimmed, turned-wanted, wanted-too}
 use Rattle.tilt_pipe.proofs.Turning.{has-many, own-turns, turns-set}
@@ -21,7 +21,7 @@ use Rattle.tilt_pipe.specs.Positions.{AreRings, IsOpen, RingParts, RingsParts, m
 use Rattle.tilt_pipe.specs.Reads.{body_reads, turn_point}
 use Rattle.tilt_pipe.specs.Rings.{rings_of}
 use Rattle.tilt_pipe.specs.Sources.{AreReaders, AreSources}
-use Rattle.tilt_pipe.specs.Trimmed.{IsTrimmed, KeepsWanted, MayTurn, StandAlike}
+use Rattle.tilt_pipe.specs.Trimmed.{IsTrimmed, KeepsWanted, MayTurn, StandAlike, wanted_at}
 use Rattle.tilt_pipe.specs.declared.chain.LoopTurns.{LoopTurns}
 
 pub may-turn : (p : RingsParts) (all : List LoopTurns) (place : ℕ) (w : Work) (turns : LoopTurns) → IsCode p.code → AreRings p
@@ -36,14 +36,14 @@ may-turn p all place w turns code are fit exact is_open used told at = record {
 }
 
 -- the next snapshot of the loop is a turn of it
-pub record HasTurned (p : RingsParts) (place : ℕ) (w : Work) (s : Snapshot) : Type 0 where
+pub record HasTurned (p : RingsParts) (place : ℕ) (w : Work) (b : Bool) (s : Snapshot) : Type 0 where
   pub ring : RingParts
-  pub turn : IsTurn p place w ring s
+  pub turn : IsTurn p place w b ring s
   pub stands : start_at p place ≡ ring.start
 
-pub made-turn : (p : RingsParts) (place : ℕ) (w : Work) (s : Snapshot) → IsCode p.code → AreRings p → IsOpen p place w
-    → slice_get w.whole (length (made_at p place w)) ≡ Some s → HasTurned p place w s
-made-turn p place w s code are is_open is =
+pub made-turn : (p : RingsParts) (place : ℕ) (w : Work) (b : Bool) (s : Snapshot) → IsCode p.code → AreRings p → IsOpen p place w
+    → (b ≡ false → wanted_at p place ≡ None) → slice_get w.whole (length (made_at p place w)) ≡ Some s → HasTurned p place w b s
+made-turn p place w b s code are is_open unread is =
     let it = ring-of p place w code are is_open.is in
     let here : slice_get w.whole (length (made_by it.ring.start w.whole)) ≡ Some s =
     subst (λ (t : ℤ). slice_get w.whole (length (made_by t w.whole)) ≡ Some s) it.start is in
@@ -54,20 +54,21 @@ made-turn p place w s code are is_open is =
         of = is_open.is;
         at = it.at;
         kept = it.kept;
-        grid = (work-sound p place w code are is_open.is).ready.grid;
+        grid = (work-ready p place w code are is_open.is).grid;
         next = next-kept w it.ring s it.kept here;
+        unread = unread;
       };
       stands = it.start;
     }
 
 -- and then the chain has the turns that it is to have
-pub new-turns : (p : RingsParts) (all : List LoopTurns) (place : ℕ) (w : Work) (old new : LoopTurns) (r : RingParts) (s : Snapshot)
-    → AreTurns p.code p.inputs (starts_of p.rings) all → IsTurn p place w r s
-    → start_at p place ≡ r.start → old ≡ get_or all place old → new.used ≡ old.used → new.sources.items ≡ old.sources.items
+pub new-turns : (p : RingsParts) (all : List LoopTurns) (place : ℕ) (w : Work) (old new : LoopTurns) (b : Bool) (r : RingParts) (s : Snapshot)
+    → AreTurns p.code p.inputs (starts_of p.rings) all → IsTurn p place w b r s
+    → start_at p place ≡ r.start → old ≡ get_or all place old → new.sources.items ≡ old.sources.items
     → new.readers.items ≡ old.readers.items
     → IsFit (buffers_of p.code p.inputs) w.loop (turn_point w.loop (start_at p place)) new.state
-    → AreTurns p.code p.inputs (starts_of (turned p place r s).rings) (slice_set all place new)
-new-turns p all place w old new r s are turn stands at used sources readers fit =
+    → AreTurns p.code p.inputs (starts_of (turned p place b r s).rings) (slice_set all place new)
+new-turns p all place w old new b r s are turn stands at sources readers fit =
     let here = own-turns p all place w old are turn.of at in
     let up = turn.next.rises in
     let within = (has-many p all place w are turn.of).rings in
@@ -77,16 +78,15 @@ new-turns p all place w old new r s are turn stands at used sources readers fit 
     (slice_get-set_same (starts_of p.rings) place s.end (omega arith)) in
     let later = turn_point-rises w.loop (start_at p place) s.end turn.grid (omega (arith, ints)) in
     let own : AreTurnsOf p.code p.inputs (slice_set (starts_of p.rings) place s.end) place w new = record {
-      used = used ∙ here.used;
       sources = subst (AreSources (length p.inputs) (body_reads w.loop.body)) (sym sources) here.sources;
-      readers = subst (AreReaders (length p.inputs) p.code.loops (length p.code.loops) place) (sym readers) here.readers;
+      readers = subst (AreReaders p.code p.inputs 0 place) (sym readers) here.readers;
       fit = (
         turn_point w.loop (start_at p place),
         subst (λ (t : ℤ). turn_point w.loop (start_at p place) ≤ℤ turn_point w.loop t) (sym start) later,
         fit,
       );
     } in
-    subst (λ (starts : List ℤ). AreTurns p.code p.inputs starts (slice_set all place new)) (sym (turned-starts p place r s))
+    subst (λ (starts : List ℤ). AreTurns p.code p.inputs starts (slice_set all place new)) (sym (turned-starts p place b r s))
     (turns-set p.code p.inputs (starts_of p.rings) all place s.end w new are turn.of own)
 
 -- once the loop's own ring is trimmed, those that it doesn't read are too
@@ -95,12 +95,12 @@ pub record IsTrimmedAfter (z : RingsParts) (place : ℕ) : Type 0 where
   pub unread : (v : Work) → slice_get (works_in z) place ≡ Some v → (k : ℕ)
       → reads_buffer (length z.inputs + k) (body_reads v.loop.body) ≡ false → IsTrimmed z k
 
-unread-too : (p z : RingsParts) (place k : ℕ) (w v : Work) (r : RingParts) (s : Snapshot) → IsTurn p place w r s → IsTrimmed p k
-    → StandAlike (turned p place r s) z → ((j : ℕ) → j ≢ place → slice_get z.rings j ≡ slice_get (turned p place r s).rings j)
+unread-too : (p z : RingsParts) (place k : ℕ) (w v : Work) (b : Bool) (r : RingParts) (s : Snapshot) → IsTurn p place w b r s → IsTrimmed p k
+    → StandAlike (turned p place b r s) z → ((j : ℕ) → j ≢ place → slice_get z.rings j ≡ slice_get (turned p place b r s).rings j)
     → IsTrimmed z place → slice_get (works_in z) place ≡ Some v
     → reads_buffer (length z.inputs + k) (body_reads v.loop.body) ≡ false → IsTrimmed z k
-unread-too p z place k w v r s turn trimmed alike others own of unread =
-    let q = turned p place r s in
+unread-too p z place k w v b r s turn trimmed alike others own of unread =
+    let q = turned p place b r s in
     let of_w : slice_get (works_in p) place ≡ Some v = subst (λ (ws : List Work). slice_get ws place ≡ Some v) (alike-works q z alike) of in
     let same : v ≡ w = same_Some v w (sym of_w ∙ turn.of) in
     let not_read : reads_buffer (length p.inputs + k) (body_reads w.loop.body) ≡ false =
@@ -108,13 +108,13 @@ unread-too p z place k w v r s turn trimmed alike others own of unread =
     ∙ ap (λ (inputs : List (List Snapshot)). reads_buffer (length inputs + k) (body_reads v.loop.body)) (sym alike.inputs) ∙ unread in
     elim (cases_eq k place) as (λ _. IsTrimmed z k) [
       | inl here ↦ subst (λ (n : ℕ). IsTrimmed z n) (sym here) own
-      | inr other ↦ trimmed-other q z place k alike (others k other) (turned-trimmed p place k w r s turn other trimmed not_read)
+      | inr other ↦ trimmed-other q z place k alike (others k other) (turned-trimmed p place k w b r s turn other trimmed not_read)
     ]
 
-pub after-trim : (p z : RingsParts) (place : ℕ) (w : Work) (r : RingParts) (s : Snapshot) → IsTurn p place w r s → ((k : ℕ) → IsTrimmed p k)
-    → StandAlike (turned p place r s) z → ((j : ℕ) → j ≢ place → slice_get z.rings j ≡ slice_get (turned p place r s).rings j)
+pub after-trim : (p z : RingsParts) (place : ℕ) (w : Work) (b : Bool) (r : RingParts) (s : Snapshot) → IsTurn p place w b r s → ((k : ℕ) → IsTrimmed p k)
+    → StandAlike (turned p place b r s) z → ((j : ℕ) → j ≢ place → slice_get z.rings j ≡ slice_get (turned p place b r s).rings j)
     → IsTrimmed z place → IsTrimmedAfter z place
-after-trim p z place w r s turn trimmed alike others own = record {
-  wanted = λ k. wanted-too (turned p place r s) z place k alike others own (turned-wanted p place k w r s turn trimmed);
-  unread = λ v of k unread. unread-too p z place k w v r s turn (trimmed k) alike others own of unread;
+after-trim p z place w b r s turn trimmed alike others own = record {
+  wanted = λ k. wanted-too (turned p place b r s) z place k alike others own (turned-wanted p place k w b r s turn trimmed);
+  unread = λ v of k unread. unread-too p z place k w v b r s turn (trimmed k) alike others own of unread;
 }

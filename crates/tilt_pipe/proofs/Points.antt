@@ -74,11 +74,11 @@ alike-points p q points a are = λ k w of.
     ∙ ap (λ (starts : List ℤ). Some (point_of starts k w)) (sym a.starts)
 
 -- those after a turn
-pub turned-points : (p : RingsParts) (place : ℕ) (w : Work) (r : RingParts) (s : Snapshot) (points : List (Option ℤ)) → IsTurn p place w r s
+pub turned-points : (p : RingsParts) (place : ℕ) (w : Work) (b : Bool) (r : RingParts) (s : Snapshot) (points : List (Option ℤ)) → IsTurn p place w b r s
     → ArePoints p points
-    → ArePoints (turned p place r s) (slice_set points place (point_at (turned p place r s) place w))
-turned-points p place w r s points turn are = λ k v of.
-    let q = turned p place r s in
+    → ArePoints (turned p place b r s) (slice_set points place (point_at (turned p place b r s) place w))
+turned-points p place w b r s points turn are = λ k v of.
+    let q = turned p place b r s in
     let point = point_at q place w in
     let within = slice_get_within points place (point_at p place w) (are place w turn.of) in
     elim (cases_eq k place) as (λ _. slice_get (slice_set points place point) k ≡ Some (point_at q k v)) [
@@ -93,7 +93,7 @@ turned-points p place w r s points turn are = λ k v of.
           slice_get-set_other points place k point other
           ∙ are k v of
           ∙ ap (λ (t : ℤ). Some (if v.used && int_lt t v.loop.hi then Some (turn_point v.loop t) else None))
-          (sym (ap (λ (starts : List ℤ). get_or starts k (pos 0)) (turned-starts p place r s)
+          (sym (ap (λ (starts : List ℤ). get_or starts k (pos 0)) (turned-starts p place b r s)
           ∙ get_or-set_other (starts_of p.rings) place k s.end (pos 0) other))
           )
     ]

@@ -1,423 +1,465 @@
 -- The next snapshot of a pipe: what holds of its loops before the first of the turns that it needs, from each turn to the next, and in
--- the end.
-use Rattle.std.proofs.Common.{◌≡◌, ◌≢◌, ◌⊎◌, ◌<◌, ℕ, zero, suc, ◌+◌, ◌-◌, ◌*◌, ℤ, pos, ◌+ℤ◌, ◌<ℤ◌, ◌≤ℤ◌, ◌↔◌, IsTrue, Bool, true, false, List, [], ◌∷◌, ◌++◌, length, map, take, get_or, slice_get}
-use Rattle.std.proofs.Common.{slice_set, Option, Some, None, refl, sym, ap, ◌∙◌, subst, arith}
-use Rattle.std.proofs.lemmas.Bool.{false≢true}
-use Rattle.std.proofs.lemmas.Int.{ints, by_lt_z}
-use Rattle.std.proofs.lemmas.List.{get_or-set_other, length-map, length-take}
-use Rattle.std.proofs.lemmas.Option.{same_Some, slice_get_within, slice_get-get_or, slice_get_past}
+-- the end; and what the pipe is seen as between two of them.
+use Rattle.std.proofs.Common.{◌≡◌, ◌≢◌, inl, inr, ◌<◌, ◌≤◌, ℕ, zero, suc, ◌+◌, ◌-◌, ◌*◌, ℤ, pos, ◌+ℤ◌, ◌<ℤ◌, ◌≤ℤ◌, List, [], ◌∷◌, ◌++◌}
+use Rattle.std.proofs.Common.{map, length, take, get_or, slice_get, slice_set, Option, Some, None, refl, sym, ap, ◌∙◌, subst, arith, Contains, false, Result, Ok, Err, OnOk}
+use Rattle.std.proofs.lemmas.Bool.{cases_eq, cases_lt, false≢true}
+use Rattle.std.proofs.lemmas.Int.{ints}
+use Rattle.std.proofs.lemmas.List.{get_or-set_other, get_or-set_same, length-map, length-set, length-take, length_push, take_all}
+use Rattle.std.proofs.lemmas.Option.{same_Some, slice_get_past, slice_get_within}
+use Rattle.std.specs.List.{AllByRecursion}
+use Rattle.std.specs.Result.{is_err}
 use Rattle.circular_buffer.proofs.Places.{slice_get-some}
 use Rattle.tilt_base.proofs.Lists.{all-contains}
 use Rattle.tilt_code.specs.Body.{last_or}
-use Rattle.tilt_code.specs.Code.{CodeParts, LoopParts}
+use Rattle.tilt_code.specs.Code.{LoopParts, CodeParts}
+use Rattle.tilt_code.specs.Meaning.{IsTimed}
 use Rattle.tilt_code.specs.References.{IsCode}
 use Rattle.tilt_code.specs.Run.{run_of}
 use Rattle.tilt_code.specs.Turn.{turns}
-use Rattle.tilt_code.proofs.Runs.{loops-timed}
-use Rattle.tilt_stream.specs.Snap.{Snapshot}
+use Rattle.tilt_code.proofs.Runs.{loops-timed, turns-Fill}
+use Rattle.tilt_stream.specs.Snap.{Snapshot, last_end}
 use Rattle.tilt_stream.specs.Stream.{stream_of}
-use Rattle.tilt_pipe.proofs.Begun.{begun-more, begun-within, made-front}
-use Rattle.tilt_pipe.proofs.Enough.{IsAllTold, enough-kept}
-use Rattle.tilt_pipe.proofs.Exact.{exact, asked-none, none-yet, star-enough, within-next, star-asks, last-less}
-use Rattle.tilt_pipe.proofs.Falling.{falling-last, falling-lower, falling-map, falling-pop, last_or-push}
-use Rattle.tilt_pipe.proofs.Placed.{left-falls, made_in-at, made_in-turned, made_in-other, next-standing, rings-standing, standing-at, standing-length, standing-set, within-kept, works-filled}
-use Rattle.tilt_pipe.proofs.Standing.{all-made, next-is}
-use Rattle.tilt_pipe.proofs.Wanted.{used-source}
-use Rattle.tilt_pipe.proofs.Works.{run-last, works-length}
+use Rattle.tilt_pipe.proofs.Exact.{ended-rises, made-prefix, ArePrefixes, prefix-few, least, same-stages, star-enough, star-prefixes}
+use Rattle.tilt_pipe.proofs.RingsKept.{loops-there, ring-of}
+use Rattle.tilt_pipe.proofs.Standing.{IsNextMade, all-made, below_end, end-made, next-is, none-made}
+use Rattle.tilt_pipe.proofs.Wanted.{turn_point-rises, used-source}
+use Rattle.tilt_pipe.proofs.Works.{HasLast, last-loop, run-last, works-filled, works-length}
 use Rattle.tilt_pipe.specs.Chain.{AreTold, IsBehind, IsTold}
-use Rattle.tilt_pipe.specs.Enough.{AreStanding, AreWithin, left_to_make, made_in}
-use Rattle.tilt_pipe.specs.Made.{Stage, Work, begun_below, stages_from, stages_after, works_from}
+use Rattle.tilt_pipe.specs.Made.{Stage, Work, stages_from, stages_after, works_from}
 use Rattle.tilt_pipe.specs.Positions.{AreRings, IsOpen, RingParts, RingsParts, made_at, made_by, stages_at, start_at, starts_of, works_in}
-use Rattle.tilt_pipe.specs.Pulled.{AreFalling, ArePulled, IsAsked, IsBegun, IsPulled, given_in, stages_in, steps_left}
+use Rattle.tilt_pipe.specs.Pulled.{AreEnough, AreFalling, AreFilled, AreStanding, ArePulled, IsAsked, IsBegun, IsPulled, IsReadOf, IsStanding, given_in, left_to_make, made_in, stages_in, start_after}
+use Rattle.tilt_pipe.specs.Pulled.{steps_left}
 use Rattle.tilt_pipe.specs.Reads.{body_reads, turn_point}
+use Rattle.tilt_pipe.specs.Rings.{end_or, rings_after, rings_of}
+use Rattle.tilt_pipe.specs.Value.{PipeParts, pipe_after}
 
--- where the loop at a place stands
-start-is : (works : List Work) (starts : List ℤ) (place : ℕ) (w : Work) → AreStanding works starts → slice_get works place ≡ Some w
-    → slice_get starts place ≡ Some (get_or starts place (pos 0))
-start-is works starts place w all is =
-    let long = standing-length works starts all in
-    let within = slice_get_within works place w is in
-    slice_get-get_or starts place (pos 0) (omega arith)
+-- places that fall: the last is the lowest, a still lower one may follow, and the others are left without it
+falling-top : (is : ℕ → Type 0) (above : ℕ) (places : List ℕ) (place : ℕ) → AreFalling is above (places ++ place ∷ [])
+    → (place < above) × is place
+falling-top is above [] place h = (h.0, h.1)
+falling-top is above (p ∷ places) place h =
+    let rest = falling-top is p places place h.2 in
+    (omega (arith, rest.0, h.0), rest.1)
+
+falling-lower : (is : ℕ → Type 0) (above : ℕ) (places : List ℕ) (place lower : ℕ) → AreFalling is above (places ++ place ∷ [])
+    → lower < place → is lower → AreFalling is above ((places ++ place ∷ []) ++ lower ∷ [])
+falling-lower is above [] place lower h low here = (h.0, h.1, (low, here, tt))
+falling-lower is above (p ∷ places) place lower h low here = (h.0, h.1, falling-lower is p places place lower h.2 low here)
+
+falling-pop : (is becomes : ℕ → Type 0) (above : ℕ) (places : List ℕ) (place : ℕ) → AreFalling is above (places ++ place ∷ [])
+    → ((p : ℕ) → place < p → is p → becomes p) → AreFalling becomes above places
+falling-pop is becomes above [] place h each = tt
+falling-pop is becomes above (p ∷ places) place h each =
+    (h.0, each p (falling-top is p places place h.2).0 h.1, falling-pop is becomes p places place h.2 each)
+
+falling-last : (is : ℕ → Type 0) (above given : ℕ) (places : List ℕ) → AreFalling is above places → given ≤ above
+    → last_or given places ≤ above
+falling-last is above given [] h low = low
+falling-last is above given (p ∷ places) h low = omega (arith, h.0, falling-last is p p places h.2 (omega arith))
+
+last_or-push : (given : ℕ) (xs : List ℕ) (x : ℕ) → last_or given (xs ++ x ∷ []) ≡ x
+last_or-push given [] x = refl
+last_or-push given (y ∷ xs) x = last_or-push y xs x
 
 begun-push : (last given : ℕ) (now : List Stage) (places : List ℕ) (place lower : ℕ) → IsBegun last given now (places ++ place ∷ [])
     → IsBegun last given now ((places ++ place ∷ []) ++ lower ∷ [])
 begun-push last given now [] place lower h = h
 begun-push last given now (p ∷ places) place lower h = h
 
--- a loop that is behind may be asked for, and with it a step is done
-pub source-asked : (given : ℕ) (p : RingsParts) (asked : List ℕ) (place source : ℕ) (w : Work) → IsPulled given p (asked ++ place ∷ [])
-    → IsOpen p place w → IsBehind p place w source → IsPulled given p ((asked ++ place ∷ []) ++ source ∷ [])
-source-asked given p asked place source w h open_ behind =
-    let works = works_in p in
-    let starts = starts_of p.rings in
-    let star = stages_from (suc given) (length p.inputs) works in
-    let here = (falling-pop (IsAsked works starts star) (length works) asked place h.falling).here in
-    let same : Some here.work ≡ Some w = sym here.is ∙ open_.is in
-    let used : w.used ≡ true = subst (λ (v : Work). v.used ≡ true) (same_Some here.work w same) here.used in
-    let asks : IsAsked works starts star source = record {
-      work = behind.behind;
-      is = behind.is_open.is;
-      used = used-source p.code p.inputs place source w behind.behind behind.read open_.is used behind.reads behind.of behind.earlier
-          behind.is_open.is;
-      before = behind.is_open.before;
-      fewer = star-asks (suc given) (length p.inputs) works starts place source w behind.behind (start_at p place) (start_at p source)
-          behind.read h.standing open_.is (start-is works starts place w h.standing open_.is) behind.is_open.is
-          (start-is works starts source behind.behind h.standing behind.is_open.is) here.fewer behind.reads behind.of behind.earlier
-          behind.is_open.before behind.short;
-    } in
-    record {
-      standing = h.standing;
-      within = h.within;
-      enough = h.enough;
-      falling = falling-lower (IsAsked works starts star) (length works) asked place source h.falling behind.earlier asks;
-      begun = begun-push (length works - 1) given (stages_at works starts) asked place source h.begun;
-    }
+begun-pop : (is : ℕ → Type 0) (above last given : ℕ) (now later : List Stage) (places : List ℕ) (place : ℕ)
+    → made_in later place ≡ suc (made_in now place) → ((k : ℕ) → k ≢ place → made_in later k ≡ made_in now k)
+    → AreFalling is above (places ++ place ∷ []) → IsBegun last given now (places ++ place ∷ []) → IsBegun last given later places
+begun-pop is above last given now later [] place more same falling h = let begins = h.0 in let count = h.1 in cc
+begun-pop is above last given now later (p ∷ places) place more same falling h =
+    (h.0, same last (λ equal. omega (arith, (falling-top is p places place falling.2).0, h.0, equal)) ∙ h.1)
 
-pub source-nearer : (given : ℕ) (p : RingsParts) (asked : List ℕ) (place source : ℕ) → source < place
-    → steps_left given p ((asked ++ place ∷ []) ++ source ∷ []) < steps_left given p (asked ++ place ∷ [])
-source-nearer given p asked place source low =
-    rw (last_or-push 0 (asked ++ place ∷ []) source, last_or-push 0 asked place) (omega arith)
+-- how many snapshots each loop has made where it stands
+made_in-at : (works : List Work) (starts : List ℤ) (k : ℕ) (w : Work) → length starts ≡ length works → slice_get works k ≡ Some w
+    → made_in (stages_at works starts) k ≡ length (made_by (get_or starts k (pos 0)) w.whole)
+made_in-at [] starts k w many is = absurd (cc is)
+made_in-at (x ∷ works) [] k w many is = absurd (omega arith)
+made_in-at (x ∷ works) (t ∷ starts) zero w many is = ap (λ (v : Work). length (made_by t v.whole)) (same_Some x w is)
+made_in-at (x ∷ works) (t ∷ starts) (suc k) w many is = made_in-at works starts k w (omega arith) is
 
--- after a turn the loops that are asked for still are, but for the one whose turn it was
-begun-pop : (works : List Work) (starts : List ℤ) (star : List Stage) (last given : ℕ) (asked : List ℕ) (place : ℕ) (end : ℤ)
+now-prefixes : (works : List Work) (starts : List ℤ) → length starts ≡ length works → ArePrefixes works (stages_at works starts)
+now-prefixes [] starts many k = refl
+now-prefixes (w ∷ works) [] many k = absurd (omega arith)
+now-prefixes (w ∷ works) (t ∷ starts) many zero =
+    ap (λ (made : List Snapshot). Some (record { work = w; made = made })) (made-prefix t w.whole)
+now-prefixes (w ∷ works) (t ∷ starts) many (suc k) = now-prefixes works starts (omega arith) k
+
+stands-at : (works : List Work) (starts : List ℤ) (k : ℕ) (w : Work) → AreStanding works starts → slice_get works k ≡ Some w
+    → start_after w (made_in (stages_at works starts) k) ≡ get_or starts k (pos 0)
+stands-at works starts k w all is =
+    let start = get_or starts k (pos 0) in
+    ap (λ (n : ℕ). start_after w n) (made_in-at works starts k w all.many is)
+    ∙ sym (ap (λ (list : List Snapshot). end_or w.loop.lo (last_end list)) (made-prefix start w.whole))
+    ∙ end-made w.loop.lo start (made_by start w.whole) (all.each k w is).fill
+
+-- a turn is of its own loop alone
+made_in-other : (works : List Work) (starts : List ℤ) (place : ℕ) (end : ℤ) (k : ℕ) → k ≢ place
+    → made_in (stages_at works (slice_set starts place end)) k ≡ made_in (stages_at works starts) k
+made_in-other [] starts place end k apart = refl
+made_in-other (x ∷ works) [] place end k apart = refl
+made_in-other (x ∷ works) (t ∷ starts) zero end zero apart = absurd (apart refl)
+made_in-other (x ∷ works) (t ∷ starts) zero end (suc k) apart = refl
+made_in-other (x ∷ works) (t ∷ starts) (suc place) end zero apart = refl
+made_in-other (x ∷ works) (t ∷ starts) (suc place) end (suc k) apart =
+    made_in-other works starts place end k (λ same. apart (ap suc same))
+
+-- and leaves one less to make
+left-falls : (works : List Work) (starts : List ℤ) (star : List Stage) (place : ℕ) (end : ℤ)
     → made_in (stages_at works (slice_set starts place end)) place ≡ suc (made_in (stages_at works starts) place)
-    → AreFalling (λ p. (place < p) × IsAsked works starts star p) (length works) asked
-    → IsBegun last given (stages_at works starts) (asked ++ place ∷ [])
-    → IsBegun last given (stages_at works (slice_set starts place end)) asked
-begun-pop works starts star last given [] place end one falling h =
-    subst (λ (k : ℕ). made_in (stages_at works (slice_set starts place end)) k ≡ suc given) h.0
-    (one ∙ ap suc (subst (λ (k : ℕ). made_in (stages_at works starts) k ≡ given) (sym h.0) h.1))
-begun-pop works starts star last given (p ∷ asked) place end one falling h =
-    let low = falling.1.0 in
-    let at = h.0 in
-    let apart : last ≢ place = λ same. omega arith in
-    (h.0, made_in-other works starts place last end apart ∙ h.1)
+    → made_in (stages_at works starts) place < made_in star place
+    → suc (left_to_make (stages_at works (slice_set starts place end)) star) ≡ left_to_make (stages_at works starts) star
+left-falls [] starts star place end more less = absurd (omega arith)
+left-falls (x ∷ works) [] star place end more less = absurd (omega arith)
+left-falls (x ∷ works) (t ∷ starts) [] place end more less = absurd (omega arith)
+left-falls (x ∷ works) (t ∷ starts) (s ∷ star) zero end more less = omega arith
+left-falls (x ∷ works) (t ∷ starts) (s ∷ star) (suc place) end more less = omega (arith, left-falls works starts star place end more less)
 
-pub turned : (given buffer : ℕ) (works : List Work) (starts : List ℤ) (asked : List ℕ) (place : ℕ) (w : Work) (s : Snapshot)
-    → ArePulled buffer works given starts (asked ++ place ∷ []) → slice_get works place ≡ Some w
-    → IsAllTold buffer works starts place w (get_or starts place (pos 0))
-    → slice_get w.whole (length (made_by (get_or starts place (pos 0)) w.whole)) ≡ Some s
-    → ArePulled buffer works given (slice_set starts place s.end) asked
-turned given buffer works starts asked place w s h is told found =
-    let start = get_or starts place (pos 0) in
-    let star = stages_from (suc given) buffer works in
-    let at = start-is works starts place w h.standing is in
-    let stands = standing-at works starts place w start h.standing is at in
-    let next = next-is w.loop.lo w.loop.hi start w.whole s stands.filled.whole stands.fill found in
-    let lowest = falling-pop (IsAsked works starts star) (length works) asked place h.falling in
-    record {
-      standing = standing-set works starts place w s.end h.standing is (next-standing w start s stands next);
-      within = within-kept works starts star place w start s is at next lowest.here.fewer h.within;
-      enough = enough-kept buffer works starts place w start s h.standing is at next told h.enough;
-      falling = falling-map (λ p. (place < p) × IsAsked works starts star p) (IsAsked works (slice_set starts place s.end) star)
-          (length works) asked (still-asked works starts star place s.end) lowest.before;
-      begun = begun-pop works starts star (length works - 1) given asked place s.end
-          (made_in-turned works starts place w start s is at next) lowest.before h.begun;
-    }
-  where
-    still-asked : (works : List Work) (starts : List ℤ) (star : List Stage) (place : ℕ) (end : ℤ) (p : ℕ)
-        → (place < p) × IsAsked works starts star p → IsAsked works (slice_set starts place end) star p
-    still-asked works starts star place end p h =
-        let low = h.0 in
-        let apart : p ≢ place = λ same. omega arith in
-        record {
-          work = h.1.work;
-          is = h.1.is;
-          used = h.1.used;
-          before = subst (λ (t : ℤ). t <ℤ h.1.work.loop.hi) (sym (get_or-set_other starts place p end (pos 0) apart)) h.1.before;
-          fewer = subst (λ (n : ℕ). n < made_in star p) (sym (made_in-other works starts place p end apart)) h.1.fewer;
-        }
-
--- all that a turn reads is told, loop by loop
-pub told-all : (p : RingsParts) (place : ℕ) (w : Work) → AreTold p place w → AreStanding (works_in p) (starts_of p.rings)
-    → IsAllTold (length p.inputs) (works_in p) (starts_of p.rings) place w (start_at p place)
-told-all p place w told standing = λ r source v from among of earlier is at.
-    let point = turn_point w.loop (start_at p place) in
-    let one = all-contains (IsTold p point) (body_reads w.loop.body) r told among source v of is in
-    let here : Some from ≡ Some (start_at p source) = sym at ∙ start-is (works_in p) (starts_of p.rings) source v standing is in
-    subst (λ (t : ℤ). (v.loop.hi ≤ℤ t) ⊎ ((point +ℤ r.last) ≤ℤ t)) (sym (same_Some from (start_at p source) here)) one
-
--- the rings after the turn of a loop
-pub record IsTurned (p q : RingsParts) (place : ℕ) (w : Work) (s : Snapshot) : Type 0 where
-  pub is_open : IsOpen p place w
-  pub told : AreTold p place w
-  pub found : slice_get w.whole (length (made_at p place w)) ≡ Some s
-  pub code : q.code ≡ p.code
-  pub inputs : q.inputs ≡ p.inputs
-  pub starts : starts_of q.rings ≡ slice_set (starts_of p.rings) place s.end
-
-pub turn-pulled : (given : ℕ) (p q : RingsParts) (asked : List ℕ) (place : ℕ) (w : Work) (s : Snapshot)
-    → IsPulled given p (asked ++ place ∷ []) → IsTurned p q place w s → IsPulled given q asked
-turn-pulled given p q asked place w s h t =
-    let told = told-all p place w t.told h.standing in
-    let after = turned given (length p.inputs) (works_in p) (starts_of p.rings) asked place w s h t.is_open.is told t.found in
-    rw (t.code, t.inputs, t.starts) after
-
--- each turn is a step
 less-left : (left m top place : ℕ) → top < m → left * m + top < suc left * m + place
 less-left left m top place low =
     let more : suc left * m ≡ left * m + m = omega arith in
     omega arith
 
-pub turn-nearer : (given : ℕ) (p q : RingsParts) (asked : List ℕ) (place : ℕ) (w : Work) (s : Snapshot)
-    → IsPulled given p (asked ++ place ∷ []) → IsTurned p q place w s
-    → steps_left given q asked < steps_left given p (asked ++ place ∷ [])
-turn-nearer given p q asked place w s h t =
-    let works = works_in p in
-    let starts = starts_of p.rings in
-    let start = start_at p place in
-    let star = stages_from (suc given) (length p.inputs) works in
-    let at = start-is works starts place w h.standing t.is_open.is in
-    let stands = standing-at works starts place w start h.standing t.is_open.is at in
-    let next = next-is w.loop.lo w.loop.hi start w.whole s stands.filled.whole stands.fill t.found in
-    let lowest = falling-pop (IsAsked works starts star) (length works) asked place h.falling in
-    let falls = left-falls works starts star place w start s t.is_open.is at next lowest.here.fewer in
-    let top = falling-last (λ k. (place < k) × IsAsked works starts star k) (length works) asked lowest.before in
-    let left = left_to_make (stages_at works (slice_set starts place s.end)) star in
-    rw (t.code, t.inputs, t.starts, ← falls, last_or-push 0 asked place)
-    (less-left left (suc (length works)) (last_or 0 asked) place (omega arith))
+-- what holds of a place, and of each other
+by-place : {P : ℕ → Type 0} (place : ℕ) → P place → ((k : ℕ) → k ≢ place → P k) → (k : ℕ) → P k
+by-place {P} place here others k =
+    elim (cases_eq k place) as (λ _. P k) [ inl same ↦ subst P (sym same) here | inr apart ↦ others k apart ]
 
--- the last loop of a pipe: how many snapshots it has made is how many the pipe has given
-last-place : (p : RingsParts) (w : Work) → slice_get (works_in p) (length (works_in p) - 1) ≡ Some w
-    → suc (length (works_in p) - 1) ≡ length (works_in p)
-last-place p w is = let within = slice_get_within (works_in p) (length (works_in p) - 1) w is in omega arith
+-- what each loop makes until the next snapshot is given
+abbrev star : ℕ → RingsParts → List Stage
+star given p = stages_from (suc given) (length p.inputs) (works_in p)
 
-pub record IsLastLoop (p : RingsParts) (w : Work) : Type 0 where
-  pub is : slice_get (works_in p) (length (works_in p) - 1) ≡ Some w
-  pub run : w.whole ≡ run_of p.code p.inputs
-  pub used : w.used ≡ true
+-- the last of the loops that are asked for
+module _ (given : ℕ) (p : RingsParts) (asked : List ℕ) (place : ℕ) (h : IsPulled given p (asked ++ place ∷ [])) where
+  pub asked-last : IsAsked (works_in p) (starts_of p.rings) (star given p) place
+  asked-last = (falling-top (IsAsked (works_in p) (starts_of p.rings) (star given p)) (length (works_in p)) asked place h.falling).1
 
-pub last-loop : (p : RingsParts) (w : Work) → slice_get (works_in p) (length (works_in p) - 1) ≡ Some w → IsLastLoop p w
-last-loop p w is =
-    let at = run-last p.code p.inputs w (subst (λ (n : ℕ). slice_get (works_in p) (n - 1) ≡ Some w) (works-length p.code p.inputs) is) in
-    record { is = is; run = at.run; used = at.used }
+  pub asked-open : IsOpen p place asked-last.work
+  asked-open = record { is = asked-last.is; before = asked-last.before }
 
-pub given-made : (p : RingsParts) (w : Work) → AreStanding (works_in p) (starts_of p.rings)
-    → slice_get (works_in p) (length (works_in p) - 1) ≡ Some w → given_in p ≡ length (made_at p (length (works_in p) - 1) w)
-given-made p w standing is =
-    let last = length (works_in p) - 1 in
-    made_in-at (works_in p) (starts_of p.rings) last w (start_at p last) is (start-is (works_in p) (starts_of p.rings) last w standing is)
+  -- an earlier loop that it waits for will have made more
+  source-makes : (source : ℕ) → IsBehind p place asked-last.work source → made_in (star given p) source ≤ made_in (stages_in p) source → ⊥
+  source-makes source b most =
+      let now = made_in (stages_in p) in
+      let v = b.behind in
+      let w = asked-last.work in
+      let last = made_in (star given p) place - 1 in
+      let less = asked-last.fewer in
+      let read : IsReadOf (length p.inputs) (works_in p) source place v w b.read =
+      record { earlier = b.earlier; from = b.is_open.is; by = asked-last.is; among = b.reads; of = b.of } in
+      let own = (h.standing.each place w asked-last.is).filled in
+      let more = ended-rises w.loop.lo w.loop.hi w.whole (now place) last own.whole (omega arith) in
+      let rises = ended-rises v.loop.lo v.loop.hi v.whole (made_in (star given p) source) (now source)
+      (h.standing.each source v b.is_open.is).filled.whole most in
+      let at = stands-at (works_in p) (starts_of p.rings) place w h.standing asked-last.is in
+      let from = stands-at (works_in p) (starts_of p.rings) source v h.standing b.is_open.is in
+      let point = turn_point-rises w.loop (start_at p place) (start_after w last) own.grid (omega (arith, ints)) in
+      let reads = star-enough (suc given) (length p.inputs) (works_in p) (λ k u of. (h.standing.each k u of).filled) source place v w b.read last
+      read (omega arith) (omega (arith, ints, b.is_open.before)) in
+      omega (arith, ints, b.short)
+
+  -- so it may be asked for, and with it a step is done
+  pub source-asked : (source : ℕ) → ((w : Work) → IsOpen p place w → IsBehind p place w source)
+      → IsPulled given p ((asked ++ place ∷ []) ++ source ∷ [])
+  source-asked source each =
+      let b = each asked-last.work asked-open in
+      let is = IsAsked (works_in p) (starts_of p.rings) (star given p) in
+      record {
+        standing = h.standing;
+        within = h.within;
+        enough = h.enough;
+        falling = falling-lower is (length (works_in p)) asked place source h.falling b.earlier (record {
+          work = b.behind;
+          is = b.is_open.is;
+          used = used-source p.code p.inputs place source asked-last.work b.behind b.read asked-last.is asked-last.used b.reads b.of b.earlier b.is_open.is;
+          before = b.is_open.before;
+          fewer = elim (cases_lt (made_in (stages_in p) source) (made_in (star given p) source)) as
+              (λ _. made_in (stages_in p) source < made_in (star given p) source) [
+                | inl less ↦ less
+                | inr most ↦ absurd (source-makes source b most)
+              ];
+        });
+        begun = begun-push (length p.code.loops - 1) given (stages_in p) asked place source h.begun;
+      }
+
+  pub source-nearer : (source : ℕ) → ((w : Work) → IsOpen p place w → IsBehind p place w source)
+      → steps_left given p ((asked ++ place ∷ []) ++ source ∷ []) < steps_left given p (asked ++ place ∷ [])
+  source-nearer source each =
+      let low = (each asked-last.work asked-open).earlier in
+      rw (last_or-push 0 (asked ++ place ∷ []) source, last_or-push 0 asked place) (omega arith)
+
+-- the rings after the turn of a loop
+pub record IsTurned (p q : RingsParts) (place : ℕ) (s : Snapshot) : Type 0 where
+  pub told : (w : Work) → IsOpen p place w → AreTold p place w
+  pub found : (w : Work) → IsOpen p place w → slice_get w.whole (length (made_at p place w)) ≡ Some s
+  pub code : q.code ≡ p.code
+  pub inputs : q.inputs ≡ p.inputs
+  pub starts : starts_of q.rings ≡ slice_set (starts_of p.rings) place s.end
+
+-- the turn of the last of the loops that are asked for
+module _ (given : ℕ) (p q : RingsParts) (asked : List ℕ) (place : ℕ) (h : IsPulled given p (asked ++ place ∷ [])) (s : Snapshot)
+    (t : IsTurned p q place s) where
+  abbrev here : IsAsked (works_in p) (starts_of p.rings) (star given p) place
+  here = asked-last given p asked place h
+
+  abbrev after : List ℤ
+  after = slice_set (starts_of p.rings) place s.end
+
+  abbrev now-made : ℕ → ℕ
+  now-made = made_in (stages_in p)
+
+  abbrev then-made : ℕ → ℕ
+  then-made = made_in (stages_at (works_in p) after)
+
+  next : IsNextMade here.work.loop.lo here.work.loop.hi (start_at p place) here.work.whole s
+  next =
+      let stands = h.standing.each place here.work here.is in
+      next-is here.work.loop.lo here.work.loop.hi (start_at p place) here.work.whole s stands.filled.whole stands.fill
+      (t.found here.work (asked-open given p asked place h))
+
+  many : length after ≡ length (works_in p)
+  many = length-set (starts_of p.rings) place s.end ∙ h.standing.many
+
+  at : get_or after place (pos 0) ≡ s.end
+  at =
+      get_or-set_same (starts_of p.rings) place s.end (pos 0)
+      (omega (arith, slice_get_within (works_in p) place here.work here.is, h.standing.many))
+
+  one-more : then-made place ≡ suc (now-made place)
+  one-more =
+      made_in-at (works_in p) after place here.work many here.is
+      ∙ ap (λ (t : ℤ). length (made_by t here.work.whole)) at ∙ ap length next.more
+      ∙ length_push (made_by (start_at p place) here.work.whole) s
+      ∙ omega (arith, made_in-at (works_in p) (starts_of p.rings) place here.work h.standing.many here.is)
+
+  as-many : (k : ℕ) → k ≢ place → then-made k ≡ now-made k
+  as-many = made_in-other (works_in p) (starts_of p.rings) place s.end
+
+  no-fewer : (k : ℕ) → now-made k ≤ then-made k
+  no-fewer =
+      by-place {P = λ (k : ℕ). now-made k ≤ then-made k} place (omega (arith, one-more)) (λ k apart. omega (arith, as-many k apart))
+
+  turned-standing : AreStanding (works_in p) after
+  turned-standing = record {
+    many = many;
+    each = by-place {P = λ (k : ℕ). (w : Work) → slice_get (works_in p) k ≡ Some w → IsStanding w (get_or after k (pos 0))} place
+        (λ w is.
+        subst (IsStanding w) (sym at)
+        (subst (λ (v : Work). IsStanding v s.end) (same_Some here.work w (sym here.is ∙ is))
+        (record { filled = (h.standing.each place here.work here.is).filled; fill = next.fill; within = next.within })))
+        (λ k apart w is.
+        subst (IsStanding w) (sym (get_or-set_other (starts_of p.rings) place k s.end (pos 0) apart)) (h.standing.each k w is));
+  }
+
+  -- what the turn read is made
+  turned-enough : AreEnough (length p.inputs) (works_in p) then-made
+  turned-enough source k v w r last read is before =
+      let filled = (h.standing.each source v read.from).filled in
+      let rises = ended-rises v.loop.lo v.loop.hi v.whole (now-made source) (then-made source) filled.whole (no-fewer source) in
+      let at = stands-at (works_in p) (starts_of p.rings) source v h.standing read.from in
+      let reads : (turn_point w.loop (start_after w last) +ℤ r.last) ≤ℤ start_after v (now-made source) =
+      elim (cases_eq k place) as (λ _. (turn_point w.loop (start_after w last) +ℤ r.last) ≤ℤ start_after v (now-made source)) [
+        | inl same ↦ (
+            let own : w ≡ here.work = same_Some w here.work (sym read.by ∙ ap (slice_get (works_in p)) same ∙ here.is) in
+            let count : last ≡ now-made place = omega (arith, one-more, sym is ∙ ap then-made same) in
+            let point = turn_point here.work.loop (start_at p place) in
+            let among = subst (λ (u : Work). Contains (body_reads u.loop.body) r) own read.among in
+            let told = all-contains (IsTold p point) (body_reads here.work.loop.body) r
+            (t.told here.work (asked-open given p asked place h)) among source v read.of read.from in
+            rw (own, count, stands-at (works_in p) (starts_of p.rings) place here.work h.standing here.is, at)
+            (below_end (point +ℤ r.last) (start_at p source) v.loop.hi told (omega (arith, ints)))
+            )
+        | inr apart ↦ h.enough source k v w r last read (sym (as-many k apart) ∙ is) (omega (arith, ints))
+      ] in
+      omega (arith, ints)
+
+  -- after it the others are still asked for
+  pub turn-pulled : IsPulled given q asked
+  turn-pulled =
+      let is = IsAsked (works_in p) (starts_of p.rings) (star given p) in
+      let becomes = IsAsked (works_in p) after (star given p) in
+      let pulled : ArePulled (length p.inputs) (works_in p) (length p.code.loops - 1) given after asked = record {
+        standing = turned-standing;
+        within = by-place {P = λ (k : ℕ). then-made k ≤ made_in (star given p) k} place (omega (arith, one-more, here.fewer))
+            (λ k apart. omega (arith, as-many k apart, h.within k));
+        enough = turned-enough;
+        falling = falling-pop is becomes (length (works_in p)) asked place h.falling
+            (λ k high one.
+            let apart : k ≢ place = λ same. omega arith in
+            record {
+              work = one.work;
+              is = one.is;
+              used = one.used;
+              before = rw (get_or-set_other (starts_of p.rings) place k s.end (pos 0) apart) one.before;
+              fewer = rw (as-many k apart) one.fewer;
+            });
+        begun = begun-pop is (length (works_in p)) (length p.code.loops - 1) given (stages_in p) (stages_at (works_in p) after) asked place
+            one-more as-many h.falling h.begun;
+      } in
+      rw (t.code, t.inputs, t.starts) pulled
+
+  -- and a step is done
+  pub turn-nearer : steps_left given q asked < steps_left given p (asked ++ place ∷ [])
+  turn-nearer =
+      let falls = left-falls (works_in p) (starts_of p.rings) (star given p) place s.end one-more here.fewer in
+      let top = falling-last (λ k. k ≡ k) (length (works_in p)) 0 asked
+      (falling-pop (IsAsked (works_in p) (starts_of p.rings) (star given p)) (λ k. k ≡ k) (length (works_in p)) asked place h.falling
+      (λ k high one. refl)) (omega arith) in
+      let left = left_to_make (stages_at (works_in p) after) (star given p) in
+      rw (t.code, t.inputs, t.starts, ← falls, last_or-push 0 asked place)
+      (less-left left (suc (length (works_in p))) (last_or 0 asked) place (omega arith))
+
+  -- where it was the only one, its snapshot is the next one of the run
+  pub turn-given : asked ≡ [] → Some s ≡ slice_get (run_of p.code p.inputs) given
+  turn-given none =
+      let begun = rw none at h.begun in
+      let last = run-last p.code p.inputs here.work (subst (λ (k : ℕ). slice_get (works_in p) k ≡ Some here.work) begun.0 here.is) in
+      let count = made_in-at (works_in p) (starts_of p.rings) place here.work h.standing.many here.is in
+      let given_is : now-made place ≡ given = subst (λ (k : ℕ). now-made k ≡ given) (sym begun.0) begun.1 in
+      sym (t.found here.work (asked-open given p asked place h)) ∙ ap (slice_get here.work.whole) (sym count ∙ given_is)
+      ∙ ap (λ (list : List Snapshot). slice_get list given) last.run
 
 -- the loops of rings stand
 pub rings-stand : (p : RingsParts) → IsCode p.code → AreRings p → AreStanding (works_in p) (starts_of p.rings)
 rings-stand p code rings =
-    rings-standing (works_in p) p.rings (works-filled p.code p.inputs (loops-timed p.code.loops code.grammatical.loops)) rings.rings
+    let count = loops-there p rings in
+    let works = works-length p.code p.inputs in
+    let starts = length-map p.rings (λ (r : RingParts). r.start) in
+    let filled = works-filled p.code p.inputs (loops-timed p.code.loops code.grammatical.loops) in
+    record {
+      many = omega arith;
+      each = λ k w is.
+          let it = ring-of p k w code rings is in
+          rw it.start (record { filled = filled k w is; fill = it.kept.ring.fill; within = it.kept.ring.within });
+    }
 
--- before its end the last loop may be asked for
-pub pull-begun : (p : RingsParts) (w : Work) → IsCode p.code → AreRings p → stages_in p ≡ stages_after p.code p.inputs (given_in p)
-    → IsOpen p (length (works_in p) - 1) w → IsPulled (given_in p) p ((length (works_in p) - 1) ∷ [])
-pull-begun p w code rings made open_ =
+-- where the last loop is at the end of its stretch, the run has no more snapshots
+pub none-left : (p : RingsParts) (l : HasLast p.code p.inputs) → AreStanding (works_in p) (starts_of p.rings)
+    → l.work.loop.hi ≤ℤ start_at p (length p.code.loops - 1) → None ≡ slice_get (run_of p.code p.inputs) (given_in p)
+none-left p l standing ended =
+    let last = length p.code.loops - 1 in
+    let filled = (standing.each last l.work l.is).filled in
+    let all = all-made l.work.loop.lo l.work.loop.hi (start_at p last) l.work.whole filled.whole ended in
+    let count = made_in-at (works_in p) (starts_of p.rings) last l.work standing.many l.is in
+    let long = ap (λ (list : List Snapshot). length list) (all ∙ l.run) in
+    sym (slice_get_past (run_of p.code p.inputs) (given_in p) (omega arith))
+
+-- before that it may be asked for
+star-last : (given buffer : ℕ) (works : List Work) (last : ℕ) (w : Work) → suc last ≡ length works → slice_get works last ≡ Some w
+    → made_in (stages_from given buffer works) last ≡ length (take given w.whole)
+star-last given buffer [] last w long is = absurd (cc is)
+star-last given buffer (x ∷ []) zero w long is = ap (λ (v : Work). length (take given v.whole)) (same_Some x w is)
+star-last given buffer (x ∷ []) (suc last) w long is = absurd (cc is)
+star-last given buffer (x ∷ next ∷ works) zero w long is = absurd (omega arith)
+star-last given buffer (x ∷ next ∷ works) (suc last) w long is = star-last given (suc buffer) (next ∷ works) last w (omega arith) is
+
+pub pull-begun : (p : RingsParts) (l : HasLast p.code p.inputs) → AreStanding (works_in p) (starts_of p.rings)
+    → stages_in p ≡ stages_after p.code p.inputs (given_in p) → start_at p (length p.code.loops - 1) <ℤ l.work.loop.hi
+    → IsPulled (given_in p) p ((length p.code.loops - 1) ∷ [])
+pull-begun p l standing made before =
     let works = works_in p in
-    let starts = starts_of p.rings in
-    let last = length works - 1 in
+    let last = length p.code.loops - 1 in
     let given = given_in p in
     let buffer = length p.inputs in
-    let star = stages_from (suc given) buffer works in
-    let filled = works-filled p.code p.inputs (loops-timed p.code.loops code.grammatical.loops) in
-    let standing = rings-stand p code rings in
-    let start = start_at p last in
-    let at = start-is works starts last w standing open_.is in
-    let stands = standing-at works starts last w start standing open_.is at in
-    let end = last-place p w open_.is in
-    let count = given-made p w standing open_.is in
-    let next = start +ℤ pos 1 in
-    let more = begun-more w.loop.lo w.loop.hi start next w.whole stands.filled.whole stands.fill open_.before (omega (arith, ints)) in
-    let most = begun-within (Some next) w.whole in
-    let less = last-less given buffer works last w end open_.is (omega arith) in
+    let w = l.work in
+    let filled : AreFilled works = λ k v is. (standing.each k v is).filled in
+    let most = star-last (suc given) buffer works last w l.place l.is in
+    let cut = length-take (suc given) w.whole in
+    let end = l.place in
+    let less : given < length w.whole = elim (cases_lt given (length w.whole)) as (λ _. given < length w.whole) [
+      | inl less ↦ less
+      | inr all ↦ (
+          let at = stands-at works (starts_of p.rings) last w standing l.is in
+          let rises = ended-rises w.loop.lo w.loop.hi w.whole (length w.whole) given (filled last w l.is).whole all in
+          let whole = rw (take_all (length w.whole) w.whole (omega arith), end-made w.loop.lo w.loop.hi w.whole (filled last w l.is).whole) at rises in
+          absurd (omega (arith, ints))
+          )
+    ] in
     record {
       standing = standing;
-      within = subst (λ (now : List Stage). AreWithin now star) (sym made) (within-next given buffer works filled);
-      enough = star-enough given buffer works starts standing made;
+      within = subst (λ (now : List Stage). (k : ℕ) → made_in now k ≤ made_in (star given p) k) (sym made)
+          (least given buffer works (made_in (star given p)) filled (star-enough (suc given) buffer works filled)
+          (λ k is. let same : k ≡ last = omega arith in rw same (omega arith)));
+      enough = subst (λ (now : List Stage). AreEnough buffer works (made_in now)) (sym made) (star-enough given buffer works filled);
       falling = (
         omega arith,
-        record {
-          work = w;
-          is = open_.is;
-          used = (last-loop p w open_.is).used;
-          before = open_.before;
-          fewer = subst (λ (now : List Stage). made_in now last < made_in star last) (sym made) less;
-        },
+        record { work = w; is = l.is; used = l.used; before = before; fewer = omega arith },
         tt,
       );
       begun = (refl, refl);
     }
 
--- where no loop is asked for any more, all have made what they have made after the next snapshot
-pub pull-done : (given : ℕ) (p : RingsParts) (w : Work) → IsPulled given p [] → slice_get (works_in p) (length (works_in p) - 1) ≡ Some w
-    → stages_in p ≡ stages_after p.code p.inputs (suc given)
-pull-done given p w h is =
-    let works = works_in p in
-    let starts = starts_of p.rings in
-    let last = length works - 1 in
-    let start = start_at p last in
-    let count : length (made_by start w.whole) ≡ suc given = sym (given-made p w h.standing is) ∙ h.begun in
-    exact (suc given) (length p.inputs) works starts last w start h.standing h.within h.enough (last-place p w is) is
-    (start-is works starts last w h.standing is)
-    (made-front start w.whole ∙ ap (λ (n : ℕ). take n w.whole) count)
-
--- the snapshot of the turn of the last loop is the next one of the run
-pub last-given : (given : ℕ) (p : RingsParts) (place : ℕ) (w : Work) (s : Snapshot) → IsPulled given p (place ∷ [])
-    → slice_get (works_in p) place ≡ Some w → slice_get w.whole (length (made_at p place w)) ≡ Some s
-    → Some s ≡ slice_get (run_of p.code p.inputs) given
-last-given given p place w s h is found =
-    let last = length (works_in p) - 1 in
-    let at : slice_get (works_in p) last ≡ Some w = subst (λ (k : ℕ). slice_get (works_in p) k ≡ Some w) h.begun.0 is in
-    let here : slice_get w.whole (length (made_at p last w)) ≡ Some s =
-    subst (λ (k : ℕ). slice_get w.whole (length (made_at p k w)) ≡ Some s) h.begun.0 found in
-    let count : length (made_at p last w) ≡ given = sym (given-made p w h.standing at) ∙ h.begun.1 in
-    sym here ∙ ap (λ (n : ℕ). slice_get w.whole n) count ∙ ap (λ (list : List Snapshot). slice_get list given) (last-loop p w at).run
-
--- where the last loop is at the end of its stretch, the run has no more snapshots
-pub none-left : (p : RingsParts) (w : Work) → AreStanding (works_in p) (starts_of p.rings)
-    → slice_get (works_in p) (length (works_in p) - 1) ≡ Some w → w.loop.hi ≤ℤ start_at p (length (works_in p) - 1)
-    → slice_get (run_of p.code p.inputs) (given_in p) ≡ None
-none-left p w standing is ended =
-    let last = length (works_in p) - 1 in
-    let start = start_at p last in
-    let at = start-is (works_in p) (starts_of p.rings) last w standing is in
-    let stands = standing-at (works_in p) (starts_of p.rings) last w start standing is at in
-    let all = all-made w.loop.lo w.loop.hi start w.whole stands.filled.whole ended in
-    let count = given-made p w standing is in
-    let run = (last-loop p w is).run in
-    let long : length (made_at p last w) ≡ length (run_of p.code p.inputs) = ap (λ (list : List Snapshot). length list) (all ∙ run) in
-    slice_get_past (run_of p.code p.inputs) (given_in p) (omega arith)
-
--- the last loop, by its place among the loops of the code
-pub last-is : (p : RingsParts) → length p.code.loops - 1 ≡ length (works_in p) - 1
-last-is p = ap (λ (n : ℕ). n - 1) (sym (works-length p.code p.inputs))
-
-pub last-work : (p : RingsParts) → IsCode p.code → (w : Work) × (slice_get (works_in p) (length (works_in p) - 1) ≡ Some w)
-last-work p code =
-    let some = code.grammatical.some in
-    let long = works-length p.code p.inputs in
-    slice_get-some (works_in p) (length (works_in p) - 1) (omega arith)
-
-pub last-within : (p : RingsParts) → IsCode p.code → AreRings p → length p.code.loops - 1 < length p.rings
-last-within p code rings =
-    let some = code.grammatical.some in
-    let long = works-length p.code p.inputs in
-    let starts = standing-length (works_in p) (starts_of p.rings) (rings-stand p code rings) in
-    let stand = length-map p.rings (λ (r : RingParts). r.start) in
-    omega arith
-
--- whether the last loop stands before the end of its stretch
-pub record TellsOpen (p : RingsParts) (is_open : Bool) : Type 0 where
-  pub code : IsCode p.code
-  pub rings : AreRings p
-  pub tells : (w : Work) → slice_get (works_in p) (length p.code.loops - 1) ≡ Some w
-      → IsTrue is_open ↔ (start_at p (length p.code.loops - 1) <ℤ w.loop.hi)
-
-not-below : (a b : ℤ) (test : Bool) → IsTrue test ↔ (a <ℤ b) → test ≡ false → b ≤ℤ a
-not-below a b test tells fails =
-    by_lt_z a b (λ low. let passes : test ≡ true = tells.1 low in absurd (false≢true (sym fails ∙ passes))) (λ high. high)
-
-pub pull-none : (p : RingsParts) (is_open : Bool) → TellsOpen p is_open → is_open ≡ false
-    → None ≡ slice_get (run_of p.code p.inputs) (given_in p)
-pull-none p is_open h closed =
-    let last = last-work p h.code in
-    let at = last-is p in
-    let tells = h.tells last.0 (subst (λ (k : ℕ). slice_get (works_in p) k ≡ Some last.0) (sym at) last.1) in
-    let ended = not-below (start_at p (length p.code.loops - 1)) last.0.loop.hi is_open tells closed in
-    sym (none-left p last.0 (rings-stand p h.code h.rings) last.1
-    (subst (λ (k : ℕ). last.0.loop.hi ≤ℤ start_at p k) at ended))
-
-pub pull-first : (p : RingsParts) (is_open : Bool) → TellsOpen p is_open → is_open ≡ true
-    → stages_in p ≡ stages_after p.code p.inputs (given_in p) → IsPulled (given_in p) p ((length p.code.loops - 1) ∷ [])
-pull-first p is_open h opened made =
-    let last = last-work p h.code in
-    let at = last-is p in
-    let tells = h.tells last.0 (subst (λ (k : ℕ). slice_get (works_in p) k ≡ Some last.0) (sym at) last.1) in
-    let before = tells.0 opened in
-    subst (λ (k : ℕ). IsPulled (given_in p) p (k ∷ [])) (sym at)
-    (pull-begun p last.0 h.code h.rings made
-    (record { is = last.1; before = subst (λ (k : ℕ). start_at p k <ℤ last.0.loop.hi) at before }))
-
 -- once no loop is asked for any more, a pipe has given one snapshot more, and it was there
-pub record IsPulledOn (given : ℕ) (p : RingsParts) : Type 0 where
+pub record IsPulledOn (given : ℕ) (p : RingsParts) (next : Option Snapshot) : Type 0 where
   pub given_is : given_in p ≡ suc given
   pub made : stages_in p ≡ stages_after p.code p.inputs (given_in p)
-  pub there : (s : Snapshot) × (slice_get (run_of p.code p.inputs) given ≡ Some s)
+  pub there : (s : Snapshot) × (next ≡ Some s)
 
--- a list has an element at each place
-found-at : (list : List Snapshot) (place : ℕ) → place < length list → (s : Snapshot) × (slice_get list place ≡ Some s)
-found-at [] place within = absurd (omega arith)
-found-at (s ∷ list) zero within = (s, refl)
-found-at (s ∷ list) (suc place) within = found-at list place (omega arith)
-
-pub pull-ends : (given : ℕ) (p : RingsParts) → IsCode p.code → IsPulled given p [] → IsPulledOn given p
-pull-ends given p code h =
-    let last = last-work p code in
-    let place = length (works_in p) - 1 in
-    let start = start_at p place in
-    let count : length (made_by start last.0.whole) ≡ suc given = sym (given-made p last.0 h.standing last.1) ∙ h.begun in
-    let made = made_by start last.0.whole in
-    let front = ap (λ (list : List Snapshot). length list) (made-front start last.0.whole) ∙ length-take (length made) last.0.whole in
-    let run = ap (λ (list : List Snapshot). length list) (last-loop p last.0 last.1).run in
+pub pull-ends : (given : ℕ) (p : RingsParts) (next : Option Snapshot) → IsCode p.code → IsPulled given p []
+    → next ≡ slice_get (run_of p.code p.inputs) given → IsPulledOn given p next
+pull-ends given p next code h is =
+    let l = last-loop p.code p.inputs code in
+    let works = works_in p in
+    let end = l.place in
+    let prefixes = now-prefixes works (starts_of p.rings) h.standing.many in
+    let few = prefix-few works (stages_in p) (length p.code.loops - 1) l.work prefixes l.is in
+    let run = ap (λ (list : List Snapshot). length list) l.run in
+    let begun : given_in p ≡ suc given = h.begun in
+    let there = slice_get-some (run_of p.code p.inputs) given (omega arith) in
+    let no-fewer = least (suc given) (length p.inputs) works (made_in (stages_in p)) (λ k w is. (h.standing.each k w is).filled) h.enough
+    (λ k is. let same : k ≡ length p.code.loops - 1 = omega arith in rw same (omega arith)) in
     record {
       given_is = h.begun;
-      there = found-at (run_of p.code p.inputs) given (omega arith);
-      made = subst (λ (n : ℕ). stages_in p ≡ stages_after p.code p.inputs n) (sym h.begun) (pull-done given p last.0 h last.1);
+      made = rw begun
+          (same-stages works (stages_in p) (star given p) prefixes (star-prefixes (suc given) (length p.inputs) works)
+          (λ k. omega (arith, no-fewer k, h.within k)));
+      there = (there.0, is ∙ there.1);
     }
-
--- a list of one isn't empty
-pub one-is-some : (xs : List ℕ) (x : ℕ) → xs ≡ x ∷ [] → xs ≢ []
-one-is-some xs x one none =
-    let long : length xs ≡ 1 = ap (λ (ys : List ℕ). length ys) one in
-    let short : length xs ≡ 0 = ap (λ (ys : List ℕ). length ys) none in
-    omega arith
-
--- the last of the loops that are asked for may make its turn
-pub record MayBeMade (p : RingsParts) (place : ℕ) : Type 0 where
-  pub work : Work
-  pub is_open : IsOpen p place work
-  pub used : work.used ≡ true
-
-pub asked-last : (given : ℕ) (p : RingsParts) (asked : List ℕ) (place : ℕ) → IsPulled given p (asked ++ place ∷ []) → MayBeMade p place
-asked-last given p asked place h =
-    let star = stages_from (suc given) (length p.inputs) (works_in p) in
-    let here = (falling-pop (IsAsked (works_in p) (starts_of p.rings) star) (length (works_in p)) asked place h.falling).here in
-    record { work = here.work; is_open = record { is = here.is; before = here.before }; used = here.used }
-
--- the snapshot that is given is there
-pub pull-gives : (given : ℕ) (p before : RingsParts) (made : Option Snapshot) → IsCode before.code → p.code ≡ before.code
-    → p.inputs ≡ before.inputs → IsPulled given p [] → made ≡ slice_get (run_of before.code before.inputs) given
-    → (s : Snapshot) × (made ≡ Some s) × (given_in p ≡ suc given)
-pull-gives given p before made is code inputs h next =
-    let done = pull-ends given p (subst IsCode (sym code) is) h in (
-      done.there.0,
-      next ∙ sym (ap (λ (all : List (List Snapshot)). slice_get (run_of before.code all) given) inputs)
-          ∙ sym (ap (λ (of : CodeParts). slice_get (run_of of p.inputs) given) code) ∙ done.there.1,
-      done.given_is,
-    )
 
 -- before the first snapshot no loop has made any
-none-made_in : (buffer : ℕ) (works : List Work) (place : ℕ) → made_in (stages_from 0 buffer works) place ≡ 0
-none-made_in buffer [] place = refl
-none-made_in buffer (w ∷ []) zero = refl
-none-made_in buffer (w ∷ []) (suc place) = refl
-none-made_in buffer (w ∷ next ∷ works) zero =
-    ap (λ (tick : Option ℤ). length (begun_below tick w.whole)) (asked-none buffer (suc buffer) (next ∷ works))
-none-made_in buffer (w ∷ next ∷ works) (suc place) = none-made_in (suc buffer) (next ∷ works) place
+none-made_in : (buffer : ℕ) (lists : List (List Snapshot)) (loops : List LoopParts) → AllByRecursion IsTimed loops → (k : ℕ)
+    → made_in (stages_at (works_from buffer lists loops) (map (λ (l : LoopParts). l.lo) loops)) k ≡ 0
+none-made_in buffer lists [] timed k = refl
+none-made_in buffer lists (l ∷ loops) timed zero =
+    let whole = turns (map stream_of lists) l in
+    ap (λ (list : List Snapshot). length list) (none-made l.lo l.hi whole (turns-Fill (map stream_of lists) l timed.0))
+none-made_in buffer lists (l ∷ loops) timed (suc k) =
+    none-made_in (suc buffer) (lists ++ turns (map stream_of lists) l ∷ []) loops timed.1 k
 
-begin-at : (buffer : ℕ) (lists : List (List Snapshot)) (loops : List LoopParts)
-    → map (λ (w : Work). w.loop.lo) (works_from buffer lists loops) ≡ map (λ (l : LoopParts). l.lo) loops
-begin-at buffer lists [] = refl
-begin-at buffer lists (l ∷ loops) =
-    ap (λ (rest : List ℤ). l.lo ∷ rest) (begin-at (suc buffer) (lists ++ turns (map stream_of lists) l ∷ []) loops)
-
-pub record IsNew (p : RingsParts) : Type 0 where
-  pub given : given_in p ≡ 0
-  pub made : stages_in p ≡ stages_after p.code p.inputs 0
-
-pub rings-new : (p : RingsParts) → IsCode p.code → starts_of p.rings ≡ map (λ (l : LoopParts). l.lo) p.code.loops → IsNew p
+pub rings-new : (p : RingsParts) → IsCode p.code → starts_of p.rings ≡ map (λ (l : LoopParts). l.lo) p.code.loops
+    → (given_in p ≡ 0) × (stages_in p ≡ stages_after p.code p.inputs 0)
 rings-new p code starts =
     let works = works_in p in
-    let begin : starts_of p.rings ≡ map (λ (w : Work). w.loop.lo) works =
-    starts ∙ sym (begin-at (length p.inputs) p.inputs p.code.loops) in
-    let filled = works-filled p.code p.inputs (loops-timed p.code.loops code.grammatical.loops) in
-    let made : stages_in p ≡ stages_after p.code p.inputs 0 =
-    ap (λ (at : List ℤ). stages_at works at) begin ∙ none-yet (length p.inputs) works filled in
-    record {
-      given = ap (λ (now : List Stage). made_in now (length works - 1)) made ∙ none-made_in (length p.inputs) works (length works - 1);
-      made = made;
-    }
+    let buffer = length p.inputs in
+    let timed = loops-timed p.code.loops code.grammatical.loops in
+    let many = ap length starts ∙ length-map p.code.loops (λ (l : LoopParts). l.lo) ∙ sym (works-length p.code p.inputs) in
+    let none : (k : ℕ) → made_in (stages_in p) k ≡ 0 = rw starts (none-made_in buffer p.inputs p.code.loops timed) in
+    let filled = works-filled p.code p.inputs timed in
+    let fewest = least 0 buffer works (λ _. 0) filled (λ source place v w r last read is. absurd (omega (arith, is))) (λ last is. omega arith) in (
+      none (length p.code.loops - 1),
+      same-stages works (stages_in p) (stages_from 0 buffer works) (now-prefixes works (starts_of p.rings) many) (star-prefixes 0 buffer works)
+          (λ k. omega (arith, none k, fewest k)),
+    )
+
+-- the rings of a pipe, as they are seen
+abbrev seen : RingsParts → PipeParts
+seen p =
+    record { code = p.code; inputs = p.inputs; rings = map (λ (r : RingParts). r.held) p.rings; given = given_in p; refused = false }
+
+-- they are those of the definition where the loops have made what it says, and hold no more of it than it says
+pub seen-of : (p : RingsParts) (code : CodeParts) (inputs : List (List Snapshot)) (given : ℕ)
+    → map (λ (r : RingParts). r.held) p.rings ≡ rings_of (length p.inputs) (stages_in p)
+    → stages_in p ≡ stages_after p.code p.inputs given → given_in p ≡ given → p.code ≡ code → p.inputs ≡ inputs
+    → seen p ≡ pipe_after code inputs given
+seen-of p code inputs given exact made is same_code same_inputs =
+    let after : rings_after p.code p.inputs given ≡ rings_after code inputs given = λ i. rings_after (same_code i) (same_inputs i) given in
+    let rings = exact ∙ ap (rings_of (length p.inputs)) made ∙ after in
+    λ i. record { code = same_code i; inputs = same_inputs i; rings = rings i; given = is i; refused = false }
+
+-- what follows from an `Ok`
+pub from-ok : {A E : Type 0} (P : Type 0) (r : Result A E) → OnOk r P → is_err r ≡ false → P
+from-ok P (Ok a) h fine = h
+from-ok P (Err e) h fine = absurd (false≢true (sym fine))

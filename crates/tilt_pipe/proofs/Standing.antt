@@ -1,11 +1,13 @@
 -- Where a loop stands, and what it has made there: that part of its whole buffer that ends there.
-use Rattle.std.proofs.Common.{◌≡◌, ◌<◌, ℤ, pos, neg_ℤ, ◌+ℤ◌, ◌<ℤ◌, ◌≤ℤ◌, true, false, int_lt, int_le, List, [], ◌∷◌, ◌++◌, length, slice_get, Some, refl, sym, ap, ◌∙◌, subst, arith}
+use Rattle.std.proofs.Common.{◌≡◌, ◌⊎◌, inl, inr, ◌<◌, ℤ, pos, neg_ℤ, ◌+ℤ◌, ◌<ℤ◌, ◌≤ℤ◌, true, false, int_lt, int_le, List, [], ◌∷◌, ◌++◌, length, slice_get, Some, None, refl, sym, ap, ◌∙◌, subst}
+use Rattle.std.proofs.Common.{arith}
 use Rattle.std.proofs.lemmas.Int.{ints, by_lt_z}
-use Rattle.std.proofs.lemmas.Option.{same_Some}
+use Rattle.std.proofs.lemmas.List.{length-append}
+use Rattle.std.proofs.lemmas.Option.{same_Some, slice_get_within}
+use Rattle.circular_buffer.proofs.Places.{slice_get-append_right}
 use Rattle.tilt_base.specs.declared.limits.TheConstants.{WIDE}
 use Rattle.tilt_stream.proofs.Filling.{Fill-AreSnapshots, Fill-up}
-use Rattle.tilt_code.proofs.Turns.{turns_until-first, turns_until-none}
-use Rattle.tilt_code.proofs.Runs.{turns-Fill}
+use Rattle.tilt_code.proofs.Turns.{turns_until-first}
 use Rattle.tilt_code.specs.Body.{body_of}
 use Rattle.tilt_code.specs.Code.{LoopParts}
 use Rattle.tilt_base.specs.Grid.{GridPoints, IsGrid}
@@ -13,7 +15,7 @@ use Rattle.tilt_code.specs.Meaning.{IsTimed}
 use Rattle.tilt_code.specs.Turn.{turn, turns_until, turns}
 use Rattle.tilt_pipe.specs.Positions.{made_by}
 use Rattle.tilt_pipe.specs.Rings.{end_or}
-use Rattle.tilt_stream.specs.Snap.{Snapshot, InOrder, AreSnapshots, last_end, gap_before, Fill}
+use Rattle.tilt_stream.specs.Snap.{Snapshot, InOrder, last_end, gap_before, Fill}
 use Rattle.tilt_stream.specs.Stream.{Stream}
 
 -- the first one is made, or none is
@@ -42,15 +44,20 @@ none-made lo hi (s ∷ ss) h = made-stopped lo s ss h.1
 pub none-fills : (lo hi : ℤ) (whole : List Snapshot) → Fill lo hi whole → Fill lo lo (made_by lo whole)
 none-fills lo hi whole h = subst (Fill lo lo) (sym (none-made lo hi whole h)) refl
 
--- what has filled a stretch ends where it ends
-end_or-any : (a b : ℤ) (s : Snapshot) (ss : List Snapshot) → end_or a (last_end (s ∷ ss)) ≡ end_or b (last_end (s ∷ ss))
-end_or-any a b s [] = refl
-end_or-any a b s (next ∷ ss) = end_or-any a b next ss
+-- where the last one ends, where the first one does
+pub ended-after : (lo : ℤ) (s : Snapshot) (ss : List Snapshot) → end_or lo (last_end (s ∷ ss)) ≡ end_or s.end (last_end ss)
+ended-after lo s [] = refl
+ended-after lo s (next ∷ ss) = ended-after lo next ss ∙ sym (ended-after s.end next ss)
 
+-- what has filled a stretch ends where it ends
 pub end-made : (lo start : ℤ) (made : List Snapshot) → Fill lo start made → end_or lo (last_end made) ≡ start
 end-made lo start [] h = h
-end-made lo start (s ∷ []) h = h.2
-end-made lo start (s ∷ next ∷ ss) h = end_or-any lo s.end next ss ∙ end-made s.end start (next ∷ ss) h.2
+end-made lo start (s ∷ made) h = ended-after lo s made ∙ end-made s.end start made h.2
+
+-- a loop before the end of its stretch has reached a tick where it has reached that or the end
+pub below_end : (tick start hi : ℤ) → (hi ≤ℤ start) ⊎ (tick ≤ℤ start) → start <ℤ hi → tick ≤ℤ start
+below_end tick start hi (inl ended) some = absurd (omega (arith, ints))
+below_end tick start hi (inr reached) some = reached
 
 -- the next snapshot of a buffer: it begins where the loop stands, and once it is made the loop stands at its end
 pub record IsNextMade (lo hi start : ℤ) (whole : List Snapshot) (s : Snapshot) : Type 0 where
@@ -60,131 +67,110 @@ pub record IsNextMade (lo hi start : ℤ) (whole : List Snapshot) (s : Snapshot)
   pub within : s.end ≤ℤ hi
   pub fill : Fill lo s.end (made_by s.end whole)
 
--- where the first one is the next
-next-first : (lo hi start : ℤ) (s : Snapshot) (ss : List Snapshot) → Fill lo hi (s ∷ ss) → lo ≡ start → start <ℤ s.end
-    → IsNextMade lo hi start (s ∷ ss) s
-next-first lo hi start s ss h stands high =
-    let one : made_by s.end (s ∷ ss) ≡ s ∷ [] =
-    made-passed s.end s ss (omega (arith, ints)) ∙ ap (λ (rest : List Snapshot). s ∷ rest) (none-made s.end hi ss h.2) in
-    record {
-      begins = h.0 ∙ stands;
-      more = one ∙ ap (λ (front : List Snapshot). front ++ s ∷ []) (sym (made-stopped start s ss high));
-      rises = high;
-      within = Fill-up s.end hi ss h.2;
-      fill = subst (Fill lo s.end) (sym one) (h.0, h.1, refl);
-    }
-
--- where it stands further on
-next-later : (lo hi start : ℤ) (first : Snapshot) (ss : List Snapshot) (s : Snapshot) → Fill lo hi (first ∷ ss) → first.end ≤ℤ start
-    → IsNextMade first.end hi start ss s → IsNextMade lo hi start (first ∷ ss) s
-next-later lo hi start first ss s h passed next =
-    let rises = next.rises in
-    let now = made-passed start first ss passed in
-    let then_ = made-passed s.end first ss (omega (arith, ints)) in
-    record {
-      begins = next.begins;
-      more = then_ ∙ ap (λ (rest : List Snapshot). first ∷ rest) next.more ∙ ap (λ (front : List Snapshot). front ++ s ∷ []) (sym now);
-      rises = rises;
-      within = next.within;
-      fill = subst (Fill lo s.end) (sym then_) (h.0, h.1, next.fill);
-    }
-
-pub next-is : (lo hi start : ℤ) (whole : List Snapshot) (s : Snapshot) → Fill lo hi whole → Fill lo start (made_by start whole)
-    → slice_get whole (length (made_by start whole)) ≡ Some s → IsNextMade lo hi start whole s
-next-is lo hi start [] s h stands is = absurd (cc is)
-next-is lo hi start (first ∷ ss) s h stands is =
-    by_lt_z start first.end
-    (λ high.
-    let none = made-stopped start first ss high in
-    let same : first ≡ s = same_Some first s (rw none at is) in
-    rw (← same) (next-first lo hi start first ss h (rw none at stands) high))
-    (λ low.
-    let some = made-passed start first ss low in
-    let filled : Fill lo start (first ∷ made_by start ss) = rw some at stands in
-    next-later lo hi start first ss s h low (next-is first.end hi start ss s h.2 filled.2 (rw some at is)))
-
--- turns are the first one and those behind it, where there is any
-turns-split : (body : Stream) (grid : GridPoints) → IsGrid grid → (lo hi : ℤ) (s : Snapshot) (ss : List Snapshot)
-    → s ∷ ss ≡ turns_until body grid hi lo → (s ≡ turn body grid hi lo) × (ss ≡ turns_until body grid hi s.end)
-turns-split body grid valid lo hi s ss is =
-    by_lt_z lo hi
-    (λ some.
-    let both : s ∷ ss ≡ turn body grid hi lo ∷ turns_until body grid hi (turn body grid hi lo).end =
-    is ∙ turns_until-first body grid valid hi lo some in
-    let first : s ≡ turn body grid hi lo = cc both in
-    let rest : ss ≡ turns_until body grid hi (turn body grid hi lo).end = cc both in
-    (first, rest ∙ ap (λ (x : Snapshot). turns_until body grid hi x.end) (sym first)))
-    (λ none.
-    let empty : s ∷ ss ≡ [] = is ∙ turns_until-none body grid hi lo none in
-    absurd (cc empty))
-
--- the next one is the turn that begins where the loop stands
-turn-next : (body : Stream) (grid : GridPoints) → IsGrid grid → (lo hi start : ℤ) (whole : List Snapshot)
-    → whole ≡ turns_until body grid hi lo → Fill lo start (made_by start whole) → start <ℤ hi
-    → slice_get whole (length (made_by start whole)) ≡ Some (turn body grid hi start)
-turn-next body grid valid lo hi start [] is stands before =
-    let some : lo <ℤ hi = omega (arith, ints) in
-    let both : [] ≡ turn body grid hi lo ∷ turns_until body grid hi (turn body grid hi lo).end =
-    is ∙ turns_until-first body grid valid hi lo some in
-    absurd (cc both)
-turn-next body grid valid lo hi start (s ∷ ss) is stands before =
-    let split = turns-split body grid valid lo hi s ss is in
+-- a whole buffer is what is made of it, and what isn't yet, which fills the rest of the stretch
+pub made-rest : (lo hi start : ℤ) (whole : List Snapshot) → Fill lo hi whole → Fill lo start (made_by start whole)
+    → (rest : List Snapshot) × (whole ≡ made_by start whole ++ rest) × Fill start hi rest
+made-rest lo hi start [] h stands = ([], refl, sym stands ∙ h)
+made-rest lo hi start (s ∷ ss) h stands =
     by_lt_z start s.end
     (λ high.
     let none = made-stopped start s ss high in
     let at : lo ≡ start = rw none at stands in
-    rw none (ap (λ (x : Snapshot). Some x) split.0 ∙ ap (λ (t : ℤ). Some (turn body grid hi t)) at))
+    (s ∷ ss, ap (λ (made : List Snapshot). made ++ s ∷ ss) (sym none), subst (λ (t : ℤ). Fill t hi (s ∷ ss)) at h))
     (λ low.
     let some = made-passed start s ss low in
     let filled : Fill lo start (s ∷ made_by start ss) = rw some at stands in
-    rw some (turn-next body grid valid s.end hi start ss split.1 filled.2 before))
+    let later = made-rest s.end hi start ss h.2 filled.2 in (
+      later.0,
+      ap (λ (rest : List Snapshot). s ∷ rest) later.1 ∙ ap (λ (made : List Snapshot). made ++ later.0) (sym some),
+      later.2,
+    ))
 
--- the next turn of a loop, which stands before the end of its stretch: it is the next snapshot of the whole buffer
-pub record IsNextTurn (xs : List Stream) (l : LoopParts) (start : ℤ) (s : Snapshot) : Type 0 where
-  pub found : slice_get (turns xs l) (length (made_by start (turns xs l))) ≡ Some s
-  pub begins : s.start ≡ start
-  pub more : made_by s.end (turns xs l) ≡ made_by start (turns xs l) ++ s ∷ []
-  pub rises : start <ℤ s.end
-  pub within : s.end ≤ℤ l.hi
-  pub fill : Fill l.lo s.end (made_by s.end (turns xs l))
+made-on : (lo start tick : ℤ) (made rest : List Snapshot) → Fill lo start made → start ≤ℤ tick
+    → made_by tick (made ++ rest) ≡ made ++ made_by tick rest
+made-on lo start tick [] rest h le = refl
+made-on lo start tick (s ∷ made) rest h le =
+    made-passed tick s (made ++ rest) (omega (arith, ints, Fill-up s.end start made h.2))
+    ∙ ap (λ (list : List Snapshot). s ∷ list) (made-on s.end start tick made rest h.2 le)
+
+Fill-append : (lo start hi : ℤ) (made rest : List Snapshot) → Fill lo start made → Fill start hi rest → Fill lo hi (made ++ rest)
+Fill-append lo start hi [] rest h k = subst (λ (t : ℤ). Fill t hi rest) (sym h) k
+Fill-append lo start hi (s ∷ made) rest h k = (h.0, h.1, Fill-append s.end start hi made rest h.2 k)
+
+pub next-is : (lo hi start : ℤ) (whole : List Snapshot) (s : Snapshot) → Fill lo hi whole → Fill lo start (made_by start whole)
+    → slice_get whole (length (made_by start whole)) ≡ Some s → IsNextMade lo hi start whole s
+next-is lo hi start whole s h stands is =
+    let parts = made-rest lo hi start whole h stands in
+    by parts.0 parts.1 parts.2
+  where
+    by : (rest : List Snapshot) → whole ≡ made_by start whole ++ rest → Fill start hi rest → IsNextMade lo hi start whole s
+    by [] all fills =
+        let within = slice_get_within whole (length (made_by start whole)) s is in
+        absurd (omega (arith, ap length all, length-append (made_by start whole) []))
+    by (x ∷ rest) all fills =
+        let made = made_by start whole in
+        let at = slice_get-append_right made (x ∷ rest) (length made) 0 (omega arith) in
+        let same : x ≡ s = same_Some x s (sym (ap (λ (list : List Snapshot). slice_get list (length made)) all ∙ at) ∙ is) in
+        let filled : Fill start hi (s ∷ rest) = subst (λ (y : Snapshot). Fill start hi (y ∷ rest)) same fills in
+        let rises = filled.1 in
+        let more : made_by s.end whole ≡ made ++ s ∷ [] =
+        ap (made_by s.end) (all ∙ ap (λ (y : Snapshot). made ++ y ∷ rest) same)
+        ∙ made-on lo start s.end made (s ∷ rest) stands (omega (arith, ints))
+        ∙ ap (λ (list : List Snapshot). made ++ list) (made-passed s.end s rest (omega (arith, ints))
+        ∙ ap (λ (list : List Snapshot). s ∷ list) (none-made s.end hi rest filled.2)) in
+        record {
+          begins = filled.0;
+          more = more;
+          rises = rises;
+          within = Fill-up s.end hi rest filled.2;
+          fill = rw more (Fill-append lo start s.end made (s ∷ []) stands (filled.0, rises, refl));
+        }
+
+-- where whole buffers are turns, the next one is the turn that begins where the loop stands
+turn-next : (body : Stream) (grid : GridPoints) → IsGrid grid → (lo hi start : ℤ) (whole : List Snapshot)
+    → whole ≡ turns_until body grid hi lo → Fill lo start (made_by start whole) → start <ℤ hi
+    → slice_get whole (length (made_by start whole)) ≡ Some (turn body grid hi start)
+turn-next body grid valid lo hi start [] is stands before =
+    let both : [] ≡ turn body grid hi lo ∷ turns_until body grid hi (turn body grid hi lo).end =
+    is ∙ turns_until-first body grid valid hi lo (omega (arith, ints)) in
+    absurd (cc both)
+turn-next body grid valid lo hi start (s ∷ ss) is stands before =
+    let up = Fill-up lo start (made_by start (s ∷ ss)) stands in
+    let both : s ∷ ss ≡ turn body grid hi lo ∷ turns_until body grid hi (turn body grid hi lo).end =
+    is ∙ turns_until-first body grid valid hi lo (omega (arith, ints)) in
+    let first : s ≡ turn body grid hi lo = cc both in
+    by_lt_z start s.end
+    (λ high.
+    let none = made-stopped start s ss high in
+    let at : lo ≡ start = rw none at stands in
+    rw none (ap (λ (x : Snapshot). Some x) first ∙ ap (λ (t : ℤ). Some (turn body grid hi t)) at))
+    (λ low.
+    let some = made-passed start s ss low in
+    let filled : Fill lo start (s ∷ made_by start ss) = rw some at stands in
+    let rest : ss ≡ turns_until body grid hi s.end = cc (both, first) in
+    rw some (turn-next body grid valid s.end hi start ss rest filled.2 before))
 
 pub next-made : (xs : List Stream) (l : LoopParts) (start : ℤ) → IsTimed l → Fill l.lo start (made_by start (turns xs l)) → start <ℤ l.hi
-    → IsNextTurn xs l start (turn (body_of xs l) l.grid l.hi start)
-next-made xs l start timed stands before =
-    let found = turn-next (body_of xs l) l.grid timed.grid l.lo l.hi start (turns xs l) refl stands before in
-    let next = next-is l.lo l.hi start (turns xs l) (turn (body_of xs l) l.grid l.hi start) (turns-Fill xs l timed) stands found in
-    record {
-      found = found;
-      begins = next.begins;
-      more = next.more;
-      rises = next.rises;
-      within = next.within;
-      fill = next.fill;
-    }
+    → slice_get (turns xs l) (length (made_by start (turns xs l))) ≡ Some (turn (body_of xs l) l.grid l.hi start)
+next-made xs l start timed stands before = turn-next (body_of xs l) l.grid timed.grid l.lo l.hi start (turns xs l) refl stands before
 
--- what is made, with one null snapshot for the rest of the stretch, fills the stretch
-pub open-fills : (lo hi start : ℤ) (made : List Snapshot) → Fill lo start made → start ≤ℤ hi
-    → Fill lo hi (made ++ gap_before (Some start) hi)
-open-fills lo hi start [] h within =
-    by_lt_z start hi
-    (λ some.
-    let test : int_lt start hi ≡ true = grind (arith, ints) in
-    rw test (sym h, omega (arith, ints), refl))
-    (λ none.
-    let test : int_lt start hi ≡ false = grind (arith, ints) in
-    let end : lo ≡ hi = omega (arith, ints) in
-    rw test end)
-open-fills lo hi start (s ∷ made) h within = (h.0, h.1, open-fills s.end hi start made h.2 within)
+-- the null snapshot for the rest of a stretch, where there is a rest
+pub gap-some : (start hi : ℤ) → start <ℤ hi → gap_before (Some start) hi ≡ record { start = start; end = hi; value = None } ∷ []
+gap-some start hi some = let test : int_lt start hi ≡ true = grind (arith, ints) in rw test refl
 
--- so it is in order
-pub open-AreSnapshots : (lo hi start : ℤ) (made : List Snapshot) → neg_ℤ WIDE ≤ℤ lo → hi ≤ℤ WIDE → Fill lo start made → start ≤ℤ hi
-    → AreSnapshots (made ++ gap_before (Some start) hi)
-open-AreSnapshots lo hi start made low high h within =
-    Fill-AreSnapshots lo hi (made ++ gap_before (Some start) hi) low high (open-fills lo hi start made h within)
+pub gap-none : (start hi : ℤ) → hi ≤ℤ start → gap_before (Some start) hi ≡ []
+gap-none start hi none = let test : int_lt start hi ≡ false = grind (arith, ints) in rw test refl
+
+-- what is made, with that, fills the stretch, so that it is in order
+gap-fills : (start hi : ℤ) → start ≤ℤ hi → Fill start hi (gap_before (Some start) hi)
+gap-fills start hi within =
+    by_lt_z start hi (λ some. rw (gap-some start hi some) (refl, some, refl)) (λ none. rw (gap-none start hi none) (omega (arith, ints)))
 
 pub open-in_order : (lo hi start : ℤ) (made : List Snapshot) → neg_ℤ WIDE ≤ℤ lo → hi ≤ℤ WIDE → Fill lo start made → start ≤ℤ hi
     → InOrder (neg_ℤ WIDE) WIDE (made ++ gap_before (Some start) hi)
-open-in_order lo hi start made low high h within = (open-AreSnapshots lo hi start made low high h within).in_order
+open-in_order lo hi start made low high h within =
+    let fills = Fill-append lo start hi made (gap_before (Some start) hi) h (gap-fills start hi within) in
+    (Fill-AreSnapshots lo hi (made ++ gap_before (Some start) hi) low high fills).in_order
 
 -- each takes a tick at least
 made-count : (lo start : ℤ) (made : List Snapshot) → Fill lo start made → (lo +ℤ pos (length made)) ≤ℤ start

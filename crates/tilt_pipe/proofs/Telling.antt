@@ -1,34 +1,241 @@
--- A turn reads of the rings what it reads of the whole buffers.
-use Rattle.std.proofs.Common.{◌≡◌, ◌⊎◌, inl, inr, ◌≤◌, ◌<◌, ◌+◌, ◌-◌, ℕ, zero, suc, ℤ, pos, ◌+ℤ◌, ◌≤ℤ◌, List, [], ◌∷◌, length, get_or, slice_get, Some, Contains, sym, ap, ◌∙◌, subst, arith}
+-- What a turn reads of the rings of a pipe: of each loop what it has made, and one null snapshot for the rest of its stretch. It tells the
+-- same as the whole buffer, up to where the loop stands.
+use Rattle.std.proofs.Common.{◌≡◌, inl, inr, ◌≤◌, ◌<◌, ◌+◌, ◌-◌, ℕ, zero, suc, ℤ, neg_ℤ, ◌<ℤ◌, List, [], ◌∷◌, ◌++◌, map, length, get_or, slice_get, option_map, Some, None, refl, sym, ap, ◌∙◌, subst}
+use Rattle.std.proofs.Common.{arith, length-append, ◌⊎◌, pos, ◌+ℤ◌, ◌≤ℤ◌, true, false, ◌||◌, if◌then◌else◌, int_lt, Contains}
 use Rattle.std.proofs.lemmas.Bool.{cases_lt}
-use Rattle.std.proofs.lemmas.Int.{ints}
+use Rattle.std.proofs.lemmas.Int.{by_lt_z, ints}
+use Rattle.std.proofs.lemmas.List.{get_or-map, get_or_append_left, length-map, append-nil, get_or-append-add}
+use Rattle.std.proofs.lemmas.Option.{same_Some, get_or_from_slice_get, slice_get-map}
+use Rattle.std.specs.Ordering.{int_eq}
 use Rattle.std.proofs.lemmas.List.Elements.{Contains-append_cases, Contains-append_left, Contains-append_right}
-use Rattle.std.proofs.lemmas.List.{get_or-append-add, get_or_append_left}
-use Rattle.std.proofs.lemmas.Option.{get_or_from_slice_get}
-use Rattle.circular_buffer.proofs.Places.{slice_get-some}
 use Rattle.std.specs.List.{AllByRecursion}
+use Rattle.circular_buffer.proofs.Places.{slice_get-append_left, slice_get-drop, slice_get-last, slice_get-some}
+use Rattle.tilt_base.specs.declared.limits.TheConstants.{WIDE}
 use Rattle.tilt_base.proofs.Lists.{all-parts}
-use Rattle.tilt_stream.specs.Agreement.{IsSameUpTo}
-use Rattle.tilt_code.specs.Code.{Block}
 use Rattle.tilt_code.specs.References.{IsCode}
+use Rattle.tilt_code.specs.Code.{Block}
 use Rattle.tilt_code.specs.Run.{buffers_of}
 use Rattle.tilt_code.specs.declared.instr.Instr.{Instr}
 use Rattle.tilt_code.specs.declared.instr.Instr.TheVariants.{Const, Null, Argument, Port, Win, One, Two, If}
-use Rattle.tilt_stream.specs.Snap.{Snapshot}
+use Rattle.tilt_stream.specs.Snap.{Snapshot, InOrder, gap_before, ended_below, Fill}
+use Rattle.tilt_stream.proofs.Filling.{Fill-up}
+use Rattle.tilt_stream.specs.Agreement.{IsSameUpTo}
+use Rattle.tilt_stream.proofs.Ended.{none_ended}
+use Rattle.tilt_stream.proofs.Streams.{cell_at-before, mark_at-before, mark_at-start}
+use Rattle.tilt_stream.specs.Stream.{cell_at, mark_at, covers}
 use Rattle.tilt_turn.specs.Same.{IsSameFor}
-use Rattle.tilt_pipe.proofs.MadeSame.{made-same, same-is}
-use Rattle.tilt_pipe.proofs.OpenLists.{open-at, open_at}
-use Rattle.tilt_pipe.proofs.RingsKept.{rings-length, loops-there}
-use Rattle.tilt_pipe.proofs.Works.{input-is, work-is}
-use Rattle.tilt_pipe.specs.Chain.{IsReached, IsTold}
+use Rattle.tilt_pipe.proofs.RingsKept.{IsAt, kept-count, kept-few, read-at, rings-length, loops-there}
+use Rattle.tilt_pipe.proofs.Standing.{gap-none, gap-some, open-in_order, all-made, below_end, made-rest}
+use Rattle.tilt_pipe.proofs.Works.{works-length, input-is, work-is}
 use Rattle.tilt_pipe.specs.Made.{Work}
-use Rattle.tilt_pipe.specs.Positions.{RingParts, RingsParts, AreRings, lists_of, open_lists, start_at, starts_of, works_in}
+use Rattle.tilt_pipe.specs.Positions.{AreRings, RingParts, RingsParts, made_by, open_list, open_lists, starts_of, works_in, lists_of, start_at}
+use Rattle.tilt_pipe.specs.Chain.{IsReached, IsTold}
 use Rattle.tilt_pipe.specs.Reads.{body_reads, reads_of}
-use Rattle.tilt_pipe.specs.Trimmed.{ReadsNear}
+use Rattle.tilt_turn.specs.Ready.{IsReadable}
 use Rattle.tilt_pipe.specs.declared.read.Read.{Read}
 
+-- the list of the loop at a place
+open-from : (works : List Work) (starts : List ℤ) (place : ℕ) (w : Work) (start : ℤ) → slice_get works place ≡ Some w
+    → slice_get starts place ≡ Some start → get_or (open_lists works starts) place [] ≡ open_list w start
+open-from [] starts place w start of is = absurd (cc of)
+open-from (x ∷ works) [] place w start of is = absurd (cc is)
+open-from (x ∷ works) (t ∷ starts) zero w start of is =
+    ap (λ (y : Work). open_list y t) (same_Some x w of) ∙ ap (open_list w) (same_Some t start is)
+open-from (x ∷ works) (t ∷ starts) (suc place) w start of is = open-from works starts place w start of is
+
+-- after the last loop there is none
+open-past : (works : List Work) (starts : List ℤ) (place : ℕ) → length works ≤ place → get_or (open_lists works starts) place [] ≡ []
+open-past [] starts place past = refl
+open-past (x ∷ works) [] place past = refl
+open-past (x ∷ works) (t ∷ starts) zero past = absurd (omega arith)
+open-past (x ∷ works) (t ∷ starts) (suc place) past = open-past works starts place (omega arith)
+
+-- what a turn reads of the loop at a place
+abbrev pub open_at : RingsParts → ℕ → List Snapshot
+open_at p place = get_or (open_lists (works_in p) (starts_of p.rings)) place []
+
+pub open_at-past : (p : RingsParts) (place : ℕ) → length p.code.loops ≤ place → open_at p place ≡ []
+open_at-past p place past =
+    let count = works-length p.code p.inputs in
+    open-past (works_in p) (starts_of p.rings) place (omega arith)
+
+pub open_at-within : (p : RingsParts) (place number : ℕ) → number < length (open_at p place) → place < length p.code.loops
+open_at-within p place number some = elim (cases_lt place (length p.code.loops)) as (λ _. place < length p.code.loops) [
+  | inl within ↦ within
+  | inr past ↦ absurd (omega (arith, some, ap length (open_at-past p place past)))
+]
+
+-- the loop, its ring, and what a turn reads of it
+pub record IsOpenAt (p : RingsParts) (place : ℕ) (r : RingParts) : Type 0 where
+  pub work : Work
+  pub it : IsAt p place work r
+  pub list : open_at p place ≡ made_by r.start work.whole ++ gap_before (Some r.start) work.loop.hi
+  pub in_order : InOrder (neg_ℤ WIDE) WIDE (open_at p place)
+  pub count : r.forgotten + length r.held ≡ length (made_by r.start work.whole)
+  pub few : length (made_by r.start work.whole) < 9223372036854775807
+  pub forgotten : get_or (map (λ (x : RingParts). x.forgotten) p.rings) place 0 ≡ r.forgotten
+
+pub open-at : (p : RingsParts) (place : ℕ) (r : RingParts) → IsCode p.code → AreRings p → place < length p.code.loops
+    → r ≡ get_or p.rings place r → IsOpenAt p place r
+open-at p place r code are within is =
+    let count = works-length p.code p.inputs in
+    let there = slice_get-some (works_in p) place (omega arith) in
+    let w = there.0 in
+    let it = read-at p place w r code are there.1 is in
+    let start = slice_get-map (λ (x : RingParts). x.start) p.rings place ∙ ap (option_map (λ (x : RingParts). x.start)) it.at in
+    let gone = slice_get-map (λ (x : RingParts). x.forgotten) p.rings place ∙ ap (option_map (λ (x : RingParts). x.forgotten)) it.at in
+    let list = open-from (works_in p) (starts_of p.rings) place w r.start it.of start in
+    record {
+      work = w;
+      it = it;
+      list = list;
+      in_order = rw list (open-in_order w.loop.lo w.loop.hi r.start (made_by r.start w.whole) it.kept.low it.kept.high it.kept.ring.fill it.kept.ring.within);
+      count = kept-count w r it.kept;
+      few = kept-few w r it.kept;
+      forgotten = get_or_from_slice_get (map (λ (x : RingParts). x.forgotten) p.rings) place r.forgotten 0 gone;
+    }
+
+-- how many these are
+pub open-count : (p : RingsParts) (place : ℕ) (r : RingParts) (o : IsOpenAt p place r)
+    → length (open_at p place) ≡ r.forgotten + length r.held + length (gap_before (Some r.start) o.work.loop.hi)
+open-count p place r o =
+    omega (arith, o.count, ap length o.list, length-append (made_by r.start o.work.whole) (gap_before (Some r.start) o.work.loop.hi))
+
+-- the one at a place that is made is held, where it isn't forgotten
+pub open-held : (p : RingsParts) (place number : ℕ) (r : RingParts) → IsOpenAt p place r → r.forgotten ≤ number
+    → number < r.forgotten + length r.held → slice_get (open_at p place) number ≡ slice_get r.held (number - r.forgotten)
+open-held p place number r o kept below =
+    let made = made_by r.start o.work.whole in
+    let count = o.count in
+    let held = ap (λ (xs : List Snapshot). slice_get xs (number - r.forgotten)) o.it.kept.ring.held in
+    let at = slice_get-drop r.forgotten made (number - r.forgotten) number (omega arith) in
+    ap (λ (xs : List Snapshot). slice_get xs number) o.list
+    ∙ slice_get-append_left made (gap_before (Some r.start) o.work.loop.hi) number (omega arith)
+    ∙ sym at ∙ sym held
+
+-- the others are the null snapshot alone
+pub record IsRest (p : RingsParts) (place number : ℕ) (r : RingParts) (hi : ℤ) : Type 0 where
+  pub before : r.start <ℤ hi
+  pub snap : slice_get (open_at p place) number ≡ Some (record { start = r.start; end = hi; value = None })
+
+pub open-rest : (p : RingsParts) (place number : ℕ) (r : RingParts) (o : IsOpenAt p place r) → number < length (open_at p place)
+    → r.forgotten + length r.held ≤ number → IsRest p place number r o.work.loop.hi
+open-rest p place number r o some above =
+    let count = open-count p place r o in
+    by_lt_z r.start o.work.loop.hi
+    (λ before.
+    let rest : Snapshot = record { start = r.start; end = o.work.loop.hi; value = None } in
+    let gap = gap-some r.start o.work.loop.hi before in
+    let all = rw gap at count in
+    record {
+      before = before;
+      snap = ap (λ (xs : List Snapshot). slice_get xs number) (rw gap at o.list)
+          ∙ slice_get-last (made_by r.start o.work.whole) rest number (omega (arith, o.count));
+    })
+    (λ end.
+    let none = rw (gap-none r.start o.work.loop.hi end) at count in
+    absurd (omega arith))
+
+pub input-forgotten : (inputs : List (List Snapshot)) (others : List ℕ) (buffer : ℕ) → buffer < length inputs
+    → get_or (map (λ (rows : List Snapshot). 0) inputs ++ others) buffer 0 ≡ 0
+input-forgotten inputs others buffer within =
+    let count : length (map (λ (rows : List Snapshot). 0) inputs) ≡ length inputs = length-map inputs (λ (rows : List Snapshot). 0) in
+    get_or_append_left (map (λ (rows : List Snapshot). 0) inputs) others 0 buffer (subst (λ (n : ℕ). buffer < n) (sym count) within)
+    ∙ get_or-map (λ (rows : List Snapshot). 0) inputs buffer [] 0 within
+
+-- what fills a stretch lies in order on it
+Fill-InOrder : (lo hi : ℤ) (list : List Snapshot) → Fill lo hi list → InOrder lo hi list
+Fill-InOrder lo hi [] h = tt
+Fill-InOrder lo hi (s ∷ ss) h =
+    let begins = h.0 in
+    let rises = h.1 in
+    let within = Fill-up s.end hi ss h.2 in
+    (omega (arith, ints), omega (arith, ints), within, Fill-InOrder s.end hi ss h.2)
+
+-- a stretch as one null snapshot, and any list that fills it, up to the tick after its lower end
+abbrev rest_of : ℤ → ℤ → List Snapshot
+rest_of start hi = record { start = start; end = hi; value = None } ∷ []
+
+module _ (start hi : ℤ) (some : start <ℤ hi) (list : List Snapshot) (h : Fill start hi list) where
+  rest-ended : (tick : ℤ) → tick ≤ℤ start → ended_below tick (rest_of start hi) ≡ ended_below tick list
+  rest-ended tick low =
+      let one : int_lt hi tick ≡ false = grind (arith, ints) in
+      rw one (sym (none_ended start hi list tick (Fill-InOrder start hi list h) low))
+
+  rest-cells : (tick : ℤ) → tick ≤ℤ start → cell_at (rest_of start hi) tick ≡ cell_at list tick
+  rest-cells tick low =
+      let one : InOrder start hi (rest_of start hi) = (omega (arith, ints), some, omega (arith, ints), tt) in
+      cell_at-before start hi (rest_of start hi) tick one low
+      ∙ sym (cell_at-before start hi list tick (Fill-InOrder start hi list h) low)
+
+-- the marks up to the tick after the lower end
+rest-marks : (start hi : ℤ) (list : List Snapshot) → start <ℤ hi → Fill start hi list → (tick : ℤ) → tick ≤ℤ (start +ℤ pos 1)
+    → mark_at (rest_of start hi) tick ≡ mark_at list tick
+rest-marks start hi [] some h tick low = absurd (omega (arith, ints))
+rest-marks start hi (s ∷ ss) some h tick low =
+    let rises = h.1 in
+    let far : int_eq tick (hi +ℤ pos 1) ≡ false = grind (arith, ints) in
+    let end : int_eq tick (s.end +ℤ pos 1) ≡ false = grind (arith, ints) in
+    let behind = mark_at-before s.end hi ss tick (Fill-InOrder s.end hi ss h.2) (omega (arith, ints)) in
+    rw (far, end, behind, h.0) refl
+
+-- after what is made that may be changed for what tells the same
+made-then : {A : Type 0} (tell : List Snapshot → A) (add : Snapshot → A → A)
+    → ((s : Snapshot) (ss : List Snapshot) → tell (s ∷ ss) ≡ add s (tell ss)) → (made a b : List Snapshot) → tell a ≡ tell b
+    → tell (made ++ a) ≡ tell (made ++ b)
+made-then tell add one [] a b h = h
+made-then tell add one (s ∷ made) a b h =
+    one s (made ++ a) ∙ ap (add s) (made-then tell add one made a b h) ∙ sym (one s (made ++ b))
+
+made-marks : (made a b : List Snapshot) (tick : ℤ) → mark_at a tick ≡ mark_at b tick → mark_at (made ++ a) tick ≡ mark_at (made ++ b) tick
+made-marks made a b tick =
+    made-then (λ list. mark_at list tick) (λ s m. int_eq tick (s.start +ℤ pos 1) || int_eq tick (s.end +ℤ pos 1) || m) (λ s ss. refl) made a b
+
+-- a null snapshot for the rest of the stretch tells the same up to where it begins, and above it the same next mark: its own first one
+open-same : (tick start hi : ℤ) (made rest : List Snapshot) → start <ℤ hi → Fill start hi rest → tick ≤ℤ start
+    → IsSameUpTo tick (made ++ rest_of start hi) (made ++ rest)
+open-same tick start hi made rest some h low =
+    let gap = rest_of start hi in
+    record {
+      ended = λ t le. made-then (ended_below t) (λ s n. if int_lt s.end t then suc n else n) (λ s ss. refl) made gap rest (rest-ended start hi some rest h t (omega (arith, ints)));
+      cells = λ t le. made-then (λ list. cell_at list t) (λ s cell. if covers s t then s.value else cell) (λ s ss. refl) made gap rest (rest-cells start hi some rest h t (omega (arith, ints)));
+      marks = λ t le. made-marks made gap rest t (rest-marks start hi rest some h t (omega (arith, ints)));
+      next = λ t above clear.
+          by_lt_z (start +ℤ pos 1) t
+          (λ far.
+          let first = mark_at-start made (record { start = start; end = hi; value = None }) [] in
+          let none = clear (start +ℤ pos 1) (omega (arith, ints)) far in
+          let never : true ≡ false = sym first ∙ none in
+          absurd (cc never))
+          (λ near. made-marks made gap rest t (rest-marks start hi rest some h t near));
+    }
+
+-- what is the same tells the same
+pub same-is : (tick : ℤ) (a b : List Snapshot) → a ≡ b → IsSameUpTo tick a b
+same-is tick a b is = record {
+  ended = λ t le. ap (ended_below t) is;
+  cells = λ t le. ap (λ (list : List Snapshot). cell_at list t) is;
+  marks = λ t le. ap (λ (list : List Snapshot). mark_at list t) is;
+  next = λ t above clear. ap (λ (list : List Snapshot). mark_at list t) is;
+}
+
+-- what a turn reads tells the same as the whole buffer: everywhere where the loop stands at the end of its stretch, and else up to a
+-- tick that it has reached
+pub made-same : (lo hi start tick : ℤ) (whole : List Snapshot) → Fill lo hi whole → Fill lo start (made_by start whole)
+    → (hi ≤ℤ start) ⊎ (tick ≤ℤ start) → IsSameUpTo tick (made_by start whole ++ gap_before (Some start) hi) whole
+made-same lo hi start tick whole h stands reached =
+    by_lt_z start hi
+    (λ some.
+    let parts = made-rest lo hi start whole h stands in
+    rw (gap-some start hi some)
+    (subst (λ (list : List Snapshot). IsSameUpTo tick (made_by start whole ++ rest_of start hi) list) (sym parts.1)
+    (open-same tick start hi (made_by start whole) parts.0 some parts.2 (below_end tick start hi reached some))))
+    (λ none.
+    rw (gap-none start hi none)
+    (same-is tick (made_by start whole ++ []) whole (append-nil (made_by start whole) ∙ all-made lo hi start whole h none)))
+
 abbrev pub none_held : RingParts
-none_held = record { held = []; forgotten = 0; start = pos 0 }
+none_held = record { held = []; forgotten = 0; start = pos 0; hi = pos 0 }
 
 -- the ring there
 pub there : (p : RingsParts) (source : ℕ) → AreRings p → source < length p.code.loops
@@ -70,37 +277,37 @@ same-read p point r code are within told =
     ]
 
 -- of what the leaves of a body read, over any lists that hold the whole buffers below a number
-same-leaf : (p : RingsParts) (wholes : List (List Snapshot)) (buffers : ℕ) (point : ℤ) (i : Instr) → IsCode p.code → AreRings p
+same-leaf : (p : RingsParts) (wholes : List (List Snapshot)) (buffers maps : ℕ) (point : ℤ) (i : Instr) → IsCode p.code → AreRings p
     → buffers ≤ length p.inputs + length p.code.loops
-    → ((n : ℕ) → n < buffers → get_or (buffers_of p.code p.inputs) n [] ≡ get_or wholes n []) → ReadsNear buffers i
+    → ((n : ℕ) → n < buffers → get_or (buffers_of p.code p.inputs) n [] ≡ get_or wholes n []) → IsReadable buffers maps i
     → AllByRecursion (IsTold p point) (reads_of i) → IsSameFor (lists_of p) wholes point i
-same-leaf p wholes buffers point (Const number) code are within hold near told = tt
-same-leaf p wholes buffers point Null code are within hold near told = tt
-same-leaf p wholes buffers point Argument code are within hold near told = tt
-same-leaf p wholes buffers point (Port buffer offset) code are within hold near told =
+same-leaf p wholes buffers maps point (Const number) code are within hold near told = tt
+same-leaf p wholes buffers maps point Null code are within hold near told = tt
+same-leaf p wholes buffers maps point Argument code are within hold near told = tt
+same-leaf p wholes buffers maps point (Port buffer offset) code are within hold near told =
     let r : Read = record { buffer = buffer; first = offset; last = offset } in
-    let there_ = near.near.0.there in
+    let there_ = near.0 in
     subst (λ (list : List Snapshot). IsSameUpTo (point +ℤ offset) (get_or (lists_of p) buffer []) list) (hold buffer there_)
     (same-read p point r code are (omega arith) told.0)
-same-leaf p wholes buffers point (Win reducer buffer from to number) code are within hold near told =
+same-leaf p wholes buffers maps point (Win reducer buffer from to number) code are within hold near told =
     let r : Read = record { buffer = buffer; first = from +ℤ pos 1; last = to } in
-    let there_ = near.near.0.there in
+    let there_ = near.0 in
     subst (λ (list : List Snapshot). IsSameUpTo (point +ℤ to) (get_or (lists_of p) buffer []) list) (hold buffer there_)
     (same-read p point r code are (omega arith) told.0)
-same-leaf p wholes buffers point (One op a) code are within hold near told = tt
-same-leaf p wholes buffers point (Two op a b) code are within hold near told = tt
-same-leaf p wholes buffers point (If c a b) code are within hold near told = tt
+same-leaf p wholes buffers maps point (One op a) code are within hold near told = tt
+same-leaf p wholes buffers maps point (Two op a b) code are within hold near told = tt
+same-leaf p wholes buffers maps point (If c a b) code are within hold near told = tt
 
-pub same-body : (p : RingsParts) (wholes : List (List Snapshot)) (buffers : ℕ) (point : ℤ) (block : Block) → IsCode p.code → AreRings p
+pub same-body : (p : RingsParts) (wholes : List (List Snapshot)) (buffers maps : ℕ) (point : ℤ) (block : Block) → IsCode p.code → AreRings p
     → buffers ≤ length p.inputs + length p.code.loops
     → ((n : ℕ) → n < buffers → get_or (buffers_of p.code p.inputs) n [] ≡ get_or wholes n [])
-    → AllByRecursion (ReadsNear buffers) block → AllByRecursion (IsTold p point) (body_reads block)
+    → AllByRecursion (IsReadable buffers maps) block → AllByRecursion (IsTold p point) (body_reads block)
     → AllByRecursion (IsSameFor (lists_of p) wholes point) block
-same-body p wholes buffers point [] code are within hold near told = tt
-same-body p wholes buffers point (i ∷ block) code are within hold near told =
+same-body p wholes buffers maps point [] code are within hold near told = tt
+same-body p wholes buffers maps point (i ∷ block) code are within hold near told =
     let parts = all-parts (IsTold p point) (reads_of i) (body_reads block) told in (
-      same-leaf p wholes buffers point i code are within hold near.0 parts.0,
-      same-body p wholes buffers point block code are within hold near.1 parts.1,
+      same-leaf p wholes buffers maps point i code are within hold near.0 parts.0,
+      same-body p wholes buffers maps point block code are within hold near.1 parts.1,
     )
 
 -- a read of the buffer of a loop is told, where that loop has made enough

@@ -4,7 +4,7 @@ use Rattle.std.proofs.Common.{slice_get, slice_set}
 use Rattle.std.proofs.Common.{option_map, Option, Some, None, refl, sym, ap, ◌∙◌, subst, arith, length-drop, length-append}
 use Rattle.std.proofs.lemmas.Bool.{cases_lt, cases_eq}
 use Rattle.std.proofs.lemmas.Int.{ints}
-use Rattle.std.proofs.lemmas.List.{drop-set-lt, drop-set-add, length-map, map-set, set-get_or}
+use Rattle.std.proofs.lemmas.List.{drop_all, drop-set-lt, drop-set-add, length-map, map-set, set-get_or}
 use Rattle.std.proofs.lemmas.Option.{same_Some, get_or_from_slice_get, slice_get-map, slice_get_within}
 use Rattle.circular_buffer.proofs.Places.{slice_get-append_left, slice_get-drop, slice_get-set_other, slice_get-set_same, slice_get-some}
 use Rattle.tilt_base.specs.Grid.{IsGrid}
@@ -15,13 +15,13 @@ use Rattle.tilt_stream.proofs.Filling.{Fill-AreSnapshots}
 use Rattle.tilt_stream.proofs.Places.{passed-at}
 use Rattle.tilt_stream.specs.Snap.{Snapshot, InOrder, ended_below}
 use Rattle.tilt_pipe.proofs.Kept.{let_go-within}
-use Rattle.tilt_pipe.proofs.RingsKept.{IsAt, IsKept, kept-count, kept-made, pushed_ring, read-at, ring-at, rings-length, trimmed_ring}
+use Rattle.tilt_pipe.proofs.RingsKept.{IsAt, IsKept, kept-count, kept-made, read-at, ring-at, rings-length, trimmed_ring}
 use Rattle.tilt_pipe.proofs.Standing.{IsNextMade, end-made}
 use Rattle.tilt_pipe.proofs.Wanted.{ring_at, rings_of-are, rings_of-at, stage_at, stages_at-found, stages_at-get, stages_at-length, stages_at-set, wanted-rises, wanted-unread}
 use Rattle.tilt_pipe.proofs.Wanting.{stands-there}
 use Rattle.tilt_pipe.specs.Chain.{AreTurns}
 use Rattle.tilt_pipe.specs.Made.{Work, Stage, reads_buffer, works_of}
-use Rattle.tilt_pipe.specs.Positions.{RingParts, RingsParts, AreRings, made_at, made_by, stages_at, start_at, starts_of, with_ring, works_in}
+use Rattle.tilt_pipe.specs.Positions.{RingParts, RingsParts, AreRings, kept_ring, made_at, made_by, stages_at, start_at, starts_of, with_ring, works_in}
 use Rattle.tilt_pipe.specs.Reads.{body_reads}
 use Rattle.tilt_pipe.specs.Rings.{kept_from, let_go, rings_of, wanted}
 use Rattle.tilt_pipe.specs.Trimmed.{IsTrimmed, KeepsWanted, StandAlike, wanted_at}
@@ -168,44 +168,45 @@ let_go-front None list more = omega (arith, length-append list more)
 let_go-front (Some tick) list more = ended-front tick list more
 
 -- a turn of the loop at a place
-pub record IsTurn (p : RingsParts) (place : ℕ) (w : Work) (r : RingParts) (s : Snapshot) : Type 0 where
+pub record IsTurn (p : RingsParts) (place : ℕ) (w : Work) (b : Bool) (r : RingParts) (s : Snapshot) : Type 0 where
   pub are : AreRings p
   pub of : slice_get (works_in p) place ≡ Some w
   pub at : slice_get p.rings place ≡ Some r
   pub kept : IsKept w r
   pub grid : IsGrid w.loop.grid
   pub next : IsNextMade w.loop.lo w.loop.hi r.start w.whole s
+  pub unread : b ≡ false → wanted_at p place ≡ None
 
-abbrev pub turned : RingsParts → ℕ → RingParts → Snapshot → RingsParts
-turned p place r s = with_ring p place (pushed_ring r s)
+abbrev pub turned : RingsParts → ℕ → Bool → RingParts → Snapshot → RingsParts
+turned p place b r s = with_ring p place (kept_ring b r s)
 
-pub turned-starts : (p : RingsParts) (place : ℕ) (r : RingParts) (s : Snapshot)
-    → starts_of (turned p place r s).rings ≡ slice_set (starts_of p.rings) place s.end
-turned-starts p place r s = map-set (λ (x : RingParts). x.start) p.rings place (pushed_ring r s)
+pub turned-starts : (p : RingsParts) (place : ℕ) (b : Bool) (r : RingParts) (s : Snapshot)
+    → starts_of (turned p place b r s).rings ≡ slice_set (starts_of p.rings) place s.end
+turned-starts p place b r s = map-set (λ (x : RingParts). x.start) p.rings place (kept_ring b r s)
 
-turned-stages : (p : RingsParts) (place : ℕ) (w : Work) (r : RingParts) (s : Snapshot) → slice_get (works_in p) place ≡ Some w
-    → stages_at (works_in p) (starts_of (turned p place r s).rings) ≡ slice_set (stages_at (works_in p) (starts_of p.rings)) place (stage_at w s.end)
-turned-stages p place w r s of =
-    ap (λ (starts : List ℤ). stages_at (works_in p) starts) (turned-starts p place r s)
+turned-stages : (p : RingsParts) (place : ℕ) (w : Work) (b : Bool) (r : RingParts) (s : Snapshot) → slice_get (works_in p) place ≡ Some w
+    → stages_at (works_in p) (starts_of (turned p place b r s).rings) ≡ slice_set (stages_at (works_in p) (starts_of p.rings)) place (stage_at w s.end)
+turned-stages p place w b r s of =
+    ap (λ (starts : List ℤ). stages_at (works_in p) starts) (turned-starts p place b r s)
     ∙ stages_at-set (works_in p) (starts_of p.rings) place w s.end of
 
 -- the loops behind it don't read it
-turned-later : (p : RingsParts) (place k : ℕ) (w : Work) (r : RingParts) (s : Snapshot) → slice_get (works_in p) place ≡ Some w → place ≤ k
-    → wanted_at (turned p place r s) k ≡ wanted_at p k
-turned-later p place k w r s of behind =
+turned-later : (p : RingsParts) (place k : ℕ) (w : Work) (b : Bool) (r : RingParts) (s : Snapshot) → slice_get (works_in p) place ≡ Some w → place ≤ k
+    → wanted_at (turned p place b r s) k ≡ wanted_at p k
+turned-later p place k w b r s of behind =
     let stages = stages_at (works_in p) (starts_of p.rings) in
     let before : place < suc k = omega arith in
-    ap (λ (all : List Stage). wanted (length p.inputs + k) (drop (suc k) all)) (turned-stages p place w r s of)
+    ap (λ (all : List Stage). wanted (length p.inputs + k) (drop (suc k) all)) (turned-stages p place w b r s of)
     ∙ ap (λ (rest : List Stage). wanted (length p.inputs + k) rest) (drop-set-lt (suc k) stages place (stage_at w s.end) before)
 
 -- what those before it want is seen among the loops behind them
-turned-earlier : (p : RingsParts) (place k i : ℕ) (w : Work) (r : RingParts) (s : Snapshot) → slice_get (works_in p) place ≡ Some w
+turned-earlier : (p : RingsParts) (place k i : ℕ) (w : Work) (b : Bool) (r : RingParts) (s : Snapshot) → slice_get (works_in p) place ≡ Some w
     → place ≡ suc k + i
-    → wanted_at (turned p place r s) k
+    → wanted_at (turned p place b r s) k
     ≡ wanted (length p.inputs + k) (slice_set (drop (suc k) (stages_at (works_in p) (starts_of p.rings))) i (stage_at w s.end))
-turned-earlier p place k i w r s of at =
+turned-earlier p place k i w b r s of at =
     let stages = stages_at (works_in p) (starts_of p.rings) in
-    ap (λ (all : List Stage). wanted (length p.inputs + k) (drop (suc k) all)) (turned-stages p place w r s of)
+    ap (λ (all : List Stage). wanted (length p.inputs + k) (drop (suc k) all)) (turned-stages p place w b r s of)
     ∙ ap (λ (n : ℕ). wanted (length p.inputs + k) (drop (suc k) (slice_set stages n (stage_at w s.end)))) at
     ∙ ap (λ (rest : List Stage). wanted (length p.inputs + k) rest) (drop-set-add (suc k) stages i (stage_at w s.end))
 
@@ -214,44 +215,56 @@ pub stage-behind : (p : RingsParts) (place k i : ℕ) (w : Work) (r : RingParts)
 stage-behind p place k i w r of is at =
     slice_get-drop (suc k) (stages_at (works_in p) (starts_of p.rings)) i place at ∙ stage-there p place w r of is
 
-turned-rises : (p : RingsParts) (place k : ℕ) (w : Work) (r : RingParts) (s : Snapshot) → IsTurn p place w r s → k < place
-    → (list : List Snapshot) → let_go (wanted_at p k) list ≤ let_go (wanted_at (turned p place r s) k) list
-turned-rises p place k w r s t before list =
+turned-rises : (p : RingsParts) (place k : ℕ) (w : Work) (b : Bool) (r : RingParts) (s : Snapshot) → IsTurn p place w b r s → k < place
+    → (list : List Snapshot) → let_go (wanted_at p k) list ≤ let_go (wanted_at (turned p place b r s) k) list
+turned-rises p place k w b r s t before list =
     let i = place - suc k in
     let at : place ≡ suc k + i = omega arith in
     let rest = drop (suc k) (stages_at (works_in p) (starts_of p.rings)) in
     let here = stands-there w r t.kept.ring in
     let there = end-made w.loop.lo s.end (made_by s.end w.whole) t.next.fill in
     let up = t.next.rises in
-    subst (λ (tick : Option ℤ). let_go (wanted_at p k) list ≤ let_go tick list) (sym (turned-earlier p place k i w r s t.of at))
+    subst (λ (tick : Option ℤ). let_go (wanted_at p k) list ≤ let_go tick list) (sym (turned-earlier p place k i w b r s t.of at))
     (wanted-rises (length p.inputs + k) rest i (stage_at w r.start) (stage_at w s.end) (stage-behind p place k i w r t.of t.at at) refl t.grid
     (omega (arith, ints)) list)
 
-turned-unread : (p : RingsParts) (place k : ℕ) (w : Work) (r : RingParts) (s : Snapshot) → IsTurn p place w r s → k < place
-    → reads_buffer (length p.inputs + k) (body_reads w.loop.body) ≡ false → wanted_at (turned p place r s) k ≡ wanted_at p k
-turned-unread p place k w r s t before unread =
+turned-unread : (p : RingsParts) (place k : ℕ) (w : Work) (b : Bool) (r : RingParts) (s : Snapshot) → IsTurn p place w b r s → k < place
+    → reads_buffer (length p.inputs + k) (body_reads w.loop.body) ≡ false → wanted_at (turned p place b r s) k ≡ wanted_at p k
+turned-unread p place k w b r s t before unread =
     let i = place - suc k in
     let at : place ≡ suc k + i = omega arith in
-    turned-earlier p place k i w r s t.of at
+    turned-earlier p place k i w b r s t.of at
     ∙ wanted-unread (length p.inputs + k) (drop (suc k) (stages_at (works_in p) (starts_of p.rings))) i (stage_at w r.start) (stage_at w s.end)
     (stage-behind p place k i w r t.of t.at at) refl unread
 
--- no ring has let go what is wanted then
-turned-own : (p : RingsParts) (place : ℕ) (w : Work) (r : RingParts) (s : Snapshot) → IsTurn p place w r s → IsTrimmed p place
-    → KeepsWanted (turned p place r s) place
-turned-own p place w r s t trimmed = λ v q of is.
+-- the loop and its new ring
+turned-at : (p : RingsParts) (place : ℕ) (w : Work) (b : Bool) (r : RingParts) (s : Snapshot) (is : Work → RingParts → Type 0)
+    → IsTurn p place w b r s → is w (kept_ring b r s) → (v : Work) (q : RingParts) → slice_get (works_in p) place ≡ Some v
+    → slice_get (turned p place b r s).rings place ≡ Some q → is v q
+turned-at p place w b r s is t here v q of at =
     let within = slice_get_within p.rings place r t.at in
-    let own : pushed_ring r s ≡ q = same_Some (pushed_ring r s) q (sym (slice_get-set_same p.rings place (pushed_ring r s) within) ∙ is) in
-    let same : w ≡ v = same_Some w v (sym t.of ∙ of) in
-    let goal : Work → RingParts → Type 0 = λ x y. y.forgotten ≤ let_go (wanted_at (turned p place r s) place) (made_by y.start x.whole) in
-    let first = wanted_at p place in
-    let more = let_go-front first (made_by r.start w.whole) (s ∷ []) in
-    let now = ap (let_go first) t.next.more in
+    let own = same_Some (kept_ring b r s) q (sym (slice_get-set_same p.rings place (kept_ring b r s) within) ∙ at) in
+    subst (λ (x : Work). is x q) (same_Some w v (sym t.of ∙ of)) (subst (λ (y : RingParts). is w y) own here)
+
+-- no ring has let go what is wanted then
+turned-few : (p : RingsParts) (place : ℕ) (w : Work) (b : Bool) (r : RingParts) (s : Snapshot) → IsTurn p place w b r s → IsTrimmed p place
+    → (kept_ring b r s).forgotten ≤ let_go (wanted_at p place) (made_by s.end w.whole)
+turned-few p place w true r s t trimmed =
+    let more = let_go-front (wanted_at p place) (made_by r.start w.whole) (s ∷ []) in
+    let now = ap (let_go (wanted_at p place)) t.next.more in
     let was = trimmed w r t.of t.at in
-    let one : r.forgotten ≤ let_go first (made_by s.end w.whole) = omega arith in
-    let two : goal w (pushed_ring r s) = subst (λ (tick : Option ℤ). r.forgotten ≤ let_go tick (made_by s.end w.whole))
-    (sym (turned-later p place place w r s t.of (omega arith))) one in
-    subst (λ (x : Work). goal x q) same (subst (λ (y : RingParts). goal w y) own two)
+    omega arith
+turned-few p place w false r s t trimmed =
+    let long = ap length t.next.more ∙ length-append (made_by r.start w.whole) (s ∷ []) in
+    let within = t.kept.ring.forgotten in
+    rw (t.unread refl) (omega arith)
+
+turned-own : (p : RingsParts) (place : ℕ) (w : Work) (b : Bool) (r : RingParts) (s : Snapshot) → IsTurn p place w b r s → IsTrimmed p place
+    → KeepsWanted (turned p place b r s) place
+turned-own p place w b r s t trimmed =
+    turned-at p place w b r s (λ x y. y.forgotten ≤ let_go (wanted_at (turned p place b r s) place) (made_by y.start x.whole)) t
+    (subst (λ (tick : Option ℤ). (kept_ring b r s).forgotten ≤ let_go tick (made_by s.end w.whole))
+    (sym (turned-later p place place w b r s t.of (omega arith))) (turned-few p place w b r s t trimmed))
 
 -- where the ring held a snapshot, that one is wanted still, and no more is let go
 let_go-still : (first : Option ℤ) (from limit : ℤ) (list more : List Snapshot) → InOrder from limit list → InOrder from limit (list ++ more)
@@ -268,53 +281,63 @@ let_go-still (Some tick) from limit list more before after few =
       | inr high ↦ omega arith
     ]
 
-pub turned-still : (p : RingsParts) (place : ℕ) (w : Work) (r : RingParts) (s : Snapshot) → IsTurn p place w r s → IsTrimmed p place
-    → 0 < length r.held → IsTrimmed (turned p place r s) place
-turned-still p place w r s t trimmed some = λ v q of is.
-    let within = slice_get_within p.rings place r t.at in
-    let own : pushed_ring r s ≡ q = same_Some (pushed_ring r s) q (sym (slice_get-set_same p.rings place (pushed_ring r s) within) ∙ is) in
-    let same : w ≡ v = same_Some w v (sym t.of ∙ of) in
-    let goal : Work → RingParts → Type 0 = λ x y. y.forgotten ≡ let_go (wanted_at (turned p place r s) place) (made_by y.start x.whole) in
+turned-same : (p : RingsParts) (place : ℕ) (w : Work) (b : Bool) (r : RingParts) (s : Snapshot) → IsTurn p place w b r s → IsTrimmed p place
+    → 0 < length r.held → (kept_ring b r s).forgotten ≡ let_go (wanted_at p place) (made_by s.end w.whole)
+turned-same p place w true r s t trimmed some =
     let first = wanted_at p place in
-    let made = made_by r.start w.whole in
     let was = trimmed w r t.of t.at in
     let count = kept-count w r t.kept in
     let end = t.next.within in
     let high = t.kept.high in
     let all = (Fill-AreSnapshots w.loop.lo s.end (made_by s.end w.whole) t.kept.low (omega (arith, ints)) t.next.fill).in_order in
-    let still = let_go-still first (neg_ℤ WIDE) WIDE made (s ∷ []) (kept-made w r t.kept).in_order
+    let still = let_go-still first (neg_ℤ WIDE) WIDE (made_by r.start w.whole) (s ∷ []) (kept-made w r t.kept).in_order
     (subst (InOrder (neg_ℤ WIDE) WIDE) t.next.more all) (omega arith) in
-    let one : r.forgotten ≡ let_go first (made_by s.end w.whole) = was ∙ sym still ∙ sym (ap (let_go first) t.next.more) in
-    let two : goal w (pushed_ring r s) = one ∙ ap (λ (tick : Option ℤ). let_go tick (made_by s.end w.whole))
-    (sym (turned-later p place place w r s t.of (omega arith))) in
-    subst (λ (x : Work). goal x q) same (subst (λ (y : RingParts). goal w y) own two)
+    was ∙ sym still ∙ sym (ap (let_go first) t.next.more)
+turned-same p place w false r s t trimmed some =
+    let was = trimmed w r t.of t.at ∙ ap (λ (tick : Option ℤ). let_go tick (made_by r.start w.whole)) (t.unread refl) in
+    let count = kept-count w r t.kept in
+    absurd (omega arith)
 
-turned-else : (p : RingsParts) (place k : ℕ) (w : Work) (r : RingParts) (s : Snapshot) → IsTurn p place w r s → k ≢ place → IsTrimmed p k
-    → KeepsWanted (turned p place r s) k
-turned-else p place k w r s t other trimmed = λ v q of is.
-    let was = trimmed v q of (sym (slice_get-set_other p.rings place k (pushed_ring r s) other) ∙ is) in
-    elim (cases_lt k place) as (λ _. q.forgotten ≤ let_go (wanted_at (turned p place r s) k) (made_by q.start v.whole)) [
-      | inl before ↦ (let up = turned-rises p place k w r s t before (made_by q.start v.whole) in omega arith)
-      | inr behind ↦ (let same = ap (λ (tick : Option ℤ). let_go tick (made_by q.start v.whole)) (turned-later p place k w r s t.of behind) in omega arith)
+pub turned-still : (p : RingsParts) (place : ℕ) (w : Work) (b : Bool) (r : RingParts) (s : Snapshot) → IsTurn p place w b r s → IsTrimmed p place
+    → 0 < length r.held → IsTrimmed (turned p place b r s) place
+turned-still p place w b r s t trimmed some =
+    turned-at p place w b r s (λ x y. y.forgotten ≡ let_go (wanted_at (turned p place b r s) place) (made_by y.start x.whole)) t
+    (turned-same p place w b r s t trimmed some ∙ ap (λ (tick : Option ℤ). let_go tick (made_by s.end w.whole))
+    (sym (turned-later p place place w b r s t.of (omega arith))))
+
+-- where no loop reads the ring, it holds none
+pub unread-none : (p : RingsParts) (place : ℕ) (w : Work) (r : RingParts) → IsKept w r → slice_get (works_in p) place ≡ Some w
+    → slice_get p.rings place ≡ Some r → IsTrimmed p place → wanted_at p place ≡ None → r.held ≡ []
+unread-none p place w r kept of at trimmed none =
+    let gone = trimmed w r of at ∙ ap (λ (tick : Option ℤ). let_go tick (made_by r.start w.whole)) none in
+    kept.ring.held ∙ drop_all r.forgotten (made_by r.start w.whole) (omega arith)
+
+turned-else : (p : RingsParts) (place k : ℕ) (w : Work) (b : Bool) (r : RingParts) (s : Snapshot) → IsTurn p place w b r s → k ≢ place → IsTrimmed p k
+    → KeepsWanted (turned p place b r s) k
+turned-else p place k w b r s t other trimmed = λ v q of is.
+    let was = trimmed v q of (sym (slice_get-set_other p.rings place k (kept_ring b r s) other) ∙ is) in
+    elim (cases_lt k place) as (λ _. q.forgotten ≤ let_go (wanted_at (turned p place b r s) k) (made_by q.start v.whole)) [
+      | inl before ↦ (let up = turned-rises p place k w b r s t before (made_by q.start v.whole) in omega arith)
+      | inr behind ↦ (let same = ap (λ (tick : Option ℤ). let_go tick (made_by q.start v.whole)) (turned-later p place k w b r s t.of behind) in omega arith)
     ]
 
-pub turned-wanted : (p : RingsParts) (place k : ℕ) (w : Work) (r : RingParts) (s : Snapshot) → IsTurn p place w r s → ((j : ℕ) → IsTrimmed p j)
-    → KeepsWanted (turned p place r s) k
-turned-wanted p place k w r s t trimmed =
-    elim (cases_eq k place) as (λ _. KeepsWanted (turned p place r s) k) [
-      | inl same ↦ subst (λ (n : ℕ). KeepsWanted (turned p place r s) n) (sym same) (turned-own p place w r s t (trimmed place))
-      | inr other ↦ turned-else p place k w r s t other (trimmed k)
+pub turned-wanted : (p : RingsParts) (place k : ℕ) (w : Work) (b : Bool) (r : RingParts) (s : Snapshot) → IsTurn p place w b r s → ((j : ℕ) → IsTrimmed p j)
+    → KeepsWanted (turned p place b r s) k
+turned-wanted p place k w b r s t trimmed =
+    elim (cases_eq k place) as (λ _. KeepsWanted (turned p place b r s) k) [
+      | inl same ↦ subst (λ (n : ℕ). KeepsWanted (turned p place b r s) n) (sym same) (turned-own p place w b r s t (trimmed place))
+      | inr other ↦ turned-else p place k w b r s t other (trimmed k)
     ]
 
 -- and those that the loop doesn't read have let go just what isn't
-pub turned-trimmed : (p : RingsParts) (place k : ℕ) (w : Work) (r : RingParts) (s : Snapshot) → IsTurn p place w r s → k ≢ place → IsTrimmed p k
-    → reads_buffer (length p.inputs + k) (body_reads w.loop.body) ≡ false → IsTrimmed (turned p place r s) k
-turned-trimmed p place k w r s t other trimmed unread = λ v q of is.
-    let was = trimmed v q of (sym (slice_get-set_other p.rings place k (pushed_ring r s) other) ∙ is) in
-    let to : wanted_at p k ≡ wanted_at (turned p place r s) k =
-    elim (cases_lt k place) as (λ _. wanted_at p k ≡ wanted_at (turned p place r s) k) [
-      | inl before ↦ sym (turned-unread p place k w r s t before unread)
-      | inr behind ↦ sym (turned-later p place k w r s t.of behind)
+pub turned-trimmed : (p : RingsParts) (place k : ℕ) (w : Work) (b : Bool) (r : RingParts) (s : Snapshot) → IsTurn p place w b r s → k ≢ place → IsTrimmed p k
+    → reads_buffer (length p.inputs + k) (body_reads w.loop.body) ≡ false → IsTrimmed (turned p place b r s) k
+turned-trimmed p place k w b r s t other trimmed unread = λ v q of is.
+    let was = trimmed v q of (sym (slice_get-set_other p.rings place k (kept_ring b r s) other) ∙ is) in
+    let to : wanted_at p k ≡ wanted_at (turned p place b r s) k =
+    elim (cases_lt k place) as (λ _. wanted_at p k ≡ wanted_at (turned p place b r s) k) [
+      | inl before ↦ sym (turned-unread p place k w b r s t before unread)
+      | inr behind ↦ sym (turned-later p place k w b r s t.of behind)
     ] in
     was ∙ ap (λ (tick : Option ℤ). let_go tick (made_by q.start v.whole)) to
 
@@ -334,9 +357,9 @@ there-at p place code are within =
 
 -- a ring that keeps just what is wanted
 pub set-trimmed : (p : RingsParts) (place : ℕ) (w : Work) (r : RingParts) (first : Option ℤ) → IsAt p place w r → first ≡ wanted_at p place
-    → IsTrimmed (with_ring p place (trimmed_ring first (made_at p place w) (start_at p place))) place
+    → IsTrimmed (with_ring p place (trimmed_ring first (made_at p place w) (start_at p place) w.loop.hi)) place
 set-trimmed p place w r first it is = λ v q of at.
-    let ring = trimmed_ring first (made_at p place w) (start_at p place) in
+    let ring = trimmed_ring first (made_at p place w) (start_at p place) w.loop.hi in
     let within = slice_get_within p.rings place r it.at in
     let own : ring ≡ q = same_Some ring q (sym (slice_get-set_same p.rings place ring within) ∙ at) in
     let same : w ≡ v = same_Some w v (sym it.of ∙ of) in

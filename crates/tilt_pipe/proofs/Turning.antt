@@ -1,5 +1,5 @@
 -- The turns of a chain's loops, place by place.
-use Rattle.std.proofs.Common.{◌≡◌, inl, inr, ◌<◌, ℕ, ℤ, pos, List, get_or, length, slice_get, slice_set, Some, refl, sym, ap, ◌∙◌, subst, arith}
+use Rattle.std.proofs.Common.{◌≡◌, ◌≢◌, inl, inr, ◌<◌, ℕ, ℤ, pos, List, get_or, length, slice_get, slice_set, Some, refl, sym, ◌∙◌, subst, arith}
 use Rattle.std.proofs.lemmas.Bool.{cases_eq}
 use Rattle.std.proofs.lemmas.List.{get_or-set_other, length-map, length-set}
 use Rattle.std.proofs.lemmas.Option.{same_Some, slice_get_read, slice_get_within}
@@ -13,6 +13,20 @@ use Rattle.tilt_pipe.specs.Positions.{RingParts, RingsParts, starts_of, works_in
 use Rattle.tilt_pipe.specs.Sources.{AreReaders}
 use Rattle.tilt_pipe.specs.declared.chain.LoopTurns.{LoopTurns}
 
+-- what holds of each place but one, and of that one
+pub each-at : (works : List Work) (Old New : ℕ → Work → LoopTurns → Type 0) (old all : List LoopTurns) (place : ℕ) (new : LoopTurns)
+    → ((k : ℕ) (w : Work) (t : LoopTurns) → slice_get works k ≡ Some w → slice_get old k ≡ Some t → Old k w t)
+    → ((k : ℕ) → k ≢ place → slice_get all k ≡ slice_get old k) → slice_get all place ≡ Some new
+    → ((k : ℕ) (w : Work) (t : LoopTurns) → k ≢ place → Old k w t → New k w t)
+    → ((w : Work) → slice_get works place ≡ Some w → New place w new)
+    → (k : ℕ) (w : Work) (t : LoopTurns) → slice_get works k ≡ Some w → slice_get all k ≡ Some t → New k w t
+each-at works Old New old all place new are others here other own k w t of at =
+    elim (cases_eq k place) as (λ _. New k w t) [
+      | inl same ↦ subst (λ (n : ℕ). (v : Work) → slice_get works n ≡ Some v → slice_get all n ≡ Some t → New n v t) (sym same)
+          (λ v is there. subst (New place v) (same_Some new t (sym here ∙ there)) (own v is)) w of at
+      | inr apart ↦ other k w t apart (are k w t of (sym (others k apart) ∙ at))
+    ]
+
 -- others of the same loop, which stands elsewhere
 pub turns-set : (code : CodeParts) (inputs : List (List Snapshot)) (starts : List ℤ) (all : List LoopTurns) (place : ℕ) (start : ℤ)
     (w : Work) (turns : LoopTurns) → AreTurns code inputs starts all → slice_get (works_of code inputs) place ≡ Some w
@@ -21,31 +35,15 @@ pub turns-set : (code : CodeParts) (inputs : List (List Snapshot)) (starts : Lis
 turns-set code inputs starts all place start w turns are of new =
     let within = slice_get_within (works_of code inputs) place w of in
     let count = works-length code inputs in
-    let many = are.many in
-    let there : place < length all = omega arith in
+    let New = AreTurnsOf code inputs (slice_set starts place start) in
     record {
       begins = length-set starts place start ∙ are.begins;
       many = length-set all place turns ∙ are.many;
-      each = λ k v t is at.
-          elim (cases_eq k place) [
-            | inl same ↦ (
-                let at_ : slice_get (slice_set all place turns) place ≡ Some t = ap (slice_get (slice_set all place turns)) (sym same) ∙ at in
-                let own : turns ≡ t = same_Some turns t (sym (slice_get-set_same all place turns there) ∙ at_) in
-                let loop : w ≡ v = same_Some w v (sym of ∙ ap (slice_get (works_of code inputs)) (sym same) ∙ is) in
-                subst (λ (n : ℕ). AreTurnsOf code inputs (slice_set starts place start) n v t) (sym same)
-                (subst (λ (x : Work). AreTurnsOf code inputs (slice_set starts place start) place x t) loop
-                (subst (AreTurnsOf code inputs (slice_set starts place start) place w) own new))
-                )
-            | inr other ↦ (
-                let old = are.each k v t is (sym (slice_get-set_other all place k turns other) ∙ at) in
-                record {
-                  used = old.used;
-                  sources = old.sources;
-                  readers = old.readers;
-                  fit = rw (get_or-set_other starts place k start (pos 0) other) old.fit;
-                }
-                )
-          ];
+      each = each-at (works_of code inputs) (AreTurnsOf code inputs starts) New all (slice_set all place turns) place turns are.each
+          (λ k apart. slice_get-set_other all place k turns apart) (slice_get-set_same all place turns (omega arith))
+          (λ k v t apart old.
+          record { sources = old.sources; readers = old.readers; fit = rw (get_or-set_other starts place k start (pos 0) apart) old.fit })
+          (λ v is. subst (λ (x : Work). New place x turns) (same_Some w v (sym of ∙ is)) new);
     }
 
 -- the loop at a place has its ring and its turns
@@ -85,7 +83,7 @@ own-turns p all place w turns are is at =
 -- where no loop is named
 pub own-readers : (p : RingsParts) (all : List LoopTurns) (place : ℕ) (turns : LoopTurns)
     → AreTurns p.code p.inputs (starts_of p.rings) all → place < length p.rings → turns ≡ get_or all place turns
-    → AreReaders (length p.inputs) p.code.loops (length p.code.loops) place turns.readers.items
+    → AreReaders p.code p.inputs 0 place turns.readers.items
 own-readers p all place turns are there at =
     let long = turns-long p all are in
     let found = slice_get-some (works_in p) place (omega (arith, long.0)) in

@@ -1,14 +1,14 @@
 -- What the readers of a buffer want is what the loops behind it want.
-use Rattle.std.proofs.Common.{◌≡◌, ◌<◌, ◌≤◌, ◌+◌, ◌-◌, ℕ, zero, suc, ◌==◌, ℤ, ◌+ℤ◌, ◌≤ℤ◌, int_lt, Bool, true, false}
-use Rattle.std.proofs.Common.{◌&&◌, if◌then◌else◌, List, [], ◌∷◌, ◌++◌, length, drop, take, get_or, slice_get, option_map, Option}
+use Rattle.std.proofs.Common.{◌≡◌, ◌<◌, ◌+◌, ◌-◌, ℕ, zero, suc, ◌==◌, ℤ, ◌+ℤ◌, ◌≤ℤ◌, int_lt, Bool, true, false}
+use Rattle.std.proofs.Common.{◌&&◌, if◌then◌else◌, List, [], ◌∷◌, length, drop, get_or, slice_get, option_map, Option}
 use Rattle.std.proofs.Common.{Some, None, Contains, refl, sym, ap, ◌∙◌, subst, arith}
 use Rattle.std.proofs.lemmas.Int.{ints, clamps}
-use Rattle.std.proofs.lemmas.List.{take-append-drop}
 use Rattle.std.proofs.lemmas.Option.{same_Some, slice_get-map, slice_get_within}
 use Rattle.circular_buffer.proofs.Places.{slice_get-drop, slice_get-some}
 use Rattle.std.specs.Int.{int_min}
 use Rattle.std.specs.List.{AllByRecursion}
 use Rattle.tilt_base.proofs.Booleans.{by_test}
+use Rattle.tilt_base.proofs.Lists.{all-at}
 use Rattle.tilt_code.specs.Code.{LoopParts}
 use Rattle.tilt_code.specs.References.{IsCode}
 use Rattle.tilt_pipe.proofs.Nears.{loop-reads}
@@ -19,9 +19,9 @@ use Rattle.tilt_pipe.proofs.Works.{work-is, works-length}
 use Rattle.tilt_pipe.specs.Made.{Work, Stage}
 use Rattle.tilt_pipe.specs.Positions.{RingParts, RingsParts, AreRings, IsRing, made_by, stages_at, start_at, starts_of, works_in}
 use Rattle.tilt_pipe.specs.Reads.{body_reads, earlier, first_tick, turn_point}
-use Rattle.tilt_pipe.specs.Rings.{end_or, is_at_work, let_go, next_read, position, wanted}
+use Rattle.tilt_pipe.specs.Rings.{end_or, is_at_work, next_read, position, wanted}
 use Rattle.tilt_pipe.specs.Sources.{AreReaders, HasReader, IsRead, IsReaderOf}
-use Rattle.tilt_pipe.specs.Trimmed.{IsReader, IsTrimmed, KeepsWanted, read_next, wanted_at, wanted_by}
+use Rattle.tilt_pipe.specs.Trimmed.{HasLetGo, IsReader, IsTrimmed, KeepsWanted, read_next, wanted_at, wanted_by}
 use Rattle.tilt_pipe.specs.declared.chain.Reader.{Reader}
 use Rattle.tilt_pipe.specs.declared.read.Read.{Read}
 use Rattle.tilt_stream.specs.Snap.{Snapshot, last_end}
@@ -37,29 +37,6 @@ earlier-assoc (Some a) (Some b) (Some c) =
 pub earlier-none : (a : Option ℤ) → earlier a None ≡ a
 earlier-none None = refl
 earlier-none (Some a) = refl
-
-earlier-swapped : (a b : Option ℤ) → earlier a b ≡ earlier b a
-earlier-swapped None None = refl
-earlier-swapped None (Some b) = refl
-earlier-swapped (Some a) None = refl
-earlier-swapped (Some a) (Some b) =
-    let least : int_min a b ≡ int_min b a = omega (arith, ints, clamps) in
-    ap (λ (t : ℤ). Some t) least
-
--- what two lists of readers want is what both of them do
-wanted_by-append : (p : RingsParts) (xs ys : List Reader) → wanted_by p (xs ++ ys) ≡ earlier (wanted_by p xs) (wanted_by p ys)
-wanted_by-append p [] ys = refl
-wanted_by-append p (x ∷ xs) ys =
-    let next = read_next p x (slice_get (works_in p) x.place) in
-    ap (earlier next) (wanted_by-append p xs ys) ∙ sym (earlier-assoc next (wanted_by p xs) (wanted_by p ys))
-
--- the readers may be gone over from any one of them, round
-pub wanted_by-round : (p : RingsParts) (readers : List Reader) (first : ℕ)
-    → earlier (wanted_by p (drop first readers)) (wanted_by p (take first readers)) ≡ wanted_by p readers
-wanted_by-round p readers first =
-    earlier-swapped (wanted_by p (drop first readers)) (wanted_by p (take first readers))
-    ∙ sym (wanted_by-append p (take first readers) (drop first readers))
-    ∙ ap (wanted_by p) (take-append-drop first readers)
 
 -- a loop stands where what it has made ends
 pub stands-there : (w : Work) (r : RingParts) → IsRing w r → position (record { work = w; made = made_by r.start w.whole }) ≡ r.start
@@ -82,15 +59,13 @@ reader-wants p (x ∷ readers) (suc i) d within =
     earlier-rest (read_next p x (slice_get (works_in p) x.place)) (wanted_by p readers)
     (read_next p (get_or readers i d) (slice_get (works_in p) (get_or readers i d).place)) (reader-wants p readers i d (omega arith))
 
--- where a tick that is wanted lets go no more than was let go, just what isn't wanted was
-pub held-trimmed : (p : RingsParts) (place : ℕ) (next : Option ℤ) → KeepsWanted p place → IsNotLater (wanted_at p place) next
-    → ((w : Work) (r : RingParts) → slice_get (works_in p) place ≡ Some w → slice_get p.rings place ≡ Some r
-    → let_go next (made_by r.start w.whole) ≤ r.forgotten)
-    → IsTrimmed p place
-held-trimmed p place next keeps wants held = λ w r of at.
+-- where all that ends below a tick was let go, and no more is wanted, just what isn't wanted was
+pub held-trimmed : (p : RingsParts) (place : ℕ) (end : Option ℤ) → KeepsWanted p place → HasLetGo p place end
+    → IsNotLater (wanted_at p place) end → IsTrimmed p place
+held-trimmed p place end keeps gone wants = λ w r of at.
     let low = keeps w r of at in
-    let up = let_go-rises (wanted_at p place) next (made_by r.start w.whole) wants in
-    let high = held w r of at in
+    let up = let_go-rises (wanted_at p place) end (made_by r.start w.whole) wants in
+    let high = gone w r of at in
     omega arith
 
 -- a tick that is no later than two is no later than the earlier one
@@ -157,7 +132,7 @@ reader-work p k reader own =
     slice_get-some (works_in p) reader.place (omega arith)
 
 -- it is there, and reads near
-pub reader-near : (p : RingsParts) (k : ℕ) (reader : Reader) → IsCode p.code → AreRings p
+reader-near : (p : RingsParts) (k : ℕ) (reader : Reader) → IsCode p.code → AreRings p
     → IsReaderOf (length p.inputs) p.code.loops k reader → IsReader p reader
 reader-near p k reader code are own =
     let w = reader-work p k reader own in
@@ -177,7 +152,7 @@ next-is p reader w test is same =
     ∙ ap (λ (b : Bool). if b then Some (turn_point w.loop (start_at p reader.place) +ℤ reader.first) else None) same
 
 -- what is wanted of a buffer isn't later than what a reader reads next
-pub reader-later : (p : RingsParts) (k : ℕ) (reader : Reader) → IsCode p.code → AreRings p
+reader-later : (p : RingsParts) (k : ℕ) (reader : Reader) → IsCode p.code → AreRings p
     → IsReaderOf (length p.inputs) p.code.loops k reader
     → IsNotLater (wanted_at p k) (read_next p reader (slice_get (works_in p) reader.place))
 reader-later p k reader code are own =
@@ -203,6 +178,23 @@ reader-later p k reader code are own =
     (subst (λ (t : ℤ). IsNotLater (wanted_at p k) (Some (turn_point w.loop (start_at p j) +ℤ t))) (sym own.first) here))
     (λ idle. subst (λ (o : Option ℤ). IsNotLater (wanted_at p k) o) (sym (next-is p reader w false it.1 idle)) tt)
 
+-- the reader with a number reads near
+pub own-near : (p : RingsParts) (place number : ℕ) (readers : List Reader) (reader : Reader) → IsCode p.code → AreRings p
+    → AllByRecursion (IsReaderOf (length p.inputs) p.code.loops place) readers → number < length readers
+    → reader ≡ get_or readers number reader → IsReader p reader
+own-near p place number readers reader code are own within at =
+    reader-near p place reader code are (all-at (IsReaderOf (length p.inputs) p.code.loops place) readers number reader own within at)
+
+-- where it reads the first snapshot that is held, nothing goes
+pub reader-holds : (p : RingsParts) (place number : ℕ) (readers : List Reader) (reader : Reader) (tick end : ℤ) → IsCode p.code → AreRings p
+    → AllByRecursion (IsReaderOf (length p.inputs) p.code.loops place) readers → number < length readers
+    → reader ≡ get_or readers number reader → KeepsWanted p place → HasLetGo p place (Some end)
+    → read_next p reader (slice_get (works_in p) reader.place) ≡ Some tick → tick ≤ℤ end → IsTrimmed p place
+reader-holds p place number readers reader tick end code are own within at keeps gone reads le =
+    let is = all-at (IsReaderOf (length p.inputs) p.code.loops place) readers number reader own within at in
+    held-trimmed p place (Some end) keeps gone
+    (not_later-trans (wanted_at p place) tick end (subst (IsNotLater (wanted_at p place)) reads (reader-later p place reader code are is)) le)
+
 wanted-most : (p : RingsParts) (k : ℕ) (readers : List Reader) → IsCode p.code → AreRings p
     → AllByRecursion (IsReaderOf (length p.inputs) p.code.loops k) readers → IsNotLater (wanted_at p k) (wanted_by p readers)
 wanted-most p k [] code are each = tt
@@ -227,8 +219,12 @@ read-wanted p k j w r readers is busy has =
     not_later-trans (wanted_by p readers) (turn_point w.loop (start_at p j) +ℤ has.reader.first)
     (turn_point w.loop (start_at p j) +ℤ r.first) here (omega (arith, ints))
 
+left-true : (a b : Bool) → (a && b) ≡ true → a ≡ true
+left-true true b h = refl
+left-true false b h = absurd (cc h)
+
 stage-wanted : (p : RingsParts) (k i : ℕ) (s : Stage) (readers : List Reader) → IsCode p.code → AreRings p
-    → AreReaders (length p.inputs) p.code.loops (length p.code.loops) k readers
+    → AreReaders p.code p.inputs 0 k readers
     → slice_get (drop (suc k) (stages_at (works_in p) (starts_of p.rings))) i ≡ Some s
     → IsNotLater (wanted_by p readers) (next_read (length p.inputs + k) s)
 stage-wanted p k i s readers code are of is =
@@ -241,8 +237,6 @@ stage-wanted p k i s readers code are of is =
     let start : found.start ≡ start_at p j = same_Some found.start (start_at p j) (sym found.at ∙ stands.at) in
     let at : position s ≡ start_at p j =
     ap (λ (list : List Snapshot). end_or w.loop.lo (last_end list)) (found.made ∙ ap (λ (t : ℤ). made_by t w.whole) start) ∙ stands.position in
-    let within = slice_get_within (works_in p) j w found.work in
-    let count = works-length p.code p.inputs in
     let point = turn_point w.loop (position s) in
     by_test (is_at_work s) (IsNotLater (wanted_by p readers) (next_read buffer s))
     (λ busy.
@@ -252,13 +246,13 @@ stage-wanted p k i s readers code are of is =
     (λ r read.
     subst (λ (t : ℤ). IsNotLater (wanted_by p readers) (Some (turn_point w.loop t +ℤ r.first))) (sym at)
     (read-wanted p k j w r readers found.work busy_
-    (of.all j w.loop r (omega arith) (work-is p.code p.inputs j w found.work).loop read)))))
+    (of.all j w r (omega arith) found.work (left-true w.used (int_lt (start_at p j) w.loop.hi) busy_) read)))))
     (λ idle.
     subst (λ (b : Bool). IsNotLater (wanted_by p readers) (if b then first_tick buffer point (body_reads w.loop.body) else None)) (sym idle) tt)
 
 -- the readers of a loop's buffer want just what is wanted of it
 pub wanted_by-is : (p : RingsParts) (k : ℕ) (readers : List Reader) → IsCode p.code → AreRings p
-    → AreReaders (length p.inputs) p.code.loops (length p.code.loops) k readers → wanted_by p readers ≡ wanted_at p k
+    → AreReaders p.code p.inputs 0 k readers → wanted_by p readers ≡ wanted_at p k
 wanted_by-is p k readers code are of =
     not_later-two (wanted_by p readers) (wanted_at p k)
     (wants-all (wanted_by p readers) (length p.inputs + k) (drop (suc k) (stages_at (works_in p) (starts_of p.rings)))

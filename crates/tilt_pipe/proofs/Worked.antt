@@ -10,42 +10,35 @@ use Rattle.tilt_pipe.specs.Rings.{rings_after, most_ever}
 use Rattle.tilt_stream.specs.Snap.{Snapshot}
 
 -- a loop on a stretch at every tick, without maps
-on_stretch : ℤ → ℤ → Block → LoopParts
+abbrev on_stretch : ℤ → ℤ → Block → LoopParts
 on_stretch lo hi body = record { lo = lo; hi = hi; grid = record { period = pos 1; offset = pos 0 }; maps = []; body = body }
 
--- the code with one input, or two, and these loops
-over_x : List LoopParts → CodeParts
-over_x loops = record { inputs = (120 ∷ []) ∷ []; loops = loops }
-
-over_x_and_w : List LoopParts → CodeParts
-over_x_and_w loops = record { inputs = (120 ∷ []) ∷ (119 ∷ []) ∷ []; loops = loops }
-
 -- a snapshot with a value, and one with null
-row : ℤ → ℤ → ℤ → Snapshot
+abbrev row : ℤ → ℤ → ℤ → Snapshot
 row start end value = record { start = start; end = end; value = Some value }
 
-gap : ℤ → ℤ → Snapshot
+abbrev gap : ℤ → ℤ → Snapshot
 gap start end = record { start = start; end = end; value = None }
 
--- what the loops of a code have made, and which of them are used
-made_after : CodeParts → List (List Snapshot) → ℕ → List (List Snapshot)
+-- what the loops of a code have made, how much that is, and which of them are used
+abbrev made_after : CodeParts → List (List Snapshot) → ℕ → List (List Snapshot)
 made_after code inputs given = map (λ (s : Stage). s.made) (stages_after code inputs given)
 
-used_in : CodeParts → List (List Snapshot) → List Bool
-used_in code inputs = map (λ (w : Work). w.used) (works_of code inputs)
+abbrev counts : CodeParts → List (List Snapshot) → ℕ → List ℕ
+counts code inputs given = map (λ (s : Stage). length s.made) (stages_after code inputs given)
 
-lengths : List (List Snapshot) → List ℕ
-lengths lists = map (λ (list : List Snapshot). length list) lists
+abbrev used : CodeParts → List (List Snapshot) → List Bool
+used code inputs = map (λ (w : Work). w.used) (works_of code inputs)
 
--- `port b0 -2` on `(-2, 7]`, and `win sum b1 -3 0` over it on `(0, 7]`
-window_over_shift : CodeParts
-window_over_shift = over_x (
-    on_stretch (negsuc 1) (pos 7) (Port 0 (negsuc 1) ∷ [])
-    ∷ on_stretch (pos 0) (pos 7) (Win Sum 1 (negsuc 2) (pos 0) None ∷ [])
-    ∷ [])
+-- over x, `port b0 -2` on `(-2, 7]`, and `win sum b1 -3 0` over it on `(0, 7]`
+abbrev window_over_shift : CodeParts
+window_over_shift = record {
+  inputs = (120 ∷ []) ∷ [];
+  loops = on_stretch (negsuc 1) (pos 7) (Port 0 (negsuc 1) ∷ []) ∷ on_stretch (pos 0) (pos 7) (Win Sum 1 (negsuc 2) (pos 0) None ∷ []) ∷ [];
+}
 
 -- x `0,2,1; 2,3,5; 3,4,2; 4,5,7`
-four_rows : List (List Snapshot)
+abbrev four_rows : List (List Snapshot)
 four_rows =
     (row (pos 0) (pos 2) (pos 1) ∷ row (pos 2) (pos 3) (pos 5) ∷ row (pos 3) (pos 4) (pos 2) ∷ row (pos 4) (pos 5) (pos 7) ∷ []) ∷ []
 
@@ -53,149 +46,103 @@ four_rows =
 window_run : run_of window_over_shift four_rows
     ≡ gap (pos 0) (pos 2) ∷ row (pos 2) (pos 4) (pos 1) ∷ row (pos 4) (pos 5) (pos 6) ∷ row (pos 5) (pos 6) (pos 8)
     ∷ row (pos 6) (pos 7) (pos 14) ∷ []
-unfolding window_over_shift four_rows over_x on_stretch row gap
 window_run = refl
 
--- what the shift has made and its ring holds before the first one, and after each
-window_at_first : lengths (made_after window_over_shift four_rows 0) ≡ 0 ∷ 0 ∷ []
-unfolding window_over_shift four_rows over_x on_stretch row made_after lengths
-window_at_first = refl
+-- what the shift has made and its ring holds before the first one, and after others
+window_made : map (counts window_over_shift four_rows) (0 ∷ 1 ∷ 2 ∷ 5 ∷ []) ≡ (0 ∷ 0 ∷ []) ∷ (1 ∷ 1 ∷ []) ∷ (2 ∷ 2 ∷ []) ∷ (5 ∷ 5 ∷ []) ∷ []
+window_made = refl
 
-window_made_1 : made_after window_over_shift four_rows 1 ≡ (gap (negsuc 1) (pos 2) ∷ []) ∷ (gap (pos 0) (pos 2) ∷ []) ∷ []
-unfolding window_over_shift four_rows over_x on_stretch row gap made_after
-window_made_1 = refl
+window_first : map (rings_after window_over_shift four_rows) (0 ∷ 1 ∷ 2 ∷ [])
+    ≡ ([] ∷ [] ∷ []) ∷ ((gap (negsuc 1) (pos 2) ∷ []) ∷ [] ∷ []) ∷ ((row (pos 2) (pos 4) (pos 1) ∷ []) ∷ [] ∷ []) ∷ []
+window_first = refl
 
-window_made_2 : lengths (made_after window_over_shift four_rows 2) ≡ 2 ∷ 2 ∷ []
-unfolding window_over_shift four_rows over_x on_stretch row made_after lengths
-window_made_2 = refl
+window_later : map (rings_after window_over_shift four_rows) (3 ∷ 4 ∷ [])
+    ≡ ((row (pos 2) (pos 4) (pos 1) ∷ row (pos 4) (pos 5) (pos 5) ∷ []) ∷ [] ∷ [])
+    ∷ ((row (pos 4) (pos 5) (pos 5) ∷ row (pos 5) (pos 6) (pos 2) ∷ []) ∷ [] ∷ []) ∷ []
+window_later = refl
 
-window_made_5 : lengths (made_after window_over_shift four_rows 5) ≡ 5 ∷ 5 ∷ []
-unfolding window_over_shift four_rows over_x on_stretch row made_after lengths
-window_made_5 = refl
+-- at the end nothing is kept, and at most two are held
+window_end : rings_after window_over_shift four_rows 5 ≡ [] ∷ [] ∷ []
+window_end = refl
 
-window_rings_0 : rings_after window_over_shift four_rows 0 ≡ [] ∷ [] ∷ []
-unfolding window_over_shift four_rows over_x on_stretch row
-window_rings_0 = refl
-
-window_rings_1 : rings_after window_over_shift four_rows 1 ≡ (gap (negsuc 1) (pos 2) ∷ []) ∷ [] ∷ []
-unfolding window_over_shift four_rows over_x on_stretch row gap
-window_rings_1 = refl
-
-window_rings_2 : rings_after window_over_shift four_rows 2 ≡ (row (pos 2) (pos 4) (pos 1) ∷ []) ∷ [] ∷ []
-unfolding window_over_shift four_rows over_x on_stretch row
-window_rings_2 = refl
-
-window_rings_3 : rings_after window_over_shift four_rows 3 ≡ (row (pos 2) (pos 4) (pos 1) ∷ row (pos 4) (pos 5) (pos 5) ∷ []) ∷ [] ∷ []
-unfolding window_over_shift four_rows over_x on_stretch row
-window_rings_3 = refl
-
-window_rings_4 : rings_after window_over_shift four_rows 4 ≡ (row (pos 4) (pos 5) (pos 5) ∷ row (pos 5) (pos 6) (pos 2) ∷ []) ∷ [] ∷ []
-unfolding window_over_shift four_rows over_x on_stretch row
-window_rings_4 = refl
-
--- at the end nothing is kept
-window_rings_5 : rings_after window_over_shift four_rows 5 ≡ [] ∷ [] ∷ []
-unfolding window_over_shift four_rows over_x on_stretch row
-window_rings_5 = refl
-
--- so at most two are held
 window_most : most_ever window_over_shift four_rows ≡ 2
-unfolding window_over_shift four_rows over_x on_stretch row
 window_most = refl
 
 -- three loops on `(0, 4]`: `port b0 0`, then `port b1 0`, which no loop reads, and then `port b1 -1`
-one_unread : CodeParts
-one_unread = over_x (
-    on_stretch (pos 0) (pos 4) (Port 0 (pos 0) ∷ [])
-    ∷ on_stretch (pos 0) (pos 4) (Port 1 (pos 0) ∷ [])
-    ∷ on_stretch (pos 0) (pos 4) (Port 1 (negsuc 0) ∷ [])
-    ∷ [])
+abbrev one_unread : CodeParts
+one_unread = record {
+  inputs = (120 ∷ []) ∷ [];
+  loops = on_stretch (pos 0) (pos 4) (Port 0 (pos 0) ∷ []) ∷ on_stretch (pos 0) (pos 4) (Port 1 (pos 0) ∷ [])
+      ∷ on_stretch (pos 0) (pos 4) (Port 1 (negsuc 0) ∷ []) ∷ [];
+}
 
 -- x `0,1,1; 1,2,2; 2,3,3`
-three_rows : List (List Snapshot)
+abbrev three_rows : List (List Snapshot)
 three_rows = (row (pos 0) (pos 1) (pos 1) ∷ row (pos 1) (pos 2) (pos 2) ∷ row (pos 2) (pos 3) (pos 3) ∷ []) ∷ []
 
-unread_used : used_in one_unread three_rows ≡ true ∷ false ∷ true ∷ []
-unfolding one_unread three_rows over_x on_stretch row used_in
+unread_used : used one_unread three_rows ≡ true ∷ false ∷ true ∷ []
 unread_used = refl
 
--- the second loop makes nothing and lets the first one's ring keep nothing; the last snapshot of the first loop is never made
-unread_made_2 : made_after one_unread three_rows 2
-    ≡ (row (pos 0) (pos 1) (pos 1) ∷ []) ∷ [] ∷ (gap (pos 0) (pos 1) ∷ row (pos 1) (pos 2) (pos 1) ∷ []) ∷ []
-unfolding one_unread three_rows over_x on_stretch row gap made_after
-unread_made_2 = refl
+-- a loop that only a loop reads that nobody reads isn't used either: `port b0 0`, `port b1 0`, and `port b0 0`
+unread_later : used (record {
+  inputs = (120 ∷ []) ∷ [];
+  loops = on_stretch (pos 0) (pos 4) (Port 0 (pos 0) ∷ []) ∷ on_stretch (pos 0) (pos 4) (Port 1 (pos 0) ∷ [])
+      ∷ on_stretch (pos 0) (pos 4) (Port 0 (pos 0) ∷ []) ∷ [];
+}) three_rows ≡ false ∷ false ∷ true ∷ []
+unread_later = refl
 
-unread_made_4 : lengths (made_after one_unread three_rows 4) ≡ 3 ∷ 0 ∷ 4 ∷ []
-unfolding one_unread three_rows over_x on_stretch row made_after lengths
-unread_made_4 = refl
+-- the second loop makes nothing and lets the first one's ring keep nothing; the last snapshot of the first loop is never made
+unread_made : made_after one_unread three_rows 2
+    ≡ (row (pos 0) (pos 1) (pos 1) ∷ []) ∷ [] ∷ (gap (pos 0) (pos 1) ∷ row (pos 1) (pos 2) (pos 1) ∷ []) ∷ []
+unread_made = refl
+
+unread_end : counts one_unread three_rows 4 ≡ 3 ∷ 0 ∷ 4 ∷ []
+unread_end = refl
 
 unread_most : most_ever one_unread three_rows ≡ 0
-unfolding one_unread three_rows over_x on_stretch row
 unread_most = refl
 
--- a loop that only a loop reads that nobody reads isn't used either: `port b0 0`, `port b1 0`, and `port b0 0`
-unread_behind : used_in (over_x (
-    on_stretch (pos 0) (pos 4) (Port 0 (pos 0) ∷ [])
-    ∷ on_stretch (pos 0) (pos 4) (Port 1 (pos 0) ∷ [])
-    ∷ on_stretch (pos 0) (pos 4) (Port 0 (pos 0) ∷ [])
-    ∷ [])) three_rows ≡ false ∷ false ∷ true ∷ []
-unfolding three_rows over_x on_stretch row used_in
-unread_behind = refl
-
--- `port b0 0` and `port b2 0 + port b1 0` on `(-1, 2]`, and `port b3 -1` on `(0, 2]`
-shift_of_sum : CodeParts
-shift_of_sum = over_x_and_w (
-    on_stretch (negsuc 0) (pos 2) (Port 0 (pos 0) ∷ [])
-    ∷ on_stretch (negsuc 0) (pos 2) (Port 2 (pos 0) ∷ Port 1 (pos 0) ∷ Two Add 0 1 ∷ [])
-    ∷ on_stretch (pos 0) (pos 2) (Port 3 (negsuc 0) ∷ [])
-    ∷ [])
+-- over x and w, `port b0 0` and `port b2 0 + port b1 0` on `(-1, 2]`, and `port b3 -1` on `(0, 2]`
+abbrev shift_of_sum : CodeParts
+shift_of_sum = record {
+  inputs = (120 ∷ []) ∷ (119 ∷ []) ∷ [];
+  loops = on_stretch (negsuc 0) (pos 2) (Port 0 (pos 0) ∷ [])
+      ∷ on_stretch (negsuc 0) (pos 2) (Port 2 (pos 0) ∷ Port 1 (pos 0) ∷ Two Add 0 1 ∷ [])
+      ∷ on_stretch (pos 0) (pos 2) (Port 3 (negsuc 0) ∷ []) ∷ [];
+}
 
 -- x `0,5,1`, and w `0,1,1; 1,2,2`
-two_inputs : List (List Snapshot)
+abbrev two_inputs : List (List Snapshot)
 two_inputs = (row (pos 0) (pos 5) (pos 1) ∷ []) ∷ (row (pos 0) (pos 1) (pos 1) ∷ row (pos 1) (pos 2) (pos 2) ∷ []) ∷ []
 
 sum_run : run_of shift_of_sum two_inputs ≡ gap (pos 0) (pos 1) ∷ row (pos 1) (pos 2) (pos 2) ∷ []
-unfolding shift_of_sum two_inputs over_x_and_w on_stretch row gap
 sum_run = refl
 
-sum_made_1 : made_after shift_of_sum two_inputs 1
-    ≡ (gap (negsuc 0) (pos 0) ∷ []) ∷ (gap (negsuc 0) (pos 0) ∷ []) ∷ (gap (pos 0) (pos 1) ∷ []) ∷ []
-unfolding shift_of_sum two_inputs over_x_and_w on_stretch row gap made_after
-sum_made_1 = refl
-
-sum_made_2 : made_after shift_of_sum two_inputs 2
+sum_made : made_after shift_of_sum two_inputs 2
     ≡ (gap (negsuc 0) (pos 0) ∷ row (pos 0) (pos 2) (pos 1) ∷ []) ∷ (gap (negsuc 0) (pos 0) ∷ row (pos 0) (pos 1) (pos 2) ∷ [])
     ∷ (gap (pos 0) (pos 1) ∷ row (pos 1) (pos 2) (pos 2) ∷ []) ∷ []
-unfolding shift_of_sum two_inputs over_x_and_w on_stretch row gap made_after
-sum_made_2 = refl
-
-sum_rings_1 : rings_after shift_of_sum two_inputs 1 ≡ [] ∷ [] ∷ [] ∷ []
-unfolding shift_of_sum two_inputs over_x_and_w on_stretch row
-sum_rings_1 = refl
+sum_made = refl
 
 -- at the end the sum stands at 1, below the end of its stretch, and what it would read next is still kept
-sum_rings_2 : rings_after shift_of_sum two_inputs 2 ≡ (row (pos 0) (pos 2) (pos 1) ∷ []) ∷ [] ∷ [] ∷ []
-unfolding shift_of_sum two_inputs over_x_and_w on_stretch row
-sum_rings_2 = refl
+sum_rings : map (rings_after shift_of_sum two_inputs) (1 ∷ 2 ∷ [])
+    ≡ ([] ∷ [] ∷ [] ∷ []) ∷ ((row (pos 0) (pos 2) (pos 1) ∷ []) ∷ [] ∷ [] ∷ []) ∷ []
+sum_rings = refl
 
-sum_most : most_ever shift_of_sum two_inputs ≡ 1
-unfolding shift_of_sum two_inputs over_x_and_w on_stretch row
-sum_most = refl
-
--- `port b0 0` on `(0, 6]`, and over it every 2 ticks `win sum b1 -3 1` on `(-1, 4]`
-window_every_2 : CodeParts
-window_every_2 = over_x (
-    on_stretch (pos 0) (pos 6) (Port 0 (pos 0) ∷ [])
-    ∷ record {
-      lo = negsuc 0;
-      hi = pos 4;
-      grid = record { period = pos 2; offset = pos 0 };
-      maps = [];
-      body = Win Sum 1 (negsuc 2) (pos 1) None ∷ [];
-    } ∷ [])
+-- over x, `port b0 0` on `(0, 6]`, and over it every 2 ticks `win sum b1 -3 1` on `(-1, 4]`
+abbrev window_every_2 : CodeParts
+window_every_2 = record {
+  inputs = (120 ∷ []) ∷ [];
+  loops = on_stretch (pos 0) (pos 6) (Port 0 (pos 0) ∷ []) ∷ record {
+    lo = negsuc 0;
+    hi = pos 4;
+    grid = record { period = pos 2; offset = pos 0 };
+    maps = [];
+    body = Win Sum 1 (negsuc 2) (pos 1) None ∷ [];
+  } ∷ [];
+}
 
 -- x `0,1,1; 1,2,2; 2,3,3; 3,4,4; 4,5,5; 5,6,6`
-six_rows : List (List Snapshot)
+abbrev six_rows : List (List Snapshot)
 six_rows = (
     row (pos 0) (pos 1) (pos 1) ∷ row (pos 1) (pos 2) (pos 2) ∷ row (pos 2) (pos 3) (pos 3) ∷ row (pos 3) (pos 4) (pos 4)
     ∷ row (pos 4) (pos 5) (pos 5) ∷ row (pos 5) (pos 6) (pos 6) ∷ []) ∷ []
@@ -203,25 +150,12 @@ six_rows = (
 -- the values are taken at 0, 2 and 4, each over four ticks, the last of which lies above the grid point
 every_2_run : run_of window_every_2 six_rows
     ≡ row (negsuc 0) (pos 0) (pos 1) ∷ row (pos 0) (pos 2) (pos 6) ∷ row (pos 2) (pos 4) (pos 14) ∷ []
-unfolding window_every_2 six_rows over_x on_stretch row
 every_2_run = refl
 
-every_2_made_1 : lengths (made_after window_every_2 six_rows 1) ≡ 1 ∷ 1 ∷ []
-unfolding window_every_2 six_rows over_x on_stretch row made_after lengths
-every_2_made_1 = refl
+every_2_made : map (counts window_every_2 six_rows) (1 ∷ 3 ∷ []) ≡ (1 ∷ 1 ∷ []) ∷ (5 ∷ 3 ∷ []) ∷ []
+every_2_made = refl
 
-every_2_made_3 : lengths (made_after window_every_2 six_rows 3) ≡ 5 ∷ 3 ∷ []
-unfolding window_every_2 six_rows over_x on_stretch row made_after lengths
-every_2_made_3 = refl
-
-every_2_rings_1 : rings_after window_every_2 six_rows 1 ≡ (row (pos 0) (pos 1) (pos 1) ∷ []) ∷ [] ∷ []
-unfolding window_every_2 six_rows over_x on_stretch row
-every_2_rings_1 = refl
-
-every_2_rings_2 : rings_after window_every_2 six_rows 2 ≡ (row (pos 1) (pos 2) (pos 2) ∷ row (pos 2) (pos 3) (pos 3) ∷ []) ∷ [] ∷ []
-unfolding window_every_2 six_rows over_x on_stretch row
-every_2_rings_2 = refl
-
-every_2_rings_3 : rings_after window_every_2 six_rows 3 ≡ [] ∷ [] ∷ []
-unfolding window_every_2 six_rows over_x on_stretch row
-every_2_rings_3 = refl
+every_2_rings : map (rings_after window_every_2 six_rows) (1 ∷ 2 ∷ 3 ∷ [])
+    ≡ ((row (pos 0) (pos 1) (pos 1) ∷ []) ∷ [] ∷ []) ∷ ((row (pos 1) (pos 2) (pos 2) ∷ row (pos 2) (pos 3) (pos 3) ∷ []) ∷ [] ∷ [])
+    ∷ ([] ∷ [] ∷ []) ∷ []
+every_2_rings = refl

@@ -1,17 +1,20 @@
 -- The loops of a code with their whole buffers: where each stands, and what it is.
-use Rattle.std.proofs.Common.{◌≡◌, ◌<◌, ℕ, zero, suc, ◌+◌, ◌-◌, true, List, [], ◌∷◌, ◌++◌, map, length, take, drop, get_or, slice_get, option_map, Option, Some, refl, sym, ap, ◌∙◌, subst, arith}
+use Rattle.std.proofs.Common.{◌≡◌, ◌<◌, ℕ, zero, suc, ◌+◌, ◌-◌, true, List, [], ◌∷◌, ◌++◌, map, length, take, drop, get_or, slice_get, Some, refl, sym, ap, ◌∙◌, subst, arith}
 use Rattle.std.proofs.Common.{append_assoc, length-append}
 use Rattle.std.proofs.lemmas.List.{append-nil, take_at, drop_all, length_push, get_or_append_left, get_or-append-add, get_or-map, length-map}
 use Rattle.std.proofs.lemmas.Option.{slice_get_within, get_or_from_slice_get, same_Some}
 use Rattle.std.specs.List.{AllByRecursion}
+use Rattle.circular_buffer.proofs.Places.{slice_get-some}
 use Rattle.tilt_base.proofs.Lists.{all-slice_get}
 use Rattle.tilt_code.proofs.Runs.{turns-Fill}
 use Rattle.tilt_code.specs.Body.{last_or}
 use Rattle.tilt_code.specs.Code.{LoopParts, CodeParts}
 use Rattle.tilt_code.specs.Meaning.{IsTimed}
+use Rattle.tilt_code.specs.References.{IsCode}
 use Rattle.tilt_code.specs.Run.{with_buffers, buffers_of, run_of}
 use Rattle.tilt_code.specs.Turn.{turns}
 use Rattle.tilt_pipe.specs.Made.{Work, is_used, works_from, works_of}
+use Rattle.tilt_pipe.specs.Pulled.{AreFilled}
 use Rattle.tilt_stream.specs.Snap.{Snapshot, Fill}
 use Rattle.tilt_stream.specs.Stream.{stream_of}
 
@@ -48,40 +51,6 @@ given_first lists loops =
     ap (take (length lists + 0)) (with_buffers-works 0 lists loops)
     ∙ take_at lists (wholes (works_from 0 lists loops)) (length lists + 0) at
 
-turns-at : (buffer : ℕ) (lists : List (List Snapshot)) (loops : List LoopParts) (place : ℕ) (w : Work)
-    → slice_get (works_from buffer lists loops) place ≡ Some w
-    → w.whole ≡ turns (map stream_of (take (length lists + place) (with_buffers lists loops))) w.loop
-turns-at buffer lists [] place w is = absurd (cc is)
-turns-at buffer lists (l ∷ loops) zero w is =
-    let made = turns (map stream_of lists) l in
-    let first : record { loop = l; whole = made; used = is_used buffer (works_from (suc buffer) (lists ++ made ∷ []) loops) } ≡ w = cc in
-    rw (← first) (ap (λ (all : List (List Snapshot)). turns (map stream_of all) l) (sym (given_first lists (l ∷ loops))))
-turns-at buffer lists (l ∷ loops) (suc place) w is =
-    let made = turns (map stream_of lists) l in
-    let at : length (lists ++ made ∷ []) + place ≡ length lists + suc place = omega (arith, length_push lists made) in
-    turns-at (suc buffer) (lists ++ made ∷ []) loops place w is
-    ∙ ap (λ (n : ℕ). turns (map stream_of (take n (with_buffers (lists ++ made ∷ []) loops))) w.loop) at
-
-loop-at : (buffer : ℕ) (lists : List (List Snapshot)) (loops : List LoopParts) (place : ℕ) (w : Work)
-    → slice_get (works_from buffer lists loops) place ≡ Some w → slice_get loops place ≡ Some w.loop
-loop-at buffer lists [] place w is = absurd (cc is)
-loop-at buffer lists (l ∷ loops) zero w is = ap (λ (v : Option Work). option_map (λ (x : Work). x.loop) v) is
-loop-at buffer lists (l ∷ loops) (suc place) w is = loop-at (suc buffer) (lists ++ turns (map stream_of lists) l ∷ []) loops place w is
-
-used-at : (buffer : ℕ) (lists : List (List Snapshot)) (loops : List LoopParts) (place : ℕ) (w : Work)
-    → slice_get (works_from buffer lists loops) place ≡ Some w
-    → w.used ≡ is_used (buffer + place) (drop (suc place) (works_from buffer lists loops))
-used-at buffer lists [] place w is = absurd (cc is)
-used-at buffer lists (l ∷ loops) zero w is =
-    let behind = works_from (suc buffer) (lists ++ turns (map stream_of lists) l ∷ []) loops in
-    let at : buffer ≡ buffer + 0 = omega arith in
-    ap (λ (x : Work). x.used) (sym (same_Some _ w is)) ∙ ap (λ (n : ℕ). is_used n behind) at
-used-at buffer lists (l ∷ loops) (suc place) w is =
-    let made = turns (map stream_of lists) l in
-    let at : suc buffer + place ≡ buffer + suc place = omega arith in
-    used-at (suc buffer) (lists ++ made ∷ []) loops place w is
-    ∙ ap (λ (n : ℕ). is_used n (drop (suc place) (works_from (suc buffer) (lists ++ made ∷ []) loops))) at
-
 filled-at : (buffer : ℕ) (lists : List (List Snapshot)) (loops : List LoopParts) (place : ℕ) (w : Work)
     → slice_get (works_from buffer lists loops) place ≡ Some w → get_or (with_buffers lists loops) (length lists + place) [] ≡ w.whole
 filled-at buffer lists loops place w is =
@@ -91,14 +60,30 @@ filled-at buffer lists loops place w is =
     ∙ get_or-map (λ (x : Work). x.whole) works place w [] (slice_get_within works place w is)
     ∙ ap (λ (x : Work). x.whole) (get_or_from_slice_get works place w w is)
 
-pub work_from-is : (buffer : ℕ) (lists : List (List Snapshot)) (loops : List LoopParts) (place : ℕ) (w : Work)
+work_from-is : (buffer : ℕ) (lists : List (List Snapshot)) (loops : List LoopParts) (place : ℕ) (w : Work)
     → slice_get (works_from buffer lists loops) place ≡ Some w → IsWork buffer lists loops place w
-work_from-is buffer lists loops place w is = record {
-  loop = loop-at buffer lists loops place w is;
-  whole = turns-at buffer lists loops place w is;
-  filled = filled-at buffer lists loops place w is;
-  used = used-at buffer lists loops place w is;
-}
+work_from-is buffer lists [] place w is = absurd (cc is)
+work_from-is buffer lists (l ∷ loops) zero w is =
+    let whole = turns (map stream_of lists) l in
+    let behind = works_from (suc buffer) (lists ++ whole ∷ []) loops in
+    let at : buffer ≡ buffer + 0 = omega arith in
+    subst (IsWork buffer lists (l ∷ loops) 0) (same_Some _ w is) (record {
+      loop = refl;
+      whole = ap (λ (all : List (List Snapshot)). turns (map stream_of all) l) (sym (given_first lists (l ∷ loops)));
+      filled = filled-at buffer lists (l ∷ loops) 0 (record { loop = l; whole = whole; used = is_used buffer behind }) refl;
+      used = ap (λ (n : ℕ). is_used n behind) at;
+    })
+work_from-is buffer lists (l ∷ loops) (suc place) w is =
+    let made = turns (map stream_of lists) l in
+    let rest = work_from-is (suc buffer) (lists ++ made ∷ []) loops place w is in
+    let at : length (lists ++ made ∷ []) + place ≡ length lists + suc place = omega (arith, length_push lists made) in
+    let number : suc buffer + place ≡ buffer + suc place = omega arith in
+    record {
+      loop = rest.loop;
+      whole = rest.whole ∙ ap (λ (n : ℕ). turns (map stream_of (take n (with_buffers (lists ++ made ∷ []) loops))) w.loop) at;
+      filled = filled-at buffer lists (l ∷ loops) (suc place) w is;
+      used = rest.used ∙ ap (λ (n : ℕ). is_used n (drop (suc place) (works_from (suc buffer) (lists ++ made ∷ []) loops))) number;
+    }
 
 -- the loop of a code at a place, its buffer, and whether it is used
 pub work-is : (code : CodeParts) (inputs : List (List Snapshot)) (place : ℕ) (w : Work) → slice_get (works_of code inputs) place ≡ Some w
@@ -146,13 +131,27 @@ run-last code inputs w is =
     let it = work-is code inputs last w is in
     let within = slice_get_within works last w is in
     let count = works-length code inputs in
-    let all = buffers-length code inputs in
-    let at : suc (length inputs + last) ≡ length (buffers_of code inputs) = omega arith in
-    let behind : drop (suc last) works ≡ [] = drop_all (suc last) works (omega arith) in
+    let at : suc (length inputs + last) ≡ length (buffers_of code inputs) = omega (arith, buffers-length code inputs) in
+    let later : drop (suc last) works ≡ [] = drop_all (suc last) works (omega arith) in
     record {
       run = sym (last_or-is [] (buffers_of code inputs) (length inputs + last) [] at ∙ it.filled);
-      used = it.used ∙ ap (λ (ws : List Work). is_used (length inputs + last) ws) behind;
+      used = it.used ∙ ap (λ (ws : List Work). is_used (length inputs + last) ws) later;
     }
+
+pub record HasLast (code : CodeParts) (inputs : List (List Snapshot)) : Type 0 where
+  pub work : Work
+  pub is : slice_get (works_of code inputs) (length code.loops - 1) ≡ Some work
+  pub run : work.whole ≡ run_of code inputs
+  pub used : work.used ≡ true
+  pub place : suc (length code.loops - 1) ≡ length (works_of code inputs)
+
+pub last-loop : (code : CodeParts) (inputs : List (List Snapshot)) → IsCode code → HasLast code inputs
+last-loop code inputs is =
+    let some = is.grammatical.some in
+    let many = works-length code inputs in
+    let it = slice_get-some (works_of code inputs) (length code.loops - 1) (omega arith) in
+    let last = run-last code inputs it.0 it.1 in
+    record { work = it.0; is = it.1; run = last.run; used = last.used; place = omega arith }
 
 -- a loop's whole buffer goes from the lower end of its stretch to the upper one
 pub work-timed : (code : CodeParts) (inputs : List (List Snapshot)) (place : ℕ) (w : Work) → AllByRecursion IsTimed code.loops
@@ -165,3 +164,10 @@ work-fills code inputs place w all is =
     let timed = work-timed code inputs place w all is in
     let before = map stream_of (take (length inputs + place) (buffers_of code inputs)) in
     (subst (Fill w.loop.lo w.loop.hi) (sym (work-is code inputs place w is).whole) (turns-Fill before w.loop timed), timed)
+
+-- the loops of a code have a grid, and their buffers fill their stretches
+pub works-filled : (code : CodeParts) (inputs : List (List Snapshot)) → AllByRecursion IsTimed code.loops
+    → AreFilled (works_of code inputs)
+works-filled code inputs timed k w is =
+    let fills = work-fills code inputs k w timed is in
+    record { whole = fills.0; grid = fills.1.grid }

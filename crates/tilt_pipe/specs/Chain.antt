@@ -20,9 +20,8 @@ use Rattle.tilt_pipe.specs.declared.sources.Source.{Source}
 -- the turns of the loop at a place: its state is fit for its next turn over the whole buffers, and its sources and readers are known
 pub record AreTurnsOf (code : CodeParts) (inputs : List (List Snapshot)) (starts : List ℤ) (place : ℕ) (w : Work) (turns : LoopTurns)
     : Type 0 where
-  pub used : turns.used ≡ w.used
   pub sources : AreSources (length inputs) (body_reads w.loop.body) turns.sources.items
-  pub readers : AreReaders (length inputs) code.loops (length code.loops) place turns.readers.items
+  pub readers : AreReaders code inputs 0 place turns.readers.items
   pub fit : (point : ℤ) × (point ≤ℤ turn_point w.loop (get_or starts place (pos 0)))
       × IsFit (buffers_of code inputs) w.loop point turns.state
 

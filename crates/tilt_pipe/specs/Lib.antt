@@ -1,5 +1,4 @@
 pub mod Chain
-pub mod Enough
 pub mod Gathered
 pub mod Made
 pub mod Pipes

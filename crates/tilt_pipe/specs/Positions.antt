@@ -1,17 +1,18 @@
 -- What the rings of a pipe keep, by where each loop stands. Where a loop stands says what it has made: that is written down nowhere else.
-use Rattle.std.specs.Prelude.{◌≡◌, ◌≤◌, ℕ, ℤ, pos, ◌<ℤ◌, ◌≤ℤ◌, if◌then◌else◌, List, [], ◌∷◌, ◌++◌, map, length, drop, get_or, slice_get}
-use Rattle.std.specs.Prelude.{slice_set, Some, int_le, refl, ⊤}
+use Rattle.std.specs.Prelude.{◌≡◌, ◌≤◌, ◌+◌, ℕ, ℤ, Bool, pos, ◌<ℤ◌, ◌≤ℤ◌, if◌then◌else◌, List, [], ◌∷◌, ◌++◌, map, length, drop, get_or}
+use Rattle.std.specs.Prelude.{slice_get, slice_set, Some, int_le, refl, ⊤}
 use Rattle.std.specs.Coded.{Coded, code_by, coded×, coded_list, coded_ℕ, coded_ℤ}
 use Rattle.tilt_code.specs.Code.{CodeParts, coded_code}
 use Rattle.tilt_stream.specs.Snap.{Snapshot, gap_before, Fill}
 use Rattle.tilt_pipe.specs.Made.{Stage, Work, works_of}
 use Rattle.tilt_stream.specs.Stored.{coded_snapshots}
 
--- what a ring holds, how many snapshots before those were made and forgotten, and where the next one starts
+-- what a ring holds, how many snapshots before those were made and forgotten, where the next one starts, and where its loop ends
 pub record RingParts : Type 0 where
   pub held : List Snapshot
   pub forgotten : ℕ
   pub start : ℤ
+  pub hi : ℤ
 
 -- the rings of the loops of a code, with the rows of its inputs
 pub record RingsParts : Type 0 where
@@ -30,6 +31,7 @@ pub record IsRing (w : Work) (r : RingParts) : Type 0 where
   pub within : r.start ≤ℤ w.loop.hi
   pub forgotten : r.forgotten ≤ length (made_by r.start w.whole)
   pub held : r.held ≡ drop r.forgotten (made_by r.start w.whole)
+  pub hi : r.hi ≡ w.loop.hi
 
 -- the same of each loop
 abbrev pub AreRingsOf : List Work → List RingParts → Type 0
@@ -41,6 +43,7 @@ AreRingsOf (w ∷ works) (r ∷ rings) = IsRing w r × AreRingsOf works rings
 -- what rings keep
 pub record AreRings (p : RingsParts) : Type 0 where
   pub inputs : length p.inputs ≡ length p.code.inputs
+  pub many : length p.rings ≡ length p.code.loops
   pub rings : AreRingsOf (works_of p.code p.inputs) p.rings
 
 -- what a turn reads of a loop: what it has made, and one null snapshot that stands for the rest of its stretch
@@ -86,6 +89,15 @@ made_at p place w = made_by (start_at p place) w.whole
 abbrev pub with_ring : RingsParts → ℕ → RingParts → RingsParts
 with_ring p place ring = record { code = p.code; inputs = p.inputs; rings = slice_set p.rings place ring }
 
+-- a ring whose loop has made one snapshot more, which it takes in where a later loop reads it
+abbrev pub kept_ring : Bool → RingParts → Snapshot → RingParts
+kept_ring read r s = record {
+  held = if read then r.held ++ s ∷ [] else r.held;
+  forgotten = if read then r.forgotten else r.forgotten + 1;
+  start = s.end;
+  hi = r.hi;
+}
+
 -- a loop that stands before the end of its stretch
 pub record IsOpen (p : RingsParts) (place : ℕ) (w : Work) : Type 0 where
   pub is : slice_get (works_in p) place ≡ Some w
@@ -94,8 +106,9 @@ pub record IsOpen (p : RingsParts) (place : ℕ) (w : Work) : Type 0 where
 -- told apart part by part
 abbrev pub coded_ring : Coded RingParts
 coded_ring =
-    code_by (List Snapshot × (ℕ × ℤ)) (coded× (coded_snapshots) (coded× coded_ℕ coded_ℤ)) (λ r. (r.held, (r.forgotten, r.start)))
-    (λ p. record { held = p.0; forgotten = p.1.0; start = p.1.1 }) (λ _. refl)
+    code_by (List Snapshot × (ℕ × (ℤ × ℤ))) (coded× coded_snapshots (coded× coded_ℕ (coded× coded_ℤ coded_ℤ)))
+    (λ r. (r.held, (r.forgotten, (r.start, r.hi))))
+    (λ p. record { held = p.0; forgotten = p.1.0; start = p.1.1.0; hi = p.1.1.1 }) (λ _. refl)
 
 abbrev pub coded_rings : Coded RingsParts
 coded_rings =

@@ -1,8 +1,10 @@
 -- Which earlier loops a loop reads, and which later loops read its buffer. All reads of a buffer by one loop count as one, which says
 -- the first and the last tick that they read, seen from the grid point.
-use Rattle.std.specs.Prelude.{◌≡◌, ◌<◌, ◌≤◌, ◌+◌, ℕ, ◌≤ℤ◌, ◌==◌, if◌then◌else◌, List, [], ◌∷◌, slice_get, Some}
+use Rattle.std.specs.Prelude.{◌≡◌, ◌≤◌, ◌+◌, ℕ, ◌≤ℤ◌, true, List, length, slice_get, Some}
 use Rattle.std.specs.List.{AllByRecursion, Contains}
-use Rattle.tilt_code.specs.Code.{LoopParts}
+use Rattle.tilt_code.specs.Code.{CodeParts, LoopParts}
+use Rattle.tilt_stream.specs.Snap.{Snapshot}
+use Rattle.tilt_pipe.specs.Made.{Work, works_of}
 use Rattle.tilt_pipe.specs.Reads.{body_reads}
 use Rattle.tilt_pipe.specs.declared.chain.Reader.{Reader}
 use Rattle.tilt_pipe.specs.declared.read.Read.{Read}
@@ -46,23 +48,8 @@ pub record HasReader (readers : List Reader) (k : ℕ) (r : Read) : Type 0 where
   pub place : reader.place ≡ k
   pub first : reader.first ≤ℤ r.first
 
--- the readers among so many loops of the buffer of the loop at a place
-pub record AreReaders (inputs : ℕ) (loops : List LoopParts) (count place : ℕ) (readers : List Reader) : Type 0 where
-  pub each : AllByRecursion (IsReaderOf inputs loops place) readers
-  pub all : (k : ℕ) (l : LoopParts) (r : Read) → k < count → slice_get loops k ≡ Some l → IsRead (body_reads l.body) (inputs + place) r
-      → HasReader readers k r
-
--- the readers of the buffer of the loop at a place that the sources of a loop make
-abbrev pub readers_in : ℕ → ℕ → List Source → List Reader
-readers_in buffer place [] = []
-readers_in buffer place (s ∷ sources) =
-    let rest = readers_in buffer place sources in
-    if s.place == buffer then record { place = place; first = s.first } ∷ rest else rest
-
--- the reads of an instruction are added to some sources: among any reads that have them, the new ones are sources where the old ones
--- are, and what was covered still is
-pub record AreAdded (inputs : ℕ) (list : List Read) (old new : List Source) : Type 0 where
-  pub each : (reads : List Read) → ((r : Read) → Contains list r → Contains reads r) → AllByRecursion (IsSource inputs reads) old
-      → AllByRecursion (IsSource inputs reads) new
-  pub kept : (r : Read) → IsCovered inputs old r → IsCovered inputs new r
-  pub found : (r : Read) → Contains list r → inputs ≤ r.buffer → IsCovered inputs new r
+-- the readers of the buffer of the loop at a place, among the loops from one on that are used
+pub record AreReaders (code : CodeParts) (inputs : List (List Snapshot)) (from place : ℕ) (readers : List Reader) : Type 0 where
+  pub each : AllByRecursion (IsReaderOf (length inputs) code.loops place) readers
+  pub all : (k : ℕ) (w : Work) (r : Read) → from ≤ k → slice_get (works_of code inputs) k ≡ Some w → w.used ≡ true
+      → IsRead (body_reads w.loop.body) (length inputs + place) r → HasReader readers k r

@@ -3,16 +3,14 @@ use Rattle.std.specs.Prelude.{neg_ℤ, ◌≡◌, ◌<◌, ◌≤◌, ◌+◌, �
 use Rattle.std.specs.Prelude.{length, slice_get, Option, Some, None, int_lt}
 use Rattle.std.specs.List.{AllByRecursion}
 use Rattle.tilt_base.specs.declared.limits.TheConstants.{OFFSET}
-use Rattle.tilt_code.specs.Grammar.{IsInstr}
 use Rattle.tilt_code.specs.Run.{buffers_of}
-use Rattle.tilt_code.specs.declared.instr.Instr.{Instr}
 use Rattle.tilt_turn.specs.Held.{IsFit}
 use Rattle.tilt_turn.specs.Ready.{IsKept}
 use Rattle.tilt_pipe.specs.Chain.{ArePoints, AreTold, AreTurns}
 use Rattle.tilt_pipe.specs.Made.{Work}
 use Rattle.tilt_pipe.specs.Positions.{RingParts, RingsParts, IsOpen, forgotten_of, lists_of, made_by, stages_at, start_at, starts_of}
 use Rattle.tilt_pipe.specs.Positions.{works_in}
-use Rattle.tilt_pipe.specs.Reads.{earlier, reads_of, turn_point}
+use Rattle.tilt_pipe.specs.Reads.{earlier, turn_point}
 use Rattle.tilt_pipe.specs.Rings.{let_go, wanted}
 use Rattle.tilt_pipe.specs.declared.chain.Chain.{Chain}
 use Rattle.tilt_pipe.specs.declared.chain.LoopTurns.{LoopTurns}
@@ -26,11 +24,6 @@ pub record IsNear (buffers : ℕ) (r : Read) : Type 0 where
   pub first_high : r.first ≤ℤ (OFFSET +ℤ pos 1)
   pub last_low : (neg_ℤ OFFSET) ≤ℤ r.last
   pub last_high : r.last ≤ℤ OFFSET
-
--- an instruction that reads such buffers alone
-pub record ReadsNear (buffers : ℕ) (instr : Instr) : Type 0 where
-  pub bounds : IsInstr instr
-  pub near : AllByRecursion (IsNear buffers) (reads_of instr)
 
 -- the turns of a chain, whatever its rings hold
 abbrev pub HasTurns : Chain → Type 0
@@ -68,6 +61,12 @@ abbrev pub KeepsWanted : RingsParts → ℕ → Type 0
 KeepsWanted p place =
     (w : Work) (r : RingParts) → slice_get (works_in p) place ≡ Some w → slice_get p.rings place ≡ Some r
     → r.forgotten ≤ let_go (wanted_at p place) (made_by r.start w.whole)
+
+-- all is let go of it that ends below a tick, and all of it where there is no tick
+abbrev pub HasLetGo : RingsParts → ℕ → Option ℤ → Type 0
+HasLetGo p place tick =
+    (w : Work) (r : RingParts) → slice_get (works_in p) place ≡ Some w → slice_get p.rings place ≡ Some r
+    → let_go tick (made_by r.start w.whole) ≤ r.forgotten
 
 -- just what isn't wanted is let go of it
 abbrev pub IsTrimmed : RingsParts → ℕ → Type 0

@@ -1,6 +1,6 @@
 // The loops of a pipe, and their turns.
 ghost use Rattle.std.specs.Prelude.{◌≡◌, ◌↔◌, ◌≢◌, ◌<◌, ◌≤◌, ◌+◌, ℕ, ℤ, ◌+ℤ◌, ◌<ℤ◌, ◌≤ℤ◌, [], ◌∷◌, ◌++◌};
-ghost use Rattle.std.specs.Prelude.{length, slice_get, slice_set, Some, true, false, IfOk, OnOk, OnErr};
+ghost use Rattle.std.specs.Prelude.{length, slice_get, slice_set, Some, None, true, false, IfOk, IfSome, OnOk};
 ghost use Rattle.std.specs.Prelude.{MatchOption};
 ghost use Rattle.std.specs.List.{AllByRecursion};
 ghost use Rattle.tilt_code.specs.References.{IsCode};
@@ -11,9 +11,8 @@ ghost use Rattle.tilt_pipe.specs.Positions.{AreRings, IsOpen, made_at};
 ghost use Rattle.tilt_pipe.specs.Positions.{start_at, starts_of, works_in};
 ghost use Rattle.tilt_pipe.specs.Reads.{body_reads, earlier, turn_point};
 ghost use Rattle.tilt_pipe.specs.Rings.{wanted};
-ghost use Rattle.tilt_pipe.specs.Trimmed.{HasPoints, HasTurns, IsReader, IsTrimmed, KeepsWanted};
-ghost use Rattle.tilt_pipe.specs.Sources.{IsReaderOf};
-ghost use Rattle.tilt_pipe.specs.Trimmed.{MayTurn, StandAlike, read_next, wanted_at, wanted_by};
+ghost use Rattle.tilt_pipe.specs.Trimmed.{HasLetGo, HasPoints, HasTurns, IsReader, IsTrimmed, KeepsWanted};
+ghost use Rattle.tilt_pipe.specs.Trimmed.{MayTurn, StandAlike, read_next, wanted_at};
 ghost use Rattle.tilt_turn.specs.Held.{IsFit};
 ghost use Rattle.tilt_turn.specs.Ready.{IsBodyTick};
 ghost use Rattle.tilt_pipe.specs.declared.sources.Source.{Source};
@@ -32,11 +31,10 @@ pub(crate) struct Reader {
     pub(crate) first: i64,
 }
 
-// What is kept for the turns of a loop: its state, whether it is used, the loops that it reads, and those that read its buffer.
+// What is kept for the turns of a loop: its state, the loops that it reads, and those that are used and read its buffer.
 #[derive(Drop)]
 pub(crate) struct LoopTurns {
     pub(crate) state: LoopState,
-    pub(crate) used: bool,
     pub(crate) sources: Vec<Source>,
     pub(crate) readers: Vec<Reader>,
 }
@@ -87,61 +85,65 @@ impl Chain {
     {
         // What rings keep is known from here on.
         let _ = self.rings.loops();
+        let read = self.is_read(place);
         let had = self.rings.holds(place);
         let snap = next_snap(&mut self.turns[place], &self.rings, place)?;
-        self.rings.push(place, snap)?;
+        self.rings.keep(place, snap, read)?;
         self.set_point(place);
         self.trim_own(place, had);
         self.trim_sources(place);
         Ok(snap)
     }
 
-    // The first tick of a loop's buffer that the next turns of later loops read; none where none of them is at work and reads it. An
-    // error is the number of a reader that holds the ring as it is: its next turn reads the first snapshot there still, or there is
-    // none, so that nothing goes. The reader that was found last is asked first, then those after it, and those before it last: so
-    // all of them together are asked about twice for each snapshot that goes.
-    fn wanted(&self, place: usize) -> Result<Option<i64>, usize>
+    // Whether a later loop reads a loop's buffer.
+    #[inline]
+    fn is_read(&self, place: usize) -> bool
+        requires turns { HasTurns self.now }
+        requires there { place < length self.now.rings.rings }
+        ensures { result ≡ false → wanted_at self.now.rings place ≡ None }
+    {
+        // What rings keep is known from here on.
+        let _ = self.rings.loops();
+        !self.turns[place].readers.is_empty()
+    }
+
+    // The number of a reader whose next turn reads the first snapshot that a ring holds, which ends there: so nothing goes. The
+    // reader that was found last is asked first, and then those after it, for those before it read past that snapshot.
+    #[inline(always)]
+    fn holder(&self, place: usize, end: i64) -> Option<usize>
         requires turns { HasTurns self.now }
         requires points { HasPoints self.now }
         requires there { place < length self.now.rings.rings }
         requires wanted { KeepsWanted self.now.rings place }
-        ensures wanted { IfOk result (λ first. first ≡ wanted_at self.now.rings place) }
-        ensures held { OnErr result (IsTrimmed self.now.rings place) }
+        requires end { HasLetGo self.now.rings place (Some end) }
+        ensures { IfSome result (λ _. IsTrimmed self.now.rings place) }
     {
         // What rings keep is known from here on.
         let _ = self.rings.loops();
         let readers = &self.turns[place].readers;
-        let first = self.holders.at(place).min(readers.len());
-        let later = self.wanted_among(place, &readers[first..], first, None)?;
-        self.wanted_among(place, &readers[..first], 0, later)
+        for number in self.holders.at(place)..readers.len() {
+            if self.reads_up_to(readers[number], end) {
+                return Some(number);
+            }
+        }
+        None
     }
 
-    // The earlier one of a tick and the first tick that the next turns of these readers read, the first of which has the number.
-    fn wanted_among(
-        &self,
-        place: usize,
-        readers: &[Reader],
-        from: usize,
-        before: Option<i64>,
-    ) -> Result<Option<i64>, usize>
+    // The first tick of a loop's buffer that the next turns of later loops read; none where none of them is at work and reads it.
+    fn wanted(&self, place: usize) -> Option<i64>
+        requires turns { HasTurns self.now }
         requires points { HasPoints self.now }
-        requires wanted { KeepsWanted self.now.rings place }
         requires there { place < length self.now.rings.rings }
-        requires own { AllByRecursion (IsReaderOf (length self.now.rings.inputs) self.now.rings.code.loops place) readers.now }
-        ensures wanted { IfOk result (λ first. first ≡ earlier before (wanted_by self.now.rings readers.now)) }
-        ensures held { OnErr result (IsTrimmed self.now.rings place) }
+        ensures { result ≡ wanted_at self.now.rings place }
     {
         // What rings keep is known from here on.
         let _ = self.rings.loops();
-        let mut wanted = before;
+        let mut wanted = None;
+        let readers = &self.turns[place].readers;
         for number in 0..readers.len() {
-            let next = self.next_read(readers[number]);
-            if !self.rings.lets_go(place, next) {
-                return Err(from.wrapping_add(number));
-            }
-            wanted = earlier(wanted, next);
+            wanted = earlier(wanted, self.next_read(readers[number]));
         }
-        Ok(wanted)
+        wanted
     }
 
     // The grid point of the next turn of a loop that is at work.
@@ -183,6 +185,20 @@ impl Chain {
         }
     }
 
+    // Whether a reader's next turn reads at a tick or below it.
+    #[inline]
+    fn reads_up_to(&self, reader: Reader, end: i64) -> bool
+        requires points { HasPoints self.now }
+        requires reader { IsReader self.now.rings reader }
+        ensures { result ≡ true → (tick : ℤ) × (tick ≤ℤ end)
+            × (read_next self.now.rings reader (slice_get (works_in self.now.rings) reader.place) ≡ Some tick) }
+    {
+        match self.next_read(reader) {
+            Some(tick) => tick <= end,
+            None => false,
+        }
+    }
+
     // Lets go what no next turn reads any more of the buffer of a loop whose turn was made. Where its ring held a snapshot before, that
     // one is read still, so that nothing goes.
     #[inline]
@@ -203,7 +219,8 @@ impl Chain {
         }
     }
 
-    // Lets go what no next turn reads any more of a loop's buffer.
+    // Lets go what no next turn reads any more of a loop's buffer: each reader is asked twice at most for each snapshot that goes.
+    #[inline(always)]
     fn trim(&mut self, place: usize)
         requires turns { HasTurns self.old }
         requires points { HasPoints self.old }
@@ -219,10 +236,35 @@ impl Chain {
     {
         // What rings keep is known from here on.
         let _ = self.rings.loops();
-        match self.wanted(place) {
-            Ok(first) => self.rings.keep_from(place, first),
-            Err(number) => self.holders.set(place, number),
+        let Some(end) = self.rings.first_end(place) else {
+            return;
+        };
+        match self.holder(place, end) {
+            Some(number) => self.holders.set(place, number),
+            None => self.release(place),
         }
+    }
+
+    // Lets go what no reader's next turn reads. It isn't inlined, so that `trim`, which mostly ends before it, is.
+    #[inline(never)]
+    fn release(&mut self, place: usize)
+        requires turns { HasTurns self.old }
+        requires points { HasPoints self.old }
+        requires there { place < length self.old.rings.rings }
+        requires wanted { KeepsWanted self.old.rings place }
+        ensures turns { HasTurns self.new }
+        ensures points { HasPoints self.new }
+        ensures rings { AreRings self.new.rings }
+        ensures alike { StandAlike self.old.rings self.new.rings }
+        ensures trimmed { IsTrimmed self.new.rings place }
+        ensures others { (k : ℕ) → k ≢ place → slice_get self.new.rings.rings k ≡ slice_get self.old.rings.rings k }
+        ensures kept { self.new.turns.items ≡ self.old.turns.items }
+    {
+        // What rings keep is known from here on.
+        let _ = self.rings.loops();
+        let first = self.wanted(place);
+        self.rings.keep_from(place, first);
+        self.holders.set(place, 0);
     }
 
     // The same of the buffers that a loop reads.
@@ -333,7 +375,6 @@ fn next_snap(turns: &mut LoopTurns, rings: &Rings, place: usize) -> Result<Snap,
     ensures fit { (w : Work) → IsOpen rings.now place w
         → OnOk result (IsFit (buffers_of rings.now.code rings.now.inputs) w.loop
         (turn_point w.loop (start_at rings.now place)) turns.new.state) }
-    ensures used { turns.new.used ≡ turns.old.used }
     ensures sources { turns.new.sources.items ≡ turns.old.sources.items }
     ensures readers { turns.new.readers.items ≡ turns.old.readers.items }
     ensures code { IsCode rings.now.code }

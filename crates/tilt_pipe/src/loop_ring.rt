@@ -1,8 +1,9 @@
 // The ring of one loop.
-ghost use Rattle.std.specs.Prelude.{◌≡◌, ◌<◌, ◌≤◌, ◌+◌, ◌-◌, ◌^◌, List, [], ◌∷◌, ◌++◌, drop, length};
-ghost use Rattle.std.specs.Prelude.{slice_get, Some, neg_ℤ, ◌≤ℤ◌, IfOk, OnOk, OnErr, IsTrue, ◌↔◌};
+ghost use Rattle.std.specs.Prelude.{◌≡◌, ◌<◌, ◌≤◌, ◌+◌, ◌-◌, ◌^◌, List, [], drop, length};
+ghost use Rattle.std.specs.Prelude.{slice_get, Some, neg_ℤ, ◌<ℤ◌, ◌≤ℤ◌, IfOk, OnOk, OnErr, IsTrue, ◌↔◌};
 ghost use Rattle.std.specs.Option.{ForSome};
 ghost use Rattle.tilt_base.specs.declared.limits.TheConstants.{WIDE};
+ghost use Rattle.tilt_pipe.specs.Positions.{kept_ring};
 ghost use Rattle.tilt_pipe.specs.Rings.{kept_from, let_go};
 ghost use Rattle.tilt_stream.specs.Snap.{Snapshot, InOrder, last_end};
 
@@ -11,12 +12,14 @@ use std::alloc::{AllocError as OutOfMemory, Global};
 use std::marker::Model;
 use tilt_stream::Snap;
 
-// What is kept of a loop's buffer: the snapshots in the ring, how many were let go before them, and where the next one starts.
+// What is kept of a loop's buffer: the snapshots in the ring, how many were let go before them, where the next one starts, and the
+// end of the loop's stretch.
 #[derive(Drop)]
 pub(crate) struct LoopRing {
     ring: SnapRing,
     forgotten: usize,
     start: i64,
+    hi: i64,
 }
 
 impl Model for LoopRing {
@@ -26,18 +29,19 @@ impl Model for LoopRing {
 
     ghost coded = { coded_ring };
 
-    ghost view = { λ r. record { held = r.ring; forgotten = r.forgotten; start = r.start } };
+    ghost view = { λ r. record { held = r.ring; forgotten = r.forgotten; start = r.start; hi = r.hi } };
 }
 
 impl LoopRing {
     // An empty ring of a loop that stands there.
-    pub(crate) fn new(alloc: Global, start: i64) -> Result<LoopRing, OutOfMemory>
-        ensures { IfOk result (λ r. r ≡ record { held = []; forgotten = 0; start = start }) }
+    pub(crate) fn new(alloc: Global, start: i64, hi: i64) -> Result<LoopRing, OutOfMemory>
+        ensures { IfOk result (λ r. r ≡ record { held = []; forgotten = 0; start = start; hi = hi }) }
     {
         Ok(LoopRing {
             ring: SnapRing::new(alloc)?,
             forgotten: 0,
             start,
+            hi,
         })
     }
 
@@ -47,6 +51,33 @@ impl LoopRing {
         ensures { result ≡ self.now.start }
     {
         self.start
+    }
+
+    // The end of its loop's stretch.
+    #[inline]
+    pub(crate) fn hi(&self) -> i64
+        ensures { result ≡ self.now.hi }
+    {
+        self.hi
+    }
+
+    // Whether its loop stands before the end of its stretch.
+    #[inline]
+    pub(crate) fn is_open(&self) -> bool
+        ensures { IsTrue result ↔ (self.now.start <ℤ self.now.hi) }
+    {
+        self.start < self.hi
+    }
+
+    // How many snapshots were made, and one more where its loop is before the end of its stretch.
+    #[inline]
+    pub(crate) fn made(&self) -> usize
+        requires fits { self.now.forgotten + length self.now.held < 2 ^ 63 }
+        ensures more { self.now.start <ℤ self.now.hi → result ≡ self.now.forgotten + length self.now.held + 1 }
+        ensures same { self.now.hi ≤ℤ self.now.start → result ≡ self.now.forgotten + length self.now.held }
+    {
+        let made = self.forgotten + self.ring.len();
+        if self.is_open() { made + 1 } else { made }
     }
 
     // How many snapshots were let go.
@@ -75,17 +106,22 @@ impl LoopRing {
         self.ring.get(place - self.forgotten)
     }
 
-    // Adds a snapshot that starts where the last one ends. After want of memory all is as before.
+    // Goes on by a snapshot that starts where the last one ends: it is taken in where it is read, and else it is let go at once.
+    // After want of memory all is as before.
     #[inline]
-    pub(crate) fn push(&mut self, snap: Snap) -> Result<(), OutOfMemory>
+    pub(crate) fn keep(&mut self, snap: Snap, read: bool) -> Result<(), OutOfMemory>
         requires touches { ForSome (last_end self.old.held) (λ end. end ≡ snap.start) }
         requires low { neg_ℤ WIDE ≤ℤ snap.start }
         requires high { snap.end ≤ℤ WIDE }
-        ensures ok { OnOk result (self.new ≡
-            record { held = self.old.held ++ snap ∷ []; forgotten = self.old.forgotten; start = snap.end }) }
+        requires fits { self.old.forgotten + 1 < 2 ^ 64 }
+        ensures ok { OnOk result (self.new ≡ kept_ring read self.old snap) }
         ensures err { OnErr result (self.new ≡ self.old) }
     {
-        self.ring.push(snap)?;
+        if read {
+            self.ring.push(snap)?;
+        } else {
+            self.forgotten += 1;
+        }
         self.start = snap.end;
         Ok(())
     }
@@ -96,16 +132,28 @@ impl LoopRing {
         requires { self.old.forgotten + length self.old.held < 2 ^ 64 }
         ensures { (made : List Snapshot) → InOrder (neg_ℤ WIDE) WIDE made
             → self.old.forgotten ≤ let_go first made → self.old.held ≡ drop self.old.forgotten made
-            → self.new ≡ record { held = kept_from first made; forgotten = let_go first made; start = self.old.start } }
+            → self.new ≡ record { held = kept_from first made; forgotten = let_go first made; start = self.old.start; hi = self.old.hi } }
     {
         while self.lets_go(first) {
             self.let_first_go();
         }
     }
 
+    // Where the first snapshot that is kept ends.
+    #[inline]
+    pub(crate) fn first_end(&self) -> Option<i64>
+        ensures { (made : List Snapshot) → InOrder (neg_ℤ WIDE) WIDE made → self.now.held ≡ drop self.now.forgotten made
+            → let_go result made ≤ self.now.forgotten }
+    {
+        if self.len() == 0 {
+            return None;
+        }
+        Some(self.ring.get(0).end)
+    }
+
     // Whether there is a first snapshot, and it ends below the tick, or there is no tick.
     #[inline]
-    pub(crate) fn lets_go(&self, first: Option<i64>) -> bool
+    fn lets_go(&self, first: Option<i64>) -> bool
         ensures some { IsTrue result → 0 < length self.now.held }
         ensures more { (made : List Snapshot) → InOrder (neg_ℤ WIDE) WIDE made → self.now.held ≡ drop self.now.forgotten made
             → IsTrue result ↔ (self.now.forgotten < let_go first made) }
@@ -124,7 +172,8 @@ impl LoopRing {
     fn let_first_go(&mut self)
         requires some { 0 < length self.old.held }
         requires fits { self.old.forgotten + length self.old.held < 2 ^ 64 }
-        ensures { self.new ≡ record { held = drop 1 self.old.held; forgotten = self.old.forgotten + 1; start = self.old.start } }
+        ensures { self.new ≡
+            record { held = drop 1 self.old.held; forgotten = self.old.forgotten + 1; start = self.old.start; hi = self.old.hi } }
     {
         self.ring.pop_front();
         self.forgotten += 1;

@@ -1,7 +1,7 @@
 // What an instruction reads of a buffer.
-ghost use Rattle.std.specs.Prelude.{[], ◌∷◌, ◌≡◌, MatchOption};
-ghost use Rattle.tilt_code.specs.Grammar.{IsInstr};
+ghost use Rattle.std.specs.Prelude.{ℕ, [], ◌∷◌, ◌≡◌, MatchOption};
 ghost use Rattle.tilt_pipe.specs.Reads.{reads_of};
+ghost use Rattle.tilt_turn.specs.Ready.{IsReadable};
 
 use tilt_code::Instr;
 
@@ -15,7 +15,7 @@ pub(crate) struct Read {
 
 // What an instruction reads, if it reads a buffer.
 pub(crate) fn read_of(instr: Instr) -> Option<Read>
-    requires { IsInstr instr }
+    requires { (buffers maps : ℕ) × IsReadable buffers maps instr }
     ensures { MatchOption result (reads_of instr ≡ []) (λ read. reads_of instr ≡ read ∷ []) }
 {
     match instr {

@@ -1,14 +1,15 @@
 // The buffers that the loops of a pipe read: the rows of the inputs, and a ring for each loop.
 ghost use Rattle.std.specs.Prelude.{◌≡◌, ◌<◌, ◌≤◌, ◌+◌, ℕ, ℤ, pos, neg_ℤ, ◌<ℤ◌, List, [], ◌∷◌, ◌++◌, get_or};
-ghost use Rattle.std.specs.Prelude.{length, map, slice_get, Some, true, IfOk, OnOk, OnErr, IsTrue, ◌↔◌, MatchOption};
+ghost use Rattle.std.specs.Prelude.{length, map, slice_get, Some, true, false, IfOk, OnOk, OnErr, IsTrue, ◌↔◌, MatchOption};
 ghost use Rattle.tilt_code.specs.References.{IsCode};
 ghost use Rattle.tilt_base.specs.declared.limits.TheConstants.{WIDE};
 ghost use Rattle.tilt_pipe.specs.Made.{Work};
-ghost use Rattle.tilt_pipe.specs.Positions.{AreRings, IsOpen, RingParts, forgotten_of, lists_of};
+ghost use Rattle.tilt_pipe.specs.Positions.{AreRings, IsOpen, RingParts, forgotten_of, kept_ring, lists_of};
 ghost use Rattle.tilt_pipe.specs.Positions.{made_at, made_by, open_lists, start_at, starts_of, with_ring};
 ghost use Rattle.tilt_pipe.specs.Positions.{works_in};
 ghost use Rattle.tilt_pipe.specs.Reads.{turn_point};
 ghost use Rattle.tilt_pipe.specs.Rings.{held, kept_from, let_go};
+ghost use Rattle.tilt_pipe.specs.Trimmed.{HasLetGo};
 ghost use Rattle.tilt_stream.specs.Snap.{InOrder};
 
 use crate::loop_ring::LoopRing;
@@ -64,10 +65,10 @@ impl Buffers for Rings {
     }
 
     #[inline]
-    fn get(&self, buffer: usize, place: usize) -> Snap {
+    fn at(&self, buffer: usize, place: usize) -> Option<Snap> {
         match self.inputs.get(buffer) {
-            Some(rows) => Buffer::get(rows, place),
-            None => self.ring_get(buffer - self.inputs.len(), place),
+            Some(rows) => Buffer::at(rows, place),
+            None => self.ring_at(buffer - self.inputs.len(), place),
         }
     }
 }
@@ -78,11 +79,11 @@ impl Rings {
         requires { length inputs.items ≡ length code.inputs }
         ensures code { IfOk result (λ r. r.code ≡ code) }
         ensures inputs { IfOk result (λ r. r.inputs ≡ inputs.items) }
-        ensures rings { IfOk result (λ r. r.rings ≡ map (λ l. record { held = []; forgotten = 0; start = l.lo }) code.loops) }
+        ensures rings { IfOk result (λ r. r.rings ≡ map (λ l. record { held = []; forgotten = 0; start = l.lo; hi = l.hi }) code.loops) }
     {
         let mut rings = Vec::new(alloc);
         for each in code.loops() {
-            rings.push(LoopRing::new(alloc, each.lo)?)?;
+            rings.push(LoopRing::new(alloc, each.lo, each.hi)?)?;
         }
         Ok(Rings {
             code,
@@ -123,8 +124,9 @@ impl Rings {
         requires { place < length self.now.rings }
         ensures { (w : Work) → slice_get (works_in self.now) place ≡ Some w → IsTrue result ↔ (start_at self.now place <ℤ w.loop.hi) }
     {
-        let each = &self.code.loops()[place];
-        self.start(place) < each.hi
+        // What a code keeps is known from here on.
+        let _ = self.code.loops();
+        self.rings[place].is_open()
     }
 
     // The grid point of a loop's next turn.
@@ -145,16 +147,18 @@ impl Rings {
         (buffer as usize).checked_sub(self.inputs.len())
     }
 
-    // Adds a snapshot to what a loop has made: the one of its buffer that starts where it stands.
-    pub(crate) fn push(&mut self, place: usize, snap: Snap) -> Result<(), OutOfMemory>
-        requires { (w : Work) × IsOpen self.old place w × (slice_get w.whole (length (made_at self.old place w)) ≡ Some snap) }
-        ensures ok { (r : RingParts) → slice_get self.old.rings place ≡ Some r → OnOk result (self.new ≡ with_ring self.old place
-            (record { held = r.held ++ snap ∷ []; forgotten = r.forgotten; start = snap.end })) }
+    // Adds a snapshot to what a loop has made: the one of its buffer that starts where it stands. Where no later loop reads it, the
+    // ring holds none, and takes none in.
+    pub(crate) fn keep(&mut self, place: usize, snap: Snap, read: bool) -> Result<(), OutOfMemory>
+        requires next { (w : Work) × IsOpen self.old place w × (slice_get w.whole (length (made_at self.old place w)) ≡ Some snap) }
+        requires none { read ≡ false → (r : RingParts) → slice_get self.old.rings place ≡ Some r → r.held ≡ [] }
+        ensures ok { (r : RingParts) → slice_get self.old.rings place ≡ Some r
+            → OnOk result (self.new ≡ with_ring self.old place (kept_ring read r snap)) }
         ensures err { OnErr result (self.new ≡ self.old) }
     {
         // What a code keeps is known from here on.
         let _ = self.code.loops();
-        self.rings[place].push(snap)?;
+        self.rings[place].keep(snap, read)?;
         Ok(())
     }
 
@@ -167,16 +171,15 @@ impl Rings {
         self.rings[place].len() > 0
     }
 
-    // Whether a loop's ring holds a snapshot that ends below a tick, or any where there is no tick.
+    // Where the first snapshot ends that a loop's ring holds: what ended before is let go.
     #[inline]
-    pub(crate) fn lets_go(&self, place: usize, first: Option<i64>) -> bool
+    pub(crate) fn first_end(&self, place: usize) -> Option<i64>
         requires { place < length self.now.rings }
-        ensures { (w : Work) (r : RingParts) → slice_get (works_in self.now) place ≡ Some w → slice_get self.now.rings place ≡ Some r
-            → IsTrue result ↔ (r.forgotten < let_go first (made_by r.start w.whole)) }
+        ensures { HasLetGo self.now place result }
     {
         // What a code keeps is known from here on.
         let _ = self.code.loops();
-        self.rings[place].lets_go(first)
+        self.rings[place].first_end()
     }
 
     // Lets go what a loop has made and ends below a tick, and all of it where there is no tick. It may have let go less before.
@@ -188,6 +191,7 @@ impl Rings {
           held = kept_from first (made_at self.old place w);
           forgotten = let_go first (made_at self.old place w);
           start = start_at self.old place;
+          hi = w.loop.hi;
         }) }
     {
         // What a code keeps is known from here on.
@@ -212,12 +216,26 @@ impl Rings {
         ensures count { result ≡ length (get_or (open_lists (works_in self.now) (starts_of self.now.rings)) place []) }
         ensures in_order { InOrder (neg_ℤ WIDE) WIDE (get_or (open_lists (works_in self.now) (starts_of self.now.rings)) place []) }
     {
-        if place >= self.code.loops().len() {
+        // What a code keeps is known from here on.
+        let _ = self.code.loops();
+        if place >= self.rings.len() {
             return 0;
         }
-        let ring = &self.rings[place];
-        let made = ring.forgotten() + ring.len();
-        if self.is_open(place) { made + 1 } else { made }
+        self.rings[place].made()
+    }
+
+    // The one at a place of these, or none.
+    #[inline]
+    fn ring_at(&self, place: usize, number: usize) -> Option<Snap>
+        requires kept { get_or (map (λ r. r.forgotten) self.now.rings) place 0 ≤ number }
+        ensures snap { result ≡ slice_get (get_or (open_lists (works_in self.now) (starts_of self.now.rings)) place []) number }
+        ensures in_order { InOrder (neg_ℤ WIDE) WIDE (get_or (open_lists (works_in self.now) (starts_of self.now.rings)) place []) }
+    {
+        if number < self.ring_made(place) {
+            Some(self.ring_get(place, number))
+        } else {
+            None
+        }
     }
 
     // The one at a place of these.
@@ -228,14 +246,15 @@ impl Rings {
         ensures snap { slice_get (get_or (open_lists (works_in self.now) (starts_of self.now.rings)) place []) number ≡ Some result }
         ensures in_order { InOrder (neg_ℤ WIDE) WIDE (get_or (open_lists (works_in self.now) (starts_of self.now.rings)) place []) }
     {
-        let each = &self.code.loops()[place];
+        // What a code keeps is known from here on.
+        let _ = self.code.loops();
         let ring = &self.rings[place];
         if number < ring.forgotten() + ring.len() {
             ring.get(number)
         } else {
             Snap {
                 start: ring.start(),
-                end: each.hi,
+                end: ring.hi(),
                 value: None,
             }
         }

@@ -1,10 +1,13 @@
 // The earlier loops that a loop reads.
-ghost use Rattle.std.specs.Prelude.{◌≡◌, ◌<◌, ◌+◌, ℕ, [], ◌∷◌, true, List, length, slice_get, Some, IfOk, OnOk};
+ghost use Rattle.std.specs.Prelude.{◌≡◌, ◌<◌, ◌+◌, ℕ, ◌∷◌, ◌++◌, true, List, length, slice_get, Some, IfOk, OnOk};
 ghost use Rattle.std.specs.Int.{int_max, int_min};
-ghost use Rattle.std.specs.List.{AllByRecursion, Contains};
+ghost use Rattle.std.specs.List.{AllByRecursion};
+ghost use Rattle.tilt_pipe.specs.Made.{Work};
+ghost use Rattle.tilt_pipe.specs.Positions.{works_in};
 ghost use Rattle.tilt_pipe.specs.Reads.{body_reads, reads_of};
-ghost use Rattle.tilt_pipe.specs.Sources.{AreAdded, AreSources, IsRead, IsSource};
-ghost use Rattle.tilt_pipe.specs.Trimmed.{ReadsNear};
+ghost use Rattle.tilt_pipe.specs.Sources.{AreSources};
+ghost use Rattle.tilt_turn.specs.Ready.{IsReadable};
+ghost use Rattle.tilt_pipe.specs.declared.read.Read.{Read};
 
 use crate::hints::Hints;
 use crate::read::{Read, read_of};
@@ -21,19 +24,34 @@ pub(crate) struct Source {
     pub(crate) last: i64,
 }
 
-// The earlier loops that a body reads, each once. The numbers say where in the list a loop stands, where it does.
+// The earlier loops that a loop reads, each once. The numbers say where in the list a loop stands, where it does.
 pub(crate) fn sources_of(
+    alloc: Global,
+    rings: &Rings,
+    place: usize,
+    numbers: &mut Hints,
+) -> Result<Vec<Source>, OutOfMemory>
+    requires { place < length rings.now.code.loops }
+    ensures { (w : Work) → slice_get (works_in rings.now) place ≡ Some w
+        → IfOk result (λ sources. AreSources (length rings.now.inputs) (body_reads w.loop.body) sources.items) }
+{
+    let each = &rings.loops()[place];
+    body_sources(alloc, rings, &each.body, numbers)
+}
+
+// The same of a body; what its last instruction reads comes first.
+fn body_sources(
     alloc: Global,
     rings: &Rings,
     body: &[Instr],
     numbers: &mut Hints,
 ) -> Result<Vec<Source>, OutOfMemory>
-    requires { (buffers : ℕ) × AllByRecursion (ReadsNear buffers) body.now }
+    requires { (buffers maps : ℕ) × AllByRecursion (IsReadable buffers maps) body.now }
     ensures { IfOk result (λ sources. AreSources (length rings.now.inputs) (body_reads body.now) sources.items) }
 {
     let mut sources = Vec::new(alloc);
-    for instr in body {
-        add_instr(&mut sources, rings, *instr, numbers)?;
+    for number in (0..body.len()).rev() {
+        add_instr(&mut sources, rings, body[number], numbers)?;
     }
     Ok(sources)
 }
@@ -45,15 +63,17 @@ fn add_instr(
     instr: Instr,
     numbers: &mut Hints,
 ) -> Result<(), OutOfMemory>
-    requires { (buffers : ℕ) × ReadsNear buffers instr }
-    ensures { OnOk result (AreAdded (length rings.now.inputs) (reads_of instr) sources.old.items sources.new.items) }
+    requires { (buffers maps : ℕ) × IsReadable buffers maps instr }
+    ensures { (reads : List Read) → AreSources (length rings.now.inputs) reads sources.old.items
+        → OnOk result (AreSources (length rings.now.inputs) (reads_of instr ++ reads) sources.new.items) }
 {
-    if let Some(read) = read_of(instr)
-        && let Some(place) = rings.source(read.buffer)
-    {
-        add_read(sources, place, read, numbers)?;
-    }
-    Ok(())
+    let Some(read) = read_of(instr) else {
+        return Ok(());
+    };
+    let Some(place) = rings.source(read.buffer) else {
+        return Ok(());
+    };
+    add_read(sources, place, read, numbers)
 }
 
 // Adds a read of the buffer of a loop.
@@ -63,8 +83,8 @@ fn add_read(
     read: Read,
     numbers: &mut Hints,
 ) -> Result<(), OutOfMemory>
-    ensures { (inputs : ℕ) → read.buffer ≡ inputs + place
-        → OnOk result (AreAdded inputs (read ∷ []) sources.old.items sources.new.items) }
+    ensures { (inputs : ℕ) (reads : List Read) → read.buffer ≡ inputs + place → AreSources inputs reads sources.old.items
+        → OnOk result (AreSources inputs (read ∷ reads) sources.new.items) }
 {
     let number = numbers.at(place);
     if is_source(sources, number, place) {

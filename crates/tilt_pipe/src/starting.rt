@@ -1,12 +1,12 @@
 // The loops of a pipe before their first turns.
-ghost use Rattle.std.specs.Prelude.{◌≡◌, ◌<◌, ◌||◌, ◌==◌, ℕ, suc, [], get_or, length, map, slice_get, Some, IfOk, OnOk};
-ghost use Rattle.std.specs.List.{AllByRecursion};
+ghost use Rattle.std.specs.Prelude.{◌≡◌, ◌<◌, ◌≤◌, ℕ, suc, length, map, slice_get, Some, IfOk, OnOk};
 ghost use Rattle.tilt_code.specs.References.{IsCode};
-ghost use Rattle.tilt_pipe.specs.Chain.{ArePoints, AreTurns, IsChain};
-ghost use Rattle.tilt_pipe.specs.Gathered.{AreRead, HaveBegun, has_used, readers_of, used_of, AreKept};
+ghost use Rattle.tilt_pipe.specs.Chain.{ArePoints, IsChain};
+ghost use Rattle.tilt_pipe.specs.Gathered.{AreEach, HasAdded, HasBegun, HaveBegun};
 ghost use Rattle.tilt_pipe.specs.Made.{Work};
-ghost use Rattle.tilt_pipe.specs.Positions.{AreRings, RingsParts, starts_of, works_in};
-ghost use Rattle.tilt_pipe.specs.declared.chain.LoopTurns.{LoopTurns};
+ghost use Rattle.tilt_pipe.specs.Positions.{starts_of, works_in};
+ghost use Rattle.tilt_pipe.specs.Reads.{body_reads};
+ghost use Rattle.tilt_pipe.specs.Sources.{AreSources};
 
 use crate::chain::{Chain, LoopTurns, Reader, next_point};
 use crate::hints::Hints;
@@ -31,8 +31,8 @@ impl Chain {
         let count = rings.loops().len();
         let mut shorts = Hints::new(alloc, count)?;
         let holders = Hints::new(alloc, count)?;
-        let mut turns = first_turns(alloc, &rings, &mut shorts)?;
-        mark_used(&mut turns);
+        let mut turns = first_turns(alloc, &rings)?;
+        find_sources(alloc, &rings, &mut turns, &mut shorts)?;
         let points = first_points(alloc, &rings, &turns)?;
         Ok(Chain {
             rings,
@@ -44,52 +44,85 @@ impl Chain {
     }
 }
 
-// What is kept for the turns of loops before the first ones, as if no loop was used. The numbers are for `sources_of`.
-fn first_turns(
-    alloc: Global,
-    rings: &Rings,
-    numbers: &mut Hints,
-) -> Result<Vec<LoopTurns>, OutOfMemory>
-    ensures begun { IfOk result (λ turns. HaveBegun rings.now (length rings.now.code.loops) turns.items) }
-    ensures code { IsCode rings.now.code }
-    ensures rings { AreRings rings.now }
+// What is kept for the turns of loops before the first ones, as if no loop read another.
+fn first_turns(alloc: Global, rings: &Rings) -> Result<Vec<LoopTurns>, OutOfMemory>
+    ensures { IfOk result (λ turns. HaveBegun rings.now (length rings.now.code.loops) turns.items) }
 {
     let mut turns = Vec::new(alloc);
     for place in 0..rings.loops().len() {
-        add_turns(alloc, rings, place, &mut turns, numbers)?;
+        turns.push(new_turns(alloc, rings, place)?)?;
     }
     Ok(turns)
 }
 
-// Adds those of one loop more.
-fn add_turns(
-    alloc: Global,
-    rings: &Rings,
-    place: usize,
-    turns: &mut Vec<LoopTurns>,
-    numbers: &mut Hints,
-) -> Result<(), OutOfMemory>
-    requires there { place < length rings.now.code.loops }
-    requires begun { HaveBegun rings.now place turns.old.items }
-    ensures { OnOk result (HaveBegun rings.now (suc place) turns.new.items) }
+// The same of one loop.
+fn new_turns(alloc: Global, rings: &Rings, place: usize) -> Result<LoopTurns, OutOfMemory>
+    requires { place < length rings.now.code.loops }
+    ensures { IfOk result (λ turns. (w : Work) → slice_get (works_in rings.now) place ≡ Some w
+        → HasBegun rings.now (length rings.now.code.loops) place w turns) }
 {
     let each = &rings.loops()[place];
-    let sources = sources_of(alloc, rings, &each.body, numbers)?;
-    add_readers(turns, place, &sources)?;
-    turns.push(LoopTurns {
+    Ok(LoopTurns {
         state: LoopState::new(alloc, each)?,
-        used: false,
-        sources,
+        sources: Vec::new(alloc),
         readers: Vec::new(alloc),
-    })?;
+    })
+}
+
+// Finds the earlier loops that each loop reads, from the last loop down: so each is known to be used or not before it is added to the
+// readers of others. The numbers are for `sources_of`.
+fn find_sources(
+    alloc: Global,
+    rings: &Rings,
+    turns: &mut [LoopTurns],
+    numbers: &mut Hints,
+) -> Result<(), OutOfMemory>
+    requires { HaveBegun rings.now (length rings.now.code.loops) turns.old }
+    ensures { OnOk result (HaveBegun rings.now 0 turns.new) }
+{
+    for place in (0..rings.loops().len()).rev() {
+        find_own(alloc, rings, turns, place, numbers)?;
+    }
     Ok(())
 }
 
-// Adds a loop to the readers of those that it reads.
-fn add_readers(turns: &mut [LoopTurns], place: usize, sources: &[Source]) -> Result<(), OutOfMemory>
-    requires { AllByRecursion (λ s. s.place < length turns.old) sources.now }
-    ensures { OnOk result (AreRead place sources.now turns.old turns.new) }
+// The same of one loop.
+fn find_own(
+    alloc: Global,
+    rings: &Rings,
+    turns: &mut [LoopTurns],
+    place: usize,
+    numbers: &mut Hints,
+) -> Result<(), OutOfMemory>
+    requires there { place < length rings.now.code.loops }
+    requires begun { HaveBegun rings.now (suc place) turns.old }
+    ensures { OnOk result (HaveBegun rings.now place turns.new) }
 {
+    let sources = sources_of(alloc, rings, place, numbers)?;
+    add_readers(rings, turns, place, &sources)?;
+    turns[place].sources = sources;
+    Ok(())
+}
+
+// Adds a loop to the readers of those that it reads, if it is used.
+fn add_readers(
+    rings: &Rings,
+    turns: &mut [LoopTurns],
+    place: usize,
+    sources: &[Source],
+) -> Result<(), OutOfMemory>
+    requires there { place < length rings.now.code.loops }
+    requires begun { HaveBegun rings.now (suc place) turns.old }
+    requires reads { (w : Work) → slice_get (works_in rings.now) place ≡ Some w
+        → AreSources (length rings.now.inputs) (body_reads w.loop.body) sources.now }
+    ensures { OnOk result (AreEach rings.now (length rings.now.code.loops)
+        (HasAdded rings.now place sources.now (length sources.now)) turns.new) }
+{
+    // What rings keep is known from here on.
+    let _ = rings.loops();
+    if !is_used(rings, place, &turns[place]) {
+        return Ok(());
+    }
     for source in sources {
         turns[source.place].readers.push(reader_of(place, *source))?;
     }
@@ -106,17 +139,14 @@ fn reader_of(place: usize, source: Source) -> Reader
     }
 }
 
-// Says of each loop whether it is used, from the last one down.
-fn mark_used(turns: &mut [LoopTurns])
-    requires { (p : RingsParts) × IsCode p.code × AreRings p × HaveBegun p (length p.code.loops) turns.old }
-    ensures used { (p : RingsParts) → IsCode p.code → AreRings p → HaveBegun p (length p.code.loops) turns.old
-        → (k : ℕ) (w : Work) (t : LoopTurns) → slice_get (works_in p) k ≡ Some w → slice_get turns.new k ≡ Some t → t.used ≡ w.used }
-    ensures kept { AreKept turns.old turns.new }
+// Whether a loop is used: it is the last one, or has a reader. All later loops have said what they read.
+fn is_used(rings: &Rings, place: usize, turns: &LoopTurns) -> bool
+    requires there { place < length rings.now.code.loops }
+    requires begun { (from : ℕ) × (from ≤ suc place)
+        × ((w : Work) → slice_get (works_in rings.now) place ≡ Some w → HasBegun rings.now from place w turns.now) }
+    ensures { (w : Work) → slice_get (works_in rings.now) place ≡ Some w → w.used ≡ result }
 {
-    for place in (0..turns.len()).rev() {
-        let used = is_used(turns, place);
-        turns[place].used = used;
-    }
+    rings.loops().len() == place + 1 || !turns.readers.is_empty()
 }
 
 // The grid points of the first turns of the loops that are used, and stand before the ends of their stretches.
@@ -125,34 +155,13 @@ fn first_points(
     rings: &Rings,
     turns: &[LoopTurns],
 ) -> Result<Vec<Option<i64>>, OutOfMemory>
-    requires { AreTurns rings.now.code rings.now.inputs (starts_of rings.now.rings) turns.now }
+    requires { HaveBegun rings.now 0 turns.now }
     ensures { IfOk result (λ points. ArePoints rings.now points.items) }
 {
     let mut points = Vec::new(alloc);
-    for place in 0..turns.len() {
-        points.push(next_point(rings, place, turns[place].used))?;
+    for place in 0..rings.loops().len() {
+        let used = is_used(rings, place, &turns[place]);
+        points.push(next_point(rings, place, used))?;
     }
     Ok(points)
-}
-
-// Whether a loop is the last one, or one of its readers is used.
-fn is_used(turns: &[LoopTurns], place: usize) -> bool
-    requires there { place < length turns.now }
-    requires readers { AllByRecursion (λ reader. reader.place < length turns.now) (get_or (readers_of turns.now) place []) }
-    ensures { result ≡ ((suc place == length turns.now) || has_used (used_of turns.now) (get_or (readers_of turns.now) place [])) }
-{
-    place + 1 == turns.len() || has_used(turns, &turns[place].readers)
-}
-
-// Whether one of these readers is used.
-fn has_used(turns: &[LoopTurns], readers: &[Reader]) -> bool
-    requires { AllByRecursion (λ reader. reader.place < length turns.now) readers.now }
-    ensures { result ≡ has_used (used_of turns.now) readers.now }
-{
-    for reader in readers {
-        if turns[reader.place].used {
-            return true;
-        }
-    }
-    false
 }

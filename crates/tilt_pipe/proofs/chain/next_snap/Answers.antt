@@ -74,7 +74,6 @@ returns c =
           (subst (λ (t : ℤ). IsFit (lists_of p) w.loop (ceil w.loop.grid (t +ℤ pos 1)) c.turn.new.self) start
           (subst (λ (x : LoopParts). IsFit (lists_of p) x (ceil x.grid (to_z w64 (of_z w64 c.start-start.result) +ℤ pos 1)) c.turn.new.self) loop fit)))
           c.turn.ensures.fit);
-      used = refl;
       sources = refl;
       readers = refl;
       code = c.loops.ensures.code;

@@ -1,41 +1,42 @@
-use Rattle.std.proofs.Common.{◌≡◌, ◌∙◌, suc, sym, ap, arith, take}
+use Rattle.std.proofs.Common.{◌≡◌, ◌∙◌, suc, sym, ap, arith, take, slice_get, Some}
 use Rattle.tilt_code.specs.Run.{run_of}
 use Rattle.std.proofs.lemmas.Option.{slice_get_within}
 use Rattle.tilt_pipe.proofs.Collected.{given-out, next-touches, next-low, next-high, with-next, nothing-left}
 use Rattle.tilt_pipe.specs.Value.{PipeParts}
 use Rattle.tilt_pipe.proofs.run.run_pipe.Goals as goal
+use Rattle.tilt_pipe.proofs.run.run_pipe.Goals.{In-Some}
 
-pub push-requires-clause-touches : goal.push-requires-clause-touches
-push-requires-clause-touches c =
+next : (c : In-Some) → slice_get (run_of c.args.code c.args.inputs.items) c.loop-list.pipe.given ≡ Some c.in-Some.snap
+next c =
     let i = c.loop-list.invariant in
-    let next = given-out c.loop-list.pipe c.args.code c.args.inputs.items c.in_ok-snap.field-0 i.code i.inputs (c.in_ok-snap.ensures.given i.granted) in
-    next-touches c.args.code c.args.inputs.items c.loop-list.list c.loop-list.pipe.given c.in-Some.snap i.is i.taken (next ∙ c.in-Some.is)
+    given-out c.loop-list.pipe c.args.code c.args.inputs.items c.in_ok-snap.field-0 i.code i.inputs (c.in_ok-snap.ensures.given i.granted)
+    ∙ c.in-Some.is
 
-pub push-requires-clause-low : goal.push-requires-clause-low
-push-requires-clause-low c =
+pub push-requires : goal.push-requires
+push-requires c =
     let i = c.loop-list.invariant in
-    let next = given-out c.loop-list.pipe c.args.code c.args.inputs.items c.in_ok-snap.field-0 i.code i.inputs (c.in_ok-snap.ensures.given i.granted) in
-    next-low c.args.code c.args.inputs.items c.loop-list.list c.loop-list.pipe.given c.in-Some.snap i.is i.taken (next ∙ c.in-Some.is)
-
-pub push-requires-clause-high : goal.push-requires-clause-high
-push-requires-clause-high c =
-    let i = c.loop-list.invariant in
-    let next = given-out c.loop-list.pipe c.args.code c.args.inputs.items c.in_ok-snap.field-0 i.code i.inputs (c.in_ok-snap.ensures.given i.granted) in
-    next-high c.args.code c.args.inputs.items c.loop-list.list c.loop-list.pipe.given c.in-Some.snap i.is i.taken (next ∙ c.in-Some.is)
+    let code = c.args.code in
+    let inputs = c.args.inputs.items in
+    let given = c.loop-list.pipe.given in
+    let next_is = next (goal.at.push-requires c).In-Some in
+    record {
+      touches = next-touches code inputs c.loop-list.list given c.in-Some.snap i.is i.taken next_is;
+      low = next-low code inputs c.loop-list.list given c.in-Some.snap i.is i.taken next_is;
+      high = next-high code inputs c.loop-list.list given c.in-Some.snap i.is i.taken next_is;
+    }
 
 pub loop-list-smaller : goal.loop-list-smaller
 loop-list-smaller c =
-    let i = c.loop-list.invariant in
-    let next = given-out c.loop-list.pipe c.args.code c.args.inputs.items c.in_ok-snap.field-0 i.code i.inputs (c.in_ok-snap.ensures.given i.granted) in
-    let within = slice_get_within (run_of c.args.code c.args.inputs.items) c.loop-list.pipe.given c.in-Some.snap (next ∙ c.in-Some.is) in
-    let after = rw c.in-Some.is at (c.in_ok-snap.ensures.after i.granted) in
+    let next_is = next (goal.at.loop-list-smaller c).In-Some in
+    let within = slice_get_within (run_of c.args.code c.args.inputs.items) c.loop-list.pipe.given c.in-Some.snap next_is in
+    let after = rw c.in-Some.is at (c.in_ok-snap.ensures.after c.loop-list.invariant.granted) in
     let one_more : c.next.new.self.given ≡ suc c.loop-list.pipe.given = ap (λ (p : PipeParts). p.given) after in
     omega arith
 
 pub loop-list-preserved : goal.loop-list-preserved
 loop-list-preserved c =
     let i = c.loop-list.invariant in
-    let next = given-out c.loop-list.pipe c.args.code c.args.inputs.items c.in_ok-snap.field-0 i.code i.inputs (c.in_ok-snap.ensures.given i.granted) in
+    let next_is = next (goal.at.loop-list-preserved c).In-Some in
     let after = rw c.in-Some.is at (c.in_ok-snap.ensures.after i.granted) in
     record {
       is = i.is;
@@ -43,7 +44,7 @@ loop-list-preserved c =
       code = ap (λ (p : PipeParts). p.code) after ∙ i.code;
       inputs = ap (λ (p : PipeParts). p.inputs) after ∙ i.inputs;
       taken = c.in_ok-push.ensures.ok
-          ∙ with-next c.args.code c.args.inputs.items c.loop-list.list c.loop-list.pipe.given c.in-Some.snap i.is i.taken (next ∙ c.in-Some.is)
+          ∙ with-next c.args.code c.args.inputs.items c.loop-list.list c.loop-list.pipe.given c.in-Some.snap i.is i.taken next_is
           ∙ ap (λ (p : PipeParts). take p.given (run_of c.args.code c.args.inputs.items)) (sym after);
     }
 

@@ -1,30 +1,26 @@
-use Rattle.std.proofs.Common.{inl, inr, ℕ, pos, get_or, Contains, subst, arith}
-use Rattle.std.proofs.lemmas.Bool.{cases_eq}
-use Rattle.tilt_code.specs.declared.instr.Instr.TheVariants.{Const}
-use Rattle.tilt_pipe.proofs.Telling.{among-body, read-found}
-use Rattle.tilt_pipe.specs.Reads.{body_reads, reads_of}
+use Rattle.std.proofs.Common.{◌≡◌, ◌+◌, ◌∙◌, length, ap}
+use Rattle.tilt_code.specs.Code.{LoopParts}
+use Rattle.tilt_pipe.proofs.Nears.{work-ready}
+use Rattle.tilt_pipe.proofs.RingsKept.{loop-is}
+use Rattle.tilt_pipe.proofs.Starts.{work-there}
 use Rattle.tilt_pipe.proofs.sources.sources_of.Goals as goal
 
-pub loop-instr-preserved : goal.loop-instr-preserved
-loop-instr-preserved c =
-    let body = c.args.body.now in
-    let i = c.loop-instr.instr-index in
-    let added = c.in_ok-add_instr.ensures in
-    record {
-      each = added.each (body_reads body) (λ r among. among-body body i (Const (pos 0)) r c.loop-instr-test.true among) c.loop-instr.invariant.each;
-      all = λ k r below among some.
-          elim (cases_eq k i) [
-            | inl same ↦ added.found r (subst (λ (n : ℕ). Contains (reads_of (get_or body n (Const (pos 0)))) r) same among) some
-            | inr other ↦ added.kept r (c.loop-instr.invariant.all k r (omega arith) among some)
-          ];
-    }
+pub body_sources-requires : goal.body_sources-requires
+body_sources-requires c =
+    let p = c.args.rings.now in
+    let l = c.index-loops-place.result in
+    let w = work-there p c.args.place c.requires in
+    let same = loop-is p c.args.place w.0 c.loops.result.now l w.1 c.loops.ensures.loops c.index-loops-place.is in
+    let body : c.deref.result.now ≡ w.0.loop.body = c.deref.ensures.value ∙ ap (λ (x : LoopParts). x.body) (c.each.view_is ∙ same) in (
+      length p.inputs + c.args.place,
+      length w.0.loop.maps,
+      rw body (work-ready p c.args.place w.0 c.loops.ensures.code c.loops.ensures.rings w.1).leaves,
+    )
 
 pub returns : goal.returns
-returns c = record {
-  each = c.loop-instr.invariant.each;
-  all = λ r among some.
-      let it = read-found c.args.body.now r (Const (pos 0)) among in
-      let within = it.1 in
-      let past = c.loop-instr-test.false in
-      c.loop-instr.invariant.all it.0 r (omega arith) it.2 some;
-}
+returns c = λ w is.
+    let p = c.args.rings.now in
+    let l = c.index-loops-place.result in
+    let same = loop-is p c.args.place w c.loops.result.now l is c.loops.ensures.loops c.index-loops-place.is in
+    let body : c.deref.result.now ≡ w.loop.body = c.deref.ensures.value ∙ ap (λ (x : LoopParts). x.body) (c.each.view_is ∙ same) in
+    rw (← body) c.body_sources.ensures

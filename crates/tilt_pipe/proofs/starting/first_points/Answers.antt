@@ -1,18 +1,38 @@
-use Rattle.std.proofs.Common.{◌≤◌, length, sym, subst, arith, rules}
-use Rattle.std.proofs.lemmas.Option.{slice_get_within}
-use Rattle.tilt_pipe.proofs.Points.{ArePointsOf, points-none}
+use Rattle.std.proofs.Common.{length, refl, ap, arith, add-one}
+use Rattle.std.proofs.lemmas.Option.{slice_get_read, slice_get_within}
+use Rattle.tilt_pipe.proofs.Points.{points-more}
+use Rattle.tilt_pipe.proofs.RingsKept.{loops-there}
 use Rattle.tilt_pipe.proofs.Works.{works-length}
 use Rattle.tilt_pipe.specs.Positions.{works_in}
 use Rattle.tilt_pipe.proofs.starting.first_points.Goals as goal
 
-pub loop-place-init : goal.loop-place-init
-loop-place-init c = subst (ArePointsOf c.args.rings.now 0) (sym c.new-points.ensures.items) (points-none c.args.rings.now)
+pub is_used-used-requires-clause-begun : goal.is_used-used-requires-clause-begun
+is_used-used-requires-clause-begun c =
+    let turns = c.args.turns.now in
+    let place = c.loop-place.place in
+    let loops = ap length c.loops-place-end.ensures.loops in (
+      0,
+      omega arith,
+      λ w of. c.requires.each place w c.index-turns-place.result of
+          (slice_get_read turns (length turns) place c.index-turns-place.result refl (omega arith) c.index-turns-place.is),
+    )
+
+pub next_point-requires : goal.next_point-requires
+next_point-requires c =
+    let long = loops-there c.args.rings.now c.loops-place-end.ensures.rings in
+    let loops = ap length c.loops-place-end.ensures.loops in
+    omega arith
+
+pub loop-place-preserved : goal.loop-place-preserved
+loop-place-preserved c =
+    rw (add-one, c.in_ok-push.ensures.items)
+    (points-more c.args.rings.now c.loop-place.place c.loop-place.points.items c.next_point.result c.loop-place.invariant
+    (λ w of. c.next_point.ensures w of (c.is_used-used.ensures w of)))
 
 pub returns : goal.returns
 returns c = λ k w of.
     let p = c.args.rings.now in
-    let many = c.requires.many in
+    let loops = ap length c.loops-place-end.ensures.loops in
     let count = works-length p.code p.inputs in
     let within = slice_get_within (works_in p) k w of in
-    let past : length c.args.turns.now ≤ c.loop-place.place = search rules in
     c.loop-place.invariant.each k w (omega arith) of

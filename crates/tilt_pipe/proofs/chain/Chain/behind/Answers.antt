@@ -4,7 +4,7 @@ use Rattle.std.proofs.lemmas.Int.{to_z-of_z}
 use Rattle.std.proofs.lemmas.Option.{get_or_from_slice_get, slice_get_within}
 use Rattle.tilt_pipe.proofs.Nears.{turn-near}
 use Rattle.tilt_pipe.proofs.RingsKept.{placed}
-use Rattle.tilt_pipe.proofs.Short.{source-behind, sources-near, sources-told}
+use Rattle.tilt_pipe.proofs.Covered.{source-behind, sources-near, sources-told}
 use Rattle.tilt_pipe.proofs.Turning.{has-many, own-turns}
 use Rattle.tilt_pipe.specs.Chain.{IsBehind, IsLate}
 use Rattle.tilt_pipe.specs.Positions.{start_at}

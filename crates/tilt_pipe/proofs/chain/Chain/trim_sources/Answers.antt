@@ -5,8 +5,7 @@ use Rattle.std.proofs.lemmas.Option.{same_Some, slice_get_read, slice_get_within
 use Rattle.tilt_base.proofs.Booleans.{by_test}
 use Rattle.tilt_base.proofs.Lists.{all-slice_get}
 use Rattle.tilt_code.specs.References.{IsCode}
-use Rattle.tilt_pipe.proofs.Covered.{at-contains, one-read}
-use Rattle.tilt_pipe.proofs.Short.{source-near}
+use Rattle.tilt_pipe.proofs.Covered.{at-contains, one-read, source-near}
 use Rattle.tilt_pipe.proofs.Trimming.{alike-both, alike-long, there-at, trimmed-too, wanted-too}
 use Rattle.tilt_pipe.proofs.Turning.{found-turns}
 use Rattle.tilt_pipe.specs.Chain.{AreTurns}

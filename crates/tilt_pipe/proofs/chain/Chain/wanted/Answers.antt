@@ -1,14 +1,11 @@
--- What the readers after the hint want, and what those before it do, is what all do.
-use Rattle.std.proofs.Common.{◌≡◌, ◌-◌, ◌∙◌, ℕ, ℤ, List, drop, take, length, Option, Result, Ok, Err, IfOk, sym, ap, subst, arith, rules}
-use Rattle.std.specs.List.{AllByRecursion}
-use Rattle.std.proofs.lemmas.List.{length-drop, take-append-drop, take_all}
-use Rattle.tilt_base.proofs.Lists.{all-parts}
+-- What is wanted is worked out reader by reader.
+use Rattle.std.proofs.Common.{◌≡◌, ◌<◌, ◌≤◌, ◌+◌, ◌∙◌, ℕ, ℤ, List, ◌∷◌, drop, length, get_or, slice_get, Option, refl, sym, ap, rules}
+use Rattle.std.proofs.lemmas.List.{drop_all, drop_more}
 use Rattle.tilt_pipe.proofs.Turning.{own-readers, turns-within}
-use Rattle.tilt_pipe.proofs.Wanting.{wanted_by-is, wanted_by-round}
-use Rattle.tilt_pipe.specs.Positions.{RingsParts}
+use Rattle.tilt_pipe.proofs.Wanting.{earlier-assoc, earlier-none, own-near, wanted_by-is}
+use Rattle.tilt_pipe.specs.Positions.{RingsParts, works_in}
 use Rattle.tilt_pipe.specs.Reads.{earlier}
-use Rattle.tilt_pipe.specs.Sources.{IsReaderOf}
-use Rattle.tilt_pipe.specs.Trimmed.{wanted_at, wanted_by}
+use Rattle.tilt_pipe.specs.Trimmed.{read_next, wanted_by}
 use Rattle.tilt_pipe.specs.declared.chain.Reader.{Reader}
 use Rattle.tilt_pipe.proofs.chain.Chain.wanted.Goals as goal
 
@@ -17,47 +14,43 @@ index-requires c =
     let within = turns-within c.args.self.now.rings c.args.self.now.turns.items c.args.place c.requires.turns c.requires.there in
     search rules
 
--- all of a list from a place on
-rest-is : (readers : List Reader) (first : ℕ) → take (length readers - first) (drop first readers) ≡ drop first readers
-rest-is readers first =
-    let long = length-drop first readers in
-    take_all (length readers - first) (drop first readers) (omega arith)
+pub loop-number-init : goal.loop-number-init
+loop-number-init c = refl
 
-parted : (p : RingsParts) (place first : ℕ) (readers : List Reader)
-    → AllByRecursion (IsReaderOf (length p.inputs) p.code.loops place) readers
-    → AllByRecursion (IsReaderOf (length p.inputs) p.code.loops place) (take first readers)
-    × AllByRecursion (IsReaderOf (length p.inputs) p.code.loops place) (drop first readers)
-parted p place first readers own =
-    all-parts (IsReaderOf (length p.inputs) p.code.loops place) (take first readers) (drop first readers)
-    (subst (AllByRecursion (IsReaderOf (length p.inputs) p.code.loops place)) (sym (take-append-drop first readers)) own)
-
-pub wanted_among-requires-clause-own : goal.wanted_among-requires-clause-own
-wanted_among-requires-clause-own c =
+pub next_read-requires-clause-reader : goal.next_read-requires-clause-reader
+next_read-requires-clause-reader c =
     let p = c.args.self.now.rings in
     let of = own-readers p c.args.self.now.turns.items c.args.place c.index.result.now c.requires.turns c.requires.there c.index.ensures in
-    rw c.deref.ensures.value (rw (rest-is c.index.result.now.readers.items c.min-first.result)
-    (parted p c.args.place c.min-first.result c.index.result.now.readers.items of.each).1)
+    let within : c.loop-number.number < length c.index.result.now.readers.items = search rules in
+    own-near p c.args.place c.loop-number.number c.index.result.now.readers.items c.index-in-loop-number.result.now
+    c.loops.ensures.code c.loops.ensures.rings of.each within c.index-in-loop-number.ensures
 
-pub wanted_among-requires-2-clause-own : goal.wanted_among-requires-2-clause-own
-wanted_among-requires-2-clause-own c =
-    let p = c.args.self.now.rings in
-    let of = own-readers p c.args.self.now.turns.items c.args.place c.index.result.now c.requires.turns c.requires.there c.index.ensures in
-    rw c.deref-2.ensures.value (parted p c.args.place c.min-first.result c.index.result.now.readers.items of.each).0
+step : (p : RingsParts) (items : List Reader) (i : ℕ) (reader : Reader) (so_far next now all : Option ℤ) → i < length items
+    → reader ≡ get_or items i reader → next ≡ read_next p reader (slice_get (works_in p) reader.place) → now ≡ earlier so_far next
+    → earlier so_far (wanted_by p (drop i items)) ≡ all → earlier now (wanted_by p (drop (i + 1) items)) ≡ all
+step p items i reader so_far next now all within at reads both before =
+    let rest = drop (i + 1) items in
+    ap (λ (t : Option ℤ). earlier t (wanted_by p rest)) both
+    ∙ earlier-assoc so_far next (wanted_by p rest)
+    ∙ ap (λ (t : Option ℤ). earlier so_far (earlier t (wanted_by p rest))) reads
+    ∙ ap (λ (x : Reader). earlier so_far (wanted_by p (x ∷ rest))) at
+    ∙ ap (λ (readers : List Reader). earlier so_far (wanted_by p readers)) (sym (drop_more items i reader within))
+    ∙ before
 
-round : (p : RingsParts) (place first : ℕ) (readers : List Reader) (later : Option ℤ) (r : Result (Option ℤ) ℕ)
-    → later ≡ wanted_by p (drop first readers) → wanted_by p readers ≡ wanted_at p place
-    → IfOk r (λ w. w ≡ earlier later (wanted_by p (take first readers))) → IfOk r (λ w. w ≡ wanted_at p place)
-round p place first readers later (Ok w) is all given =
-    given ∙ ap (λ (t : Option ℤ). earlier t (wanted_by p (take first readers))) is ∙ wanted_by-round p readers first ∙ all
-round p place first readers later (Err e) is all given = tt
+pub loop-number-preserved : goal.loop-number-preserved
+loop-number-preserved c =
+    let items = c.index.result.now.readers.items in
+    let within : c.loop-number.number < length items = search rules in
+    step c.args.self.now.rings items c.loop-number.number c.index-in-loop-number.result.now c.loop-number.wanted c.next_read.result
+    c.earlier-wanted.result (wanted_by c.args.self.now.rings items) within c.index-in-loop-number.ensures c.next_read.ensures
+    c.earlier-wanted.ensures c.loop-number.invariant
 
-pub returns-clause-wanted : goal.returns-clause-wanted
-returns-clause-wanted c =
+pub returns : goal.returns
+returns c =
     let p = c.args.self.now.rings in
     let items = c.index.result.now.readers.items in
-    let first = c.min-first.result in
     let of = own-readers p c.args.self.now.turns.items c.args.place c.index.result.now c.requires.turns c.requires.there c.index.ensures in
-    let later : c.in_ok-later.later ≡ wanted_by p (drop first items) =
-    c.in_ok-later.ensures.wanted ∙ rw c.deref.ensures.value (ap (wanted_by p) (rest-is items first)) in
-    round p c.args.place first items c.in_ok-later.later c.wanted_among-2.result later
-    (wanted_by-is p c.args.place items c.loops.ensures.code c.loops.ensures.rings of) (rw c.deref-2.ensures.value at c.wanted_among-2.ensures.wanted)
+    let past : length items ≤ c.loop-number.number = search rules in
+    sym (earlier-none c.loop-number.wanted)
+    ∙ ap (λ (readers : List Reader). earlier c.loop-number.wanted (wanted_by p readers)) (sym (drop_all c.loop-number.number items past))
+    ∙ c.loop-number.invariant ∙ wanted_by-is p c.args.place items c.loops.ensures.code c.loops.ensures.rings of

@@ -9,6 +9,7 @@ loop-first-preserved c =
     let fewer = length-drop 1 before.held in
     record {
       start = search rules;
+      hi = search rules;
       fits = rw c.let_first_go.ensures (omega (arith, fewer, some, c.loop-first.invariant.fits));
       made = λ made in_order low is.
           let here = c.loop-first.invariant.made made in_order low is in

@@ -1,12 +1,12 @@
-use Rattle.std.proofs.Common.{◌∙◌, ap, map, sym}
+use Rattle.std.proofs.Common.{◌≡◌, ◌∙◌, ap, map, sym}
 use Rattle.tilt_code.specs.Code.{CodeParts, LoopParts}
-use Rattle.tilt_pipe.proofs.Pulling.{IsNew, rings-new}
-use Rattle.tilt_pipe.proofs.Seen.{seen-of}
+use Rattle.tilt_pipe.proofs.Pulling.{rings-new, seen-of}
 use Rattle.tilt_pipe.specs.Made.{stages_after}
+use Rattle.tilt_pipe.specs.Pulled.{given_in, stages_in}
 use Rattle.tilt_pipe.proofs.pipe.Pipe.new.Goals as goal
 
-is-new : (c : goal.After-new-2) → IsNew c.in_ok-new.field-0.rings
-is-new c =
+begun : (c : goal.After-new-2) → let p = c.in_ok-new.field-0.rings in (given_in p ≡ 0) × (stages_in p ≡ stages_after p.code p.inputs 0)
+begun c =
     let it = c.in_ok-new.ensures in
     rings-new c.in_ok-new.field-0.rings it.valid
     (it.starts ∙ ap (λ (code : CodeParts). map (λ (l : LoopParts). l.lo) code.loops) (sym it.code))
@@ -14,11 +14,10 @@ is-new c =
 pub invariant_of-result : goal.invariant_of-result
 invariant_of-result c = λ _.
     let rings = c.in_ok-new.field-0.rings in
-    let begun = is-new c in
     record {
       exact = record {
         chain = c.in_ok-new.ensures.is;
-        made = begun.made ∙ ap (stages_after rings.code rings.inputs) (sym begun.given);
+        made = (begun c).1 ∙ ap (stages_after rings.code rings.inputs) (sym (begun c).0);
       };
       none_asked = c.new-2.ensures.items;
     }
@@ -26,5 +25,4 @@ invariant_of-result c = λ _.
 pub returns : goal.returns
 returns c =
     let it = c.in_ok-new.ensures in
-    let begun = is-new c in
-    seen-of c.in_ok-new.field-0.rings c.args.code c.args.inputs.items 0 it.is.exact begun.made begun.given it.code it.inputs
+    seen-of c.in_ok-new.field-0.rings c.args.code c.args.inputs.items 0 it.is.exact (begun c).1 (begun c).0 it.code it.inputs

@@ -1,5 +1,5 @@
 use Rattle.std.proofs.Common.{◌≡◌, ◌∙◌, [], sym}
-use Rattle.tilt_pipe.proofs.Seen.{from-ok}
+use Rattle.tilt_pipe.proofs.Pulling.{from-ok}
 use Rattle.tilt_pipe.specs.Pipes.{IsExact}
 use Rattle.tilt_pipe.proofs.pipe.Pipe.next.Goals as goal
 

@@ -1,40 +1,47 @@
-use Rattle.std.proofs.Common.{◌≡◌, ◌<◌, length, slice_get, Some, refl, arith, rules}
-use Rattle.tilt_pipe.proofs.RingsKept.{forgot-at, kept-count, kept-few, kept-made, read-at, ring-of, trim-at}
-use Rattle.tilt_pipe.specs.Positions.{RingsParts, made_by, works_in}
+use Rattle.std.proofs.Common.{◌≡◌, ◌<◌, length, refl, sym, ap, ◌∙◌, arith, rules}
+use Rattle.std.proofs.lemmas.Option.{same_Some, slice_get_within}
+use Rattle.tilt_pipe.proofs.RingsKept.{MayTrim, kept-count, kept-few, kept-made, may-trim, trim-at, trimmed_ring}
+use Rattle.tilt_pipe.specs.Positions.{made_by}
+use Rattle.tilt_pipe.specs.contracts.rings.Rings.{the_view}
 use Rattle.tilt_pipe.proofs.rings.Rings.keep_from.Goals as goal
+use Rattle.tilt_pipe.proofs.rings.Rings.keep_from.Goals.{After-index_mut, After-keep_from}
 
 pub index_mut-requires : goal.index_mut-requires
 index_mut-requires c =
     let here = rw (← c.self.view_is) at c.requires in
-    let it = ring-of _ c.args.place here.0 c.loops.ensures.code c.self.invariant here.2 in
-    let within : c.args.place < length c.self.inside.rings.items = it.within in
+    let within : c.args.place < length c.self.inside.rings.items = slice_get_within c.self.inside.rings.items c.args.place here.1 here.3 in
     search rules
+
+-- the ring before
+old : (c : After-index_mut) → MayTrim (the_view c.self.inside) c.args.place c.args.first c.index_mut.result.now
+old c =
+    let here = rw (← c.self.view_is) at c.requires in
+    may-trim (the_view c.self.inside) c.args.place here.0 here.1 c.index_mut.result.now c.args.first c.loops.ensures.code c.self.invariant
+    here.2 here.3 here.4 c.index_mut.ensures.value
 
 pub keep_from-requires : goal.keep_from-requires
 keep_from-requires c =
-    let here = rw (← c.self.view_is) at c.requires in
-    let it = read-at _ c.args.place here.0 c.index_mut.result.now c.loops.ensures.code c.self.invariant here.2 c.index_mut.ensures.value in
-    let few = kept-few here.0 c.index_mut.result.now it.kept in
-    let count = kept-count here.0 c.index_mut.result.now it.kept in
-    omega (arith, few, count)
+    let m = old c in
+    omega (arith, kept-few m.work c.index_mut.result.now m.it.kept, kept-count m.work c.index_mut.result.now m.it.kept)
+
+-- and after
+new : (c : After-keep_from) → let ring = c.index_mut.result.now in
+    c.keep_from.new.self ≡ trimmed_ring c.args.first (made_by ring.start (old c.before).work.whole) ring.start (old c.before).work.loop.hi
+new c =
+    let m = old c.before in
+    let ring = c.index_mut.result.now in
+    let made = made_by ring.start m.work.whole in
+    c.keep_from.ensures made (kept-made m.work ring m.it.kept).in_order m.low m.it.kept.ring.held
+    ∙ ap (trimmed_ring c.args.first made ring.start) m.it.kept.ring.hi
 
 pub invariant_of-self : goal.invariant_of-self
 invariant_of-self c =
-    let here = rw (← c.self.view_is) at c.requires in
-    let ring = c.index_mut.result.now in
-    let it = read-at _ c.args.place here.0 ring c.loops.ensures.code c.self.invariant here.2 c.index_mut.ensures.value in
-    let low = forgot-at _ c.args.place here.0 here.0 ring here.1 c.args.first it here.2 here.3 here.4 in
-    let new = c.keep_from.ensures (made_by ring.start here.0.whole) (kept-made here.0 ring it.kept).in_order low it.kept.ring.held in
-    let trimmed = trim-at _ c.args.place here.0 ring c.args.first it in
-    rw new (rw (it.made, it.start) at trimmed)
+    let m = old (goal.at.invariant_of-self c).After-index_mut in
+    rw (new (goal.at.invariant_of-self c).After-keep_from)
+    (rw (m.it.made, m.it.start) at (trim-at (the_view c.self.inside) c.args.place m.work c.index_mut.result.now c.args.first m.it))
 
 pub returns : goal.returns
 returns c = λ w of.
-    let p : RingsParts = record { code = c.self.inside.code; inputs = c.self.inside.inputs.items; rings = c.self.inside.rings.items } in
-    let here = rw (← c.self.view_is) at c.requires in
-    let there : slice_get (works_in p) c.args.place ≡ Some w = rw (← c.self.view_is) at of in
-    let ring = c.index_mut.result.now in
-    let it = read-at p c.args.place w ring c.loops.ensures.code c.self.invariant there c.index_mut.ensures.value in
-    let low = forgot-at p c.args.place w here.0 ring here.1 c.args.first it here.2 here.3 here.4 in
-    let new = c.keep_from.ensures (made_by ring.start w.whole) (kept-made w ring it.kept).in_order low it.kept.ring.held in
-    rw (← c.self.view_is, new, it.made, it.start) refl
+    let m = old (goal.at.returns c).After-index_mut in
+    let same : w ≡ m.work = same_Some w m.work (sym (rw (← c.self.view_is) at of) ∙ m.it.of) in
+    rw (← c.self.view_is, new (goal.at.returns c).After-keep_from, same, m.it.made, m.it.start) refl

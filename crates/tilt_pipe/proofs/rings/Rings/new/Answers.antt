@@ -1,5 +1,5 @@
 use Rattle.std.proofs.Common.{map, length, ap, sym, ◌∙◌, subst}
-use Rattle.std.proofs.lemmas.List.{take_all}
+use Rattle.std.proofs.lemmas.List.{length-map, take_all}
 use Rattle.tilt_code.proofs.Runs.{loops-timed}
 use Rattle.tilt_pipe.proofs.RingsKept.{empty_ring, empty-rings-are}
 use Rattle.tilt_pipe.specs.Made.{works_of}
@@ -13,4 +13,4 @@ invariant_of-result c =
     let all = c.loop-each.invariant
     ∙ ap (map empty_ring)
     (take_all c.loop-each.each-index c.loops-each-items.result.now c.loop-each-test.false ∙ c.loops-each-items.ensures.loops) in
-    record { inputs = c.requires; rings = subst (AreRingsOf (works_of c.args.code c.args.inputs.items)) (sym all) are }
+    record { inputs = c.requires; many = ap length all ∙ length-map c.args.code.loops empty_ring; rings = subst (AreRingsOf (works_of c.args.code c.args.inputs.items)) (sym all) are }

@@ -1,80 +1,35 @@
-use Rattle.std.proofs.Common.{◌<◌, ◌+◌, ◌<ℤ◌, length, ap, refl, arith, rules}
-use Rattle.std.proofs.lemmas.Int.{ints}
-use Rattle.tilt_pipe.proofs.OpenLists.{open-at, open-more, open-same, open_at-past}
+use Rattle.std.proofs.Common.{refl, arith}
+use Rattle.std.proofs.lemmas.Int.{by_lt_z}
 use Rattle.tilt_pipe.proofs.RingsKept.{loops-there}
-use Rattle.tilt_pipe.specs.Positions.{RingsParts, start_at}
+use Rattle.tilt_pipe.proofs.Standing.{gap-none, gap-some}
+use Rattle.tilt_pipe.proofs.Telling.{IsOpenAt, open-at, open-count, open_at-past}
+use Rattle.tilt_pipe.specs.contracts.rings.Rings.{the_view}
 use Rattle.tilt_pipe.proofs.rings.Rings.ring_made.Goals as goal
+use Rattle.tilt_pipe.proofs.rings.Rings.ring_made.Goals.{After-index}
 
-pub returns-then-place-loops-clause-count : goal.returns-then-place-loops-clause-count
-returns-then-place-loops-clause-count c =
-    let p : RingsParts = record { code = c.self.inside.code; inputs = c.self.inside.inputs.items; rings = c.self.inside.rings.items } in
-    let none = open_at-past p c.args.place (omega (arith, ap length c.loops.ensures.loops, c.if-place-loops.true)) in
-    rw (← c.self.view_is, none) refl
+pub returns-then-place-len : goal.returns-then-place-len
+returns-then-place-len c =
+    let p = the_view c.self.inside in
+    let none = open_at-past p c.args.place (omega (arith, loops-there p c.self.invariant, c.len.ensures, c.if-place-len.true)) in
+    rw (← c.self.view_is, none) (record { count = refl; in_order = tt })
 
-pub returns-then-place-loops-clause-in_order : goal.returns-then-place-loops-clause-in_order
-returns-then-place-loops-clause-in_order c =
-    let p : RingsParts = record { code = c.self.inside.code; inputs = c.self.inside.inputs.items; rings = c.self.inside.rings.items } in
-    let none = open_at-past p c.args.place (omega (arith, ap length c.loops.ensures.loops, c.if-place-loops.true)) in
-    rw (← c.self.view_is, none) tt
+here : (c : After-index) → IsOpenAt (the_view c.self.inside) c.args.place c.index.result.now
+here c =
+    let p = the_view c.self.inside in
+    open-at p c.args.place c.index.result.now c.loops.ensures.code c.self.invariant
+    (omega (arith, loops-there p c.self.invariant, c.len.ensures, c.if-place-len.false)) c.index.ensures
 
-pub index-ring-requires : goal.index-ring-requires
-index-ring-requires c =
-    let count = loops-there _ c.self.invariant in
-    let within : c.args.place < length c.self.inside.rings.items =
-    omega (arith, count, ap length c.loops.ensures.loops, c.if-place-loops.false) in
-    search rules
+pub made-requires : goal.made-requires
+made-requires c = let o = here (goal.at.made-requires c).After-index in omega (arith, o.few, o.count)
 
-pub overflow_add-made : goal.overflow_add-made
-overflow_add-made c =
-    let o = open-at _ c.args.place c.index-ring.result.now c.loops.ensures.code c.self.invariant
-    (omega (arith, ap length c.loops.ensures.loops, c.if-place-loops.false)) c.index-ring.ensures in
-    let small : c.forgotten.result + c.len.result < 9223372036854775807 =
-    omega (arith, o.few, o.count, c.forgotten.ensures, c.len.ensures) in
-    search rules
-
-pub is_open-requires : goal.is_open-requires
-is_open-requires c =
-    let count = loops-there _ c.self.invariant in
-    rw (← c.self.view_is) (omega (arith, count, ap length c.loops.ensures.loops, c.if-place-loops.false))
-
-pub overflow_add-result : goal.overflow_add-result
-overflow_add-result c =
-    let o = open-at _ c.args.place c.index-ring.result.now c.loops.ensures.code c.self.invariant
-    (omega (arith, ap length c.loops.ensures.loops, c.if-place-loops.false)) c.index-ring.ensures in
-    let small : c.forgotten.result + c.len.result < 9223372036854775807 =
-    omega (arith, o.few, o.count, c.forgotten.ensures, c.len.ensures) in
-    search rules
-
-pub returns-then-is_open-clause-count : goal.returns-then-is_open-clause-count
-returns-then-is_open-clause-count c =
-    let p : RingsParts = record { code = c.self.inside.code; inputs = c.self.inside.inputs.items; rings = c.self.inside.rings.items } in
-    let o = open-at p c.args.place c.index-ring.result.now c.loops.ensures.code c.self.invariant
-    (omega (arith, ap length c.loops.ensures.loops, c.if-place-loops.false)) c.index-ring.ensures in
-    let stands : start_at c.args.self.now c.args.place <ℤ o.work.loop.hi =
-    (c.if-is_open.ensures o.work (rw (← c.self.view_is) o.it.of)).0 refl in
-    let before : c.index-ring.result.now.start <ℤ o.work.loop.hi = rw o.it.start at (rw (← c.self.view_is) at stands) in
-    let count = open-more p c.args.place c.index-ring.result.now o before in
-    rw (← c.self.view_is) (omega (arith, count, c.forgotten.ensures, c.len.ensures))
-
-pub returns-then-is_open-clause-in_order : goal.returns-then-is_open-clause-in_order
-returns-then-is_open-clause-in_order c =
-    let o = open-at _ c.args.place c.index-ring.result.now c.loops.ensures.code c.self.invariant
-    (omega (arith, ap length c.loops.ensures.loops, c.if-place-loops.false)) c.index-ring.ensures in
-    rw (← c.self.view_is) o.in_order
-
-pub returns-else-is_open-clause-count : goal.returns-else-is_open-clause-count
-returns-else-is_open-clause-count c =
-    let p : RingsParts = record { code = c.self.inside.code; inputs = c.self.inside.inputs.items; rings = c.self.inside.rings.items } in
-    let o = open-at p c.args.place c.index-ring.result.now c.loops.ensures.code c.self.invariant
-    (omega (arith, ap length c.loops.ensures.loops, c.if-place-loops.false)) c.index-ring.ensures in
-    let stands : start_at c.args.self.now c.args.place <ℤ o.work.loop.hi
-    → ⊥ = λ before. cc ((c.if-is_open.ensures o.work (rw (← c.self.view_is) o.it.of)).1 before) in
-    let below : ¬ (c.index-ring.result.now.start <ℤ o.work.loop.hi) = rw o.it.start at (rw (← c.self.view_is) at stands) in
-    let count = open-same p c.args.place c.index-ring.result.now o (grind (arith, ints, below)) in
-    rw (← c.self.view_is) (omega (arith, count, c.forgotten.ensures, c.len.ensures))
-
-pub returns-else-is_open-clause-in_order : goal.returns-else-is_open-clause-in_order
-returns-else-is_open-clause-in_order c =
-    let o = open-at _ c.args.place c.index-ring.result.now c.loops.ensures.code c.self.invariant
-    (omega (arith, ap length c.loops.ensures.loops, c.if-place-loops.false)) c.index-ring.ensures in
-    rw (← c.self.view_is) o.in_order
+pub returns : goal.returns
+returns c =
+    let o = here (goal.at.returns c).After-index in
+    let ring = c.index.result.now in
+    let count = open-count (the_view c.self.inside) c.args.place ring o in
+    rw (← c.self.view_is) (record {
+      count = by_lt_z ring.start o.work.loop.hi
+          (λ before. omega (arith, (rw o.it.kept.ring.hi at c.made.ensures.more) before, rw (gap-some ring.start o.work.loop.hi before) at count))
+          (λ end. omega (arith, (rw o.it.kept.ring.hi at c.made.ensures.same) end, rw (gap-none ring.start o.work.loop.hi end) at count));
+      in_order = o.in_order;
+    })

@@ -1,5 +1,5 @@
 use Rattle.std.proofs.Common.{map, sym, arith}
-use Rattle.tilt_pipe.proofs.OpenLists.{input-forgotten}
+use Rattle.tilt_pipe.proofs.Telling.{input-forgotten}
 use Rattle.tilt_pipe.specs.Positions.{RingParts}
 use Rattle.tilt_pipe.proofs.rings.RingsBuffers.first_kept.Goals as goal
 
