@@ -13,6 +13,7 @@ pub(crate) const ROOM: usize = 64;
 /// Writes `s,e,v` and LF to the end of the room, with nothing for a null value, and answers where the line starts. Takes no memory.
 #[inline]
 pub(crate) fn line_before(row: &Row, room: &mut [u8; ROOM]) -> usize
+    ensures low { 0 < result }
     ensures within { result ≤ 64 }
     ensures text { drop result room.new ≡ row_text row.now }
 {

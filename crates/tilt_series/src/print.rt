@@ -6,7 +6,7 @@ ghost use Rattle.tilt_outside.specs.Written.{Puts};
 use crate::line::{ROOM, line_before};
 use tilt_outside::{Failed, Sink};
 use tilt_stream::{Row, Snap, SnapList};
-use tilt_text::{append, append_number};
+use tilt_text::append;
 
 /// Puts the header line.
 pub fn put_header<O: Sink>(sink: &mut O) -> Result<(), Failed>
@@ -58,13 +58,7 @@ pub fn row_text(row: &Row, room: &mut [u8; 64]) -> usize
     ensures len { result ≡ length (row_text row.now) }
     ensures short { result ≤ 63 }
 {
-    let at = append_number(room, 0, row.start);
-    let at = append(room, at, b",");
-    let at = append_number(room, at, row.end);
-    let at = append(room, at, b",");
-    let at = match row.value {
-        Some(value) => append_number(room, at, value),
-        None => at,
-    };
-    append(room, at, b"\n")
+    let mut line = [0; ROOM];
+    let start = line_before(row, &mut line);
+    append(room, 0, &line[start..])
 }
