@@ -27,7 +27,7 @@ third_true true b c h = refl
 third_true false true c h = refl
 third_true false false c h = h
 
--- one more in front of what is one of two
+-- one more before what is one of two
 pub or_step : (a b c d : Bool) → b ≡ (c || d) → (a || b) ≡ ((a || c) || d)
 or_step true b c d is = refl
 or_step false b c d is = is

@@ -22,7 +22,7 @@ big_is_none : (ds : List ℕ) → 2 ^ 64 ≤ digits_value 10 ds → option_and_t
 big_is_none [] big = refl
 big_is_none (d ∷ ds) big = grind (arith, nat_tests)
 
--- digits are too many where those in front of a place already are
+-- digits are too many where those before a place already are
 pub big_on_the_way : (ds : List ℕ) (i number d : ℕ) → i < length ds → d ≡ digit_value (get_or ds i 0)
     → digits_value_after 10 number (drop i ds) ≡ digits_value 10 ds → 2 ^ 64 ≤ number * 10 + d
     → option_and_then within_u64 (natural_spelled ds) ≡ None

@@ -46,7 +46,7 @@ pub(crate) fn truth(holds: bool) -> Cell
 }
 
 // What the operator gives on two numbers.
-#[inline]
+#[inline(always)]
 fn on_numbers(op: Op2, x: i64, y: i64) -> Cell
     ensures { result ≡ apply2 op (Some x) (Some y) }
 {

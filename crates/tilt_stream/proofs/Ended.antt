@@ -79,7 +79,7 @@ cell-before from limit list tick s h is before =
 pub cell-behind : (from limit : ℤ) (list : List Snapshot) (tick : ℤ) → InOrder from limit list → slice_get list (ended_below tick list) ≡ None → None ≡ cell_at list tick
 cell-behind from limit list tick h is = rw is at (ended-cell from limit list tick h)
 
--- the mark that the next one tells above a tick: at its first tick where it starts there or later, and else behind its last
+-- the mark that the next one tells above a tick: at its first tick where it starts there or later, and else after its last
 abbrev pub mark_by : Option Snapshot → ℤ → Option ℤ
 mark_by None tick = None
 mark_by (Some s) tick = Some ((if int_le tick s.start then s.start else s.end) +ℤ pos 1)
@@ -93,7 +93,7 @@ names-same x y tick same (Some next) names = record {
   least = λ other above below. same other above ∙ names.least other above below;
 }
 
--- above a tick behind which the first one has ended, the marks are those of the rest
+-- above a tick after which the first one has ended, the marks are those of the rest
 mark-passed : (from limit : ℤ) (s : Snapshot) (ss : List Snapshot) (tick other : ℤ) → InOrder from limit (s ∷ ss) → s.end <ℤ tick → tick <ℤ other → mark_at (s ∷ ss) other ≡ mark_at ss other
 mark-passed from limit s ss tick other h ended above =
     let width = h.1 in
@@ -101,7 +101,7 @@ mark-passed from limit s ss tick other h ended above =
     let end : int_eq other (s.end +ℤ pos 1) ≡ false = grind (arith, ints) in
     rw (start, end) refl
 
--- the next mark of a list whose first one hasn't ended: where it begins, or behind its last tick
+-- the next mark of a list whose first one hasn't ended: where it begins, or after its last tick
 mark-first : (from limit : ℤ) (s : Snapshot) (ss : List Snapshot) (tick : ℤ) → InOrder from limit (s ∷ ss) → tick ≤ℤ s.end
     → (before : Bool) → int_le tick s.start ≡ before → NamesNextMark (stream_of (s ∷ ss)) tick (mark_by (Some s) tick)
 mark-first from limit s ss tick h ongoing true is =

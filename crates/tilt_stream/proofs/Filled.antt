@@ -10,7 +10,7 @@ use Rattle.tilt_stream.proofs.Order.{last_end-push}
 use Rattle.tilt_stream.proofs.Streams.{cell_at-before}
 use Rattle.tilt_stream.specs.Stream.{SameStream, stream_of, cell_at, mark_at, covers}
 
--- the rows behind an end, with their gaps filled
+-- the rows after an end, with their gaps filled
 abbrev pub filled_behind : Option ℤ → List Snapshot → List Snapshot
 filled_behind end [] = []
 filled_behind end (row ∷ rows) = gap_before end row.start ++ row ∷ filled_behind (Some row.end) rows
@@ -34,7 +34,7 @@ cells_filled end limit [] tick h = refl
 cells_filled end limit (row ∷ rows) tick h =
     cells_by_gap end limit row rows tick h (cells_filled row.end limit rows tick h.3) (int_lt end row.start)
 
--- the mark of an end hides that of the gap behind it
+-- the mark of an end hides that of the gap after it
 either : (a b c x y : Bool) → (c || x) ≡ (c || y) → (a || (a || b || (b || c || x))) ≡ (a || (b || c || y))
 either true b c x y h = refl
 either false true c x y h = refl

@@ -53,7 +53,7 @@ shifted-agrees x y offset lo hi h = record {
   marks = λ tick above below. h.marks (tick +ℤ offset) (omega (arith, ints)) (omega (arith, ints));
 }
 
--- where cells and marks agree from a tick on, the same cells are met behind it
+-- where cells and marks agree from a tick on, the same cells are met after it
 met_behind-agrees : (x y : Stream) (begins : Bool) (lo hi tick : ℤ) (n : ℕ) → Agree x y lo hi → ((lo <ℤ tick) ⊎ ((lo ≡ tick) × (begins ≡ true))) → (tick +ℤ pos n) ≤ℤ hi
     → met_behind x begins tick n ≡ met_behind y begins tick n
 met_behind-agrees x y begins lo hi tick zero h low high = refl
@@ -74,7 +74,7 @@ met-agrees x y lo hi from to h low high =
     (inr (refl, refl)) (let e = int_gap_is from to (omega (arith, ints)) in omega (arith, ints)))
     (λ none. rw (int_gap_none from to none) refl)
 
--- what a window makes of them agrees where it ends behind its start
+-- what a window makes of them agrees where it ends after its start
 pub windowed-agrees : (reducer : Reducer) (from to : ℤ) (x y : Stream) (lo hi : ℤ) → from <ℤ to → Agree x y (lo +ℤ from +ℤ pos 1) (hi +ℤ to)
     → Agree (windowed reducer from to x) (windowed reducer from to y) lo hi
 windowed-agrees reducer from to x y lo hi ends h = record {

@@ -109,7 +109,7 @@ behind-empty x tick zero is other low high = absurd (omega (arith, ints))
 behind-empty x tick (suc n) is other low high =
     empty-by x tick n other low (λ rest later. behind-empty x (tick +ℤ pos 1) n rest other later (omega (arith, ints))) (x.mark (tick +ℤ pos 1)) refl is
 
--- those of some ticks and of the ticks behind them
+-- those of some ticks and of the ticks after them
 append-if : (here : Bool) (tick : ℤ) (xs ys all : List ℤ) → all ≡ xs ++ ys
     → (if here then tick ∷ all else all) ≡ (if here then tick ∷ xs else xs) ++ ys
 append-if true tick xs ys all is = ap (λ (ts : List ℤ). tick ∷ ts) is
@@ -183,7 +183,7 @@ marked-append x lo mid hi low high =
     let count : int_gap lo hi ≡ int_gap lo mid + int_gap mid hi = omega (arith, ints) in
     ap (marked_behind x lo) count ∙ behind-append x lo mid (int_gap lo mid) (int_gap mid hi) (omega (arith, ints))
 
--- what is met: the first cell, and those at the marks behind it
+-- what is met: the first cell, and those at the marks after it
 pub met-marked : (x : Stream) (first last : ℤ) → first ≤ℤ last
     → met x (first -ℤ pos 1) last ≡ x.cell first ∷ map x.cell (marked x first last)
 met-marked x first last some =

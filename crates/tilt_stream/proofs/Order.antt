@@ -7,14 +7,14 @@ use Rattle.std.specs.Option.{ForSome}
 use Rattle.std.proofs.lemmas.Int.{ints}
 use Rattle.tilt_stream.specs.Snap.{Snapshot, InOrder, Touch, last_end, AreSnapshots, with_value}
 
--- a row behind the end of the last one doesn't start before the first one does
+-- a row after the end of the last one doesn't start before the first one does
 starts_behind : (from limit : ℤ) (x : Snapshot) (xs : List Snapshot) (s : Snapshot) → InOrder from limit (x ∷ xs) → ForSome (last_end (x ∷ xs)) (λ end. end ≤ℤ s.start) → from ≤ℤ s.start
 starts_behind from limit x [] s h behind = let b : x.end ≤ℤ s.start = behind x.end refl in omega (arith, ints)
 starts_behind from limit x (y ∷ ys) s h behind =
     let b : x.end ≤ℤ s.start = starts_behind x.end limit y ys s h.3 behind in
     omega (arith, ints)
 
--- what stands behind the end of the last one may be added
+-- what stands after the end of the last one may be added
 pub InOrder-push : (from limit : ℤ) (xs : List Snapshot) (s : Snapshot) → InOrder from limit xs → from ≤ℤ s.start
     → ForSome (last_end xs) (λ end. end ≤ℤ s.start) → s.start <ℤ s.end → s.end ≤ℤ limit → InOrder from limit (xs ++ s ∷ [])
 InOrder-push from limit [] s h low behind width high = (low, width, high, tt)
@@ -36,7 +36,7 @@ AreSnapshots-push xs s h starts touches width ends = record {
   touch = Touch-push xs s h.touch touches;
 }
 
--- snapshots without those behind them are in order and touch
+-- snapshots without those after them are in order and touch
 pub InOrder-front : (from limit : ℤ) (xs ys : List Snapshot) → InOrder from limit (xs ++ ys) → InOrder from limit xs
 InOrder-front from limit [] ys h = tt
 InOrder-front from limit (x ∷ xs) ys h = (h.0, h.1, h.2, InOrder-front x.end limit xs ys h.3)
@@ -94,13 +94,13 @@ pub last_end-low_if : (low high : ℤ) (xs : List Snapshot) (found : Option ℤ)
 last_end-low_if low high xs None h is = tt
 last_end-low_if low high xs (Some end) h is = last_end-low low high xs end h (sym is)
 
--- rows in order that start behind an end are in order from there on
+-- rows in order that start after an end are in order from there on
 pub order-behind : (end from limit : ℤ) (rows : List Snapshot) → AllByRecursion (λ row. end ≤ℤ row.start) rows
     → InOrder from limit rows → InOrder end limit rows
 order-behind end from limit [] behind h = tt
 order-behind end from limit (r ∷ rows) behind h = (behind.0, h.1, h.2, h.3)
 
--- rows behind the last one
+-- rows after the last one
 behind_some : (from limit : ℤ) (x : Snapshot) (xs ys : List Snapshot) → InOrder from limit (x ∷ xs)
     → ForSome (last_end (x ∷ xs)) (λ end. InOrder end limit ys) → InOrder from limit (x ∷ xs ++ ys)
 behind_some from limit x [] ys h behind = (h.0, h.1, h.2, behind x.end refl)

@@ -57,7 +57,7 @@ module _ (lo hi start end : ℤ) (some : start <ℤ end) (none : int_min hi end 
   no_end : (tick : ℤ) → (lo +ℤ pos 1) <ℤ tick → tick ≤ℤ hi → int_eq tick (end +ℤ pos 1) ≡ false
   no_end tick above below = grind (arith, ints, clamps)
 
-  -- nothing is left: the definition is null on the stretch, and has no marks behind its first tick
+  -- nothing is left: the definition is null on the stretch, and has no marks after its first tick
   pub nothing_left : (x y : Stream) → ((tick : ℤ) → x.cell tick ≡ None) → ((tick : ℤ) → x.mark tick ≡ false) → Agree (restricted lo hi x) (restricted start end y) lo hi
   nothing_left x y null clear = record {
     cells = λ tick above below. rw (inside lo hi tick above below, no_tick tick above below) (null tick);

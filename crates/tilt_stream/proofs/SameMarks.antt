@@ -45,7 +45,7 @@ either-same m n k o tick f g = λ at above none.
     (f at above (λ other low high. (or_parts (m other) (n other) (none other low high)).0))
     (g at above (λ other low high. (or_parts (m other) (n other) (none other low high)).1))
 
--- a port reads so many ticks behind
+-- a port reads so many ticks later
 pub port-same : (a b : List Snapshot) (offset point : ℤ) → IsSameUpTo (point +ℤ offset) a b
     → SameNext (shifted (stream_of a) offset).mark (shifted (stream_of b) offset).mark point
 port-same a b offset point s = λ at above none.

@@ -28,7 +28,7 @@ starts_from from limit (f ∷ front) s back h =
     let above : f.end ≤ℤ s.start = starts_from f.end limit front s back h.3 in
     omega (arith, ints)
 
--- behind its first tick a snapshot has no mark
+-- after its first tick a snapshot has no mark
 pub mark_at-within : (from limit : ℤ) (front : List Snapshot) (s : Snapshot) (back : List Snapshot) (tick : ℤ)
     → InOrder from limit (front ++ s ∷ back) → (s.start +ℤ pos 1) <ℤ tick → tick ≤ℤ s.end → mark_at (front ++ s ∷ back) tick ≡ false
 mark_at-within from limit [] s back tick h low high =
@@ -41,7 +41,7 @@ mark_at-within from limit (f ∷ front) s back tick h low high =
     let end : int_eq tick (f.end +ℤ pos 1) ≡ false = grind (arith, ints) in
     rw (start, end) (mark_at-within f.end limit front s back tick h.3 low high)
 
--- marks of the front and of what follows
+-- marks of the prefix and of what follows
 mark_at-append : (front back : List Snapshot) (tick : ℤ) → mark_at back tick ≡ true → mark_at (front ++ back) tick ≡ true
 mark_at-append [] back tick h = h
 mark_at-append (f ∷ front) back tick h =
@@ -53,7 +53,7 @@ mark_at-start front s back =
     let start : int_eq (s.start +ℤ pos 1) (s.start +ℤ pos 1) ≡ true = grind (arith, ints) in
     mark_at-append front (s ∷ back) (s.start +ℤ pos 1) (first_true (int_eq (s.start +ℤ pos 1) (s.start +ℤ pos 1)) (int_eq (s.start +ℤ pos 1) (s.end +ℤ pos 1)) (mark_at back (s.start +ℤ pos 1)) start)
 
--- a mark stands behind its last tick
+-- a mark stands after its last tick
 pub mark_at-end : (front : List Snapshot) (s : Snapshot) (back : List Snapshot) → mark_at (front ++ s ∷ back) (s.end +ℤ pos 1) ≡ true
 mark_at-end front s back =
     let end : int_eq (s.end +ℤ pos 1) (s.end +ℤ pos 1) ≡ true = grind (arith, ints) in

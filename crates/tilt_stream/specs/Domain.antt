@@ -5,12 +5,12 @@ use Rattle.std.specs.Ordering.{int_eq}
 use Rattle.tilt_base.specs.Grid.{GridPoints, is_point, ceil}
 use Rattle.tilt_stream.specs.Stream.{Stream}
 
--- whether one of so many ticks behind `tick` has a mark
+-- whether one of so many ticks after `tick` has a mark
 abbrev pub some_mark : Stream → ℤ → ℕ → Bool
 some_mark x tick zero = false
 some_mark x tick (suc more) = x.mark (tick +ℤ pos 1) || some_mark x (tick +ℤ pos 1) more
 
--- `every`: at each tick the cell of the least grid point that isn't below it; a mark stands behind a grid point where one of the ticks up
+-- `every`: at each tick the cell of the least grid point that isn't below it; a mark stands after a grid point where one of the ticks up
 -- to the next one had a mark
 abbrev pub on_grid : GridPoints → Stream → Stream
 on_grid grid x = record {

@@ -3,7 +3,7 @@ use Rattle.std.specs.Prelude.{ℕ, zero, suc, ℤ, pos, ◌+ℤ◌, if◌then◌
 use Rattle.std.specs.Int.{int_gap}
 use Rattle.tilt_stream.specs.Stream.{Stream}
 
--- those of so many ticks behind `tick` that have a mark
+-- those of so many ticks after `tick` that have a mark
 abbrev pub marked_behind : Stream → ℤ → ℕ → List ℤ
 marked_behind x tick zero = []
 marked_behind x tick (suc more) =

@@ -17,7 +17,7 @@ abbrev pub NamesNextMark : Stream → ℤ → Option ℤ → Type 0
 NamesNextMark x tick None = HasNoMarkAbove x tick
 NamesNextMark x tick (Some next) = IsNextMark x tick next
 
--- the first of so many ticks behind `tick` that has a mark
+-- the first of so many ticks after `tick` that has a mark
 abbrev pub next_mark : Stream → ℤ → ℕ → Option ℤ
 next_mark x tick zero = None
 next_mark x tick (suc more) = if x.mark (tick +ℤ pos 1) then Some (tick +ℤ pos 1) else next_mark x (tick +ℤ pos 1) more

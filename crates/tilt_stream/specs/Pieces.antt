@@ -19,6 +19,6 @@ abbrev pub joined_from : Option ℤ → List Snapshot → List Snapshot
 joined_from None list = list
 joined_from (Some start) list = joined_open start list
 
--- the rows that end at a tick or behind it
+-- the rows that end at a tick or after it
 abbrev pub kept : ℤ → List Snapshot → List Snapshot
 kept first rows = filter (λ row. int_le first row.end) rows

@@ -1,4 +1,4 @@
--- Snapshots, and lists of them in the order of time. Times are ticks, and `(start, end]` is the ticks behind the start, up to the end.
+-- Snapshots, and lists of them in the order of time. Times are ticks, and `(start, end]` is the ticks after the start, up to the end.
 use Rattle.std.specs.Prelude.{◌≡◌, ℕ, zero, suc, ℤ, ◌<ℤ◌, ◌≤ℤ◌, neg_ℤ, List, [], ◌∷◌, Option, Some, None, ⊤, if◌then◌else◌, int_lt}
 use Rattle.tilt_base.specs.declared.limits.TheConstants.{T, WIDE}
 

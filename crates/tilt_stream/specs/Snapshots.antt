@@ -8,14 +8,14 @@ use Rattle.tilt_stream.specs.Stream.{Stream}
 abbrev pub snapshot_on : Stream → ℤ → ℤ → Snapshot
 snapshot_on x start end = record { start = start; end = end; value = x.cell (start +ℤ pos 1) }
 
--- the snapshots from `start` on, the first of which reaches to `tick` at least; `more` ticks follow behind `tick`
+-- the snapshots from `start` on, the first of which reaches to `tick` at least; `more` ticks follow after `tick`
 abbrev pub cut_behind : Stream → ℤ → ℤ → ℕ → List Snapshot
 cut_behind x start tick zero = snapshot_on x start tick ∷ []
 cut_behind x start tick (suc more) =
     if x.mark (tick +ℤ pos 1) then snapshot_on x start tick ∷ cut_behind x tick (tick +ℤ pos 1) more
     else cut_behind x start (tick +ℤ pos 1) more
 
--- the snapshots of that many ticks behind `start`
+-- the snapshots of that many ticks after `start`
 abbrev pub snapshots_from : Stream → ℤ → ℕ → List Snapshot
 snapshots_from x start zero = []
 snapshots_from x start (suc more) = cut_behind x start (start +ℤ pos 1) more

@@ -7,7 +7,7 @@ use Rattle.tilt_base.specs.declared.reducer.Reducer.{Reducer}
 use Rattle.tilt_base.specs.Reduce.{numbers, reduce}
 use Rattle.tilt_stream.specs.Stream.{Stream}
 
--- the cells at those of so many ticks behind `tick` at which a snapshot begins; `begins` says that one begins at the first of them,
+-- the cells at those of so many ticks after `tick` at which a snapshot begins; `begins` says that one begins at the first of them,
 -- marked or not
 abbrev pub met_behind : Stream → Bool → ℤ → ℕ → List (Option ℤ)
 met_behind x begins tick zero = []

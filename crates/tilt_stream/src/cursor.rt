@@ -19,7 +19,7 @@ pub struct Cursor {
 }
 
 impl Cursor {
-    /// A cursor in front of all snapshots, at a tick below all of theirs. It is fit for any buffer.
+    /// A cursor before all snapshots, at a tick below all of theirs. It is fit for any buffer.
     pub fn new() -> Cursor
         ensures { result ≡ record { tick = neg_ℤ (pos 9223372036854775808); place = 0 } }
     {
@@ -58,8 +58,9 @@ impl Cursor {
         self.tick = tick;
     }
 
-    /// Moves to a tick as `move_to` does, and gives what `seen` gives there. Where it passes no snapshot or one, it reads none twice.
-    #[inline]
+    /// Moves to a tick as `move_to` does, and gives the cell and the next mark there, as `value` and `next` do. Where it passes no
+    /// snapshot or one, it reads none twice.
+    #[inline(always)]
     pub fn look<B: Buffer>(&mut self, buffer: &B, tick: i64) -> Seen
         requires fits { self.old.place ≤ ended_below self.old.tick (B.list buffer.now) }
         requires kept { B.forgotten buffer.now ≤ ended_below tick (B.list buffer.now) }
@@ -71,18 +72,40 @@ impl Cursor {
         ensures high { IfSome result.next (λ next. next ≤ℤ (WIDE +ℤ pos 1)) }
     {
         let from = self.place.max(buffer.first_kept());
-        self.tick = tick;
         if let Some(seen) = seen_at(buffer, from, tick) {
-            self.place = from;
+            self.stand(tick, from);
             return seen;
         }
         let second = from.saturating_add(1);
         if let Some(seen) = seen_at(buffer, second, tick) {
-            self.place = second;
+            self.stand(tick, second);
             return seen;
         }
-        self.place = passing(buffer, second, tick);
+        self.look_from(buffer, second, tick)
+    }
+
+    // The same from a place on. It isn't inlined, so that `look`, which mostly ends before it, is.
+    #[inline(never)]
+    fn look_from<B: Buffer>(&mut self, buffer: &B, from: usize, tick: i64) -> Seen
+        requires fits { from ≤ ended_below tick (B.list buffer.now) }
+        requires kept { B.forgotten buffer.now ≤ from }
+        ensures moved { self.new ≡ record { tick = tick; place = ended_below tick (B.list buffer.now) } }
+        ensures cell { result.cell ≡ cell_at (B.list buffer.now) tick }
+        ensures next { NamesNextMark (stream_of (B.list buffer.now)) tick result.next }
+        ensures low { IfSome result.next (λ next. neg_ℤ WIDE <ℤ next) }
+        ensures high { IfSome result.next (λ next. next ≤ℤ (WIDE +ℤ pos 1)) }
+    {
+        self.stand(tick, passing(buffer, from, tick));
         self.seen(buffer)
+    }
+
+    // Stands at a tick, and at the place of the first snapshot that doesn't end below it.
+    #[inline]
+    fn stand(&mut self, tick: i64, place: usize)
+        ensures { self.new ≡ record { tick = tick; place = place } }
+    {
+        self.tick = tick;
+        self.place = place;
     }
 
     /// Moves to a later tick, where it is known that no snapshot ends from its own tick on and below that one: it reads nothing.
@@ -116,9 +139,9 @@ impl Cursor {
         self.seen(buffer).next
     }
 
-    /// The cell where the cursor stands, and the next mark above it, by one look at the buffer.
+    // The cell where the cursor stands, and the next mark above it, by one look at the buffer.
     #[inline]
-    pub fn seen<B: Buffer>(&self, buffer: &B) -> Seen
+    fn seen<B: Buffer>(&self, buffer: &B) -> Seen
         requires stands { self.now.place ≡ ended_below self.now.tick (B.list buffer.now) }
         requires kept { B.forgotten buffer.now ≤ self.now.place }
         ensures cell { result.cell ≡ cell_at (B.list buffer.now) self.now.tick }

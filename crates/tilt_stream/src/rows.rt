@@ -9,7 +9,7 @@ use std::alloc::{AllocError as OutOfMemory, Global};
 use std::marker::Model;
 use tilt_base::Cell;
 
-/// The rows of a series in order: times in `-T..=T`, and each start at or behind the end of the row before it.
+/// The rows of a series in order: times in `-T..=T`, and each start at or after the end of the row before it.
 #[derive(Drop)]
 pub struct Rows {
     rows: Vec<Row>,
@@ -36,7 +36,7 @@ impl Rows {
         }
     }
 
-    /// Adds a row behind the last one. After want of memory the rows are as before.
+    /// Adds a row after the last one. After want of memory the rows are as before.
     pub fn push(&mut self, row: Row) -> Result<(), OutOfMemory>
         requires behind { ForSome (last_end self.old) (λ end. end ≤ℤ row.start) }
         requires low { neg_ℤ T ≤ℤ row.start }

@@ -107,7 +107,7 @@ impl SnapList {
         self.snaps[0] = first.opened_at(open_start);
     }
 
-    // Adds a row, behind a null snapshot where there is a gap.
+    // Adds a row, after a null snapshot where there is a gap.
     fn push_row(&mut self, row: Row) -> Result<(), OutOfMemory>
         requires behind { ForSome (last_end self.old) (λ end. end ≤ℤ row.start) }
         requires low { neg_ℤ WIDE ≤ℤ row.start }

@@ -1,8 +1,8 @@
-use Rattle.std.proofs.Common.{◌≡◌, FitsSigned, to_z-of_z, w64, pos, ◌+ℤ◌, neg_ℤ, Some, slice_get, arith, rules}
+use Rattle.std.proofs.Common.{◌≡◌, FitsSigned, to_z-of_z, w64, pos, ◌+ℤ◌, neg_ℤ, arith, rules}
 use Rattle.std.proofs.lemmas.Int.{ints}
 use Rattle.tilt_base.specs.declared.limits.TheConstants.{WIDE}
 use Rattle.tilt_stream.proofs.Ended.{cell-found, cell-before, cell-behind, mark-found, mark-before, mark-behind}
-use Rattle.tilt_stream.proofs.Places.{found-stands, none-stands, passed-at}
+use Rattle.tilt_stream.proofs.Places.{found-stands, found-there, none-stands, passed-at}
 use Rattle.tilt_stream.specs.Snap.{ended_below}
 use Rattle.tilt_stream.proofs.cursor.seen_at.Goals as goal
 
@@ -38,30 +38,21 @@ returns-else-snap-tick-2-clause-stands g c =
 
 pub returns-then-snap-tick-2-clause-cell : goal.returns-then-snap-tick-2-clause-cell
 returns-then-snap-tick-2-clause-cell g c =
-    let at : c.args.place ≡ ended_below c.args.tick (g.B.Buffer.list c.args.buffer.now) =
-    found-stands (neg_ℤ WIDE) WIDE _ c.args.place c.in-Some.snap c.args.tick c.snap_at.ensures.in_order (search rules)
+    let here = found-there (neg_ℤ WIDE) WIDE _ c.args.place c.in-Some.snap c.args.tick c.snap_at.ensures.in_order (search rules)
     (rw (← c.snap.view_is) (grind (arith, ints))) c.requires.fits in
-    let here : slice_get (g.B.Buffer.list c.args.buffer.now) (ended_below c.args.tick (g.B.Buffer.list c.args.buffer.now)) ≡ Some c.in-Some.snap =
-    rw (← at) (search rules) in
     rw (← c.snap.view_is) at (cell-found (neg_ℤ WIDE) WIDE _ c.args.tick c.in-Some.snap c.snap_at.ensures.in_order here
     (rw (← c.snap.view_is) (grind (arith, ints))))
 
 pub returns-else-snap-tick-2-clause-cell : goal.returns-else-snap-tick-2-clause-cell
 returns-else-snap-tick-2-clause-cell g c =
-    let at : c.args.place ≡ ended_below c.args.tick (g.B.Buffer.list c.args.buffer.now) =
-    found-stands (neg_ℤ WIDE) WIDE _ c.args.place c.in-Some.snap c.args.tick c.snap_at.ensures.in_order (search rules)
+    let here = found-there (neg_ℤ WIDE) WIDE _ c.args.place c.in-Some.snap c.args.tick c.snap_at.ensures.in_order (search rules)
     (rw (← c.snap.view_is) (grind (arith, ints))) c.requires.fits in
-    let here : slice_get (g.B.Buffer.list c.args.buffer.now) (ended_below c.args.tick (g.B.Buffer.list c.args.buffer.now)) ≡ Some c.in-Some.snap =
-    rw (← at) (search rules) in
     cell-before (neg_ℤ WIDE) WIDE _ c.args.tick c.in-Some.snap c.snap_at.ensures.in_order here (rw (← c.snap.view_is) (grind (arith, ints)))
 
 pub returns-then-snap-tick-2-clause-next : goal.returns-then-snap-tick-2-clause-next
 returns-then-snap-tick-2-clause-next g c =
-    let at : c.args.place ≡ ended_below c.args.tick (g.B.Buffer.list c.args.buffer.now) =
-    found-stands (neg_ℤ WIDE) WIDE _ c.args.place c.in-Some.snap c.args.tick c.snap_at.ensures.in_order (search rules)
+    let here = found-there (neg_ℤ WIDE) WIDE _ c.args.place c.in-Some.snap c.args.tick c.snap_at.ensures.in_order (search rules)
     (rw (← c.snap.view_is) (grind (arith, ints))) c.requires.fits in
-    let here : slice_get (g.B.Buffer.list c.args.buffer.now) (ended_below c.args.tick (g.B.Buffer.list c.args.buffer.now)) ≡ Some c.in-Some.snap =
-    rw (← at) (search rules) in
     let next = mark-found (neg_ℤ WIDE) WIDE _ c.args.tick c.in-Some.snap c.snap_at.ensures.in_order here
     (rw (← c.snap.view_is) (grind (arith, ints))) in
     let fits : FitsSigned w64 c.snap.inside.end = search rules in
@@ -70,11 +61,8 @@ returns-then-snap-tick-2-clause-next g c =
 
 pub returns-else-snap-tick-2-clause-next : goal.returns-else-snap-tick-2-clause-next
 returns-else-snap-tick-2-clause-next g c =
-    let at : c.args.place ≡ ended_below c.args.tick (g.B.Buffer.list c.args.buffer.now) =
-    found-stands (neg_ℤ WIDE) WIDE _ c.args.place c.in-Some.snap c.args.tick c.snap_at.ensures.in_order (search rules)
+    let here = found-there (neg_ℤ WIDE) WIDE _ c.args.place c.in-Some.snap c.args.tick c.snap_at.ensures.in_order (search rules)
     (rw (← c.snap.view_is) (grind (arith, ints))) c.requires.fits in
-    let here : slice_get (g.B.Buffer.list c.args.buffer.now) (ended_below c.args.tick (g.B.Buffer.list c.args.buffer.now)) ≡ Some c.in-Some.snap =
-    rw (← at) (search rules) in
     let next = mark-before (neg_ℤ WIDE) WIDE _ c.args.tick c.in-Some.snap c.snap_at.ensures.in_order here
     (rw (← c.snap.view_is) (grind (arith, ints))) in
     let fits : FitsSigned w64 c.snap.inside.start = search rules in
