@@ -1,5 +1,5 @@
 -- A state and a turn over other lists, which tell the same as far as the loop reads them.
-use Rattle.std.proofs.Common.{◌≡◌, ℕ, zero, suc, ℤ, pos, ◌+ℤ◌, ◌-ℤ◌, ◌≤ℤ◌, List, [], ◌∷◌, ◌++◌, map, get_or, length, Option, None, refl, ap, ◌∙◌, sym, subst, arith}
+use Rattle.std.proofs.Common.{◌≡◌, ℕ, zero, suc, ℤ, pos, ◌+ℤ◌, ◌-ℤ◌, ◌≤ℤ◌, List, [], ◌∷◌, ◌++◌, map, get_or, length, Option, None, refl, ap, ◌∙◌, sym, arith}
 use Rattle.std.specs.Int.{int_gap}
 use Rattle.std.specs.List.{AllByRecursion}
 use Rattle.std.proofs.lemmas.Int.{ints, by_lt_z}
@@ -13,26 +13,27 @@ use Rattle.tilt_code.specs.declared.instr.Instr.{Instr}
 use Rattle.tilt_code.specs.declared.instr.Instr.TheVariants.{Const, Null, Argument, Port, Win, One, Two, If}
 use Rattle.tilt_stream.proofs.Cut.{int_gap_is, int_gap_none}
 use Rattle.tilt_stream.proofs.Locality.{met-agrees}
-use Rattle.tilt_stream.specs.Marks.{NamesNextMark}
+use Rattle.tilt_stream.specs.Agreement.{IsSameUpTo}
 use Rattle.tilt_stream.specs.Snap.{Snapshot, ended_below}
 use Rattle.tilt_stream.specs.Stream.{Stream, cell_at, mark_at, stream_of}
 use Rattle.tilt_stream.specs.Window.{met}
 use Rattle.tilt_stream.specs.declared.cursor.Cursor.{Cursor}
-use Rattle.tilt_turn.proofs.NextElsewhere.{names-back, names-there}
+use Rattle.tilt_stream.specs.declared.seen.Seen.{Seen}
+use Rattle.tilt_turn.proofs.NextElsewhere.{names-next, same-back, same-earlier}
 use Rattle.tilt_turn.proofs.Numbered.{read-stream}
-use Rattle.tilt_turn.proofs.Picked.{IsPicked, all-picked}
+use Rattle.tilt_turn.proofs.Origins.{origin-holds}
+use Rattle.tilt_turn.proofs.Placing.{SeenBy}
 use Rattle.tilt_stream.proofs.SameMarks.{SameNext, either-same, next_mark-same, port-same, window-same}
 use Rattle.tilt_turn.proofs.Stepwise.{all-weaker}
-use Rattle.tilt_turn.specs.Held.{Holds, IsFit, IsLeafAt, IsPlacedAt, Knows, MayGo, MayMove, Tells, as_listed, origin}
+use Rattle.tilt_turn.specs.Held.{Holds, IsFit, IsLeafAt, IsPlacedBy, Knows, MayGo, MayMove, origin, places_of}
 use Rattle.tilt_stream.specs.Marked.{marked, marked_behind}
-use Rattle.tilt_turn.specs.Picked.{picked, reads}
 use Rattle.tilt_turn.specs.Ready.{IsReadable, IsReady}
 use Rattle.tilt_turn.specs.Same.{IsSameFor}
+use Rattle.tilt_turn.specs.Sight.{Sees}
 use Rattle.tilt_turn.specs.declared.leaf.Leaf.{Leaf}
 use Rattle.tilt_turn.specs.declared.leaf.Leaf.TheVariants as leaf
 use Rattle.tilt_turn.specs.declared.moving.Moving.{Moving}
 use Rattle.tilt_turn.specs.declared.placed.Placed.{Placed}
-use Rattle.tilt_turn.specs.declared.port.PortLeaf.{PortLeaf}
 use Rattle.tilt_turn.specs.declared.state.LoopState.{LoopState}
 
 -- a cursor that may move over one may move over the other
@@ -77,122 +78,33 @@ holds-same a b last first f w cells marks within held =
     }
 
 -- and one that knows where its last tick stands, and its next mark, knows it of the other
-knows-same : (a b : List Snapshot) (last : ℤ) (w : Moving) → ((at : ℤ) → at ≤ℤ last → ended_below at a ≡ ended_below at b)
-    → ((answer : Option ℤ) → NamesNextMark (stream_of a) w.back.tick answer → NamesNextMark (stream_of b) w.back.tick answer)
-    → w.back.tick ≤ℤ last → Knows a w → Knows b w
-knows-same a b last w ended names within knows = record {
-  place = knows.place ∙ ended w.back.tick within;
-  next = names w.next knows.next;
+knows-same : (a b : List Snapshot) (last : ℤ) (w : Moving) → IsSameUpTo last a b → w.back.tick ≤ℤ last → Knows a w → Knows b w
+knows-same a b last w s within knows = record {
+  place = knows.place ∙ s.ended w.back.tick within;
+  next = names-next (stream_of a) (stream_of b) w.back.tick w.next (same-earlier a b last w.back.tick within s).next knows.next;
   low = knows.low;
   high = knows.high;
 }
 
--- the same of a port, and of the cell that it knows
-tells-same : (a b : List Snapshot) (last : ℤ) (p : PortLeaf) → ((at : ℤ) → at ≤ℤ last → ended_below at a ≡ ended_below at b)
-    → ((at : ℤ) → at ≤ℤ last → cell_at a at ≡ cell_at b at)
-    → ((answer : Option ℤ) → NamesNextMark (stream_of a) p.cursor.tick answer → NamesNextMark (stream_of b) p.cursor.tick answer)
-    → p.cursor.tick ≤ℤ last → Tells a p → Tells b p
-tells-same a b last p ended cells names within tells = record {
-  place = tells.place ∙ ended p.cursor.tick within;
-  cell = tells.cell ∙ cells p.cursor.tick within;
-  next = names p.seen.next tells.next;
-  low = tells.low;
-  high = tells.high;
-}
-
-leaf-there : (a b : List (List Snapshot)) (maps : List Block) (before point : ℤ) (own : Leaf) → before ≤ℤ point
-    → IsSameFor a b point (origin own) → IsLeafAt MayGo a [] maps before own → IsLeafAt MayGo b [] maps before own
-leaf-there a b maps before point (leaf.Again r) onwards s at = tt
-leaf-there a b maps before point (leaf.Port p) onwards s at =
-    let stands = at.1.cursor.onwards in (
-      at.0,
+-- a leaf that may be read over the one may be read over the other
+leaf-there : (a b : List (List Snapshot)) (maps : List Block) (at point : ℤ) (own : Leaf) → at ≤ℤ point
+    → IsSameFor a b point (origin own) → IsLeafAt MayGo a [] maps at own → IsLeafAt MayGo b [] maps at own
+leaf-there a b maps at point (leaf.Port p) onwards s is = (
+  is.0,
+  cursor-same (get_or a p.buffer []) (get_or b p.buffer []) (point +ℤ p.offset) (at +ℤ p.offset) p.cursor s.ended (omega (arith, ints)) is.1,
+)
+leaf-there a b maps at point (leaf.Window w) onwards s is =
+    let stands = is.1.cursor.onwards in (
+      is.0,
       record {
-        cursor = cursor-same (get_or a p.buffer []) (get_or b p.buffer []) (point +ℤ p.offset) (before +ℤ p.offset) p.cursor s.ended
-            (omega (arith, ints)) at.1.cursor;
-        known = λ some. tells-same (get_or a p.buffer []) (get_or b p.buffer []) (point +ℤ p.offset) p s.ended s.cells
-            (names-there (get_or a p.buffer []) (get_or b p.buffer []) (point +ℤ p.offset) p.cursor.tick s (omega (arith, ints)))
-            (omega (arith, ints)) (at.1.known some);
+        cursor = cursor-same (get_or a w.buffer []) (get_or b w.buffer []) (point +ℤ w.to) (at +ℤ w.to) w.window.back s.ended
+            (omega (arith, ints)) is.1.cursor;
+        held = holds-same (get_or a w.buffer []) (get_or b w.buffer []) (point +ℤ w.to) (at +ℤ w.from +ℤ pos 1) (mapped maps w.map)
+            w.window s.cells s.marks (omega (arith, ints)) is.1.held;
+        known = λ some. knows-same (get_or a w.buffer []) (get_or b w.buffer []) (point +ℤ w.to) w.window s (omega (arith, ints))
+            (is.1.known some);
       },
     )
-leaf-there a b maps before point (leaf.Window w) onwards s at =
-    let stands = at.1.cursor.onwards in (
-      at.0,
-      record {
-        cursor = cursor-same (get_or a w.buffer []) (get_or b w.buffer []) (point +ℤ w.to) (before +ℤ w.to) w.window.back s.ended
-            (omega (arith, ints)) at.1.cursor;
-        held = holds-same (get_or a w.buffer []) (get_or b w.buffer []) (point +ℤ w.to) (before +ℤ w.from +ℤ pos 1) (mapped maps w.map)
-            w.window s.cells s.marks (omega (arith, ints)) at.1.held;
-        known = λ some. knows-same (get_or a w.buffer []) (get_or b w.buffer []) (point +ℤ w.to) w.window s.ended
-            (names-there (get_or a w.buffer []) (get_or b w.buffer []) (point +ℤ w.to) w.window.back.tick s (omega (arith, ints)))
-            (omega (arith, ints)) (at.1.known some);
-      },
-    )
-
-leaf-back : (a b : List (List Snapshot)) (maps : List Block) (before point : ℤ) (own : Leaf) → before ≤ℤ point
-    → IsSameFor a b point (origin own) → IsLeafAt MayGo b [] maps before own → IsLeafAt MayGo a [] maps before own
-leaf-back a b maps before point (leaf.Again r) onwards s at = tt
-leaf-back a b maps before point (leaf.Port p) onwards s at =
-    let stands = at.1.cursor.onwards in (
-      at.0,
-      record {
-        cursor = cursor-same (get_or b p.buffer []) (get_or a p.buffer []) (point +ℤ p.offset) (before +ℤ p.offset) p.cursor
-            (λ tick below. sym (s.ended tick below)) (omega (arith, ints)) at.1.cursor;
-        known = λ some. tells-same (get_or b p.buffer []) (get_or a p.buffer []) (point +ℤ p.offset) p
-            (λ tick below. sym (s.ended tick below)) (λ tick below. sym (s.cells tick below))
-            (names-back (get_or a p.buffer []) (get_or b p.buffer []) (point +ℤ p.offset) p.cursor.tick s (omega (arith, ints)))
-            (omega (arith, ints)) (at.1.known some);
-      },
-    )
-leaf-back a b maps before point (leaf.Window w) onwards s at =
-    let stands = at.1.cursor.onwards in (
-      at.0,
-      record {
-        cursor = cursor-same (get_or b w.buffer []) (get_or a w.buffer []) (point +ℤ w.to) (before +ℤ w.to) w.window.back
-            (λ tick below. sym (s.ended tick below)) (omega (arith, ints)) at.1.cursor;
-        held = holds-same (get_or b w.buffer []) (get_or a w.buffer []) (point +ℤ w.to) (before +ℤ w.from +ℤ pos 1) (mapped maps w.map)
-            w.window (λ tick below. sym (s.cells tick below)) (λ tick below. sym (s.marks tick below)) (omega (arith, ints)) at.1.held;
-        known = λ some. knows-same (get_or b w.buffer []) (get_or a w.buffer []) (point +ℤ w.to) w.window
-            (λ tick below. sym (s.ended tick below))
-            (names-back (get_or a w.buffer []) (get_or b w.buffer []) (point +ℤ w.to) w.window.back.tick s (omega (arith, ints)))
-            (omega (arith, ints)) (at.1.known some);
-      },
-    )
-
-all-by : {X Y : Type 0} (f : X → Y) (P : Y → Type 0) (Q R : X → Type 0) (xs : List X) → ((x : X) → P (f x) → Q x → R x)
-    → AllByRecursion P (map f xs) → AllByRecursion Q xs → AllByRecursion R xs
-all-by f P Q R [] step p q = tt
-all-by f P Q R (x ∷ xs) step p q = (step x p.0 q.0, all-by f P Q R xs step p.1 q.1)
-
-same-leaves : (a b : List (List Snapshot)) (l : LoopParts) (point : ℤ) (leaves : List Placed) → map as_listed leaves ≡ picked reads 0 l.body
-    → AllByRecursion (IsSameFor a b point) l.body → AllByRecursion (IsPicked reads (IsSameFor a b point) l.body) (map as_listed leaves)
-same-leaves a b l point leaves is same =
-    subst (AllByRecursion (IsPicked reads (IsSameFor a b point) l.body)) (sym is) (all-picked reads (IsSameFor a b point) l.body same)
-
--- a state that is fit over lists is fit over others that tell the same up to where the loop reads at a later grid point
-pub fit-elsewhere : (a b : List (List Snapshot)) (l : LoopParts) (before point : ℤ) (state : LoopState)
-    → AllByRecursion (IsSameFor a b point) l.body → before ≤ℤ point → IsFit a l before state → IsFit b l before state
-fit-elsewhere a b l before point state same onwards fit = record {
-  same = fit.same;
-  registers = fit.registers;
-  computed = fit.computed;
-  leaves = all-by as_listed (IsPicked reads (IsSameFor a b point) l.body) (IsPlacedAt MayGo a [] l.maps l.body before)
-      (IsPlacedAt MayGo b [] l.maps l.body before) state.leaves.items
-      (λ own s at. (leaf-there a b l.maps before point own.leaf onwards s.holds at.0, at.1))
-      (same-leaves a b l point state.leaves.items fit.same same) fit.leaves;
-}
-
--- and the other way round
-pub fit-back : (a b : List (List Snapshot)) (l : LoopParts) (before point : ℤ) (state : LoopState)
-    → AllByRecursion (IsSameFor a b point) l.body → before ≤ℤ point → IsFit b l before state → IsFit a l before state
-fit-back a b l before point state same onwards fit = record {
-  same = fit.same;
-  registers = fit.registers;
-  computed = fit.computed;
-  leaves = all-by as_listed (IsPicked reads (IsSameFor a b point) l.body) (IsPlacedAt MayGo b [] l.maps l.body before)
-      (IsPlacedAt MayGo a [] l.maps l.body before) state.leaves.items
-      (λ own s at. (leaf-back a b l.maps before point own.leaf onwards s.holds at.0, at.1))
-      (same-leaves a b l point state.leaves.items fit.same same) fit.leaves;
-}
 
 -- the cell of a leaf at the grid point
 leaf_cell-same : (a b : List (List Snapshot)) (maps : List Block) (point : ℤ) (i : Instr) → IsSameFor a b point i
@@ -212,22 +124,6 @@ leaf_cell-same a b maps point (One op r) s = refl
 leaf_cell-same a b maps point (Two op r q) s = refl
 leaf_cell-same a b maps point (If c r q) s = refl
 
-registers-same : (f g : Instr → Option ℤ) (cells : List (Option ℤ)) (block : Block) → AllByRecursion (λ (i : Instr). f i ≡ g i) block
-    → with_registers f cells block ≡ with_registers g cells block
-registers-same f g cells [] same = refl
-registers-same f g cells (i ∷ block) same =
-    ap (λ (cell : Option ℤ). with_registers f (cells ++ cell ∷ []) block) (instr_cell-same f g cells i same.0)
-    ∙ registers-same f g (cells ++ instr_cell g cells i ∷ []) block same.1
-
--- and with it the cell of the body
-cell-same : (a b : List (List Snapshot)) (l : LoopParts) (point : ℤ) → AllByRecursion (IsSameFor a b point) l.body
-    → (body_of (map stream_of a) l).cell point ≡ (body_of (map stream_of b) l).cell point
-cell-same a b l point same =
-    let f : Instr → Option ℤ = λ i. (leaf_of (map stream_of a) l.maps i).cell point in
-    let g : Instr → Option ℤ = λ i. (leaf_of (map stream_of b) l.maps i).cell point in
-    ap (last_or None) (registers-same f g [] l.body
-    (all-weaker (IsSameFor a b point) (λ (i : Instr). f i ≡ g i) l.body (λ i s. leaf_cell-same a b l.maps point i s) same))
-
 -- the next mark of a leaf above the grid point
 leaf_next-same : (a b : List (List Snapshot)) (maps : List Block) (point : ℤ) (buffers known : ℕ) (i : Instr) → IsReadable buffers known i
     → IsSameFor a b point i → SameNext (leaf_of (map stream_of a) maps i).mark (leaf_of (map stream_of b) maps i).mark point
@@ -243,7 +139,89 @@ leaf_next-same a b maps point buffers known (One op r) readable s = λ at above 
 leaf_next-same a b maps point buffers known (Two op r q) readable s = λ at above none. refl
 leaf_next-same a b maps point buffers known (If c r q) readable s = λ at above none. refl
 
--- and with it that of all leaves
+-- so the same is seen of it there
+seen-same : (a b : List (List Snapshot)) (maps : List Block) (point : ℤ) (buffers known : ℕ) (i : Instr) (seen : Seen) → IsReadable buffers known i
+    → IsSameFor a b point i → Sees (leaf_of (map stream_of a) maps i) point seen → Sees (leaf_of (map stream_of b) maps i) point seen
+seen-same a b maps point buffers known i seen readable s sees = record {
+  cell = sees.cell ∙ leaf_cell-same a b maps point i s;
+  next = names-next (leaf_of (map stream_of a) maps i) (leaf_of (map stream_of b) maps i) point seen.next
+      (leaf_next-same a b maps point buffers known i readable s) sees.next;
+  bounds = sees.bounds;
+}
+
+-- and at an earlier grid point
+seen-there : (a b : List (List Snapshot)) (maps : List Block) (at before point : ℤ) (own : Leaf) (seen : Seen) → before ≤ℤ point
+    → IsSameFor a b point (origin own) → IsLeafAt MayGo a [] maps at own
+    → Sees (leaf_of (map stream_of a) maps (origin own)) before seen → Sees (leaf_of (map stream_of b) maps (origin own)) before seen
+seen-there a b maps at before point (leaf.Port p) seen onwards s is sees =
+    seen-same a b maps before (suc p.buffer) (length maps) (Port p.buffer p.offset) seen (omega arith, is.0)
+    (same-earlier (get_or a p.buffer []) (get_or b p.buffer []) (point +ℤ p.offset) (before +ℤ p.offset) (omega (arith, ints)) s) sees
+seen-there a b maps at before point (leaf.Window w) seen onwards s is sees =
+    seen-same a b maps before (suc w.buffer) (length maps) (origin (leaf.Window w)) seen (omega arith, is.0)
+    (same-earlier (get_or a w.buffer []) (get_or b w.buffer []) (point +ℤ w.to) (before +ℤ w.to) (omega (arith, ints)) s) sees
+
+-- so a leaf of a body is as well placed over the other
+placed-there : (a b : List (List Snapshot)) (maps : List Block) (body : Block) (cells : List (Option ℤ)) (before point : ℤ) (own : Placed)
+    → before ≤ℤ point → IsSameFor a b point (origin own.leaf) → IsPlacedBy a maps body cells before own → IsPlacedBy b maps body cells before own
+placed-there a b maps body cells before point own onwards s is =
+    let at = is.leaf.0 in
+    let within = is.leaf.1 in
+    let later : at ≤ℤ point = omega (arith, ints) in
+    record {
+      leaf = (at, within, leaf-there a b maps at point own.leaf later s is.leaf.2);
+      places = is.places;
+      known = λ stays.
+          all-weaker (SeenBy a maps body before (origin own.leaf) own.next cells) (SeenBy b maps body before (origin own.leaf) own.next cells)
+          (places_of own)
+          (λ place sees. seen-there a b maps at before point own.leaf _ onwards s is.leaf.2 sees) (is.known stays);
+    }
+
+-- a state that is fit over lists is fit over others that tell the same up to where the loop reads at a later grid point
+pub fit-elsewhere : (a b : List (List Snapshot)) (l : LoopParts) (before point : ℤ) (state : LoopState)
+    → AllByRecursion (IsSameFor a b point) l.body → before ≤ℤ point → IsFit a l before state → IsFit b l before state
+fit-elsewhere a b l before point state same onwards fit = record {
+  all = fit.all;
+  registers = fit.registers;
+  computed = fit.computed;
+  leaves = all-weaker (IsPlacedBy a l.maps l.body state.registers.items before) (IsPlacedBy b l.maps l.body state.registers.items before)
+      state.leaves.items
+      (λ own at. placed-there a b l.maps l.body state.registers.items before point own onwards
+      (origin-holds (IsSameFor a b point) l.body own same at.places) at) fit.leaves;
+}
+
+-- the same the other way round
+for-back : (a b : List (List Snapshot)) (point : ℤ) (i : Instr) → IsSameFor a b point i → IsSameFor b a point i
+for-back a b point (Port buffer offset) s = same-back (get_or a buffer []) (get_or b buffer []) (point +ℤ offset) s
+for-back a b point (Win reducer buffer from to number) s = same-back (get_or a buffer []) (get_or b buffer []) (point +ℤ to) s
+for-back a b point (Const number) s = tt
+for-back a b point Null s = tt
+for-back a b point Argument s = tt
+for-back a b point (One op r) s = tt
+for-back a b point (Two op r q) s = tt
+for-back a b point (If c r q) s = tt
+
+pub fit-back : (a b : List (List Snapshot)) (l : LoopParts) (before point : ℤ) (state : LoopState)
+    → AllByRecursion (IsSameFor a b point) l.body → before ≤ℤ point → IsFit b l before state → IsFit a l before state
+fit-back a b l before point state same onwards fit =
+    fit-elsewhere b a l before point state (all-weaker (IsSameFor a b point) (IsSameFor b a point) l.body (for-back a b point) same) onwards fit
+
+registers-same : (f g : Instr → Option ℤ) (cells : List (Option ℤ)) (block : Block) → AllByRecursion (λ (i : Instr). f i ≡ g i) block
+    → with_registers f cells block ≡ with_registers g cells block
+registers-same f g cells [] same = refl
+registers-same f g cells (i ∷ block) same =
+    ap (λ (cell : Option ℤ). with_registers f (cells ++ cell ∷ []) block) (instr_cell-same f g cells i same.0)
+    ∙ registers-same f g (cells ++ instr_cell g cells i ∷ []) block same.1
+
+-- the cell of the body at the grid point
+cell-same : (a b : List (List Snapshot)) (l : LoopParts) (point : ℤ) → AllByRecursion (IsSameFor a b point) l.body
+    → (body_of (map stream_of a) l).cell point ≡ (body_of (map stream_of b) l).cell point
+cell-same a b l point same =
+    let f : Instr → Option ℤ = λ i. (leaf_of (map stream_of a) l.maps i).cell point in
+    let g : Instr → Option ℤ = λ i. (leaf_of (map stream_of b) l.maps i).cell point in
+    ap (last_or None) (registers-same f g [] l.body
+    (all-weaker (IsSameFor a b point) (λ (i : Instr). f i ≡ g i) l.body (λ i s. leaf_cell-same a b l.maps point i s) same))
+
+-- and the next mark of all its leaves
 next-same : (a b : List (List Snapshot)) (maps : List Block) (point : ℤ) (buffers known : ℕ) (block : Block)
     → AllByRecursion (IsReadable buffers known) block → AllByRecursion (IsSameFor a b point) block
     → SameNext (λ at. leaf_marked (map stream_of a) maps at block) (λ at. leaf_marked (map stream_of b) maps at block) point

@@ -7,9 +7,11 @@ pub mod NextMarks
 pub mod Numbered
 pub mod Origins
 pub mod Picked
+pub mod Placing
 pub mod Readies
 pub mod Registers
 pub mod Repeats
 pub mod Staying
 pub mod Stepwise
 pub mod TurnTicks
+pub mod Written

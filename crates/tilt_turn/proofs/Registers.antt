@@ -1,19 +1,20 @@
 -- Registers, one instruction after the other.
-use Rattle.std.proofs.Common.{◌≡◌, ◌<◌, ◌≤◌, ℕ, zero, suc, ℤ, pos, ◌+◌, true, false, inl, inr, List, [], ◌∷◌, ◌++◌, length, get_or, take, slice_get, ◌-◌, Option, Some, None}
+use Rattle.std.proofs.Common.{◌≡◌, ◌≢◌, ◌<◌, ◌≤◌, ℕ, zero, suc, ℤ, pos, ◌+◌, true, false, inl, inr, List, [], ◌∷◌, ◌++◌, length, get_or, take, slice_get, ◌-◌, Option, Some, None}
 use Rattle.std.proofs.Common.{refl, sym, ap, ◌∙◌, subst, arith, append_assoc}
 use Rattle.std.proofs.Math.ListN.{set}
 use Rattle.std.proofs.lemmas.Bool.{cases_Bool}
-use Rattle.std.proofs.lemmas.List.{append-nil, get_or-take, length_push, set_at, take-append-le, take_all}
+use Rattle.std.proofs.lemmas.List.{append-nil, get_or-set_other, get_or-take, length_push, set_at, take-append-le, take_all}
 use Rattle.std.proofs.lemmas.Option.{same_Some}
 use Rattle.std.specs.List.{AllByRecursion}
 use Rattle.tilt_code.specs.Body.{instr_cell, last_or, with_registers}
 use Rattle.tilt_code.specs.Code.{Block}
 use Rattle.tilt_code.specs.declared.instr.Instr.{Instr}
 use Rattle.tilt_code.specs.declared.instr.Instr.TheVariants.{Const, Null, Argument, Port, Win, One, Two, If}
-use Rattle.tilt_turn.proofs.Picked.{picked-all}
+use Rattle.tilt_turn.proofs.Picked.{IsPicked, picked-all}
 use Rattle.tilt_turn.specs.Held.{ConstantsStand, IsStanding}
 use Rattle.tilt_turn.specs.Picked.{AreRead, IsWithin, computed_by, computes, picked, reads}
 use Rattle.tilt_turn.specs.Ready.{NamesBelow, NameEarlier}
+use Rattle.tilt_turn.specs.declared.computed.Listed.{Listed}
 
 -- there is a register for each instruction
 pub stand-length : (block : Block) (cells : List (Option ℤ)) → ConstantsStand block cells → length cells ≡ length block
@@ -163,6 +164,29 @@ computed-all leaf none before (cell ∷ cells) n (i ∷ block) is stand read nam
           rw failed (ap (λ c. computed_by (picked computes (suc n) block) (before ++ c ∷ cells)) same
           ∙ ap (computed_by (picked computes (suc n) block)) (sym joined) ∙ rest)
     ]
+
+-- what reads a buffer isn't computed
+reads-apart : (i : Instr) → reads i ≡ true → computes i ≡ true → ⊥
+reads-apart (Const number) by passed = cc
+reads-apart Null by passed = cc
+reads-apart Argument by passed = cc
+reads-apart (Port buffer offset) by passed = cc
+reads-apart (Win reducer buffer from to number) by passed = cc
+reads-apart (One op a) by passed = cc
+reads-apart (Two op a b) by passed = cc
+reads-apart (If c a b) by passed = cc
+
+-- so its register stays as it is
+pub computed-apart : (P : Instr → Type 0) (body : Block) (listed : List Listed) (cells : List (Option ℤ)) (n : ℕ)
+    → AllByRecursion (IsPicked computes P body) listed → reads (get_or body n (Const (pos 0))) ≡ true
+    → get_or (computed_by listed cells) n None ≡ get_or cells n None
+computed-apart P body [] cells n all by = refl
+computed-apart P body (i ∷ rest) cells n all by =
+    let is = all.0 in
+    let cell = instr_cell (λ leaf. None) cells i.instr in
+    let apart : n ≢ i.place = λ same.
+    reads-apart i.instr (ap reads (sym is.from ∙ ap (λ k. get_or body k (Const (pos 0))) (sym same)) ∙ by) is.passes in
+    computed-apart P body rest (set cells i.place cell) n all.1 by ∙ get_or-set_other cells i.place n cell None apart
 
 -- the last register stands one place before the end
 last_or-get : (cell : Option ℤ) (cells : List (Option ℤ)) → slice_get (cell ∷ cells) (length (cell ∷ cells) - 1) ≡ Some (last_or cell cells)

@@ -1,130 +1,89 @@
--- Leaves that read again what an earlier one of their body reads.
-use Rattle.std.proofs.Common.{ℕ, zero, suc, ℤ, pos, ◌||◌, Bool, true, false, List, [], ◌∷◌, Option, None, below_more}
-use Rattle.std.proofs.Common.{◌≡◌, ◌<◌, ◌≤◌, ◌+◌, length, map, take, get_or, set, refl, sym, ap, ◌∙◌, arith}
-use Rattle.std.proofs.lemmas.List.{get_or-map, get_or-set_same, get_or_past, length-map}
-use Rattle.tilt_code.specs.Body.{body_of, leaf_marked, leaf_of}
-use Rattle.tilt_code.specs.Code.{Block, LoopParts}
+-- The places of a body that its leaves read.
+use Rattle.std.proofs.Common.{◌≡◌, ◌<◌, ℕ, zero, suc, ℤ, pos, inl, inr, List, [], ◌∷◌, ◌++◌, map, length, get_or, Option, None, refl, sym, ◌∙◌, subst, arith}
+use Rattle.std.proofs.Math.ListN.{set}
+use Rattle.std.specs.List.{AllByRecursion}
+use Rattle.tilt_code.specs.Code.{Block}
 use Rattle.tilt_code.specs.declared.instr.Instr.{Instr}
 use Rattle.tilt_code.specs.declared.instr.Instr.TheVariants.{Const}
-use Rattle.tilt_code.specs.declared.instr.Instr.TheVariants as instr
-use Rattle.tilt_stream.proofs.Ended.{names-same}
-use Rattle.tilt_stream.specs.Marks.{NamesNextMark, joined}
-use Rattle.tilt_stream.specs.Stream.{Stream}
-use Rattle.tilt_turn.proofs.Picked.{instr_of, leaf_at, picked-earlier}
-use Rattle.tilt_turn.specs.Held.{IsEarlier, IsRead, origin, repeated, told_by}
-use Rattle.tilt_turn.specs.Picked.{AreRead, picked, reads}
-use Rattle.tilt_turn.specs.declared.computed.Listed.{Listed}
-use Rattle.tilt_turn.specs.declared.leaf.Leaf.{Leaf}
-use Rattle.tilt_turn.specs.declared.leaf.Leaf.TheVariants as kind
-use Rattle.tilt_turn.specs.declared.repeat.Repeat.{Repeat}
+use Rattle.tilt_turn.proofs.Stepwise.{all-both, all-weaker}
+use Rattle.tilt_turn.proofs.Written.{written-here, written-right}
+use Rattle.tilt_turn.specs.Held.{AreAllRead, IsAmong, IsOneOf, places_of}
+use Rattle.tilt_turn.specs.Picked.{AreRead, written}
+use Rattle.tilt_turn.specs.declared.placed.Placed.{Placed}
 
--- what is repeated is one of the leaves before
-repeat-found : (body : Block) (i place : ℕ) (r : Repeat) → leaf_at body i ≡ record { place = place; instr = r.instr } → place < length body
-    → reads r.instr ≡ true → r.register < place → get_or body r.register (Const (pos 0)) ≡ r.instr
-    → (j : ℕ) × (j < i) × (j < length (picked reads 0 body)) × (leaf_at body j ≡ record { place = r.register; instr = r.instr })
-repeat-found body i place r is within by below same =
-    let low : r.register < (leaf_at body i).place = rw is below in
-    let found = picked-earlier reads 0 body i r.register r.register (Const (pos 0)) (record { place = length body; instr = instr.Null })
-    (omega arith) (omega arith) (rw same by) low in
-    rw same at found
+-- where one place more is among those of a leaf, the others still are, and it is
+pub one-of-more : (place more : ℕ) (own : List ℕ) → IsOneOf place own → IsOneOf place (own ++ more ∷ [])
+one-of-more place more [] is = absurd is
+one-of-more place more (first ∷ rest) (inl is) = inl is
+one-of-more place more (first ∷ rest) (inr is) = inr (one-of-more place more rest is)
 
--- the registers of so many leaves hold their cells
-abbrev pub ReadTo : (Instr → Option ℤ) → Block → ℕ → List (Option ℤ) → Type 0
-ReadTo leaf body i cells = (j : ℕ) → j < i
-    → get_or cells (leaf_at body j).place None ≡ leaf (get_or body (leaf_at body j).place (Const (pos 0)))
+pub one-of-last : (place : ℕ) (own : List ℕ) → IsOneOf place (own ++ place ∷ [])
+one-of-last place [] = inl refl
+one-of-last place (first ∷ rest) = inr (one-of-last place rest)
 
--- what is written rightly leaves what is right as it is
-right-set : (right : ℕ → Option ℤ) (cells : List (Option ℤ)) (place n : ℕ) → get_or cells n None ≡ right n
-    → get_or (set cells place (right place)) n None ≡ right n
-right-set right [] place n is = is
-right-set right (c ∷ cs) zero zero is = refl
-right-set right (c ∷ cs) zero (suc n) is = is
-right-set right (c ∷ cs) (suc place) zero is = is
-right-set right (c ∷ cs) (suc place) (suc n) is = right-set (λ k. right (suc k)) cs place n is
+-- what holds of all places of all leaves holds of each
+pub one-of-all : (P : ℕ → Type 0) (place : ℕ) (own : List ℕ) → AllByRecursion P own → IsOneOf place own → P place
+one-of-all P place [] all is = absurd is
+one-of-all P place (first ∷ rest) all (inl is) = subst P (sym is) all.0
+one-of-all P place (first ∷ rest) all (inr is) = one-of-all P place rest all.1 is
 
-pub read-step : (leaf : Instr → Option ℤ) (body : Block) (i : ℕ) (cells : List (Option ℤ)) (own : Listed) → leaf_at body i ≡ own
-    → get_or body own.place (Const (pos 0)) ≡ own.instr → own.place < length cells → ReadTo leaf body i cells
-    → ReadTo leaf body (i + 1) (set cells own.place (leaf own.instr))
-read-step leaf body i cells own is from within read =
-    let right : ℕ → Option ℤ = λ place. leaf (get_or body place (Const (pos 0))) in
-    rw (← from) (below_more
-    (λ j. get_or (set cells own.place (right own.place)) (leaf_at body j).place None ≡ right (leaf_at body j).place) i
-    (λ j below. right-set right cells own.place (leaf_at body j).place (read j below))
-    (rw is (get_or-set_same cells own.place (right own.place) None within)))
+pub among-all : (P : ℕ → Type 0) (place : ℕ) (leaves : List (List ℕ)) → AllByRecursion (AllByRecursion P) leaves → IsAmong place leaves → P place
+among-all P place [] all is = absurd is
+among-all P place (own ∷ rest) all (inl is) = one-of-all P place own all.0 is
+among-all P place (own ∷ rest) all (inr is) = among-all P place rest all.1 is
 
--- once all are read, each instruction that reads a buffer has its cell in its register
-pub read-all : (leaf : Instr → Option ℤ) (body : Block) (i : ℕ) (cells : List (Option ℤ)) → length (picked reads 0 body) ≤ i
-    → ReadTo leaf body i cells → AreRead leaf body cells
-read-all leaf body i cells all read = λ place within by.
-    let past : Listed = record { place = length body; instr = instr.Null } in
-    let last = get_or_past (picked reads 0 body) i past all in
-    let low : place < (leaf_at body i).place = rw last within in
-    let found = picked-earlier reads 0 body i place place (Const (pos 0)) past (omega arith) within by low in
-    rw found.3 at (read found.0 found.1)
+-- a leaf more
+pub among-more : (place : ℕ) (leaves : List Placed) (new : Placed) → IsAmong place (map places_of leaves)
+    → IsAmong place (map places_of (leaves ++ new ∷ []))
+among-more place [] new is = absurd is
+among-more place (p ∷ ps) new (inl is) = inl is
+among-more place (p ∷ ps) new (inr is) = inr (among-more place ps new is)
 
--- so what is repeated stands in its register
-pub read-earlier : (leaf : Instr → Option ℤ) (body : Block) (cells : List (Option ℤ)) (i place : ℕ) (own : Leaf)
-    → leaf_at body i ≡ record { place = place; instr = origin own } → place < length body → reads (origin own) ≡ true
-    → IsEarlier body place (repeated own) → length cells ≡ length body → ReadTo leaf body i cells → IsRead leaf cells (repeated own)
-read-earlier leaf body cells i place (kind.Port p) is within by earlier count read = tt
-read-earlier leaf body cells i place (kind.Window w) is within by earlier count read = tt
-read-earlier leaf body cells i place (kind.Again r) is within by earlier count read =
-    let below = earlier.0 in
-    let found = repeat-found body i place r is within by below earlier.1 in
-    (omega arith, rw found.3 at (read found.0 found.1) ∙ ap leaf earlier.1)
+pub among-last : (place : ℕ) (leaves : List Placed) (new : Placed) → IsOneOf place (places_of new)
+    → IsAmong place (map places_of (leaves ++ new ∷ []))
+among-last place [] new is = inl is
+among-last place (p ∷ ps) new is = inr (among-last place ps new is)
 
-or-again : (m rest : Bool) → ((m || rest) || m) ≡ (m || rest)
-or-again true rest = refl
-or-again false true = refl
-or-again false false = refl
+-- a leaf that has more places
+pub among-set : (place i : ℕ) (leaves : List Placed) (own new : Placed) → own ≡ get_or leaves i own
+    → (IsOneOf place (places_of own) → IsOneOf place (places_of new)) → IsAmong place (map places_of leaves)
+    → IsAmong place (map places_of (set leaves i new))
+among-set place i [] own new at more is = absurd is
+among-set place zero (p ∷ ps) own new at more (inl is) = inl (more (subst (λ (q : Placed). IsOneOf place (places_of q)) (sym at) is))
+among-set place zero (p ∷ ps) own new at more (inr is) = inr is
+among-set place (suc i) (p ∷ ps) own new at more (inl is) = inl is
+among-set place (suc i) (p ∷ ps) own new at more (inr is) = inr (among-set place i ps own new at more is)
 
-or-past : (b rest m : Bool) → (rest || m) ≡ rest → ((b || rest) || m) ≡ (b || rest)
-or-past true rest m is = refl
-or-past false rest m is = is
+pub among-at : (place i : ℕ) (leaves : List Placed) (new : Placed) → i < length leaves → IsOneOf place (places_of new)
+    → IsAmong place (map places_of (set leaves i new))
+among-at place i [] new within is = absurd (omega arith)
+among-at place zero (p ∷ ps) new within is = inl is
+among-at place (suc i) (p ∷ ps) new within is = inr (among-at place i ps new (omega arith) is)
 
--- the marks of an instruction are among those of a block in which it stands
-marked-among : (xs : List Stream) (maps : List Block) (tick : ℤ) (block : Block) (n k : ℕ) (d : Instr) → k < n → n ≤ length block
-    → (leaf_marked xs maps tick (take n block) || (leaf_of xs maps (get_or block k d)).mark tick) ≡ leaf_marked xs maps tick (take n block)
-marked-among xs maps tick [] n k d below within = absurd (omega arith)
-marked-among xs maps tick (i ∷ block) zero k d below within = absurd (omega arith)
-marked-among xs maps tick (i ∷ block) (suc n) zero d below within =
-    or-again ((leaf_of xs maps i).mark tick) (leaf_marked xs maps tick (take n block))
-marked-among xs maps tick (i ∷ block) (suc n) (suc k) d below within =
-    or-past ((leaf_of xs maps i).mark tick) (leaf_marked xs maps tick (take n block)) ((leaf_of xs maps (get_or block k d)).mark tick)
-    (marked-among xs maps tick block n k d (omega arith) (omega arith))
+-- the registers of these places hold what their instructions give
+abbrev pub AreRight : (Instr → Option ℤ) → Block → List (Option ℤ) → List ℕ → Type 0
+AreRight leaf body cells own = AllByRecursion (λ place. get_or cells place None ≡ leaf (get_or body place (Const (pos 0)))) own
 
-or-none : (b : Bool) → (b || false) ≡ b
-or-none true = refl
-or-none false = refl
+-- where a cell is written that is right, they still do
+pub right-stays : (leaf : Instr → Option ℤ) (body : Block) (cell : Option ℤ) (places : List ℕ) (cells : List (Option ℤ)) (leaves : List (List ℕ))
+    → AllByRecursion (λ place. leaf (get_or body place (Const (pos 0))) ≡ cell) places → AllByRecursion (AreRight leaf body cells) leaves
+    → AllByRecursion (AreRight leaf body (written cell places cells)) leaves
+right-stays leaf body cell places cells leaves right all =
+    all-weaker (AreRight leaf body cells) (AreRight leaf body (written cell places cells)) leaves
+    (λ own is. all-weaker _ _ own
+    (λ n at. written-right (λ k. leaf (get_or body k (Const (pos 0)))) cell places cells n right at) is) all
 
-told-marks : (xs : List Stream) (maps : List Block) (tick : ℤ) (body : Block) (i place : ℕ) (own : Leaf)
-    → leaf_at body i ≡ record { place = place; instr = origin own } → place < length body → reads (origin own) ≡ true
-    → IsEarlier body place (repeated own) → i ≤ length (picked reads 0 body)
-    → (leaf_marked xs maps tick (take i (map instr_of (picked reads 0 body))) || (leaf_of xs maps (origin own)).mark tick)
-    ≡ (leaf_marked xs maps tick (take i (map instr_of (picked reads 0 body)))
-    || (told_by (repeated own) (leaf_of xs maps (origin own))).mark tick)
-told-marks xs maps tick body i place (kind.Port p) is within by earlier all = refl
-told-marks xs maps tick body i place (kind.Window w) is within by earlier all = refl
-told-marks xs maps tick body i place (kind.Again r) is within by earlier all =
-    let found = repeat-found body i place r is within by earlier.0 earlier.1 in
-    let block = map instr_of (picked reads 0 body) in
-    let count = length-map (picked reads 0 body) instr_of in
-    let marked = leaf_marked xs maps tick (take i block) in
-    let same : get_or block found.0 instr.Null ≡ r.instr =
-    get_or-map instr_of (picked reads 0 body) found.0 (record { place = length body; instr = instr.Null }) instr.Null found.2
-    ∙ ap instr_of found.3 in
-    ap (λ (i : Instr). marked || (leaf_of xs maps i).mark tick) (sym same)
-    ∙ marked-among xs maps tick block i found.0 instr.Null found.1 (omega arith) ∙ sym (or-none marked)
+-- and those that are written do
+pub right-here : (leaf : Instr → Option ℤ) (body : Block) (cell : Option ℤ) (places : List ℕ) (cells : List (Option ℤ))
+    → AllByRecursion (λ place. leaf (get_or body place (Const (pos 0))) ≡ cell) places → AllByRecursion (λ place. place < length cells) places
+    → AreRight leaf body (written cell places cells) places
+right-here leaf body cell places cells right within =
+    all-both (λ place. leaf (get_or body place (Const (pos 0))) ≡ cell) (λ place. get_or (written cell places cells) place None ≡ cell)
+    (λ place. get_or (written cell places cells) place None ≡ leaf (get_or body place (Const (pos 0)))) places
+    (λ place is here. here ∙ sym is) right (written-here cell places cells within)
 
--- the marks so far and those that a leaf tells are the marks so far and those of the leaf
-pub told-next : (xs : List Stream) (l : LoopParts) (i place : ℕ) (own : Leaf) (tick : ℤ) (answer : Option ℤ)
-    → leaf_at l.body i ≡ record { place = place; instr = origin own } → place < length l.body → reads (origin own) ≡ true
-    → IsEarlier l.body place (repeated own) → i ≤ length (picked reads 0 l.body)
-    → NamesNextMark (joined (body_of xs (record l { body = take i (map instr_of (picked reads 0 l.body)) }))
-    (told_by (repeated own) (leaf_of xs l.maps (origin own)))) tick answer
-    → NamesNextMark (joined (body_of xs (record l { body = take i (map instr_of (picked reads 0 l.body)) }))
-    (leaf_of xs l.maps (origin own))) tick answer
-told-next xs l i place own tick answer is within by earlier all names =
-    names-same (joined (body_of xs (record l { body = take i (map instr_of (picked reads 0 l.body)) })) (leaf_of xs l.maps (origin own)))
-    (joined (body_of xs (record l { body = take i (map instr_of (picked reads 0 l.body)) })) (told_by (repeated own) (leaf_of xs l.maps (origin own))))
-    tick (λ other above. told-marks xs l.maps other l.body i place own is within by earlier all) answer names
+-- once all are right, each instruction that reads a buffer has its cell in its register
+pub right-all : (leaf : Instr → Option ℤ) (body : Block) (cells : List (Option ℤ)) (leaves : List (List ℕ)) → AreAllRead body leaves
+    → AllByRecursion (AreRight leaf body cells) leaves → AreRead leaf body cells
+right-all leaf body cells leaves all right = λ place within by.
+    among-all (λ n. get_or cells n None ≡ leaf (get_or body n (Const (pos 0)))) place leaves right (all place within by)

@@ -1,18 +1,27 @@
 -- What stays as it is where a window's last tick moves on below the next mark.
-use Rattle.std.proofs.Common.{◌≡◌, ◌≤◌, ℤ, pos, ◌+ℤ◌, ◌<ℤ◌, ◌≤ℤ◌, true, false, ◌||◌, int_lt, List, [], ◌∷◌, Option, Some, None, IfSome, ℕ, refl, sym, ◌∙◌, arith}
+use Rattle.std.proofs.Common.{◌≡◌, ◌≤◌, ℤ, pos, ◌+ℤ◌, ◌<ℤ◌, ◌≤ℤ◌, true, false, ◌||◌, int_lt, List, [], ◌∷◌, map, get_or, Option, Some, None, IfSome, ℕ, refl, sym, ◌∙◌, arith}
 use Rattle.std.specs.Ordering.{int_eq}
 use Rattle.std.proofs.lemmas.Bool.{or_parts}
 use Rattle.std.proofs.lemmas.Int.{ints, by_lt_z}
-use Rattle.tilt_stream.proofs.Constancy.{stream_of-changes}
+use Rattle.tilt_code.specs.Body.{leaf_of, mapped}
+use Rattle.tilt_code.specs.Code.{Block}
+use Rattle.tilt_stream.proofs.Constancy.{shifted-changes, stream_of-changes}
+use Rattle.tilt_stream.proofs.Mapped.{windowed_by-changes}
 use Rattle.tilt_stream.proofs.MarkedTicks.{cell-kept}
+use Rattle.tilt_stream.specs.Agreement.{ChangesOnlyAtMarks}
 use Rattle.tilt_stream.specs.Marks.{NamesNextMark}
 use Rattle.tilt_stream.specs.Snap.{Snapshot, ended_below}
 use Rattle.tilt_stream.specs.Stream.{Stream, mark_at, stream_of}
 use Rattle.tilt_stream.specs.declared.cursor.Cursor.{Cursor}
+use Rattle.tilt_stream.specs.declared.seen.Seen.{Seen}
 use Rattle.tilt_turn.proofs.Cursors.{kept-later}
-use Rattle.tilt_turn.specs.Held.{Knows, StandsAt, Tells}
+use Rattle.tilt_turn.proofs.Numbered.{read-stream}
+use Rattle.tilt_turn.specs.Held.{Knows, StandsAt, origin}
+use Rattle.tilt_turn.specs.Kinds.{kind_reducer}
+use Rattle.tilt_turn.specs.Sight.{Sees}
+use Rattle.tilt_turn.specs.declared.leaf.Leaf.{Leaf}
+use Rattle.tilt_turn.specs.declared.leaf.Leaf.TheVariants as leaf
 use Rattle.tilt_turn.specs.declared.moving.Moving.{Moving}
-use Rattle.tilt_turn.specs.declared.port.PortLeaf.{PortLeaf}
 
 -- a snapshot ends below both of two ticks or below neither, where it doesn't end from the first on and below the second
 ended-alike : (s : Snapshot) (tick later : ℤ) → tick ≤ℤ later → ((other : ℤ) → tick <ℤ other → other ≤ℤ later → int_eq other (s.end +ℤ pos 1) ≡ false)
@@ -99,28 +108,31 @@ pub clear-below : (x : Stream) (tick later : ℤ) (answer : Option ℤ) → Name
 clear-below x tick later None names stays other above within = names other above
 clear-below x tick later (Some next) names stays other above within = names.least other above (omega (arith, ints))
 
--- and that tick isn't the least of all
-pub later-low : (least later : ℤ) (answer : Option ℤ) → least <ℤ later → IfSome answer (λ next. later <ℤ next) → IfSome answer (λ next. least <ℤ next)
-later-low least later None low stays = tt
-later-low least later (Some next) low stays = omega (arith, ints)
+-- and an earlier tick stays below it too
+pub stays-before : (before later : ℤ) (answer : Option ℤ) → before ≤ℤ later → IfSome answer (λ next. later <ℤ next)
+    → IfSome answer (λ next. before <ℤ next)
+stays-before before later None onwards stays = tt
+stays-before before later (Some next) onwards stays = omega (arith, ints)
 
--- so a port tells the same there
-pub tells-later : (list : List Snapshot) (later : ℤ) (p moved : PortLeaf) → Tells list p → p.cursor.tick ≤ℤ later
-    → IfSome p.seen.next (λ next. later <ℤ next) → moved.cursor ≡ record { tick = later; place = p.cursor.place } → moved.seen ≡ p.seen
-    → Tells list moved
-tells-later list later p moved tells onwards stays is same =
-    let clear = clear-below (stream_of list) p.cursor.tick later p.seen.next tells.next stays in
-    rw (is, same) (record {
-      place = tells.place ∙ ended-stays list p.cursor.tick later onwards clear;
-      cell = tells.cell ∙ sym (cell-kept (stream_of list) p.cursor.tick later (stream_of-changes list) onwards clear);
-      next = names-later (stream_of list) p.cursor.tick later p.seen.next onwards clear tells.next;
-      low = tells.low;
-      high = tells.high;
-    })
+-- the stream of a leaf changes only at marks
+leaf-changes : (lists : List (List Snapshot)) (maps : List Block) (own : Leaf) → ChangesOnlyAtMarks (leaf_of (map stream_of lists) maps (origin own))
+leaf-changes lists maps (leaf.Port p) =
+    let list = get_or lists p.buffer [] in
+    rw (read-stream lists p.buffer) (shifted-changes (stream_of list) p.offset (stream_of-changes list))
+leaf-changes lists maps (leaf.Window w) =
+    let list = get_or lists w.buffer [] in
+    rw (read-stream lists w.buffer)
+    (windowed_by-changes (mapped maps w.map) (kind_reducer w.window.kind) w.from w.to (stream_of list) (stream_of-changes list))
 
-pub told-stands : (list : List Snapshot) (forgotten : ℕ) (later : ℤ) (c moved : Cursor) → c.place ≡ ended_below c.tick list → c.tick ≤ℤ later
-    → ((other : ℤ) → c.tick <ℤ other → other ≤ℤ later → mark_at list other ≡ false) → forgotten ≤ ended_below later list
-    → moved ≡ record { tick = later; place = c.place } → StandsAt list forgotten later moved
-told-stands list forgotten later c moved at onwards none kept is =
-    let place : c.place ≡ ended_below later list = at ∙ ended-stays list c.tick later onwards none in
-    rw is (record { place = place; kept = omega arith; stands = refl })
+-- so below its next mark the same is seen of it
+pub leaf-stays : (lists : List (List Snapshot)) (maps : List Block) (at point : ℤ) (own : Leaf) (seen : Seen) → at ≤ℤ point
+    → IfSome seen.next (λ next. point <ℤ next) → Sees (leaf_of (map stream_of lists) maps (origin own)) at seen
+    → Sees (leaf_of (map stream_of lists) maps (origin own)) point seen
+leaf-stays lists maps at point own seen onwards stays sees =
+    let x = leaf_of (map stream_of lists) maps (origin own) in
+    let clear = clear-below x at point seen.next sees.next stays in
+    record {
+      cell = sees.cell ∙ sym (cell-kept x at point (leaf-changes lists maps own) onwards clear);
+      next = names-later x at point seen.next onwards clear sees.next;
+      bounds = sees.bounds;
+    }

@@ -35,6 +35,11 @@ abbrev pub computed_by : List Listed → List (Option ℤ) → List (Option ℤ)
 computed_by [] cells = cells
 computed_by (i ∷ rest) cells = computed_by rest (set cells i.place (instr_cell (λ leaf. None) cells i.instr))
 
+-- registers of which those of these numbers were written
+abbrev pub written : Option ℤ → List ℕ → List (Option ℤ) → List (Option ℤ)
+written cell [] cells = cells
+written cell (place ∷ rest) cells = written cell rest (set cells place cell)
+
 -- registers in which those of a block that read a buffer have the cells of their leaves
 abbrev pub AreRead : (Instr → Option ℤ) → Block → List (Option ℤ) → Type 0
 AreRead leaf body cells = (place : ℕ) → place < length body → reads (get_or body place (Const (pos 0))) ≡ true

@@ -5,7 +5,7 @@ ghost use Rattle.tilt_stream.specs.Snap.{InOrder, Snapshot};
 
 use tilt_stream::{Buffer, Snap};
 
-/// The buffers that a loop reads, by their numbers: those of the inputs, and behind them those of the loops. One that isn't there is
+/// The buffers that a loop reads, by their numbers: those of the inputs, and after them those of the loops. One that isn't there is
 /// empty.
 pub trait Buffers {
     /// Of each one, all that were made so far.

@@ -42,7 +42,8 @@ impl Kind {
         }
     }
 
-    // Adds a cell behind the others, of which there are fewer than 2^62.
+    // Adds a cell after the others, of which there are fewer than 2^62.
+    #[inline(always)]
     pub(crate) fn push_back(&mut self, cell: Cell) -> Result<(), OutOfMemory>
         requires few { length (kind_cells self.old) < 4611686018427387904 }
         ensures cells { OnOk result (kind_cells self.new ≡ kind_cells self.old ++ cell ∷ []) }

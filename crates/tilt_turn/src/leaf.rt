@@ -6,7 +6,7 @@ ghost use Rattle.tilt_code.specs.Body.{leaf_of};
 ghost use Rattle.tilt_code.specs.Code.{Block};
 ghost use Rattle.tilt_stream.specs.Snap.{Snapshot};
 ghost use Rattle.tilt_stream.specs.Stream.{stream_of};
-ghost use Rattle.tilt_turn.specs.Held.{IsLeafAt, IsRead, MayGo, StandsAt, origin, repeated, told_by};
+ghost use Rattle.tilt_turn.specs.Held.{IsLeafAt, MayGo, StandsAt, origin};
 ghost use Rattle.tilt_turn.specs.Picked.{reads};
 ghost use Rattle.tilt_turn.specs.Ready.{IsBodyTick, IsKept, IsReadable, NameEarlier};
 ghost use Rattle.tilt_turn.specs.Sight.{Sees};
@@ -15,7 +15,6 @@ use crate::buffers::Buffers;
 use crate::moving::Moving;
 use crate::port::PortLeaf;
 use crate::reading::Reading;
-use crate::repeat::Repeat;
 use crate::span::WindowLeaf;
 use std::alloc::{AllocError as OutOfMemory, Global};
 use tilt_base::Cell;
@@ -27,8 +26,6 @@ use tilt_stream::{Cursor, Seen};
 pub(crate) enum Leaf {
     Port(PortLeaf),
     Window(WindowLeaf),
-    // One that reads what an earlier one of the body reads.
-    Again(Repeat),
 }
 
 impl Leaf {
@@ -37,7 +34,6 @@ impl Leaf {
         ensures none { result ≡ None → reads instr ≡ false }
         ensures reads { IfSome result (λ own. reads instr ≡ true) }
         ensures same { IfSome result (λ own. origin own ≡ instr) }
-        ensures first { IfSome result (λ own. repeated own ≡ None) }
         ensures fit { IfSome result (λ own. (lists : List (List Snapshot)) (maps : List Block) (point : ℤ)
             → IsReadable (length lists) (length maps) instr → neg_ℤ WIDE ≤ℤ point → IsLeafAt MayGo lists [] maps point own) }
     {
@@ -46,10 +42,6 @@ impl Leaf {
                 buffer,
                 offset,
                 cursor: Cursor::new(),
-                seen: Seen {
-                    cell: None,
-                    next: Some(i64::MIN),
-                },
             })),
             Instr::Win {
                 reducer,
@@ -73,12 +65,8 @@ impl Leaf {
     pub(crate) fn look<S: Buffers>(
         &mut self,
         reading: &Reading<'_, '_, S>,
-        registers: &[Cell],
         arguments: &mut Vec<Cell>,
     ) -> Result<Seen, OutOfMemory>
-        requires read { IsRead
-            (λ leaf. (leaf_of (map stream_of (S.lists reading.now.buffers.now)) reading.now.each.now.maps leaf).cell reading.now.point)
-            registers.now (repeated self.old) }
         requires earlier { AllByRecursion (NameEarlier 0) reading.now.each.now.maps }
         requires near { IsBodyTick reading.now.point }
         requires fit { (before : ℤ) × (before ≤ℤ reading.now.point)
@@ -88,17 +76,12 @@ impl Leaf {
         ensures at { OnOk result (IsLeafAt StandsAt (S.lists reading.now.buffers.now) (S.forgotten reading.now.buffers.now)
             reading.now.each.now.maps reading.now.point self.new) }
         ensures same { OnOk result (origin self.new ≡ origin self.old) }
-        ensures again { OnOk result (repeated self.new ≡ repeated self.old) }
-        ensures seen { IfOk result (Sees (told_by (repeated self.old) (leaf_of (map stream_of (S.lists reading.now.buffers.now))
-            reading.now.each.now.maps (origin self.old))) reading.now.point) }
+        ensures seen { IfOk result (Sees (leaf_of (map stream_of (S.lists reading.now.buffers.now)) reading.now.each.now.maps
+            (origin self.old)) reading.now.point) }
     {
         match self {
             Leaf::Port(port) => Ok(port.look(reading.buffers, reading.point)),
             Leaf::Window(window) => window.look(reading, arguments),
-            Leaf::Again(repeat) => Ok(Seen {
-                cell: registers[repeat.register],
-                next: None,
-            }),
         }
     }
 }

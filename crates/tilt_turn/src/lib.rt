@@ -1,13 +1,13 @@
 //! One loop's turn over any buffers.
 //!
-//! What comes in is a loop, the buffers before its own as one value, and the start of a snapshot; what goes out is that snapshot:
-//! the clause `snap` of `LoopState::turn` says that it is the one that `specs/Turn` of `tilt_code` defines. What is kept from turn
-//! to turn is a `LoopState`: for each port what it saw last, for each window the cells that it meets, the next mark of both, and a
-//! register for each instruction. The clause `fit` says that it is fit for the turns that follow. A turn goes over the leaves of the
-//! body, and then over what is computed by them; it doesn't look at constants. It reads a buffer only for a port or a window that
-//! comes to its next mark, and for a window that jumps past all that it held. It takes a few steps for each snapshot that its windows
-//! let in or out, and as many as the logarithm of those that its cursors pass; it takes memory as its windows grow, and for the
-//! registers of its maps.
+//! What comes in is a loop, the buffers before its own as one value, and the start of a snapshot; what goes out is that snapshot: the
+//! clause `snap` of `LoopState::turn` says that it is the one that `specs/Turn` of `tilt_code` defines. What is kept from turn to turn
+//! is a `LoopState`: where each port stands, the cells that each window meets, the next mark of both, and a register for each
+//! instruction. The clause `fit` says that it is fit for the turns that follow. A turn goes over the leaves of the body, and then over
+//! what is computed by them; it doesn't look at constants, nor at a port or a window below its next mark, whose register has its cell
+//! already. Equal instructions that read a buffer have one leaf, which writes the registers of all of them. It reads a buffer only for
+//! a port or a window that comes to its next mark. It takes a few steps for each snapshot that its windows let in or out, and as many
+//! as the logarithm of those that its cursors pass; it takes memory as its windows grow, and for the registers of its maps.
 //!
 //! A turn reads no snapshot that ends below the first tick that it reads at its own grid point, so the buffers needn't keep any
 //! (`specs/Ready`, `IsKept`). Over other lists that tell the same up to the last tick that it reads (`specs/Same`), a fit state

@@ -36,7 +36,8 @@ fn block_of(each: &Loop, number: u32) -> &[Instr]
     &each.maps[number as usize]
 }
 
-// What the block of a map gives on a cell.
+// What the block of a map gives on a cell. It isn't inlined, so that `mapped`, which mostly names no map, is.
+#[inline(never)]
 fn block_cell(block: &[Instr], cell: Cell, registers: &mut Vec<Cell>) -> Result<Cell, OutOfMemory>
     requires { NameEarlier 0 block.now }
     ensures { IfOk result (λ given. given ≡ block_cell (map_leaf cell) block.now) }

@@ -5,7 +5,7 @@ ghost use Rattle.tilt_stream.specs.Pointwise.{shifted};
 ghost use Rattle.tilt_stream.specs.Stream.{Stream};
 ghost use Rattle.tilt_turn.specs.Ready.{IsMarkTick};
 
-// The next mark of a stream that is read so many ticks behind the tick.
+// The next mark of a stream that is read so many ticks later than the tick.
 #[inline]
 pub(crate) fn earlier(next: Option<i64>, offset: i64) -> Option<i64>
     requires { IfSome next (λ mark. IsMarkTick (mark -ℤ offset)) }

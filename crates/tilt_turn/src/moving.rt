@@ -24,7 +24,7 @@ use tilt_base::{Cell, Reducer};
 use tilt_code::Loop;
 use tilt_stream::{Buffer, Cursor};
 
-// The cells that some ticks meet: one for the first tick, and one for each mark behind it. The cursor stands at the last tick, so
+// The cells that some ticks meet: one for the first tick, and one for each mark after it. The cursor stands at the last tick, so
 // no snapshot that ended before is looked at again. The next mark above the last tick is kept: as long as the last tick stays below
 // it, the buffer isn't read.
 #[derive(Drop)]
@@ -175,7 +175,7 @@ impl Moving {
         self.marks.front().copied()
     }
 
-    // Takes the cells in that the ticks behind those of the window meet, up to a last one.
+    // Takes the cells in that the ticks after those of the window meet, up to a last one.
     fn extend<B: Buffer>(
         &mut self,
         source: &Source<'_, '_, B>,
@@ -205,7 +205,8 @@ impl Moving {
         Ok(())
     }
 
-    // Moves the cursor to a tick, and adds the cell there.
+    // Moves the cursor to a tick, and adds the cell there. It is inlined, since a window does it for each cell that comes in.
+    #[inline(always)]
     fn push_at<B: Buffer>(
         &mut self,
         source: &Source<'_, '_, B>,

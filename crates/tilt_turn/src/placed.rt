@@ -1,34 +1,38 @@
-// The leaves of a body, each with the number of its register.
-ghost use Rattle.std.specs.Prelude.{◌≡◌, ◌<◌, ℤ, pos, true, List, [], ◌∷◌, ◌++◌, ◌≤ℤ◌, neg_ℤ, get_or, length, map, set, IfOk, IfSome, OnOk};
+// The leaves of a body, each with the numbers of its registers.
+ghost use Rattle.std.specs.Prelude.{◌≡◌, ◌<◌, ℕ, ℤ, pos, true, [], ◌∷◌, ◌++◌, ◌<ℤ◌, get_or, length, map, Option};
+ghost use Rattle.std.specs.Prelude.{IfOk, IfSome, IsTrue, OnOk, ◌↔◌};
 ghost use Rattle.std.specs.List.{AllByRecursion};
-ghost use Rattle.tilt_base.specs.declared.limits.TheConstants.{WIDE};
 ghost use Rattle.tilt_code.specs.Body.{leaf_of};
 ghost use Rattle.tilt_code.specs.Code.{Block};
 ghost use Rattle.tilt_code.specs.declared.instr.Instr.TheVariants.{Const};
 ghost use Rattle.tilt_stream.specs.Marks.{NamesNextMark};
-ghost use Rattle.tilt_stream.specs.Snap.{Snapshot};
 ghost use Rattle.tilt_stream.specs.Stream.{stream_of};
-ghost use Rattle.tilt_turn.specs.Held.{IsEarlier, IsLeafAt, IsPlacedAt, IsRead, MayGo, StandsAt, as_listed, origin, repeated, told_by};
-ghost use Rattle.tilt_turn.specs.Picked.{picked, reads};
-ghost use Rattle.tilt_turn.specs.Ready.{IsBodyTick, IsKept, IsMarkTick, IsReadable, NameEarlier};
+ghost use Rattle.tilt_turn.specs.Held.{AreAllRead, IsAmong, IsPlaceOf, IsPlacedBy, IsUnread, origin, places_of};
+ghost use Rattle.tilt_turn.specs.Picked.{reads, written};
+ghost use Rattle.tilt_turn.specs.Ready.{IsBodyTick, IsKept, IsMarkTick, NameEarlier};
 
 use crate::buffers::Buffers;
 use crate::leaf::Leaf;
 use crate::reading::Reading;
-use crate::repeat::{Repeat, earlier_equal};
+use crate::repeat::earlier_equal;
 use std::alloc::{AllocError as OutOfMemory, Global};
 use tilt_base::Cell;
 use tilt_code::Instr;
 
-// A leaf of a body, with the number of its register.
+// A leaf of a body, with the number of its register, those of the registers of later instructions that read the same, and its next mark
+// as it was told where it was looked at last: below it the registers stay as they are. It is the least tick where the leaf was never
+// looked at.
 #[derive(Drop)]
 pub(crate) struct Placed {
     pub(crate) place: usize,
+    pub(crate) again: Vec<usize>,
     pub(crate) leaf: Leaf,
+    pub(crate) next: Option<i64>,
 }
 
 impl Placed {
-    // Moves on to the grid point of a reading, writes the register as it is there, and gives the next mark.
+    // Makes the registers those of the grid point of a reading, and gives the next mark above it. Below the mark that is kept the leaf
+    // isn't looked at: its registers have its cell already.
     #[inline]
     pub(crate) fn step<S: Buffers>(
         &mut self,
@@ -36,95 +40,103 @@ impl Placed {
         registers: &mut [Cell],
         arguments: &mut Vec<Cell>,
     ) -> Result<Option<i64>, OutOfMemory>
-        requires room { self.old.place < length registers.old }
-        requires read { IsRead
-            (λ leaf. (leaf_of (map stream_of (S.lists reading.now.buffers.now)) reading.now.each.now.maps leaf).cell reading.now.point)
-            registers.old (repeated self.old.leaf) }
+        requires room { length registers.old ≡ length reading.now.each.now.body }
         requires earlier { AllByRecursion (NameEarlier 0) reading.now.each.now.maps }
         requires near { IsBodyTick reading.now.point }
-        requires fit { (before : ℤ) × (before ≤ℤ reading.now.point) × IsPlacedAt MayGo (S.lists reading.now.buffers.now) []
-            reading.now.each.now.maps reading.now.each.now.body before self.old }
+        requires fit { IsPlacedBy (S.lists reading.now.buffers.now) reading.now.each.now.maps reading.now.each.now.body registers.old
+            reading.now.point self.old }
         requires kept { IsKept (S.lists reading.now.buffers.now) (S.forgotten reading.now.buffers.now) reading.now.point
             (origin self.old.leaf) }
-        ensures at { OnOk result (IsPlacedAt StandsAt (S.lists reading.now.buffers.now) (S.forgotten reading.now.buffers.now)
-            reading.now.each.now.maps reading.now.each.now.body reading.now.point self.new) }
-        ensures same { OnOk result (as_listed self.new ≡ as_listed self.old) }
-        ensures cells { OnOk result (registers.new ≡ set registers.old self.old.place ((leaf_of
-            (map stream_of (S.lists reading.now.buffers.now)) reading.now.each.now.maps (origin self.old.leaf)).cell reading.now.point)) }
-        ensures next { IfOk result (NamesNextMark (told_by (repeated self.old.leaf)
-            (leaf_of (map stream_of (S.lists reading.now.buffers.now)) reading.now.each.now.maps (origin self.old.leaf)))
-            reading.now.point) }
+        ensures fit { OnOk result (IsPlacedBy (S.lists reading.now.buffers.now) reading.now.each.now.maps reading.now.each.now.body
+            registers.new reading.now.point self.new) }
+        ensures same { OnOk result (places_of self.new ≡ places_of self.old) }
+        ensures cells { OnOk result (registers.new ≡ written ((leaf_of (map stream_of (S.lists reading.now.buffers.now))
+            reading.now.each.now.maps (origin self.old.leaf)).cell reading.now.point) (places_of self.old) registers.old) }
+        ensures next { IfOk result (NamesNextMark (leaf_of (map stream_of (S.lists reading.now.buffers.now)) reading.now.each.now.maps
+            (origin self.old.leaf)) reading.now.point) }
         ensures bounds { IfOk result (λ next. IfSome next IsMarkTick) }
     {
-        let seen = self.leaf.look(reading, registers, arguments)?;
+        if self.lasts_until(reading.point) {
+            return Ok(self.next);
+        }
+        let seen = self.leaf.look(reading, arguments)?;
         registers[self.place] = seen.cell;
+        write_all(registers, &self.again, seen.cell);
+        self.next = seen.next;
         Ok(seen.next)
+    }
+
+    // Whether its next mark lies above a grid point.
+    #[inline]
+    fn lasts_until(&self, point: i64) -> bool
+        ensures { IsTrue result ↔ IfSome self.now.next (λ next. point <ℤ next) }
+    {
+        match self.next {
+            Some(next) => point < next,
+            None => true,
+        }
+    }
+
+    // Adds the place of a later instruction that reads the same.
+    fn add(&mut self, place: usize) -> Result<(), OutOfMemory>
+        ensures unread { OnOk result ((body : Block) → IsUnread body self.old → IsPlaceOf body (origin self.old.leaf) place
+            → IsUnread body self.new) }
+        ensures places { OnOk result (places_of self.new ≡ places_of self.old ++ place ∷ []) }
+    {
+        self.again.push(place)?;
+        Ok(())
+    }
+}
+
+// Writes a cell to these registers.
+#[inline]
+fn write_all(registers: &mut [Cell], places: &[usize], cell: Cell)
+    requires { AllByRecursion (λ place. place < length registers.old) places.now }
+    ensures { registers.new ≡ written cell places.now registers.old }
+{
+    for place in places {
+        registers[*place] = cell;
     }
 }
 
 // The leaves of a body, which have read nothing so far.
 pub(crate) fn leaves_of(alloc: Global, body: &[Instr]) -> Result<Vec<Placed>, OutOfMemory>
-    ensures same { IfOk result (λ leaves. map as_listed leaves.items ≡ picked reads 0 body.now) }
-    ensures fit { IfOk result (λ leaves. (lists : List (List Snapshot)) (maps : List Block) (point : ℤ)
-        → AllByRecursion (IsReadable (length lists) (length maps)) body.now → neg_ℤ WIDE ≤ℤ point
-        → AllByRecursion (IsPlacedAt MayGo lists [] maps body.now point) leaves.items) }
+    ensures all { IfOk result (λ leaves. AreAllRead body.now (map places_of leaves.items)) }
+    ensures unread { IfOk result (λ leaves. AllByRecursion (IsUnread body.now) leaves.items) }
 {
     let mut leaves = Vec::new(alloc);
-    let mut distinct = Vec::new(alloc);
     for place in 0..body.len() {
-        add_leaf(alloc, body, place, &mut leaves, &mut distinct)?;
+        add_leaf(alloc, body, place, &mut leaves)?;
     }
     Ok(leaves)
 }
 
-// Adds the leaf in a place of a body, where there is one. It has read nothing so far.
+// Adds what stands in a place of a body, where it reads a buffer: to a leaf that reads the same, or else as one that has read nothing so
+// far.
 fn add_leaf(
     alloc: Global,
     body: &[Instr],
     place: usize,
     leaves: &mut Vec<Placed>,
-    distinct: &mut Vec<usize>,
 ) -> Result<(), OutOfMemory>
-    requires { place < length body.now }
-    ensures same { OnOk result (map as_listed leaves.new.items
-        ≡ map as_listed leaves.old.items ++ picked reads place (get_or body.now place (Const (pos 0)) ∷ [])) }
-    ensures fit { OnOk result ((lists : List (List Snapshot)) (maps : List Block) (point : ℤ)
-        → IsReadable (length lists) (length maps) (get_or body.now place (Const (pos 0))) → neg_ℤ WIDE ≤ℤ point
-        → AllByRecursion (IsPlacedAt MayGo lists [] maps body.now point) leaves.old.items
-        → AllByRecursion (IsPlacedAt MayGo lists [] maps body.now point) leaves.new.items) }
+    requires place { place < length body.now }
+    requires unread { AllByRecursion (IsUnread body.now) leaves.old.items }
+    ensures unread { OnOk result (AllByRecursion (IsUnread body.now) leaves.new.items) }
+    ensures before { OnOk result ((earlier : ℕ) → IsAmong earlier (map places_of leaves.old.items)
+        → IsAmong earlier (map places_of leaves.new.items)) }
+    ensures here { OnOk result (reads (get_or body.now place (Const (pos 0))) ≡ true → IsAmong place (map places_of leaves.new.items)) }
 {
     let Some(leaf) = Leaf::new(alloc, body[place]) else {
         return Ok(());
     };
-    let leaf = first_or_again(leaf, body, place, distinct)?;
-    leaves.push(Placed { place, leaf })?;
-    Ok(())
-}
-
-// The leaf in a place of a body. Where it reads what an earlier one reads, it becomes one that repeats that one; the places of the
-// others are distinct ones.
-fn first_or_again(
-    leaf: Leaf,
-    body: &[Instr],
-    place: usize,
-    distinct: &mut Vec<usize>,
-) -> Result<Leaf, OutOfMemory>
-    requires place { place < length body.now }
-    requires same { origin leaf ≡ get_or body.now place (Const (pos 0)) }
-    requires first { repeated leaf ≡ None }
-    ensures same { IfOk result (λ own. origin own ≡ origin leaf) }
-    ensures again { IfOk result (λ own. IsEarlier body.now place (repeated own)) }
-    ensures fit { IfOk result (λ own. (lists : List (List Snapshot)) (maps : List Block) (point : ℤ)
-        → IsLeafAt MayGo lists [] maps point leaf → IsLeafAt MayGo lists [] maps point own) }
-{
-    match earlier_equal(body, place, distinct) {
-        Some(register) => Ok(Leaf::Again(Repeat {
-            instr: body[place],
-            register,
-        })),
-        None => {
-            distinct.push(place)?;
-            Ok(leaf)
-        }
+    match earlier_equal(body, place, leaves) {
+        Some(number) => leaves[number].add(place)?,
+        None => leaves.push(Placed {
+            place,
+            again: Vec::new(alloc),
+            leaf,
+            next: Some(i64::MIN),
+        })?,
     }
+    Ok(())
 }

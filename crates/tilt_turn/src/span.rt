@@ -21,7 +21,7 @@ use tilt_base::Cell;
 use tilt_code::Loop;
 use tilt_stream::Seen;
 
-// The ticks from `from + 1` to `to` behind the grid point, over a buffer, each cell by a map.
+// The ticks from `from + 1` to `to` ticks later than the grid point, over a buffer, each cell by a map.
 #[derive(Drop)]
 pub(crate) struct WindowLeaf {
     pub(crate) buffer: u32,
@@ -32,7 +32,9 @@ pub(crate) struct WindowLeaf {
 }
 
 impl WindowLeaf {
-    // Moves on to the grid point of a reading, and gives what it reads there.
+    // Moves on to the grid point of a reading, and gives what it reads there. It isn't inlined, so that a turn is small for the leaves that
+    // stay.
+    #[inline(never)]
     pub(crate) fn look<S: Buffers>(
         &mut self,
         reading: &Reading<'_, '_, S>,

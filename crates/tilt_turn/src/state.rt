@@ -1,5 +1,5 @@
 // What is kept of a loop from one turn to the next.
-ghost use Rattle.std.specs.Prelude.{◌≡◌, ℕ, ℤ, pos, List, [], ◌+ℤ◌, ◌<ℤ◌, ◌≤ℤ◌, neg_ℤ, length, map, IfOk, IfSome, OnOk};
+ghost use Rattle.std.specs.Prelude.{◌≡◌, ℕ, ℤ, pos, List, ◌+ℤ◌, ◌<ℤ◌, ◌≤ℤ◌, neg_ℤ, length, map, IfOk, IfSome, OnOk};
 ghost use Rattle.std.specs.List.{AllByRecursion};
 ghost use Rattle.tilt_base.specs.Grid.{ceil};
 ghost use Rattle.tilt_base.specs.declared.limits.TheConstants.{WIDE};
@@ -8,8 +8,8 @@ ghost use Rattle.tilt_code.specs.Turn.{turn};
 ghost use Rattle.tilt_stream.specs.Marks.{NamesNextMark};
 ghost use Rattle.tilt_stream.specs.Snap.{Snapshot};
 ghost use Rattle.tilt_stream.specs.Stream.{Stream, stream_of};
-ghost use Rattle.tilt_turn.specs.Held.{ConstantsStand, IsFit, IsPlacedAt, MayGo, StandsAt, as_listed};
-ghost use Rattle.tilt_turn.specs.Picked.{AreRead, computes, picked, reads};
+ghost use Rattle.tilt_turn.specs.Held.{AreAllRead, ConstantsStand, IsFit, IsPlacedBy, places_of};
+ghost use Rattle.tilt_turn.specs.Picked.{AreRead, computes, picked};
 ghost use Rattle.tilt_turn.specs.Ready.{IsBodyTick, IsKept, IsMarkTick, IsReady, NameEarlier};
 ghost use Rattle.tilt_turn.specs.Sight.{Sees};
 
@@ -24,8 +24,9 @@ use tilt_base::Cell;
 use tilt_code::Loop;
 use tilt_stream::{Seen, Snap};
 
-/// What is kept of a loop from one turn to the next: what each port saw last, what each window holds, and a register for each
-/// instruction, in which constants stand all the time. It takes memory as its windows grow, and for the registers of its maps.
+/// What is kept of a loop from one turn to the next: where each port stands, what each window holds, the next mark of both, and a register
+/// for each instruction. Constants stand in theirs all the time, and what a port or a window reads up to its next mark. It takes memory as
+/// its windows grow, and for the registers of its maps.
 #[derive(Drop)]
 pub struct LoopState {
     leaves: Vec<Placed>,
@@ -106,8 +107,8 @@ fn point_of(each: &Loop, start: i64) -> i64
     each.grid.ceil(start + 1)
 }
 
-// The result of a body at the grid point of a reading, and its next mark: first the leaves move there, and then what is computed by them
-// is computed.
+// The result of a body at the grid point of a reading, and its next mark: first the registers of the leaves have their cells there, and
+// then what is computed by them is computed.
 #[inline]
 fn body_seen<S: Buffers>(
     leaves: &mut [Placed],
@@ -116,19 +117,19 @@ fn body_seen<S: Buffers>(
     registers: &mut [Cell],
     arguments: &mut Vec<Cell>,
 ) -> Result<Seen, OutOfMemory>
-    requires same { map as_listed leaves.old ≡ picked reads 0 reading.now.each.now.body }
+    requires all { AreAllRead reading.now.each.now.body (map places_of leaves.old) }
     requires computed { computed.now ≡ picked computes 0 reading.now.each.now.body }
     requires names { NameEarlier 0 reading.now.each.now.body }
     requires earlier { AllByRecursion (NameEarlier 0) reading.now.each.now.maps }
     requires stand { ConstantsStand reading.now.each.now.body registers.old }
     requires near { IsBodyTick reading.now.point }
-    requires fit { (before : ℤ) × (before ≤ℤ reading.now.point) × AllByRecursion (IsPlacedAt MayGo
-        (S.lists reading.now.buffers.now) [] reading.now.each.now.maps reading.now.each.now.body before) leaves.old }
+    requires fit { AllByRecursion (IsPlacedBy (S.lists reading.now.buffers.now) reading.now.each.now.maps
+        reading.now.each.now.body registers.old reading.now.point) leaves.old }
     requires kept { AllByRecursion (IsKept (S.lists reading.now.buffers.now) (S.forgotten reading.now.buffers.now) reading.now.point)
         reading.now.each.now.body }
-    ensures at { OnOk result (AllByRecursion (IsPlacedAt StandsAt (S.lists reading.now.buffers.now)
-        (S.forgotten reading.now.buffers.now) reading.now.each.now.maps reading.now.each.now.body reading.now.point) leaves.new) }
-    ensures same { OnOk result (map as_listed leaves.new ≡ map as_listed leaves.old) }
+    ensures fit { OnOk result (AllByRecursion (IsPlacedBy (S.lists reading.now.buffers.now) reading.now.each.now.maps
+        reading.now.each.now.body registers.new reading.now.point) leaves.new) }
+    ensures same { OnOk result (map places_of leaves.new ≡ map places_of leaves.old) }
     ensures stand { OnOk result (ConstantsStand reading.now.each.now.body registers.new) }
     ensures seen { IfOk result
         (Sees (body_of (map stream_of (S.lists reading.now.buffers.now)) reading.now.each.now) reading.now.point) }
@@ -141,8 +142,8 @@ fn body_seen<S: Buffers>(
     })
 }
 
-// Moves the leaves to the grid point of a reading, and gives the next mark of the body, which is the least of theirs. Each writes its
-// register.
+// Makes the registers of the leaves those of the grid point of a reading, and gives the next mark of the body, which is the least of
+// theirs.
 #[inline]
 fn leaves_next<S: Buffers>(
     leaves: &mut [Placed],
@@ -150,17 +151,17 @@ fn leaves_next<S: Buffers>(
     registers: &mut [Cell],
     arguments: &mut Vec<Cell>,
 ) -> Result<Option<i64>, OutOfMemory>
-    requires same { map as_listed leaves.old ≡ picked reads 0 reading.now.each.now.body }
+    requires all { AreAllRead reading.now.each.now.body (map places_of leaves.old) }
     requires earlier { AllByRecursion (NameEarlier 0) reading.now.each.now.maps }
     requires stand { ConstantsStand reading.now.each.now.body registers.old }
     requires near { IsBodyTick reading.now.point }
-    requires fit { (before : ℤ) × (before ≤ℤ reading.now.point) × AllByRecursion (IsPlacedAt MayGo
-        (S.lists reading.now.buffers.now) [] reading.now.each.now.maps reading.now.each.now.body before) leaves.old }
+    requires fit { AllByRecursion (IsPlacedBy (S.lists reading.now.buffers.now) reading.now.each.now.maps
+        reading.now.each.now.body registers.old reading.now.point) leaves.old }
     requires kept { AllByRecursion (IsKept (S.lists reading.now.buffers.now) (S.forgotten reading.now.buffers.now) reading.now.point)
         reading.now.each.now.body }
-    ensures at { OnOk result (AllByRecursion (IsPlacedAt StandsAt (S.lists reading.now.buffers.now)
-        (S.forgotten reading.now.buffers.now) reading.now.each.now.maps reading.now.each.now.body reading.now.point) leaves.new) }
-    ensures same { OnOk result (map as_listed leaves.new ≡ map as_listed leaves.old) }
+    ensures fit { OnOk result (AllByRecursion (IsPlacedBy (S.lists reading.now.buffers.now) reading.now.each.now.maps
+        reading.now.each.now.body registers.new reading.now.point) leaves.new) }
+    ensures same { OnOk result (map places_of leaves.new ≡ map places_of leaves.old) }
     ensures stand { OnOk result (ConstantsStand reading.now.each.now.body registers.new) }
     ensures read { OnOk result (AreRead
         (λ leaf. (leaf_of (map stream_of (S.lists reading.now.buffers.now)) reading.now.each.now.maps leaf).cell reading.now.point)

@@ -1,4 +1,4 @@
-use Rattle.std.proofs.Common.{◌≡◌, ◌∙◌, ap, sym, subst, FitsSigned, w64, to_z, of_z, pos, ◌+ℤ◌, [], map, drop, length, rules, arith}
+use Rattle.std.proofs.Common.{◌≡◌, ◌∙◌, ap, sym, subst, FitsSigned, w64, to_z, of_z, pos, ◌+ℤ◌, ℤ, List, Option, map, drop, length, rules, arith}
 use Rattle.std.specs.List.{AllByRecursion}
 use Rattle.std.proofs.lemmas.Int.{to_z-of_z}
 use Rattle.std.proofs.lemmas.List.{length-map, take_at}
@@ -7,11 +7,10 @@ use Rattle.tilt_code.proofs.Turns.{turn-ends}
 use Rattle.tilt_code.specs.Body.{body_of}
 use Rattle.tilt_code.specs.Turn.{turn}
 use Rattle.tilt_stream.specs.Stream.{stream_of}
-use Rattle.tilt_turn.proofs.Origins.{placed-may}
+use Rattle.tilt_turn.proofs.Placing.{placed-later}
 use Rattle.tilt_turn.proofs.Registers.{stand-length}
 use Rattle.tilt_turn.proofs.Stepwise.{all-weaker}
-use Rattle.tilt_turn.specs.Held.{ConstantsStand, IsPlacedAt, MayGo, StandsAt, as_listed}
-use Rattle.tilt_turn.specs.Picked.{picked, reads}
+use Rattle.tilt_turn.specs.Held.{AreAllRead, ConstantsStand, IsPlacedBy, places_of}
 use Rattle.tilt_turn.specs.Sight.{Sees}
 use Rattle.tilt_turn.proofs.state.LoopState.turn.Goals as goal
 use Rattle.tilt_turn.proofs.state.LoopState.turn.Goals.{After-turn_end-end, In_ok-seen}
@@ -24,6 +23,22 @@ body_seen-requires-clause-kept g c =
     let value : point ≡ ceil c.args.each.now.grid (c.args.start +ℤ pos 1) =
     rw (to_z-of_z w64 c.args.start c.ranges.start) at c.point_of-point.ensures.value in
     rw (to_z-of_z w64 point fits, value) c.requires.kept
+
+pub body_seen-requires-clause-fit : goal.body_seen-requires-clause-fit
+body_seen-requires-clause-fit g c =
+    let each = c.args.each.now in
+    let lists = g.S.Buffers.lists c.args.buffers.now in
+    let cells = c.args.self.now.registers.items in
+    let point = c.point_of-point.result in
+    let fits : FitsSigned w64 point = search rules in
+    let value : point ≡ ceil each.grid (c.args.start +ℤ pos 1) =
+    rw (to_z-of_z w64 c.args.start c.ranges.start) at c.point_of-point.ensures.value in
+    let onwards = c.requires.fit.1 in
+    rw (to_z-of_z w64 point fits, value, c.deref_mut.ensures.value, c.deref_mut-2.ensures.value)
+    (all-weaker (IsPlacedBy lists each.maps each.body cells c.requires.fit.0)
+    (IsPlacedBy lists each.maps each.body cells (ceil each.grid (c.args.start +ℤ pos 1))) c.args.self.now.leaves.items
+    (λ own at. placed-later lists each.maps each.body cells c.requires.fit.0 (ceil each.grid (c.args.start +ℤ pos 1)) own onwards at)
+    c.requires.fit.2.leaves)
 
 -- what is seen of the body
 seen_is : (g : Over) (c : In_ok-seen g) → Sees (body_of (map stream_of (g.S.Buffers.lists c.args.buffers.now)) c.args.each.now)
@@ -62,13 +77,12 @@ returns-clause-snap g c =
 pub returns-clause-fit : goal.returns-clause-fit
 returns-clause-fit g c =
     let lists = g.S.Buffers.lists c.args.buffers.now in
-    let forgotten = g.S.Buffers.forgotten c.args.buffers.now in
     let each = c.args.each.now in
     let new = c.body_seen.new.leaves in
     let old = c.deref_mut.result.now in
     let same = ap length c.in_ok-seen.ensures.same in
-    let a = length-map new as_listed in
-    let b = length-map old as_listed in
+    let a = length-map new places_of in
+    let b = length-map old places_of in
     let len : length new ≡ c.args.self.now.leaves.len = omega arith in
     let cells = c.body_seen.new.registers in
     let here : c.deref_mut-2.result.now ≡ c.args.self.now.registers.items = c.deref_mut-2.ensures.value in
@@ -80,15 +94,14 @@ returns-clause-fit g c =
     let leaves = take_at new (drop (length new) c.args.self.now.leaves.items) c.args.self.now.leaves.len len in
     let point = c.point_of-point.result in
     let fits : FitsSigned w64 point = search rules in
-    let at = rw (to_z-of_z w64 point fits) at c.in_ok-seen.ensures.at in
+    let at = rw (to_z-of_z w64 point fits) at c.in_ok-seen.ensures.fit in
     let value : point ≡ ceil each.grid (c.args.start +ℤ pos 1) = rw (to_z-of_z w64 c.args.start c.ranges.start) at c.point_of-point.ensures.value in
-    let instrs : map as_listed new ≡ picked reads 0 each.body =
-    c.in_ok-seen.ensures.same ∙ ap (map as_listed) c.deref_mut.ensures.value ∙ c.requires.fit.2.same in
-    let may = all-weaker (IsPlacedAt StandsAt lists forgotten each.maps each.body point) (IsPlacedAt MayGo lists [] each.maps each.body point) new
-    (placed-may lists forgotten each.maps each.body point) at in
+    let places : map places_of new ≡ map places_of c.args.self.now.leaves.items =
+    c.in_ok-seen.ensures.same ∙ ap (map places_of) c.deref_mut.ensures.value in
     rw (← value) (record {
-      same = ap (map as_listed) leaves ∙ instrs;
-      leaves = subst (AllByRecursion (IsPlacedAt MayGo lists [] each.maps each.body point)) (sym leaves) may;
+      all = subst (AreAllRead each.body) (sym (ap (map places_of) leaves ∙ places)) c.requires.fit.2.all;
+      leaves = subst (AllByRecursion (IsPlacedBy lists each.maps each.body _ point)) (sym leaves)
+          (subst (λ (all : List (Option ℤ)). AllByRecursion (IsPlacedBy lists each.maps each.body all point) new) (sym registers) at);
       computed = c.requires.fit.2.computed;
       registers = subst (ConstantsStand each.body) (sym registers) stand;
     })
