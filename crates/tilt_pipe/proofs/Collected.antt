@@ -22,8 +22,7 @@ run-snapshots code inputs is =
     let loop = (work-is code inputs (length code.loops - 1) l.work l.is).loop in
     let stretch = (all-slice_get IsLoop code.loops (length code.loops - 1) l.work.loop is.grammatical.loops loop).stretch in
     let timed = loops-timed code.loops is.grammatical.loops in
-    subst AreSnapshots l.run
-    (Fill-AreSnapshots l.work.loop.lo l.work.loop.hi l.work.whole stretch.low stretch.high
+    subst AreSnapshots l.run (Fill-AreSnapshots l.work.loop.lo l.work.loop.hi l.work.whole stretch.low stretch.high
     (work-fills code inputs (length code.loops - 1) l.work timed l.is).0)
 
 -- the one at a place starts where those before it end

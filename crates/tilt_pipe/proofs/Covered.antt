@@ -40,8 +40,7 @@ read-later reads r buffer x it = let among = it.among in record { among = (suc a
 each-later : (inputs : ℕ) (reads : List Read) (r : Read) (sources : List Source) → AreSources inputs reads sources
     → AllByRecursion (IsSource inputs (r ∷ reads)) sources
 each-later inputs reads r sources of =
-    all-each (IsSource inputs (r ∷ reads)) sources
-    (λ i s at.
+    all-each (IsSource inputs (r ∷ reads)) sources (λ i s at.
     let it = all-slice_get (IsSource inputs reads) sources i s of.each at in
     record {
       first = (it.first.0, read-later reads r (inputs + s.place) it.first.0 it.first.1, it.first.2);
@@ -81,8 +80,7 @@ sources-push inputs place reads r old is of =
       of = covered.of;
       first = covered.first;
       last = covered.last;
-    })
-    (λ some. record { source = s; among = Contains-push old s; of = is; first = omega (arith, ints); last = omega (arith, ints) })
+    }) (λ some. record { source = s; among = Contains-push old s; of = is; first = omega (arith, ints); last = omega (arith, ints) })
 
 -- a source with one read more
 abbrev pub widened : Source → Read → Source
@@ -97,15 +95,12 @@ sources-set inputs reads r old n s at is of =
     let here : IsRead (r ∷ reads) (inputs + s.place) r = record { among = (0, omega arith, refl); of = is } in
     let each = each-later inputs reads r old of in
     let own = all-slice_get (IsSource inputs (r ∷ reads)) old n s each at in
-    sources-more inputs reads r old (slice_set old n new) of
-    (all-set (IsSource inputs (r ∷ reads)) old n new each
-    (record {
+    sources-more inputs reads r old (slice_set old n new) of (all-set (IsSource inputs (r ∷ reads)) old n new each (record {
       first = by_lt_z s.first r.first
           (λ below. (own.first.0, own.first.1, omega (arith, ints, clamps))) (λ above. (r, here, omega (arith, ints, clamps)));
       last = by_lt_z s.last r.last
           (λ below. (r, here, omega (arith, ints, clamps))) (λ above. (own.last.0, own.last.1, omega (arith, ints, clamps)));
-    }))
-    (λ x covered.
+    })) (λ x covered.
     let it = at-contains old covered.source covered.among in
     elim (cases_eq it.0 n) as (λ _. IsCovered inputs (slice_set old n new) x) [
       | inl same ↦ (
@@ -127,8 +122,7 @@ sources-set inputs reads r old n s at is of =
         first = covered.first;
         last = covered.last;
       }
-    ])
-    (λ some. record { source = new; among = there; of = is; first = omega (arith, ints, clamps); last = omega (arith, ints, clamps) })
+    ]) (λ some. record { source = new; among = there; of = is; first = omega (arith, ints, clamps); last = omega (arith, ints, clamps) })
 
 -- a buffer that one of some reads is of
 pub one-read : (buffer : ℕ) (reads : List Read) → reads_buffer buffer reads ≡ true → (r : Read) × IsRead reads buffer r
@@ -152,8 +146,7 @@ pub sources-near : (p : RingsParts) (place : ℕ) (w : Work) (sources : List Sou
     → slice_get (works_in p) place ≡ Some w → place < length p.rings → AreSources (length p.inputs) (body_reads w.loop.body) sources
     → AllByRecursion (IsNearSource (length p.rings)) sources
 sources-near p place w sources code are is within of =
-    all-each (IsNearSource (length p.rings)) sources
-    (λ i s at.
+    all-each (IsNearSource (length p.rings)) sources (λ i s at.
     let near = source-near p place w s code are is (all-slice_get (IsSource (length p.inputs) (body_reads w.loop.body)) sources i s of.each at) in
     record { there = omega arith; low = near.low; high = near.high })
 
@@ -164,8 +157,7 @@ pub sources-told : (p : RingsParts) (place : ℕ) (w : Work) (sources : List Sou
     → AreTold p place w
 sources-told p place w sources of reached =
     let point = turn_point w.loop (start_at p place) in
-    all-each (IsTold p point) (body_reads w.loop.body)
-    (λ i r at. λ source v is found.
+    all-each (IsTold p point) (body_reads w.loop.body) (λ i r at. λ source v is found.
     let covered = of.all r (contains-at (body_reads w.loop.body) i r at) (omega arith) in
     let it = at-contains sources covered.source covered.among in
     told-one p point covered.source.last r covered.source.place covered.of covered.last (reached it.0 covered.source it.1) source v is found)

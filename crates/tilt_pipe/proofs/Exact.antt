@@ -73,7 +73,6 @@ pub begun-least : (lo hi : ℤ) (tick : Option ℤ) (whole : List Snapshot) (n :
 begun-least lo hi None whole n h reached = omega arith
 begun-least lo hi (Some tick) [] n h reached = omega arith
 begun-least lo hi (Some tick) (s ∷ ss) zero h reached =
-    let starts = h.0 in
     let high = reached (omega (arith, ints, h.1, Fill-up s.end hi ss h.2)) in
     let outside : int_lt s.start tick ≡ false = grind (arith, ints) in
     rw outside (omega arith)
@@ -88,12 +87,10 @@ pub begun-reaches : (lo hi tick : ℤ) (whole : List Snapshot) → Fill lo hi wh
     → ended lo whole (length (begun_below (Some tick) whole)) <ℤ hi → tick ≤ℤ ended lo whole (length (begun_below (Some tick) whole))
 begun-reaches lo hi tick [] h = λ before. absurd (omega (arith, ints))
 begun-reaches lo hi tick (s ∷ ss) h =
-    let starts = h.0 in
     by_lt_z s.start tick
     (λ low.
     let inside : int_lt s.start tick ≡ true = grind (arith, ints) in
-    rw (inside, ended-after lo s (take (length (begun_below (Some tick) ss)) ss)) (begun-reaches s.end hi tick ss h.2))
-    (λ high.
+    rw (inside, ended-after lo s (take (length (begun_below (Some tick) ss)) ss)) (begun-reaches s.end hi tick ss h.2)) (λ high.
     let outside : int_lt s.start tick ≡ false = grind (arith, ints) in
     rw outside (λ before. omega (arith, ints)))
 
@@ -188,8 +185,7 @@ same-at (x ∷ xs) (y ∷ ys) each =
 pub same-stages : (works : List Work) (ss ts : List Stage) → ArePrefixes works ss → ArePrefixes works ts
     → ((k : ℕ) → made_in ss k ≡ made_in ts k) → ss ≡ ts
 same-stages works ss ts prefixes also same =
-    same-at ss ts
-    (λ k. prefixes k ∙ ap (λ (n : ℕ). option_map (stage_of n) (slice_get works k)) (same k) ∙ sym (also k))
+    same-at ss ts (λ k. prefixes k ∙ ap (λ (n : ℕ). option_map (stage_of n) (slice_get works k)) (same k) ∙ sym (also k))
 
 made_in-found : (stages : List Stage) (k : ℕ) (s : Stage) → slice_get stages k ≡ Some s → made_in stages k ≡ length s.made
 made_in-found [] k s is = absurd (cc is)
@@ -222,8 +218,7 @@ has-turned works stages k s tick filled prefixes is starts = by (slice_get works
         absurd (cc none)
     by (Some w) of (suc last) count same =
         let stage : s ≡ stage_of (suc last) w = same_Some s (stage_of (suc last) w) (rw (of, count) at same) in
-        let few = prefix-few works stages k w prefixes of in
-        let begins = begins-at w.loop.lo w.loop.hi w.whole last (filled k w of).whole (omega arith) in
+        let begins = begins-at w.loop.lo w.loop.hi w.whole last (filled k w of).whole (omega (arith, prefix-few works stages k w prefixes of)) in
         let both : Some (start_after w last) ≡ Some tick = sym begins ∙ sym (ap (λ (x : Stage). last_start x.made) stage) ∙ starts in
         subst (λ (x : Stage). HasTurned works stages k x tick) (sym stage)
         (record { last = last; is = of; count = count; starts = same_Some (start_after w last) tick both })
@@ -253,8 +248,7 @@ star-enough given buffer (x ∷ next ∷ works) filled zero (suc place) v w r la
     let found : slice_get stages place ≡ Some (stage_of (suc last) w) =
     prefixes place ∙ ap (option_map (stage_of (made_in stages place))) read.by ∙ ap (λ (n : ℕ). Some (stage_of n w)) is in
     let begins = begins-at w.loop.lo w.loop.hi w.whole last (filled (suc place) w read.by).whole (omega arith) in
-    rw same
-    (λ before.
+    rw same (λ before.
     asked-each buffer (start_after x (length (begun_below (asked buffer stages) x.whole))) stages place (stage_of (suc last) w)
     (start_after w last) r (up x (asked buffer stages) (filled 0 x refl) before) found begins read.among (omega (arith, read.of)))
   where
@@ -272,8 +266,7 @@ first-least : (buffer : ℕ) (x : Work) (works : List Work) (stages : List Stage
     → length (begun_below (asked buffer stages) x.whole) ≤ count 0
 first-least buffer x works stages count filled prefixes enough rest =
     begun-least x.loop.lo x.loop.hi (asked buffer stages) x.whole (count 0) (filled 0 x refl).whole
-    (λ before. asked-up buffer (start_after x (count 0)) stages
-    (λ k s tick r is starts among of.
+    (λ before. asked-up buffer (start_after x (count 0)) stages (λ k s tick r is starts among of.
     let t = has-turned works stages k s tick (λ j. filled (suc j)) prefixes is starts in
     let last = count (suc k) - 1 in
     let f = filled (suc k) s.work t.is in
@@ -286,8 +279,7 @@ first-least buffer x works stages count filled prefixes enough rest =
 pub least : (given buffer : ℕ) (works : List Work) (count : ℕ → ℕ) → AreFilled works → AreEnough buffer works count
     → ((last : ℕ) → suc last ≡ length works → given ≤ count last) → (k : ℕ) → made_in (stages_from given buffer works) k ≤ count k
 least given buffer [] count filled enough most k = omega arith
-least given buffer (x ∷ []) count filled enough most zero =
-    omega (arith, length-take given x.whole, most 0 refl)
+least given buffer (x ∷ []) count filled enough most zero = omega (arith, length-take given x.whole, most 0 refl)
 least given buffer (x ∷ []) count filled enough most (suc k) = omega arith
 least given buffer (x ∷ next ∷ works) count filled enough most k =
     by k

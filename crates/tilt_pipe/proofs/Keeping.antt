@@ -6,6 +6,7 @@ use Rattle.std.proofs.lemmas.Int.{ints}
 use Rattle.std.proofs.lemmas.List.{get_or-append-add, get_or-take, length-map}
 use Rattle.std.proofs.lemmas.Option.{same_Some, slice_get_within}
 use Rattle.std.specs.List.{AllByRecursion}
+use Rattle.circular_buffer.proofs.Places.{slice_get-some}
 use Rattle.tilt_base.proofs.Lists.{all-contains, all-each, all-parts}
 use Rattle.tilt_base.specs.Grid.{ceil}
 use Rattle.tilt_stream.proofs.Filling.{Fill-up}
@@ -26,20 +27,20 @@ use Rattle.tilt_turn.specs.Same.{IsSameFor}
 use Rattle.tilt_turn.specs.declared.state.LoopState.{LoopState}
 use Rattle.tilt_pipe.proofs.Covered.{contains-at}
 use Rattle.tilt_pipe.proofs.Nears.{reads-near, ready-more, work-ready}
-use Rattle.tilt_pipe.proofs.Telling.{input-forgotten, open-at, none_held, same-body, there}
+use Rattle.tilt_pipe.proofs.Telling.{input-forgotten, open-at, same-body}
 use Rattle.tilt_pipe.proofs.RingsKept.{ring-of, loops-there}
 use Rattle.tilt_pipe.proofs.Standing.{next-made}
 use Rattle.tilt_pipe.proofs.Trimming.{ended-front, stage-behind}
 use Rattle.tilt_pipe.proofs.Wanted.{stage_at, wanted-within}
-use Rattle.tilt_pipe.proofs.Wanting.{stands-there}
+use Rattle.tilt_pipe.proofs.Wanting.{stands-there, IsTrimmed}
 use Rattle.tilt_pipe.proofs.Works.{work-is, work-timed, works-length}
 use Rattle.tilt_code.proofs.Runs.{loops-timed}
-use Rattle.tilt_pipe.specs.Chain.{AreTold}
+use Rattle.tilt_pipe.specs.Chain.{AreTold, MayTurn}
 use Rattle.tilt_pipe.specs.Made.{Work, Stage}
 use Rattle.tilt_pipe.specs.Positions.{RingParts, RingsParts, AreRings, IsOpen, forgotten_of, lists_of, made_at, made_by, open_lists, stages_at, start_at, starts_of, works_in}
 use Rattle.tilt_pipe.specs.Reads.{body_reads, reads_of, turn_point}
 use Rattle.tilt_pipe.specs.Rings.{is_at_work, let_go, position}
-use Rattle.tilt_pipe.specs.Trimmed.{IsNear, IsTrimmed, MayTurn}
+use Rattle.tilt_pipe.specs.Trimmed.{IsNear}
 use Rattle.tilt_pipe.specs.declared.chain.LoopTurns.{LoopTurns}
 use Rattle.tilt_pipe.specs.declared.read.Read.{Read}
 
@@ -51,10 +52,8 @@ KeepsRead p point r = get_or (forgotten_of p) r.buffer 0 ≤ ended_below (point 
 works-on : (w : Work) (start : ℤ) (s : Stage) → s.work ≡ w → position s ≡ start → w.used ≡ true → start <ℤ w.loop.hi → is_at_work s ≡ true
 works-on w start s same at used before =
     let test : int_lt start w.loop.hi ≡ true = grind (arith, ints) in
-    ap (λ (v : Work). v.used && int_lt (position s) v.loop.hi) same
-    ∙ ap (λ (t : ℤ). w.used && int_lt t w.loop.hi) at
-    ∙ ap (λ (b : Bool). b && int_lt start w.loop.hi) used
-    ∙ test
+    ap (λ (v : Work). v.used && int_lt (position s) v.loop.hi) same ∙ ap (λ (t : ℤ). w.used && int_lt t w.loop.hi) at
+    ∙ ap (λ (b : Bool). b && int_lt start w.loop.hi) used ∙ test
 
 -- what a loop has let go
 gone-at : (p : RingsParts) (source : ℕ) → get_or (forgotten_of p) (length p.inputs + source) 0 ≡ get_or (map (λ (r : RingParts). r.forgotten) p.rings) source 0
@@ -70,11 +69,10 @@ keeps-loop : (p : RingsParts) (place source : ℕ) (w : Work) (r : Read) → IsC
 keeps-loop p place source w r code are trimmed is_open used among at before =
     let here = ring-of p place w code are is_open.is in
     let point = turn_point w.loop (start_at p place) in
-    let count = works-length p.code p.inputs in
     let own = slice_get_within (works_in p) place w is_open.is in
-    let ring = get_or p.rings source none_held in
-    let within : source < length p.code.loops = omega arith in
-    let o = open-at p source ring code are within (there p source are within) in
+    let found = slice_get-some p.rings source (omega (arith, loops-there p are)) in
+    let ring = found.0 in
+    let o = open-at p source ring code are found.1 in
     let k = place - suc source in
     let behind : place ≡ suc source + k = omega arith in
     let stage = stage_at w here.ring.start in
@@ -143,12 +141,10 @@ open-long (w ∷ works) (start ∷ starts) h = ap suc (open-long works starts (o
 
 pub lists-long : (p : RingsParts) → AreRings p → length (lists_of p) ≡ length p.inputs + length p.code.loops
 lists-long p are =
-    let rings = loops-there p are in
     let count = works-length p.code p.inputs in
     let starts = length-map p.rings (λ (r : RingParts). r.start) in
     let long = open-long (works_in p) (starts_of p.rings) (omega arith) in
-    let all = length-append p.inputs (open_lists (works_in p) (starts_of p.rings)) in
-    omega arith
+    omega (arith, length-append p.inputs (open_lists (works_in p) (starts_of p.rings)))
 
 -- what a turn asks of the loop and of its state
 pub record MayGoOn (p : RingsParts) (l : LoopParts) (start : ℤ) (state : LoopState) : Type 0 where
@@ -161,17 +157,14 @@ pub record MayGoOn (p : RingsParts) (l : LoopParts) (start : ℤ) (state : LoopS
 pub same-all : (p : RingsParts) (place : ℕ) (w : Work) → IsCode p.code → AreRings p → slice_get (works_in p) place ≡ Some w → AreTold p place w
     → AllByRecursion (IsSameFor (lists_of p) (buffers_of p.code p.inputs) (turn_point w.loop (start_at p place))) w.loop.body
 same-all p place w code are is told =
-    let within = slice_get_within (works_in p) place w is in
-    let count = works-length p.code p.inputs in
     same-body p (buffers_of p.code p.inputs) (length p.inputs + place) (length w.loop.maps) (turn_point w.loop (start_at p place)) w.loop.body
-    code are (omega arith) (λ n below. refl) (work-ready p place w code are is).leaves told
+    code are (omega (arith, slice_get_within (works_in p) place w is, works-length p.code p.inputs)) (λ n below. refl) (work-ready p place w code are is).leaves told
 
 pub may-go_on : (p : RingsParts) (place : ℕ) (turns : LoopTurns) (w : Work) → IsCode p.code → AreRings p → MayTurn p place turns w
     → MayGoOn p w.loop (start_at p place) turns.state
 may-go_on p place turns w code are may =
     let is_open = may.is_open in
     let it = ring-of p place w code are is_open.is in
-    let stands = it.start in
     let up = Fill-up w.loop.lo it.ring.start (made_by it.ring.start w.whole) it.kept.ring.fill in
     let within = slice_get_within (works_in p) place w is_open.is in
     let count = works-length p.code p.inputs in
@@ -199,10 +192,8 @@ turn-next p place w code are is_open told =
     let start = start_at p place in
     let it = ring-of p place w code are is_open.is in
     let work = work-is p.code p.inputs place w is_open.is in
-    let within = slice_get_within (works_in p) place w is_open.is in
-    let count = works-length p.code p.inputs in
     let ready = work-ready p place w code are is_open.is in
-    let same = same-body p front n (length w.loop.maps) (turn_point w.loop start) w.loop.body code are (omega arith)
+    let same = same-body p front n (length w.loop.maps) (turn_point w.loop start) w.loop.body code are (omega (arith, works-length p.code p.inputs))
     (λ i below. sym (get_or-take n (buffers_of p.code p.inputs) i [] below)) ready.leaves told in
     let over = turn-elsewhere (lists_of p) front w.loop start n ready same in
     let timed = work-timed p.code p.inputs place w (loops-timed p.code.loops code.grammatical.loops) is_open.is in

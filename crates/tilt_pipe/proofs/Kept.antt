@@ -1,10 +1,10 @@
 -- Which of the snapshots that were made are let go, one after the other.
-use Rattle.std.proofs.Common.{◌≡◌, inl, inr, true, ◌≤◌, ◌<◌, ◌+◌, ◌-◌, ℕ, ℤ, List, length, drop, slice_get, Option, Some, None, IsTrue, ◌↔◌, int_lt, arith, sym, ap, ◌∙◌, length-drop}
+use Rattle.std.proofs.Common.{◌≡◌, inl, inr, true, ◌≤◌, ◌<◌, ◌+◌, ℕ, ℤ, List, length, drop, slice_get, Option, Some, None, IsTrue, ◌↔◌, int_lt, arith, sym, ap, ◌∙◌, length-drop}
 use Rattle.std.proofs.lemmas.Bool.{cases_lt}
 use Rattle.std.proofs.lemmas.Int.{ints}
 use Rattle.std.proofs.lemmas.List.{drop-drop}
 use Rattle.circular_buffer.proofs.Places.{slice_get-drop}
-use Rattle.tilt_stream.proofs.Places.{ended-within, passed-at}
+use Rattle.tilt_stream.proofs.Places.{ended-within, passed-at, past-all}
 use Rattle.tilt_stream.specs.Snap.{Snapshot, InOrder}
 use Rattle.tilt_pipe.specs.Rings.{let_go}
 
@@ -14,16 +14,12 @@ let_go-within None made = omega arith
 let_go-within (Some tick) made = ended-within tick made
 
 -- where none is held, no more are let go
-pub none-let_go : (first : Option ℤ) (made held : List Snapshot) (n : ℕ) → held ≡ drop n made → length held ≡ 0 → let_go first made ≤ n
-none-let_go first made held n is none =
-    let within = let_go-within first made in
-    let all : length made - n ≡ 0 = sym (length-drop n made) ∙ ap length (sym is) ∙ none in
-    omega arith
+pub none-let_go : (first : Option ℤ) (made held : List Snapshot) (n : ℕ) → held ≡ drop n made → slice_get held 0 ≡ None → let_go first made ≤ n
+none-let_go first made held n is none = omega (arith, let_go-within first made, length-drop n made, ap length is, past-all held 0 none)
 
 -- the first that is held is let go exactly where it ends below the tick
 pub first-let_go : (from limit : ℤ) (made held : List Snapshot) (n : ℕ) (s : Snapshot) (tick : ℤ) → InOrder from limit made
-    → held ≡ drop n made → slice_get held 0 ≡ Some s
-    → IsTrue (int_lt s.end tick) ↔ (n < let_go (Some tick) made)
+    → held ≡ drop n made → slice_get held 0 ≡ Some s → IsTrue (int_lt s.end tick) ↔ (n < let_go (Some tick) made)
 first-let_go from limit made held n s tick h is found =
     passed-at from limit made n s tick h
     (sym (slice_get-drop n made 0 n (omega arith)) ∙ ap (λ (xs : List Snapshot). slice_get xs 0) (sym is) ∙ found)

@@ -8,6 +8,7 @@ pub mod Points
 pub mod Pulling
 pub mod RingsKept
 pub mod Covered
+pub mod Settled
 pub mod Standing
 pub mod Starts
 pub mod Telling

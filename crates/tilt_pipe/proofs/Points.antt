@@ -4,7 +4,7 @@ use Rattle.std.proofs.Common.{slice_get, slice_set, Option, Some, None, refl, sy
 use Rattle.std.proofs.lemmas.Bool.{cases_eq, cases_lt}
 use Rattle.std.proofs.lemmas.Int.{ints}
 use Rattle.std.proofs.lemmas.List.{get_or-set_other}
-use Rattle.std.proofs.lemmas.Option.{same_Some, slice_get_within}
+use Rattle.std.proofs.lemmas.Option.{get_or_from_slice_get, same_Some, slice_get_within}
 use Rattle.circular_buffer.proofs.Places.{slice_get-append_left, slice_get-append_right, slice_get-set_other, slice_get-set_same}
 use Rattle.tilt_stream.specs.Snap.{Snapshot}
 use Rattle.tilt_pipe.proofs.Trimming.{IsTurn, alike-works, turned, turned-starts}
@@ -45,9 +45,13 @@ at-work p place w point is at = by w.used (int_lt (start_at p place) w.loop.hi) 
 pub open-point : (p : RingsParts) (place : ℕ) (w : Work) → IsOpen p place w → w.used ≡ true
     → point_at p place w ≡ Some (turn_point w.loop (start_at p place))
 open-point p place w is_open used =
-    let low = is_open.before in
     let test : int_lt (start_at p place) w.loop.hi ≡ true = grind (arith, ints) in
     point-at p place w true true used test
+
+-- the point that is found of a loop
+pub point-found : (p : RingsParts) (points : List (Option ℤ)) (place : ℕ) (w : Work) (point : Option ℤ) → ArePoints p points
+    → slice_get (works_in p) place ≡ Some w → point ≡ get_or points place point → point ≡ point_at p place w
+point-found p points place w point are is at = at ∙ get_or_from_slice_get points place (point_at p place w) point (are place w is)
 
 -- what a reader reads next, from the point of its loop
 abbrev pub read_from : Option ℤ → ℤ → Option ℤ
@@ -65,8 +69,7 @@ reads-from p reader w is = ap (read_next p reader) is ∙ by (w.used && int_lt (
 
 -- the point from where the loops stand
 abbrev point_of : List ℤ → ℕ → Work → Option ℤ
-point_of starts k w =
-    if w.used && int_lt (get_or starts k (pos 0)) w.loop.hi then Some (turn_point w.loop (get_or starts k (pos 0))) else None
+point_of starts k w = if w.used && int_lt (get_or starts k (pos 0)) w.loop.hi then Some (turn_point w.loop (get_or starts k (pos 0))) else None
 
 pub alike-points : (p q : RingsParts) (points : List (Option ℤ)) → StandAlike p q → ArePoints p points → ArePoints q points
 alike-points p q points a are = λ k w of.
@@ -75,8 +78,7 @@ alike-points p q points a are = λ k w of.
 
 -- those after a turn
 pub turned-points : (p : RingsParts) (place : ℕ) (w : Work) (b : Bool) (r : RingParts) (s : Snapshot) (points : List (Option ℤ)) → IsTurn p place w b r s
-    → ArePoints p points
-    → ArePoints (turned p place b r s) (slice_set points place (point_at (turned p place b r s) place w))
+    → ArePoints p points → ArePoints (turned p place b r s) (slice_set points place (point_at (turned p place b r s) place w))
 turned-points p place w b r s points turn are = λ k v of.
     let q = turned p place b r s in
     let point = point_at q place w in
@@ -84,14 +86,11 @@ turned-points p place w b r s points turn are = λ k v of.
     elim (cases_eq k place) as (λ _. slice_get (slice_set points place point) k ≡ Some (point_at q k v)) [
       | inl same ↦ (
           let loop : w ≡ v = same_Some w v (sym turn.of ∙ ap (slice_get (works_in p)) (sym same) ∙ of) in
-          ap (slice_get (slice_set points place point)) same
-          ∙ slice_get-set_same points place point within
-          ∙ ap (λ (x : Work). Some (point_at q place x)) loop
-          ∙ ap (λ (n : ℕ). Some (point_at q n v)) (sym same)
+          ap (slice_get (slice_set points place point)) same ∙ slice_get-set_same points place point within
+          ∙ ap (λ (x : Work). Some (point_at q place x)) loop ∙ ap (λ (n : ℕ). Some (point_at q n v)) (sym same)
           )
       | inr other ↦ (
-          slice_get-set_other points place k point other
-          ∙ are k v of
+          slice_get-set_other points place k point other ∙ are k v of
           ∙ ap (λ (t : ℤ). Some (if v.used && int_lt t v.loop.hi then Some (turn_point v.loop t) else None))
           (sym (ap (λ (starts : List ℤ). get_or starts k (pos 0)) (turned-starts p place b r s)
           ∙ get_or-set_other (starts_of p.rings) place k s.end (pos 0) other))
@@ -117,8 +116,7 @@ points-more p count points point are is =
             | inl low ↦ slice_get-append_left points (point ∷ []) k (omega arith) ∙ are.each k w low of
             | inr high ↦ (
                 let here : k ≡ count = omega arith in
-                slice_get-append_right points (point ∷ []) k 0 (omega arith)
-                ∙ ap Some (is w (ap (slice_get (works_in p)) (sym here) ∙ of))
+                slice_get-append_right points (point ∷ []) k 0 (omega arith) ∙ ap Some (is w (ap (slice_get (works_in p)) (sym here) ∙ of))
                 ∙ ap (λ (n : ℕ). Some (point_at p n w)) (sym here)
                 )
           ];

@@ -84,8 +84,7 @@ made_in-at (x ∷ works) (t ∷ starts) (suc k) w many is = made_in-at works sta
 now-prefixes : (works : List Work) (starts : List ℤ) → length starts ≡ length works → ArePrefixes works (stages_at works starts)
 now-prefixes [] starts many k = refl
 now-prefixes (w ∷ works) [] many k = absurd (omega arith)
-now-prefixes (w ∷ works) (t ∷ starts) many zero =
-    ap (λ (made : List Snapshot). Some (record { work = w; made = made })) (made-prefix t w.whole)
+now-prefixes (w ∷ works) (t ∷ starts) many zero = ap (λ (made : List Snapshot). Some (record { work = w; made = made })) (made-prefix t w.whole)
 now-prefixes (w ∷ works) (t ∷ starts) many (suc k) = now-prefixes works starts (omega arith) k
 
 stands-at : (works : List Work) (starts : List ℤ) (k : ℕ) (w : Work) → AreStanding works starts → slice_get works k ≡ Some w
@@ -104,8 +103,7 @@ made_in-other (x ∷ works) [] place end k apart = refl
 made_in-other (x ∷ works) (t ∷ starts) zero end zero apart = absurd (apart refl)
 made_in-other (x ∷ works) (t ∷ starts) zero end (suc k) apart = refl
 made_in-other (x ∷ works) (t ∷ starts) (suc place) end zero apart = refl
-made_in-other (x ∷ works) (t ∷ starts) (suc place) end (suc k) apart =
-    made_in-other works starts place end k (λ same. apart (ap suc same))
+made_in-other (x ∷ works) (t ∷ starts) (suc place) end (suc k) apart = made_in-other works starts place end k (λ same. apart (ap suc same))
 
 -- and leaves one less to make
 left-falls : (works : List Work) (starts : List ℤ) (star : List Stage) (place : ℕ) (end : ℤ)
@@ -119,14 +117,11 @@ left-falls (x ∷ works) (t ∷ starts) (s ∷ star) zero end more less = omega 
 left-falls (x ∷ works) (t ∷ starts) (s ∷ star) (suc place) end more less = omega (arith, left-falls works starts star place end more less)
 
 less-left : (left m top place : ℕ) → top < m → left * m + top < suc left * m + place
-less-left left m top place low =
-    let more : suc left * m ≡ left * m + m = omega arith in
-    omega arith
+less-left left m top place low = omega arith
 
 -- what holds of a place, and of each other
 by-place : {P : ℕ → Type 0} (place : ℕ) → P place → ((k : ℕ) → k ≢ place → P k) → (k : ℕ) → P k
-by-place {P} place here others k =
-    elim (cases_eq k place) as (λ _. P k) [ inl same ↦ subst P (sym same) here | inr apart ↦ others k apart ]
+by-place {P} place here others k = elim (cases_eq k place) as (λ _. P k) [ inl same ↦ subst P (sym same) here | inr apart ↦ others k apart ]
 
 -- what each loop makes until the next snapshot is given
 abbrev star : ℕ → RingsParts → List Stage
@@ -188,8 +183,7 @@ module _ (given : ℕ) (p : RingsParts) (asked : List ℕ) (place : ℕ) (h : Is
   pub source-nearer : (source : ℕ) → ((w : Work) → IsOpen p place w → IsBehind p place w source)
       → steps_left given p ((asked ++ place ∷ []) ++ source ∷ []) < steps_left given p (asked ++ place ∷ [])
   source-nearer source each =
-      let low = (each asked-last.work asked-open).earlier in
-      rw (last_or-push 0 (asked ++ place ∷ []) source, last_or-push 0 asked place) (omega arith)
+      rw (last_or-push 0 (asked ++ place ∷ []) source, last_or-push 0 asked place) (omega (arith, (each asked-last.work asked-open).earlier))
 
 -- the rings after the turn of a loop
 pub record IsTurned (p q : RingsParts) (place : ℕ) (s : Snapshot) : Type 0 where
@@ -247,10 +241,8 @@ module _ (given : ℕ) (p q : RingsParts) (asked : List ℕ) (place : ℕ) (h : 
     many = many;
     each = by-place {P = λ (k : ℕ). (w : Work) → slice_get (works_in p) k ≡ Some w → IsStanding w (get_or after k (pos 0))} place
         (λ w is.
-        subst (IsStanding w) (sym at)
-        (subst (λ (v : Work). IsStanding v s.end) (same_Some here.work w (sym here.is ∙ is))
-        (record { filled = (h.standing.each place here.work here.is).filled; fill = next.fill; within = next.within })))
-        (λ k apart w is.
+        subst (IsStanding w) (sym at) (subst (λ (v : Work). IsStanding v s.end) (same_Some here.work w (sym here.is ∙ is))
+        (record { filled = (h.standing.each place here.work here.is).filled; fill = next.fill; within = next.within }))) (λ k apart w is.
         subst (IsStanding w) (sym (get_or-set_other (starts_of p.rings) place k s.end (pos 0) apart)) (h.standing.each k w is));
   }
 
@@ -325,12 +317,9 @@ module _ (given : ℕ) (p q : RingsParts) (asked : List ℕ) (place : ℕ) (h : 
 -- the loops of rings stand
 pub rings-stand : (p : RingsParts) → IsCode p.code → AreRings p → AreStanding (works_in p) (starts_of p.rings)
 rings-stand p code rings =
-    let count = loops-there p rings in
-    let works = works-length p.code p.inputs in
-    let starts = length-map p.rings (λ (r : RingParts). r.start) in
     let filled = works-filled p.code p.inputs (loops-timed p.code.loops code.grammatical.loops) in
     record {
-      many = omega arith;
+      many = omega (arith, loops-there p rings, works-length p.code p.inputs, length-map p.rings (λ (r : RingParts). r.start));
       each = λ k w is.
           let it = ring-of p k w code rings is in
           rw it.start (record { filled = filled k w is; fill = it.kept.ring.fill; within = it.kept.ring.within });
@@ -344,8 +333,7 @@ none-left p l standing ended =
     let filled = (standing.each last l.work l.is).filled in
     let all = all-made l.work.loop.lo l.work.loop.hi (start_at p last) l.work.whole filled.whole ended in
     let count = made_in-at (works_in p) (starts_of p.rings) last l.work standing.many l.is in
-    let long = ap (λ (list : List Snapshot). length list) (all ∙ l.run) in
-    sym (slice_get_past (run_of p.code p.inputs) (given_in p) (omega arith))
+    sym (slice_get_past (run_of p.code p.inputs) (given_in p) (omega (arith, ap (λ (list : List Snapshot). length list) (all ∙ l.run))))
 
 -- before that it may be asked for
 star-last : (given buffer : ℕ) (works : List Work) (last : ℕ) (w : Work) → suc last ≡ length works → slice_get works last ≡ Some w
@@ -368,7 +356,6 @@ pull-begun p l standing made before =
     let filled : AreFilled works = λ k v is. (standing.each k v is).filled in
     let most = star-last (suc given) buffer works last w l.place l.is in
     let cut = length-take (suc given) w.whole in
-    let end = l.place in
     let less : given < length w.whole = elim (cases_lt given (length w.whole)) as (λ _. given < length w.whole) [
       | inl less ↦ less
       | inr all ↦ (
@@ -403,7 +390,6 @@ pub pull-ends : (given : ℕ) (p : RingsParts) (next : Option Snapshot) → IsCo
 pull-ends given p next code h is =
     let l = last-loop p.code p.inputs code in
     let works = works_in p in
-    let end = l.place in
     let prefixes = now-prefixes works (starts_of p.rings) h.standing.many in
     let few = prefix-few works (stages_in p) (length p.code.loops - 1) l.work prefixes l.is in
     let run = ap (λ (list : List Snapshot). length list) l.run in
@@ -426,8 +412,7 @@ none-made_in buffer lists [] timed k = refl
 none-made_in buffer lists (l ∷ loops) timed zero =
     let whole = turns (map stream_of lists) l in
     ap (λ (list : List Snapshot). length list) (none-made l.lo l.hi whole (turns-Fill (map stream_of lists) l timed.0))
-none-made_in buffer lists (l ∷ loops) timed (suc k) =
-    none-made_in (suc buffer) (lists ++ turns (map stream_of lists) l ∷ []) loops timed.1 k
+none-made_in buffer lists (l ∷ loops) timed (suc k) = none-made_in (suc buffer) (lists ++ turns (map stream_of lists) l ∷ []) loops timed.1 k
 
 pub rings-new : (p : RingsParts) → IsCode p.code → starts_of p.rings ≡ map (λ (l : LoopParts). l.lo) p.code.loops
     → (given_in p ≡ 0) × (stages_in p ≡ stages_after p.code p.inputs 0)
@@ -446,8 +431,7 @@ rings-new p code starts =
 
 -- the rings of a pipe, as they are seen
 abbrev seen : RingsParts → PipeParts
-seen p =
-    record { code = p.code; inputs = p.inputs; rings = map (λ (r : RingParts). r.held) p.rings; given = given_in p; refused = false }
+seen p = record { code = p.code; inputs = p.inputs; rings = map (λ (r : RingParts). r.held) p.rings; given = given_in p; refused = false }
 
 -- they are those of the definition where the loops have made what it says, and hold no more of it than it says
 pub seen-of : (p : RingsParts) (code : CodeParts) (inputs : List (List Snapshot)) (given : ℕ)

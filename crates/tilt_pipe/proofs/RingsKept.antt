@@ -36,8 +36,7 @@ pub ring-at : (works : List Work) (rings : List RingParts) (place : ℕ) (w : Wo
     → slice_get works place ≡ Some w → slice_get rings place ≡ Some r → IsRing w r
 ring-at [] rings place w r are of is = absurd (cc of)
 ring-at (x ∷ works) [] place w r are of is = absurd are
-ring-at (x ∷ works) (y ∷ rings) zero w r are of is =
-    subst (λ (v : Work). IsRing v r) (same_Some x w of) (subst (IsRing x) (same_Some y r is) are.0)
+ring-at (x ∷ works) (y ∷ rings) zero w r are of is = subst (λ (v : Work). IsRing v r) (same_Some x w of) (subst (IsRing x) (same_Some y r is) are.0)
 ring-at (x ∷ works) (y ∷ rings) (suc place) w r are of is = ring-at works rings place w r are.1 of is
 
 -- another ring of the same loop
@@ -54,7 +53,6 @@ empty_ring l = record { held = []; forgotten = 0; start = l.lo; hi = l.hi }
 
 empty-ring-is : (w : Work) → Fill w.loop.lo w.loop.hi w.whole → IsTimed w.loop → IsRing w (empty_ring w.loop)
 empty-ring-is w fills timed =
-    let some = timed.stretch in
     let none = none-made w.loop.lo w.loop.hi w.whole fills in
     record {
       fill = none-fills w.loop.lo w.loop.hi w.whole fills;
@@ -96,8 +94,7 @@ trimmed_ring first made start hi = record { held = kept_from first made; forgott
 module _ (w : Work) (r : RingParts) (k : IsKept w r) where
   pub kept-count : r.forgotten + length r.held ≡ length (made_by r.start w.whole)
   kept-count =
-      let within = k.ring.forgotten in
-      omega (arith, ap length k.ring.held, length-drop r.forgotten (made_by r.start w.whole))
+      omega (arith, k.ring.forgotten, ap length k.ring.held, length-drop r.forgotten (made_by r.start w.whole))
 
   below : r.start ≤ℤ WIDE
   below = omega (arith, ints, k.ring.within, k.high)
@@ -135,12 +132,11 @@ pub kept-is : (w : Work) (b : Bool) (r : RingParts) (s : Snapshot) → IsKept w 
 kept-is w true r s k none is =
     let made = made_by r.start w.whole in
     let next = next-kept w r s k is in
-    let count : length (made_by s.end w.whole) ≡ length made + 1 = ap length next.more ∙ length_push made s in
     let within = k.ring.forgotten in
     record {
       fill = next.fill;
       within = next.within;
-      forgotten = omega arith;
+      forgotten = omega (arith, ap length next.more ∙ length_push made s);
       held = ap (λ (front : List Snapshot). front ++ s ∷ []) k.ring.held
           ∙ sym (drop-append-le r.forgotten made (s ∷ []) k.ring.forgotten) ∙ ap (drop r.forgotten) (sym next.more);
       hi = k.ring.hi;
@@ -210,9 +206,7 @@ pub record HasRing (p : RingsParts) (place : ℕ) (w : Work) : Type 0 where
 pub ring-of : (p : RingsParts) (place : ℕ) (w : Work) → IsCode p.code → AreRings p → slice_get (works_in p) place ≡ Some w
     → HasRing p place w
 ring-of p place w code are of =
-    let count = rings-length (works_in p) p.rings are.rings in
-    let some = slice_get_within (works_in p) place w of in
-    let within : place < length p.rings = omega arith in
+    let within : place < length p.rings = omega (arith, rings-length (works_in p) p.rings are.rings, slice_get_within (works_in p) place w of) in
     let ring = slice_get-some p.rings place within in
     let it = is-at p place w ring.0 code are of ring.1 in
     record { within = within; ring = ring.0; at = ring.1; start = it.start; kept = it.kept }
@@ -273,8 +267,7 @@ may-keep p place w b r s code are of found is none =
 pub trim-at : (p : RingsParts) (place : ℕ) (w : Work) (r : RingParts) (first : Option ℤ) → IsAt p place w r
     → AreRings (with_ring p place (trimmed_ring first (made_at p place w) (start_at p place) w.loop.hi))
 trim-at p place w r first it =
-    rw (it.made, it.start)
-    (record {
+    rw (it.made, it.start) (record {
       inputs = it.are.inputs;
       many = length-set p.rings place (trimmed_ring first (made_by r.start w.whole) r.start w.loop.hi) ∙ it.are.many;
       rings = rings-set (works_in p) p.rings place w (trimmed_ring first (made_by r.start w.whole) r.start w.loop.hi) it.are.rings it.of

@@ -33,8 +33,7 @@ made-stopped start s ss high =
 pub all-made : (lo hi start : ℤ) (whole : List Snapshot) → Fill lo hi whole → hi ≤ℤ start → made_by start whole ≡ whole
 all-made lo hi start [] h end = refl
 all-made lo hi start (s ∷ ss) h end =
-    let above : s.end ≤ℤ hi = Fill-up s.end hi ss h.2 in
-    made-passed start s ss (omega (arith, ints)) ∙ ap (λ (rest : List Snapshot). s ∷ rest) (all-made s.end hi start ss h.2 end)
+    made-passed start s ss (omega (arith, ints, Fill-up s.end hi ss h.2)) ∙ ap (λ (rest : List Snapshot). s ∷ rest) (all-made s.end hi start ss h.2 end)
 
 -- and one at the lower end nothing
 pub none-made : (lo hi : ℤ) (whole : List Snapshot) → Fill lo hi whole → made_by lo whole ≡ []
@@ -76,8 +75,7 @@ made-rest lo hi start (s ∷ ss) h stands =
     (λ high.
     let none = made-stopped start s ss high in
     let at : lo ≡ start = rw none at stands in
-    (s ∷ ss, ap (λ (made : List Snapshot). made ++ s ∷ ss) (sym none), subst (λ (t : ℤ). Fill t hi (s ∷ ss)) at h))
-    (λ low.
+    (s ∷ ss, ap (λ (made : List Snapshot). made ++ s ∷ ss) (sym none), subst (λ (t : ℤ). Fill t hi (s ∷ ss)) at h)) (λ low.
     let some = made-passed start s ss low in
     let filled : Fill lo start (s ∷ made_by start ss) = rw some at stands in
     let later = made-rest s.end hi start ss h.2 filled.2 in (
@@ -143,8 +141,7 @@ turn-next body grid valid lo hi start (s ∷ ss) is stands before =
     (λ high.
     let none = made-stopped start s ss high in
     let at : lo ≡ start = rw none at stands in
-    rw none (ap (λ (x : Snapshot). Some x) first ∙ ap (λ (t : ℤ). Some (turn body grid hi t)) at))
-    (λ low.
+    rw none (ap (λ (x : Snapshot). Some x) first ∙ ap (λ (t : ℤ). Some (turn body grid hi t)) at)) (λ low.
     let some = made-passed start s ss low in
     let filled : Fill lo start (s ∷ made_by start ss) = rw some at stands in
     let rest : ss ≡ turns_until body grid hi s.end = cc (both, first) in
@@ -175,12 +172,8 @@ open-in_order lo hi start made low high h within =
 -- each takes a tick at least
 made-count : (lo start : ℤ) (made : List Snapshot) → Fill lo start made → (lo +ℤ pos (length made)) ≤ℤ start
 made-count lo start [] h = omega (arith, ints)
-made-count lo start (s ∷ made) h =
-    let rest = made-count s.end start made h.2 in
-    omega (arith, ints)
+made-count lo start (s ∷ made) h = omega (arith, ints, made-count s.end start made h.2)
 
 pub made-few : (lo start : ℤ) (made : List Snapshot) → neg_ℤ WIDE ≤ℤ lo → start ≤ℤ WIDE → Fill lo start made
     → length made < 9223372036854775807
-made-few lo start made low high h =
-    let count = made-count lo start made h in
-    omega (arith, ints)
+made-few lo start made low high h = omega (arith, ints, made-count lo start made h)

@@ -1,11 +1,11 @@
 -- The loops of a pipe before their first turns: which loops read their buffers, which of them are used, and what is kept of each.
-use Rattle.std.proofs.Common.{◌≢◌, ◌≡◌, inl, inr, ◌<◌, ◌≤◌, ℕ, zero, suc, ◌+◌, ◌==◌, ◌&&◌, ◌||◌, not, ℤ, pos, neg_ℤ, ◌+ℤ◌, ◌≤ℤ◌, Bool, true, false}
+use Rattle.std.proofs.Common.{◌≢◌, ◌≡◌, inl, inr, ◌<◌, ◌≤◌, ℕ, zero, suc, ◌+◌, ◌==◌, ◌&&◌, ◌||◌, not, ℤ, pos, neg_ℤ, ◌+ℤ◌, ◌≤ℤ◌, Bool, true, false, replicate, None}
 use Rattle.std.proofs.Common.{List, [], ◌∷◌, ◌++◌, map, length, take, drop, slice_get, slice_set, option_map, Some, Contains, refl}
 use Rattle.std.proofs.Common.{sym, ap, ◌∙◌, subst, arith, length-drop}
 use Rattle.std.specs.Global.{Vec}
 use Rattle.std.proofs.lemmas.Bool.{cases_eq}
 use Rattle.std.proofs.lemmas.Int.{ints}
-use Rattle.std.proofs.lemmas.List.{drop_all, length-map, length-set, length_push, take_at}
+use Rattle.std.proofs.lemmas.List.{drop_all, length-map, length-set, length_push, take_at, length-replicate}
 use Rattle.std.proofs.lemmas.List.Elements.{Contains-append_left, Contains-push}
 use Rattle.std.proofs.lemmas.Option.{same_Some, slice_get-map, slice_get_within}
 use Rattle.circular_buffer.proofs.Places.{slice_get-drop, slice_get-last, slice_get-push, slice_get-set_other, slice_get-set_same, slice_get-some}
@@ -29,7 +29,7 @@ use Rattle.tilt_pipe.proofs.Trimming.{trimmed-exact}
 use Rattle.tilt_pipe.proofs.Turning.{each-at}
 use Rattle.tilt_pipe.proofs.Wanted.{used-source}
 use Rattle.tilt_pipe.proofs.Works.{buffers-length, work-fills, work-is, works-length}
-use Rattle.tilt_pipe.specs.Chain.{AreTurns}
+use Rattle.tilt_pipe.specs.Chain.{AreTurns, AreHolders, IsHeld}
 use Rattle.tilt_pipe.specs.Gathered.{AreEach, HasAdded, HasBegun, HaveBegun}
 use Rattle.tilt_pipe.specs.Made.{Work, is_used, is_used_by, reads_buffer}
 use Rattle.tilt_pipe.specs.Positions.{AreRings, RingParts, RingsParts, made_by, stages_at, start_at, starts_of, works_in}
@@ -64,17 +64,16 @@ each-push p Has all place new are own = record {
 
 -- a loop before any said what it reads, with a state that is fit for a first turn over any buffers
 pub first-begun : (p : RingsParts) (place : ℕ) (w : Work) (turns : LoopTurns) → IsCode p.code → AreRings p
-    → slice_get (works_in p) place ≡ Some w → turns.readers.items ≡ []
+    → slice_get (works_in p) place ≡ Some w → turns.readers.items ≡ [] → turns.passed ≡ 0
     → ((lists : List (List Snapshot)) (point : ℤ) → IsReady (length lists) w.loop → neg_ℤ WIDE ≤ℤ point → IsFit lists w.loop point turns.state)
     → HasBegun p (length p.code.loops) place w turns
-first-begun p place w turns code are is none fresh =
+first-begun p place w turns code are is none no_passed fresh =
     let ready = work-ready p place w code are is in
     let it = ring-of p place w code are is in
     let up = Fill-up w.loop.lo it.ring.start (made_by it.ring.start w.whole) it.kept.ring.fill in
     let above = (ceil-IsCeil w.loop.grid (start_at p place +ℤ pos 1) ready.grid.period_low).not_below in
     let all = buffers-length p.code p.inputs in
     let count = works-length p.code p.inputs in
-    let within = slice_get_within (works_in p) place w is in
     record {
       fit = (
         neg_ℤ WIDE,
@@ -86,6 +85,7 @@ first-begun p place w turns code are is none fresh =
       readers = subst (AreReaders p.code p.inputs (length p.code.loops) place) (sym none)
           (record { each = tt; all = λ k v r from of. let inside = slice_get_within (works_in p) k v of in absurd (omega arith) });
       used = λ some. let long = ap length none in absurd (omega arith);
+      passed = no_passed;
     }
 
 -- a buffer that no used loop reads
@@ -109,9 +109,8 @@ used-by buffer (w ∷ works) some = refl
 -- the last loop is used, and an earlier one that has a reader, where all later loops have said what they read
 pub last-used : (p : RingsParts) (place : ℕ) (w : Work) → slice_get (works_in p) place ≡ Some w → suc place ≡ length p.code.loops → w.used ≡ true
 last-used p place w is end =
-    let count = works-length p.code p.inputs in
     (work-is p.code p.inputs place w is).used
-    ∙ ap (is_used (length p.inputs + place)) (drop_all (suc place) (works_in p) (omega arith))
+    ∙ ap (is_used (length p.inputs + place)) (drop_all (suc place) (works_in p) (omega (arith, works-length p.code p.inputs)))
 
 pub used-is : (p : RingsParts) (from place : ℕ) (w : Work) (turns : LoopTurns) (many : ℕ) → from ≤ suc place → suc place ≢ length p.code.loops
     → slice_get (works_in p) place ≡ Some w → HasBegun p from place w turns → many ≡ length turns.readers.items → w.used ≡ not (many == 0)
@@ -120,10 +119,8 @@ used-is p from place w turns zero high more is begun long =
     let count = works-length p.code p.inputs in
     let within = slice_get_within (works_in p) place w is in
     let rest = length-drop (suc place) (works_in p) in
-    (work-is p.code p.inputs place w is).used
-    ∙ used-by (length p.inputs + place) behind (omega arith)
-    ∙ none-reads (length p.inputs + place) behind
-    (λ k v r at mark read.
+    (work-is p.code p.inputs place w is).used ∙ used-by (length p.inputs + place) behind (omega arith)
+    ∙ none-reads (length p.inputs + place) behind (λ k v r at mark read.
     let has = begun.readers.all (suc place + k) v r (omega arith) (sym (slice_get-drop (suc place) (works_in p) k (suc place + k) refl) ∙ at) mark read in
     omega arith)
 used-is p from place w turns (suc n) high more is begun long =
@@ -141,23 +138,21 @@ pub source-there : (p : RingsParts) (place : ℕ) (sources : List Source) (n : �
 source-there p place sources n s code are there reads at =
     let w = work-there p place there in
     let own = all-slice_get (IsSource (length p.inputs) (body_reads w.0.loop.body)) sources n s (reads w.0 w.1).each at in
-    let before = (source-near p place w.0 s code are w.1 own).there in
-    omega arith
+    omega (arith, (source-near p place w.0 s code are w.1 own).there)
 
 -- one source more
 pub added-push : (p : RingsParts) (place n : ℕ) (w : Work) (sources : List Source) (all : List LoopTurns) (s : Source) (own : LoopTurns)
     (readers : Vec Reader) → IsCode p.code → AreRings p → slice_get (works_in p) place ≡ Some w → w.used ≡ true
     → AreSources (length p.inputs) (body_reads w.loop.body) sources → slice_get sources n ≡ Some s → slice_get all s.place ≡ Some own
     → readers.items ≡ own.readers.items ++ record { place = place; first = s.first } ∷ []
-    → AreEach p (length p.code.loops) (HasAdded p place sources n) all
-    → AreEach p (length p.code.loops) (HasAdded p place sources (suc n))
-    (slice_set all s.place (record { state = own.state; sources = own.sources; readers = readers }))
+    → AreEach p (length p.code.loops) (HasAdded p place sources n) all → AreEach p (length p.code.loops) (HasAdded p place sources (suc n))
+    (slice_set all s.place (record { state = own.state; sources = own.sources; readers = readers; passed = own.passed }))
 added-push p place n w sources all s own readers code are is used known at there more added =
     let source = all-slice_get (IsSource (length p.inputs) (body_reads w.loop.body)) sources n s known.each at in
     let low = source.first in
     let x : Reader = record { place = place; first = s.first } in
     each-set p (length p.code.loops) (HasAdded p place sources n) (HasAdded p place sources (suc n)) all s.place
-    (record { state = own.state; sources = own.sources; readers = readers }) (slice_get_within all s.place own there) added
+    (record { state = own.state; sources = own.sources; readers = readers; passed = own.passed }) (slice_get_within all s.place own there) added
     (λ k v t apart had.
     record {
       begun = had.begun;
@@ -166,8 +161,7 @@ added-push p place n w sources all s own readers code are is used known at there
             | inl last ↦ absurd (apart (let equal : y ≡ s = (let at_i : slice_get sources i ≡ Some s = rw last at in cc) in cc))
             | inr before ↦ had.found u here mark i y (omega arith) is_y same
           ];
-    })
-    (λ v of.
+    }) (λ v of.
     let had = added.each s.place v own of there in
     record {
       begun = record {
@@ -183,6 +177,7 @@ added-push p place n w sources all s own readers code are is used known at there
         });
         used = λ some. used-source p.code p.inputs place s.place w v low.0 is used low.1.among low.1.of
             (source-near p place w s code are is source).there of;
+        passed = had.begun.passed;
       };
       found = λ u here mark i y below is_y same.
           rw more (elim (cases_eq i n) as (λ _. Contains (own.readers.items ++ x ∷ []) (record { place = place; first = y.first })) [
@@ -199,7 +194,7 @@ added-push p place n w sources all s own readers code are is used known at there
 begun-down : (p : RingsParts) (place k : ℕ) (w v : Work) (sources : List Source) (t : LoopTurns) (own : Vec Source)
     → slice_get (works_in p) place ≡ Some w → AreSources (length p.inputs) (body_reads w.loop.body) sources
     → HasAdded p place sources (length sources) k v t → (place ≤ k → AreSources (length p.inputs) (body_reads v.loop.body) own.items)
-    → HasBegun p place k v (record { state = t.state; sources = own; readers = t.readers })
+    → HasBegun p place k v (record { state = t.state; sources = own; readers = t.readers; passed = t.passed })
 begun-down p place k w v sources t own is known added own_known = record {
   fit = added.begun.fit;
   sources = own_known;
@@ -223,16 +218,16 @@ begun-down p place k w v sources t own is known added own_known = record {
         ];
   };
   used = added.begun.used;
+  passed = added.begun.passed;
 }
 
 pub all-down : (p : RingsParts) (place : ℕ) (w : Work) (sources : Vec Source) (all : List LoopTurns) (own : LoopTurns)
     → slice_get (works_in p) place ≡ Some w → AreSources (length p.inputs) (body_reads w.loop.body) sources.items
-    → slice_get all place ≡ Some own
-    → AreEach p (length p.code.loops) (HasAdded p place sources.items (length sources.items)) all
-    → HaveBegun p place (slice_set all place (record { state = own.state; sources = sources; readers = own.readers }))
+    → slice_get all place ≡ Some own → AreEach p (length p.code.loops) (HasAdded p place sources.items (length sources.items)) all
+    → HaveBegun p place (slice_set all place (record { state = own.state; sources = sources; readers = own.readers; passed = own.passed }))
 all-down p place w sources all own is known at are =
     each-set p (length p.code.loops) (HasAdded p place sources.items (length sources.items)) (HasBegun p place) all place
-    (record { state = own.state; sources = sources; readers = own.readers }) (slice_get_within all place own at) are
+    (record { state = own.state; sources = sources; readers = own.readers; passed = own.passed }) (slice_get_within all place own at) are
     (λ k v t apart had. begun-down p place k w v sources.items t t.sources is known had (λ from. had.begun.sources (omega arith)))
     (λ v of. begun-down p place place w v sources.items own sources is known (are.each place v own of at)
     (λ from. subst (λ (x : Work). AreSources (length p.inputs) (body_reads x.loop.body) sources.items) (same_Some w v (sym is ∙ of)) known))
@@ -249,7 +244,7 @@ first-turns p all are begun = record {
   many = begun.many;
   each = λ k w t of at.
       let own = begun.each k w t of at in
-      record { sources = own.sources (omega arith); readers = own.readers; fit = own.fit };
+      record { sources = own.sources (omega arith); readers = own.readers; fit = own.fit; passed = λ i s below at. absurd (omega (arith, own.passed)) };
 }
 
 -- the ring of a loop before its first turn
@@ -270,8 +265,7 @@ pub first-exact : (p : RingsParts) (loops : List LoopParts) → IsCode p.code �
     → p.rings ≡ map (λ (l : LoopParts). record { held = []; forgotten = 0; start = l.lo; hi = l.hi }) loops
     → map (λ (r : RingParts). r.held) p.rings ≡ rings_of (length p.inputs) (stages_at (works_in p) (starts_of p.rings))
 first-exact p loops code are same first =
-    trimmed-exact p are
-    (λ k w r of at.
+    trimmed-exact p are (λ k w r of at.
     let fills = (work-fills p.code p.inputs k w (loops-timed p.code.loops code.grammatical.loops) of).0 in
     let loop : slice_get loops k ≡ Some w.loop = ap (λ (ls : List LoopParts). slice_get ls k) same ∙ (work-is p.code p.inputs k w of).loop in
     let here : slice_get p.rings k ≡ Some (first_ring w.loop) =
@@ -279,3 +273,16 @@ first-exact p loops code are same first =
     let none : 0 ≡ let_go (wanted_at p k) [] = (let few = let_go-within (wanted_at p k) [] in omega arith) in
     subst (λ (x : RingParts). x.forgotten ≡ let_go (wanted_at p k) (made_by x.start w.whole)) (same_Some (first_ring w.loop) r (sym here ∙ at))
     (subst (λ (list : List Snapshot). 0 ≡ let_go (wanted_at p k) list) (sym (none-made w.loop.lo w.loop.hi w.whole fills)) none))
+
+-- where nobody holds a ring
+none-found : (count k : ℕ) (x : Reader) → slice_get (replicate count None) k ≢ Some (Some x)
+none-found zero k x at = cc at
+none-found (suc count) zero x at = cc at
+none-found (suc count) (suc k) x at = none-found count k x at
+
+pub none-held : (p : RingsParts) (all : List LoopTurns) (count : ℕ) → count ≡ length all
+    → AreHolders all (replicate count None) × ((k : ℕ) → IsHeld p (replicate count None) k)
+none-held p all count many = (
+  record { many = length-replicate count None ∙ many; among = λ k t x of at. absurd (none-found count k x at) },
+  λ k x at. absurd (none-found count k x at),
+)

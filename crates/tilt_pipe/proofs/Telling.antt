@@ -4,12 +4,12 @@ use Rattle.std.proofs.Common.{◌≡◌, inl, inr, ◌≤◌, ◌<◌, ◌+◌, 
 use Rattle.std.proofs.Common.{arith, length-append, ◌⊎◌, pos, ◌+ℤ◌, ◌≤ℤ◌, true, false, ◌||◌, if◌then◌else◌, int_lt, Contains}
 use Rattle.std.proofs.lemmas.Bool.{cases_lt}
 use Rattle.std.proofs.lemmas.Int.{by_lt_z, ints}
-use Rattle.std.proofs.lemmas.List.{get_or-map, get_or_append_left, length-map, append-nil, get_or-append-add}
-use Rattle.std.proofs.lemmas.Option.{same_Some, get_or_from_slice_get, slice_get-map}
+use Rattle.std.proofs.lemmas.List.{drop-append-le, get_or-map, get_or_append_left, length-map, append-nil, get_or-append-add}
+use Rattle.std.proofs.lemmas.Option.{same_Some, get_or_from_slice_get, slice_get-map, slice_get_read, slice_get_within}
 use Rattle.std.specs.Ordering.{int_eq}
 use Rattle.std.proofs.lemmas.List.Elements.{Contains-append_cases, Contains-append_left, Contains-append_right}
 use Rattle.std.specs.List.{AllByRecursion}
-use Rattle.circular_buffer.proofs.Places.{slice_get-append_left, slice_get-drop, slice_get-last, slice_get-some}
+use Rattle.circular_buffer.proofs.Places.{slice_get-drop, slice_get-some}
 use Rattle.tilt_base.specs.declared.limits.TheConstants.{WIDE}
 use Rattle.tilt_base.proofs.Lists.{all-parts}
 use Rattle.tilt_code.specs.References.{IsCode}
@@ -24,7 +24,7 @@ use Rattle.tilt_stream.proofs.Ended.{none_ended}
 use Rattle.tilt_stream.proofs.Streams.{cell_at-before, mark_at-before, mark_at-start}
 use Rattle.tilt_stream.specs.Stream.{cell_at, mark_at, covers}
 use Rattle.tilt_turn.specs.Same.{IsSameFor}
-use Rattle.tilt_pipe.proofs.RingsKept.{IsAt, kept-count, kept-few, read-at, rings-length, loops-there}
+use Rattle.tilt_pipe.proofs.RingsKept.{IsAt, is-at, kept-count, kept-few, rings-length, loops-there}
 use Rattle.tilt_pipe.proofs.Standing.{gap-none, gap-some, open-in_order, all-made, below_end, made-rest}
 use Rattle.tilt_pipe.proofs.Works.{works-length, input-is, work-is}
 use Rattle.tilt_pipe.specs.Made.{Work}
@@ -39,8 +39,7 @@ open-from : (works : List Work) (starts : List ℤ) (place : ℕ) (w : Work) (st
     → slice_get starts place ≡ Some start → get_or (open_lists works starts) place [] ≡ open_list w start
 open-from [] starts place w start of is = absurd (cc of)
 open-from (x ∷ works) [] place w start of is = absurd (cc is)
-open-from (x ∷ works) (t ∷ starts) zero w start of is =
-    ap (λ (y : Work). open_list y t) (same_Some x w of) ∙ ap (open_list w) (same_Some t start is)
+open-from (x ∷ works) (t ∷ starts) zero w start of is = ap (λ (y : Work). open_list y t) (same_Some x w of) ∙ ap (open_list w) (same_Some t start is)
 open-from (x ∷ works) (t ∷ starts) (suc place) w start of is = open-from works starts place w start of is
 
 -- after the last loop there is none
@@ -54,16 +53,12 @@ open-past (x ∷ works) (t ∷ starts) (suc place) past = open-past works starts
 abbrev pub open_at : RingsParts → ℕ → List Snapshot
 open_at p place = get_or (open_lists (works_in p) (starts_of p.rings)) place []
 
-pub open_at-past : (p : RingsParts) (place : ℕ) → length p.code.loops ≤ place → open_at p place ≡ []
-open_at-past p place past =
-    let count = works-length p.code p.inputs in
-    open-past (works_in p) (starts_of p.rings) place (omega arith)
+pub open_at-past : (p : RingsParts) (place : ℕ) → AreRings p → length p.rings ≤ place → open_at p place ≡ []
+open_at-past p place are past =
+    open-past (works_in p) (starts_of p.rings) place (omega (arith, works-length p.code p.inputs, are.many))
 
-pub open_at-within : (p : RingsParts) (place number : ℕ) → number < length (open_at p place) → place < length p.code.loops
-open_at-within p place number some = elim (cases_lt place (length p.code.loops)) as (λ _. place < length p.code.loops) [
-  | inl within ↦ within
-  | inr past ↦ absurd (omega (arith, some, ap length (open_at-past p place past)))
-]
+pub works-there : (p : RingsParts) (place : ℕ) → AreRings p → place < length p.rings → (w : Work) × (slice_get (works_in p) place ≡ Some w)
+works-there p place are within = slice_get-some (works_in p) place (omega (arith, rings-length (works_in p) p.rings are.rings))
 
 -- the loop, its ring, and what a turn reads of it
 pub record IsOpenAt (p : RingsParts) (place : ℕ) (r : RingParts) : Type 0 where
@@ -75,15 +70,13 @@ pub record IsOpenAt (p : RingsParts) (place : ℕ) (r : RingParts) : Type 0 wher
   pub few : length (made_by r.start work.whole) < 9223372036854775807
   pub forgotten : get_or (map (λ (x : RingParts). x.forgotten) p.rings) place 0 ≡ r.forgotten
 
-pub open-at : (p : RingsParts) (place : ℕ) (r : RingParts) → IsCode p.code → AreRings p → place < length p.code.loops
-    → r ≡ get_or p.rings place r → IsOpenAt p place r
-open-at p place r code are within is =
-    let count = works-length p.code p.inputs in
-    let there = slice_get-some (works_in p) place (omega arith) in
+pub open-at : (p : RingsParts) (place : ℕ) (r : RingParts) → IsCode p.code → AreRings p → slice_get p.rings place ≡ Some r → IsOpenAt p place r
+open-at p place r code are at =
+    let there = works-there p place are (slice_get_within p.rings place r at) in
     let w = there.0 in
-    let it = read-at p place w r code are there.1 is in
-    let start = slice_get-map (λ (x : RingParts). x.start) p.rings place ∙ ap (option_map (λ (x : RingParts). x.start)) it.at in
-    let gone = slice_get-map (λ (x : RingParts). x.forgotten) p.rings place ∙ ap (option_map (λ (x : RingParts). x.forgotten)) it.at in
+    let it = is-at p place w r code are there.1 at in
+    let start = slice_get-map (λ (x : RingParts). x.start) p.rings place ∙ ap (option_map (λ (x : RingParts). x.start)) at in
+    let gone = slice_get-map (λ (x : RingParts). x.forgotten) p.rings place ∙ ap (option_map (λ (x : RingParts). x.forgotten)) at in
     let list = open-from (works_in p) (starts_of p.rings) place w r.start it.of start in
     record {
       work = w;
@@ -95,46 +88,29 @@ open-at p place r code are within is =
       forgotten = get_or_from_slice_get (map (λ (x : RingParts). x.forgotten) p.rings) place r.forgotten 0 gone;
     }
 
+-- the same, where a ring is read off a slice
+pub open-read : (p : RingsParts) (place : ℕ) (r : RingParts) → IsCode p.code → AreRings p
+    → (place < length p.rings) × ((d : RingParts) → r ≡ get_or p.rings place d) → IsOpenAt p place r
+open-read p place r code are is = open-at p place r code are (slice_get_read p.rings (length p.rings) place r refl is.0 (is.1 r))
+
 -- how many these are
-pub open-count : (p : RingsParts) (place : ℕ) (r : RingParts) (o : IsOpenAt p place r)
-    → length (open_at p place) ≡ r.forgotten + length r.held + length (gap_before (Some r.start) o.work.loop.hi)
+pub open-count : (p : RingsParts) (place : ℕ) (r : RingParts) → IsOpenAt p place r
+    → r.forgotten + length (r.held ++ gap_before (Some r.start) r.hi) ≡ length (open_at p place)
 open-count p place r o =
-    omega (arith, o.count, ap length o.list, length-append (made_by r.start o.work.whole) (gap_before (Some r.start) o.work.loop.hi))
+    let gap = gap_before (Some r.start) r.hi in
+    let list = rw (← o.it.kept.ring.hi) at (ap length o.list) in
+    omega (arith, o.count, list, length-append r.held gap, length-append (made_by r.start o.work.whole) gap)
 
--- the one at a place that is made is held, where it isn't forgotten
-pub open-held : (p : RingsParts) (place number : ℕ) (r : RingParts) → IsOpenAt p place r → r.forgotten ≤ number
-    → number < r.forgotten + length r.held → slice_get (open_at p place) number ≡ slice_get r.held (number - r.forgotten)
-open-held p place number r o kept below =
+-- of those that aren't forgotten it is what the ring holds, with that null snapshot
+pub open-kept : (p : RingsParts) (place number : ℕ) (r : RingParts) → IsOpenAt p place r → r.forgotten ≤ number
+    → slice_get (open_at p place) number ≡ slice_get (r.held ++ gap_before (Some r.start) r.hi) (number - r.forgotten)
+open-kept p place number r o kept =
     let made = made_by r.start o.work.whole in
-    let count = o.count in
-    let held = ap (λ (xs : List Snapshot). slice_get xs (number - r.forgotten)) o.it.kept.ring.held in
-    let at = slice_get-drop r.forgotten made (number - r.forgotten) number (omega arith) in
+    let gap = gap_before (Some r.start) o.work.loop.hi in
     ap (λ (xs : List Snapshot). slice_get xs number) o.list
-    ∙ slice_get-append_left made (gap_before (Some r.start) o.work.loop.hi) number (omega arith)
-    ∙ sym at ∙ sym held
-
--- the others are the null snapshot alone
-pub record IsRest (p : RingsParts) (place number : ℕ) (r : RingParts) (hi : ℤ) : Type 0 where
-  pub before : r.start <ℤ hi
-  pub snap : slice_get (open_at p place) number ≡ Some (record { start = r.start; end = hi; value = None })
-
-pub open-rest : (p : RingsParts) (place number : ℕ) (r : RingParts) (o : IsOpenAt p place r) → number < length (open_at p place)
-    → r.forgotten + length r.held ≤ number → IsRest p place number r o.work.loop.hi
-open-rest p place number r o some above =
-    let count = open-count p place r o in
-    by_lt_z r.start o.work.loop.hi
-    (λ before.
-    let rest : Snapshot = record { start = r.start; end = o.work.loop.hi; value = None } in
-    let gap = gap-some r.start o.work.loop.hi before in
-    let all = rw gap at count in
-    record {
-      before = before;
-      snap = ap (λ (xs : List Snapshot). slice_get xs number) (rw gap at o.list)
-          ∙ slice_get-last (made_by r.start o.work.whole) rest number (omega (arith, o.count));
-    })
-    (λ end.
-    let none = rw (gap-none r.start o.work.loop.hi end) at count in
-    absurd (omega arith))
+    ∙ sym (slice_get-drop r.forgotten (made ++ gap) (number - r.forgotten) number (omega arith))
+    ∙ ap (λ (xs : List Snapshot). slice_get xs (number - r.forgotten)) (drop-append-le r.forgotten made gap o.it.kept.ring.forgotten)
+    ∙ rw (o.it.kept.ring.held, o.it.kept.ring.hi) refl
 
 pub input-forgotten : (inputs : List (List Snapshot)) (others : List ℕ) (buffer : ℕ) → buffer < length inputs
     → get_or (map (λ (rows : List Snapshot). 0) inputs ++ others) buffer 0 ≡ 0
@@ -147,8 +123,6 @@ input-forgotten inputs others buffer within =
 Fill-InOrder : (lo hi : ℤ) (list : List Snapshot) → Fill lo hi list → InOrder lo hi list
 Fill-InOrder lo hi [] h = tt
 Fill-InOrder lo hi (s ∷ ss) h =
-    let begins = h.0 in
-    let rises = h.1 in
     let within = Fill-up s.end hi ss h.2 in
     (omega (arith, ints), omega (arith, ints), within, Fill-InOrder s.end hi ss h.2)
 
@@ -165,15 +139,13 @@ module _ (start hi : ℤ) (some : start <ℤ hi) (list : List Snapshot) (h : Fil
   rest-cells : (tick : ℤ) → tick ≤ℤ start → cell_at (rest_of start hi) tick ≡ cell_at list tick
   rest-cells tick low =
       let one : InOrder start hi (rest_of start hi) = (omega (arith, ints), some, omega (arith, ints), tt) in
-      cell_at-before start hi (rest_of start hi) tick one low
-      ∙ sym (cell_at-before start hi list tick (Fill-InOrder start hi list h) low)
+      cell_at-before start hi (rest_of start hi) tick one low ∙ sym (cell_at-before start hi list tick (Fill-InOrder start hi list h) low)
 
 -- the marks up to the tick after the lower end
 rest-marks : (start hi : ℤ) (list : List Snapshot) → start <ℤ hi → Fill start hi list → (tick : ℤ) → tick ≤ℤ (start +ℤ pos 1)
     → mark_at (rest_of start hi) tick ≡ mark_at list tick
 rest-marks start hi [] some h tick low = absurd (omega (arith, ints))
 rest-marks start hi (s ∷ ss) some h tick low =
-    let rises = h.1 in
     let far : int_eq tick (hi +ℤ pos 1) ≡ false = grind (arith, ints) in
     let end : int_eq tick (s.end +ℤ pos 1) ≡ false = grind (arith, ints) in
     let behind = mark_at-before s.end hi ss tick (Fill-InOrder s.end hi ss h.2) (omega (arith, ints)) in
@@ -184,8 +156,7 @@ made-then : {A : Type 0} (tell : List Snapshot → A) (add : Snapshot → A → 
     → ((s : Snapshot) (ss : List Snapshot) → tell (s ∷ ss) ≡ add s (tell ss)) → (made a b : List Snapshot) → tell a ≡ tell b
     → tell (made ++ a) ≡ tell (made ++ b)
 made-then tell add one [] a b h = h
-made-then tell add one (s ∷ made) a b h =
-    one s (made ++ a) ∙ ap (add s) (made-then tell add one made a b h) ∙ sym (one s (made ++ b))
+made-then tell add one (s ∷ made) a b h = one s (made ++ a) ∙ ap (add s) (made-then tell add one made a b h) ∙ sym (one s (made ++ b))
 
 made-marks : (made a b : List Snapshot) (tick : ℤ) → mark_at a tick ≡ mark_at b tick → mark_at (made ++ a) tick ≡ mark_at (made ++ b) tick
 made-marks made a b tick =
@@ -206,8 +177,7 @@ open-same tick start hi made rest some h low =
           let first = mark_at-start made (record { start = start; end = hi; value = None }) [] in
           let none = clear (start +ℤ pos 1) (omega (arith, ints)) far in
           let never : true ≡ false = sym first ∙ none in
-          absurd (cc never))
-          (λ near. made-marks made gap rest t (rest-marks start hi rest some h t near));
+          absurd (cc never)) (λ near. made-marks made gap rest t (rest-marks start hi rest some h t near));
     }
 
 -- what is the same tells the same
@@ -229,22 +199,9 @@ made-same lo hi start tick whole h stands reached =
     let parts = made-rest lo hi start whole h stands in
     rw (gap-some start hi some)
     (subst (λ (list : List Snapshot). IsSameUpTo tick (made_by start whole ++ rest_of start hi) list) (sym parts.1)
-    (open-same tick start hi (made_by start whole) parts.0 some parts.2 (below_end tick start hi reached some))))
-    (λ none.
+    (open-same tick start hi (made_by start whole) parts.0 some parts.2 (below_end tick start hi reached some)))) (λ none.
     rw (gap-none start hi none)
     (same-is tick (made_by start whole ++ []) whole (append-nil (made_by start whole) ∙ all-made lo hi start whole h none)))
-
-abbrev pub none_held : RingParts
-none_held = record { held = []; forgotten = 0; start = pos 0; hi = pos 0 }
-
--- the ring there
-pub there : (p : RingsParts) (source : ℕ) → AreRings p → source < length p.code.loops
-    → get_or p.rings source none_held ≡ get_or p.rings source (get_or p.rings source none_held)
-there p source are within =
-    let long = loops-there p are in
-    let found = slice_get-some p.rings source (omega arith) in
-    get_or_from_slice_get p.rings source found.0 none_held found.1
-    ∙ sym (get_or_from_slice_get p.rings source found.0 (get_or p.rings source none_held) found.1)
 
 -- the buffer of a loop
 same-loop : (p : RingsParts) (point : ℤ) (r : Read) (source : ℕ) → IsCode p.code → AreRings p → source < length p.code.loops
@@ -252,8 +209,9 @@ same-loop : (p : RingsParts) (point : ℤ) (r : Read) (source : ℕ) → IsCode 
     → IsSameUpTo (point +ℤ r.last) (get_or (lists_of p) r.buffer []) (get_or (buffers_of p.code p.inputs) r.buffer [])
 same-loop p point r source code are within at told =
     let last = point +ℤ r.last in
-    let ring = get_or p.rings source none_held in
-    let o = open-at p source ring code are within (there p source are within) in
+    let found = slice_get-some p.rings source (omega (arith, loops-there p are, within)) in
+    let ring = found.0 in
+    let o = open-at p source ring code are found.1 in
     let w = o.work in
     let reached : (w.loop.hi ≤ℤ ring.start) ⊎ (last ≤ℤ ring.start) =
     subst (λ (t : ℤ). (w.loop.hi ≤ℤ t) ⊎ (last ≤ℤ t)) o.it.start (told source w at o.it.of) in
@@ -322,18 +280,12 @@ told-one p point last r source at most reached = λ other w is of.
       | inr far ↦ inr (omega (arith, ints))
     ])
 
-pub works-there : (p : RingsParts) (place : ℕ) → AreRings p → place < length p.rings → (w : Work) × (slice_get (works_in p) place ≡ Some w)
-works-there p place are within =
-    let count = rings-length (works_in p) p.rings are.rings in
-    slice_get-some (works_in p) place (omega arith)
-
 -- what one instruction reads, the body does
 pub among-body : (body : Block) (i : ℕ) (d : Instr) (r : Read) → i < length body → Contains (reads_of (get_or body i d)) r
     → Contains (body_reads body) r
 among-body [] i d r within among = absurd (omega arith)
 among-body (x ∷ body) zero d r within among = Contains-append_left (reads_of x) (body_reads body) r among
-among-body (x ∷ body) (suc i) d r within among =
-    Contains-append_right (reads_of x) (body_reads body) r (among-body body i d r (omega arith) among)
+among-body (x ∷ body) (suc i) d r within among = Contains-append_right (reads_of x) (body_reads body) r (among-body body i d r (omega arith) among)
 
 -- and what the body reads, one instruction does
 pub read-found : (body : Block) (r : Read) (d : Instr) → Contains (body_reads body) r

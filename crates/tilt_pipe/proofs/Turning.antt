@@ -1,17 +1,21 @@
 -- The turns of a chain's loops, place by place.
-use Rattle.std.proofs.Common.{◌≡◌, ◌≢◌, inl, inr, ◌<◌, ℕ, ℤ, pos, List, get_or, length, slice_get, slice_set, Some, refl, sym, ◌∙◌, subst, arith}
+use Rattle.std.proofs.Common.{◌≡◌, ◌≢◌, inl, inr, ◌<◌, ℕ, ℤ, pos, ◌+ℤ◌, ◌≤ℤ◌, List, get_or, length, slice_get, slice_set, Some, refl, sym, ◌∙◌, subst, arith, Option, Contains, ap}
 use Rattle.std.proofs.lemmas.Bool.{cases_eq}
-use Rattle.std.proofs.lemmas.List.{get_or-set_other, length-map, length-set}
+use Rattle.std.proofs.lemmas.Int.{ints}
+use Rattle.std.proofs.lemmas.List.{get_or-set_other, get_or-set_same, length-map, length-set, set-get_or}
 use Rattle.std.proofs.lemmas.Option.{same_Some, slice_get_read, slice_get_within}
 use Rattle.circular_buffer.proofs.Places.{slice_get-set_other, slice_get-set_same, slice_get-some}
 use Rattle.tilt_code.specs.Code.{CodeParts}
 use Rattle.tilt_stream.specs.Snap.{Snapshot}
 use Rattle.tilt_pipe.proofs.Works.{works-length}
-use Rattle.tilt_pipe.specs.Chain.{AreTurns, AreTurnsOf}
+use Rattle.tilt_pipe.specs.Chain.{AreHolders, AreTurns, AreTurnsOf, HasMade}
 use Rattle.tilt_pipe.specs.Made.{Work, works_of}
-use Rattle.tilt_pipe.specs.Positions.{RingParts, RingsParts, starts_of, works_in}
-use Rattle.tilt_pipe.specs.Sources.{AreReaders}
+use Rattle.tilt_pipe.specs.Positions.{RingParts, RingsParts, start_at, starts_of, works_in}
+use Rattle.tilt_pipe.specs.Reads.{turn_point}
+use Rattle.tilt_base.proofs.Lists.{all-at}
+use Rattle.tilt_pipe.specs.Sources.{AreReaders, IsReaderOf}
 use Rattle.tilt_pipe.specs.declared.chain.LoopTurns.{LoopTurns}
+use Rattle.tilt_pipe.specs.declared.chain.Reader.{Reader}
 
 -- what holds of each place but one, and of that one
 pub each-at : (works : List Work) (Old New : ℕ → Work → LoopTurns → Type 0) (old all : List LoopTurns) (place : ℕ) (new : LoopTurns)
@@ -27,24 +31,50 @@ each-at works Old New old all place new are others here other own k w t of at =
       | inr apart ↦ other k w t apart (are k w t of (sym (others k apart) ∙ at))
     ]
 
--- others of the same loop, which stands elsewhere
+-- a loop that goes on has made what it had
+rises-on : (works : List Work) (starts : List ℤ) (place k : ℕ) (start tick : ℤ) → place < length starts → get_or starts place (pos 0) ≤ℤ start
+    → HasMade works starts k tick → HasMade works (slice_set starts place start) k tick
+rises-on works starts place k start tick within up made = λ w of.
+    elim (cases_eq k place) as (λ _. HasMade works (slice_set starts place start) k tick) [
+      | inl same ↦ rw (same, get_or-set_same starts place start (pos 0) within) (λ v is.
+          elim (rw same at made v is) [ inl end ↦ inl (omega (arith, ints)) | inr far ↦ inr (omega (arith, ints)) ])
+      | inr apart ↦ rw (get_or-set_other starts place k start (pos 0) apart) made
+    ] w of
+
+-- others of the same loop, which stands further on
 pub turns-set : (code : CodeParts) (inputs : List (List Snapshot)) (starts : List ℤ) (all : List LoopTurns) (place : ℕ) (start : ℤ)
     (w : Work) (turns : LoopTurns) → AreTurns code inputs starts all → slice_get (works_of code inputs) place ≡ Some w
-    → AreTurnsOf code inputs (slice_set starts place start) place w turns
+    → get_or starts place (pos 0) ≤ℤ start → AreTurnsOf code inputs (slice_set starts place start) place w turns
     → AreTurns code inputs (slice_set starts place start) (slice_set all place turns)
-turns-set code inputs starts all place start w turns are of new =
+turns-set code inputs starts all place start w turns are of up new =
     let within = slice_get_within (works_of code inputs) place w of in
-    let count = works-length code inputs in
     let New = AreTurnsOf code inputs (slice_set starts place start) in
     record {
       begins = length-set starts place start ∙ are.begins;
       many = length-set all place turns ∙ are.many;
       each = each-at (works_of code inputs) (AreTurnsOf code inputs starts) New all (slice_set all place turns) place turns are.each
-          (λ k apart. slice_get-set_other all place k turns apart) (slice_get-set_same all place turns (omega arith))
+          (λ k apart. slice_get-set_other all place k turns apart) (slice_get-set_same all place turns (omega (arith, works-length code inputs)))
           (λ k v t apart old.
-          record { sources = old.sources; readers = old.readers; fit = rw (get_or-set_other starts place k start (pos 0) apart) old.fit })
+          record {
+            sources = old.sources;
+            readers = old.readers;
+            fit = rw (get_or-set_other starts place k start (pos 0) apart) old.fit;
+            passed = rw (get_or-set_other starts place k start (pos 0) apart) (λ i s below at.
+                rises-on (works_of code inputs) starts place s.place start (turn_point v.loop (get_or starts k (pos 0)) +ℤ s.last)
+                (omega (arith, are.begins, works-length code inputs)) up (old.passed i s below at));
+          })
           (λ v is. subst (λ (x : Work). New place x turns) (same_Some w v (sym of ∙ is)) new);
     }
+
+-- other turns of a loop that stands where it stood
+pub turns-passed : (p : RingsParts) (all : List LoopTurns) (place : ℕ) (w : Work) (new : LoopTurns) → AreTurns p.code p.inputs (starts_of p.rings) all
+    → slice_get (works_in p) place ≡ Some w → AreTurnsOf p.code p.inputs (starts_of p.rings) place w new
+    → AreTurns p.code p.inputs (starts_of p.rings) (slice_set all place new)
+turns-passed p all place w new are of own =
+    let same = set-get_or (starts_of p.rings) place (pos 0) in
+    subst (λ (starts : List ℤ). AreTurns p.code p.inputs starts (slice_set all place new)) same
+    (turns-set p.code p.inputs (starts_of p.rings) all place (start_at p place) w new are of (omega (arith, ints))
+    (subst (λ (starts : List ℤ). AreTurnsOf p.code p.inputs starts place w new) (sym same) own))
 
 -- the loop at a place has its ring and its turns
 pub record HasMany (p : RingsParts) (all : List LoopTurns) (place : ℕ) : Type 0 where
@@ -70,8 +100,7 @@ turns-within p all place are there = let long = turns-long p all are in omega (a
 
 pub found-turns : (p : RingsParts) (all : List LoopTurns) (place : ℕ) (turns : LoopTurns) → AreTurns p.code p.inputs (starts_of p.rings) all
     → place < length p.rings → turns ≡ get_or all place turns → slice_get all place ≡ Some turns
-found-turns p all place turns are there at =
-    slice_get_read all (length all) place turns refl (turns-within p all place are there) at
+found-turns p all place turns are there at = slice_get_read all (length all) place turns refl (turns-within p all place are there) at
 
 -- the turns of a loop of a chain
 pub own-turns : (p : RingsParts) (all : List LoopTurns) (place : ℕ) (w : Work) (turns : LoopTurns)
@@ -88,3 +117,72 @@ own-readers p all place turns are there at =
     let long = turns-long p all are in
     let found = slice_get-some (works_in p) place (omega (arith, long.0)) in
     (own-turns p all place found.0 turns are found.1 at).readers
+
+-- one of them with a number
+pub reader-at : (p : RingsParts) (all : List LoopTurns) (place : ℕ) (turns : LoopTurns) (n : ℕ) (reader : Reader)
+    → AreTurns p.code p.inputs (starts_of p.rings) all → place < length p.rings → turns ≡ get_or all place turns
+    → n < length turns.readers.items → reader ≡ get_or turns.readers.items n reader → IsReaderOf (length p.inputs) p.code.loops place reader
+reader-at p all place turns n reader are there at within is =
+    all-at (IsReaderOf (length p.inputs) p.code.loops place) turns.readers.items n reader (own-readers p all place turns are there at).each within is
+
+-- who holds a ring is one of its readers
+pub holder-of : (p : RingsParts) (all : List LoopTurns) (holders : List (Option Reader)) (k : ℕ) (reader : Reader)
+    → AreTurns p.code p.inputs (starts_of p.rings) all → AreHolders all holders → slice_get holders k ≡ Some (Some reader)
+    → IsReaderOf (length p.inputs) p.code.loops k reader
+holder-of p all holders k reader are held at =
+    let long = turns-long p all are in
+    let within = slice_get_within holders k (Some reader) at in
+    let t = slice_get-some all k (omega arith) in
+    let w = slice_get-some (works_in p) k (omega (arith, long.1)) in
+    let among = held.among k t.0 reader t.1 at in
+    all-at (IsReaderOf (length p.inputs) p.code.loops k) t.0.readers.items among.0 reader (are.each k w.0 t.0 w.1 t.1).readers.each among.1
+    (sym among.2)
+
+-- the readers of a loop are the same after its turn, and so are the holders
+pub holders-set : (all : List LoopTurns) (holders : List (Option Reader)) (place : ℕ) (old new : LoopTurns) → AreHolders all holders
+    → slice_get all place ≡ Some old → new.readers.items ≡ old.readers.items → AreHolders (slice_set all place new) holders
+holders-set all holders place old new held at same = record {
+  many = held.many ∙ sym (length-set all place new);
+  among = λ k t reader is there.
+      elim (cases_eq k place) as (λ _. Contains t.readers.items reader) [
+        | inl here ↦ (
+            let set = slice_get-set_same all place new (slice_get_within all place old at) in
+            let own = same_Some new t (sym set ∙ ap (slice_get (slice_set all place new)) (sym here) ∙ is) in
+            subst (λ (x : LoopTurns). Contains x.readers.items reader) own (subst (λ (xs : List Reader). Contains xs reader) (sym same)
+            (held.among k old reader (ap (slice_get all) here ∙ at) there))
+            )
+        | inr other ↦ held.among k t reader (sym (slice_get-set_other all place k new other) ∙ is) there
+      ];
+}
+
+-- the turns of a loop, and who holds its ring
+pub turns-there : (p : RingsParts) (all : List LoopTurns) (place : ℕ) → AreTurns p.code p.inputs (starts_of p.rings) all → place < length p.rings
+    → (t : LoopTurns) × (slice_get all place ≡ Some t)
+turns-there p all place are there = slice_get-some all place (turns-within p all place are there)
+
+pub found-holder : (p : RingsParts) (all : List LoopTurns) (holders : List (Option Reader)) (place : ℕ) (x holder : Option Reader)
+    → AreTurns p.code p.inputs (starts_of p.rings) all → AreHolders all holders → place < length p.rings → x ≡ get_or holders place x
+    → x ≡ holder → slice_get holders place ≡ Some holder
+found-holder p all holders place x holder are held there at is =
+    slice_get_read holders (length all) place x (sym held.many) (turns-within p all place are there) at ∙ ap Some is
+
+-- another holder of a ring is one of its readers too
+pub holder-set : (p : RingsParts) (all : List LoopTurns) (holders : List (Option Reader)) (place : ℕ) (new : Option Reader)
+    → AreTurns p.code p.inputs (starts_of p.rings) all → place < length p.rings → AreHolders all holders
+    → (t : LoopTurns) → slice_get all place ≡ Some t → ((x : Reader) → new ≡ Some x → Contains t.readers.items x)
+    → ((x : Option Reader) → slice_get (slice_set holders place new) place ≡ Some x → new ≡ x) × AreHolders all (slice_set holders place new)
+holder-set p all holders place new are there held t at own =
+    let within : place < length holders = (let many = held.many in let long = turns-within p all place are there in omega arith) in
+    let is : (x : Option Reader) → slice_get (slice_set holders place new) place ≡ Some x → new ≡ x =
+    λ x found. same_Some new x (sym (slice_get-set_same holders place new within) ∙ found) in (
+      is,
+      record {
+        many = length-set holders place new ∙ held.many;
+        among = λ k u x of found.
+            elim (cases_eq k place) as (λ _. Contains u.readers.items x) [
+              | inl here ↦ subst (λ (y : LoopTurns). Contains y.readers.items x) (same_Some t u (sym at ∙ ap (slice_get all) (sym here) ∙ of))
+                  (own x (is (Some x) (ap (slice_get (slice_set holders place new)) (sym here) ∙ found)))
+              | inr other ↦ held.among k u x of (sym (slice_get-set_other holders place k new other) ∙ found)
+            ];
+      },
+    )

@@ -1,5 +1,5 @@
 -- What the next turns of loops want of a buffer, what is let go of it, and what the rings hold, place by place.
-use Rattle.std.proofs.Common.{◌≡◌, ◌<◌, ◌≤◌, ℕ, zero, suc, ◌+◌, ◌-◌, ◌==◌, ℤ, pos, ◌+ℤ◌, ◌<ℤ◌, ◌≤ℤ◌, int_lt, Bool, true, false, ◌&&◌, ◌||◌, if◌then◌else◌, List, [], ◌∷◌, length, drop}
+use Rattle.std.proofs.Common.{◌≡◌, ◌<◌, ◌≤◌, ℕ, zero, suc, ◌+◌, ◌-◌, ◌==◌, ℤ, pos, ◌+ℤ◌, ◌≤ℤ◌, int_lt, Bool, true, false, ◌&&◌, ◌||◌, if◌then◌else◌, List, [], ◌∷◌, length, drop}
 use Rattle.std.proofs.Common.{slice_get, slice_set, Option, Some, None, refl, sym, ap, ◌∙◌, subst, arith, Contains}
 use Rattle.std.proofs.lemmas.Int.{ints, clamps}
 use Rattle.std.proofs.lemmas.Option.{same_Some}
@@ -35,25 +35,27 @@ not_later-tick None b h = absurd h
 not_later-tick (Some a) b h = (a, refl, h)
 
 -- the earlier of two ticks
-pub earlier-left : (a b : Option ℤ) (tick : ℤ) → IsNotLater a (Some tick) → IsNotLater (earlier a b) (Some tick)
-earlier-left None b tick h = absurd h
-earlier-left (Some a) None tick h = h
-earlier-left (Some a) (Some b) tick h = omega (arith, ints, clamps)
+pub earlier-left : (a b c : Option ℤ) → IsNotLater a c → IsNotLater (earlier a b) c
+earlier-left a b None h = tt
+earlier-left None b (Some c) h = absurd h
+earlier-left (Some a) None (Some c) h = h
+earlier-left (Some a) (Some b) (Some c) h = omega (arith, ints, clamps)
 
-pub earlier-right : (a b : Option ℤ) (tick : ℤ) → IsNotLater b (Some tick) → IsNotLater (earlier a b) (Some tick)
-earlier-right None b tick h = h
-earlier-right (Some a) None tick h = absurd h
-earlier-right (Some a) (Some b) tick h = omega (arith, ints, clamps)
+pub earlier-right : (a b c : Option ℤ) → IsNotLater b c → IsNotLater (earlier a b) c
+earlier-right a b None h = tt
+earlier-right None b (Some c) h = h
+earlier-right (Some a) None (Some c) h = absurd h
+earlier-right (Some a) (Some b) (Some c) h = omega (arith, ints, clamps)
 
 earlier-rises : (a b c d : Option ℤ) → IsNotLater a b → IsNotLater c d → IsNotLater (earlier a c) (earlier b d)
 earlier-rises a None c None h k = tt
-earlier-rises a None c (Some d) h k = earlier-right a c d k
-earlier-rises a (Some b) c None h k = earlier-left a c b h
+earlier-rises a None c (Some d) h k = earlier-right a c (Some d) k
+earlier-rises a (Some b) c None h k = earlier-left a c (Some b) h
 earlier-rises None (Some b) c (Some d) h k = absurd h
 earlier-rises (Some a) (Some b) None (Some d) h k = absurd k
 earlier-rises (Some a) (Some b) (Some c) (Some d) h k = omega (arith, ints, clamps)
 
--- the first tick that some reads want isn't behind that of any of them
+-- the first tick that some reads want isn't after that of any of them
 pub first_tick-within : (buffer : ℕ) (point : ℤ) (reads : List Read) (r : Read) → Contains reads r → r.buffer ≡ buffer
     → IsNotLater (first_tick buffer point reads) (Some (point +ℤ r.first))
 first_tick-within buffer point [] r among is = absurd (omega (arith, among.1))
@@ -62,7 +64,7 @@ first_tick-within buffer point (x ∷ reads) r (zero, within, at) is =
     let test : (x.buffer == buffer) ≡ true = eq-eqb x.buffer buffer (ap (λ (y : Read). y.buffer) same ∙ is) in
     let low : IsNotLater (Some (point +ℤ x.first)) (Some (point +ℤ r.first)) =
     subst (λ (y : Read). IsNotLater (Some (point +ℤ x.first)) (Some (point +ℤ y.first))) same (omega (arith, ints)) in
-    rw test (earlier-left (Some (point +ℤ x.first)) (first_tick buffer point reads) (point +ℤ r.first) low)
+    rw test (earlier-left (Some (point +ℤ x.first)) (first_tick buffer point reads) (Some (point +ℤ r.first)) low)
 first_tick-within buffer point (x ∷ reads) r (suc k, within, at) is =
     let rest = first_tick-within buffer point reads r (k, omega arith, at) is in
     by (x.buffer == buffer) rest
@@ -70,7 +72,7 @@ first_tick-within buffer point (x ∷ reads) r (suc k, within, at) is =
     by : (test : Bool) → IsNotLater (first_tick buffer point reads) (Some (point +ℤ r.first))
         → IsNotLater (if test then earlier (Some (point +ℤ x.first)) (first_tick buffer point reads) else first_tick buffer point reads)
         (Some (point +ℤ r.first))
-    by true rest = earlier-right (Some (point +ℤ x.first)) (first_tick buffer point reads) (point +ℤ r.first) rest
+    by true rest = earlier-right (Some (point +ℤ x.first)) (first_tick buffer point reads) (Some (point +ℤ r.first)) rest
     by false rest = rest
 
 -- at a later point it isn't earlier
@@ -102,16 +104,13 @@ pub turn_point-rises : (l : LoopParts) (a b : ℤ) → IsGrid l.grid → a ≤�
 turn_point-rises l a b valid le =
     let from = ceil-IsCeil l.grid (a +ℤ pos 1) valid.period_low in
     let to = ceil-IsCeil l.grid (b +ℤ pos 1) valid.period_low in
-    let high = to.not_below in
-    from.least (ceil l.grid (b +ℤ pos 1)) to.on_grid (omega (arith, ints))
+    from.least (ceil l.grid (b +ℤ pos 1)) to.on_grid (omega (arith, ints, to.not_below))
 
 -- what the next turn of a loop wants that stands at a tick
 abbrev wanted_at : ℕ → Work → ℤ → Option ℤ
-wanted_at buffer w start =
-    if w.used && int_lt start w.loop.hi then first_tick buffer (turn_point w.loop start) (body_reads w.loop.body) else None
+wanted_at buffer w start = if w.used && int_lt start w.loop.hi then first_tick buffer (turn_point w.loop start) (body_reads w.loop.body) else None
 
-wanted_at-rises : (buffer : ℕ) (w : Work) (a b : ℤ) → IsGrid w.loop.grid → a ≤ℤ b
-    → IsNotLater (wanted_at buffer w a) (wanted_at buffer w b)
+wanted_at-rises : (buffer : ℕ) (w : Work) (a b : ℤ) → IsGrid w.loop.grid → a ≤ℤ b → IsNotLater (wanted_at buffer w a) (wanted_at buffer w b)
 wanted_at-rises buffer w a b valid le = by w.used (int_lt a w.loop.hi) (int_lt b w.loop.hi) refl refl
   where
     by : (used before after : Bool) → int_lt a w.loop.hi ≡ before → int_lt b w.loop.hi ≡ after
@@ -120,8 +119,6 @@ wanted_at-rises buffer w a b valid le = by w.used (int_lt a w.loop.hi) (int_lt b
     by false before after is also = tt
     by true before false is also = tt
     by true false true is also =
-        let high : w.loop.hi ≤ℤ a = grind (arith, ints) in
-        let low : b <ℤ w.loop.hi = grind (arith, ints) in
         absurd (omega (arith, ints))
     by true true true is also =
         first_tick-rises buffer (turn_point w.loop a) (turn_point w.loop b) (body_reads w.loop.body) (turn_point-rises w.loop a b valid le)
@@ -162,7 +159,7 @@ wanted-rises buffer stages k s t is same valid rises list =
     let_go-rises (wanted buffer stages) (wanted buffer (slice_set stages k t)) list
     (wanted-set buffer stages k s t is (record { work = same; grid = valid; rises = rises }))
 
--- what is wanted isn't behind what the next turn of a loop at work reads
+-- what is wanted isn't after what the next turn of a loop at work reads
 next_read-within : (buffer : ℕ) (s : Stage) (r : Read) → is_at_work s ≡ true → Contains (body_reads s.work.loop.body) r → r.buffer ≡ buffer
     → IsNotLater (next_read buffer s) (Some (turn_point s.work.loop (position s) +ℤ r.first))
 next_read-within buffer s r work among is =
@@ -174,11 +171,11 @@ pub wanted-not_later : (buffer : ℕ) (stages : List Stage) (k : ℕ) (s : Stage
 wanted-not_later buffer [] k s r is work among at = absurd (cc is)
 wanted-not_later buffer (x ∷ stages) zero s r is work among at =
     let same : s ≡ x = cc in
-    earlier-left (next_read buffer x) (wanted buffer stages) (turn_point s.work.loop (position s) +ℤ r.first)
+    earlier-left (next_read buffer x) (wanted buffer stages) (Some (turn_point s.work.loop (position s) +ℤ r.first))
     (subst (λ (y : Stage). IsNotLater (next_read buffer y) (Some (turn_point s.work.loop (position s) +ℤ r.first))) same
     (next_read-within buffer s r work among at))
 wanted-not_later buffer (x ∷ stages) (suc k) s r is work among at =
-    earlier-right (next_read buffer x) (wanted buffer stages) (turn_point s.work.loop (position s) +ℤ r.first)
+    earlier-right (next_read buffer x) (wanted buffer stages) (Some (turn_point s.work.loop (position s) +ℤ r.first))
     (wanted-not_later buffer stages k s r is work among at)
 
 pub wanted-within : (buffer : ℕ) (stages : List Stage) (k : ℕ) (s : Stage) (r : Read) → slice_get stages k ≡ Some s → is_at_work s ≡ true
@@ -219,7 +216,7 @@ reads_buffer-found buffer (x ∷ reads) r (zero, within, at) is =
 reads_buffer-found buffer (x ∷ reads) r (suc k, within, at) is =
     rw (reads_buffer-found buffer reads r (k, omega arith, at) is) (or-true (x.buffer == buffer))
 
--- a loop is used whose buffer a used loop behind it reads
+-- a loop is used whose buffer a used loop after it reads
 pub is_used_by-found : (buffer : ℕ) (works : List Work) (k : ℕ) (w : Work) (r : Read) → slice_get works k ≡ Some w → w.used ≡ true
     → Contains (body_reads w.loop.body) r → r.buffer ≡ buffer → is_used_by buffer works ≡ true
 is_used_by-found buffer [] k w r is used among at = absurd (cc is)
@@ -242,13 +239,11 @@ pub used-source : (code : CodeParts) (inputs : List (List Snapshot)) (place sour
 used-source code inputs place source w v r is used among at before found =
     let works = works_of code inputs in
     let later : place ≡ suc source + (place - suc source) = omega arith in
-    (work-is code inputs source v found).used
-    ∙ is_used-found (length inputs + source) (drop (suc source) works) (place - suc source) w r
+    (work-is code inputs source v found).used ∙ is_used-found (length inputs + source) (drop (suc source) works) (place - suc source) w r
     (slice_get-drop (suc source) works (place - suc source) place later ∙ is) used among at
 
 -- loops where they stand, place by place
-pub stages_at-length : (works : List Work) (starts : List ℤ) → length works ≡ length starts
-    → length (stages_at works starts) ≡ length works
+pub stages_at-length : (works : List Work) (starts : List ℤ) → length works ≡ length starts → length (stages_at works starts) ≡ length works
 stages_at-length [] starts h = refl
 stages_at-length (w ∷ works) [] h = absurd (omega arith)
 stages_at-length (w ∷ works) (start ∷ starts) h = ap suc (stages_at-length works starts (omega arith))
@@ -309,8 +304,7 @@ rings_of-at buffer (x ∷ stages) zero s is =
     ∙ ap (λ (n : ℕ). Some (kept_from (wanted n stages) s.made)) first
 rings_of-at buffer (x ∷ stages) (suc k) s is =
     let next : suc buffer + k ≡ buffer + suc k = omega arith in
-    rings_of-at (suc buffer) stages k s is
-    ∙ ap (λ (n : ℕ). Some (kept_from (wanted n (drop (suc k) stages)) s.made)) next
+    rings_of-at (suc buffer) stages k s is ∙ ap (λ (n : ℕ). Some (kept_from (wanted n (drop (suc k) stages)) s.made)) next
 
 -- lists that are each the ring of the loop at its place are the rings
 pub rings_of-are : (buffer : ℕ) (stages : List Stage) (lists : List (List Snapshot)) → length lists ≡ length stages
@@ -325,8 +319,7 @@ rings_of-are buffer (s ∷ stages) (list ∷ lists) long each =
     let ring : list ≡ kept_from (wanted buffer stages) s.made =
     same_Some list (ring_at buffer (s ∷ stages) 0 s) first ∙ ap (λ (n : ℕ). kept_from (wanted n stages) s.made) at in
     let rest : lists ≡ rings_of (suc buffer) stages =
-    rings_of-are (suc buffer) stages lists (omega arith)
-    (λ k t is.
+    rings_of-are (suc buffer) stages lists (omega arith) (λ k t is.
     let next : buffer + suc k ≡ suc buffer + k = omega arith in
     each (suc k) t is ∙ ap (λ (n : ℕ). Some (kept_from (wanted n (drop (suc k) stages)) t.made)) next) in
     ap (λ (ys : List (List Snapshot)). list ∷ ys) rest ∙ ap (λ (y : List Snapshot). y ∷ rings_of (suc buffer) stages) ring

@@ -1,81 +1,59 @@
--- What the readers of a buffer want is what the loops behind it want.
-use Rattle.std.proofs.Common.{◌≡◌, ◌<◌, ◌+◌, ◌-◌, ℕ, zero, suc, ◌==◌, ℤ, ◌+ℤ◌, ◌≤ℤ◌, int_lt, Bool, true, false}
-use Rattle.std.proofs.Common.{◌&&◌, if◌then◌else◌, List, [], ◌∷◌, length, drop, get_or, slice_get, option_map, Option}
+-- What the readers of a buffer want is what the loops after it want.
+use Rattle.std.proofs.Common.{◌≡◌, ◌<◌, ◌+◌, ◌-◌, ℕ, suc, ◌==◌, ℤ, ◌+ℤ◌, ◌≤ℤ◌, int_lt, Bool, true, false}
+use Rattle.std.proofs.Common.{◌&&◌, if◌then◌else◌, List, [], ◌∷◌, length, drop, slice_get, option_map, Option}
 use Rattle.std.proofs.Common.{Some, None, Contains, refl, sym, ap, ◌∙◌, subst, arith}
+use Rattle.std.proofs.lemmas.Bool.{and_parts}
 use Rattle.std.proofs.lemmas.Int.{ints, clamps}
 use Rattle.std.proofs.lemmas.Option.{same_Some, slice_get-map, slice_get_within}
 use Rattle.circular_buffer.proofs.Places.{slice_get-drop, slice_get-some}
-use Rattle.std.specs.Int.{int_min}
-use Rattle.std.specs.List.{AllByRecursion}
 use Rattle.tilt_base.proofs.Booleans.{by_test}
-use Rattle.tilt_base.proofs.Lists.{all-at}
 use Rattle.tilt_code.specs.Code.{LoopParts}
 use Rattle.tilt_code.specs.References.{IsCode}
 use Rattle.tilt_pipe.proofs.Nears.{loop-reads}
 use Rattle.tilt_pipe.proofs.RingsKept.{ring-of}
 use Rattle.tilt_pipe.proofs.Standing.{end-made}
-use Rattle.tilt_pipe.proofs.Wanted.{IsNotLater, earlier-left, earlier-right, let_go-rises, stage_at, stages_at-found, stages_at-get, wanted-not_later}
+use Rattle.tilt_pipe.proofs.Wanted.{IsNotLater, let_go-rises, stage_at, stages_at-found, stages_at-get, wanted-not_later}
 use Rattle.tilt_pipe.proofs.Works.{work-is, works-length}
 use Rattle.tilt_pipe.specs.Made.{Work, Stage}
 use Rattle.tilt_pipe.specs.Positions.{RingParts, RingsParts, AreRings, IsRing, made_by, stages_at, start_at, starts_of, works_in}
 use Rattle.tilt_pipe.specs.Reads.{body_reads, earlier, first_tick, turn_point}
-use Rattle.tilt_pipe.specs.Rings.{end_or, is_at_work, next_read, position, wanted}
+use Rattle.tilt_pipe.specs.Rings.{end_or, is_at_work, next_read, position, wanted, let_go}
 use Rattle.tilt_pipe.specs.Sources.{AreReaders, HasReader, IsRead, IsReaderOf}
-use Rattle.tilt_pipe.specs.Trimmed.{HasLetGo, IsReader, IsTrimmed, KeepsWanted, read_next, wanted_at, wanted_by}
+use Rattle.tilt_pipe.specs.Trimmed.{HasLetGo, IsReader, KeepsWanted, read_next, wanted_at}
 use Rattle.tilt_pipe.specs.declared.chain.Reader.{Reader}
 use Rattle.tilt_pipe.specs.declared.read.Read.{Read}
 use Rattle.tilt_stream.specs.Snap.{Snapshot, last_end}
-
-pub earlier-assoc : (a b c : Option ℤ) → earlier (earlier a b) c ≡ earlier a (earlier b c)
-earlier-assoc None b c = refl
-earlier-assoc (Some a) None c = refl
-earlier-assoc (Some a) (Some b) None = refl
-earlier-assoc (Some a) (Some b) (Some c) =
-    let least : int_min (int_min a b) c ≡ int_min a (int_min b c) = omega (arith, ints, clamps) in
-    ap (λ (t : ℤ). Some t) least
-
-pub earlier-none : (a : Option ℤ) → earlier a None ≡ a
-earlier-none None = refl
-earlier-none (Some a) = refl
 
 -- a loop stands where what it has made ends
 pub stands-there : (w : Work) (r : RingParts) → IsRing w r → position (record { work = w; made = made_by r.start w.whole }) ≡ r.start
 stands-there w r is = end-made w.loop.lo r.start (made_by r.start w.whole) is.fill
 
--- what all readers want isn't later than what one of them reads
-earlier-first : (a b : Option ℤ) → IsNotLater (earlier a b) a
-earlier-first None b = tt
-earlier-first (Some a) b = earlier-left (Some a) b a (omega (arith, ints))
+-- what ends below a tick ends below a later one
+pub gone-less : (p : RingsParts) (place : ℕ) (tick end : Option ℤ) → IsNotLater tick end → HasLetGo p place end → HasLetGo p place tick
+gone-less p place tick end le gone = λ w r of at.
+    omega (arith, let_go-rises tick end (made_by r.start w.whole) le, gone w r of at)
 
-earlier-rest : (a b c : Option ℤ) → IsNotLater b c → IsNotLater (earlier a b) c
-earlier-rest a b None h = tt
-earlier-rest a b (Some c) h = earlier-right a b c h
+-- just what isn't wanted is let go of it
+abbrev pub IsTrimmed : RingsParts → ℕ → Type 0
+IsTrimmed p place =
+    (w : Work) (r : RingParts) → slice_get (works_in p) place ≡ Some w → slice_get p.rings place ≡ Some r
+    → r.forgotten ≡ let_go (wanted_at p place) (made_by r.start w.whole)
 
-pub reader-wants : (p : RingsParts) (readers : List Reader) (i : ℕ) (d : Reader) → i < length readers
-    → IsNotLater (wanted_by p readers) (read_next p (get_or readers i d) (slice_get (works_in p) (get_or readers i d).place))
-reader-wants p [] i d within = absurd (omega arith)
-reader-wants p (x ∷ readers) zero d within = earlier-first (read_next p x (slice_get (works_in p) x.place)) (wanted_by p readers)
-reader-wants p (x ∷ readers) (suc i) d within =
-    earlier-rest (read_next p x (slice_get (works_in p) x.place)) (wanted_by p readers)
-    (read_next p (get_or readers i d) (slice_get (works_in p) (get_or readers i d).place)) (reader-wants p readers i d (omega arith))
+-- where no more than what isn't wanted was let go, and no less, it is just that
+pub gone-trimmed : (p : RingsParts) (place : ℕ) → KeepsWanted p place → HasLetGo p place (wanted_at p place) → IsTrimmed p place
+gone-trimmed p place keeps gone = λ w r of at. let low = keeps w r of at in let high = gone w r of at in omega arith
 
--- where all that ends below a tick was let go, and no more is wanted, just what isn't wanted was
-pub held-trimmed : (p : RingsParts) (place : ℕ) (end : Option ℤ) → KeepsWanted p place → HasLetGo p place end
-    → IsNotLater (wanted_at p place) end → IsTrimmed p place
-held-trimmed p place end keeps gone wants = λ w r of at.
-    let low = keeps w r of at in
-    let up = let_go-rises (wanted_at p place) end (made_by r.start w.whole) wants in
-    let high = gone w r of at in
-    omega arith
+pub trimmed-gone : (p : RingsParts) (place : ℕ) → IsTrimmed p place → HasLetGo p place (wanted_at p place)
+trimmed-gone p place trimmed = λ w r of at. let same = trimmed w r of at in omega arith
 
 -- a tick that is no later than two is no later than the earlier one
-not_later-both : (x a b : Option ℤ) → IsNotLater x a → IsNotLater x b → IsNotLater x (earlier a b)
+pub not_later-both : (x a b : Option ℤ) → IsNotLater x a → IsNotLater x b → IsNotLater x (earlier a b)
 not_later-both x None b h k = k
 not_later-both x (Some a) None h k = h
 not_later-both None (Some a) (Some b) h k = absurd h
 not_later-both (Some x) (Some a) (Some b) h k = omega (arith, ints, clamps)
 
-not_later-trans : (x : Option ℤ) (a b : ℤ) → IsNotLater x (Some a) → a ≤ℤ b → IsNotLater x (Some b)
+pub not_later-trans : (x : Option ℤ) (a b : ℤ) → IsNotLater x (Some a) → a ≤ℤ b → IsNotLater x (Some b)
 not_later-trans None a b h le = absurd h
 not_later-trans (Some x) a b h le = omega (arith, ints)
 
@@ -97,8 +75,7 @@ ticks-all : (x : Option ℤ) (buffer : ℕ) (point : ℤ) (reads : List Read)
 ticks-all x buffer point [] each = tt
 ticks-all x buffer point (r ∷ reads) each =
     by (r.buffer == buffer) refl
-    (ticks-all x buffer point reads
-    (λ y read. let among = read.among in let within = among.1 in
+    (ticks-all x buffer point reads (λ y read. let among = read.among in let within = among.1 in
     each y (record { among = (suc among.0, omega arith, among.2); of = read.of })))
   where
     by : (test : Bool) → (r.buffer == buffer) ≡ test → IsNotLater x (first_tick buffer point reads)
@@ -127,32 +104,34 @@ stands-at p place w code are is =
 reader-work : (p : RingsParts) (k : ℕ) (reader : Reader) → IsReaderOf (length p.inputs) p.code.loops k reader
     → (w : Work) × (slice_get (works_in p) reader.place ≡ Some w)
 reader-work p k reader own =
-    let within = slice_get_within p.code.loops reader.place own.loop own.is in
-    let count = works-length p.code p.inputs in
-    slice_get-some (works_in p) reader.place (omega arith)
+    slice_get-some (works_in p) reader.place (omega (arith, slice_get_within p.code.loops reader.place own.loop own.is, works-length p.code p.inputs))
 
 -- it is there, and reads near
-reader-near : (p : RingsParts) (k : ℕ) (reader : Reader) → IsCode p.code → AreRings p
+pub reader-near : (p : RingsParts) (k : ℕ) (reader : Reader) → IsCode p.code → AreRings p
     → IsReaderOf (length p.inputs) p.code.loops k reader → IsReader p reader
 reader-near p k reader code are own =
     let w = reader-work p k reader own in
     let near = loop-reads p reader.place own.loop own.read code are own.is own.reads.among in
     let low = near.first_low in
     let high = near.first_high in
-    let same = own.first in
     record { work = w.0; is = w.1; low = omega (arith, ints); high = omega (arith, ints) }
 
 -- a reader that is at work
 next-is : (p : RingsParts) (reader : Reader) (w : Work) (test : Bool) → slice_get (works_in p) reader.place ≡ Some w
-    → (w.used && int_lt (start_at p reader.place) w.loop.hi) ≡ test
-    → read_next p reader (slice_get (works_in p) reader.place)
+    → (w.used && int_lt (start_at p reader.place) w.loop.hi) ≡ test → read_next p reader (slice_get (works_in p) reader.place)
     ≡ (if test then Some (turn_point w.loop (start_at p reader.place) +ℤ reader.first) else None)
 next-is p reader w test is same =
     ap (read_next p reader) is
     ∙ ap (λ (b : Bool). if b then Some (turn_point w.loop (start_at p reader.place) +ℤ reader.first) else None) same
 
+-- it stands after the loop whose buffer it reads
+pub reader-behind : (p : RingsParts) (k : ℕ) (reader : Reader) → IsCode p.code → AreRings p
+    → IsReaderOf (length p.inputs) p.code.loops k reader → k < reader.place
+reader-behind p k reader code are own =
+    omega (arith, (loop-reads p reader.place own.loop own.read code are own.is own.reads.among).there, own.reads.of)
+
 -- what is wanted of a buffer isn't later than what a reader reads next
-reader-later : (p : RingsParts) (k : ℕ) (reader : Reader) → IsCode p.code → AreRings p
+pub reader-later : (p : RingsParts) (k : ℕ) (reader : Reader) → IsCode p.code → AreRings p
     → IsReaderOf (length p.inputs) p.code.loops k reader
     → IsNotLater (wanted_at p k) (read_next p reader (slice_get (works_in p) reader.place))
 reader-later p k reader code are own =
@@ -162,12 +141,10 @@ reader-later p k reader code are own =
     let w = it.0 in
     let loop : own.loop ≡ w.loop = same_Some own.loop w.loop (sym own.is ∙ (work-is p.code p.inputs j w it.1).loop) in
     let among = subst (λ (l : LoopParts). Contains (body_reads l.body) own.read) loop own.reads.among in
-    let below = (loop-reads p j own.loop own.read code are own.is own.reads.among).there in
-    let of = own.reads.of in
     let stands = stands-at p j w code are it.1 in
     let all = stages_at (works_in p) (starts_of p.rings) in
     let s = stage_at w (start_at p j) in
-    let place : j ≡ suc k + (j - suc k) = omega arith in
+    let place : j ≡ suc k + (j - suc k) = omega (arith, reader-behind p k reader code are own) in
     let later = slice_get-drop (suc k) all (j - suc k) j place ∙ stages_at-get (works_in p) (starts_of p.rings) j w (start_at p j) it.1 stands.at in
     by_test (w.used && int_lt (start_at p j) w.loop.hi) (IsNotLater (wanted_at p k) (read_next p reader (slice_get (works_in p) j)))
     (λ busy.
@@ -178,56 +155,24 @@ reader-later p k reader code are own =
     (subst (λ (t : ℤ). IsNotLater (wanted_at p k) (Some (turn_point w.loop (start_at p j) +ℤ t))) (sym own.first) here))
     (λ idle. subst (λ (o : Option ℤ). IsNotLater (wanted_at p k) o) (sym (next-is p reader w false it.1 idle)) tt)
 
--- the reader with a number reads near
-pub own-near : (p : RingsParts) (place number : ℕ) (readers : List Reader) (reader : Reader) → IsCode p.code → AreRings p
-    → AllByRecursion (IsReaderOf (length p.inputs) p.code.loops place) readers → number < length readers
-    → reader ≡ get_or readers number reader → IsReader p reader
-own-near p place number readers reader code are own within at =
-    reader-near p place reader code are (all-at (IsReaderOf (length p.inputs) p.code.loops place) readers number reader own within at)
-
--- where it reads the first snapshot that is held, nothing goes
-pub reader-holds : (p : RingsParts) (place number : ℕ) (readers : List Reader) (reader : Reader) (tick end : ℤ) → IsCode p.code → AreRings p
-    → AllByRecursion (IsReaderOf (length p.inputs) p.code.loops place) readers → number < length readers
-    → reader ≡ get_or readers number reader → KeepsWanted p place → HasLetGo p place (Some end)
-    → read_next p reader (slice_get (works_in p) reader.place) ≡ Some tick → tick ≤ℤ end → IsTrimmed p place
-reader-holds p place number readers reader tick end code are own within at keeps gone reads le =
-    let is = all-at (IsReaderOf (length p.inputs) p.code.loops place) readers number reader own within at in
-    held-trimmed p place (Some end) keeps gone
-    (not_later-trans (wanted_at p place) tick end (subst (IsNotLater (wanted_at p place)) reads (reader-later p place reader code are is)) le)
-
-wanted-most : (p : RingsParts) (k : ℕ) (readers : List Reader) → IsCode p.code → AreRings p
-    → AllByRecursion (IsReaderOf (length p.inputs) p.code.loops k) readers → IsNotLater (wanted_at p k) (wanted_by p readers)
-wanted-most p k [] code are each = tt
-wanted-most p k (reader ∷ readers) code are each =
-    not_later-both (wanted_at p k) (read_next p reader (slice_get (works_in p) reader.place)) (wanted_by p readers)
-    (reader-later p k reader code are each.0) (wanted-most p k readers code are each.1)
-
--- what the readers want isn't later than what a later loop reads next
-read-wanted : (p : RingsParts) (k j : ℕ) (w : Work) (r : Read) (readers : List Reader) → slice_get (works_in p) j ≡ Some w
+-- a tick that isn't later than what the readers read next isn't later than what a later loop does
+read-wanted : (p : RingsParts) (j : ℕ) (w : Work) (r : Read) (readers : List Reader) (tick : Option ℤ) → slice_get (works_in p) j ≡ Some w
     → (w.used && int_lt (start_at p j) w.loop.hi) ≡ true → HasReader readers j r
-    → IsNotLater (wanted_by p readers) (Some (turn_point w.loop (start_at p j) +ℤ r.first))
-read-wanted p k j w r readers is busy has =
-    let among = has.among in
-    let next = λ (x : Reader). read_next p x (slice_get (works_in p) x.place) in
-    let wants = subst (λ (x : Reader). IsNotLater (wanted_by p readers) (next x)) among.2 (reader-wants p readers among.0 has.reader among.1) in
-    let is_ : slice_get (works_in p) has.reader.place ≡ Some w = ap (slice_get (works_in p)) has.place ∙ is in
-    let busy_ : (w.used && int_lt (start_at p has.reader.place) w.loop.hi) ≡ true =
-    ap (λ (n : ℕ). w.used && int_lt (start_at p n) w.loop.hi) has.place ∙ busy in
-    let at = subst (λ (o : Option ℤ). IsNotLater (wanted_by p readers) o) (next-is p has.reader w true is_ busy_) wants in
-    let here = subst (λ (n : ℕ). IsNotLater (wanted_by p readers) (Some (turn_point w.loop (start_at p n) +ℤ has.reader.first))) has.place at in
-    let first = has.first in
-    not_later-trans (wanted_by p readers) (turn_point w.loop (start_at p j) +ℤ has.reader.first)
-    (turn_point w.loop (start_at p j) +ℤ r.first) here (omega (arith, ints))
+    → ((x : Reader) → Contains readers x → IsNotLater tick (read_next p x (slice_get (works_in p) x.place)))
+    → IsNotLater tick (Some (turn_point w.loop (start_at p j) +ℤ r.first))
+read-wanted p j w r readers tick is busy has low =
+    let x = has.reader in
+    let busy_ = ap (λ (n : ℕ). w.used && int_lt (start_at p n) w.loop.hi) has.place ∙ busy in
+    let reads = next-is p x w true (ap (slice_get (works_in p)) has.place ∙ is) busy_
+    ∙ ap (λ (n : ℕ). Some (turn_point w.loop (start_at p n) +ℤ x.first)) has.place in
+    not_later-trans tick (turn_point w.loop (start_at p j) +ℤ x.first) (turn_point w.loop (start_at p j) +ℤ r.first)
+    (subst (IsNotLater tick) reads (low x has.among)) (omega (arith, ints, has.first))
 
-left-true : (a b : Bool) → (a && b) ≡ true → a ≡ true
-left-true true b h = refl
-left-true false b h = absurd (cc h)
-
-stage-wanted : (p : RingsParts) (k i : ℕ) (s : Stage) (readers : List Reader) → IsCode p.code → AreRings p
+stage-wanted : (p : RingsParts) (k i : ℕ) (s : Stage) (readers : List Reader) (tick : Option ℤ) → IsCode p.code → AreRings p
     → AreReaders p.code p.inputs 0 k readers
-    → slice_get (drop (suc k) (stages_at (works_in p) (starts_of p.rings))) i ≡ Some s
-    → IsNotLater (wanted_by p readers) (next_read (length p.inputs + k) s)
-stage-wanted p k i s readers code are of is =
+    → ((x : Reader) → Contains readers x → IsNotLater tick (read_next p x (slice_get (works_in p) x.place)))
+    → slice_get (drop (suc k) (stages_at (works_in p) (starts_of p.rings))) i ≡ Some s → IsNotLater tick (next_read (length p.inputs + k) s)
+stage-wanted p k i s readers tick code are of low is =
     let buffer = length p.inputs + k in
     let j = suc k + i in
     let found = stages_at-found (works_in p) (starts_of p.rings) j s
@@ -237,24 +182,21 @@ stage-wanted p k i s readers code are of is =
     let start : found.start ≡ start_at p j = same_Some found.start (start_at p j) (sym found.at ∙ stands.at) in
     let at : position s ≡ start_at p j =
     ap (λ (list : List Snapshot). end_or w.loop.lo (last_end list)) (found.made ∙ ap (λ (t : ℤ). made_by t w.whole) start) ∙ stands.position in
-    let point = turn_point w.loop (position s) in
-    by_test (is_at_work s) (IsNotLater (wanted_by p readers) (next_read buffer s))
+    let reads = first_tick buffer (turn_point w.loop (position s)) (body_reads w.loop.body) in
+    by_test (is_at_work s) (IsNotLater tick (next_read buffer s))
     (λ busy.
     let busy_ : (w.used && int_lt (start_at p j) w.loop.hi) ≡ true = ap (λ (t : ℤ). w.used && int_lt t w.loop.hi) (sym at) ∙ busy in
-    subst (λ (b : Bool). IsNotLater (wanted_by p readers) (if b then first_tick buffer point (body_reads w.loop.body) else None)) (sym busy)
-    (ticks-all (wanted_by p readers) buffer point (body_reads w.loop.body)
-    (λ r read.
-    subst (λ (t : ℤ). IsNotLater (wanted_by p readers) (Some (turn_point w.loop t +ℤ r.first))) (sym at)
-    (read-wanted p k j w r readers found.work busy_
-    (of.all j w r (omega arith) found.work (left-true w.used (int_lt (start_at p j) w.loop.hi) busy_) read)))))
-    (λ idle.
-    subst (λ (b : Bool). IsNotLater (wanted_by p readers) (if b then first_tick buffer point (body_reads w.loop.body) else None)) (sym idle) tt)
+    subst (λ (b : Bool). IsNotLater tick (if b then reads else None)) (sym busy)
+    (ticks-all tick buffer (turn_point w.loop (position s)) (body_reads w.loop.body) (λ r read.
+    subst (λ (t : ℤ). IsNotLater tick (Some (turn_point w.loop t +ℤ r.first))) (sym at) (read-wanted p j w r readers tick found.work busy_
+    (of.all j w r (omega arith) found.work (and_parts w.used (int_lt (start_at p j) w.loop.hi) busy_).0 read) low))))
+    (λ idle. subst (λ (b : Bool). IsNotLater tick (if b then reads else None)) (sym idle) tt)
 
--- the readers of a loop's buffer want just what is wanted of it
-pub wanted_by-is : (p : RingsParts) (k : ℕ) (readers : List Reader) → IsCode p.code → AreRings p
-    → AreReaders p.code p.inputs 0 k readers → wanted_by p readers ≡ wanted_at p k
-wanted_by-is p k readers code are of =
-    not_later-two (wanted_by p readers) (wanted_at p k)
-    (wants-all (wanted_by p readers) (length p.inputs + k) (drop (suc k) (stages_at (works_in p) (starts_of p.rings)))
-    (λ i s is. stage-wanted p k i s readers code are of is))
-    (wanted-most p k readers code are of.each)
+-- what the readers read first is just what is wanted
+pub wanted-is : (p : RingsParts) (k : ℕ) (readers : List Reader) (tick : Option ℤ) → IsCode p.code → AreRings p
+    → AreReaders p.code p.inputs 0 k readers
+    → ((x : Reader) → Contains readers x → IsNotLater tick (read_next p x (slice_get (works_in p) x.place)))
+    → IsNotLater (wanted_at p k) tick → tick ≡ wanted_at p k
+wanted-is p k readers tick code are of low high =
+    not_later-two tick (wanted_at p k) (wants-all tick (length p.inputs + k) (drop (suc k) (stages_at (works_in p) (starts_of p.rings)))
+    (λ i s is. stage-wanted p k i s readers tick code are of low is)) high

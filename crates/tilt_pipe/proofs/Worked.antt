@@ -39,8 +39,7 @@ window_over_shift = record {
 
 -- x `0,2,1; 2,3,5; 3,4,2; 4,5,7`
 abbrev four_rows : List (List Snapshot)
-four_rows =
-    (row (pos 0) (pos 2) (pos 1) ∷ row (pos 2) (pos 3) (pos 5) ∷ row (pos 3) (pos 4) (pos 2) ∷ row (pos 4) (pos 5) (pos 7) ∷ []) ∷ []
+four_rows = (row (pos 0) (pos 2) (pos 1) ∷ row (pos 2) (pos 3) (pos 5) ∷ row (pos 3) (pos 4) (pos 2) ∷ row (pos 4) (pos 5) (pos 7) ∷ []) ∷ []
 
 -- its run has five snapshots
 window_run : run_of window_over_shift four_rows

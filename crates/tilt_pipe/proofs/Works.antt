@@ -34,8 +34,7 @@ with_buffers-works buffer lists (l ∷ loops) =
 pub works_from-length : (buffer : ℕ) (lists : List (List Snapshot)) (loops : List LoopParts)
     → length (works_from buffer lists loops) ≡ length loops
 works_from-length buffer lists [] = refl
-works_from-length buffer lists (l ∷ loops) =
-    ap suc (works_from-length (suc buffer) (lists ++ turns (map stream_of lists) l ∷ []) loops)
+works_from-length buffer lists (l ∷ loops) = ap suc (works_from-length (suc buffer) (lists ++ turns (map stream_of lists) l ∷ []) loops)
 
 -- what the loop at a place is
 pub record IsWork (buffer : ℕ) (lists : List (List Snapshot)) (loops : List LoopParts) (place : ℕ) (w : Work) : Type 0 where
@@ -147,7 +146,6 @@ pub record HasLast (code : CodeParts) (inputs : List (List Snapshot)) : Type 0 w
 
 pub last-loop : (code : CodeParts) (inputs : List (List Snapshot)) → IsCode code → HasLast code inputs
 last-loop code inputs is =
-    let some = is.grammatical.some in
     let many = works-length code inputs in
     let it = slice_get-some (works_of code inputs) (length code.loops - 1) (omega arith) in
     let last = run-last code inputs it.0 it.1 in
@@ -166,8 +164,7 @@ work-fills code inputs place w all is =
     (subst (Fill w.loop.lo w.loop.hi) (sym (work-is code inputs place w is).whole) (turns-Fill before w.loop timed), timed)
 
 -- the loops of a code have a grid, and their buffers fill their stretches
-pub works-filled : (code : CodeParts) (inputs : List (List Snapshot)) → AllByRecursion IsTimed code.loops
-    → AreFilled (works_of code inputs)
+pub works-filled : (code : CodeParts) (inputs : List (List Snapshot)) → AllByRecursion IsTimed code.loops → AreFilled (works_of code inputs)
 works-filled code inputs timed k w is =
     let fills = work-fills code inputs k w timed is in
     record { whole = fills.0; grid = fills.1.grid }

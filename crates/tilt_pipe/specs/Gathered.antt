@@ -10,13 +10,14 @@ use Rattle.tilt_pipe.specs.Sources.{AreReaders, AreSources}
 use Rattle.tilt_pipe.specs.declared.chain.LoopTurns.{LoopTurns}
 use Rattle.tilt_pipe.specs.declared.sources.Source.{Source}
 
--- what is kept of a loop, where the loops from one on have said what they read: its state is fit for its first turn, and a loop that has
--- a reader is used
+-- what is kept of a loop, where the loops from one on have said what they read: its state is fit for its first turn, no source is known
+-- to have made enough, and a loop that has a reader is used
 pub record HasBegun (p : RingsParts) (from place : ℕ) (w : Work) (turns : LoopTurns) : Type 0 where
   pub fit : (point : ℤ) × (point ≤ℤ turn_point w.loop (start_at p place)) × IsFit (buffers_of p.code p.inputs) w.loop point turns.state
   pub sources : from ≤ place → AreSources (length p.inputs) (body_reads w.loop.body) turns.sources.items
   pub readers : AreReaders p.code p.inputs from place turns.readers.items
   pub used : 0 < length turns.readers.items → w.used ≡ true
+  pub passed : turns.passed ≡ 0
 
 -- the same where those after one have, and so many sources of that one, where it is used
 pub record HasAdded (p : RingsParts) (one : ℕ) (sources : List Source) (count place : ℕ) (w : Work) (turns : LoopTurns) : Type 0 where

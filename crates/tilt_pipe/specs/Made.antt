@@ -1,5 +1,5 @@
 -- What each loop of a pipe has made of its buffer, once so many snapshots were given out (our own rule): each makes only what the loops
--- behind it have read. It is a recursion from the last loop down to the first, so that the case of a loop looks at later loops alone.
+-- after it have read. It is a recursion from the last loop down to the first, so that the case of a loop looks at later loops alone.
 use Rattle.std.specs.Prelude.{ℕ, suc, ℤ, Bool, true, false, ◌&&◌, ◌||◌, ◌==◌, if◌then◌else◌, List, [], ◌∷◌, ◌++◌, map, take, length}
 use Rattle.std.specs.Prelude.{Option, Some, None, int_lt}
 use Rattle.tilt_stream.specs.Pieces.{last_start}
@@ -21,7 +21,7 @@ abbrev pub reads_buffer : ℕ → List Read → Bool
 reads_buffer buffer [] = false
 reads_buffer buffer (r ∷ reads) = (r.buffer == buffer) || reads_buffer buffer reads
 
--- whether the loop that fills a buffer is used, by the loops behind it
+-- whether the loop that fills a buffer is used, by the loops after it
 abbrev pub is_used_by : ℕ → List Work → Bool
 is_used_by buffer [] = false
 is_used_by buffer (w ∷ works) = (w.used && reads_buffer buffer (body_reads w.loop.body)) || is_used_by buffer works
@@ -30,7 +30,7 @@ abbrev pub is_used : ℕ → List Work → Bool
 is_used buffer [] = true
 is_used buffer (w ∷ works) = is_used_by buffer (w ∷ works)
 
--- the loops behind these buffers, the first of which fills the one with the number
+-- the loops after these buffers, the first of which fills the one with the number
 abbrev pub works_from : ℕ → List (List Snapshot) → List LoopParts → List Work
 works_from buffer lists [] = []
 works_from buffer lists (l ∷ loops) =
@@ -57,7 +57,7 @@ abbrev pub asked : ℕ → List Stage → Option ℤ
 asked buffer [] = None
 asked buffer (s ∷ stages) = later (read_by_turn buffer s.work.loop (last_start s.made)) (asked buffer stages)
 
--- the snapshots that begin below a tick; since they touch, this is the shortest front that reaches the tick, or their end
+-- the snapshots that begin below a tick; since they touch, this is the shortest prefix that reaches the tick, or their end
 abbrev pub begun_below : Option ℤ → List Snapshot → List Snapshot
 begun_below None list = []
 begun_below (Some tick) [] = []

@@ -7,7 +7,7 @@ use Rattle.tilt_code.specs.declared.instr.Instr.{Instr}
 use Rattle.tilt_code.specs.declared.instr.Instr.TheVariants.{Port, Win}
 use Rattle.tilt_pipe.specs.declared.read.Read.{Read}
 
--- what an instruction reads: a port one tick, and a window those behind its start up to its end
+-- what an instruction reads: a port one tick, and a window those after its start up to its end
 abbrev pub reads_of : Instr → List Read
 reads_of (Port buffer offset) = record { buffer = buffer; first = offset; last = offset } ∷ []
 reads_of (Win reducer buffer from to number) = record { buffer = buffer; first = from +ℤ pos 1; last = to } ∷ []

@@ -1,19 +1,11 @@
 -- What is let go of the rings of a pipe after a turn.
-use Rattle.std.specs.Prelude.{neg_ℤ, ◌≡◌, ◌<◌, ◌≤◌, ◌+◌, ℕ, suc, ℤ, pos, ◌+ℤ◌, ◌≤ℤ◌, ◌&&◌, if◌then◌else◌, List, [], ◌∷◌, drop}
+use Rattle.std.specs.Prelude.{neg_ℤ, ◌≡◌, ◌<◌, ◌≤◌, ◌+◌, ℕ, suc, ℤ, pos, ◌+ℤ◌, ◌≤ℤ◌, ◌&&◌, if◌then◌else◌, drop}
 use Rattle.std.specs.Prelude.{length, slice_get, Option, Some, None, int_lt}
-use Rattle.std.specs.List.{AllByRecursion}
 use Rattle.tilt_base.specs.declared.limits.TheConstants.{OFFSET}
-use Rattle.tilt_code.specs.Run.{buffers_of}
-use Rattle.tilt_turn.specs.Held.{IsFit}
-use Rattle.tilt_turn.specs.Ready.{IsKept}
-use Rattle.tilt_pipe.specs.Chain.{ArePoints, AreTold, AreTurns}
 use Rattle.tilt_pipe.specs.Made.{Work}
-use Rattle.tilt_pipe.specs.Positions.{RingParts, RingsParts, IsOpen, forgotten_of, lists_of, made_by, stages_at, start_at, starts_of}
-use Rattle.tilt_pipe.specs.Positions.{works_in}
-use Rattle.tilt_pipe.specs.Reads.{earlier, turn_point}
+use Rattle.tilt_pipe.specs.Positions.{RingParts, RingsParts, made_by, stages_at, start_at, starts_of, works_in}
+use Rattle.tilt_pipe.specs.Reads.{turn_point}
 use Rattle.tilt_pipe.specs.Rings.{let_go, wanted}
-use Rattle.tilt_pipe.specs.declared.chain.Chain.{Chain}
-use Rattle.tilt_pipe.specs.declared.chain.LoopTurns.{LoopTurns}
 use Rattle.tilt_pipe.specs.declared.chain.Reader.{Reader}
 use Rattle.tilt_pipe.specs.declared.read.Read.{Read}
 
@@ -25,14 +17,6 @@ pub record IsNear (buffers : ℕ) (r : Read) : Type 0 where
   pub last_low : (neg_ℤ OFFSET) ≤ℤ r.last
   pub last_high : r.last ≤ℤ OFFSET
 
--- the turns of a chain, whatever its rings hold
-abbrev pub HasTurns : Chain → Type 0
-HasTurns c = AreTurns c.rings.code c.rings.inputs (starts_of c.rings.rings) c.turns.items
-
--- and its points
-abbrev pub HasPoints : Chain → Type 0
-HasPoints c = ArePoints c.rings c.points.items
-
 -- the first tick of a loop's buffer that the next turns of later loops read
 abbrev pub wanted_at : RingsParts → ℕ → Option ℤ
 wanted_at p place = wanted (length p.inputs + place) (drop (suc place) (stages_at (works_in p) (starts_of p.rings)))
@@ -43,11 +27,6 @@ read_next p reader None = None
 read_next p reader (Some w) =
     if w.used && int_lt (start_at p reader.place) w.loop.hi then Some (turn_point w.loop (start_at p reader.place) +ℤ reader.first)
     else None
-
--- the first tick that the next turns of readers read
-abbrev pub wanted_by : RingsParts → List Reader → Option ℤ
-wanted_by p [] = None
-wanted_by p (reader ∷ readers) = earlier (read_next p reader (slice_get (works_in p) reader.place)) (wanted_by p readers)
 
 -- a loop that is there, and reads a buffer no further off than an offset goes and one tick more
 pub record IsReader (p : RingsParts) (reader : Reader) : Type 0 where
@@ -68,21 +47,8 @@ HasLetGo p place tick =
     (w : Work) (r : RingParts) → slice_get (works_in p) place ≡ Some w → slice_get p.rings place ≡ Some r
     → let_go tick (made_by r.start w.whole) ≤ r.forgotten
 
--- just what isn't wanted is let go of it
-abbrev pub IsTrimmed : RingsParts → ℕ → Type 0
-IsTrimmed p place =
-    (w : Work) (r : RingParts) → slice_get (works_in p) place ≡ Some w → slice_get p.rings place ≡ Some r
-    → r.forgotten ≡ let_go (wanted_at p place) (made_by r.start w.whole)
-
 -- rings of the same loops, which stand at the same ticks
 pub record StandAlike (p q : RingsParts) : Type 0 where
   pub code : q.code ≡ p.code
   pub inputs : q.inputs ≡ p.inputs
   pub starts : starts_of q.rings ≡ starts_of p.rings
-
--- a loop's next turn may be made
-pub record MayTurn (p : RingsParts) (place : ℕ) (turns : LoopTurns) (w : Work) : Type 0 where
-  pub is_open : IsOpen p place w
-  pub told : AreTold p place w
-  pub kept : AllByRecursion (IsKept (lists_of p) (forgotten_of p) (turn_point w.loop (start_at p place))) w.loop.body
-  pub fit : (point : ℤ) × (point ≤ℤ turn_point w.loop (start_at p place)) × IsFit (buffers_of p.code p.inputs) w.loop point turns.state

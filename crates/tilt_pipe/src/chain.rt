@@ -1,23 +1,23 @@
 // The loops of a pipe, and their turns.
-ghost use Rattle.std.specs.Prelude.{◌≡◌, ◌↔◌, ◌≢◌, ◌<◌, ◌≤◌, ◌+◌, ℕ, ℤ, ◌+ℤ◌, ◌<ℤ◌, ◌≤ℤ◌, [], ◌∷◌, ◌++◌};
-ghost use Rattle.std.specs.Prelude.{length, slice_get, slice_set, Some, None, true, false, IfOk, IfSome, OnOk};
+ghost use Rattle.std.specs.Prelude.{◌≡◌, ◌<◌, ◌≤◌, ◌+◌, ℕ, ℤ, ◌+ℤ◌, ◌≤ℤ◌};
+ghost use Rattle.std.specs.Prelude.{List, length, slice_get, slice_set, Some, None, true, false, IfOk, OnOk};
 ghost use Rattle.std.specs.Prelude.{MatchOption};
-ghost use Rattle.std.specs.List.{AllByRecursion};
+ghost use Rattle.std.specs.List.{AllByRecursion, Contains};
 ghost use Rattle.tilt_code.specs.References.{IsCode};
 ghost use Rattle.tilt_code.specs.Run.{buffers_of};
-ghost use Rattle.tilt_pipe.specs.Chain.{AreTold, IsBehind, IsChain, IsLate, IsNearSource, IsReached, point_at};
+ghost use Rattle.tilt_pipe.specs.Chain.{AreTold, HasHolders, HasPoints, HasTurns, IsBehind, IsChain, IsFirst, IsHeldApart};
+ghost use Rattle.tilt_pipe.specs.Chain.{IsLate, IsNearSource, IsReached, IsSettled, LetsGo, MayLetGo, MayTurn, point_at};
 ghost use Rattle.tilt_pipe.specs.Made.{Work, reads_buffer};
 ghost use Rattle.tilt_pipe.specs.Positions.{AreRings, IsOpen, made_at};
 ghost use Rattle.tilt_pipe.specs.Positions.{start_at, starts_of, works_in};
 ghost use Rattle.tilt_pipe.specs.Reads.{body_reads, earlier, turn_point};
-ghost use Rattle.tilt_pipe.specs.Rings.{wanted};
-ghost use Rattle.tilt_pipe.specs.Trimmed.{HasLetGo, HasPoints, HasTurns, IsReader, IsTrimmed, KeepsWanted};
-ghost use Rattle.tilt_pipe.specs.Trimmed.{MayTurn, StandAlike, read_next, wanted_at};
+ghost use Rattle.tilt_pipe.specs.Trimmed.{HasLetGo, IsReader, StandAlike, read_next, wanted_at};
 ghost use Rattle.tilt_turn.specs.Held.{IsFit};
 ghost use Rattle.tilt_turn.specs.Ready.{IsBodyTick};
+ghost use Rattle.tilt_pipe.specs.declared.chain.LoopTurns.{LoopTurns};
+ghost use Rattle.tilt_pipe.specs.declared.chain.Reader.{Reader};
 ghost use Rattle.tilt_pipe.specs.declared.sources.Source.{Source};
 
-use crate::hints::Hints;
 use crate::rings::Rings;
 use crate::sources::Source;
 use std::alloc::AllocError as OutOfMemory;
@@ -31,29 +31,30 @@ pub(crate) struct Reader {
     pub(crate) first: i64,
 }
 
-// What is kept for the turns of a loop: its state, the loops that it reads, and those that are used and read its buffer.
+// What is kept for the turns of a loop: its state, the loops that it reads, and those that are used and read its buffer; and how many
+// of those that it reads, from the first one on, are known to have made all that its next turn reads.
 #[derive(Drop)]
 pub(crate) struct LoopTurns {
     pub(crate) state: LoopState,
     pub(crate) sources: Vec<Source>,
     pub(crate) readers: Vec<Reader>,
+    pub(crate) passed: usize,
 }
 
 // The rings of a code, and what is kept for the turns of each loop; the grid point of its next turn, where it is at work: used, and
-// not at the end of its stretch; which of the sources of a loop was found last to have made less than it reads, and which of its
-// readers to read the first snapshot that its ring held.
+// not at the end of its stretch; and who holds its ring: a reader whose next turn reads the first snapshot there, where one is known.
+// As long as it does, nothing goes.
 #[derive(Drop)]
 pub(crate) struct Chain {
     pub(crate) rings: Rings,
     pub(crate) turns: Vec<LoopTurns>,
     pub(crate) points: Vec<Option<i64>>,
-    pub(crate) shorts: Hints,
-    pub(crate) holders: Hints,
+    pub(crate) holders: Vec<Option<Reader>>,
 }
 
 impl Chain {
-    // A loop that has made less than the next turn of a loop reads. `None` where all that this turn reads is made. The loop that was
-    // found last is looked at first.
+    // A loop that has made less than the next turn of a loop reads. `None` where all that this turn reads is made. Those before the
+    // loop that was found last have made enough already, so that the search goes on from that one: each is passed once for a turn.
     pub(crate) fn behind(&mut self, place: usize) -> Option<usize>
         requires open { (w : Work) × IsOpen self.old.rings place w × (w.used ≡ true) }
         requires is { IsChain self.old }
@@ -65,10 +66,12 @@ impl Chain {
         // What rings keep is known from here on.
         let _ = self.rings.loops();
         let point = self.point(place);
-        let sources = &self.turns[place].sources;
-        let number = short_source(&self.rings, sources, point, self.shorts.at(place))?;
-        let source = sources[number].place;
-        self.shorts.set(place, number);
+        let turns = &self.turns[place];
+        let Some(number) = short_source(&self.rings, &turns.sources, point, turns.passed) else {
+            return None;
+        };
+        let source = turns.sources[number].place;
+        self.turns[place].passed = number;
         Some(source)
     }
 
@@ -107,28 +110,6 @@ impl Chain {
         !self.turns[place].readers.is_empty()
     }
 
-    // The number of a reader whose next turn reads the first snapshot that a ring holds, which ends there: so nothing goes. The
-    // reader that was found last is asked first, and then those after it, for those before it read past that snapshot.
-    #[inline(always)]
-    fn holder(&self, place: usize, end: i64) -> Option<usize>
-        requires turns { HasTurns self.now }
-        requires points { HasPoints self.now }
-        requires there { place < length self.now.rings.rings }
-        requires wanted { KeepsWanted self.now.rings place }
-        requires end { HasLetGo self.now.rings place (Some end) }
-        ensures { IfSome result (λ _. IsTrimmed self.now.rings place) }
-    {
-        // What rings keep is known from here on.
-        let _ = self.rings.loops();
-        let readers = &self.turns[place].readers;
-        for number in self.holders.at(place)..readers.len() {
-            if self.reads_up_to(readers[number], end) {
-                return Some(number);
-            }
-        }
-        None
-    }
-
     // The first tick of a loop's buffer that the next turns of later loops read; none where none of them is at work and reads it.
     fn wanted(&self, place: usize) -> Option<i64>
         requires turns { HasTurns self.now }
@@ -141,9 +122,56 @@ impl Chain {
         let mut wanted = None;
         let readers = &self.turns[place].readers;
         for number in 0..readers.len() {
-            wanted = earlier(wanted, self.next_read(readers[number]));
+            wanted = earlier(self.next_read(readers[number]), wanted);
         }
         wanted
+    }
+
+    // A reader whose next turn reads a tick first of a loop's buffer; none where there is none. It is the one that held the ring so far,
+    // if that does: loops go on in turns, so that the one whose turn was the last is mostly the last the next time.
+    fn first_reader(&self, place: usize, tick: Option<i64>) -> Option<Reader>
+        requires turns { HasTurns self.now }
+        requires points { HasPoints self.now }
+        requires holders { HasHolders self.now }
+        requires there { place < length self.now.rings.rings }
+        ensures { (turns : LoopTurns) → slice_get self.now.turns.items place ≡ Some turns
+            → IsFirst self.now.rings turns.readers.items tick result }
+    {
+        // What rings keep is known from here on.
+        let _ = self.rings.loops();
+        match self.holders[place] {
+            Some(reader) if self.reads_first(reader, tick) => Some(reader),
+            _ => self.other_reader(place, tick),
+        }
+    }
+
+    // The same, whoever held the ring.
+    fn other_reader(&self, place: usize, tick: Option<i64>) -> Option<Reader>
+        requires turns { HasTurns self.now }
+        requires points { HasPoints self.now }
+        requires there { place < length self.now.rings.rings }
+        ensures { (turns : LoopTurns) → slice_get self.now.turns.items place ≡ Some turns
+            → IsFirst self.now.rings turns.readers.items tick result }
+    {
+        // What rings keep is known from here on.
+        let _ = self.rings.loops();
+        let readers = &self.turns[place].readers;
+        for number in 0..readers.len() {
+            if self.reads_first(readers[number], tick) {
+                return Some(readers[number]);
+            }
+        }
+        None
+    }
+
+    // Whether a reader's next turn reads a tick first, or it has no next turn and there is no tick.
+    #[inline]
+    fn reads_first(&self, reader: Reader, tick: Option<i64>) -> bool
+        requires points { HasPoints self.now }
+        requires reader { IsReader self.now.rings reader }
+        ensures { result ≡ true → read_next self.now.rings reader (slice_get (works_in self.now.rings) reader.place) ≡ tick }
+    {
+        self.next_read(reader) == tick
     }
 
     // The grid point of the next turn of a loop that is at work.
@@ -165,6 +193,7 @@ impl Chain {
             → self.new.points.items ≡ slice_set self.old.points.items place (point_at self.old.rings place w) }
         ensures rings { self.new.rings ≡ self.old.rings }
         ensures turns { self.new.turns.items ≡ self.old.turns.items }
+        ensures holders { self.new.holders.items ≡ self.old.holders.items }
     {
         let point = next_point(&self.rings, place, true);
         self.points[place] = point;
@@ -199,94 +228,105 @@ impl Chain {
         }
     }
 
+    // Whether who holds a ring reads the first snapshot there, which ends at a tick.
+    #[inline]
+    fn is_held(&self, place: usize, end: i64) -> bool
+        requires may { MayLetGo self.now }
+        requires there { place < length self.now.rings.rings }
+        requires end { HasLetGo self.now.rings place (Some end) }
+        ensures { result ≡ true → IsSettled self.now place }
+    {
+        // What rings keep is known from here on.
+        let _ = self.rings.loops();
+        match self.holders[place] {
+            Some(reader) => self.reads_up_to(reader, end),
+            None => false,
+        }
+    }
+
     // Lets go what no next turn reads any more of the buffer of a loop whose turn was made. Where its ring held a snapshot before, that
     // one is read still, so that nothing goes.
     #[inline]
     fn trim_own(&mut self, place: usize, had: bool)
-        requires turns { HasTurns self.old }
-        requires points { HasPoints self.old }
+        requires may { MayLetGo self.old }
         requires there { place < length self.old.rings.rings }
-        requires wanted { KeepsWanted self.old.rings place }
-        requires had { had ≡ true → IsTrimmed self.old.rings place }
-        ensures turns { HasTurns self.new }
-        ensures points { HasPoints self.new }
-        ensures alike { StandAlike self.old.rings self.new.rings }
-        ensures trimmed { IsTrimmed self.new.rings place }
-        ensures others { (k : ℕ) → k ≢ place → slice_get self.new.rings.rings k ≡ slice_get self.old.rings.rings k }
+        requires had { had ≡ true → IsSettled self.old place }
+        ensures { LetsGo self.old self.new place }
     {
-        if !had {
-            self.trim(place);
+        // What rings keep is known from here on.
+        let _ = self.rings.loops();
+        if had {
+            return;
         }
+        self.trim(place);
     }
 
-    // Lets go what no next turn reads any more of a loop's buffer: each reader is asked twice at most for each snapshot that goes.
-    #[inline(always)]
+    // Lets go what no next turn reads any more of a loop's buffer. Mostly who held its ring does so still, and nothing goes.
+    #[inline]
     fn trim(&mut self, place: usize)
-        requires turns { HasTurns self.old }
-        requires points { HasPoints self.old }
+        requires may { MayLetGo self.old }
         requires there { place < length self.old.rings.rings }
-        requires wanted { KeepsWanted self.old.rings place }
-        ensures turns { HasTurns self.new }
-        ensures points { HasPoints self.new }
-        ensures rings { AreRings self.new.rings }
-        ensures alike { StandAlike self.old.rings self.new.rings }
-        ensures trimmed { IsTrimmed self.new.rings place }
-        ensures others { (k : ℕ) → k ≢ place → slice_get self.new.rings.rings k ≡ slice_get self.old.rings.rings k }
-        ensures kept { self.new.turns.items ≡ self.old.turns.items }
+        ensures { LetsGo self.old self.new place }
     {
         // What rings keep is known from here on.
         let _ = self.rings.loops();
         let Some(end) = self.rings.first_end(place) else {
             return;
         };
-        match self.holder(place, end) {
-            Some(number) => self.holders.set(place, number),
-            None => self.release(place),
+        if self.is_held(place, end) {
+            return;
         }
+        self.release(place);
     }
 
-    // Lets go what no reader's next turn reads. It isn't inlined, so that `trim`, which mostly ends before it, is.
+    // Lets go what no reader's next turn reads. Who reads first holds the ring then.
     #[inline(never)]
     fn release(&mut self, place: usize)
-        requires turns { HasTurns self.old }
-        requires points { HasPoints self.old }
+        requires may { MayLetGo self.old }
         requires there { place < length self.old.rings.rings }
-        requires wanted { KeepsWanted self.old.rings place }
-        ensures turns { HasTurns self.new }
-        ensures points { HasPoints self.new }
-        ensures rings { AreRings self.new.rings }
-        ensures alike { StandAlike self.old.rings self.new.rings }
-        ensures trimmed { IsTrimmed self.new.rings place }
-        ensures others { (k : ℕ) → k ≢ place → slice_get self.new.rings.rings k ≡ slice_get self.old.rings.rings k }
-        ensures kept { self.new.turns.items ≡ self.old.turns.items }
+        ensures { LetsGo self.old self.new place }
     {
         // What rings keep is known from here on.
         let _ = self.rings.loops();
-        let first = self.wanted(place);
-        self.rings.keep_from(place, first);
-        self.holders.set(place, 0);
+        let wanted = self.wanted(place);
+        let reader = self.first_reader(place, wanted);
+        self.rings.keep_from(place, wanted);
+        self.holders[place] = reader;
     }
 
-    // The same of the buffers that a loop reads.
+    // The same of the buffers that a loop reads, after its turn.
     fn trim_sources(&mut self, place: usize)
-        requires turns { HasTurns self.old }
-        requires points { HasPoints self.old }
+        requires may { MayLetGo self.old }
         requires there { place < length self.old.rings.rings }
-        requires wanted { (k : ℕ) → KeepsWanted self.old.rings k }
         requires unread { (w : Work) → slice_get (works_in self.old.rings) place ≡ Some w
-            → (k : ℕ) → reads_buffer (length self.old.rings.inputs + k) (body_reads w.loop.body) ≡ false → IsTrimmed self.old.rings k }
-        ensures turns { HasTurns self.new }
-        ensures points { HasPoints self.new }
-        ensures rings { AreRings self.new.rings }
+            → (k : ℕ) → reads_buffer (length self.old.rings.inputs + k) (body_reads w.loop.body) ≡ false
+            → HasLetGo self.old.rings k (wanted_at self.old.rings k) }
+        requires apart { (k : ℕ) → IsHeldApart self.old.rings self.old.holders.items place k }
+        ensures is { IsChain self.new }
         ensures alike { StandAlike self.old.rings self.new.rings }
-        ensures trimmed { (k : ℕ) → IsTrimmed self.new.rings k }
     {
         // What rings keep is known from here on.
         let _ = self.rings.loops();
         let count = self.turns[place].sources.len();
         for number in 0..count {
             let source = self.turns[place].sources[number].place;
-            self.trim(source);
+            self.trim_source(place, source);
+        }
+    }
+
+    // The same of one of them. Where another loop holds its ring, nothing goes, for none but this loop went on.
+    #[inline(always)]
+    fn trim_source(&mut self, place: usize, source: usize)
+        requires may { MayLetGo self.old }
+        requires there { source < length self.old.rings.rings }
+        requires apart { IsHeldApart self.old.rings self.old.holders.items place source }
+        ensures { LetsGo self.old self.new source }
+    {
+        // What rings keep is known from here on.
+        let _ = self.rings.loops();
+        match self.holders[source] {
+            Some(reader) if reader.place != place => {}
+            _ => self.trim(source),
         }
     }
 }
@@ -297,9 +337,9 @@ fn earlier(a: Option<i64>, b: Option<i64>) -> Option<i64>
     ensures { result ≡ earlier a b }
 {
     match (a, b) {
+        (None, b) => b,
         (Some(a), Some(b)) => Some(a.min(b)),
         (Some(a), None) => Some(a),
-        (None, b) => b,
     }
 }
 
@@ -318,36 +358,19 @@ pub(crate) fn next_point(rings: &Rings, place: usize, used: bool) -> Option<i64>
     }
 }
 
-// The number of a source that has made less than is read at a grid point, and not all. The hint is looked at first.
-fn short_source(rings: &Rings, sources: &[Source], point: i64, hint: usize) -> Option<usize>
+// The first source that has made less than is read at a grid point, and not all. Those below a number are known to have made enough.
+fn short_source(rings: &Rings, sources: &[Source], point: i64, from: usize) -> Option<usize>
     requires near { AllByRecursion (IsNearSource (length rings.now.rings)) sources.now }
     requires rings { AreRings rings.now }
     requires point { IsBodyTick point }
-    ensures { MatchOption result ((k : ℕ) (s : Source) → slice_get sources.now k ≡ Some s → IsReached rings.now s.place (point +ℤ s.last))
+    requires passed { (k : ℕ) (s : Source) → k < from → slice_get sources.now k ≡ Some s → IsReached rings.now s.place (point +ℤ s.last) }
+    ensures passed { (number : ℕ) → result ≡ Some number
+        → (k : ℕ) (s : Source) → k < number → slice_get sources.now k ≡ Some s → IsReached rings.now s.place (point +ℤ s.last) }
+    ensures found { MatchOption result
+        ((k : ℕ) (s : Source) → slice_get sources.now k ≡ Some s → IsReached rings.now s.place (point +ℤ s.last))
         (λ number. (s : Source) × (slice_get sources.now number ≡ Some s) × IsLate rings.now s.place (point +ℤ s.last)) }
 {
-    if let Some(number) = short_among(rings, sources, point, hint, sources.len()) {
-        return Some(number);
-    }
-    short_among(rings, sources, point, 0, hint)
-}
-
-// The first of these numbers that is one of such a source.
-fn short_among(
-    rings: &Rings,
-    sources: &[Source],
-    point: i64,
-    from: usize,
-    to: usize,
-) -> Option<usize>
-    requires near { AllByRecursion (IsNearSource (length rings.now.rings)) sources.now }
-    requires rings { AreRings rings.now }
-    requires point { IsBodyTick point }
-    ensures { MatchOption result ((k : ℕ) (s : Source) → from ≤ k → k < to → slice_get sources.now k ≡ Some s
-        → IsReached rings.now s.place (point +ℤ s.last))
-        (λ number. (s : Source) × (slice_get sources.now number ≡ Some s) × IsLate rings.now s.place (point +ℤ s.last)) }
-{
-    for number in from..to.min(sources.len()) {
+    for number in from..sources.len() {
         if is_short(rings, sources[number], point) {
             return Some(number);
         }
@@ -367,7 +390,7 @@ fn is_short(rings: &Rings, source: Source, point: i64) -> bool
     rings.start(source.place) < point + source.last && rings.is_open(source.place)
 }
 
-// The snapshot of a loop's next turn. Its state is then fit for the turn after that.
+// The snapshot of a loop's next turn. Its state is then fit for the turn after that, of which nothing is known yet to be made.
 fn next_snap(turns: &mut LoopTurns, rings: &Rings, place: usize) -> Result<Snap, OutOfMemory>
     requires { (w : Work) × MayTurn rings.now place turns.old w }
     ensures snap { (w : Work) → IsOpen rings.now place w
@@ -377,10 +400,12 @@ fn next_snap(turns: &mut LoopTurns, rings: &Rings, place: usize) -> Result<Snap,
         (turn_point w.loop (start_at rings.now place)) turns.new.state) }
     ensures sources { turns.new.sources.items ≡ turns.old.sources.items }
     ensures readers { turns.new.readers.items ≡ turns.old.readers.items }
+    ensures passed { turns.new.passed ≡ 0 }
     ensures code { IsCode rings.now.code }
     ensures rings { AreRings rings.now }
 {
     let each = &rings.loops()[place];
     let start = rings.start(place);
+    turns.passed = 0;
     turns.state.turn(rings, each, start)
 }

@@ -2,7 +2,8 @@
 //!
 //! What comes in is a code and the rows of its inputs; what goes out is the snapshots of its last loop, one each time that it is
 //! asked. The loops pull one another: each makes only what later loops read, and of that its ring keeps only what their next turns
-//! may read. `specs/Made` says what each loop has made, and `specs/Rings` what its ring holds, after so many snapshots of the
+//! may read. One of these later loops holds the ring, and reads the first snapshot there: until it goes on, the ring isn't looked at.
+//! `specs/Made` says what each loop has made, and `specs/Rings` what its ring holds, after so many snapshots of the
 //! output; the clauses of `Pipe::next` say that the snapshots are those of the code's run (`given`), and that the rings are these
 //! (`after`). A turn is the one that the machine over whole buffers makes too.
 #![tactic(auto)]

@@ -1,11 +1,11 @@
 // The ring of one loop.
-ghost use Rattle.std.specs.Prelude.{◌≡◌, ◌<◌, ◌≤◌, ◌+◌, ◌-◌, ◌^◌, List, [], drop, length};
+ghost use Rattle.std.specs.Prelude.{◌≡◌, ◌<◌, ◌≤◌, ◌+◌, ◌-◌, ◌^◌, ◌++◌, List, [], drop, length};
 ghost use Rattle.std.specs.Prelude.{slice_get, Some, neg_ℤ, ◌<ℤ◌, ◌≤ℤ◌, IfOk, OnOk, OnErr, IsTrue, ◌↔◌};
 ghost use Rattle.std.specs.Option.{ForSome};
 ghost use Rattle.tilt_base.specs.declared.limits.TheConstants.{WIDE};
 ghost use Rattle.tilt_pipe.specs.Positions.{kept_ring};
 ghost use Rattle.tilt_pipe.specs.Rings.{kept_from, let_go};
-ghost use Rattle.tilt_stream.specs.Snap.{Snapshot, InOrder, last_end};
+ghost use Rattle.tilt_stream.specs.Snap.{Snapshot, InOrder, gap_before, last_end};
 
 use crate::snap_ring::SnapRing;
 use std::alloc::{AllocError as OutOfMemory, Global};
@@ -53,14 +53,6 @@ impl LoopRing {
         self.start
     }
 
-    // The end of its loop's stretch.
-    #[inline]
-    pub(crate) fn hi(&self) -> i64
-        ensures { result ≡ self.now.hi }
-    {
-        self.hi
-    }
-
     // Whether its loop stands before the end of its stretch.
     #[inline]
     pub(crate) fn is_open(&self) -> bool
@@ -73,8 +65,7 @@ impl LoopRing {
     #[inline]
     pub(crate) fn made(&self) -> usize
         requires fits { self.now.forgotten + length self.now.held < 2 ^ 63 }
-        ensures more { self.now.start <ℤ self.now.hi → result ≡ self.now.forgotten + length self.now.held + 1 }
-        ensures same { self.now.hi ≤ℤ self.now.start → result ≡ self.now.forgotten + length self.now.held }
+        ensures { result ≡ self.now.forgotten + length (self.now.held ++ gap_before (Some self.now.start) self.now.hi) }
     {
         let made = self.forgotten + self.ring.len();
         if self.is_open() { made + 1 } else { made }
@@ -96,14 +87,36 @@ impl LoopRing {
         self.ring.len()
     }
 
-    // The snapshot at a place, counted from 0 at the first that was made.
+    // What a turn reads at a place, counted from 0 at the first snapshot that was made: after those that were made, where its loop is
+    // before the end of its stretch, one null snapshot that stands for the rest of it.
     #[inline]
-    pub(crate) fn get(&self, place: usize) -> Snap
+    pub(crate) fn at(&self, place: usize) -> Option<Snap>
         requires kept { self.now.forgotten ≤ place }
-        requires made { place < self.now.forgotten + length self.now.held }
-        ensures { slice_get self.now.held (place - self.now.forgotten) ≡ Some result }
+        ensures { result ≡ slice_get (self.now.held ++ gap_before (Some self.now.start) self.now.hi) (place - self.now.forgotten) }
     {
-        self.ring.get(place - self.forgotten)
+        match self.ring.at(place - self.forgotten) {
+            Some(snap) => Some(snap),
+            None => self.open_at(place),
+        }
+    }
+
+    // The same at a place after those that were made, which a turn seldom asks for.
+    #[cold]
+    #[inline(never)]
+    fn open_at(&self, place: usize) -> Option<Snap>
+        requires kept { self.now.forgotten ≤ place }
+        requires past { length self.now.held ≤ place - self.now.forgotten }
+        ensures { result ≡ slice_get (self.now.held ++ gap_before (Some self.now.start) self.now.hi) (place - self.now.forgotten) }
+    {
+        if self.is_open() && place - self.forgotten == self.ring.len() {
+            Some(Snap {
+                start: self.start,
+                end: self.hi,
+                value: None,
+            })
+        } else {
+            None
+        }
     }
 
     // Goes on by a snapshot that starts where the last one ends: it is taken in where it is read, and else it is let go at once.
@@ -145,10 +158,7 @@ impl LoopRing {
         ensures { (made : List Snapshot) → InOrder (neg_ℤ WIDE) WIDE made → self.now.held ≡ drop self.now.forgotten made
             → let_go result made ≤ self.now.forgotten }
     {
-        if self.len() == 0 {
-            return None;
-        }
-        Some(self.ring.get(0).end)
+        Some(self.ring.at(0)?.end)
     }
 
     // Whether there is a first snapshot, and it ends below the tick, or there is no tick.
@@ -158,11 +168,11 @@ impl LoopRing {
         ensures more { (made : List Snapshot) → InOrder (neg_ℤ WIDE) WIDE made → self.now.held ≡ drop self.now.forgotten made
             → IsTrue result ↔ (self.now.forgotten < let_go first made) }
     {
-        if self.ring.len() == 0 {
+        let Some(snap) = self.ring.at(0) else {
             return false;
-        }
+        };
         match first {
-            Some(tick) => self.ring.get(0).end < tick,
+            Some(tick) => snap.end < tick,
             None => true,
         }
     }

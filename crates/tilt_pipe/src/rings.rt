@@ -55,10 +55,10 @@ impl Buffers for Rings {
 
     #[inline]
     fn first_kept(&self, buffer: usize) -> usize {
-        if buffer < self.inputs.len() {
+        let Some(place) = buffer.checked_sub(self.inputs.len()) else {
             return 0;
-        }
-        match self.rings.get(buffer - self.inputs.len()) {
+        };
+        match self.rings.get(place) {
             Some(ring) => ring.forgotten(),
             None => 0,
         }
@@ -218,10 +218,10 @@ impl Rings {
     {
         // What a code keeps is known from here on.
         let _ = self.code.loops();
-        if place >= self.rings.len() {
-            return 0;
+        match self.rings.get(place) {
+            Some(ring) => ring.made(),
+            None => 0,
         }
-        self.rings[place].made()
     }
 
     // The one at a place of these, or none.
@@ -231,32 +231,8 @@ impl Rings {
         ensures snap { result ≡ slice_get (get_or (open_lists (works_in self.now) (starts_of self.now.rings)) place []) number }
         ensures in_order { InOrder (neg_ℤ WIDE) WIDE (get_or (open_lists (works_in self.now) (starts_of self.now.rings)) place []) }
     {
-        if number < self.ring_made(place) {
-            Some(self.ring_get(place, number))
-        } else {
-            None
-        }
-    }
-
-    // The one at a place of these.
-    #[inline]
-    fn ring_get(&self, place: usize, number: usize) -> Snap
-        requires made { number < length (get_or (open_lists (works_in self.now) (starts_of self.now.rings)) place []) }
-        requires kept { get_or (map (λ r. r.forgotten) self.now.rings) place 0 ≤ number }
-        ensures snap { slice_get (get_or (open_lists (works_in self.now) (starts_of self.now.rings)) place []) number ≡ Some result }
-        ensures in_order { InOrder (neg_ℤ WIDE) WIDE (get_or (open_lists (works_in self.now) (starts_of self.now.rings)) place []) }
-    {
         // What a code keeps is known from here on.
         let _ = self.code.loops();
-        let ring = &self.rings[place];
-        if number < ring.forgotten() + ring.len() {
-            ring.get(number)
-        } else {
-            Snap {
-                start: ring.start(),
-                end: ring.hi(),
-                value: None,
-            }
-        }
+        self.rings.get(place)?.at(number)
     }
 }

@@ -86,4 +86,12 @@ impl SnapRing {
     {
         *self.ring.get(place).unwrap()
     }
+
+    // The same, or none where it doesn't hold so many.
+    #[inline]
+    pub(crate) fn at(&self, place: usize) -> Option<Snap>
+        ensures { result ≡ slice_get self.now place }
+    {
+        self.ring.get(place).copied()
+    }
 }

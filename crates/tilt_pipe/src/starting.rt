@@ -1,5 +1,5 @@
 // The loops of a pipe before their first turns.
-ghost use Rattle.std.specs.Prelude.{◌≡◌, ◌<◌, ◌≤◌, ℕ, suc, length, map, slice_get, Some, IfOk, OnOk};
+ghost use Rattle.std.specs.Prelude.{◌≡◌, ◌<◌, ◌≤◌, ℕ, suc, length, map, replicate, slice_get, None, Some, IfOk, OnOk};
 ghost use Rattle.tilt_code.specs.References.{IsCode};
 ghost use Rattle.tilt_pipe.specs.Chain.{ArePoints, IsChain};
 ghost use Rattle.tilt_pipe.specs.Gathered.{AreEach, HasAdded, HasBegun, HaveBegun};
@@ -29,19 +29,25 @@ impl Chain {
     {
         let rings = Rings::new(alloc, code, inputs)?;
         let count = rings.loops().len();
-        let mut shorts = Hints::new(alloc, count)?;
-        let holders = Hints::new(alloc, count)?;
+        let mut numbers = Hints::new(alloc, count)?;
+        let holders = no_holders(alloc, count)?;
         let mut turns = first_turns(alloc, &rings)?;
-        find_sources(alloc, &rings, &mut turns, &mut shorts)?;
+        find_sources(alloc, &rings, &mut turns, &mut numbers)?;
         let points = first_points(alloc, &rings, &turns)?;
         Ok(Chain {
             rings,
             turns,
             points,
-            shorts,
             holders,
         })
     }
+}
+
+// No reader that holds a ring is known, of so many.
+fn no_holders(alloc: Global, count: usize) -> Result<Vec<Option<Reader>>, OutOfMemory>
+    ensures { IfOk result (λ holders. holders.items ≡ replicate count None) }
+{
+    vec![in alloc; None; count]
 }
 
 // What is kept for the turns of loops before the first ones, as if no loop read another.
@@ -66,6 +72,7 @@ fn new_turns(alloc: Global, rings: &Rings, place: usize) -> Result<LoopTurns, Ou
         state: LoopState::new(alloc, each)?,
         sources: Vec::new(alloc),
         readers: Vec::new(alloc),
+        passed: 0,
     })
 }
 

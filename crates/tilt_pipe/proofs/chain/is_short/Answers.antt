@@ -11,8 +11,6 @@ use Rattle.tilt_pipe.proofs.chain.is_short.Goals as goal
 last-fits : (point last : ℤ) → IsBodyTick point → neg_ℤ OFFSET ≤ℤ last → last ≤ℤ OFFSET
     → to_z w64 (of_z w64 (to_z w64 (of_z w64 point) +ℤ to_z w64 (of_z w64 last))) ≡ point +ℤ last
 last-fits point last near low high =
-    let from = near.low in
-    let to = near.high in
     let one : FitsSigned w64 point = omega (arith, ints) in
     let two : FitsSigned w64 last = omega (arith, ints) in
     let both : FitsSigned w64 (point +ℤ last) = omega (arith, ints) in

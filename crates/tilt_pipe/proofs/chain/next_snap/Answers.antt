@@ -1,5 +1,5 @@
 -- The turn over the rings is the one over the whole buffers.
-use Rattle.std.proofs.Common.{◌≡◌, ◌<◌, ◌∙◌, ℤ, pos, ◌+ℤ◌, length, map, slice_get, Some, FitsSigned, to_z, of_z, w64, refl, sym, ap, subst, arith, rules}
+use Rattle.std.proofs.Common.{◌≡◌, ◌∙◌, ℤ, pos, ◌+ℤ◌, length, map, slice_get, Some, FitsSigned, to_z, of_z, w64, refl, sym, ap, subst, arith, rules}
 use Rattle.std.proofs.lemmas.Int.{to_z-of_z}
 use Rattle.std.proofs.lemmas.Result.{IfOk-weaker}
 use Rattle.tilt_code.specs.Code.{LoopParts}
@@ -19,21 +19,15 @@ use Rattle.tilt_pipe.proofs.chain.next_snap.Goals as goal
 pub bounds-loops-place : goal.bounds-loops-place
 bounds-loops-place c =
     let it = placed c.args.rings.now c.args.place c.requires.0 c.loops.ensures.code c.loops.ensures.rings c.requires.1.is_open in
-    let within = it.within_loops in
-    let same = ap length c.loops.ensures.loops in
-    omega arith
+    omega (arith, it.within_loops, ap length c.loops.ensures.loops)
 
 pub offset_bounds-loops-place : goal.offset_bounds-loops-place
 offset_bounds-loops-place c =
     let it = placed c.args.rings.now c.args.place c.requires.0 c.loops.ensures.code c.loops.ensures.rings c.requires.1.is_open in
-    let within = it.within_loops in
-    let same = ap length c.loops.ensures.loops in
-    let there : c.args.place < length c.loops.result.now = omega arith in
     search rules
 
 pub start-start-requires : goal.start-start-requires
-start-start-requires c =
-    (placed c.args.rings.now c.args.place c.requires.0 c.loops.ensures.code c.loops.ensures.rings c.requires.1.is_open).within
+start-start-requires c = (placed c.args.rings.now c.args.place c.requires.0 c.loops.ensures.code c.loops.ensures.rings c.requires.1.is_open).within
 
 pub turn-requires : goal.turn-requires
 turn-requires c =
@@ -76,6 +70,7 @@ returns c =
           c.turn.ensures.fit);
       sources = refl;
       readers = refl;
+      passed = refl;
       code = c.loops.ensures.code;
       rings = c.loops.ensures.rings;
     }

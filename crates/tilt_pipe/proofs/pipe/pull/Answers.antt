@@ -30,8 +30,7 @@ loop-place-init c =
     }
 
 pub step-requires-clause-pulled : goal.step-requires-clause-pulled
-step-requires-clause-pulled c =
-    (given_in c.args.chain.now.rings, rw (← c.in-Some.ensures.items) c.loop-place.invariant.pulled)
+step-requires-clause-pulled c = (given_in c.args.chain.now.rings, rw (← c.in-Some.ensures.items) c.loop-place.invariant.pulled)
 
 pub loop-place-smaller : goal.loop-place-smaller
 loop-place-smaller c =

@@ -1,4 +1,4 @@
-use Rattle.std.proofs.Common.{◌≡◌, ◌∙◌, suc, sym, ap, arith, take, slice_get, Some}
+use Rattle.std.proofs.Common.{◌≡◌, ◌∙◌, sym, ap, arith, take, slice_get, Some}
 use Rattle.tilt_code.specs.Run.{run_of}
 use Rattle.std.proofs.lemmas.Option.{slice_get_within}
 use Rattle.tilt_pipe.proofs.Collected.{given-out, next-touches, next-low, next-high, with-next, nothing-left}
@@ -28,10 +28,8 @@ push-requires c =
 pub loop-list-smaller : goal.loop-list-smaller
 loop-list-smaller c =
     let next_is = next (goal.at.loop-list-smaller c).In-Some in
-    let within = slice_get_within (run_of c.args.code c.args.inputs.items) c.loop-list.pipe.given c.in-Some.snap next_is in
     let after = rw c.in-Some.is at (c.in_ok-snap.ensures.after c.loop-list.invariant.granted) in
-    let one_more : c.next.new.self.given ≡ suc c.loop-list.pipe.given = ap (λ (p : PipeParts). p.given) after in
-    omega arith
+    omega (arith, slice_get_within (run_of c.args.code c.args.inputs.items) c.loop-list.pipe.given c.in-Some.snap next_is, ap (λ (p : PipeParts). p.given) after)
 
 pub loop-list-preserved : goal.loop-list-preserved
 loop-list-preserved c =

@@ -11,8 +11,7 @@ returns-then-is_source c = λ inputs reads is of.
     let it = c.is_source.ensures c.if-is_source.true in
     let at : slice_get items number ≡ Some it.0 = rw c.deref.ensures.value at it.1 in
     let same : c.index.result.now ≡ it.0 = c.index.ensures ∙ get_or_from_slice_get items number it.0 c.index.result.now at in
-    rw (c.with_read.ensures, same)
-    (sources-set inputs reads read items number it.0 at (is ∙ ap (λ (n : ℕ). inputs + n) (sym it.2)) of)
+    rw (c.with_read.ensures, same) (sources-set inputs reads read items number it.0 at (is ∙ ap (λ (n : ℕ). inputs + n) (sym it.2)) of)
 
 pub returns : goal.returns
 returns c = λ inputs reads is of.

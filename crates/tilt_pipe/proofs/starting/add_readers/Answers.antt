@@ -57,7 +57,6 @@ loop-source-preserved c =
     let known = c.requires.reads w.0 w.1 in
     let at = slice_get-get_or sources i none c.loop-source-test.true in
     let earlier = source-there p place sources i s c.loops.ensures.code c.loops.ensures.rings there c.requires.reads at in
-    rw add-one
-    (added-push p place i w.0 sources turns s own c.push.new.self c.loops.ensures.code c.loops.ensures.rings w.1
+    rw add-one (added-push p place i w.0 sources turns s own c.push.new.self c.loops.ensures.code c.loops.ensures.rings w.1
     (c.is_used.ensures w.0 w.1 ∙ c.if-not-is_used.false) known at (slice_get-get_or turns s.place d (omega arith))
     (c.in_ok-push.ensures.items ∙ ap (λ (reader : Reader). own.readers.items ++ reader ∷ []) c.reader_of.ensures) c.loop-source.invariant)

@@ -18,10 +18,7 @@ is_used-used-requires-clause-begun c =
     )
 
 pub next_point-requires : goal.next_point-requires
-next_point-requires c =
-    let long = loops-there c.args.rings.now c.loops-place-end.ensures.rings in
-    let loops = ap length c.loops-place-end.ensures.loops in
-    omega arith
+next_point-requires c = omega (arith, loops-there c.args.rings.now c.loops-place-end.ensures.rings, ap length c.loops-place-end.ensures.loops)
 
 pub loop-place-preserved : goal.loop-place-preserved
 loop-place-preserved c =
@@ -32,7 +29,4 @@ loop-place-preserved c =
 pub returns : goal.returns
 returns c = λ k w of.
     let p = c.args.rings.now in
-    let loops = ap length c.loops-place-end.ensures.loops in
-    let count = works-length p.code p.inputs in
-    let within = slice_get_within (works_in p) k w of in
-    c.loop-place.invariant.each k w (omega arith) of
+    c.loop-place.invariant.each k w (omega (arith, ap length c.loops-place-end.ensures.loops, works-length p.code p.inputs, slice_get_within (works_in p) k w of)) of

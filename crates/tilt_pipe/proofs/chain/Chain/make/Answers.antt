@@ -1,24 +1,24 @@
 -- The turn is made over the whole buffers, and each ring lets go just what isn't wanted then.
-use Rattle.std.proofs.Common.{◌≡◌, ◌≢◌, ◌<◌, ◌∙◌, ℕ, ℤ, length, List, slice_get, Option, Some, true, slice_set, sym, ap, subst, arith, rules}
+use Rattle.std.proofs.Common.{◌≡◌, ◌<◌, ◌∙◌, ℕ, length, sym, ap, subst, arith, rules, inl, inr}
 use Rattle.std.proofs.lemmas.List.{length-set}
 use Rattle.std.proofs.lemmas.Option.{slice_get_within}
-use Rattle.tilt_pipe.proofs.Making.{after-trim, made-turn, may-turn, new-turns}
+use Rattle.tilt_pipe.proofs.Making.{HasTurned, made-turn, may-turn, new-turns, own-gone, own-held, unread-gone}
 use Rattle.tilt_pipe.proofs.Points.{turned-points}
 use Rattle.tilt_pipe.proofs.RingsKept.{is-at}
-use Rattle.tilt_pipe.proofs.Trimming.{alike-long, exact-trimmed, trimmed-exact, turned, turned-starts, turned-still, turned-wanted, unread-none}
-use Rattle.tilt_pipe.proofs.Turning.{has-many}
-use Rattle.tilt_pipe.specs.Positions.{RingsParts, kept_ring, starts_of, works_in}
-use Rattle.tilt_pipe.specs.Chain.{ArePoints, AreTurns, point_at}
-use Rattle.tilt_pipe.specs.Made.{Work}
-use Rattle.tilt_pipe.specs.Trimmed.{IsTrimmed, KeepsWanted, StandAlike}
-use Rattle.tilt_pipe.specs.declared.chain.LoopTurns.{LoopTurns}
+use Rattle.tilt_pipe.proofs.Trimming.{alike-long, exact-trimmed, turned, turned-starts, turned-wanted, unread-none, turned-held}
+use Rattle.tilt_pipe.proofs.Turning.{has-many, found-turns, holder-of, holders-set}
+use Rattle.tilt_pipe.specs.Positions.{RingsParts, kept_ring, starts_of}
+use Rattle.tilt_pipe.specs.Chain.{ArePoints, point_at}
+use Rattle.tilt_pipe.specs.Trimmed.{StandAlike, HasLetGo, wanted_at}
+use Rattle.std.proofs.lemmas.Bool.{cases_eq}
+use Rattle.tilt_pipe.proofs.Settled.{gone-too, held-too}
 use Rattle.tilt_pipe.proofs.chain.Chain.make.Goals as goal
+use Rattle.tilt_pipe.proofs.chain.Chain.make.Goals.{After-set_point}
 
 pub index_mut-requires : goal.index_mut-requires
 index_mut-requires c =
     let t = c.requires.told in
     let many = has-many c.args.self.now.rings c.args.self.now.turns.items c.args.place t.0 c.requires.is.turns t.1.is in
-    let within : c.args.place < length c.args.self.now.turns.items = many.turns in
     search rules
 
 pub is_read-read-requires-clause-there : goal.is_read-read-requires-clause-there
@@ -61,83 +61,100 @@ set_point-requires c =
       kept = slice_get_within c.args.self.now.points.items c.args.place (point_at p c.args.place t.0) (c.requires.is.points c.args.place t.0 t.1.is);
     }
 
+-- the turn that was made, and the rings after it
+now : (c : After-set_point) → (m : HasTurned c.args.self.now.rings c.args.place c.requires.told.0 c.is_read-read.result c.in_ok-snap.snap)
+    × (c.set_point.new.self.rings ≡ turned c.args.self.now.rings c.args.place c.is_read-read.result m.ring c.in_ok-snap.snap)
+now c =
+    let t = c.requires.told in
+    let m = made-turn c.args.self.now.rings c.args.place t.0 c.is_read-read.result c.in_ok-snap.snap c.loops.ensures.code c.loops.ensures.rings t.1
+    c.is_read-read.ensures (c.in_ok-snap.ensures.snap t.0 t.1) in
+    (m, c.set_point.ensures.rings ∙ c.in_ok-keep.ensures.ok m.ring m.turn.at)
+
+there : (c : After-set_point) → c.args.place < length c.set_point.new.self.rings.rings
+there c =
+    let p = c.args.self.now.rings in
+    let t = c.requires.told in
+    let n = now c in
+    let set = length-set p.rings c.args.place (kept_ring c.is_read-read.result n.0.ring c.in_ok-snap.snap) in
+    omega (arith, ap (λ (q : RingsParts). length q.rings) n.1, (has-many p c.args.self.now.turns.items c.args.place t.0 c.requires.is.turns t.1.is).rings)
+
 pub trim_own-requires : goal.trim_own-requires
 trim_own-requires c =
     let p = c.args.self.now.rings in
     let all = c.args.self.now.turns.items in
+    let holders = c.args.self.now.holders.items in
+    let place = c.args.place in
     let t = c.requires.told in
     let s = c.in_ok-snap.snap in
-    let e = c.in_ok-snap.ensures in
-    let m = made-turn p c.args.place t.0 c.is_read-read.result s c.loops.ensures.code c.loops.ensures.rings t.1 c.is_read-read.ensures (c.in_ok-snap.ensures.snap t.0 t.1) in
-    let after : c.set_point.new.self.rings ≡ turned p c.args.place c.is_read-read.result m.ring s = c.set_point.ensures.rings ∙ c.in_ok-keep.ensures.ok m.ring m.turn.at in
-    let turns = new-turns p all c.args.place t.0 c.index_mut.result.now c.next_snap.new.turns c.is_read-read.result m.ring s c.requires.is.turns m.turn m.stands
-    c.index_mut.ensures.value c.in_ok-snap.ensures.sources c.in_ok-snap.ensures.readers (c.in_ok-snap.ensures.fit t.0 t.1) in
-    let many = has-many p all c.args.place t.0 c.requires.is.turns t.1.is in
-    let there : c.args.place < length (turned p c.args.place c.is_read-read.result m.ring s).rings =
-    subst (λ (n : ℕ). c.args.place < n) (sym (length-set p.rings c.args.place (kept_ring c.is_read-read.result m.ring s))) many.rings in
+    let b = c.is_read-read.result in
+    let n = now (goal.at.trim_own-requires c).After-set_point in
+    let m = n.0 in
+    let code = c.loops.ensures.code in
+    let e = c.set_point.ensures in
+    let snap = c.in_ok-snap.ensures in
+    let many = has-many p all place t.0 c.requires.is.turns t.1.is in
+    let old = found-turns p all place c.index_mut.result.now c.requires.is.turns many.rings c.index_mut.ensures.value in
+    let trimmed = λ (k : ℕ). exact-trimmed p k c.loops.ensures.rings c.requires.is.exact in
     record {
-      turns = subst (λ (ts : List LoopTurns). AreTurns c.set_point.new.self.rings.code c.set_point.new.self.rings.inputs
-          (starts_of c.set_point.new.self.rings.rings) ts) (sym c.set_point.ensures.turns)
-          (subst (λ (q : RingsParts). AreTurns q.code q.inputs (starts_of q.rings) (slice_set all c.args.place c.next_snap.new.turns))
-          (sym after) turns);
-      points = (
-          let pushed : c.keep.new.self ≡ turned p c.args.place c.is_read-read.result m.ring s = c.in_ok-keep.ensures.ok m.ring m.turn.at in
-          let points = subst (λ (q : RingsParts). (w : Work) → slice_get (works_in q) c.args.place ≡ Some w → w.used ≡ true
-          → c.set_point.new.self.points.items ≡ slice_set c.args.self.now.points.items c.args.place (point_at q c.args.place w))
-          pushed c.set_point.ensures.points in
-          subst (λ (q : RingsParts). ArePoints q c.set_point.new.self.points.items) (sym after)
-          (subst (λ (xs : List (Option ℤ)). ArePoints (turned p c.args.place c.is_read-read.result m.ring s) xs) (sym (points t.0 m.turn.of t.2))
-          (turned-points p c.args.place t.0 c.is_read-read.result m.ring s c.args.self.now.points.items m.turn c.requires.is.points))
-          );
-      there = subst (λ (q : RingsParts). c.args.place < length q.rings) (sym after) there;
-      wanted = subst (λ (q : RingsParts). KeepsWanted q c.args.place) (sym after)
-          (turned-wanted p c.args.place c.args.place t.0 c.is_read-read.result m.ring s m.turn (λ k. exact-trimmed p k c.loops.ensures.rings c.requires.is.exact));
-      had = λ had. subst (λ (q : RingsParts). IsTrimmed q c.args.place) (sym after)
-          (turned-still p c.args.place t.0 c.is_read-read.result m.ring s m.turn (exact-trimmed p c.args.place c.loops.ensures.rings c.requires.is.exact)
-          (c.holds-had.ensures m.ring m.turn.at had));
+      may = record {
+        turns = rw (e.turns, n.1) (new-turns p all place t.0 c.index_mut.result.now c.next_snap.new.turns b m.ring s c.requires.is.turns m.turn m.stands
+            c.index_mut.ensures.value snap.sources snap.readers snap.passed (snap.fit t.0 t.1));
+        points = (
+            let points = rw (c.in_ok-keep.ensures.ok m.ring m.turn.at) at e.points in
+            rw n.1 (subst (ArePoints (turned p place b m.ring s)) (sym (points t.0 m.turn.of t.2))
+            (turned-points p place t.0 b m.ring s c.args.self.now.points.items m.turn c.requires.is.points))
+            );
+        holders = rw (e.turns, e.holders) (holders-set all holders place c.index_mut.result.now c.next_snap.new.turns c.requires.is.holders old snap.readers);
+        wanted = λ k. rw n.1 (turned-wanted p place k t.0 b m.ring s m.turn trimmed);
+      };
+      there = there (goal.at.trim_own-requires c).After-set_point;
+      had = λ had.
+          let some = c.holds-had.ensures m.ring m.turn.at had in
+          record {
+            gone = rw n.1 (own-gone p place t.0 b m.ring s m.turn some (trimmed place));
+            held = λ reader at.
+                let here = rw e.holders at at in
+                rw n.1 (own-held p place t.0 b m.ring s reader code m.turn some (holder-of p all holders place reader c.requires.is.turns c.requires.is.holders here)
+                (c.requires.is.held place reader here));
+          };
     }
 
 pub trim_sources-requires : goal.trim_sources-requires
 trim_sources-requires c =
     let p = c.args.self.now.rings in
-    let z = c.trim_own.new.self.rings in
+    let d = c.set_point.new.self in
+    let z = c.trim_own.new.self in
+    let place = c.args.place in
     let t = c.requires.told in
     let s = c.in_ok-snap.snap in
-    let m = made-turn p c.args.place t.0 c.is_read-read.result s c.loops.ensures.code c.loops.ensures.rings t.1 c.is_read-read.ensures (c.in_ok-snap.ensures.snap t.0 t.1) in
-    let q = turned p c.args.place c.is_read-read.result m.ring s in
-    let after : c.set_point.new.self.rings ≡ q = c.set_point.ensures.rings ∙ c.in_ok-keep.ensures.ok m.ring m.turn.at in
-    let many = has-many p c.args.self.now.turns.items c.args.place t.0 c.requires.is.turns t.1.is in
-    let alike = subst (λ (x : RingsParts). StandAlike x z) after c.trim_own.ensures.alike in
-    let others = subst (λ (x : RingsParts). (k : ℕ) → k ≢ c.args.place → slice_get z.rings k ≡ slice_get x.rings k) after c.trim_own.ensures.others in
-    let so = after-trim p z c.args.place t.0 c.is_read-read.result m.ring s m.turn (λ k. exact-trimmed p k c.loops.ensures.rings c.requires.is.exact) alike others
-    c.trim_own.ensures.trimmed in
-    let long = alike-long q z alike in
-    let set = length-set p.rings c.args.place (kept_ring c.is_read-read.result m.ring s) in
-    let there = many.rings in
+    let b = c.is_read-read.result in
+    let n = now (goal.at.trim_sources-requires c).After-set_point in
+    let m = n.0 in
+    let e = c.trim_own.ensures in
     record {
-      turns = c.trim_own.ensures.turns;
-      points = c.trim_own.ensures.points;
-      there = omega arith;
-      wanted = so.wanted;
-      unread = so.unread;
+      may = e.may;
+      there = omega (arith, alike-long d.rings z.rings e.alike, there (goal.at.trim_sources-requires c).After-set_point);
+      unread = λ v of k none.
+          elim (cases_eq k place) as (λ _. HasLetGo z.rings k (wanted_at z.rings k)) [
+            | inl same ↦ subst (λ (j : ℕ). HasLetGo z.rings j (wanted_at z.rings j)) (sym same) e.settled.gone
+            | inr other ↦ gone-too d z place k e (rw n.1 (unread-gone p z.rings place k t.0 v b m.ring s m.turn
+                (exact-trimmed p k c.loops.ensures.rings c.requires.is.exact) (subst (λ (q : RingsParts). StandAlike q z.rings) n.1 e.alike) of none other))
+          ];
+      apart = λ k reader at other. held-too d z place k reader e at
+          (λ apart was. rw n.1 (turned-held p place k t.0 b m.ring s reader m.turn (λ same. absurd (apart same)) other
+          (c.requires.is.held k reader (rw c.set_point.ensures.holders at was))));
     }
 
 pub returns : goal.returns
 returns c =
-    let p = c.args.self.now.rings in
-    let t = c.requires.told in
-    let s = c.in_ok-snap.snap in
-    let m = made-turn p c.args.place t.0 c.is_read-read.result s c.loops.ensures.code c.loops.ensures.rings t.1 c.is_read-read.ensures (c.in_ok-snap.ensures.snap t.0 t.1) in
-    let after : c.set_point.new.self.rings ≡ turned p c.args.place c.is_read-read.result m.ring s = c.set_point.ensures.rings ∙ c.in_ok-keep.ensures.ok m.ring m.turn.at in
+    let n = now (goal.at.returns c).After-set_point in
+    let e = c.trim_sources.ensures in
+    let own = c.trim_own.ensures.alike in
     record {
-      is = record {
-        turns = c.trim_sources.ensures.turns;
-        points = c.trim_sources.ensures.points;
-        exact = trimmed-exact c.trim_sources.new.self.rings c.trim_sources.ensures.rings c.trim_sources.ensures.trimmed;
-      };
+      is = e.is;
       snap = c.in_ok-snap.ensures.snap;
-      starts = c.trim_sources.ensures.alike.starts ∙ c.trim_own.ensures.alike.starts
-          ∙ ap (λ (q : RingsParts). starts_of q.rings) after ∙ turned-starts p c.args.place c.is_read-read.result m.ring s;
-      code = c.trim_sources.ensures.alike.code ∙ c.trim_own.ensures.alike.code ∙ ap (λ (q : RingsParts). q.code) after;
-      inputs = c.trim_sources.ensures.alike.inputs ∙ c.trim_own.ensures.alike.inputs ∙ ap (λ (q : RingsParts). q.inputs) after;
+      starts = e.alike.starts ∙ own.starts ∙ ap (λ (q : RingsParts). starts_of q.rings) n.1
+          ∙ turned-starts c.args.self.now.rings c.args.place c.is_read-read.result n.0.ring c.in_ok-snap.snap;
+      code = e.alike.code ∙ own.code ∙ ap (λ (q : RingsParts). q.code) n.1;
+      inputs = e.alike.inputs ∙ own.inputs ∙ ap (λ (q : RingsParts). q.inputs) n.1;
     }

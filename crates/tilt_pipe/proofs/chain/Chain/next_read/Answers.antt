@@ -1,22 +1,15 @@
 -- A reader's next turn reads near its grid point, which lies near the stretches of loops.
-use Rattle.std.proofs.Common.{◌≡◌, ◌∙◌, ℕ, ℤ, ◌+ℤ◌, List, Option, Some, get_or, slice_get, FitsSigned, w64, sym, ap, arith, rules}
+use Rattle.std.proofs.Common.{◌≡◌, ◌∙◌, ℤ, ◌+ℤ◌, Option, Some, FitsSigned, w64, sym, ap, arith, rules}
 use Rattle.std.proofs.lemmas.Int.{ints, to_z-of_z}
-use Rattle.std.proofs.lemmas.Option.{get_or_from_slice_get, slice_get_within}
+use Rattle.std.proofs.lemmas.Option.{slice_get_within}
 use Rattle.tilt_pipe.proofs.Nears.{turn-near}
-use Rattle.tilt_pipe.proofs.Points.{at-work, read_from, reads-from}
-use Rattle.tilt_pipe.specs.Chain.{ArePoints, point_at}
-use Rattle.tilt_pipe.specs.Made.{Work}
+use Rattle.tilt_pipe.proofs.Points.{at-work, point-found, read_from, reads-from}
+use Rattle.tilt_pipe.specs.Chain.{point_at}
 use Rattle.tilt_code.specs.References.{IsCode}
-use Rattle.tilt_pipe.specs.Positions.{AreRings, RingsParts, works_in}
+use Rattle.tilt_pipe.specs.Positions.{AreRings, RingsParts}
 use Rattle.tilt_pipe.specs.Trimmed.{IsReader}
 use Rattle.tilt_pipe.specs.declared.chain.Reader.{Reader}
 use Rattle.tilt_pipe.proofs.chain.Chain.next_read.Goals as goal
-
--- the point that is found
-found : (p : RingsParts) (points : List (Option ℤ)) (place : ℕ) (w : Work) (point : Option ℤ) → ArePoints p points
-    → slice_get (works_in p) place ≡ Some w → point ≡ get_or points place point → point_at p place w ≡ point
-found p points place w point are is at =
-    sym (at ∙ get_or_from_slice_get points place (point_at p place w) point (are place w is))
 
 pub index-requires : goal.index-requires
 index-requires c =
@@ -36,12 +29,7 @@ near : (p : RingsParts) (reader : Reader) (is : IsReader p reader) (point : ℤ)
     → point_at p reader.place is.work ≡ Some point → IsNearPoint reader point
 near p reader is point code are at =
     let it = at-work p reader.place is.work point is.is at in
-    let same = it.at in
     let tick = turn-near p reader.place is.work code are it.is_open in
-    let low = tick.low in
-    let high = tick.high in
-    let first_low = is.low in
-    let first_high = is.high in
     record { point_fits = omega (arith, ints); first_fits = omega (arith, ints); both = omega (arith, ints) }
 
 pub overflow_add-result : goal.overflow_add-result
@@ -49,7 +37,7 @@ overflow_add-result c =
     let p = c.args.self.now.rings in
     let reader = c.args.reader in
     let is = c.requires.reader in
-    let at = found p c.args.self.now.points.items reader.place is.work c.index.result.now c.requires.points is.is c.index.ensures ∙ c.in-Some.is in
+    let at = sym (point-found p c.args.self.now.points.items reader.place is.work c.index.result.now c.requires.points is.is c.index.ensures) ∙ c.in-Some.is in
     let fits = near p reader is c.in-Some.point c.loops.ensures.code c.loops.ensures.rings at in
     rw (to_z-of_z w64 c.in-Some.point fits.point_fits, to_z-of_z w64 reader.first fits.first_fits) fits.both
 
@@ -58,7 +46,7 @@ returns-in-Some c =
     let p = c.args.self.now.rings in
     let reader = c.args.reader in
     let is = c.requires.reader in
-    let at = found p c.args.self.now.points.items reader.place is.work c.index.result.now c.requires.points is.is c.index.ensures ∙ c.in-Some.is in
+    let at = sym (point-found p c.args.self.now.points.items reader.place is.work c.index.result.now c.requires.points is.is c.index.ensures) ∙ c.in-Some.is in
     let fits = near p reader is c.in-Some.point c.loops.ensures.code c.loops.ensures.rings at in
     rw (to_z-of_z w64 c.in-Some.point fits.point_fits, to_z-of_z w64 reader.first fits.first_fits, to_z-of_z w64 (c.in-Some.point +ℤ reader.first) fits.both)
     (sym (reads-from p reader is.work is.is ∙ ap (λ (t : Option ℤ). read_from t reader.first) at))
@@ -68,5 +56,5 @@ returns-in-None c =
     let p = c.args.self.now.rings in
     let reader = c.args.reader in
     let is = c.requires.reader in
-    let at = found p c.args.self.now.points.items reader.place is.work c.index.result.now c.requires.points is.is c.index.ensures ∙ c.in-None.is in
+    let at = sym (point-found p c.args.self.now.points.items reader.place is.work c.index.result.now c.requires.points is.is c.index.ensures) ∙ c.in-None.is in
     sym (reads-from p reader is.work is.is ∙ ap (λ (t : Option ℤ). read_from t reader.first) at)

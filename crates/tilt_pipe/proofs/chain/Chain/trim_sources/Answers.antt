@@ -1,21 +1,29 @@
 -- One buffer after the other is trimmed.
-use Rattle.std.proofs.Common.{◌≡◌, inl, inr, ◌<◌, ◌≤◌, ◌∙◌, ◌+◌, ℕ, List, Some, get_or, length, slice_get, refl, sym, ap, subst, arith, rules}
+use Rattle.std.proofs.Common.{◌≡◌, inl, inr, ◌<◌, ◌∙◌, ◌+◌, ℕ, List, Some, get_or, length, slice_get, refl, sym, ap, subst, arith, rules, true, false, ◌≢◌}
 use Rattle.std.proofs.lemmas.Bool.{cases_eq}
 use Rattle.std.proofs.lemmas.Option.{same_Some, slice_get_read, slice_get_within}
 use Rattle.tilt_base.proofs.Booleans.{by_test}
 use Rattle.tilt_base.proofs.Lists.{all-slice_get}
 use Rattle.tilt_code.specs.References.{IsCode}
 use Rattle.tilt_pipe.proofs.Covered.{at-contains, one-read, source-near}
-use Rattle.tilt_pipe.proofs.Trimming.{alike-both, alike-long, there-at, trimmed-too, wanted-too}
-use Rattle.tilt_pipe.proofs.Turning.{found-turns}
-use Rattle.tilt_pipe.specs.Chain.{AreTurns}
-use Rattle.tilt_pipe.specs.Made.{reads_buffer}
-use Rattle.tilt_pipe.specs.Positions.{AreRings, RingsParts, starts_of}
+use Rattle.tilt_pipe.proofs.Trimming.{alike-both, alike-long, there-at, alike-works, trimmed-exact}
+use Rattle.tilt_pipe.proofs.Turning.{found-turns, holder-of}
+use Rattle.tilt_pipe.specs.Chain.{AreTurns, IsHeldApart, IsSettled, MayLetGo}
+use Rattle.tilt_pipe.specs.Made.{reads_buffer, Work}
+use Rattle.tilt_pipe.specs.Positions.{AreRings, RingsParts, starts_of, works_in}
 use Rattle.tilt_pipe.specs.Reads.{body_reads}
-use Rattle.tilt_pipe.specs.Sources.{IsSource}
-use Rattle.tilt_pipe.specs.Trimmed.{IsTrimmed, StandAlike}
+use Rattle.tilt_pipe.specs.Sources.{IsSource, IsReaderOf}
+use Rattle.tilt_pipe.specs.Trimmed.{StandAlike, HasLetGo, wanted_at}
 use Rattle.tilt_pipe.specs.declared.chain.LoopTurns.{LoopTurns}
 use Rattle.tilt_pipe.specs.declared.sources.Source.{Source}
+use Rattle.tilt_pipe.specs.declared.chain.Chain.{Chain}
+use Rattle.tilt_pipe.specs.declared.chain.Reader.{Reader}
+use Rattle.tilt_code.specs.Code.{LoopParts}
+use Rattle.tilt_stream.specs.Snap.{Snapshot}
+use Rattle.tilt_pipe.proofs.Works.{work-is}
+use Rattle.tilt_pipe.proofs.Wanted.{reads_buffer-found}
+use Rattle.tilt_pipe.proofs.Wanting.{gone-trimmed}
+use Rattle.tilt_pipe.proofs.Settled.{gone-too, held-too, settled-too}
 use Rattle.tilt_pipe.proofs.chain.Chain.trim_sources.Goals as goal
 
 -- the source with a number, as the loop finds it, is one of those at the beginning
@@ -34,11 +42,10 @@ numbered p q all now place number first turns s are later alike same there at he
     let found_now : slice_get all place ≡ Some turns =
     subst (λ (xs : List LoopTurns). slice_get xs place ≡ Some turns) same (found-turns q now place turns later (omega arith) here) in
     let one : first ≡ turns = same_Some first turns (sym found ∙ found_now) in
-    let count = ap (λ (t : LoopTurns). length t.sources.items) one in
     record {
       turns = turns;
       at = found_now;
-      is = slice_get_read turns.sources.items (length turns.sources.items) number s refl (omega arith) is;
+      is = slice_get_read turns.sources.items (length turns.sources.items) number s refl (omega (arith, ap (λ (t : LoopTurns). length t.sources.items) one)) is;
     }
 
 source-there : (p : RingsParts) (all : List LoopTurns) (place number : ℕ) (s : Source) → IsCode p.code → AreRings p
@@ -49,72 +56,98 @@ source-there p all place number s code are turns there n =
     (source-near p place it.work s code are it.it.of
     (all-slice_get (IsSource (length p.inputs) (body_reads it.work.loop.body)) n.turns.sources.items number s own.each n.is)).there
 
-pub trim-requires-clause-there : goal.trim-requires-clause-there
-trim-requires-clause-there c =
+pub trim_source-requires-clause-there : goal.trim_source-requires-clause-there
+trim_source-requires-clause-there c =
     let p = c.args.self.now.rings in
     let i = c.loop-number.invariant in
     let within : c.loop-number.number < length c.index.result.now.sources.items = search rules in
     let n = numbered p c.loop-number.self.rings c.args.self.now.turns.items c.loop-number.self.turns.items c.args.place c.loop-number.number
-    c.index.result.now c.index-in-loop-number.result.now c.index-in-loop-number-2.result.now c.requires.turns i.turns i.alike i.same
+    c.index.result.now c.index-in-loop-number.result.now c.index-in-loop-number-2.result.now c.requires.may.turns i.may.turns i.alike i.same
     c.requires.there c.index.ensures c.index-in-loop-number.ensures within c.index-in-loop-number-2.ensures in
     let below = source-there p c.args.self.now.turns.items c.args.place c.loop-number.number c.index-in-loop-number-2.result.now
-    c.loops.ensures.code c.loops.ensures.rings c.requires.turns c.requires.there n in
-    let there = c.requires.there in
-    let long = alike-long p c.loop-number.self.rings i.alike in
-    omega arith
+    c.loops.ensures.code c.loops.ensures.rings c.requires.may.turns c.requires.there n in
+    omega (arith, c.requires.there, alike-long p c.loop-number.self.rings i.alike)
 
 pub loop-number-preserved : goal.loop-number-preserved
 loop-number-preserved c =
     let p = c.args.self.now.rings in
     let q = c.loop-number.self.rings in
-    let r = c.trim.new.self.rings in
+    let r = c.trim_source.new.self.rings in
     let s = c.index-in-loop-number-2.result.now in
     let i = c.loop-number.invariant in
-    let e = c.trim.ensures in
+    let e = c.trim_source.ensures in
     let within : c.loop-number.number < length c.index.result.now.sources.items = search rules in
     let n = numbered p q c.args.self.now.turns.items c.loop-number.self.turns.items c.args.place c.loop-number.number
-    c.index.result.now c.index-in-loop-number.result.now s c.requires.turns i.turns i.alike i.same
+    c.index.result.now c.index-in-loop-number.result.now s c.requires.may.turns i.may.turns i.alike i.same
     c.requires.there c.index.ensures c.index-in-loop-number.ensures within c.index-in-loop-number-2.ensures in
+    let old = c.loop-number.self in
+    let new = c.trim_source.new.self in
     record {
-      turns = e.turns;
-      points = e.points;
-      same = e.kept ∙ i.same;
+      may = e.may;
+      same = e.turns ∙ i.same;
       rings = e.rings;
       alike = alike-both p q r i.alike e.alike;
-      wanted = λ k. wanted-too q r s.place k e.alike e.others e.trimmed (i.wanted k);
-      unread = λ w of k none. trimmed-too q r s.place k e.alike e.others e.trimmed (i.unread w of k none);
-      trimmed = λ t at k x below is.
-          elim (cases_eq k c.loop-number.number) as (λ _. IsTrimmed r x.place) [
+      gone = λ k gone. gone-too old new s.place k e (i.gone k gone);
+      apart = λ k reader at other. held-too old new s.place k reader e at (λ _ was. i.apart k reader was other);
+      settled = λ t at k x below is.
+          elim (cases_eq k c.loop-number.number) as (λ _. IsSettled new x.place) [
             | inl here ↦ (
                 let turns : t ≡ n.turns = same_Some t n.turns (sym at ∙ n.at) in
                 let found : slice_get n.turns.sources.items c.loop-number.number ≡ Some x =
                 ap (λ (y : LoopTurns). slice_get y.sources.items c.loop-number.number) (sym turns)
                 ∙ ap (slice_get t.sources.items) (sym here) ∙ is in
-                let same : s ≡ x = same_Some s x (sym n.is ∙ found) in
-                subst (λ (y : Source). IsTrimmed r y.place) same e.trimmed
+                subst (λ (y : Source). IsSettled new y.place) (same_Some s x (sym n.is ∙ found)) e.settled
                 )
-            | inr other ↦ trimmed-too q r s.place x.place e.alike e.others e.trimmed (i.trimmed t at k x (omega arith) is)
+            | inr other ↦ settled-too old new s.place x.place e (i.settled t at k x (omega arith) is)
           ];
     }
 
-pub returns-clause-trimmed : goal.returns-clause-trimmed
-returns-clause-trimmed c = λ k.
+-- a ring that the loop doesn't read isn't held by it
+not-held : (p : RingsParts) (place k : ℕ) (w : Work) (reader : Reader) → slice_get (works_in p) place ≡ Some w
+    → IsReaderOf (length p.inputs) p.code.loops k reader → reads_buffer (length p.inputs + k) (body_reads w.loop.body) ≡ false
+    → reader.place ≢ place
+not-held p place k w reader of own none same =
+    let loop = (work-is p.code p.inputs place w of).loop in
+    let here : own.loop ≡ w.loop = same_Some own.loop w.loop (sym own.is ∙ ap (slice_get p.code.loops) same ∙ loop) in
+    let reads = reads_buffer-found (length p.inputs + k) (body_reads own.loop.body) own.read own.reads.among own.reads.of in
+    let both : true ≡ false = sym reads ∙ ap (λ (l : LoopParts). reads_buffer (length p.inputs + k) (body_reads l.body)) here ∙ none in
+    cc both
+
+-- so it needs no look
+unread-settled : (d : Chain) (place k : ℕ) (w : Work) → MayLetGo d → slice_get (works_in d.rings) place ≡ Some w
+    → reads_buffer (length d.rings.inputs + k) (body_reads w.loop.body) ≡ false → HasLetGo d.rings k (wanted_at d.rings k)
+    → IsHeldApart d.rings d.holders.items place k → IsSettled d k
+unread-settled d place k w may of none gone apart = record {
+  gone = gone;
+  held = λ reader at.
+      apart reader at (not-held d.rings place k w reader of (holder-of d.rings d.turns.items d.holders.items k reader may.turns may.holders at) none);
+}
+
+pub returns-clause-is : goal.returns-clause-is
+returns-clause-is c =
     let p = c.args.self.now.rings in
-    let q = c.loop-number.self.rings in
+    let d = c.loop-number.self in
     let i = c.loop-number.invariant in
     let t = c.index.result.now in
     let it = there-at p c.args.place c.loops.ensures.code c.loops.ensures.rings c.requires.there in
-    let found = found-turns p c.args.self.now.turns.items c.args.place t c.requires.turns c.requires.there c.index.ensures in
-    let own = (c.requires.turns.each c.args.place it.work t it.it.of found).sources in
-    let past : length t.sources.items ≤ c.loop-number.number = search rules in
-    by_test (reads_buffer (length p.inputs + k) (body_reads it.work.loop.body)) (IsTrimmed q k)
+    let found = found-turns p c.args.self.now.turns.items c.args.place t c.requires.may.turns c.requires.there c.index.ensures in
+    let own = (c.requires.may.turns.each c.args.place it.work t it.it.of found).sources in
+    let settled : (k : ℕ) → IsSettled d k = λ k.
+    by_test (reads_buffer (length p.inputs + k) (body_reads it.work.loop.body)) (IsSettled d k)
     (λ reads.
     let r = one-read (length p.inputs + k) (body_reads it.work.loop.body) reads in
-    let of = r.1.of in
     let covered = own.all r.0 r.1.among (omega arith) in
-    let same = covered.of in
     let place : covered.source.place ≡ k = omega arith in
     let at = at-contains t.sources.items covered.source covered.among in
-    let within = slice_get_within t.sources.items at.0 covered.source at.1 in
-    subst (IsTrimmed q) place (i.trimmed t found at.0 covered.source (omega arith) at.1))
-    (λ none. i.unread it.work it.it.of k none)
+    subst (IsSettled d) place (i.settled t found at.0 covered.source (omega (arith, slice_get_within t.sources.items at.0 covered.source at.1)) at.1))
+    (λ none.
+    unread-settled d c.args.place k it.work i.may (subst (λ (ws : List Work). slice_get ws c.args.place ≡ Some it.work) (sym (alike-works p d.rings i.alike)) it.it.of)
+    (subst (λ (inputs : List (List Snapshot)). reads_buffer (length inputs + k) (body_reads it.work.loop.body) ≡ false) (sym i.alike.inputs) none)
+    (i.gone k (c.requires.unread it.work it.it.of k none)) (i.apart k)) in
+    record {
+      turns = i.may.turns;
+      points = i.may.points;
+      holders = i.may.holders;
+      held = λ k. (settled k).held;
+      exact = trimmed-exact d.rings i.rings (λ k. gone-trimmed d.rings k (i.may.wanted k) (settled k).gone);
+    }

@@ -1,4 +1,4 @@
-use Rattle.std.proofs.Common.{◌≡◌, ◌<◌, length, refl, sym, ◌∙◌, rules}
+use Rattle.std.proofs.Common.{◌≡◌, refl, sym, ◌∙◌, rules}
 use Rattle.std.proofs.lemmas.Option.{same_Some}
 use Rattle.tilt_pipe.proofs.RingsKept.{MayKeep, may-keep, placed}
 use Rattle.tilt_pipe.specs.contracts.rings.Rings.{the_view}
@@ -9,7 +9,6 @@ pub index_mut-requires : goal.index_mut-requires
 index_mut-requires c =
     let next = rw (← c.self.view_is) at c.requires.next in
     let it = placed _ c.args.place next.0 c.loops.ensures.code c.self.invariant next.1 in
-    let within : c.args.place < length c.self.inside.rings.items = it.within in
     search rules
 
 may : (c : After-index_mut) → MayKeep (the_view c.self.inside) c.args.place c.args.read c.index_mut.result.now c.args.snap

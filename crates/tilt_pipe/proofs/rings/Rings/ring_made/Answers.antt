@@ -1,35 +1,28 @@
-use Rattle.std.proofs.Common.{refl, arith}
-use Rattle.std.proofs.lemmas.Int.{by_lt_z}
-use Rattle.tilt_pipe.proofs.RingsKept.{loops-there}
-use Rattle.tilt_pipe.proofs.Standing.{gap-none, gap-some}
-use Rattle.tilt_pipe.proofs.Telling.{IsOpenAt, open-at, open-count, open_at-past}
+use Rattle.std.proofs.Common.{◌∙◌, refl, arith}
+use Rattle.tilt_pipe.proofs.Telling.{IsOpenAt, open-read, open-count, open_at-past}
 use Rattle.tilt_pipe.specs.contracts.rings.Rings.{the_view}
 use Rattle.tilt_pipe.proofs.rings.Rings.ring_made.Goals as goal
-use Rattle.tilt_pipe.proofs.rings.Rings.ring_made.Goals.{After-index}
+use Rattle.tilt_pipe.proofs.rings.Rings.ring_made.Goals.{In-Some}
 
-pub returns-then-place-len : goal.returns-then-place-len
-returns-then-place-len c =
-    let p = the_view c.self.inside in
-    let none = open_at-past p c.args.place (omega (arith, loops-there p c.self.invariant, c.len.ensures, c.if-place-len.true)) in
+pub returns-in-None : goal.returns-in-None
+returns-in-None c =
+    let past = rw c.deref.ensures.value at c.in-None.ensures.lookup.3 in
+    let none = open_at-past (the_view c.self.inside) c.args.place c.self.invariant past in
     rw (← c.self.view_is, none) (record { count = refl; in_order = tt })
 
-here : (c : After-index) → IsOpenAt (the_view c.self.inside) c.args.place c.index.result.now
+-- the ring there
+here : (c : In-Some) → IsOpenAt (the_view c.self.inside) c.args.place c.in-Some.ring.now
 here c =
-    let p = the_view c.self.inside in
-    open-at p c.args.place c.index.result.now c.loops.ensures.code c.self.invariant
-    (omega (arith, loops-there p c.self.invariant, c.len.ensures, c.if-place-len.false)) c.index.ensures
+    open-read (the_view c.self.inside) c.args.place c.in-Some.ring.now c.loops.ensures.code c.self.invariant
+    (rw c.deref.ensures.value at c.in-Some.ensures.lookup.3)
 
 pub made-requires : goal.made-requires
-made-requires c = let o = here (goal.at.made-requires c).After-index in omega (arith, o.few, o.count)
+made-requires c = let o = here c in omega (arith, o.few, o.count)
 
-pub returns : goal.returns
-returns c =
-    let o = here (goal.at.returns c).After-index in
-    let ring = c.index.result.now in
-    let count = open-count (the_view c.self.inside) c.args.place ring o in
+pub returns-in-Some : goal.returns-in-Some
+returns-in-Some c =
+    let o = here (goal.at.returns-in-Some c).In-Some in
     rw (← c.self.view_is) (record {
-      count = by_lt_z ring.start o.work.loop.hi
-          (λ before. omega (arith, (rw o.it.kept.ring.hi at c.made.ensures.more) before, rw (gap-some ring.start o.work.loop.hi before) at count))
-          (λ end. omega (arith, (rw o.it.kept.ring.hi at c.made.ensures.same) end, rw (gap-none ring.start o.work.loop.hi end) at count));
+      count = c.made.ensures ∙ open-count (the_view c.self.inside) c.args.place c.in-Some.ring.now o;
       in_order = o.in_order;
     })
