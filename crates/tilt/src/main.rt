@@ -45,7 +45,7 @@ fn status(rt: &HostRuntime, words: &[String]) -> Result<u8, OutOfMemory> {
     ))
 }
 
-// The words behind the program's name.
+// The words after the program's name.
 fn words(rt: &HostRuntime) -> io::Result<Vec<String>> {
     let mut words = Vec::new(rt.alloc());
     for word in env::args(rt)?.skip(1) {

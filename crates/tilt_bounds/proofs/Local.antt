@@ -86,7 +86,7 @@ module _ (lo hi : ℤ) where
         (on_grid-agrees def.grid x y (lo -ℤ n.back) (hi +ℤ n.ahead) is.grid.period_low
         (narrower-agrees x y (lo -ℤ w.back) (hi +ℤ w.ahead) (lo -ℤ n.back) (hi +ℤ n.ahead +ℤ def.grid.period -ℤ pos 1) bodies (omega (arith, ints)) (omega (arith, ints))))
 
-  -- what the definitions behind one ask it for is its need, or they are none and ask nothing
+  -- what the definitions after one ask it for is its need, or they are none and ask nothing
   asked_behind : (number : ℕ) (defs : List Definition) (x y : Stream) → AgreeAsAsked (need_before defs (asked_from (suc number) defs number)) lo hi x y
       → AgreeAsAsked (asked_from (suc number) defs number) lo hi x y
   asked_behind number [] x y h = tt
@@ -105,12 +105,12 @@ module _ (lo hi : ℤ) where
       let at_y = ap (source_of (ys ++ y ∷ [])) (same ∙ sym ys_is) ∙ source_of-last ys y in
       rw (at_x, at_y) (subst (λ (s : ℕ). AgreeAsAsked (n s) lo hi x y) (sym same) last)
 
-  -- a definition is the source behind those that it is over
+  -- a definition is the source after those that it is over
   placed : (number : ℕ) (xs : List Stream) (x : Stream) (defs : List Definition) → length xs ≡ number → source_of (with_definitions (xs ++ x ∷ []) defs) number ≡ x
   placed number xs x defs is =
       with_definitions-front (xs ++ x ∷ []) defs number (omega (arith, length-append xs (x ∷ []))) ∙ ap (source_of (xs ++ x ∷ [])) (sym is) ∙ source_of-last xs x
 
-  -- a definition over sources that agree on what they are asked for agrees on what the definitions behind it ask
+  -- a definition over sources that agree on what they are asked for agrees on what the definitions after it ask
   this_agrees : (number : ℕ) (def : Definition) (defs : List Definition) (xs ys : List Stream) → IsDefinition number def
       → ((source : ℕ) → source < number → AgreeAsAsked (asked_from number (def ∷ defs) source) lo hi (source_of xs source) (source_of ys source))
       → AgreeAsAsked (need_before defs (asked_from (suc number) defs number)) lo hi (definition_of xs def) (definition_of ys def)

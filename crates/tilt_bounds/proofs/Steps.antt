@@ -104,7 +104,7 @@ module _ (number : ℕ) (def : Definition) (behind : List Definition) (old new :
         ∙ need_at-definition (suc number) behind k
         ∙ sym (need_at-definition number (def ∷ behind) (suc k)))
 
-    -- so these are the needs where the definition counts with those behind it
+    -- so these are the needs where the definition counts with those after it
     pub asked-needs : length new ≡ length old → new ≡ needs number (def ∷ behind)
     asked-needs same =
         ext_get_or None new (needs number (def ∷ behind)) (omega (arith, many, same, length-needs number (def ∷ behind)))

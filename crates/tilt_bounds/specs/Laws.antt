@@ -26,7 +26,7 @@ pub record IsLocal (core : CoreParts) (margins : MarginsParts) : Type 0 where
       (meaning other core.defs input))
       → (source : ℕ) → AgreeAsAsked (need_at margins.needs source) lo hi (meaning one core.defs source) (meaning other core.defs source)
 
--- rows, and behind them others that start at the cut or later
+-- rows, and after them others that start at the cut or later
 pub record IsContinued (cut : ℤ) (before after : List Snapshot) : Type 0 where
   pub added : List Snapshot
   pub is : after ≡ before ++ added

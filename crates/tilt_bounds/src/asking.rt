@@ -36,7 +36,7 @@ fn unasked(alloc: Global, count: usize) -> Result<Vec<Option<WideNeed>>, OutOfMe
     vec![in alloc; None; count]
 }
 
-// The definition of a number asks the sources before it. The definitions behind it have asked already.
+// The definition of a number asks the sources before it. The definitions after it have asked already.
 fn ask_before(asked: &mut [Option<WideNeed>], number: usize, def: &Def, behind: &[Def])
     requires few { number + 1 + length behind.now ≤ 256 }
     requires definition { IsDefinition number def.now }
@@ -53,7 +53,7 @@ fn ask_before(asked: &mut [Option<WideNeed>], number: usize, def: &Def, behind: 
 }
 
 // The need of the definition of a number: that of the last one, which is emitted, is the tick itself, and that of another
-// is what those behind it have asked.
+// is what those after it have asked.
 fn need_before(asked: &[Option<WideNeed>], number: usize, behind: &[Def]) -> Option<WideNeed>
     requires { number < length asked.now }
     ensures { result ≡ need_before behind.now (need_at asked.now number) }
@@ -126,7 +126,7 @@ fn ask_source(asked: &mut [Option<WideNeed>], source: u32, need: WideNeed)
     };
 }
 
-// A need moved by what reads from `first` ticks to `last` ticks behind each tick.
+// A need moved by what reads from `first` ticks to `last` ticks later than each tick.
 fn reaching(need: WideNeed, first: i128, last: i128) -> WideNeed
     requires near { IsWithin (evenly (pos (2 ^ 80))) (Some need) }
     requires first { (neg_ℤ (pos (2 ^ 64)) ≤ℤ first) × (first ≤ℤ pos (2 ^ 64)) }

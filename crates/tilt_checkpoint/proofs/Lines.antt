@@ -7,7 +7,7 @@ use Rattle.tilt_text.proofs.Step.{bind_some}
 use Rattle.tilt_text.proofs.Words.{front-until}
 use Rattle.tilt_checkpoint.specs.Reading.{behind_line, times}
 
--- the bytes behind a line
+-- the bytes after a line
 pub line_passed : (bytes line left : List ℕ) → until_at 10 bytes ≡ Some (line, left) → behind_line bytes ≡ Some left
 line_passed bytes line left e = ap (λ o. o >>= λ parts. Some parts.1) e
 

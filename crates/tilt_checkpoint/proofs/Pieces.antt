@@ -6,7 +6,7 @@ use Rattle.std.proofs.lemmas.Option.{none-some}
 use Rattle.tilt_base.proofs.Comparisons.{same_number}
 use Rattle.tilt_checkpoint.specs.Reading.{behind}
 
--- bytes that begin with a text are read behind it
+-- bytes that begin with a text are read after it
 pub behind-text : (text rest : List ℕ) → behind text (text ++ rest) ≡ Some rest
 behind-text [] rest = refl
 behind-text (c ∷ text) rest = rw (same_number c) (behind-text text rest)
@@ -16,7 +16,7 @@ behind_head : (b c : ℕ) (text bytes rest : List ℕ) (here : Bool) → (b == c
 behind_head b c text bytes rest true is more e = λ i. eqb-true b c is i ∷ more e i
 behind_head b c text bytes rest false is more e = absurd (none-some rest e)
 
--- and what is left stands behind it
+-- and what is left stands after it
 pub text-behind : (text bytes rest : List ℕ) → behind text bytes ≡ Some rest → bytes ≡ text ++ rest
 text-behind [] bytes rest e = cc e
 text-behind (c ∷ text) [] rest e = absurd (none-some rest e)

@@ -117,7 +117,7 @@ operands_plain (Some i) sign l m ts us a b s p q =
     (join (left ++ codes " " ++ text) (codes " ") (join (left ++ codes " ") text (join left (codes " ") (place_plain i.left l ts a parts.0 p) refl) sign) refl)
     (place_plain i.right m us b parts.1.1 q)
 
--- an offset behind a name
+-- an offset after a name
 at_offset : (x : List ℕ) (d : ℤ) → IsWord x → AreSound (offset_tokens d ++ (Sign mark.CloseBracket ∷ []))
     → OneLine (x ++ codes "[" ++ offset_text d ++ codes "]")
 at_offset x d name s =

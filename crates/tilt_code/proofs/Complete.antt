@@ -1,4 +1,4 @@
--- The lines of a code make the whole of it, one behind the other.
+-- The lines of a code make the whole of it, one after the other.
 use Rattle.std.proofs.Common.{◌≡◌, ℕ, zero, suc, ◌+◌, ◌^◌, ◌<◌, ◌≤◌, Bool, true, false, not, if◌then◌else◌, nat_eq, List, [], ◌∷◌, ◌++◌, length, map, Option}
 use Rattle.std.proofs.Common.{Some, None, ℤ, pos, Contains, IsTrue, refl, sym, ap, ◌∙◌, subst, arith, inl, inr, append-nil, append_assoc, length-append}
 use Rattle.std.specs.List.{flat_map, list_any, AllByRecursion}
@@ -25,7 +25,7 @@ use Rattle.tilt_code.specs.declared.stage.Stage.TheVariants as stage
 use Rattle.tilt_code.proofs.LineText.{IsLine, text_again, text_lacks}
 use Rattle.tilt_code.proofs.Partials.{take_text}
 
--- what lines make, one behind the other
+-- what lines make, one after the other
 abbrev pub run : PartialCode → List Line → Option PartialCode
 run p [] = Some p
 run p (l ∷ ls) = with_line l p >>= λ q. run q ls
@@ -38,7 +38,7 @@ run-append p (x ∷ xs) ys =
       | Some q ↦ run-append q xs ys
     ]
 
--- lines that make something, and lines behind them
+-- lines that make something, and lines after them
 pub run-then : (p q : PartialCode) (xs ys : List Line) → run p xs ≡ Some q → run p (xs ++ ys) ≡ run q ys
 run-then p q xs ys e = run-append p xs ys ∙ ap (λ (o : Option PartialCode). o >>= λ r. run r ys) e
 
@@ -219,7 +219,7 @@ code-fits code h =
 
 -- texts
 
--- what texts make, one behind the other
+-- what texts make, one after the other
 abbrev pub run_texts : PartialCode → List (List ℕ) → Option PartialCode
 run_texts p [] = Some p
 run_texts p (t ∷ ts) = take_text t p >>= λ q. run_texts q ts
@@ -239,7 +239,7 @@ pub texts-lack : (ls : List Line) → AreLines ls → AllByRecursion (Lacks 10) 
 texts-lack [] all = tt
 texts-lack (l ∷ ls) all = (text_lacks l all.0, texts-lack ls all.1)
 
--- texts in front of texts that make something make something
+-- texts before texts that make something make something
 pub texts-front : (p q : PartialCode) (xs ys : List (List ℕ)) → run_texts p (xs ++ ys) ≡ Some q → (r : PartialCode) × (run_texts p xs ≡ Some r) × (run_texts r ys ≡ Some q)
 texts-front p q [] ys e = (p, refl, e)
 texts-front p q (x ∷ xs) ys e =

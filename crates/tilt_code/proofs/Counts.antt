@@ -56,7 +56,7 @@ map_refers_back b m d n register [] all h = tt
 map_refers_back b m d n register (x ∷ xs) all h =
     (sym (map_refers b m d n register x all.0.0) ∙ h.0, map_refers_back b m d n (suc register) xs all.1 h.1)
 
--- the counts behind maps
+-- the counts after maps
 abbrev with_maps : Counted → ℕ → Counted
 with_maps c n = record c { maps = n }
 
@@ -90,7 +90,7 @@ good-maps c b n (m ∷ maps) is h =
 
 -- loops
 
--- the counts behind a loop's first line
+-- the counts after a loop's first line
 abbrev headed : Counted → Counted
 headed c = record c { loops = suc c.loops; maps = 0 }
 

@@ -1,4 +1,4 @@
--- A partial code is the front of a whole one.
+-- A partial code is a prefix of a whole one.
 use Rattle.std.proofs.Common.{◌≡◌, ℕ, Bool, true, List, [], ◌∷◌, ◌++◌, map, Some, pos, refl, sym, ap, ◌∙◌, subst, arith, append-nil, append_assoc, length-append}
 use Rattle.std.specs.List.{flat_map}
 use Rattle.std.proofs.lemmas.Grind.{flat_map-append}
@@ -135,7 +135,7 @@ texts-sound p q (t ∷ ts) g e =
     let rest = texts-sound b.0 q ts s.kept b.2 in
     (rest.0, rest.1 ∙ ap (λ (xs : List (List ℕ)). xs ++ ts) s.texts ∙ append_assoc (map line_text (written p)) (t ∷ []) ts)
 
--- texts that make a partial code are a front
+-- texts that make a partial code are a prefix
 pub taken-front : (q : PartialCode) (texts : List (List ℕ)) → run_texts nothing texts ≡ Some q → IsFront texts
 taken-front q texts e =
     let s = texts-sound nothing q texts nothing-is e in
@@ -149,7 +149,7 @@ taken-front q texts e =
       ),
     )
 
--- and a front makes one
+-- and a prefix makes one
 pub front-taken : (texts : List (List ℕ)) → IsFront texts → (q : PartialCode) × (run_texts nothing texts ≡ Some q)
 front-taken texts (code, grammatical, behind) =
     let made = code-run code grammatical in

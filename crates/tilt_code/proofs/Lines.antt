@@ -1,4 +1,4 @@
--- The text of lists of lines, one part behind the other.
+-- The text of lists of lines, one part after the other.
 use Rattle.std.proofs.Common.{◌≡◌, ℕ, suc, ◌+◌, ◌<◌, List, [], ◌∷◌, ◌++◌, length, get_or, map, take, ℤ, sym, ap, ◌∙◌, append_assoc, arith, length-take}
 use Rattle.std.specs.Prelude.{codes}
 use Rattle.std.specs.Fmt.{signed_decimal}
@@ -47,7 +47,7 @@ loop_text loop =
     ap (λ (t : List ℕ). ended (line_text head ∷ []) ++ t) (ended-append (maps ++ body) (line.End ∷ [])
     ∙ ap (λ (t : List ℕ). t ++ codes "end\n") (ended-append maps body) ∙ append_assoc (ended (map line_text maps)) (ended (map line_text body)) (codes "end\n"))
 
--- a block up to a place, and the instruction there, put one behind the other
+-- a block up to a place, and the instruction there, put one after the other
 pub block_put : (block : Block) (k : ℕ) (d : Instr) (before progress whole : List ℕ) → k < length block → progress ≡ before
     ++ ended (map line_text (block_lines 0 (take k block))) → whole ≡ progress ++ ended (line_text (line.Step k (get_or block k d)) ∷ []) → whole ≡ before
     ++ ended (map line_text (block_lines 0 (take (k + 1) block)))
@@ -59,7 +59,7 @@ block_put block k d before progress whole below s w =
 regroup : (a b c d e : List ℕ) → (((a ++ b) ++ c) ++ d) ++ e ≡ a ++ (b ++ (c ++ (d ++ e)))
 regroup a b c d e = simp append_assoc
 
--- the parts of a loop, put one behind the other
+-- the parts of a loop, put one after the other
 pub loop_put : (loop : LoopParts) (before head maps body whole : List ℕ) → head ≡ before ++ ended (line_text (line.Head loop.lo loop.hi loop.grid) ∷ []) → maps
     ≡ head ++ ended (map line_text (flat_map map_lines loop.maps)) → body ≡ maps ++ ended (map line_text (block_lines 0 loop.body)) → whole ≡ body
     ++ codes "end\n" → whole ≡ before ++ ended (map line_text (loop_lines loop))
@@ -70,7 +70,7 @@ loop_put loop before head maps body whole h m b w =
     w ∙ ap (λ (t : List ℕ). t ++ codes "end\n") (b ∙ ap (λ (t : List ℕ). t ++ third) (m ∙ ap (λ (t : List ℕ). t ++ second) h))
     ∙ regroup before first second third (codes "end\n") ∙ ap (λ (t : List ℕ). before ++ t) (sym (loop_text loop))
 
--- the parts of a loop's first line, put one behind the other
+-- the parts of a loop's first line, put one after the other
 pub head_put : (lo hi : ℤ) (grid : GridPoints) (before word ends blank points whole : List ℕ) → word ≡ before ++ codes "loop " → ends ≡ word
     ++ spaced (signed_decimal lo ∷ signed_decimal hi ∷ []) → blank ≡ ends ++ codes " " → points ≡ blank
     ++ spaced (signed_decimal grid.period ∷ signed_decimal grid.offset ∷ []) → whole ≡ points ++ codes "\n" → whole ≡ before ++ ended (line_text (line.Head lo hi grid) ∷ [])

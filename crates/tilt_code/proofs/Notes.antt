@@ -131,7 +131,7 @@ line-judged line.Map p q c a e = record { same = refl; loop = λ h. cc h }
 line-judged (line.Step register i) p q c a e = step-judged p.stage register i p q c a e
 line-judged line.End p q c a e = record { same = refl; loop = λ h. cc h }
 
--- a line that was taken, and what is behind it
+-- a line that was taken, and what is after it
 record Taken (number : ℕ) (s q : Progress) (l : Line) (ts : List (List ℕ)) : Type 0 where
   made : PartialCode
   is : with_line l s.code ≡ Some made

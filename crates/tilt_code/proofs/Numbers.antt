@@ -27,7 +27,7 @@ fits_u32 n small = record { sfits = omega arith }
 within_u32-pos : (n : ℕ) → n < 2 ^ 32 → within_u32 (pos n) ≡ Some n
 within_u32-pos n small = grind (arith, nat_tests)
 
--- a number without a sign is read behind its letter
+-- a number without a sign is read after its letter
 pub named-decimal : (letter n : ℕ) → n < 2 ^ 32 → named letter (letter ∷ decimal n) ≡ Some n
 named-decimal letter n small =
     rw (same_number letter) (ap (λ (o : Option ℤ). o >>= within_u32) (shortest-signed (pos n) (fits_u32 n small)) ∙ within_u32-pos n small)

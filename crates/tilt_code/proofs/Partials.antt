@@ -1,4 +1,4 @@
--- The lines so far are those of the partial code that they make, and each front of a listing makes one.
+-- The lines so far are those of the partial code that they make, and each prefix of a listing makes one.
 use Rattle.std.proofs.Common.{◌≡◌, ℕ, ◌^◌, ◌<◌, ◌≤◌, Bool, true, false, ◌&&◌, not, if◌then◌else◌, nat_eq, List, [], ◌∷◌, ◌++◌, length, map}
 use Rattle.std.proofs.Common.{Option, Some, None, ℤ, IsTrue, refl, sym, ap, ◌∙◌, subst, arith, inl, inr, append-nil, append_assoc, length-append}
 use Rattle.std.specs.List.{flat_map, list_any, AllByRecursion}
@@ -93,7 +93,7 @@ some_length (x ∷ xs) e = omega arith
 abbrev IsFresh : List ℕ → List (List ℕ) → Type 0
 IsFresh name names = list_any (λ other. bytes_eq other name) names ≡ false
 
--- a fresh name behind distinct ones leaves them distinct
+-- a fresh name after distinct ones leaves them distinct
 distinct-push : (names : List (List ℕ)) (name : List ℕ) → AreDistinct names → IsFresh name names → AreDistinct (names ++ name ∷ [])
 distinct-push [] name d f = (λ c. absurd (omega (arith, c.1)), tt)
 distinct-push (x ∷ xs) name d f =
@@ -289,11 +289,11 @@ line-sound line.Map p q n g e = map-sound p.stage p q g e
 line-sound (line.Step register i) p q n g e = step-sound p.stage register i p q n.0 n.1 g e
 line-sound line.End p q n g e = end-sound p.stage p q g e
 
--- behind one text more
+-- after one text more
 abbrev pub take_text : List ℕ → PartialCode → Option PartialCode
 take_text text p = line_read text >>= λ l. with_line l p
 
--- the lines behind one text more are those before it and it
+-- the lines after one text more are those before it and it
 pub record TextStep (text : List ℕ) (p q : PartialCode) : Type 0 where
   pub texts : map line_text (written q) ≡ map line_text (written p) ++ text ∷ []
   pub kept : IsPartial q

@@ -52,7 +52,7 @@ joined_append (w ∷ x ∷ ws) v vs =
     ap (λ (t : List ℕ). w ++ 10 ∷ t) (joined_append (x ∷ ws) v vs) ∙ sym (append_assoc w (codes "\n") (ended (x ∷ ws) ++ joined (v ∷ vs)))
     ∙ sym (append_assoc (w ++ codes "\n") (ended (x ∷ ws)) (joined (v ∷ vs)))
 
--- whole lines in front of a text are pieces in front of its pieces
+-- whole lines before a text are pieces before its pieces
 pub pieces_ended : (texts : List (List ℕ)) (rest : List ℕ) → AllByRecursion (Lacks 10) texts → pieces 10 (ended texts ++ rest) ≡ texts ++ pieces 10 rest
 pieces_ended [] rest all = refl
 pieces_ended (t ∷ ts) rest all =
@@ -76,7 +76,7 @@ within_lacks (b ∷ bs) h =
 
 -- going on
 
--- what texts come to, one behind the other, from the line of that number on
+-- what texts come to, one after the other, from the line of that number on
 abbrev pub runs : ℕ → Progress → List (List ℕ) → Option Progress
 runs number s [] = Some s
 runs number s (t ∷ ts) = with_text number t s >>= λ q. runs (suc number) q ts
@@ -90,7 +90,7 @@ some_behind : (xs : List (List ℕ)) (p : List ℕ) (ps : List (List ℕ)) → x
 some_behind [] p ps e = cc e
 some_behind (x ∷ xs) p ps e = cc e
 
--- texts that come to something, and what is behind them
+-- texts that come to something, and what is after them
 pub read_runs : (number : ℕ) (s q : Progress) (ts : List (List ℕ)) (p : List ℕ) (ps : List (List ℕ)) → runs number s ts ≡ Some q
     → read_from number s (ts ++ p ∷ ps) ≡ read_from (length ts + number) q (p ∷ ps)
 read_runs number s q [] p ps e =

@@ -128,7 +128,7 @@ module _ (body : Stream) (grid : GridPoints) (valid : IsGrid grid) (lo hi : ℤ)
       rw (inside, back, at, some) refl in
       third_true (int_eq tick (lo +ℤ pos 1)) (int_eq tick (hi +ℤ pos 1)) _ mark
 
-  -- where a snapshot of the loop ends: behind its start, at `hi` at the latest, with no mark behind its first tick, and before one unless
+  -- where a snapshot of the loop ends: after its start, at `hi` at the latest, with no mark after its first tick, and before one unless
   -- it ends at `hi`
   record EndsWell (start end : ℤ) : Type 0 where
     end_low : start <ℤ end
@@ -136,7 +136,7 @@ module _ (body : Stream) (grid : GridPoints) (valid : IsGrid grid) (lo hi : ℤ)
     clear : IsUnmarked whole (start +ℤ pos 1) end
     before_mark : end <ℤ hi → whole.mark (end +ℤ pos 1) ≡ true
 
-  -- no grid point has a mark behind it up to a tick, where the body has none up to a period behind that
+  -- no grid point has a mark after it up to a tick, where the body has none up to a period after that
   whole-clear : (start end limit : ℤ) → lo ≤ℤ start → end ≤ℤ hi → IsUnmarked body (ceil grid (start +ℤ pos 1)) limit
       → ((point : ℤ) → is_point grid point ≡ true → point <ℤ end → (point +ℤ grid.period) ≤ℤ limit) → IsUnmarked whole (start +ℤ pos 1) end
   whole-clear start end limit low high clear reach = record {
@@ -291,7 +291,7 @@ module _ (body : Stream) (grid : GridPoints) (valid : IsGrid grid) (hi start : �
       → (turn body grid hi start).end ≡ hi
   turn-end_without_mark none = end_without none _ (turn-Searched body grid valid hi start some)
 
--- no turn begins at the end of the stretch, or behind it
+-- no turn begins at the end of the stretch, or after it
 pub turns_until-none : (body : Stream) (grid : GridPoints) (hi start : ℤ) → hi ≤ℤ start → turns_until body grid hi start ≡ []
 turns_until-none body grid hi start none = ap (turns_from body grid hi start) (int_gap_none start hi none)
 

@@ -23,7 +23,7 @@ instr_cell leaf cells (Two op a b) = apply2 op (get_or cells a None) (get_or cel
 instr_cell leaf cells (If c a b) = choose (get_or cells c None) (get_or cells a None) (get_or cells b None)
 instr_cell leaf cells other = leaf other
 
--- these registers, and behind them those of a block, each by all before it
+-- these registers, and after them those of a block, each by all before it
 abbrev pub with_registers : (Instr → Option ℤ) → List (Option ℤ) → Block → List (Option ℤ)
 with_registers leaf cells [] = cells
 with_registers leaf cells (instr ∷ block) = with_registers leaf (cells ++ instr_cell leaf cells instr ∷ []) block

@@ -25,7 +25,7 @@ IsListing text = (code : CodeParts) × IsGrammatical code × (text ≡ listing c
 abbrev pub HasNoLineEnd : List ℕ → Type 0
 HasNoLineEnd text = ¬ (Contains text 10)
 
--- behind these lines stands no whole line, though the text is no listing; or a line that can't stand there
+-- after these lines stands no whole line, though the text is no listing; or a line that can't stand there
 abbrev pub IsBadBehind : List (List ℕ) → List ℕ → Type 0
 IsBadBehind before rest =
     (HasNoLineEnd rest × ¬ (IsListing (ended before ++ rest)))

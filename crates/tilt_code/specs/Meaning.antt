@@ -13,7 +13,7 @@ use Rattle.tilt_stream.specs.Stream.{Stream, stream_of}
 abbrev pub loop_of : List Stream → LoopParts → Stream
 loop_of xs l = restricted l.lo l.hi (on_grid l.grid (body_of xs l))
 
--- these streams, and behind them those of loops, each over all before it
+-- these streams, and after them those of loops, each over all before it
 abbrev pub with_loops : List Stream → List LoopParts → List Stream
 with_loops xs [] = xs
 with_loops xs (l ∷ loops) = with_loops (xs ++ loop_of xs l ∷ []) loops

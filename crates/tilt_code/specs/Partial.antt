@@ -61,7 +61,7 @@ abbrev pub is_nil : {A : Type 0} → List A → Bool
 is_nil [] = true
 is_nil (x ∷ xs) = false
 
--- behind the first line
+-- after the first line
 abbrev pub with_title : Stage → PartialCode → Option PartialCode
 with_title stage.Before p = Some (record p { stage = stage.Outside })
 with_title other p = None
@@ -70,18 +70,18 @@ with_title other p = None
 abbrev pub is_new : List LoopParts → List (List ℕ) → List ℕ → Bool
 is_new loops inputs name = is_nil loops && not (list_any (λ other. bytes_eq other name) inputs)
 
--- behind the line of an input
+-- after the line of an input
 abbrev pub with_input : Stage → List ℕ → PartialCode → Option PartialCode
 with_input stage.Outside name p =
     if is_new p.loops p.inputs name then Some (record p { stage = stage.Outside; inputs = p.inputs ++ name ∷ [] }) else None
 with_input other name p = None
 
--- behind the first line of a loop
+-- after the first line of a loop
 abbrev pub with_head : Stage → ℤ → ℤ → GridPoints → PartialCode → Option PartialCode
 with_head stage.Outside lo hi grid p = Some (record p { stage = stage.InBody; lo = lo; hi = hi; grid = grid })
 with_head other lo hi grid p = None
 
--- behind the first line of a map
+-- after the first line of a map
 abbrev pub with_map : Stage → PartialCode → Option PartialCode
 with_map stage.InBody p = if is_nil p.block then Some (record p { stage = stage.InMap }) else None
 with_map other p = None
@@ -92,7 +92,7 @@ stands_in stage.InMap i = stands_in_map i
 stands_in stage.InBody i = stands_in_body i
 stands_in other i = false
 
--- behind the line of an instruction, which fills the next register
+-- after the line of an instruction, which fills the next register
 abbrev pub with_step : Stage → ℕ → Instr → PartialCode → Option PartialCode
 with_step at register i p =
     if stands_in at i && nat_eq register (length p.block) then Some (record p { stage = at; block = p.block ++ i ∷ [] }) else None
@@ -101,11 +101,11 @@ with_step at register i p =
 abbrev pub open_loop : PartialCode → LoopParts
 open_loop p = record { lo = p.lo; hi = p.hi; grid = p.grid; maps = p.maps; body = p.block }
 
--- behind the last line of a loop
+-- after the last line of a loop
 abbrev pub closed : PartialCode → Option PartialCode
 closed p = Some (record p { stage = stage.Outside; loops = p.loops ++ open_loop p ∷ []; maps = []; block = [] })
 
--- behind the last line of a map or of a loop
+-- after the last line of a map or of a loop
 abbrev pub with_end : Stage → PartialCode → Option PartialCode
 with_end stage.InMap p =
     if is_nil p.block then None else Some (record p { stage = stage.InBody; maps = p.maps ++ p.block ∷ []; block = [] })
@@ -113,7 +113,7 @@ with_end stage.InBody p =
     if is_nil p.block then None else closed p
 with_end other p = None
 
--- behind one line more
+-- after one line more
 abbrev pub with_line : Line → PartialCode → Option PartialCode
 with_line line.Title p = with_title p.stage p
 with_line (line.Input name) p = with_input p.stage name p
@@ -131,7 +131,7 @@ abbrev pub refers_back : PartialCode → Line → Bool
 refers_back p (line.Step register i) = refers_below (length p.inputs + length p.loops) (length p.maps) register i
 refers_back p other = true
 
--- the first bad reference, with the line of that number, which stands behind a partial code
+-- the first bad reference, with the line of that number, which stands after a partial code
 abbrev pub note : Option Place → PartialCode → Line → ℕ → Option Place
 note (Some place) p l number = Some place
 note None p l number = if refers_back p l then None else Some (record { in_loop = suc (length p.loops); line = number })
@@ -141,7 +141,7 @@ pub record Progress : Type 0 where
   pub code : PartialCode
   pub bad : Option Place
 
--- behind one text more, which is the line of that number
+-- after one text more, which is the line of that number
 abbrev pub with_text : ℕ → List ℕ → Progress → Option Progress
 with_text number text s =
     line_read text >>= λ l. with_line l s.code >>= λ q. Some (record { code = q; bad = note s.bad s.code l number })
@@ -155,7 +155,7 @@ is_whole other p = false
 abbrev pub is_end : List ℕ → PartialCode → Bool
 is_end text p = is_nil text && is_whole p.stage p
 
--- what was read behind a line that may not be taken, or the number of that line
+-- what was read after a line that may not be taken, or the number of that line
 abbrev pub or_line : ℕ → Option Progress → (Progress → Result Progress ℕ) → Result Progress ℕ
 or_line number None next = Err number
 or_line number (Some s) next = next s

@@ -34,12 +34,12 @@ abbrev pub within_u32 : ℤ → Option ℕ
 within_u32 (pos n) = if nat_lt n (2 ^ 32) then Some n else None
 within_u32 (negsuc n) = None
 
--- the number behind a letter
+-- the number after a letter
 abbrev pub named : ℕ → List ℕ → Option ℕ
 named letter [] = None
 named letter (byte ∷ bytes) = if byte == letter then shortest bytes >>= within_u32 else None
 
--- the next word, and the words behind it
+-- the next word, and the words after it
 abbrev pub word_at : List (List ℕ) → Option (List ℕ × List (List ℕ))
 word_at [] = None
 word_at (word ∷ words) = Some (word, words)
@@ -51,7 +51,7 @@ number_at words = do
   number ← shortest word.0
   Some (number, word.1)
 
--- the number behind a letter in the next word
+-- the number after a letter in the next word
 abbrev pub named_at : ℕ → List (List ℕ) → Option (ℕ × List (List ℕ))
 named_at letter words = do
   word ← word_at words
@@ -229,6 +229,6 @@ words_line first words = if bytes_eq first (codes "input") then last_word words 
 abbrev pub line_of : List (List ℕ) → Option Line
 line_of words = word_at words >>= λ first. words_line first.0 first.1
 
--- what was read, and the words behind it; nothing says what is left where nothing was read
+-- what was read, and the words after it; nothing says what is left where nothing was read
 abbrev pub Reads : {A : Type 0} → Option (A × List (List ℕ)) → Option A → List (List ℕ) → Type 0
 Reads read result left = MatchOption result (read ≡ None) (λ x. read ≡ Some (x, left))

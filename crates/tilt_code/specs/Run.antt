@@ -6,7 +6,7 @@ use Rattle.tilt_code.specs.Turn.{turns}
 use Rattle.tilt_stream.specs.Snap.{Snapshot}
 use Rattle.tilt_stream.specs.Stream.{stream_of}
 
--- these buffers, and behind them those of loops, each made over all before it
+-- these buffers, and after them those of loops, each made over all before it
 abbrev pub with_buffers : List (List Snapshot) → List LoopParts → List (List Snapshot)
 with_buffers lists [] = lists
 with_buffers lists (l ∷ loops) = with_buffers (lists ++ turns (map stream_of lists) l ∷ []) loops

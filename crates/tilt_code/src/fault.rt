@@ -7,7 +7,7 @@ use thiserror::Error;
 /// Why bytes are no listing of a code. Lines and loops are counted from 1.
 #[derive(Debug, Drop, PartialEq, Eq, Error)]
 pub enum CodeFault {
-    /// The bytes are no listing by its grammar, and this line is the first that can't stand there. It is the one behind
+    /// The bytes are no listing by its grammar, and this line is the first that can't stand there. It is the one after
     /// the last whole line where the bytes end too early, or without LF.
     #[error("line {line} of the code can't stand there")]
     BadCode { line: u64 },

@@ -10,13 +10,13 @@ pub enum Instr {
     Null,
     /// The cell that a map is run on. It stands only in maps.
     Argument,
-    /// The cell of a buffer, `offset` ticks behind the tick.
+    /// The cell of a buffer, `offset` ticks later: earlier where that is negative.
     Port {
         buffer: u32,
         offset: i64,
     },
-    /// What a reducer gives on the snapshots of a buffer that meet the ticks from `from + 1` to `to` behind the tick, each
-    /// by the result of a map on its cell, or by its cell where there is no map.
+    /// What a reducer gives on the snapshots of a buffer that meet the ticks from `from + 1` to `to` ticks later, each by the
+    /// result of a map on its cell, or by its cell where there is no map.
     Win {
         reducer: Reducer,
         buffer: u32,

@@ -24,7 +24,7 @@ pub(crate) enum Line {
     Map,
     // `r0 = null`.
     Step { register: u32, instr: Instr },
-    // `end`, behind a map and behind a body.
+    // `end`, after a map and after a body.
     End,
 }
 

@@ -25,9 +25,9 @@ struct Progress {
     bad: Option<Place>,
 }
 
-/// The code whose listing the bytes are. `BadCode` tells the first line that can't stand behind those before it, is spelled
+/// The code whose listing the bytes are. `BadCode` tells the first line that can't stand after those before it, is spelled
 /// otherwise, or has a number out of its range; a text that ends before a listing is whole, or without LF, is bad in the line
-/// behind its last whole one. `BadReference` comes where the bytes are a listing by its grammar, and tells the first line
+/// after its last whole one. `BadReference` comes where the bytes are a listing by its grammar, and tells the first line
 /// that names a buffer, a register or a map that isn't defined before it.
 pub fn read_code(alloc: Global, bytes: &[u8]) -> Result<Code, CodeFault>
     ensures code { IfOk result (λ code. IsCode code × (bytes.now ≡ listing code)) }
@@ -124,7 +124,7 @@ fn take_text(
     code.take(alloc, line)
 }
 
-// The first bad reference, with the line of that number, which stands behind a code.
+// The first bad reference, with the line of that number, which stands after a code.
 fn note(bad: Option<Place>, code: &Partial, line: &Line, number: u64) -> Option<Place>
     ensures { result ≡ note bad (parts_of code.now) line.now number }
 {

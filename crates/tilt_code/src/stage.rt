@@ -1,4 +1,4 @@
-// What is open behind the lines of a listing so far.
+// What is open after the lines of a listing so far.
 #[derive(Clone, Copy, Debug)]
 pub(crate) enum Stage {
     // Nothing was read.

@@ -92,7 +92,7 @@ impl<'a> Words<'a> {
         shortest(self.next()?)
     }
 
-    // The number behind a letter in the next word.
+    // The number after a letter in the next word.
     pub(crate) fn named(&mut self, letter: u8) -> Option<u32>
         ensures { Reads (named_at letter self.old) result self.new }
     {
@@ -126,7 +126,7 @@ impl<'a> Words<'a> {
     }
 }
 
-// The bytes in front of the first that is the mark, and those behind it where there is one.
+// The bytes before the first that is the mark, and those after it where there is one.
 pub(crate) fn cut(bytes: &[u8], mark: u8) -> (&[u8], Option<&[u8]>)
     ensures { pieces mark bytes.now ≡ result.0.now ∷ pieces_left mark (option_map (λ left. left.now) result.1) }
 {
@@ -136,7 +136,7 @@ pub(crate) fn cut(bytes: &[u8], mark: u8) -> (&[u8], Option<&[u8]>)
     }
 }
 
-// The number behind a letter.
+// The number after a letter.
 pub(crate) fn named(letter: u8, word: &[u8]) -> Option<u32>
     ensures { result ≡ named letter word.now }
 {

@@ -67,6 +67,6 @@ module _ (inputs : List (List Snapshot)) (defs : List Definition) (i : ℕ) wher
   source_of-definition def h l is =
       with_definitions-at (map stream_of inputs) defs (i - length inputs) i def l (omega (arith, count)) ∙ ap (definition_of (sources inputs (take (i - length inputs) defs))) (sym is)
 
-  -- behind the last definition there is nothing
+  -- after the last definition there is nothing
   pub source_of-none : length inputs ≤ i → length defs ≤ i - length inputs → source_of (sources inputs defs) i ≡ nothing
   source_of-none h l = with_definitions-past (map stream_of inputs) defs i (omega (arith, count))

@@ -25,7 +25,7 @@ coded_core =
     (λ p. record { inputs = p.0; names = p.1.0; defs = p.1.1 })
     (λ _. refl)
 
--- an expression reads only sources below a number, and each window ends behind its start
+-- an expression reads only sources below a number, and each window ends after its start
 abbrev pub ReadsBelow : ℕ → CoreTree → Type 0
 ReadsBelow bound (Leaf (Const number)) = ⊤
 ReadsBelow bound (Leaf (Read source offset)) = source < bound
@@ -57,7 +57,7 @@ domain_of [] = None
 domain_of (def ∷ []) = def.over
 domain_of (def ∷ next ∷ defs) = domain_of (next ∷ defs)
 
--- the number of the source that is emitted: the definition behind those that have names
+-- the number of the source that is emitted: the definition after those that have names
 abbrev pub emitted_number : CoreParts → ℕ
 emitted_number core = length core.inputs + length core.names
 

@@ -39,7 +39,7 @@ within (Some span) x = restricted span.start span.end x
 abbrev pub definition_of : List Stream → Definition → Stream
 definition_of xs def = within def.over (on_grid def.grid (body_of xs def.body))
 
--- the sources, and behind them the definitions, each over all sources before it
+-- the sources, and after them the definitions, each over all sources before it
 abbrev pub with_definitions : List Stream → List Definition → List Stream
 with_definitions xs [] = xs
 with_definitions xs (def ∷ defs) = with_definitions (xs ++ definition_of xs def ∷ []) defs

@@ -26,7 +26,7 @@ either None n = n
 either (Some m) None = Some m
 either (Some m) (Some n) = Some (wider m n)
 
--- a need moved by a window or a shift that reads from `first` ticks to `last` ticks behind each tick
+-- a need moved by a window or a shift that reads from `first` ticks to `last` ticks later than each tick
 abbrev pub reaching : Need → ℤ → ℤ → Need
 reaching n first last = record { back = n.back +ℤ int_max (pos 0) (neg_ℤ first); ahead = n.ahead +ℤ int_max (pos 0) last }
 
@@ -48,7 +48,7 @@ abbrev pub asked_of : Definition → Option Need → ℕ → Option Need
 asked_of def None source = None
 asked_of def (Some n) source = asked_by (body_need def n) def.body source
 
--- the need of a definition: that of the last one, which is emitted, is the tick itself; that of another is what the definitions behind it
+-- the need of a definition: that of the last one, which is emitted, is the tick itself; that of another is what the definitions after it
 -- ask
 abbrev pub need_before : List Definition → Option Need → Option Need
 need_before [] asked = Some no_margin

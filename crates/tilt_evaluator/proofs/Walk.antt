@@ -69,7 +69,7 @@ module _ (x : Stream) (lo before hi tick : ℤ) (within : before <ℤ hi) (is : 
     pub met-same : (int_eq before lo || x.mark (before +ℤ pos 1)) ≡ false → front ++ numbers (met_behind x (int_eq tick lo) tick (int_gap tick hi)) ≡ all
     met-same test = ap (λ (ns : List ℤ). front ++ ns) (sym (met-goes_on (int_eq before lo) low test)) ∙ so_far
 
--- how the snapshots of a stream go on behind a tick
+-- how the snapshots of a stream go on after a tick
 module _ (x : Stream) (front all : List Snapshot) (start end hi next : ℤ) (is : next ≡ end +ℤ pos 1) (so_far : front ++ cut_behind x start end (int_gap end hi) ≡ all) where
   steps_left : end <ℤ hi → int_gap end hi ≡ suc (int_gap next hi)
   steps_left within =

@@ -130,7 +130,7 @@ fn numbers_met(
     Ok(members)
 }
 
-// Whether the window begins behind the tick `before`, or a snapshot of the source does.
+// Whether the window begins after the tick `before`, or a snapshot of the source does.
 fn begins_behind(inputs: &[Rows], defs: &[Def], source: u32, lo: i128, before: i128) -> bool
     requires few { length defs.now ≤ 2 ^ 32 }
     requires near { IsNear (2 ^ 65 * length defs.now) (before +ℤ pos 1) }

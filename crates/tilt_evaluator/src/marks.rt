@@ -63,7 +63,7 @@ fn grid_mark(inputs: &[Rows], defs: &[Def], def: &Def, tick: i128) -> bool
         )
 }
 
-// Whether an expression over the sources has a mark at one of so many ticks behind the tick.
+// Whether an expression over the sources has a mark at one of so many ticks after the tick.
 #[cycle(marks)]
 fn some_mark(inputs: &[Rows], defs: &[Def], body: &Tree, tick: i128, count: u64) -> bool
     requires few { length defs.now < 2 ^ 32 }

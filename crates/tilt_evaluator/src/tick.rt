@@ -6,7 +6,7 @@ ghost use Rattle.tilt_stream.specs.Domain.{lies_in};
 
 use tilt_base::{Grid, Span};
 
-/// Whether the tick is the one behind this one.
+/// Whether the tick is the one after this one.
 pub fn follows(before: i64, tick: i128) -> bool
     ensures { result ≡ int_eq tick (before +ℤ pos 1) }
 {

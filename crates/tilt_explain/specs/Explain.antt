@@ -7,11 +7,11 @@ use Rattle.tilt_fuse.specs.Plan.{plan_of, has_loop}
 use Rattle.tilt_core.specs.Core.{CoreParts}
 use Rattle.tilt_core.specs.Needs.{Need}
 
--- a number behind a blank
+-- a number after a blank
 abbrev pub spaced : ℤ → List ℕ
 spaced number = codes " " ++ signed_decimal number
 
--- the line that begins with a word, and has so many ticks back and ahead behind it
+-- the line that begins with a word, and has so many ticks back and ahead after it
 abbrev pub reach_line : List ℕ → ℤ → ℤ → List ℕ
 reach_line front back ahead = front ++ spaced back ++ spaced ahead ++ codes "\n"
 
@@ -33,7 +33,7 @@ abbrev pub input_lines : List (Option Need) → ℕ → List (List ℕ) → List
 input_lines needs source [] = []
 input_lines needs source (name ∷ names) = input_line name (need_at needs source) ++ input_lines needs (suc source) names
 
--- the lines of named definitions, of which the first stands at a place behind so many inputs
+-- the lines of named definitions, of which the first stands at a place after so many inputs
 abbrev pub let_lines : List PlannedLoop → List (Option Need) → ℕ → ℕ → List (List ℕ) → List ℕ
 let_lines loops needs inputs place [] = []
 let_lines loops needs inputs place (name ∷ names) =

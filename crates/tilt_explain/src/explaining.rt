@@ -36,7 +36,7 @@ fn put_margins(text: &mut Vec<u8>, margins: &Margins) -> Result<(), OutOfMemory>
     put_reach(text, b"reach", margins.back(), margins.ahead())
 }
 
-// Puts a line that begins with a word, and has so many ticks back and ahead behind it.
+// Puts a line that begins with a word, and has so many ticks back and ahead after it.
 fn put_reach(text: &mut Vec<u8>, front: &[u8], back: i64, ahead: i64) -> Result<(), OutOfMemory>
     ensures { OnOk result (text.new.items ≡ text.old.items ++ reach_line front.now back ahead) }
 {
@@ -54,7 +54,7 @@ fn put_spaced(text: &mut Vec<u8>, number: i64) -> Result<(), OutOfMemory>
     put_number(text, number)
 }
 
-// Puts the line of a source, behind the word for what it is and its name.
+// Puts the line of a source, after the word for what it is and its name.
 fn put_source(text: &mut Vec<u8>, word: &[u8], need: Need) -> Result<(), OutOfMemory>
     ensures { (front : List ℕ) (before : List ℕ) → text.old.items ≡ before ++ front
         → OnOk result (text.new.items ≡ before ++ source_line front word.now (need_of need)) }

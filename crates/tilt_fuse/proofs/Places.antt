@@ -8,7 +8,7 @@ use Rattle.tilt_fuse.specs.Trees.{IsKnown}
 use Rattle.tilt_core.specs.CoreTree.{Definition}
 use Rattle.tilt_core.specs.Needs.{Need, needs_from}
 
--- behind the last definition there are none
+-- after the last definition there are none
 pub none-behind : (defs : List Definition) (place : ℕ) → place ≤ length defs → (place == length defs) ≡ are_none (drop place defs)
 none-behind [] zero low = refl
 none-behind [] (suc place) low = absurd (omega arith)
@@ -39,7 +39,7 @@ module _ (inputs : ℕ) (defs : List Definition) (place : ℕ) (low : place < le
       let many = known.are_used.many ∙ length-needs inputs defs in
       known.are_used.each (inputs + place) (omega (arith, many)) ∙ ap is_some (need_at-definition inputs defs place)
 
-  -- a window on a source stands in it or behind it
+  -- a window on a source stands in it or after it
   pub windowed-from : (def : Definition) (number : ℕ) → def ≡ get_or defs place def
       → is_windowed (drop place defs) (drop place ns) number ≡ ((is_some (get_or ns place None) && has_window_on def.body number) || is_windowed (drop (suc place) defs) (drop (suc place) ns) number)
   windowed-from def number is =

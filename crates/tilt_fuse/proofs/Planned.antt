@@ -60,7 +60,7 @@ holds-narrow (Some n) asked other less h =
     let less_ahead = less.1 in
     (omega (arith, ints), omega (arith, ints))
 
--- what the definitions behind one ask of it is held by its need
+-- what the definitions after one ask of it is held by its need
 asked-behind : (number : ℕ) (behind : List Definition) → HoldsAll (need_before behind (asked_from (suc number) behind number)) (asked_from (suc number) behind number)
 asked-behind number [] = tt
 asked-behind number (def ∷ behind) = holds-itself (asked_from (suc number) (def ∷ behind) number)

@@ -1,4 +1,4 @@
--- When a source is used: the definitions behind it name it.
+-- When a source is used: the definitions after it name it.
 use Rattle.std.proofs.Common.{◌≡◌, ℕ, zero, suc, ◌+◌, ◌<◌, ◌≤◌, ◌==◌, Bool, true, false, List, [], ◌∷◌, length, Option, Some, None, if◌then◌else◌, inl, inr, refl, sym, ap, ◌∙◌, arith, subst}
 use Rattle.std.proofs.Common.{get_or, set, replicate, take, drop, ◌-◌, length-drop, drop-cons}
 use Rattle.std.specs.Prelude.{◌||◌, is_some}
@@ -74,11 +74,11 @@ module _ (number : ℕ) (def : Definition) (behind : List Definition) (old : Lis
   after : (k : ℕ) → suc number + k < length old → get_or old (suc number + k) false ≡ is_some (get_or (needs_from (suc number) behind) k None)
   after k low = so_far.each (suc number + k) low ∙ ap is_some (need_at-definition (suc number) behind k)
 
-  -- whether the definition is used can be read off what those behind it use
+  -- whether the definition is used can be read off what those after it use
   pub is_used : is_some need ≡ (are_none behind || get_or old number false)
   is_used = used_by behind (asked_from (suc number) behind number) (get_or old number false) (before number (omega arith))
 
-  -- the needs where the definition counts with those behind it, at each source
+  -- the needs where the definition counts with those after it, at each source
   at_before : (source : ℕ) → source < number
       → is_some (get_or (needs number (def ∷ behind)) source None) ≡ (get_or old source false || is_some (asked_of def need source))
   at_before source low =
@@ -96,7 +96,7 @@ module _ (number : ℕ) (def : Definition) (behind : List Definition) (old : Lis
       let at : number + suc k ≡ suc number + k = omega arith in
       rw at (after k (omega arith)) ∙ sym (ap is_some (need_at-definition number (def ∷ behind) (suc k)))
 
-  -- at the definition, and behind it
+  -- at the definition, and after it
   at_or_behind : (k : ℕ) → need ≡ None → number + k < length old → get_or old (number + k) false ≡ is_some (get_or (needs number (def ∷ behind)) (number + k) None)
   at_or_behind zero none low =
       let at : number + zero ≡ number = omega arith in

@@ -113,7 +113,7 @@ abbrev pub are_none : List Definition → Bool
 are_none [] = true
 are_none (def ∷ defs) = false
 
--- whether a used definition is merged, that has this number and this tree, and these definitions behind it: it isn't the emitted one,
+-- whether a used definition is merged, that has this number and this tree, and these definitions after it: it isn't the emitted one,
 -- it has neither a span nor a period above 1, its tree is small, and where a used definition has a window on it, its tree is made
 -- from one reading
 abbrev pub is_merged : Definition → List Definition → List (Option Need) → ℕ → FusedTree → Bool
@@ -121,7 +121,7 @@ is_merged def behind ns number tree =
     not (are_none behind) && not (is_some def.over) && int_eq def.grid.period (pos 1) && nat_le (nodes tree) 64
     && (not (is_windowed behind ns number) || is_some (only_reading tree))
 
--- the loops of definitions with these needs, of which the first is that at a place, behind so many inputs; the trees of merged
+-- the loops of definitions with these needs, of which the first is that at a place, after so many inputs; the trees of merged
 -- sources before it are given
 abbrev pub loops_from : Bool → ℕ → ℕ → List (Option FusedTree) → List Definition → List (Option Need) → List PlannedLoop
 loops_from fuse inputs place merged (def ∷ defs) (Some n ∷ ns) =

@@ -50,7 +50,7 @@ HasMaps (Two op a b) = HasMaps a × HasMaps b
 HasMaps (If c a b) = HasMaps c × HasMaps a × HasMaps b
 HasMaps other = ⊤
 
--- what a tree with a need asks of each source that it reads is as a condition says; windows end behind their starts, their maps are maps,
+-- what a tree with a need asks of each source that it reads is as a condition says; windows end after their starts, their maps are maps,
 -- and arguments stand in maps alone
 abbrev pub EachAsks : (ℕ → Need → Type 0) → Need → FusedTree → Type 0
 EachAsks P n (Const number) = ⊤

@@ -82,7 +82,7 @@ fn nodes(tree: &Fused) -> u32
     }
 }
 
-// Whether a used definition behind the one at a place has a window on it.
+// Whether a used definition after the one at a place has a window on it.
 fn is_windowed(query: &Query, place: usize) -> bool
     requires known { IsKnown query.now.inputs query.now.defs.now query.now.used.now }
     requires place { place < length query.now.defs.now }

@@ -1,6 +1,6 @@
 use tilt_core::Def;
 
-/// The definitions of a query behind so many inputs, which of its sources are used, and whether definitions are merged.
+/// The definitions of a query after so many inputs, which of its sources are used, and whether definitions are merged.
 #[derive(Clone, Copy)]
 pub struct Query<'a> {
     pub inputs: usize,

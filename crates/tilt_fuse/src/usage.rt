@@ -43,7 +43,7 @@ fn use_before(used: &mut Vec<bool>, number: usize, def: &Def, behind: &[Def])
     }
 }
 
-// Whether the definition of a number is used: it is the last one, or one of those behind it uses it.
+// Whether the definition of a number is used: it is the last one, or one of those after it uses it.
 fn is_used(used: &Vec<bool>, number: usize, behind: &[Def]) -> bool
     requires { number < length used.now.items }
     ensures { result ≡ (are_none behind.now || get_or used.now.items number false) }

@@ -1,4 +1,4 @@
--- The longest token at the front: a word as far as letters, digits and `_` go, a number as far as digits go, a sign where none is longer.
+-- The longest token at the beginning: a word as far as letters, digits and `_` go, a number as far as digits go, a sign where none is longer.
 use Rattle.std.proofs.Common.{◌≡◌, inl, inr, ℕ, ◌^◌, ◌<◌, ◌≤◌, ℤ, pos, Bool, true}
 use Rattle.std.proofs.Common.{List, [], ◌∷◌, ◌++◌, length, get_or, take, drop, refl, sym, ap, ◌∙◌, arith, IsTrue, one-add, take-append-drop, length-append}
 use Rattle.std.specs.Bool.{IsFalse}
@@ -18,14 +18,14 @@ use Rattle.tilt_lexer.specs.Word.{begins_word, goes_on_word, IsWord}
 use Rattle.tilt_lexer.proofs.Texts.{word_from_first, digits_from_first, sign_from_first}
 
 module _ (p : ℕ → Bool) where
-  -- a list that passes throughout is no longer than the front that passes
+  -- a list that passes throughout is no longer than the prefix that passes
   all_fits : (xs ys : List ℕ) → list_all p xs ≡ true → length xs ≤ prefix_len p (xs ++ ys)
   all_fits [] ys h = omega arith
   all_fits (x ∷ xs) ys h =
       let parts = and_parts (p x) (list_all p xs) h in
       rw parts.0 (omega (arith, all_fits xs ys parts.1))
 
-  -- the front that passes passes throughout
+  -- the prefix that passes passes throughout
   all_front : (xs : List ℕ) → list_all p (take (prefix_len p xs) xs) ≡ true
   all_front [] = refl
   all_front (x ∷ xs) =
@@ -43,20 +43,20 @@ word_goes_on (b ∷ bs) h =
     let parts = and_parts (begins_word b) (list_all goes_on_word bs) h in
     rw (or_left (begins_word b) (is_ascii_digit b) parts.0, parts.1)
 
--- the letters, digits and `_` at the front are a word, where the first begins one
+-- the letters, digits and `_` at the beginning are a word, where the first begins one
 pub front_is_word : (bytes : List ℕ) → IsTrue (begins_word (get_or bytes 0 0)) → IsWord (take (prefix_len goes_on_word bytes) bytes)
 front_is_word [] h = absurd (false≢true h)
 front_is_word (b ∷ bs) h =
     let goes_on : goes_on_word b ≡ true = or_left (begins_word b) (is_ascii_digit b) h in
     rw (goes_on, one-add, h, all_front goes_on_word bs)
 
--- the digits at the front are one or more, where the first is a digit
+-- the digits at the beginning are one or more, where the first is a digit
 pub front_is_digits : (bytes : List ℕ) → IsTrue (is_ascii_digit (get_or bytes 0 0)) → IsDigits (take (prefix_len is_ascii_digit bytes) bytes)
 front_is_digits [] h = absurd (false≢true h)
 front_is_digits (b ∷ bs) h = (rw (h, one-add) (omega arith), all_front is_ascii_digit (b ∷ bs))
 
 module _ (bytes : List ℕ) where
-  -- the word at the front
+  -- the word at the beginning
   pub word_is_front : (kind : Tok) → IsTrue (begins_word (get_or bytes 0 0)) → IsTextOf kind (take (prefix_len goes_on_word bytes) bytes)
       → IsWithin kind → IsFront kind (prefix_len goes_on_word bytes) bytes
   word_is_front kind first is_text within =
@@ -73,7 +73,7 @@ module _ (bytes : List ℕ) where
         within = within;
       }
 
-  -- the number at the front
+  -- the number at the beginning
   pub number_begins : IsTrue (is_ascii_digit (get_or bytes 0 0))
       → let n = prefix_len is_ascii_digit bytes in Begins (tok.Number (pos (digits_value 10 (take n bytes)))) bytes (take n bytes) (drop n bytes)
   number_begins first =
@@ -98,7 +98,7 @@ module _ (bytes : List ℕ) where
       record { number = pos (digits_value 10 (take n bytes)); text = take n bytes; rest = drop n bytes; begins = number_begins first; above = omega (arith, ints) }
 
   module _ (no_word : IsFalse (begins_word (get_or bytes 0 0))) (no_digit : IsFalse (is_ascii_digit (get_or bytes 0 0))) where
-    -- the sign at the front
+    -- the sign at the beginning
     pub sign_is_front : (m : Mark) → BeginsWithSign m bytes → IsFront (tok.Mark m) (length (mark_text m)) bytes
     sign_is_front m sign =
         let more = sign.begins.0 in

@@ -46,7 +46,7 @@ next_ahead (after_blank is next) = let ahead = next_ahead next in record { some 
 
 -- how it is found
 
--- what goes on over a blank goes on over all blanks at the front
+-- what goes on over a blank goes on over all blanks at the beginning
 over_blanks : (P : ℕ → List ℕ → Type 0) → ((at b : ℕ) (bytes : List ℕ) → IsTrue (is_blank b) → P (at + 1) bytes → P at (b ∷ bytes))
     → (at : ℕ) (bytes : List ℕ) → P (at + prefix_len is_blank bytes) (drop (prefix_len is_blank bytes) bytes) → P at bytes
 over_blanks P step at [] h = rw add-zero at h
@@ -70,7 +70,7 @@ module _ (at : ℕ) (bytes : List ℕ) where
   pub faulty_past : (f : LexFault) → IsFaultyAt (at + prefix_len is_blank bytes) (drop (prefix_len is_blank bytes) bytes) f → IsFaultyAt at bytes f
   faulty_past f = over_blanks (λ m left. IsFaultyAt m left f) (λ m b left is faulty. behind_blank is faulty) at bytes
 
-  -- the token at the front of what is left is the next
+  -- the token at the beginning of what is left is the next
   pub front_next : (kind : Tok) (n : ℕ) → let blanks = prefix_len is_blank bytes in IsFront kind n (drop blanks bytes)
       → IsNext at bytes (record { kind = kind; start = at + blanks; end = at + blanks + n }) (drop n (drop blanks bytes))
   front_next kind n front =

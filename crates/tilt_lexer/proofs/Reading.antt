@@ -23,7 +23,7 @@ front_some kind n bytes front =
     omega (arith, length-take-le n bytes front.fits)
 
 module _ (at n : ℕ) (kind : Tok) (bytes after : List ℕ) (front : IsFront kind n bytes) (behind : drop n bytes ≡ after) where
-  -- the token at the front, and then those of the rest
+  -- the token at the beginning, and then those of the rest
   pub tokens_from : (more : List Token) → AreTokens (at + n) after more → AreTokens at bytes (record { kind = kind; start = at; end = at + n } ∷ more)
   tokens_from more =
       let At : ℕ → List ℕ → Type 0 = λ m rest. AreTokens (at + m) rest more → AreTokens at bytes (record { kind = kind; start = at; end = at + m } ∷ more) in

@@ -45,7 +45,7 @@ same_kind (tok.Mark m) (tok.Number n) text g h = absurd (digits_no_sign text m h
 same_kind (tok.Mark m) (tok.Key k) text g h = absurd (word_no_sign text m (ap is_word h ∙ key_is_word k) g)
 same_kind (tok.Mark m) (tok.Mark n) text g h = ap tok.Mark (same_sign m n (sym g ∙ h))
 
--- one token at the front, and one rest
+-- one token at the beginning, and one rest
 record Same (k j : Tok) (text other rest others : List ℕ) : Type 0 where
   kinds : k ≡ j
   texts : text ≡ other

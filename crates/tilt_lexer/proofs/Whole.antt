@@ -70,7 +70,7 @@ sign_from (suc left) i bytes e none =
           (λ begins. other more (begins ∙ ap (λ n. mark_text n ++ more) (get_or_default MARKS i d mark.Semicolon (omega arith)))) j below)
     ]
 
--- the longest token at the front, or the fault there
+-- the longest token at the beginning, or the fault there
 abbrev Fronts : ℕ → List ℕ → Type 0
 Fronts at bytes = ((kind : Tok) × (n : ℕ) × IsFront kind n bytes) ⊎ ((f : LexFault) × IsFaultyAt at bytes f)
 

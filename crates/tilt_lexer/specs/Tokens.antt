@@ -55,13 +55,13 @@ IsTextOf (tok.Mark m) text = text ≡ mark_text m
 abbrev pub IsTokenText : List ℕ → Type 0
 IsTokenText text = (kind : Tok) × IsTextOf kind text
 
--- the bytes begin with the text of a token of this kind, and no longer front of them is the text of a token
+-- the bytes begin with the text of a token of this kind, and no longer prefix of them is the text of a token
 pub record Begins (kind : Tok) (bytes text rest : List ℕ) : Type 0 where
   pub whole : bytes ≡ text ++ rest
   pub is_text : IsTextOf kind text
   pub longest : (front more : List ℕ) → bytes ≡ front ++ more → IsTokenText front → length front ≤ length text
 
--- no front of the bytes is the text of a token
+-- no prefix of the bytes is the text of a token
 abbrev pub BeginsNone : List ℕ → Type 0
 BeginsNone bytes = (front more : List ℕ) → bytes ≡ front ++ more → ¬ (IsTokenText front)
 
@@ -105,13 +105,13 @@ pub data AreTokens : ℕ → List ℕ → List Token → Type 0 where
 
 -- this is the fault of the first faulty place of the bytes, the first of which is at the place `at`
 pub data IsFaultyAt : ℕ → List ℕ → LexFault → Type 0 where
-  -- a byte that is no blank, and no front of the bytes is the text of a token
+  -- a byte that is no blank, and no prefix of the bytes is the text of a token
   bad_byte : {at b : ℕ} {bytes : List ℕ} → IsFalse (is_blank b) → BeginsNone (b ∷ bytes) → IsFaultyAt at (b ∷ bytes) (fault.BadByte at)
   -- the longest token there has a number above the greatest
   big_number : {at : ℕ} {bytes : List ℕ} → BeginsBig bytes → IsFaultyAt at bytes (fault.BigNumber at)
-  -- a blank, and the place is behind it
+  -- a blank, and the place is after it
   behind_blank : {at b : ℕ} {bytes : List ℕ} {f : LexFault} → IsTrue (is_blank b) → IsFaultyAt (at + 1) bytes f
       → IsFaultyAt at (b ∷ bytes) f
-  -- the longest token, and the place is behind it
+  -- the longest token, and the place is after it
   behind_token : {at : ℕ} {kind : Tok} {bytes text rest : List ℕ} {f : LexFault}
       → Begins kind bytes text rest → IsWithin kind → IsFaultyAt (at + length text) rest f → IsFaultyAt at bytes f

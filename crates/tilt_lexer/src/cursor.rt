@@ -33,7 +33,7 @@ pub fn next_token(alloc: Global, bytes: &[u8], at: usize) -> Result<Option<Token
     }))
 }
 
-// How many blanks stand at the front.
+// How many blanks stand at the beginning.
 fn blanks_length(bytes: &[u8]) -> usize
     ensures blanks { result ≡ prefix_len is_blank bytes.now }
     ensures within { result ≤ length bytes.now }

@@ -1,4 +1,4 @@
-// The longest token at the front of bytes.
+// The longest token at the beginning of bytes.
 ghost use Rattle.std.specs.Prelude.{◌≡◌, ◌≢◌, ◌<◌, length, slice_index, IfOk, IfErr, IsTrue, MatchOption};
 ghost use Rattle.std.specs.Bool.{IsFalse};
 ghost use Rattle.std.specs.Char.{is_ascii_digit};
@@ -14,7 +14,7 @@ use crate::number::{digits_length, digits_value};
 use crate::token::Tok;
 use std::alloc::{AllocError as OutOfMemory, Global};
 
-// The longest token at the front of the bytes, and how many bytes it has. The first byte, at the place `at`, is no
+// The longest token at the beginning of the bytes, and how many bytes it has. The first byte, at the place `at`, is no
 // blank.
 pub(crate) fn front_token(alloc: Global, bytes: &[u8], at: u64) -> Result<(Tok, usize), LexFault>
     requires some { 0 < length bytes.now }
@@ -31,7 +31,7 @@ pub(crate) fn front_token(alloc: Global, bytes: &[u8], at: u64) -> Result<(Tok, 
     }
 }
 
-// The word at the front, which is a name or a reserved word.
+// The word at the beginning, which is a name or a reserved word.
 fn front_word(alloc: Global, bytes: &[u8]) -> Result<(Tok, usize), OutOfMemory>
     requires { IsTrue (begins_word (slice_index bytes.now 0)) }
     ensures { IfOk result (λ found. IsFront found.0 found.1 bytes.now) }
@@ -44,7 +44,7 @@ fn front_word(alloc: Global, bytes: &[u8]) -> Result<(Tok, usize), OutOfMemory>
     }
 }
 
-// The number at the front, or `None` where it is too big.
+// The number at the beginning, or `None` where it is too big.
 fn front_number(bytes: &[u8]) -> Option<(Tok, usize)>
     requires { IsTrue (is_ascii_digit (slice_index bytes.now 0)) }
     ensures { MatchOption result (BeginsBig bytes.now) (λ found. IsFront found.0 found.1 bytes.now) }
@@ -54,7 +54,7 @@ fn front_number(bytes: &[u8]) -> Option<(Tok, usize)>
     Some((Tok::Number(number), length))
 }
 
-// The sign at the front, or `None` where no token begins there.
+// The sign at the beginning, or `None` where no token begins there.
 fn front_mark(bytes: &[u8]) -> Option<(Tok, usize)>
     requires no_word { IsFalse (begins_word (slice_index bytes.now 0)) }
     requires no_digit { IsFalse (is_ascii_digit (slice_index bytes.now 0)) }

@@ -6,7 +6,7 @@ ghost use Rattle.std.specs.Char.{is_ascii_digit};
 ghost use Rattle.std.specs.Str.Parse.{digits_value};
 ghost use Rattle.tilt_lexer.specs.Tokens.{IsDigits};
 
-// How many digits stand at the front.
+// How many digits stand at the beginning.
 pub(crate) fn digits_length(bytes: &[u8]) -> usize
     ensures { result ≡ prefix_len is_ascii_digit bytes.now }
 {

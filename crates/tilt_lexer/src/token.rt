@@ -9,7 +9,7 @@ pub struct Token {
     pub kind: Tok,
     /// The place of the text's first byte, counted from 0.
     pub start: u64,
-    /// The place behind the text's last byte.
+    /// The place after the text's last byte.
     pub end: u64,
 }
 

@@ -11,7 +11,7 @@ use Rattle.tilt_words.specs.declared.cut_bind.CutBind.{CutBind}
 use Rattle.tilt_load.specs.InputCuts.{names_cut}
 use Rattle.tilt_load.specs.Inputs.{is_among, bound_names, first_unexpected, first_unbound, first_of_two, file_of, faulty_name}
 
--- the first unexpected name is looked for behind this place, and those before it are the names before this place
+-- the first unexpected name is looked for after this place, and those before it are the names before this place
 pub record IsBehind {A : Type 0} (named : A → List ℕ) (declared : List (List ℕ)) (words : List A) (before : List (List ℕ)) (place : ℕ) : Type 0 where
   pub same : first_unexpected declared before (map named (drop place words)) ≡ first_unexpected declared [] (map named words)
   pub among : (name : List ℕ) → is_among name before ≡ is_among name (map named (take place words))

@@ -1,4 +1,4 @@
--- The inputs, one behind another.
+-- The inputs, one after another.
 use Rattle.std.proofs.Common.{◌≡◌, List, [], ◌∷◌, ◌++◌, ℕ, suc, length, Result, Ok, Err, refl, sym, ap, ◌∙◌}
 use Rattle.tilt_stream.specs.Snap.{Snapshot}
 use Rattle.tilt_load.specs.SeriesFiles.{with_rows, input_read, inputs_read}
@@ -7,7 +7,7 @@ use Rattle.tilt_series.specs.Series.{Bounds}
 use Rattle.tilt_words.specs.Binding.{Binding}
 use Rattle.tilt_load.specs.Inputs.{file_of}
 
--- the rows in front of others, where there was no refusal
+-- the rows before others, where there was no refusal
 pub record AreBoth (first : Result (List Snapshot) Reason) (others : Result (List (List Snapshot)) Reason) (all : List (List Snapshot)) : Type 0 where
   pub one : List Snapshot
   pub more : List (List Snapshot)

@@ -59,7 +59,7 @@ abbrev pub input_read : (List ℕ → List ℕ) → Bounds → List ℕ → List
 input_read files bounds file name =
     if nat_lt FILE (length (files file)) then Err (file_too_long file) else named name (series_of bounds (files file))
 
--- the rows in front of others, unless there was a refusal
+-- the rows before others, unless there was a refusal
 abbrev pub with_rows : Result (List Snapshot) Reason → Result (List (List Snapshot)) Reason → Result (List (List Snapshot)) Reason
 with_rows (Err why) others = Err why
 with_rows (Ok rows) (Err why) = Err why

@@ -156,7 +156,7 @@ module _ (leaf : Instr → Option ℤ) (buffer : ℕ → ℕ) where
   length-values : (number : ℕ) (t : FusedTree) → length (values number t) ≡ registers t
   length-values number t = length-append (front number t) (tree_cell number t ∷ []) ∙ length-front number t
 
-  -- the result of a tree stands in its last register, whatever registers come behind
+  -- the result of a tree stands in its last register, whatever registers come after
   result-last : (cells : List (Option ℤ)) (register number : ℕ) (t : FusedTree) → register ≡ length cells → get_or (cells ++ values number t) (result_at register t) None ≡ tree_cell number t
   result-last cells register number t is =
       let at : result_at register t ≡ length (cells ++ front number t) = omega (arith, length-append cells (front number t), length-front number t) in
@@ -177,7 +177,7 @@ module _ (leaf : Instr → Option ℤ) (buffer : ℕ → ℕ) where
       ap (λ (xs : List (Option ℤ)). get_or xs (result_at register t) None) (append_assoc (cells ++ values number t) more most)
       ∙ result-before cells (more ++ most) register number t is
 
-  -- the registers are made one behind the other
+  -- the registers are made one after the other
   runs : (t : FusedTree) (cells : List (Option ℤ)) (register number : ℕ) → register ≡ length cells → with_registers leaf cells (block_of buffer register number t) ≡ cells ++ values number t
   runs (tree.Const value) cells register number is = refl
   runs (tree.Port source offset) cells register number is = refl

@@ -91,7 +91,7 @@ RefersBack-append buffers maps register (i ∷ one) two g h =
 abbrev pub IsGood : (Instr → Bool) → Instr → Type 0
 IsGood stands i = IsTrue (stands i) × (ConstantFits i → IsInstr i)
 
--- a block behind another
+-- a block after another
 module _ (count made : ℕ) where
   back-two : (register : ℕ) (first next : Block) (second : ℕ) → second ≡ register + length first → RefersBack count made register first
       → RefersBack count made second next → RefersBack count made register (first ++ next)

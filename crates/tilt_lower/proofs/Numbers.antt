@@ -51,7 +51,7 @@ pub before-more : (place : ℕ) (loops : List PlannedLoop) (l : PlannedLoop) →
 before-more place [] l h is = (omega arith, tt)
 before-more place (m ∷ loops) l h is = (let low = h.0 in omega arith, before-more place loops l h.1 is)
 
--- loops of definitions from a place on stand behind it
+-- loops of definitions from a place on stand after it
 abbrev pub AreBehind : ℕ → List PlannedLoop → Type 0
 AreBehind place [] = ⊤
 AreBehind place (l ∷ loops) = (place ≤ l.def) × AreBehind place loops

@@ -114,7 +114,7 @@ module _ (query : CoreParts) (margins : MarginsParts) (lo hi : ℤ) (used : List
     abbrev At : ℕ → Type 0
     At = State query margins lo hi used known margins_are fuse loops plan bs many
 
-    -- before the emitted definition, and behind it
+    -- before the emitted definition, and after it
     pub before : At place
     before = state query margins lo hi used known margins_are fuse loops plan bs many place (omega (arith, one_emitted))
 

@@ -7,7 +7,7 @@ ghost use Rattle.tilt_stream.specs.Snap.{InOrder};
 use tilt_stream::{Rows, Snap, SnapList};
 use tilt_turn::Buffers;
 
-// The rows of the inputs, and behind them the lists that loops made so far. All of them are kept.
+// The rows of the inputs, and after them the lists that loops made so far. All of them are kept.
 #[derive(Drop)]
 pub(crate) struct MadeSoFar<'a> {
     pub(crate) inputs: &'a [Rows],

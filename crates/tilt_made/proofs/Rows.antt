@@ -21,7 +21,7 @@ row_is state position first second third one two three =
     let end : position + first + second + 1 ≡ row_end state position = rw (← one, ← two) (omega arith) in
     rw (end, one, three) refl
 
--- what is left of a count has one more than what is left behind the next
+-- what is left of a count has one more than what is left after the next
 left_is : (count i : ℕ) → i < count → count - i ≡ suc (count - (i + 1))
 left_is count i within = omega (arith, within)
 
@@ -34,7 +34,7 @@ series_more rows new all row count i state position state' position' within is s
     rw (pushed, is, state_is, position_is)
     (append_assoc rows (made_row state position ∷ []) (series (count - (i + 1)) (after_row state) (row_end state position)) ∙ left)
 
--- the state behind the rows that are left stays that behind all
+-- the state after the rows that are left stays that after all
 pub state_more : (count i state state' last : ℕ) → i < count → state' ≡ after_row state →
     after_rows (count - i) state ≡ last → after_rows (count - (i + 1)) state' ≡ last
 state_more count i state state' last within is before =

@@ -19,11 +19,11 @@ cells_push : (list : List Snapshot) (s : Snapshot) → map (λ (x : Snapshot). x
 cells_push [] s = refl
 cells_push (x ∷ list) s = ap (λ (rest : List (Option ℤ)). x.value ∷ rest) (cells_push list s)
 
--- one with a value behind the others
+-- one with a value after the others
 pub values_some : (list : List Snapshot) (s : Snapshot) (value : ℤ) → s.value ≡ Some value → values (list ++ s ∷ []) ≡ values list ++ value ∷ []
 values_some list s value is = rw (cells_push list s, is) (push_some (map (λ (x : Snapshot). x.value) list) value)
 
--- a null one behind the others
+-- a null one after the others
 pub values_none : (list : List Snapshot) (s : Snapshot) → s.value ≡ None → values (list ++ s ∷ []) ≡ values list
 values_none list s is = rw (cells_push list s, is) (push_none (map (λ (x : Snapshot). x.value) list))
 

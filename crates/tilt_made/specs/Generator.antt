@@ -10,11 +10,11 @@ next state = (1103515245 * state + 12345) % 2147483648
 abbrev pub drawn : ℕ → ℕ → ℕ
 drawn below state = state / 65536 % below
 
--- the state behind a row, which takes three draws
+-- the state after a row, which takes three draws
 abbrev pub after_row : ℕ → ℕ
 after_row state = next (next (next state))
 
--- how far behind the position the row starts that is made in a state: the first draw
+-- how far after the position the row starts that is made in a state: the first draw
 abbrev pub gap : ℕ → ℕ
 gap state = drawn 3 (next state)
 
@@ -34,12 +34,12 @@ made_row state position = record {
   value = Some (pos (drawn 2001 (after_row state)) -ℤ pos 1000);
 }
 
--- so many rows, one behind another, the first in that state at that position
+-- so many rows, one after another, the first in that state at that position
 abbrev pub series : ℕ → ℕ → ℕ → List Snapshot
 series zero state position = []
 series (suc more) state position = made_row state position ∷ series more (after_row state) (row_end state position)
 
--- the state behind so many rows
+-- the state after so many rows
 abbrev pub after_rows : ℕ → ℕ → ℕ
 after_rows zero state = state
 after_rows (suc more) state = after_rows more (after_row state)
@@ -48,6 +48,6 @@ after_rows (suc more) state = after_rows more (after_row state)
 abbrev pub first_rows : ℕ → ℕ → List Snapshot
 first_rows seed count = series count seed 0
 
--- the rows of `b`: as many in the state behind those of `a`, from position 0 again
+-- the rows of `b`: as many in the state after those of `a`, from position 0 again
 abbrev pub second_rows : ℕ → ℕ → List Snapshot
 second_rows seed count = series count (after_rows count seed) 0

@@ -57,7 +57,7 @@ at-more names xs name x y h =
       is = source_of-front xs y (place_of names name) h.within ∙ h.is;
     }
 
--- the definitions of steps behind so many, and what is emitted
+-- the definitions of steps after so many, and what is emitted
 abbrev pub tail : List ℕ → Span → ℕ → List StepTree → List StatementTree
 tail first domain n steps = step_definitions first n steps ++ Emit (reading (source_name first (n + length steps))) domain None ∷ []
 

@@ -73,7 +73,7 @@ numbers-cons : (cell : Option ℤ) (xs ys : List (Option ℤ)) → numbers xs �
 numbers-cons None xs ys same = same
 numbers-cons (Some n) xs ys same = ap (λ (ns : List ℤ). n ∷ ns) same
 
--- a first snapshot and those behind it
+-- a first snapshot and those after it
 module _ (from limit : ℤ) (s : Snapshot) (list : List Snapshot) (h : InOrder from limit (s ∷ list)) (hi : ℤ) where
   abbrev x : Stream
   x = stream_of (s ∷ list)
@@ -81,7 +81,7 @@ module _ (from limit : ℤ) (s : Snapshot) (list : List Snapshot) (h : InOrder f
   begun : InOrder s.start limit (s ∷ list)
   begun = (omega (arith, ints), h.1, h.2, h.3)
 
-  -- behind it the stream is that of the others
+  -- after it the stream is that of the others
   passed : (lo : ℤ) → s.end ≤ℤ lo → Agree x (stream_of list) lo hi
   passed lo after = record {
     cells = λ tick above below.
@@ -103,7 +103,7 @@ module _ (from limit : ℤ) (s : Snapshot) (list : List Snapshot) (h : InOrder f
       let back : lo +ℤ pos 1 -ℤ pos 1 ≡ lo = omega (arith, ints) in
       ap (λ (t : ℤ). met x t hi) (sym back) ∙ met-marked x (lo +ℤ pos 1) hi (omega (arith, ints))
 
-  -- behind a tick of it, the marks are those of the others
+  -- after a tick of it, the marks are those of the others
   rest-from : (p : ℤ) → s.start <ℤ p → p ≤ℤ s.end → p ≤ℤ hi
       → ((lo : ℤ) → lo ≡ s.end → lo <ℤ hi → numbers (met (stream_of list) lo hi) ≡ values lo hi list)
       → numbers (map x.cell (marked x p hi)) ≡ values s.end hi list

@@ -53,7 +53,7 @@ IsNegatable (Shift by) = neg_ℤ (pos 9223372036854775807) ≤ℤ by
 IsNegatable (Window reducer width) = pos 0 ≤ℤ width
 IsNegatable (Join name e) = ⊤
 
--- a definition for each step, behind so many
+-- a definition for each step, after so many
 abbrev pub step_definitions : List ℕ → ℕ → List StepTree → List StatementTree
 step_definitions first n [] = []
 step_definitions first n (s ∷ steps) =

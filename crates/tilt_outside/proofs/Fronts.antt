@@ -2,7 +2,7 @@
 use Rattle.std.proofs.Common.{ℕ, List, ◌++◌, take, drop, refl, sym, take-append-drop}
 use Rattle.tilt_outside.specs.Written.{AppendsFront}
 
--- the first bytes of a piece are a front of it
+-- the first bytes of a piece are a prefix of it
 pub AppendsFront-take : (old piece : List ℕ) (n : ℕ) → AppendsFront old (old ++ take n piece) piece
 AppendsFront-take old piece n = record {
   front = take n piece;

@@ -66,7 +66,7 @@ HoldsInstead-set files file name i named at =
     (find-set (has_name name) files i file (sym (place_is files name i file at)) there.0 ((bytes_eq-Decides file.name name).1 named))
     (λ other differs. find_past (has_name other) files i file file (has_other_name (get_or files i file) name other was differs) (has_other_name file name other named differs))
 
--- a file behind those of other names
+-- a file after those of other names
 pub HoldsInstead-push : (files : List HeldFile) (file : HeldFile) (name : List ℕ) → file.name ≡ name → position (has_name name) files ≡ None
     → HoldsInstead files (files ++ file ∷ []) name file.bytes file.room
 HoldsInstead-push files file name named at =

@@ -1,11 +1,11 @@
--- Puts, one behind another.
+-- Puts, one after another.
 use Rattle.std.proofs.Common.{IsErr, ◌≡◌, ℕ, ◌+◌, ◌≤◌, List, [], ◌++◌, length, Result, Ok, Err, sym, inl, inr, ◌∙◌, append_assoc, length-append, arith, add_assoc, zero-add}
 use Rattle.std.proofs.lemmas.List.{append-nil}
 use Rattle.tilt_outside.specs.Faults.{Rose}
 use Rattle.tilt_outside.specs.Written.{AppendsFront, Puts}
 use Rattle.tilt_outside.specs.declared.failed.Failed.{Failed}
 
--- a front of one piece is one of both
+-- a prefix of one piece is one of both
 pub front_first : (old new piece more : List ℕ) → AppendsFront old new piece → AppendsFront old new (piece ++ more)
 front_first old new piece more cut = record {
   front = cut.front;
@@ -14,7 +14,7 @@ front_first old new piece more cut = record {
   appended = cut.appended;
 }
 
--- a front of a piece behind one that was put whole
+-- a prefix of a piece after one that was put whole
 pub front_behind : (old mid new done piece : List ℕ) → mid ≡ old ++ done → AppendsFront mid new piece → AppendsFront old new (done ++ piece)
 front_behind old mid new done piece whole cut = record {
   front = done ++ cut.front;
@@ -38,7 +38,7 @@ module _ {K : Type 0} (tells : Type 0) (written : K → List ℕ) (faults : K �
     room = λ n h. rw (zero-add n) at h;
   }
 
-  -- a piece behind bytes that were put whole
+  -- a piece after bytes that were put whole
   pub puts-then : (old mid new : K) (done piece : List ℕ) (result : Result (Unit {0}) Failed) → Puts tells written faults takes old mid done (Ok tt)
       → Puts tells written faults takes mid new piece result → Puts tells written faults takes old new (done ++ piece) result
   puts-then old mid new done piece (Ok u) first then = record {
@@ -54,7 +54,7 @@ module _ {K : Type 0} (tells : Type 0) (written : K → List ℕ) (faults : K �
     room = λ n h. then.room n (first.room (length piece + n) (rw (length-append done piece, add_assoc (length done) (length piece) n) at h));
   }
 
-  -- more bytes behind a piece whose put failed
+  -- more bytes after a piece whose put failed
   pub puts-short : ((sink : K) (m n : ℕ) → m ≤ n → takes sink n → takes sink m)
       → (old new : K) (piece more : List ℕ) (e : Failed) (told : Result (Unit {0}) Failed) → IsErr told → Puts tells written faults takes old new piece (Err e)
       → Puts tells written faults takes old new (piece ++ more) told

@@ -3,14 +3,14 @@ use Rattle.std.specs.Prelude.{◌≡◌, ◌+◌, ℕ, List, ◌++◌, length, R
 use Rattle.tilt_outside.specs.Faults.{HasCause}
 use Rattle.tilt_outside.specs.declared.failed.Failed.{Failed}
 
--- a front of the piece was appended
+-- a prefix of the piece was appended
 pub record AppendsFront (old new piece : List ℕ) : Type 0 where
   pub front : List ℕ
   pub rest : List ℕ
   pub parts : piece ≡ front ++ rest
   pub appended : new ≡ old ++ front
 
--- bytes were put: all of them, or a front of them where a put failed; what was taken beyond them still is. The first four are a
+-- bytes were put: all of them, or a prefix of them where a put failed; what was taken beyond them still is. The first four are a
 -- sink's meanings
 pub record Puts {K : Type 0} (tells : Type 0) (written : K → List ℕ) (faults : K → ℕ) (takes : K → ℕ → Type 0)
     (old new : K) (bytes : List ℕ) (result : Result (Unit {0}) Failed) : Type 0 where

@@ -11,7 +11,7 @@ use std::io::{self, ErrorKind, Read, Seek, SeekFrom};
 use std::marker::Model;
 use std::rt::Files;
 
-/// A shelf whose names are the paths of files. Nothing is proved of the bytes that they hold. A read from the front
+/// A shelf whose names are the paths of files. Nothing is proved of the bytes that they hold. A read from the beginning
 /// opens the file anew. It then stays open, so that reading on from the place reached opens and seeks nothing, and a
 /// pipe can be read too. No file is opened before the last one was let go of, so one descriptor serves.
 #[derive(Drop)]

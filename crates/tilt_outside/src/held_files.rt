@@ -36,7 +36,7 @@ pub(crate) fn find_room(files: &[HeldFile], name: &str) -> usize
     }
 }
 
-/// Puts the file in the place of the one of its name, or behind all.
+/// Puts the file in the place of the one of its name, or after all.
 pub(crate) fn put_file(
     files: &mut Vec<HeldFile>,
     name: &str,
@@ -81,7 +81,7 @@ pub(crate) fn count_from(bytes: &[u8], at: u64, room: usize) -> usize
     room.min(bytes.len() - start)
 }
 
-/// Puts so many bytes from a place on into the front of the room.
+/// Puts so many bytes from a place on into the beginning of the room.
 pub(crate) fn copy_from(bytes: &[u8], at: u64, count: usize, room: &mut [u8])
     requires in_room { count ≤ length room.old }
     requires there { count ≤ length bytes.now - at }

@@ -29,7 +29,7 @@ pub(crate) fn save_whole<R: Files>(
     }
 }
 
-// Writes behind what is there.
+// Writes after what is there.
 fn write_in_place<R: Files>(files: &R, path: &str, bytes: &[u8]) -> io::Result<()> {
     let mut file = OpenOptions::new().append(true).open(files, path)?;
     file.write_all(bytes)?;

@@ -30,7 +30,7 @@ pub trait Shelf {
     /// Which names may be read. No call changes it.
     ghost lends: { List ℕ → Type 0 };
 
-    /// Puts the bytes of the name from place `at` on into the front of the room, and answers how many: 0 only at
+    /// Puts the bytes of the name from place `at` on into the beginning of the room, and answers how many: 0 only at
     /// the end. It changes no name.
     fn read_at(&mut self, name: &str, at: u64, room: &mut [u8]) -> Result<usize, Failed>
         requires space { 0 < length room.old }

@@ -22,7 +22,7 @@ pub trait Sink {
     /// Whether the sink takes that many bytes more.
     ghost takes: { Self → ℕ → Type 0 };
 
-    /// Appends the piece. After `Failed` a front of the piece was appended, which may be all of it or nothing. A fault of
+    /// Appends the piece. After `Failed` a prefix of the piece was appended, which may be all of it or nothing. A fault of
     /// the device may show only at a later put, or at the flush.
     fn put(&mut self, piece: &[u8]) -> Result<(), Failed>
         requires { takes self.old (length piece.now) }

@@ -20,7 +20,7 @@ pub trait Reduction {
     fn empty() -> Self::State
         ensures { Holds result [] };
 
-    /// Adds one number behind the others, of which there are fewer than 2^63 - 1.
+    /// Adds one number after the others, of which there are fewer than 2^63 - 1.
     fn add(state: &mut Self::State, number: i64)
         requires few { (ns : List ℤ) × Holds state.old ns × (length ns < 9223372036854775807) }
         ensures { (ns : List ℤ) → length ns < 9223372036854775807 → Holds state.old ns → Holds state.new (ns ++ number ∷ []) };

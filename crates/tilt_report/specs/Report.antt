@@ -66,7 +66,7 @@ pub data Report : Type 0 where
   save_fault : List ℕ → Report
   out_of_memory : Report
 
--- a text that is printed; a text that is printed, and bytes that are saved under a name behind it; or a refusal
+-- a text that is printed; a text that is printed, and bytes that are saved under a name after it; or a refusal
 pub data Outcome : Type 0 where
   printed : List ℕ → Outcome
   printed_and_saved : (text name bytes : List ℕ) → Outcome
@@ -178,7 +178,7 @@ status_of write_fault = 4
 status_of (save_fault name) = 6
 status_of out_of_memory = 5
 
--- the number of a series fault, as it stands in front of the input's name
+-- the number of a series fault, as it stands before the input's name
 abbrev pub series_number : SeriesFault → List ℕ
 series_number series.BadHeader = codes "10"
 series_number (series.BadFields row) = codes "11"
@@ -189,7 +189,7 @@ series_number (series.OutOfOrder row) = codes "15"
 series_number (series.RowBeforeCut row) = codes "16"
 series_number (series.RowPastCut row) = codes "17"
 
--- what a series fault tells behind the input's name
+-- what a series fault tells after the input's name
 abbrev pub series_words : SeriesFault → List ℕ
 series_words series.BadHeader = codes ": bad header"
 series_words (series.BadFields row) = codes ": bad fields in row " ++ decimal row
@@ -211,7 +211,7 @@ statement_front statement.TypeMismatch = codes "28 statement "
 statement_front statement.BadWindow = codes "29 statement "
 statement_front statement.BadDomain = codes "30 statement "
 
--- what stands behind the number of the statement
+-- what stands after the number of the statement
 abbrev pub statement_words : StatementFault → List ℕ
 statement_words statement.TooLong = codes ": too long"
 statement_words statement.NoReading = codes ": syntax"

@@ -128,7 +128,7 @@ pub enum StatementFault {
     UnknownName,
     /// Its expression has no fitting type.
     TypeMismatch,
-    /// A window in its expression doesn't end behind its start.
+    /// A window in its expression doesn't end after its start.
     BadWindow,
     /// Its span or its period is none that may stand there.
     BadDomain,
@@ -180,7 +180,7 @@ fn put_series<E: Sink>(err: &mut E, name: &[u8], fault: &SeriesFault) -> Result<
     put_fault(err, fault)
 }
 
-// The number that stands in front of the name.
+// The number that stands before the name.
 fn number_of(fault: &SeriesFault) -> &'static str
     ensures { result.now ≡ series_number fault.now }
 {
@@ -196,7 +196,7 @@ fn number_of(fault: &SeriesFault) -> &'static str
     }
 }
 
-// Puts what stands behind the name.
+// Puts what stands after the name.
 fn put_fault<E: Sink>(err: &mut E, fault: &SeriesFault) -> Result<(), Failed>
     requires { (n : ℕ) → E.takes err.old n }
     ensures { Puts E.tells E.written E.faults E.takes err.old err.new
@@ -244,7 +244,7 @@ fn put_reach<E: Sink>(err: &mut E, back: i128, ahead: i128) -> Result<(), Failed
     put_signed(err, b" ahead ", ahead)
 }
 
-// What stands in front of the number of the statement.
+// What stands before the number of the statement.
 fn front_of(fault: StatementFault) -> &'static str
     ensures { result.now ≡ statement_front fault }
 {
@@ -260,7 +260,7 @@ fn front_of(fault: StatementFault) -> &'static str
     }
 }
 
-// What stands behind the number of the statement.
+// What stands after the number of the statement.
 fn words_of(fault: StatementFault) -> &'static str
     ensures { result.now ≡ statement_words fault }
 {

@@ -73,7 +73,7 @@ step_between st.AfterCr c = by (c == 10)
     by true = λ e. cc
     by false = start_record_between c
 
--- what is behind a record is no longer than what was left, and stands between two records
+-- what is after a record is no longer than what was left, and stands between two records
 pub record IsBehind (bytes : List ℕ) (p : Read) : Type 0 where
   pub short : length p.2 ≤ length bytes
   pub between : ends_at_end p.1 ≡ false
@@ -94,7 +94,7 @@ one_byte q fields rest more p between goes e = by (is_end q.1) between e
         rw (← is) (omega arith, between refl)
     by false between e = ((goes e).short, (goes e).between)
 
--- what is behind the next record
+-- what is after the next record
 pub next_behind : (s : State) (fields : List (List ℕ)) (field bytes : List ℕ) (p : Read) → next_record default_config s fields field bytes ≡ Some p → IsBehind bytes p
 unfolding next_record
 next_behind s fields field [] p e = at_the_end (ends_at_end s) (fields ++ (field ∷ [])) p e

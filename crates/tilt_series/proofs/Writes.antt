@@ -1,4 +1,4 @@
--- Puts, one behind another.
+-- Puts, one after another.
 use Rattle.std.proofs.Common.{arith, ◌≡◌, ℕ, ◌≤◌, ◌<◌, ◌+◌, Bool, true, false, if◌then◌else◌, List, [], ◌∷◌, ◌++◌}
 use Rattle.std.proofs.Common.{length, get_or, take, drop, is_some, refl, ap, sym, ◌∙◌, append_assoc, length-append}
 use Rattle.std.proofs.lemmas.List.{take-append-drop, take_more}
@@ -10,7 +10,7 @@ by_value : (some : Bool) (line rest more : List ℕ) → (if some then line ++ (
 by_value true line rest more = sym (append_assoc line rest more)
 by_value false line rest more = refl
 
--- the lines of two lists, one behind the other
+-- the lines of two lists, one after the other
 pub lines_of-append : (xs ys : List Snapshot) → lines_of (xs ++ ys) ≡ lines_of xs ++ lines_of ys
 lines_of-append [] ys = refl
 lines_of-append (x ∷ xs) ys =

@@ -93,7 +93,7 @@ rows_of bounds row (fields ∷ more) = do
   others ← rows_of (record bounds { last_end = Some first.end }) (row + 1) more
   Ok (first ∷ others)
 
--- the rows behind the header; they are counted from 1
+-- the rows after the header; they are counted from 1
 abbrev pub rows_behind_header : Bounds → List (List (List ℕ)) → Result (List Snapshot) SeriesFault
 rows_behind_header bounds [] = Err BadHeader
 rows_behind_header bounds (fields ∷ more) = if is_header (three_of fields) then rows_of bounds 1 more else Err BadHeader

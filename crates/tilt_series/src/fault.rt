@@ -5,11 +5,11 @@ ghost use Rattle.tilt_series.specs.declared.fault.ReadRowsFault.TheVariants.{Ref
 use std::alloc::AllocError;
 use thiserror::Error;
 
-/// Why a series file is refused. Rows are the records behind the header, counted from 1, and fields are counted from 1.
+/// Why a series file is refused. Rows are the records after the header, counted from 1, and fields are counted from 1.
 /// The first row with a fault is told, and of that row the first fault in the order of this list.
 #[derive(Clone, Copy, Debug, PartialEq, Eq, Error)]
 pub enum SeriesFault {
-    /// The first record isn't `start`, `end` and `value`, there is no record, or two byte order marks stand in front.
+    /// The first record isn't `start`, `end` and `value`, there is no record, or two byte order marks stand at the beginning.
     #[error("the header isn't start,end,value")]
     BadHeader,
     /// The record hasn't three fields.

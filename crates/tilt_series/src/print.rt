@@ -51,7 +51,7 @@ fn put_row<O: Sink>(sink: &mut O, row: &Row) -> Result<(), Failed>
     sink.put(&room[start..])
 }
 
-/// Writes `s,e,v` and LF into the front of the room, with nothing for a null value, and answers how long that is. Takes no
+/// Writes `s,e,v` and LF into the beginning of the room, with nothing for a null value, and answers how long that is. Takes no
 /// memory.
 pub fn row_text(row: &Row, room: &mut [u8; 64]) -> usize
     ensures text { take result room.new ≡ row_text row.now }

@@ -8,7 +8,7 @@ ghost use Rattle.tilt_series.specs.Records.{IsBetween, TakesFirst, records_left}
 use csv::{ByteRecord, Error, ErrorKind, Reader, ReaderBuilder};
 use std::alloc::{AllocError as OutOfMemory, Global};
 
-/// A reader of the records of the bytes, behind one byte order mark. A record may have any number of fields.
+/// A reader of the records of the bytes, after one byte order mark. A record may have any number of fields.
 pub(crate) fn open(alloc: Global, bytes: &[u8]) -> Reader<&[u8]>
     ensures between { IsBetween result }
     ensures left { records_left result ≡ records default_config (strip_bom bytes.now) }

@@ -15,7 +15,7 @@ const TWO_MARKS: &[u8] = b"\xEF\xBB\xBF\xEF\xBB\xBF";
 
 /// The rows of a series file, or its first fault (`Refused`). The first record is the header `start,end,value`, and each other is a
 /// row. Records are those of the crate `csv`, which takes more than RFC 4180: fields parted by commas, fields in quotes,
-/// records ended by LF, CR or CRLF, empty lines skipped. One byte order mark in front is passed over.
+/// records ended by LF, CR or CRLF, empty lines skipped. One byte order mark at the beginning is passed over.
 ///
 /// Where `last_end` is given, the first row doesn't start below it; where `from` is given, no row starts below it; and
 /// where `upto` is given, each row starts below it. `OutOfMemory` comes for want of memory alone.

@@ -1,4 +1,4 @@
--- Cuts that don't fall, and what is printed behind the last one.
+-- Cuts that don't fall, and what is printed after the last one.
 use Rattle.std.proofs.Common.{◌≡◌, ◌<◌, ◌+◌, ℕ, zero, suc, ℤ, pos, negsuc, rules, neg_ℤ, ◌≤ℤ◌, List, [], ◌∷◌, length, drop, slice_index_or, Some, Result, Ok, Err, arith, ap, ◌∙◌, sym, FitsSigned}
 use Rattle.std.specs.Prelude.{IfOk}
 use Rattle.std.specs.Int.{w64}
@@ -27,7 +27,7 @@ cut-in_bounds : (cut : ℤ) → neg_ℤ (pos 4000000000000000000) ≤ℤ cut →
 cut-in_bounds (pos n) low high = search rules
 cut-in_bounds (negsuc n) low high = search rules
 
--- a cut behind one that lies in the range of times fits 64 bits
+-- a cut after one that lies in the range of times fits 64 bits
 pub cut-fits : (old new : ℤ) → neg_ℤ T ≤ℤ old → old ≤ℤ new → new ≤ℤ T → FitsSigned w64 new
 cut-fits old new low up high =
     let above : neg_ℤ T ≤ℤ new = omega (arith, ints) in

@@ -33,7 +33,7 @@ cut_first : (t : Tok) (ts : List Tok) → goes_on t ≡ true → statements (t �
 cut_first (tok.Mark mark.Semicolon) ts h = absurd (false≢true h)
 cut_first t ts h = refl
 
--- tokens are cut behind their first `;`
+-- tokens are cut after their first `;`
 cut : (ts rest : List Tok) → NoneEnds ts
     → statements (ts ++ (tok.Mark mark.Semicolon ∷ rest)) ≡ (ts ++ (tok.Mark mark.Semicolon ∷ [])) ∷ statements rest
 cut [] rest h = refl

@@ -1,4 +1,4 @@
--- The first statement and those behind it are all.
+-- The first statement and those after it are all.
 use Rattle.std.proofs.Common.{◌≡◌, ◌<◌, ◌≤◌, ℕ, zero, suc, List, [], ◌∷◌, length, take, drop, refl, ap, arith}
 use Rattle.std.proofs.lemmas.List.{length-map, take-map, drop-map}
 use Rattle.tilt_lexer.specs.declared.mark.Mark.TheVariants as mark
@@ -18,20 +18,20 @@ length-within [] = omega arith
 length-within (Sign mark.Semicolon ∷ ts) = omega arith
 length-within (t ∷ ts) = let h = length-within ts in omega arith
 
--- one token, and those behind it
+-- one token, and those after it
 longer : (t : Tok) (ts : List Tok)
     → (0 < length ts → statements ts ≡ take (first_length ts) ts ∷ statements (drop (first_length ts) ts))
     → with_first t (statements ts) ≡ (t ∷ take (first_length ts) ts) ∷ statements (drop (first_length ts) ts)
 longer t [] h = refl
 longer t (u ∷ us) h = ap (with_first t) (h (omega arith))
 
--- the first statement's tokens, and those behind it
+-- the first statement's tokens, and those after it
 pub cut : (ts : List Tok) → 0 < length ts → statements ts ≡ take (first_length ts) ts ∷ statements (drop (first_length ts) ts)
 cut [] some = absurd (omega arith)
 cut (Sign mark.Semicolon ∷ ts) some = refl
 cut (t ∷ ts) some = longer t ts (cut ts)
 
--- sound tokens are sound at the front and behind it
+-- sound tokens are sound at the beginning and after it
 pub sound-front : (n : ℕ) (ts : List Tok) → AreSound ts → AreSound (take n ts)
 sound-front zero ts h = tt
 sound-front (suc n) [] h = tt

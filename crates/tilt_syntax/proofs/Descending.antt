@@ -6,7 +6,7 @@ use Rattle.tilt_lexer.specs.declared.token.Tok.TheVariants.{Word, Number, Key as
 use Rattle.tilt_syntax.specs.Descent.{Plan, Found, Task, Comes, done, met, missed, found, none, answer, number_plan, name_plan, plan_of}
 use Rattle.tilt_syntax.specs.Statements.{end_plan}
 
--- a number or a name at the front is what is asked for, and nothing else is
+-- a number or a name at the beginning is what is asked for, and nothing else is
 
 pub number-comes : (ts : List Tok) (n : ℤ) (us : List Tok) (behind : ℤ → List Tok → Plan) (r : Option Found)
     → ts ≡ Number n ∷ us → Comes (behind n us) r → Comes (number_plan ts behind) r

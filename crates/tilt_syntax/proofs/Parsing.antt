@@ -68,7 +68,7 @@ let-in-place [] r x e o p is = (λ h. (let no : not r ≡ false = rw is refl in 
 let-in-place (t ∷ ts) r x e o p is =
     rw (first-statement (t ∷ ts) (omega arith)) (λ h. tt, λ h. (let no : r ≡ false = is ∙ not-zero (length ts) in rw no refl))
 
--- a good statement before good ones, behind those that were read
+-- a good statement before good ones, after those that were read
 pub good-step : (ss : List (List Tok)) (ts : List Tok) (behind : List (List Tok)) (read new : List Statement) (s : Statement)
     → new ≡ read ++ s ∷ [] → IsGood ts behind (statement_tree s)
     → ((others : List StatementTree) → AreGood (ts ∷ behind) others → AreGood ss (map statement_tree read ++ others))

@@ -164,7 +164,7 @@ grid_shortest no_grid = omega arith
 grid_shortest on_multiples = omega arith
 grid_shortest (with_offset {p = p} {o = o}) = omega (arith, from_most o)
 
--- an expression, and what stands behind it in a statement
+-- an expression, and what stands after it in a statement
 parts_shortest : (es ds ps ts us vs : List Tok) → length es ≤ length ts → length ds ≤ length us → length ps ≤ length vs
     → length (es ++ (ds ++ (ps ++ (Sign mark.Semicolon ∷ [])))) ≤ length (ts ++ (us ++ (vs ++ (Sign mark.Semicolon ∷ []))))
 parts_shortest es ds ps ts us vs he hd hp =

@@ -25,13 +25,13 @@ abbrev pub left_number : Level → ℕ
 left_number Comparison = 6
 left_number level = level_number level
 
--- the front of the tokens is the expression, and the rest was left
+-- the prefix of the tokens is the expression, and the rest was left
 pub record IsFront (n : ℕ) (ts : List Tok) (f : Found) : Type 0 where
   pub front : List Tok
   pub split : ts ≡ front ++ f.rest
   pub is : IsExpr n front f.tree
 
--- behind the left operand the front of the tokens goes on to the expression, and the rest was left
+-- after the left operand the prefix of the tokens goes on to the expression, and the rest was left
 pub record GoesOn (level : Level) (left : ExprTree) (ts : List Tok) (f : Found) : Type 0 where
   pub front : List Tok
   pub split : ts ≡ front ++ f.rest
@@ -162,7 +162,7 @@ left-alone : (level : Level) (ts : List Tok) (e : ExprTree) → IsExpr (left_num
 left-alone Comparison ts e h = tighter h
 left-alone level ts e h = h
 
--- behind an operator and its right operand the front goes on as behind the two
+-- after an operator and its right operand the prefix goes on as after the two
 goes-further : (level : Level) (left : ExprTree) (ts us : List Tok) (t : Tok) (op : Op2) (b f : Found)
     → left_number level ≡ level_number level
     → ts ≡ t ∷ us → operator_of t ≡ Some (level, op) → IsFront (level_number (next level)) us b
@@ -213,7 +213,7 @@ minus-keeps ts = (
   λ f h. loosened Minus ts f refl h,
 )
 
--- what stands behind a name
+-- what stands after a name
 reading-keeps : (x : List ℕ) (ts : List Tok) → Keeps (reading_plan x ts) (IsFront 9 (Word x ∷ ts))
 reading-keeps x ts = (
   (λ us open_at. offset-keeps _ us _ (λ d front vs at offset. (
@@ -227,7 +227,7 @@ reading-keeps x ts = (
   record { front = Word x ∷ []; split = refl; is = name },
 )
 
--- what stands behind a reducer
+-- what stands after a reducer
 window-keeps : (r : Reducer) (ts : List Tok) → Keeps (window_plan r ts) (IsFront 9 (Reserved (reducer_key r) ∷ ts))
 window-keeps r ts = (
   (λ us paren_at. name-keeps _ us _ (λ x vs name_at. (
@@ -251,7 +251,7 @@ window-keeps r ts = (
   tt,
 )
 
--- an expression in parentheses, behind what stands before it
+-- an expression in parentheses, after what stands before it
 enclosed-keeps : (P : Found → Type 0) (ts : List Tok) (behind : ExprTree → List Tok → Plan)
     → ((e : ExprTree) (front rest : List Tok) → ts ≡ (Sign mark.OpenParen ∷ (front ++ (Sign mark.CloseParen ∷ []))) ++ rest
     → IsExpr 0 front e

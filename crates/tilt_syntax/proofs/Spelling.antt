@@ -72,7 +72,7 @@ stops_digits : (rest : List ℕ) → IsTrue (closes rest) → Stops is_ascii_dig
 stops_digits [] h = tt
 stops_digits (b ∷ rest) h = (or_parts (begins_word b) (is_ascii_digit b) (stops_word (b ∷ rest) h)).1
 
--- what stands at the front begins the bytes
+-- what stands at the beginning begins the bytes
 front_begins : (k : Tok) (text rest : List ℕ) (n : ℕ) → length text ≡ n → IsFront k n (text ++ rest) → Begins k (text ++ rest) text rest
 front_begins k text rest n e front =
     let text_is : take n (text ++ rest) ≡ text = take_at text rest n e in

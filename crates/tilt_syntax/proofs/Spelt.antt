@@ -24,7 +24,7 @@ record Tail (rest : List ℕ) (ks : List Tok) : Type 0 where
   closed : IsTrue (closes rest)
   spelt : Spells rest ks
 
--- the text spells the tokens where any token ends behind it
+-- the text spells the tokens where any token ends after it
 record Spelt (text : List ℕ) (ts : List Tok) : Type 0 where
   go_on : {rest : List ℕ} {ks : List Tok} → Tail rest ks → Spells (text ++ rest) (ts ++ ks)
 

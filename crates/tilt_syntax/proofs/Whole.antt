@@ -16,7 +16,7 @@ abbrev tree_of : ExprTree → Option Found → ExprTree
 tree_of e None = e
 tree_of e (Some f) = f.tree
 
--- the tokens behind it
+-- the tokens after it
 abbrev rest_of : List Tok → Option Found → List Tok
 rest_of ts None = ts
 rest_of ts (Some f) = f.rest

@@ -16,25 +16,25 @@ use Rattle.tilt_syntax.specs.Tree.{Num, Truth, Read, Reduce, ExprTree}
 use Rattle.tilt_syntax.specs.declared.level.Level.{Level}
 use Rattle.tilt_syntax.specs.declared.level.Level.TheVariants.{Choice, When, Negation, Comparison, Minus, Atom}
 
--- an expression that was read, and the tokens behind it
+-- an expression that was read, and the tokens after it
 pub record Found : Type 0 where
   pub tree : ExprTree
   pub rest : List Tok
 
--- what is to be read: an expression of a level at the front, or what goes on behind a left operand
+-- what is to be read: an expression of a level at the beginning, or what goes on after a left operand
 pub data Task : Type 0 where
   Reading : (level : Level) (ts : List Tok) → Task
   GoingOn : (level : Level) (left : ExprTree) (ts : List Tok) → Task
 
--- the next step, and what comes behind it
+-- the next step, and what comes after it
 pub data Plan : Type 0 where
   -- the end, with what was found
   Done : (found : Option Found) → Plan
-  -- a test for a token at the front, and the plan behind it, or without it
+  -- a test for a token at the beginning, and the plan after it, or without it
   Test : (t : Tok) (ts : List Tok) (behind : List Tok → Plan) (other : Plan) → Plan
-  -- a test for an operator of the level at the front
+  -- a test for an operator of the level at the beginning
   Between : (level : Level) (ts : List Tok) (behind : Op2 → List Tok → Plan) (other : Plan) → Plan
-  -- a task, and the plan behind what it finds; where it finds nothing, nothing is found
+  -- a task, and the plan after what it finds; where it finds nothing, nothing is found
   Ask : (task : Task) (behind : Found → Plan) → Plan
 
 -- this was found
@@ -70,13 +70,13 @@ offset_plan ts behind = expect (Reserved key.Time) ts (λ us.
     Test (Sign mark.Minus) us (λ vs. number_plan vs (λ n. behind (neg_ℤ n))) (
     behind (pos 0) us)))
 
--- what stands behind a name
+-- what stands after a name
 abbrev pub reading_plan : List ℕ → List Tok → Plan
 reading_plan x ts = Test (Sign mark.OpenBracket) ts
     (λ us. offset_plan us (λ d vs. expect (Sign mark.CloseBracket) vs (give (Leaf (Read x d)))))
     (give (Leaf (Read x (pos 0))) ts)
 
--- what stands behind a reducer
+-- what stands after a reducer
 abbrev pub window_plan : Reducer → List Tok → Plan
 window_plan r ts = expect (Sign mark.OpenParen) ts (λ us. name_plan us (λ x vs. expect (Sign mark.OpenBracket) vs (λ ws.
     offset_plan ws (λ l xs. expect (Sign mark.Colon) xs (λ ys. offset_plan ys (λ h zs.
@@ -93,7 +93,7 @@ pair_plan ts behind = expect (Sign mark.OpenParen) ts (λ us. Ask (Reading Choic
     expect (Sign mark.Comma) a.rest (λ vs. Ask (Reading Choice vs) (λ b.
     expect (Sign mark.CloseParen) b.rest (behind a.tree b.tree)))))
 
--- what stands behind a reserved word with which an atom begins
+-- what stands after a reserved word with which an atom begins
 abbrev pub word_plan : Key → List Tok → Plan
 word_plan key.TrueWord ts = give (Leaf (Truth true)) ts
 word_plan key.FalseWord ts = give (Leaf (Truth false)) ts
@@ -135,7 +135,7 @@ abbrev pub behind_operand : Level → ExprTree → List Tok → Plan
 behind_operand Comparison e ts = give e ts
 behind_operand level e ts = answer (GoingOn level e ts)
 
--- what stands behind a left operand
+-- what stands after a left operand
 abbrev pub going_plan : Level → ExprTree → List Tok → Plan
 going_plan level left ts = Between level ts
     (λ op us. Ask (Reading (tighter level) us) (λ b. behind_operand level (Two op left b.tree) b.rest))

@@ -19,12 +19,12 @@ kinds tokens = map (λ token. token.kind) tokens
 abbrev pub AreSound : List Tok → Type 0
 AreSound ts = AllByRecursion IsSound ts
 
--- one more token at the front of the first statement
+-- one more token at the beginning of the first statement
 abbrev pub with_first : Tok → List (List Tok) → List (List Tok)
 with_first t [] = (t ∷ []) ∷ []
 with_first t (s ∷ ss) = (t ∷ s) ∷ ss
 
--- tokens are cut behind each `;`, and what stands behind the last `;` is a statement too
+-- tokens are cut after each `;`, and what stands after the last `;` is a statement too
 abbrev pub statements : List Tok → List (List Tok)
 statements [] = []
 statements (tok.Mark Semicolon ∷ ts) = (tok.Mark Semicolon ∷ []) ∷ statements ts
@@ -43,7 +43,7 @@ IsInPlace (next ∷ rest) (Emit e over every) = ⊥
 IsInPlace (next ∷ rest) (Input x) = ⊤
 IsInPlace (next ∷ rest) (Let x e over every) = ⊤
 
--- the statement, behind which these stand, is this one, and may stand there
+-- the statement, after which these stand, is this one, and may stand there
 pub record IsGood (ts : List Tok) (behind : List (List Tok)) (s : StatementTree) : Type 0 where
   pub short : IsShort ts
   pub parsed : IsStatement ts s
@@ -62,7 +62,7 @@ pub record IsQueryOf (ts : List Tok) (query : List StatementTree) : Type 0 where
   pub few : length (statements ts) ≤ 256
   pub good : AreGood (statements ts) query
 
--- the statement with that number, behind which these stand, has the fault; of several the first one counts, in this order
+-- the statement with that number, after which these stand, has the fault; of several the first one counts, in this order
 pub data HasFault : ℕ → List Tok → List (List Tok) → SyntaxFault → Type 0 where
   too_long : {n : ℕ} {ts : List Tok} {behind : List (List Tok)} → 256 < length ts → HasFault n ts behind (fault.StatementTooLong n)
   no_statement : {n : ℕ} {ts : List Tok} {behind : List (List Tok)} → IsShort ts → ((s : StatementTree) → ¬ (IsStatement ts s))

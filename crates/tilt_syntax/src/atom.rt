@@ -14,7 +14,7 @@ use std::alloc::AllocError as OutOfMemory;
 use tilt_base::Reducer;
 use tilt_lexer::{Key, Mark, Name, Token};
 
-// The offset at the front, and what stands behind it.
+// The offset at the beginning, and what stands after it.
 fn offset(tokens: &[Token]) -> Option<(i64, &[Token])>
     requires { AreSound (kinds tokens.now) }
     ensures { FindsPart (offset_plan (kinds tokens.now)) (kinds tokens.now) result }
@@ -30,7 +30,7 @@ fn offset(tokens: &[Token]) -> Option<(i64, &[Token])>
     Some((0, rest))
 }
 
-// What is read by a name, with its offset where one stands behind it.
+// What is read by a name, with its offset where one stands after it.
 pub(crate) fn reading<'a>(
     name: &Name,
     tokens: &'a [Token],
@@ -72,7 +72,7 @@ pub fn reducer_of(key: Key) -> Option<Reducer>
     }
 }
 
-// The window in parentheses behind a reducer: its name and its two offsets, and what stands behind it.
+// The window in parentheses after a reducer: its name and its two offsets, and what stands after it.
 fn window(tokens: &[Token]) -> Option<(&Name, i64, i64, &[Token])>
     requires { AreSound (kinds tokens.now) }
     ensures { MatchOption result
@@ -91,7 +91,7 @@ fn window(tokens: &[Token]) -> Option<(&Name, i64, i64, &[Token])>
     Some((name, from, to, rest))
 }
 
-// What the reducer is taken of, behind it.
+// What the reducer is taken of, after it.
 pub(crate) fn reduction(
     reducer: Reducer,
     tokens: &[Token],

@@ -1,4 +1,4 @@
-// What stands in a statement behind its expression.
+// What stands in a statement after its expression.
 ghost use Rattle.std.specs.Prelude.{◌≡◌, ◌↔◌, [], ◌∷◌, IsTrue};
 ghost use Rattle.tilt_lexer.specs.declared.token.Tok.{Tok};
 ghost use Rattle.tilt_syntax.specs.Query.{kinds, AreSound};
@@ -10,7 +10,7 @@ use crate::front::{behind_key, behind_mark, front_number};
 use tilt_base::Span;
 use tilt_lexer::{Key, Mark, Token};
 
-// The bound at the front, and what stands behind it.
+// The bound at the beginning, and what stands after it.
 fn bound(tokens: &[Token]) -> Option<(i64, &[Token])>
     requires { AreSound (kinds tokens.now) }
     ensures { FindsPart (bound_plan (kinds tokens.now)) (kinds tokens.now) result }
@@ -22,7 +22,7 @@ fn bound(tokens: &[Token]) -> Option<(i64, &[Token])>
     Some((-number, rest))
 }
 
-// The span behind `over`, and what stands behind it.
+// The span after `over`, and what stands after it.
 pub(crate) fn span(tokens: &[Token]) -> Option<(Span, &[Token])>
     requires { AreSound (kinds tokens.now) }
     ensures { FindsPart (span_plan (kinds tokens.now)) (kinds tokens.now) result }
@@ -35,7 +35,7 @@ pub(crate) fn span(tokens: &[Token]) -> Option<(Span, &[Token])>
     Some((Span { start, end }, rest))
 }
 
-// The span at the front, where `over` stands there, and what stands behind it.
+// The span at the beginning, where `over` stands there, and what stands after it.
 pub(crate) fn domain(tokens: &[Token]) -> Option<(Option<Span>, &[Token])>
     requires { AreSound (kinds tokens.now) }
     ensures { FindsPart (domain_plan (kinds tokens.now)) (kinds tokens.now) result }

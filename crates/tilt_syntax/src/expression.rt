@@ -1,5 +1,5 @@
-// Expressions, read from left to right without going back: each function answers what is at the front of the tokens and
-// what stands behind it, or `None` where that can't be read.
+// Expressions, read from left to right without going back: each function answers what is at the beginning of the tokens and
+// what stands after it, or `None` where that can't be read.
 ghost use Rattle.std.specs.Prelude.{◌<◌, IfOk};
 ghost use Rattle.tilt_syntax.specs.Descent.{Reading, plan_of, atom_plan, choice_plan, chain_plan, enclosed_plan};
 ghost use Rattle.tilt_syntax.specs.Descent.{give, going_plan, minus_plan, negation_plan, word_plan};
@@ -17,10 +17,10 @@ use std::alloc::{AllocError as OutOfMemory, Global};
 use tilt_base::{Op1, Op2};
 use tilt_lexer::{Key, Mark, Tok, Token};
 
-// An expression, and the tokens behind it.
+// An expression, and the tokens after it.
 type Found<'a> = Result<Option<(Expr, &'a [Token])>, OutOfMemory>;
 
-// The expression of that level at the front.
+// The expression of that level at the beginning.
 #[cycle(expressions)]
 pub(crate) fn expression(alloc: Global, level: Level, tokens: &[Token]) -> Found<'_>
     requires { AreSound (kinds tokens.now) }
@@ -146,7 +146,7 @@ fn atom(alloc: Global, tokens: &[Token]) -> Found<'_>
     }
 }
 
-// What stands behind a reserved word with which an atom begins.
+// What stands after a reserved word with which an atom begins.
 #[cycle(expressions)]
 fn word(alloc: Global, key: Key, tokens: &[Token]) -> Found<'_>
     requires { AreSound (kinds tokens.now) }
@@ -182,7 +182,7 @@ fn enclosed(alloc: Global, tokens: &[Token]) -> Found<'_>
     Ok(Some((inside, rest)))
 }
 
-// What stands behind `isnull`.
+// What stands after `isnull`.
 #[cycle(expressions)]
 fn is_null(alloc: Global, tokens: &[Token]) -> Found<'_>
     requires { AreSound (kinds tokens.now) }
@@ -201,7 +201,7 @@ fn is_null(alloc: Global, tokens: &[Token]) -> Found<'_>
     Ok(Some((tested, rest)))
 }
 
-// What stands behind `ifnull`.
+// What stands after `ifnull`.
 #[cycle(expressions)]
 fn if_null(alloc: Global, tokens: &[Token]) -> Found<'_>
     requires { AreSound (kinds tokens.now) }

@@ -1,4 +1,4 @@
-// What stands at the front of tokens.
+// What stands at the beginning of tokens.
 ghost use Rattle.std.specs.Prelude.{◌≡◌, ◌≢◌, ◌<◌, List, ◌∷◌, ℕ, ℤ, pos, ◌≤ℤ◌, length, IsTrue, ◌↔◌, MatchOption, IfSome};
 ghost use Rattle.tilt_lexer.specs.Tokens.{IsSound};
 ghost use Rattle.tilt_lexer.specs.declared.token.Tok.{Tok};
@@ -6,7 +6,7 @@ ghost use Rattle.tilt_syntax.specs.Query.{kinds, AreSound};
 
 use tilt_lexer::{Key, Mark, Name, Tok, Token};
 
-/// What stands behind the reserved word, where the tokens begin with it.
+/// What stands after the reserved word, where the tokens begin with it.
 pub fn behind_key(tokens: &[Token], key: Key) -> Option<&[Token]>
     ensures front { MatchOption result
         ((ts : List Tok) → kinds tokens.now ≢ Tok.Key key ∷ ts)
@@ -20,7 +20,7 @@ pub fn behind_key(tokens: &[Token], key: Key) -> Option<&[Token]>
     }
 }
 
-/// What stands behind the sign, where the tokens begin with it.
+/// What stands after the sign, where the tokens begin with it.
 pub fn behind_mark(tokens: &[Token], mark: Mark) -> Option<&[Token]>
     ensures front { MatchOption result
         ((ts : List Tok) → kinds tokens.now ≢ Tok.Mark mark ∷ ts)
@@ -34,7 +34,7 @@ pub fn behind_mark(tokens: &[Token], mark: Mark) -> Option<&[Token]>
     }
 }
 
-/// The number at the front, and what stands behind it.
+/// The number at the beginning, and what stands after it.
 pub fn front_number(tokens: &[Token]) -> Option<(i64, &[Token])>
     ensures front { MatchOption result
         ((n : ℤ) (ts : List Tok) → kinds tokens.now ≢ Tok.Number n ∷ ts)
@@ -51,7 +51,7 @@ pub fn front_number(tokens: &[Token]) -> Option<(i64, &[Token])>
     }
 }
 
-/// The name at the front, and what stands behind it.
+/// The name at the beginning, and what stands after it.
 pub fn front_name(tokens: &[Token]) -> Option<(&Name, &[Token])>
     ensures front { MatchOption result
         ((x : List ℕ) (ts : List Tok) → kinds tokens.now ≢ Tok.Word x ∷ ts)

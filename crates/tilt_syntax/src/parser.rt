@@ -22,7 +22,7 @@ use tilt_lexer::Token;
 // The most statements that a query may have, and the most tokens that a statement may have, its `;` counted.
 pub(crate) const MOST: usize = 256;
 
-/// The query that the tokens are. They are cut into statements behind each `;`; what stands behind the last `;` is a
+/// The query that the tokens are. They are cut into statements after each `;`; what stands after the last `;` is a
 /// statement too. Refused are, in this order: `TooManyStatements`, where there are more than 256; then the first faulty
 /// statement, with the first of these that holds in it: `StatementTooLong`, where it has more than 256 tokens; `Syntax`,
 /// where it isn't in the grammar; `EmitPlace`, where it is an `emit` and not the last, or the last and no `emit`. No tokens
@@ -99,7 +99,7 @@ fn push_statement(read: &mut Vec<Statement>, statement: Statement) -> Result<(),
     Ok(())
 }
 
-// The statement of that number, which the first tokens are, before those behind it.
+// The statement of that number, which the first tokens are, before those after it.
 fn good_statement(
     alloc: Global,
     tokens: &[Token],

@@ -36,7 +36,7 @@ pub(crate) fn read_statement(
     }
 }
 
-// What stands behind `input`.
+// What stands after `input`.
 fn read_input(tokens: &[Token]) -> Result<Option<Statement>, OutOfMemory>
     requires { AreSound (kinds tokens.now) }
     ensures { IfOk result (λ found. MatchOption found
@@ -54,7 +54,7 @@ fn read_input(tokens: &[Token]) -> Result<Option<Statement>, OutOfMemory>
     Ok(Some(Statement::Input { name }))
 }
 
-// What stands behind `let`.
+// What stands after `let`.
 fn read_let(alloc: Global, tokens: &[Token]) -> Result<Option<Statement>, OutOfMemory>
     requires { AreSound (kinds tokens.now) }
     ensures { IfOk result (λ found. MatchOption found
@@ -89,7 +89,7 @@ fn read_let(alloc: Global, tokens: &[Token]) -> Result<Option<Statement>, OutOfM
     }))
 }
 
-// What stands behind `emit`.
+// What stands after `emit`.
 fn read_emit(alloc: Global, tokens: &[Token]) -> Result<Option<Statement>, OutOfMemory>
     requires { AreSound (kinds tokens.now) }
     ensures { IfOk result (λ found. MatchOption found

@@ -285,7 +285,7 @@ const CHAINS: &[Chain<'_>] = &[
             ),
         ],
     ),
-    // One input far behind: nothing is decided.
+    // One input that ends long before the other: nothing is decided.
     (
         SUM,
         &[

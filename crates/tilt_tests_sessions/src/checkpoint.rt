@@ -137,7 +137,7 @@ const TWO_TAKEN: &[&str] = &[
     // The second input is the one ahead, and the same cut for both.
     "cut 5\nopen 4\ncut 5 last 6 rows 1\n0,6,1\ncut 7 last 12 rows 1\n6,12,20\nend\n",
     "cut 5\nopen 4\ncut 5 last 6 rows 1\n0,6,1\ncut 5 last none rows 0\nend\n",
-    // One input far behind: nothing is decided, and all rows of the other are kept that end at the first tick or later.
+    // One input that ends long before the other: nothing is decided, and all rows of the other are kept that end at the first tick or later.
     "cut -9\nopen none\ncut -9 last none rows 0\ncut 20 last 20 rows 2\n0,1,3\n1,20,4\nend\n",
     // Cuts at both ends of time.
     "cut -4000000000000000000\nopen none\ncut -4000000000000000000 last none rows 0\n\
@@ -148,7 +148,7 @@ const TWO_TAKEN: &[&str] = &[
 
 // What stands after it, and is refused.
 const TWO_REFUSED: &[&str] = &[
-    // The cut in front isn't the least: too high, too low, the greatest.
+    // The first cut isn't the least: too high, too low, the greatest.
     "cut 6\nopen 4\ncut 8 last none rows 0\ncut 5 last none rows 0\nend\n",
     "cut 4\nopen 3\ncut 8 last none rows 0\ncut 5 last none rows 0\nend\n",
     "cut 8\nopen 4\ncut 8 last none rows 0\ncut 5 last none rows 0\nend\n",

@@ -31,7 +31,7 @@ core_of-IsCore query is h words =
       domain = ends.1;
     }
 
--- the names of the sources, cut behind the inputs, and the definitions are the core's parts
+-- the names of the sources, cut after the inputs, and the definitions are the core's parts
 pub cut-IsCore : (query : List StatementTree) (all inputs names : List (List ℕ)) (defs : List Definition) (count : ℕ) → IsQuery query → first_fault 1 [] query ≡ None
     → AllByRecursion IsWord all → all ≡ source_names query → count ≡ length (input_names query) → inputs ≡ take count all → names ≡ drop count all → defs ≡ definitions all query
     → IsCore (record { inputs = inputs; names = names; defs = defs })

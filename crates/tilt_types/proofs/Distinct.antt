@@ -17,7 +17,7 @@ use Rattle.tilt_types.specs.declared.declared.Declared.{Declared}
 use Rattle.tilt_types.specs.declared.value_type.ValueType.{ValueType}
 use Rattle.tilt_types.specs.declared.value_type.ValueType.TheVariants as value
 
--- a name is declared behind one more declaration where it was before, or is that one's
+-- a name is declared after one more declaration where it was before, or is that one's
 pub is_declared-push : (declared : List Declared) (d : Declared) (name : List ℕ) → is_declared (declared ++ d ∷ []) name ≡ (is_declared declared name || bytes_eq d.name name)
 is_declared-push [] d name =
     elim (bytes_eq d.name name) as (λ same. is_some (if same then Some d.value_type else None) ≡ same) [ true ↦ refl | false ↦ refl ]

@@ -46,7 +46,7 @@ place_of-front xs ys = by xs (recursion_from_All (Contains xs) xs (All-contains_
     by [] h = tt
     by (z ∷ zs) h = (place_of-at xs ys z h.0.0 h.0.1 h.0.2, by zs h.1)
 
--- a name behind others has at most the place that it stands at
+-- a name after others has at most the place that it stands at
 place_of-behind : (front back : List (List ℕ)) (x : List ℕ) → place_of (front ++ x ∷ back) x ≤ length front
 place_of-behind [] back x = rw (same_bytes x) (omega arith)
 place_of-behind (y ∷ front) back x =
@@ -121,7 +121,7 @@ module _ (names : List (List ℕ)) (declared : List Declared) (bound : ℕ) (bel
     grid = tested-IsGrid (grid_of every) (domain-grid over every domain);
   }
 
--- the definitions of statements, behind which these names have been met, each over what stands before it; `low` is the number of the inputs
+-- the definitions of statements, after which these names have been met, each over what stands before it; `low` is the number of the inputs
 module _ (names : List (List ℕ)) (low : ℕ) where
   definitions-are : (query : List StatementTree) (n : ℕ) (declared : List Declared) (bound : ℕ) (front : List (List ℕ))
       → first_fault n declared query ≡ None → AllByRecursion IsOfText query → names ≡ front ++ let_names query

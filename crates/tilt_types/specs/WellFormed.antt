@@ -1,4 +1,4 @@
--- Which queries are well formed, and the first fault of the others (our own rule): a statement is looked at behind those before it.
+-- Which queries are well formed, and the first fault of the others (our own rule): a statement is looked at after those before it.
 use Rattle.std.specs.Prelude.{◌≡◌, ℕ, ◌+◌, pos, neg_ℤ, Bool, true, false, not, ◌&&◌, int_lt, int_le, if◌then◌else◌}
 use Rattle.std.specs.Prelude.{List, [], ◌∷◌, ◌++◌, Option, Some, None, is_some}
 use Rattle.std.specs.Option.{option_or}
@@ -29,7 +29,7 @@ knows_names declared (One op a) = knows_names declared a
 knows_names declared (Two op a b) = knows_names declared a && knows_names declared b
 knows_names declared (If c a b) = knows_names declared c && knows_names declared a && knows_names declared b
 
--- whether each window in an expression ends behind its start
+-- whether each window in an expression ends after its start
 abbrev pub has_windows : ExprTree → Bool
 has_windows (Leaf (Num n)) = true
 has_windows (Leaf (Truth b)) = true
@@ -73,7 +73,7 @@ abbrev pub is_fitting : Bool → Option ValueType → Bool
 is_fitting emitted None = false
 is_fitting emitted (Some a) = if emitted then same_type a value.Int else true
 
--- the first fault of the expression of the statement with that number, behind these declarations
+-- the first fault of the expression of the statement with that number, after these declarations
 abbrev pub expr_fault : ℕ → List Declared → Bool → ExprTree → Option CheckFault
 expr_fault n declared emitted e =
     if not (knows_names declared e) then Some (fault.UnknownName n)
@@ -101,7 +101,7 @@ abbrev pub declared_as : List ℕ → Option ValueType → List Declared
 declared_as name None = []
 declared_as name (Some a) = record { name = name; value_type = a } ∷ []
 
--- what a statement behind these declarations declares; an input gives numbers
+-- what a statement after these declarations declares; an input gives numbers
 abbrev pub declared_by : List Declared → StatementTree → List Declared
 declared_by declared (Input name) = declared_as name (Some value.Int)
 declared_by declared (Let name e over every) = declared_as name (type_of declared e)

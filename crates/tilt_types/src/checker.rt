@@ -21,7 +21,7 @@ use tilt_syntax::{Every, Expr, Query, Statement};
 /// The core of the query, where it is well formed; else the fault of its first faulty statement, counted from 1, and of
 /// several in one the first of these. `NameTaken`: it declares a name that was declared before. `UnknownName`: a name in
 /// its expression isn't declared before it. `TypeMismatch`: its expression has no type, or it is emitted and gives truth
-/// values. `BadWindow`: a window in its expression doesn't end behind its start. `BadDomain`: its period is none that a
+/// values. `BadWindow`: a window in its expression doesn't end after its start. `BadDomain`: its period is none that a
 /// grid may have, its offset isn't below its period, its span bounds no stretch of time from `-T` to `T`, or a bound is no
 /// grid point.
 pub fn check(alloc: Global, query: &Query) -> Result<Core, CheckFault>
@@ -174,7 +174,7 @@ fn is_fitting(emitted: bool, value_type: Option<ValueType>) -> bool
     }
 }
 
-// Whether each window in the expression ends behind its start.
+// Whether each window in the expression ends after its start.
 fn has_windows(expr: &Expr) -> bool
     ensures { result ≡ has_windows (expr_tree expr.now) }
 {

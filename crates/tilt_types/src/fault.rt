@@ -16,7 +16,7 @@ pub enum CheckFault {
     /// The statement's expression has no type, or is emitted and has the type of truth values.
     #[error("statement {statement} has an expression of no fitting type")]
     TypeMismatch { statement: u32 },
-    /// A window in the statement's expression doesn't end behind its start.
+    /// A window in the statement's expression doesn't end after its start.
     #[error("statement {statement} has an empty window")]
     BadWindow { statement: u32 },
     /// The statement's span bounds no stretch within the range of times, its period is none that a grid may have, its offset

@@ -29,7 +29,7 @@ fn put_pair<O: Sink>(out: &mut O, pair: (i64, i64)) -> Result<(), Failed>
     out.put(&room[..length])
 }
 
-// Writes `figures A B` and LF into the front of the room, and answers how long that is.
+// Writes `figures A B` and LF into the beginning of the room, and answers how long that is.
 fn figures_text(pair: (i64, i64), room: &mut [u8; 64]) -> usize
     ensures text { take result room.new ≡ figures_line pair }
     ensures len { result ≡ length (figures_line pair) }

@@ -9,7 +9,7 @@ use std::collections::VecDeque;
 use tilt_base::Cell;
 use tilt_reduce::Merge;
 
-// The state of the number of this cell and those of all cells behind it.
+// The state of the number of this cell and those of all cells after it.
 fn state_from<R: Merge>(cell: Cell, behind: &VecDeque<R::State>) -> R::State
     requires { (cells : List (Option ℤ)) × (length cells < 4611686018427387904) × AreStatesFromEach R.Holds behind.now.items cells }
     ensures { (cells : List (Option ℤ)) → length cells < 4611686018427387904 →

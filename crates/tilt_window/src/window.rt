@@ -16,7 +16,7 @@ pub trait Window {
     /// The cells in the window, in order.
     ghost cells: { Self → List (Option ℤ) };
 
-    /// Adds the cell of one more snapshot behind the others, of which there are fewer than 2^62. After want of memory the
+    /// Adds the cell of one more snapshot after the others, of which there are fewer than 2^62. After want of memory the
     /// window is as before.
     fn push_back(&mut self, cell: Cell) -> Result<(), OutOfMemory>
         requires few { length (cells self.old) < 4611686018427387904 }

@@ -43,7 +43,7 @@ called name file rest settings None is_file are answer = λ usage command is.
     λ i. record { name = names i; file = files i; settings = same i } in
     answer command (is.call_is ∙ ap Some calls)
 
--- `try` has one word behind the second
+-- `try` has one word after the second
 pub try_texts : (first second : List ℕ) (rest : List (List ℕ)) (seed count : ℕ) → (is : IsTry (first ∷ second ∷ rest) seed count) →
     (is.seed_word ≡ second) × (is.count_word ∷ [] ≡ rest)
 try_texts first second rest seed count is =

@@ -11,7 +11,7 @@ pub record ArgumentsBefore (words : List (List ℕ)) (at : ℕ) (settings : Sett
   pub go_on : (new : Settings) → AreArguments settings (drop at words) new → AreArguments no_settings words new
   pub back : (new : Settings) → AreArguments no_settings words new → AreArguments settings (drop at words) new
 
--- the texts of the words behind a place
+-- the texts of the words after a place
 pub texts_behind : (words : List (String Global)) (at : ℕ) → texts (take (length words - at) (drop at words)) ≡ drop at (texts words)
 texts_behind words at = ap texts (take_rest words at) ∙ sym (drop-map (λ w. string_bytes w) at words)
 

@@ -249,7 +249,7 @@ no_begins (argument.parts_at fresh are) e = cc
 no_begins (argument.order fresh are) e = cc
 no_begins (argument.edits fresh some) e = cc
 
--- what no words give, and what words give behind their first argument
+-- what no words give, and what words give after their first argument
 pub behind_none : {old new : Settings} {words : List (List ℕ)} → AreArguments old words new → words ≡ [] → new ≡ old
 behind_none argument.none e = refl
 behind_none (argument.more b r) e = absurd (no_begins b e)

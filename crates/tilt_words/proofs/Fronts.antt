@@ -1,4 +1,4 @@
--- The words of the command line at the front of others, and the argument with which they begin.
+-- The words of the command line at the beginning of others, and the argument with which they begin.
 use Rattle.std.proofs.Common.{◌≡◌, ◌≢◌, ℕ, ◌-◌, ◌<◌, ◌≤◌, List, [], ◌∷◌, length, get_or, take, drop, codes, String, string_bytes, refl, sym, ap, ◌∙◌, subst, arith}
 use Rattle.std.specs.declared.alloc.Global.{Global}
 use Rattle.std.proofs.lemmas.List.{take_rest}

@@ -102,7 +102,7 @@ module _ {A : Type 0} (Is : ℤ → List ℕ → A → Type 0) (least_after : A 
       (subst (λ l. AreListed Is least_after l (after_comma word) (next ∷ xs)) (ap least_after heads) a.1) b.1 in
       λ i. heads i ∷ tails i
 
-  -- one element before the comma, and the others behind it
+  -- one element before the comma, and the others after it
   pub joined : (least : ℤ) (word : List ℕ) (x : A) (more : List A) → Is least (before_comma word) x →
       AreListed Is least_after (least_after x) (after_comma word) more → AreListed Is least_after least word (x ∷ more)
   joined least word x [] is are = absurd are

@@ -1,4 +1,4 @@
--- The words behind a command's file: binds and options, in any order (our own rule).
+-- The words after a command's file: binds and options, in any order (our own rule).
 use Rattle.std.specs.Prelude.{◌≡◌, ◌≢◌, ℕ, ℤ, pos, neg_ℤ, Bool, true, false, List, [], ◌∷◌, ◌++◌, Option, None, Some, codes}
 use Rattle.tilt_base.specs.declared.limits.TheConstants.{T}
 use Rattle.tilt_words.specs.Binding.{Binding, IsBinding, binding_spelled}

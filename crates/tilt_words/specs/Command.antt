@@ -1,4 +1,4 @@
--- The words of a command line, as they stand behind the program's name, and the command that they are (our own rule).
+-- The words of a command line, as they stand after the program's name, and the command that they are (our own rule).
 use Rattle.std.specs.Prelude.{◌≡◌, ◌≢◌, ℕ, ◌≤◌, ℤ, pos, neg_ℤ, Bool, false, true}
 use Rattle.std.specs.Prelude.{List, [], ◌∷◌, ◌++◌, Option, None, Some, codes, map, String, string_bytes, ⊤}
 use Rattle.std.specs.declared.alloc.Global.{Global}
@@ -85,7 +85,7 @@ call_of (fix query binds plain edits) =
     })
 call_of (try seed count) = None
 
--- a file that may stand behind a command's first word: not empty, and it doesn't begin with `--`
+-- a file that may stand after a command's first word: not empty, and it doesn't begin with `--`
 pub record IsFile (file : List ℕ) : Type 0 where
   pub named : file ≢ []
   pub no_option : (rest : List ℕ) → file ≢ codes "--" ++ rest

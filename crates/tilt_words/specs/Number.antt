@@ -13,7 +13,7 @@ pub record IsNumber (least greatest : ℤ) (word : List ℕ) (number : ℤ) : Ty
 abbrev pub before_comma : List ℕ → List ℕ
 before_comma word = before_first (λ b. b == 44) word
 
--- the part behind it, which is empty where there is no comma
+-- the part after it, which is empty where there is no comma
 abbrev pub after_comma : List ℕ → List ℕ
 after_comma word = after_first (λ b. b == 44) word
 

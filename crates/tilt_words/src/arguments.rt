@@ -1,4 +1,4 @@
-// The words behind a command's file.
+// The words after a command's file.
 ghost use Rattle.std.specs.Prelude.{◌≡◌, ◌≢◌, ◌<◌, ◌≤◌, ◌++◌, ◌∷◌, ℕ, ℤ};
 ghost use Rattle.std.specs.Prelude.{List, [], true, false, None, Some, pos, neg_ℤ, length, drop, string_bytes, MatchResult};
 ghost use Rattle.tilt_base.specs.declared.limits.TheConstants.{T};
@@ -15,7 +15,7 @@ use crate::number::{read_numbers, read_rising};
 use crate::upto::Upto;
 use std::alloc::Global;
 
-// What words behind a command's file give it.
+// What words after a command's file give it.
 #[derive(Drop)]
 pub(crate) struct Arguments {
     pub(crate) binds: Vec<Bind>,
@@ -258,7 +258,7 @@ impl Arguments {
     }
 }
 
-// The word behind an option, its value.
+// The word after an option, its value.
 fn value(rest: &[String]) -> Result<&str, WordsFault>
     ensures { MatchResult result
         (λ value. (0 < length rest.now) × (texts rest.now ≡ value.now ∷ drop 1 (texts rest.now)))

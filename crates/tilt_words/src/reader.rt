@@ -13,7 +13,7 @@ const SEED: u32 = 2_147_483_647;
 
 const COUNT: u32 = 1_000_000;
 
-/// The command that the words are, as they stand behind the program's name. The first word names the command, and for
+/// The command that the words are, as they stand after the program's name. The first word names the command, and for
 /// each but `try` the second is a file: not empty, and it doesn't begin with `--`. Behind it come binds `NAME=FILE` and
 /// the options that the command takes, in any order, each option at most once. `Usage` comes where the words are no
 /// command.
@@ -42,7 +42,7 @@ pub fn read_words(alloc: Global, words: &[String]) -> Result<Command, WordsFault
     }
 }
 
-// `try`, whose first word stands before these: a seed, and behind it a count alone.
+// `try`, whose first word stands before these: a seed, and after it a count alone.
 fn read_try(seed: &str, rest: &[String]) -> Option<Command>
     ensures { let words = codes "try" ∷ seed.now ∷ texts rest.now in MatchOption result
         ((seed count : ℕ) → ¬ (IsTry words seed count))
@@ -70,7 +70,7 @@ fn read_call(alloc: Global, name: &str, file: &str, rest: &[String]) -> Result<C
     Command::named(name, file, arguments).ok_or(WordsFault::Usage)
 }
 
-// Whether the word may be the file behind a command's first word.
+// Whether the word may be the file after a command's first word.
 fn is_file(word: &str) -> bool
     ensures { IsTrue result ↔ IsFile word.now }
 {
