@@ -1,5 +1,7 @@
 // Numbers spelled in decimal digits.
-ghost use Rattle.std.specs.Prelude.{◌≡◌, ◌≢◌, ◌^◌, ◌<◌, ◌≤◌, ℤ, length, FitsSigned, IfSome, MatchOption, option_and_then};
+ghost use Rattle.std.specs.Prelude.{◌≡◌, ◌≢◌, ◌^◌, ◌<◌, ◌≤◌, ◌∷◌, ℕ, ℤ, true, false, length, FitsSigned, IfSome, MatchOption};
+ghost use Rattle.std.specs.Prelude.{option_and_then};
+ghost use Rattle.std.specs.Char.{digit_value, is_ascii_digit};
 ghost use Rattle.std.specs.Int.{w64};
 ghost use Rattle.std.specs.Fmt.{signed_decimal};
 ghost use Rattle.tilt_base.specs.Number.{natural_spelled, number_spelled, within_u64};
@@ -11,7 +13,6 @@ const SHORT: usize = 18;
 
 /// The number that the bytes spell: an optional `+` or `-` and then one or more digits. Leading zeros are allowed.
 /// `None` where the bytes are spelled otherwise, or the number lies outside 64 bits.
-#[inline]
 pub fn read_number(bytes: &[u8]) -> Option<i64>
     ensures { result ≡ number_spelled bytes.now }
 {
@@ -22,39 +23,72 @@ pub fn read_number(bytes: &[u8]) -> Option<i64>
     }
 }
 
-// The number that at most 18 bytes spell, which lies within 64 bits.
+// The number that at most 18 bytes spell, which lies within 64 bits. Most have no sign, so the first byte is looked at as a digit.
 #[inline]
 fn read_short(bytes: &[u8]) -> Option<i64>
     requires { length bytes.now ≤ 18 }
     ensures { result ≡ number_spelled bytes.now }
 {
-    match bytes {
-        [b'-', digits @ ..] => Some(-(read_digits(digits)? as i64)),
-        [b'+', digits @ ..] => Some(read_digits(digits)? as i64),
-        digits => Some(read_digits(digits)? as i64),
+    let [first, rest @ ..] = bytes else {
+        return None;
+    };
+    match digit_of(*first) {
+        Some(digit) => Some(read_rest(digit, rest)? as i64),
+        None => read_signed(*first, rest),
     }
 }
 
-// The number that at most 18 digits spell, of which there is at least one.
+// The number that a byte which is no digit and at most 17 bytes after it spell.
+#[inline]
+fn read_signed(sign: u8, digits: &[u8]) -> Option<i64>
+    requires sign { is_ascii_digit sign ≡ false }
+    requires few { length digits.now ≤ 17 }
+    ensures { result ≡ number_spelled (sign ∷ digits.now) }
+{
+    match sign {
+        b'-' => Some(-(read_digits(digits)? as i64)),
+        b'+' => Some(read_digits(digits)? as i64),
+        _ => None,
+    }
+}
+
+// The number that at most 17 digits spell, of which there is at least one.
 #[inline]
 fn read_digits(digits: &[u8]) -> Option<u64>
-    requires { length digits.now ≤ 18 }
+    requires { length digits.now ≤ 17 }
     ensures value { result ≡ natural_spelled digits.now }
     ensures small { IfSome result (λ number. number < 10 ^ 18) }
 {
-    if digits.is_empty() {
+    let [first, rest @ ..] = digits else {
         return None;
-    }
-    let mut number = 0u64;
+    };
+    read_rest(digit_of(*first)?, rest)
+}
+
+// The number that a digit, whose value is known, and at most 17 digits after it spell.
+#[inline]
+fn read_rest(first: u64, digits: &[u8]) -> Option<u64>
+    requires first { first < 10 }
+    requires few { length digits.now ≤ 17 }
+    ensures value { (digit : ℕ) → is_ascii_digit digit ≡ true → digit_value digit ≡ first → result ≡ natural_spelled (digit ∷ digits.now) }
+    ensures small { IfSome result (λ number. number < 10 ^ 18) }
+{
+    let mut number = first;
     for digit in digits {
-        // A byte below `0` wraps to a number above 9 too.
-        let value = u64::from(*digit).wrapping_sub(u64::from(b'0'));
-        if value > 9 {
-            return None;
-        }
-        number = number * 10 + value;
+        number = number * 10 + digit_of(*digit)?;
     }
     Some(number)
+}
+
+// The value of a digit, or none where the byte is none.
+#[inline]
+fn digit_of(byte: u8) -> Option<u64>
+    ensures digit { MatchOption result (is_ascii_digit byte ≡ false) (λ value. (is_ascii_digit byte ≡ true) × (value ≡ digit_value byte)) }
+    ensures small { IfSome result (λ value. value < 10) }
+{
+    // A byte below `0` wraps to a number above 9 too.
+    let value = u64::from(byte).wrapping_sub(u64::from(b'0'));
+    if value > 9 { None } else { Some(value) }
 }
 
 // The number that more bytes spell.

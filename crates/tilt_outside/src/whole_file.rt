@@ -10,8 +10,8 @@ use crate::shelf::Shelf;
 use std::alloc::{AllocError, Global};
 use thiserror::Error;
 
-/// How many bytes one read asks for at most.
-const PIECE: usize = 65536;
+/// How many bytes one read asks for at most. They are copied once more, so that they should stay in the nearest cache.
+const PIECE: usize = 16384;
 
 /// Why a file wasn't read whole.
 #[derive(Debug, Drop, PartialEq, Eq, Error)]

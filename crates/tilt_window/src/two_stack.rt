@@ -50,6 +50,8 @@ impl<R: Merge> Window for TwoStack<R> {
 
     ghost cells = { λ window. window };
 
+    // Inlined, since a window does it for each cell that comes in.
+    #[inline(always)]
     fn push_back(&mut self, cell: Cell) -> Result<(), OutOfMemory> {
         self.cells.push_back(cell)?;
         add_cell::<R>(&mut self.newer, cell);

@@ -56,6 +56,8 @@ impl<R: Undo> Window for Undoing<R> {
 
     ghost cells = { λ window. window };
 
+    // Inlined, since a window does it for each cell that comes in.
+    #[inline(always)]
     fn push_back(&mut self, cell: Cell) -> Result<(), OutOfMemory> {
         self.cells.push_back(cell)?;
         add_cell::<R>(&mut self.state, cell);
