@@ -25,7 +25,7 @@ use Rattle.tilt_turn.proofs.Origins.{origin-holds}
 use Rattle.tilt_turn.proofs.Placing.{SeenBy}
 use Rattle.tilt_stream.proofs.SameMarks.{SameNext, either-same, next_mark-same, port-same, window-same}
 use Rattle.tilt_turn.proofs.Stepwise.{all-weaker}
-use Rattle.tilt_turn.specs.Held.{Holds, IsFit, IsLeafAt, IsPlacedBy, Knows, MayGo, MayMove, origin, places_of}
+use Rattle.tilt_turn.specs.Held.{Holds, IsFit, IsLeafAt, IsPlacedBy, Knows, MayMove, origin, places_of}
 use Rattle.tilt_stream.specs.Marked.{marked, marked_behind}
 use Rattle.tilt_turn.specs.Ready.{IsReadable, IsReady}
 use Rattle.tilt_turn.specs.Same.{IsSameFor}
@@ -68,7 +68,7 @@ met-same x y lo hi cells marks =
 -- and a window that holds what one tells holds what the other tells
 holds-same : (a b : List Snapshot) (last first : ℤ) (f : Option ℤ → Option ℤ) (w : Moving)
     → ((at : ℤ) → at ≤ℤ last → cell_at a at ≡ cell_at b at) → ((at : ℤ) → at ≤ℤ last → mark_at a at ≡ mark_at b at)
-    → w.back.tick ≤ℤ last → Holds (stream_of a) f first w → Holds (stream_of b) f first w
+    → w.back.tick ≤ℤ last → Holds a f first w → Holds b f first w
 holds-same a b last first f w cells marks within held =
     let near : (at : ℤ) → at ≤ℤ w.back.tick → mark_at a at ≡ mark_at b at = λ at below. marks at (omega (arith, ints)) in
     record {
@@ -88,23 +88,24 @@ knows-same a b last w s within knows = record {
 
 -- a leaf that may be read over the one may be read over the other
 leaf-there : (a b : List (List Snapshot)) (maps : List Block) (at point : ℤ) (own : Leaf) → at ≤ℤ point
-    → IsSameFor a b point (origin own) → IsLeafAt MayGo a [] maps at own → IsLeafAt MayGo b [] maps at own
+    → IsSameFor a b point (origin own) → IsLeafAt a maps at own → IsLeafAt b maps at own
 leaf-there a b maps at point (leaf.Port p) onwards s is = (
   is.0,
   cursor-same (get_or a p.buffer []) (get_or b p.buffer []) (point +ℤ p.offset) (at +ℤ p.offset) p.cursor s.ended (omega (arith, ints)) is.1,
 )
 leaf-there a b maps at point (leaf.Window w) onwards s is =
-    let stands = is.1.cursor.onwards in (
-      is.0,
-      record {
-        cursor = cursor-same (get_or a w.buffer []) (get_or b w.buffer []) (point +ℤ w.to) (at +ℤ w.to) w.window.back s.ended
-            (omega (arith, ints)) is.1.cursor;
-        held = holds-same (get_or a w.buffer []) (get_or b w.buffer []) (point +ℤ w.to) (at +ℤ w.from +ℤ pos 1) (mapped maps w.map)
-            w.window s.cells s.marks (omega (arith, ints)) is.1.held;
-        known = λ some. knows-same (get_or a w.buffer []) (get_or b w.buffer []) (point +ℤ w.to) w.window s (omega (arith, ints))
-            (is.1.known some);
-      },
-    )
+    let stands = is.cursor.onwards in
+    let list = get_or a w.buffer [] in
+    let other = get_or b w.buffer [] in
+    let last = point +ℤ w.to in
+    record {
+      readable = is.readable;
+      cursor = cursor-same list other last (at +ℤ w.to) w.window.back s.ended (omega (arith, ints)) is.cursor;
+      begins = record {
+        held = holds-same list other last (at +ℤ w.from +ℤ pos 1) (mapped maps w.map) w.window s.cells s.marks (omega (arith, ints)) is.begins.held;
+        known = λ some. knows-same list other last w.window s (omega (arith, ints)) (is.begins.known some);
+      };
+    }
 
 -- the cell of a leaf at the grid point
 leaf_cell-same : (a b : List (List Snapshot)) (maps : List Block) (point : ℤ) (i : Instr) → IsSameFor a b point i
@@ -151,13 +152,13 @@ seen-same a b maps point buffers known i seen readable s sees = record {
 
 -- and at an earlier grid point
 seen-there : (a b : List (List Snapshot)) (maps : List Block) (at before point : ℤ) (own : Leaf) (seen : Seen) → before ≤ℤ point
-    → IsSameFor a b point (origin own) → IsLeafAt MayGo a [] maps at own
+    → IsSameFor a b point (origin own) → IsLeafAt a maps at own
     → Sees (leaf_of (map stream_of a) maps (origin own)) before seen → Sees (leaf_of (map stream_of b) maps (origin own)) before seen
 seen-there a b maps at before point (leaf.Port p) seen onwards s is sees =
     seen-same a b maps before (suc p.buffer) (length maps) (Port p.buffer p.offset) seen (omega arith, is.0)
     (same-earlier (get_or a p.buffer []) (get_or b p.buffer []) (point +ℤ p.offset) (before +ℤ p.offset) (omega (arith, ints)) s) sees
 seen-there a b maps at before point (leaf.Window w) seen onwards s is sees =
-    seen-same a b maps before (suc w.buffer) (length maps) (origin (leaf.Window w)) seen (omega arith, is.0)
+    seen-same a b maps before (suc w.buffer) (length maps) (origin (leaf.Window w)) seen (omega arith, is.readable)
     (same-earlier (get_or a w.buffer []) (get_or b w.buffer []) (point +ℤ w.to) (before +ℤ w.to) (omega (arith, ints)) s) sees
 
 -- so a leaf of a body is as well placed over the other

@@ -5,6 +5,7 @@ use Rattle.std.proofs.lemmas.List.{map-append, append-nil}
 use Rattle.std.proofs.lemmas.Option.{same_Some}
 use Rattle.tilt_stream.specs.Agreement.{ChangesOnlyAtMarks}
 use Rattle.tilt_stream.specs.Marks.{IsNextMark}
+use Rattle.tilt_stream.specs.Snap.{Snapshot}
 use Rattle.tilt_stream.specs.Stream.{Stream}
 use Rattle.tilt_stream.specs.Window.{met}
 use Rattle.tilt_stream.proofs.MarkedTicks.{marked-none, marked-next, marked-first, marked-empty, marked-append, met-marked, marked-no_ticks, cell-kept}
@@ -19,10 +20,10 @@ pub record IsMet (x : Stream) (f : Option ℤ → Option ℤ) (first last : ℤ)
   pub marks_met : marks ≡ marked x first last
 
 -- a window that holds what the ticks from some earlier one on meet
-pub record HoldsBefore (x : Stream) (f : Option ℤ → Option ℤ) (first : ℤ) (w : Moving) : Type 0 where
+pub record HoldsBefore (list : List Snapshot) (f : Option ℤ → Option ℤ) (first : ℤ) (w : Moving) : Type 0 where
   pub begin : ℤ
   pub low : begin ≤ℤ first
-  pub holds : Holds x f begin w
+  pub holds : Holds list f begin w
 
 rest-taken : (cell : Option ℤ) (cells rest left : List (Option ℤ)) (taken : Option (Option ℤ)) → cells ≡ cell ∷ rest
     → IsFirstTaken cells taken left → left ≡ rest

@@ -17,8 +17,7 @@ read-stream [] i = refl
 read-stream (list ∷ lists) zero = refl
 read-stream (list ∷ lists) (suc i) = read-stream lists i
 
--- three facts together
-pub all-ok : {X E : Type 0} (result : Result X E) (P Q R S : Type 0) → OnOk result P → OnOk result Q → OnOk result R → (P → Q → R → S)
-    → OnOk result S
-all-ok (Ok x) P Q R S p q r f = f p q r
-all-ok (Err e) P Q R S p q r f = tt
+-- two facts together
+pub both-ok : {X E : Type 0} (result : Result X E) (P Q R : Type 0) → OnOk result P → OnOk result Q → (P → Q → R) → OnOk result R
+both-ok (Ok x) P Q R p q f = f p q
+both-ok (Err e) P Q R p q f = tt

@@ -1,5 +1,5 @@
 -- Leaves of a body over other registers, and at later grid points.
-use Rattle.std.proofs.Common.{◌≡◌, ◌∙◌, ◌<◌, ℕ, ℤ, pos, ◌≤ℤ◌, List, [], map, length, get_or, Option, None, sym, ap, neg_ℤ, arith}
+use Rattle.std.proofs.Common.{◌≡◌, ◌∙◌, ◌<◌, ℕ, ℤ, pos, ◌≤ℤ◌, List, map, length, get_or, Option, None, sym, ap, neg_ℤ, arith}
 use Rattle.std.proofs.Math.ListN.{set}
 use Rattle.std.proofs.lemmas.Int.{ints}
 use Rattle.std.specs.List.{AllByRecursion}
@@ -14,10 +14,11 @@ use Rattle.tilt_stream.specs.declared.seen.Seen.{Seen}
 use Rattle.tilt_turn.proofs.Staying.{leaf-stays, stays-before}
 use Rattle.tilt_turn.proofs.Stepwise.{all-both, all-set, all-weaker}
 use Rattle.tilt_turn.proofs.Written.{written-here, written-right}
-use Rattle.tilt_turn.specs.Held.{IsLeafAt, IsPlaceOf, IsPlacedBy, IsUnread, MayGo, origin, places_of}
+use Rattle.tilt_turn.specs.Held.{IsPlaceOf, IsPlacedBy, IsUnread, origin, places_of}
 use Rattle.tilt_turn.specs.Picked.{written}
 use Rattle.tilt_turn.specs.Ready.{IsReadable}
 use Rattle.tilt_turn.specs.Sight.{Sees}
+use Rattle.tilt_turn.specs.Stepped.{LooksTo}
 use Rattle.tilt_turn.specs.declared.leaf.Leaf.{Leaf}
 use Rattle.tilt_turn.specs.declared.placed.Placed.{Placed}
 
@@ -70,18 +71,17 @@ module _ (lists : List (List Snapshot)) (maps : List Block) (body : Block) (poin
       (λ p is. placed-beside cells cell places p right is) all) at
 
   -- a leaf that was looked at, and whose cell was written to its registers
-  pub just-looked : (cells : List (Option ℤ)) (p : Placed) (own : Leaf) (seen : Seen) → origin own ≡ origin p.leaf
-      → IsLeafAt MayGo lists [] maps point own → AllByRecursion (IsPlaceOf body (origin p.leaf)) (places_of p) → length cells ≡ length body
-      → Sees (leaf_of (map stream_of lists) maps (origin p.leaf)) point seen
+  pub just-looked : (cells : List (Option ℤ)) (p : Placed) (own : Leaf) (seen : Seen) → LooksTo lists maps point p.leaf own seen
+      → AllByRecursion (IsPlaceOf body (origin p.leaf)) (places_of p) → length cells ≡ length body
       → IsPlacedBy lists maps body (written seen.cell (places_of p) cells) point (record p { leaf = own; next = seen.next })
-  just-looked cells p own seen from at places room sees =
+  just-looked cells p own seen looked places room =
       let new = written seen.cell (places_of p) cells in
       let within = all-weaker (IsPlaceOf body (origin p.leaf)) (λ place. place < length cells) (places_of p)
       (λ place is. let below = is.0 in omega arith) places in
-      let seen_is : Sees (leaf_of (map stream_of lists) maps (origin own)) point seen = rw from sees in
+      let seen_is : Sees (leaf_of (map stream_of lists) maps (origin own)) point seen = rw looked.same looked.sees in
       record {
-        leaf = (point, omega (arith, ints), at);
-        places = all-weaker (IsPlaceOf body (origin p.leaf)) (IsPlaceOf body (origin own)) (places_of p) (λ place is. (is.0, is.1 ∙ sym from)) places;
+        leaf = (point, omega (arith, ints), looked.at);
+        places = all-weaker (IsPlaceOf body (origin p.leaf)) (IsPlaceOf body (origin own)) (places_of p) (λ place is. (is.0, is.1 ∙ sym looked.same)) places;
         known = λ stays.
             all-weaker (λ place. get_or new place None ≡ seen.cell) (SeenBy (origin own) seen.next new) (places_of p)
             (λ place is. record { cell = is ∙ seen_is.cell; next = seen_is.next; bounds = seen_is.bounds })

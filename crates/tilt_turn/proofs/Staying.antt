@@ -1,5 +1,5 @@
 -- What stays as it is where a window's last tick moves on below the next mark.
-use Rattle.std.proofs.Common.{◌≡◌, ◌≤◌, ℤ, pos, ◌+ℤ◌, ◌<ℤ◌, ◌≤ℤ◌, true, false, ◌||◌, int_lt, List, [], ◌∷◌, map, get_or, Option, Some, None, IfSome, ℕ, refl, sym, ◌∙◌, arith}
+use Rattle.std.proofs.Common.{◌≡◌, ℤ, pos, ◌+ℤ◌, ◌<ℤ◌, ◌≤ℤ◌, true, false, ◌||◌, int_lt, List, [], ◌∷◌, map, get_or, Option, Some, None, IfSome, refl, sym, ◌∙◌, arith}
 use Rattle.std.specs.Ordering.{int_eq}
 use Rattle.std.proofs.lemmas.Bool.{or_parts}
 use Rattle.std.proofs.lemmas.Int.{ints, by_lt_z}
@@ -12,11 +12,9 @@ use Rattle.tilt_stream.specs.Agreement.{ChangesOnlyAtMarks}
 use Rattle.tilt_stream.specs.Marks.{NamesNextMark}
 use Rattle.tilt_stream.specs.Snap.{Snapshot, ended_below}
 use Rattle.tilt_stream.specs.Stream.{Stream, mark_at, stream_of}
-use Rattle.tilt_stream.specs.declared.cursor.Cursor.{Cursor}
 use Rattle.tilt_stream.specs.declared.seen.Seen.{Seen}
-use Rattle.tilt_turn.proofs.Cursors.{kept-later}
 use Rattle.tilt_turn.proofs.Numbered.{read-stream}
-use Rattle.tilt_turn.specs.Held.{Knows, StandsAt, origin}
+use Rattle.tilt_turn.specs.Held.{Knows, origin}
 use Rattle.tilt_turn.specs.Kinds.{kind_reducer}
 use Rattle.tilt_turn.specs.Sight.{Sees}
 use Rattle.tilt_turn.specs.declared.leaf.Leaf.{Leaf}
@@ -67,14 +65,7 @@ names-later x tick later (Some next) onwards none names =
     (λ above. record { above = above; marked = names.marked; least = λ other from to. names.least other (omega (arith, ints)) to })
     (λ within. absurd (cc (sym names.marked ∙ none next names.above within)))
 
--- so a cursor that stands at a tick stands at a later one too
-pub stands-later : (list : List Snapshot) (forgotten : ℕ) (tick later : ℤ) (c moved : Cursor) → StandsAt list forgotten tick c → tick ≤ℤ later
-    → ((other : ℤ) → tick <ℤ other → other ≤ℤ later → mark_at list other ≡ false) → moved ≡ record { tick = later; place = c.place }
-    → StandsAt list forgotten later moved
-stands-later list forgotten tick later c moved at onwards none is =
-    rw is (record { place = at.place ∙ ended-stays list tick later onwards none; kept = at.kept; stands = refl })
-
--- and a window knows as much
+-- so a window knows as much at a later tick
 pub knows-later : (list : List Snapshot) (later : ℤ) (w moved : Moving) → Knows list w → w.back.tick ≤ℤ later
     → ((other : ℤ) → w.back.tick <ℤ other → other ≤ℤ later → mark_at list other ≡ false)
     → moved.back ≡ record { tick = later; place = w.back.place } → moved.next ≡ w.next → Knows list moved
@@ -84,14 +75,6 @@ knows-later list later w moved knows onwards none is same = record {
   low = rw same knows.low;
   high = rw same knows.high;
 }
-
--- where a window knows it, its cursor stands there, if what is read first is kept
-pub knows-stands : (list : List Snapshot) (forgotten : ℕ) (first : ℤ) (w : Moving) → Knows list w → forgotten ≤ ended_below first list
-    → first ≤ℤ w.back.tick → StandsAt list forgotten w.back.tick w.back
-knows-stands list forgotten first w knows kept onwards =
-    let all = kept-later list forgotten first w.back.tick kept onwards in
-    let place = knows.place in
-    record { place = knows.place; kept = omega arith; stands = refl }
 
 -- what a window knows it knows however its cells change
 pub knows-too : (list : List Snapshot) (w moved : Moving) → Knows list w → moved.back ≡ w.back → moved.next ≡ w.next → Knows list moved

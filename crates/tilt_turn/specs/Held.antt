@@ -10,7 +10,7 @@ use Rattle.tilt_code.specs.declared.instr.Instr.{Instr}
 use Rattle.tilt_code.specs.declared.instr.Instr.TheVariants as instr
 use Rattle.tilt_stream.specs.Marks.{NamesNextMark}
 use Rattle.tilt_stream.specs.Snap.{Snapshot, ended_below}
-use Rattle.tilt_stream.specs.Stream.{Stream, stream_of}
+use Rattle.tilt_stream.specs.Stream.{stream_of}
 use Rattle.tilt_stream.specs.Window.{met}
 use Rattle.tilt_stream.specs.declared.cursor.Cursor.{Cursor}
 use Rattle.tilt_turn.specs.Kinds.{kind_cells, kind_reducer}
@@ -31,17 +31,11 @@ pub record MayMove (list : List Snapshot) (tick : ℤ) (c : Cursor) : Type 0 whe
   pub fits : c.place ≤ ended_below c.tick list
   pub onwards : c.tick ≤ℤ tick
 
--- a cursor that stands at a tick
-pub record StandsAt (list : List Snapshot) (forgotten : ℕ) (tick : ℤ) (c : Cursor) : Type 0 where
-  pub place : c.place ≡ ended_below tick list
-  pub kept : forgotten ≤ c.place
-  pub stands : c.tick ≡ tick
-
 -- a window from a first tick up to that of its cursor: its cells are by the map those that these ticks meet, and its marks those after
 -- the first tick
-pub record Holds (x : Stream) (by_map : Option ℤ → Option ℤ) (first : ℤ) (w : Moving) : Type 0 where
-  pub cells : kind_cells w.kind ≡ map by_map (met x (first -ℤ pos 1) w.back.tick)
-  pub marks : w.marks.items ≡ marked x first w.back.tick
+pub record Holds (list : List Snapshot) (by_map : Option ℤ → Option ℤ) (first : ℤ) (w : Moving) : Type 0 where
+  pub cells : kind_cells w.kind ≡ map by_map (met (stream_of list) (first -ℤ pos 1) w.back.tick)
+  pub marks : w.marks.items ≡ marked (stream_of list) first w.back.tick
 
 -- what a window that was moved knows of its list: the place of its last tick, and the next mark above it
 pub record Knows (list : List Snapshot) (w : Moving) : Type 0 where
@@ -49,6 +43,18 @@ pub record Knows (list : List Snapshot) (w : Moving) : Type 0 where
   pub next : NamesNextMark (stream_of list) w.back.tick w.next
   pub low : IfSome w.next (λ next. neg_ℤ WIDE <ℤ next)
   pub high : IfSome w.next (λ next. next ≤ℤ (WIDE +ℤ pos 1))
+
+-- a window that may go on to any first tick from this one on: it holds what the ticks from there on meet, and knows its list where it was
+-- moved before
+pub record MayBegin (list : List Snapshot) (by_map : Option ℤ → Option ℤ) (first : ℤ) (w : Moving) : Type 0 where
+  pub held : Holds list by_map first w
+  pub known : first ≤ℤ w.back.tick → Knows list w
+
+-- a window that moves on to a last tick: it stands there, knows its list, and answers its reducer as before
+pub record MovesTo (list : List Snapshot) (last : ℤ) (old new : Moving) : Type 0 where
+  pub stands : new.back.tick ≡ last
+  pub knows : Knows list new
+  pub reducer : kind_reducer new.kind ≡ kind_reducer old.kind
 
 -- what a leaf reads, as the instruction that it was made of
 abbrev pub origin : Leaf → Instr
@@ -78,48 +84,42 @@ abbrev pub AreAllRead : Block → List (List ℕ) → Type 0
 AreAllRead body leaves =
     (place : ℕ) → place < length body → reads (get_or body place (instr.Const (pos 0))) ≡ true → IsAmong place leaves
 
--- what is said of a cursor over a list, of which so many aren't kept, and of a tick
-abbrev pub OfCursor : Type 1
-OfCursor = List Snapshot → ℕ → ℤ → Cursor → Type 0
-
--- that it may move there, however many aren't kept where it stands
-abbrev pub MayGo : OfCursor
-MayGo list forgotten tick c = MayMove list tick c
-
--- the cursor and the cells of a window at a grid point, and what it knows where it was moved before
-pub record WindowHolds (says : OfCursor) (lists : List (List Snapshot)) (forgotten : List ℕ) (maps : List Block) (point : ℤ)
-    (w : WindowLeaf) : Type 0 where
-  pub cursor : says (get_or lists w.buffer []) (get_or forgotten w.buffer 0) (point +ℤ w.to) w.window.back
-  pub held : Holds (stream_of (get_or lists w.buffer [])) (mapped maps w.map) (point +ℤ w.from +ℤ pos 1) w.window
-  pub known : (point +ℤ w.from +ℤ pos 1) ≤ℤ w.window.back.tick → Knows (get_or lists w.buffer []) w.window
-
 -- a port that may be read, and its cursor, at a grid point
-abbrev pub IsPortAt : OfCursor → List (List Snapshot) → List ℕ → ℤ → PortLeaf → Type 0
-IsPortAt says lists forgotten point p =
-    IsOffset p.offset × says (get_or lists p.buffer []) (get_or forgotten p.buffer 0) (point +ℤ p.offset) p.cursor
+abbrev pub IsPortAt : List (List Snapshot) → ℤ → PortLeaf → Type 0
+IsPortAt lists point p = IsOffset p.offset × MayMove (get_or lists p.buffer []) (point +ℤ p.offset) p.cursor
 
--- a window that may be read, at a grid point
-abbrev pub IsWindowAt : OfCursor → List (List Snapshot) → List ℕ → List Block → ℤ → WindowLeaf → Type 0
-IsWindowAt says lists forgotten maps point w =
-    IsReadableWindow (length maps) w.from w.to w.map × WindowHolds says lists forgotten maps point w
+-- a window that may be read, its cursor, and its cells from the first tick on, at a grid point
+pub record IsWindowAt (lists : List (List Snapshot)) (maps : List Block) (point : ℤ) (w : WindowLeaf) : Type 0 where
+  pub readable : IsReadableWindow (length maps) w.from w.to w.map
+  pub cursor : MayMove (get_or lists w.buffer []) (point +ℤ w.to) w.window.back
+  pub begins : MayBegin (get_or lists w.buffer []) (mapped maps w.map) (point +ℤ w.from +ℤ pos 1) w.window
+
+-- a window that stands at a grid point: it may be read there, and its last tick is the last one that it reads there
+pub record StandsAt (lists : List (List Snapshot)) (maps : List Block) (point : ℤ) (w : WindowLeaf) : Type 0 where
+  pub at : IsWindowAt lists maps point w
+  pub last : w.window.back.tick ≡ point +ℤ w.to
 
 -- a leaf that may be read, at a grid point
-abbrev pub IsLeafAt : OfCursor → List (List Snapshot) → List ℕ → List Block → ℤ → Leaf → Type 0
-IsLeafAt says lists forgotten maps point (Port p) = IsPortAt says lists forgotten point p
-IsLeafAt says lists forgotten maps point (Window w) = IsWindowAt says lists forgotten maps point w
+abbrev pub IsLeafAt : List (List Snapshot) → List Block → ℤ → Leaf → Type 0
+IsLeafAt lists maps point (Port p) = IsPortAt lists point p
+IsLeafAt lists maps point (Window w) = IsWindowAt lists maps point w
+
+-- a leaf that may be read, at some grid point that isn't above this one
+abbrev pub IsLeafBy : List (List Snapshot) → List Block → ℤ → Leaf → Type 0
+IsLeafBy lists maps point own = (at : ℤ) × (at ≤ℤ point) × IsLeafAt lists maps at own
 
 -- a leaf of a body that was never looked at
 pub record IsUnread (body : Block) (p : Placed) : Type 0 where
   pub places : AllByRecursion (IsPlaceOf body (origin p.leaf)) (places_of p)
   pub never : p.next ≡ Some (neg_ℤ (pos 9223372036854775808))
   pub leaf : (lists : List (List Snapshot)) (maps : List Block) (point : ℤ) → IsReadable (length lists) (length maps) (origin p.leaf)
-      → neg_ℤ WIDE ≤ℤ point → IsLeafAt MayGo lists [] maps point p.leaf
+      → neg_ℤ WIDE ≤ℤ point → IsLeafAt lists maps point p.leaf
 
 -- a leaf of a body that was looked at last at some grid point that isn't above this one, or never. Where its next mark lies above this
 -- one, what each of its registers and its next mark say is what is seen of it here
 pub record IsPlacedBy (lists : List (List Snapshot)) (maps : List Block) (body : Block) (cells : List (Option ℤ)) (point : ℤ) (p : Placed)
     : Type 0 where
-  pub leaf : (at : ℤ) × (at ≤ℤ point) × IsLeafAt MayGo lists [] maps at p.leaf
+  pub leaf : IsLeafBy lists maps point p.leaf
   pub places : AllByRecursion (IsPlaceOf body (origin p.leaf)) (places_of p)
   pub known : IfSome p.next (λ next. point <ℤ next)
       → AllByRecursion (λ place. Sees (leaf_of (map stream_of lists) maps (origin p.leaf)) point

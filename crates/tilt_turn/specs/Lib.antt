@@ -4,3 +4,4 @@ pub mod Picked
 pub mod Ready
 pub mod Same
 pub mod Sight
+pub mod Stepped

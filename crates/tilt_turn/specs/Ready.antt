@@ -30,6 +30,11 @@ pub record IsReadableWindow (maps : ℕ) (from to : ℤ) (number : Option ℕ) :
   pub some_ticks : from <ℤ to
   pub known : ForSome number (λ map. map < maps)
 
+-- a map that may be used: where one is named it is there, and each of the maps names earlier registers
+pub record MayMap (maps : List Block) (number : Option ℕ) : Type 0 where
+  pub earlier : AllByRecursion (NameEarlier 0) maps
+  pub known : ForSome number (λ map. map < length maps)
+
 -- a leaf that may be read where there are so many buffers and maps
 abbrev pub IsReadable : ℕ → ℕ → Instr → Type 0
 IsReadable buffers maps (Port buffer offset) = (buffer < buffers) × IsOffset offset

@@ -1,15 +1,12 @@
 // The leaves of a body, each with its cursor.
-ghost use Rattle.std.specs.Prelude.{◌≡◌, ℤ, true, false, List, [], ◌≤ℤ◌, neg_ℤ, length, map, None, IfOk, IfSome, OnOk};
-ghost use Rattle.std.specs.List.{AllByRecursion};
+ghost use Rattle.std.specs.Prelude.{◌≡◌, ℤ, true, false, List, ◌≤ℤ◌, neg_ℤ, length, None, IfOk, IfSome};
 ghost use Rattle.tilt_base.specs.declared.limits.TheConstants.{WIDE};
-ghost use Rattle.tilt_code.specs.Body.{leaf_of};
 ghost use Rattle.tilt_code.specs.Code.{Block};
 ghost use Rattle.tilt_stream.specs.Snap.{Snapshot};
-ghost use Rattle.tilt_stream.specs.Stream.{stream_of};
-ghost use Rattle.tilt_turn.specs.Held.{IsLeafAt, MayGo, StandsAt, origin};
+ghost use Rattle.tilt_turn.specs.Held.{IsLeafAt, IsLeafBy, origin};
 ghost use Rattle.tilt_turn.specs.Picked.{reads};
-ghost use Rattle.tilt_turn.specs.Ready.{IsBodyTick, IsKept, IsReadable, NameEarlier};
-ghost use Rattle.tilt_turn.specs.Sight.{Sees};
+ghost use Rattle.tilt_turn.specs.Ready.{IsReadable};
+ghost use Rattle.tilt_turn.specs.Stepped.{LooksTo, MayLook};
 
 use crate::buffers::Buffers;
 use crate::moving::Moving;
@@ -35,7 +32,7 @@ impl Leaf {
         ensures reads { IfSome result (λ own. reads instr ≡ true) }
         ensures same { IfSome result (λ own. origin own ≡ instr) }
         ensures fit { IfSome result (λ own. (lists : List (List Snapshot)) (maps : List Block) (point : ℤ)
-            → IsReadable (length lists) (length maps) instr → neg_ℤ WIDE ≤ℤ point → IsLeafAt MayGo lists [] maps point own) }
+            → IsReadable (length lists) (length maps) instr → neg_ℤ WIDE ≤ℤ point → IsLeafAt lists maps point own) }
     {
         match instr {
             Instr::Port { buffer, offset } => Some(Leaf::Port(PortLeaf {
@@ -67,17 +64,11 @@ impl Leaf {
         reading: &Reading<'_, '_, S>,
         arguments: &mut Vec<Cell>,
     ) -> Result<Seen, OutOfMemory>
-        requires earlier { AllByRecursion (NameEarlier 0) reading.now.each.now.maps }
-        requires near { IsBodyTick reading.now.point }
-        requires fit { (before : ℤ) × (before ≤ℤ reading.now.point)
-            × IsLeafAt MayGo (S.lists reading.now.buffers.now) [] reading.now.each.now.maps before self.old }
-        requires kept { IsKept (S.lists reading.now.buffers.now) (S.forgotten reading.now.buffers.now) reading.now.point
-            (origin self.old) }
-        ensures at { OnOk result (IsLeafAt StandsAt (S.lists reading.now.buffers.now) (S.forgotten reading.now.buffers.now)
-            reading.now.each.now.maps reading.now.point self.new) }
-        ensures same { OnOk result (origin self.new ≡ origin self.old) }
-        ensures seen { IfOk result (Sees (leaf_of (map stream_of (S.lists reading.now.buffers.now)) reading.now.each.now.maps
-            (origin self.old)) reading.now.point) }
+        requires may { MayLook (S.lists reading.now.buffers.now) (S.forgotten reading.now.buffers.now) reading.now.each.now.maps
+            reading.now.point self.old }
+        requires fit { IsLeafBy (S.lists reading.now.buffers.now) reading.now.each.now.maps reading.now.point self.old }
+        ensures { IfOk result
+            (LooksTo (S.lists reading.now.buffers.now) reading.now.each.now.maps reading.now.point self.old self.new) }
     {
         match self {
             Leaf::Port(port) => Ok(port.look(reading.buffers, reading.point)),

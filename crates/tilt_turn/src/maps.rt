@@ -1,9 +1,7 @@
 // What the maps of a loop give on a cell.
 ghost use Rattle.std.specs.Prelude.{◌≡◌, ◌<◌, [], get_or, length, IfOk};
-ghost use Rattle.std.specs.List.{AllByRecursion};
-ghost use Rattle.std.specs.Option.{ForSome};
 ghost use Rattle.tilt_code.specs.Body.{block_cell, map_leaf, mapped};
-ghost use Rattle.tilt_turn.specs.Ready.{NameEarlier};
+ghost use Rattle.tilt_turn.specs.Ready.{MayMap, NameEarlier};
 
 use crate::register::{last, register};
 use std::alloc::AllocError as OutOfMemory;
@@ -18,8 +16,7 @@ pub(crate) fn mapped(
     cell: Cell,
     registers: &mut Vec<Cell>,
 ) -> Result<Cell, OutOfMemory>
-    requires earlier { AllByRecursion (NameEarlier 0) each.now.maps }
-    requires known { ForSome map (λ number. number < length each.now.maps) }
+    requires { MayMap each.now.maps map }
     ensures { IfOk result (λ given. given ≡ mapped each.now.maps map cell) }
 {
     match map {

@@ -3,18 +3,15 @@ ghost use Rattle.std.specs.Prelude.{◌≡◌, ◌<◌, ◌≤◌, ℤ, pos, neg
 ghost use Rattle.std.specs.Prelude.{List, length, false, slice_get, Option, Some, IfSome, IsTrue, ◌↔◌, OnOk};
 ghost use Rattle.std.specs.Prelude.{MatchOption};
 ghost use Rattle.std.specs.Int.{int_max};
-ghost use Rattle.std.specs.List.{AllByRecursion};
-ghost use Rattle.std.specs.Option.{ForSome};
 ghost use Rattle.tilt_base.specs.declared.limits.TheConstants.{OFFSET, WIDE};
 ghost use Rattle.tilt_base.specs.Reduce.{numbers, reduce};
 ghost use Rattle.tilt_code.specs.Body.{mapped};
-ghost use Rattle.tilt_stream.specs.Agreement.{ChangesOnlyAtMarks};
 ghost use Rattle.tilt_stream.specs.Marks.{IsNextMark, NamesNextMark};
 ghost use Rattle.tilt_stream.specs.Snap.{Snapshot, ended_below};
-ghost use Rattle.tilt_stream.specs.Stream.{Stream, cell_at, stream_of};
-ghost use Rattle.tilt_turn.specs.Held.{Holds, Knows, MayMove, StandsAt};
+ghost use Rattle.tilt_stream.specs.Stream.{cell_at, stream_of};
+ghost use Rattle.tilt_turn.specs.Held.{Holds, Knows, MayBegin, MayMove, MovesTo};
 ghost use Rattle.tilt_turn.specs.Kinds.{kind_cells, kind_reducer};
-ghost use Rattle.tilt_turn.specs.Ready.{NameEarlier};
+ghost use Rattle.tilt_turn.specs.Ready.{MayMap};
 
 use crate::kind::Kind;
 use crate::maps::mapped;
@@ -67,21 +64,15 @@ impl Moving {
         last: i64,
         registers: &mut Vec<Cell>,
     ) -> Result<(), OutOfMemory>
-        requires earlier { AllByRecursion (NameEarlier 0) source.now.each.now.maps }
-        requires known { ForSome source.now.map (λ number. number < length source.now.each.now.maps) }
+        requires map { MayMap source.now.each.now.maps source.now.map }
         requires some { first ≤ℤ last }
         requires few { last ≤ℤ (first +ℤ pos 2 *ℤ OFFSET) }
         requires cursor { MayMove (B.list source.now.buffer.now) last self.old.back }
         requires kept { B.forgotten source.now.buffer.now ≤ ended_below first (B.list source.now.buffer.now) }
-        requires held { (begin : ℤ) × (begin ≤ℤ first)
-            × Holds (stream_of (B.list source.now.buffer.now)) (mapped source.now.each.now.maps source.now.map) begin self.old
-            × (begin ≤ℤ self.old.back.tick → Knows (B.list source.now.buffer.now) self.old) }
-        ensures cursor { OnOk result
-            (StandsAt (B.list source.now.buffer.now) (B.forgotten source.now.buffer.now) last self.new.back) }
-        ensures held { OnOk result
-            (Holds (stream_of (B.list source.now.buffer.now)) (mapped source.now.each.now.maps source.now.map) first self.new) }
-        ensures knows { OnOk result (Knows (B.list source.now.buffer.now) self.new) }
-        ensures reducer { OnOk result (kind_reducer self.new.kind ≡ kind_reducer self.old.kind) }
+        requires begins { (begin : ℤ) × (begin ≤ℤ first)
+            × MayBegin (B.list source.now.buffer.now) (mapped source.now.each.now.maps source.now.map) begin self.old }
+        ensures moved { OnOk result (MovesTo (B.list source.now.buffer.now) last self.old self.new) }
+        ensures held { OnOk result (Holds (B.list source.now.buffer.now) (mapped source.now.each.now.maps source.now.map) first self.new) }
     {
         self.begin_from(source, first, registers)?;
         self.extend(source, last, registers)
@@ -94,21 +85,13 @@ impl Moving {
         first: i64,
         registers: &mut Vec<Cell>,
     ) -> Result<(), OutOfMemory>
-        requires earlier { AllByRecursion (NameEarlier 0) source.now.each.now.maps }
-        requires known { ForSome source.now.map (λ number. number < length source.now.each.now.maps) }
+        requires map { MayMap source.now.each.now.maps source.now.map }
         requires cursor { MayMove (B.list source.now.buffer.now) self.old.back.tick self.old.back }
         requires kept { B.forgotten source.now.buffer.now ≤ ended_below first (B.list source.now.buffer.now) }
-        requires held { (begin : ℤ) × (begin ≤ℤ first)
-            × Holds (stream_of (B.list source.now.buffer.now)) (mapped source.now.each.now.maps source.now.map) begin self.old
-            × (begin ≤ℤ self.old.back.tick → Knows (B.list source.now.buffer.now) self.old) }
-        ensures cursor { OnOk result
-            (StandsAt (B.list source.now.buffer.now) (B.forgotten source.now.buffer.now) self.new.back.tick self.new.back) }
-        ensures low { OnOk result (first ≤ℤ self.new.back.tick) }
-        ensures high { OnOk result (self.new.back.tick ≤ℤ int_max first self.old.back.tick) }
-        ensures held { OnOk result
-            (Holds (stream_of (B.list source.now.buffer.now)) (mapped source.now.each.now.maps source.now.map) first self.new) }
-        ensures knows { OnOk result (Knows (B.list source.now.buffer.now) self.new) }
-        ensures reducer { OnOk result (kind_reducer self.new.kind ≡ kind_reducer self.old.kind) }
+        requires begins { (begin : ℤ) × (begin ≤ℤ first)
+            × MayBegin (B.list source.now.buffer.now) (mapped source.now.each.now.maps source.now.map) begin self.old }
+        ensures moved { OnOk result (MovesTo (B.list source.now.buffer.now) (int_max first self.old.back.tick) self.old self.new) }
+        ensures held { OnOk result (Holds (B.list source.now.buffer.now) (mapped source.now.each.now.maps source.now.map) first self.new) }
     {
         if self.back.tick() < first {
             self.begin_at(source, first, registers)
@@ -124,16 +107,11 @@ impl Moving {
         first: i64,
         registers: &mut Vec<Cell>,
     ) -> Result<(), OutOfMemory>
-        requires earlier { AllByRecursion (NameEarlier 0) source.now.each.now.maps }
-        requires known { ForSome source.now.map (λ number. number < length source.now.each.now.maps) }
+        requires map { MayMap source.now.each.now.maps source.now.map }
         requires cursor { MayMove (B.list source.now.buffer.now) first self.old.back }
         requires kept { B.forgotten source.now.buffer.now ≤ ended_below first (B.list source.now.buffer.now) }
-        ensures cursor { OnOk result
-            (StandsAt (B.list source.now.buffer.now) (B.forgotten source.now.buffer.now) first self.new.back) }
-        ensures held { OnOk result
-            (Holds (stream_of (B.list source.now.buffer.now)) (mapped source.now.each.now.maps source.now.map) first self.new) }
-        ensures knows { OnOk result (Knows (B.list source.now.buffer.now) self.new) }
-        ensures reducer { OnOk result (kind_reducer self.new.kind ≡ kind_reducer self.old.kind) }
+        ensures moved { OnOk result (MovesTo (B.list source.now.buffer.now) first self.old self.new) }
+        ensures held { OnOk result (Holds (B.list source.now.buffer.now) (mapped source.now.each.now.maps source.now.map) first self.new) }
     {
         self.kind.clear();
         self.marks.clear();
@@ -143,10 +121,10 @@ impl Moving {
     // Lets those cells go that the ticks from a first one on don't meet, of which the window holds one at least.
     fn drop_before(&mut self, first: i64) -> Result<(), OutOfMemory>
         requires some { first ≤ℤ self.old.back.tick }
-        ensures held { OnOk result ((x : Stream) (by_map : Option ℤ → Option ℤ) (begin : ℤ) → ChangesOnlyAtMarks x
-            → begin ≤ℤ first → Holds x by_map begin self.old → Holds x by_map first self.new) }
-        ensures back { OnOk result (self.new.back ≡ self.old.back) }
-        ensures next { OnOk result (self.new.next ≡ self.old.next) }
+        ensures held { OnOk result ((list : List Snapshot) (by_map : Option ℤ → Option ℤ) (begin : ℤ) → begin ≤ℤ first
+            → Holds list by_map begin self.old → Holds list by_map first self.new) }
+        ensures back { self.new.back ≡ self.old.back }
+        ensures next { self.new.next ≡ self.old.next }
         ensures reducer { OnOk result (kind_reducer self.new.kind ≡ kind_reducer self.old.kind) }
     {
         while self.has_mark_within(first) {
@@ -182,20 +160,16 @@ impl Moving {
         last: i64,
         registers: &mut Vec<Cell>,
     ) -> Result<(), OutOfMemory>
-        requires earlier { AllByRecursion (NameEarlier 0) source.now.each.now.maps }
-        requires known { ForSome source.now.map (λ number. number < length source.now.each.now.maps) }
+        requires map { MayMap source.now.each.now.maps source.now.map }
         requires some { self.old.back.tick ≤ℤ last }
-        requires cursor { StandsAt (B.list source.now.buffer.now) (B.forgotten source.now.buffer.now) self.old.back.tick self.old.back }
+        requires kept { B.forgotten source.now.buffer.now ≤ ended_below self.old.back.tick (B.list source.now.buffer.now) }
         requires knows { Knows (B.list source.now.buffer.now) self.old }
         requires held { (first : ℤ) × (first ≤ℤ self.old.back.tick) × (last ≤ℤ (first +ℤ pos 2 *ℤ OFFSET))
-            × Holds (stream_of (B.list source.now.buffer.now)) (mapped source.now.each.now.maps source.now.map) first self.old }
-        ensures cursor { OnOk result
-            (StandsAt (B.list source.now.buffer.now) (B.forgotten source.now.buffer.now) last self.new.back) }
+            × Holds (B.list source.now.buffer.now) (mapped source.now.each.now.maps source.now.map) first self.old }
+        ensures moved { OnOk result (MovesTo (B.list source.now.buffer.now) last self.old self.new) }
         ensures held { OnOk result ((first : ℤ) → first ≤ℤ self.old.back.tick
-            → Holds (stream_of (B.list source.now.buffer.now)) (mapped source.now.each.now.maps source.now.map) first self.old
-            → Holds (stream_of (B.list source.now.buffer.now)) (mapped source.now.each.now.maps source.now.map) first self.new) }
-        ensures knows { OnOk result (Knows (B.list source.now.buffer.now) self.new) }
-        ensures reducer { OnOk result (kind_reducer self.new.kind ≡ kind_reducer self.old.kind) }
+            → Holds (B.list source.now.buffer.now) (mapped source.now.each.now.maps source.now.map) first self.old
+            → Holds (B.list source.now.buffer.now) (mapped source.now.each.now.maps source.now.map) first self.new) }
     {
         while let Some(mark) = self.next_up_to(last) {
             self.push_at(source, mark, registers)?;
@@ -213,18 +187,14 @@ impl Moving {
         tick: i64,
         registers: &mut Vec<Cell>,
     ) -> Result<(), OutOfMemory>
-        requires earlier { AllByRecursion (NameEarlier 0) source.now.each.now.maps }
-        requires known { ForSome source.now.map (λ number. number < length source.now.each.now.maps) }
+        requires map { MayMap source.now.each.now.maps source.now.map }
         requires few { length (kind_cells self.old.kind) < 4611686018427387904 }
         requires cursor { MayMove (B.list source.now.buffer.now) tick self.old.back }
         requires kept { B.forgotten source.now.buffer.now ≤ ended_below tick (B.list source.now.buffer.now) }
-        ensures cursor { OnOk result
-            (StandsAt (B.list source.now.buffer.now) (B.forgotten source.now.buffer.now) tick self.new.back) }
+        ensures moved { OnOk result (MovesTo (B.list source.now.buffer.now) tick self.old self.new) }
         ensures cells { OnOk result (kind_cells self.new.kind ≡ kind_cells self.old.kind
             ++ mapped source.now.each.now.maps source.now.map (cell_at (B.list source.now.buffer.now) tick) ∷ []) }
-        ensures knows { OnOk result (Knows (B.list source.now.buffer.now) self.new) }
         ensures marks { self.new.marks ≡ self.old.marks }
-        ensures reducer { kind_reducer self.new.kind ≡ kind_reducer self.old.kind }
     {
         let seen = self.back.look(source.buffer, tick);
         self.next = seen.next;
@@ -252,10 +222,10 @@ impl Moving {
     #[inline]
     pub(crate) fn next_within(&self) -> Option<i64>
         ensures next { (list : List Snapshot) (by_map : Option ℤ → Option ℤ) (first : ℤ) → first ≤ℤ self.now.back.tick
-            → Holds (stream_of list) by_map first self.now → Knows list self.now
+            → Holds list by_map first self.now → Knows list self.now
             → NamesNextMark (stream_of list) first result }
         ensures bounds { (list : List Snapshot) (by_map : Option ℤ → Option ℤ) (first : ℤ) → first ≤ℤ self.now.back.tick
-            → Holds (stream_of list) by_map first self.now → Knows list self.now
+            → Holds list by_map first self.now → Knows list self.now
             → IfSome result (λ next. (first <ℤ next) × (next ≤ℤ int_max self.now.back.tick (WIDE +ℤ pos 1))) }
     {
         match self.first_mark() {

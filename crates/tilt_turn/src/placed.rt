@@ -9,7 +9,8 @@ ghost use Rattle.tilt_stream.specs.Marks.{NamesNextMark};
 ghost use Rattle.tilt_stream.specs.Stream.{stream_of};
 ghost use Rattle.tilt_turn.specs.Held.{AreAllRead, IsAmong, IsPlaceOf, IsPlacedBy, IsUnread, origin, places_of};
 ghost use Rattle.tilt_turn.specs.Picked.{reads, written};
-ghost use Rattle.tilt_turn.specs.Ready.{IsBodyTick, IsKept, IsMarkTick, NameEarlier};
+ghost use Rattle.tilt_turn.specs.Ready.{IsMarkTick};
+ghost use Rattle.tilt_turn.specs.Stepped.{MayLook};
 
 use crate::buffers::Buffers;
 use crate::leaf::Leaf;
@@ -41,12 +42,10 @@ impl Placed {
         arguments: &mut Vec<Cell>,
     ) -> Result<Option<i64>, OutOfMemory>
         requires room { length registers.old ≡ length reading.now.each.now.body }
-        requires earlier { AllByRecursion (NameEarlier 0) reading.now.each.now.maps }
-        requires near { IsBodyTick reading.now.point }
+        requires may { MayLook (S.lists reading.now.buffers.now) (S.forgotten reading.now.buffers.now) reading.now.each.now.maps
+            reading.now.point self.old.leaf }
         requires fit { IsPlacedBy (S.lists reading.now.buffers.now) reading.now.each.now.maps reading.now.each.now.body registers.old
             reading.now.point self.old }
-        requires kept { IsKept (S.lists reading.now.buffers.now) (S.forgotten reading.now.buffers.now) reading.now.point
-            (origin self.old.leaf) }
         ensures fit { OnOk result (IsPlacedBy (S.lists reading.now.buffers.now) reading.now.each.now.maps reading.now.each.now.body
             registers.new reading.now.point self.new) }
         ensures same { OnOk result (places_of self.new ≡ places_of self.old) }

@@ -1,11 +1,10 @@
 // A port, and where its buffer was last read.
-ghost use Rattle.std.specs.Prelude.{◌≡◌, ℤ, ◌≤ℤ◌, [], IfSome, get_or, map};
-ghost use Rattle.tilt_code.specs.declared.instr.Instr.TheVariants.{Port};
-ghost use Rattle.tilt_stream.specs.Marks.{NamesNextMark};
-ghost use Rattle.tilt_stream.specs.Pointwise.{nothing, shifted};
-ghost use Rattle.tilt_stream.specs.Stream.{stream_of};
-ghost use Rattle.tilt_turn.specs.Held.{IsPortAt, MayGo, StandsAt};
-ghost use Rattle.tilt_turn.specs.Ready.{IsBodyTick, IsKept, IsMarkTick};
+ghost use Rattle.std.specs.Prelude.{ℤ, ◌≤ℤ◌, List};
+ghost use Rattle.tilt_code.specs.Code.{Block};
+ghost use Rattle.tilt_turn.specs.Held.{IsPortAt, origin};
+ghost use Rattle.tilt_turn.specs.Ready.{IsBodyTick, IsKept};
+ghost use Rattle.tilt_turn.specs.Stepped.{LooksTo};
+ghost use Rattle.tilt_turn.specs.declared.leaf.Leaf.TheVariants.{Port};
 
 use crate::buffers::{BufferAt, Buffers};
 use crate::marks::earlier;
@@ -24,16 +23,9 @@ impl PortLeaf {
     #[inline(never)]
     pub(crate) fn look<S: Buffers>(&mut self, buffers: &S, point: i64) -> Seen
         requires near { IsBodyTick point }
-        requires fit { (before : ℤ) × (before ≤ℤ point) × IsPortAt MayGo (S.lists buffers.now) [] before self.old }
-        requires kept { IsKept (S.lists buffers.now) (S.forgotten buffers.now) point (Port self.old.buffer self.old.offset) }
-        ensures at { IsPortAt StandsAt (S.lists buffers.now) (S.forgotten buffers.now) point self.new }
-        ensures buffer { self.new.buffer ≡ self.old.buffer }
-        ensures offset { self.new.offset ≡ self.old.offset }
-        ensures cell { result.cell
-            ≡ (shifted (get_or (map stream_of (S.lists buffers.now)) self.old.buffer nothing) self.old.offset).cell point }
-        ensures next { NamesNextMark (shifted (get_or (map stream_of (S.lists buffers.now)) self.old.buffer nothing) self.old.offset)
-            point result.next }
-        ensures bounds { IfSome result.next IsMarkTick }
+        requires fit { (before : ℤ) × (before ≤ℤ point) × IsPortAt (S.lists buffers.now) before self.old }
+        requires kept { IsKept (S.lists buffers.now) (S.forgotten buffers.now) point (origin (Port self.old)) }
+        ensures { (maps : List Block) → LooksTo (S.lists buffers.now) maps point (Port self.old) (Port self.new) result }
     {
         let buffer = BufferAt {
             buffers,

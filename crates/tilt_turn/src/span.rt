@@ -1,16 +1,14 @@
 // A window over a buffer, and what it holds.
-ghost use Rattle.std.specs.Prelude.{◌≡◌, ℕ, ℤ, List, [], ◌≤ℤ◌, IfOk, IfSome, OnOk, map};
-ghost use Rattle.std.specs.List.{AllByRecursion};
+ghost use Rattle.std.specs.Prelude.{◌≡◌, ℤ, List, IfOk, IfSome, OnOk, map};
 ghost use Rattle.tilt_code.specs.Body.{leaf_of};
 ghost use Rattle.tilt_code.specs.Code.{Block};
-ghost use Rattle.tilt_code.specs.declared.instr.Instr.TheVariants.{Win};
 ghost use Rattle.tilt_stream.specs.Marks.{NamesNextMark};
 ghost use Rattle.tilt_stream.specs.Snap.{Snapshot};
 ghost use Rattle.tilt_stream.specs.Stream.{stream_of};
-ghost use Rattle.tilt_turn.specs.Held.{IsWindowAt, MayGo, StandsAt};
-ghost use Rattle.tilt_turn.specs.Kinds.{kind_reducer};
-ghost use Rattle.tilt_turn.specs.Ready.{IsBodyTick, IsKept, IsMarkTick, NameEarlier};
-ghost use Rattle.tilt_turn.specs.Sight.{Sees};
+ghost use Rattle.tilt_turn.specs.Held.{IsLeafBy, StandsAt, origin};
+ghost use Rattle.tilt_turn.specs.Ready.{IsBodyTick, IsMarkTick};
+ghost use Rattle.tilt_turn.specs.Stepped.{LooksTo, MayLook};
+ghost use Rattle.tilt_turn.specs.declared.leaf.Leaf.TheVariants.{Window};
 
 use crate::buffers::{BufferAt, Buffers};
 use crate::marks::{earlier, lesser};
@@ -40,18 +38,11 @@ impl WindowLeaf {
         reading: &Reading<'_, '_, S>,
         registers: &mut Vec<Cell>,
     ) -> Result<Seen, OutOfMemory>
-        requires earlier { AllByRecursion (NameEarlier 0) reading.now.each.now.maps }
-        requires near { IsBodyTick reading.now.point }
-        requires fit { (before : ℤ) × (before ≤ℤ reading.now.point)
-            × IsWindowAt MayGo (S.lists reading.now.buffers.now) [] reading.now.each.now.maps before self.old }
-        requires kept { IsKept (S.lists reading.now.buffers.now) (S.forgotten reading.now.buffers.now) reading.now.point
-            (Win (kind_reducer self.old.window.kind) self.old.buffer self.old.from self.old.to self.old.map) }
-        ensures at { OnOk result (IsWindowAt StandsAt (S.lists reading.now.buffers.now) (S.forgotten reading.now.buffers.now)
-            reading.now.each.now.maps reading.now.point self.new) }
-        ensures same { OnOk result (Win (kind_reducer self.new.window.kind) self.new.buffer self.new.from self.new.to self.new.map
-            ≡ Win (kind_reducer self.old.window.kind) self.old.buffer self.old.from self.old.to self.old.map) }
-        ensures seen { IfOk result (Sees (leaf_of (map stream_of (S.lists reading.now.buffers.now)) reading.now.each.now.maps
-            (Win (kind_reducer self.old.window.kind) self.old.buffer self.old.from self.old.to self.old.map)) reading.now.point) }
+        requires may { MayLook (S.lists reading.now.buffers.now) (S.forgotten reading.now.buffers.now) reading.now.each.now.maps
+            reading.now.point (Window self.old) }
+        requires fit { IsLeafBy (S.lists reading.now.buffers.now) reading.now.each.now.maps reading.now.point (Window self.old) }
+        ensures { IfOk result (LooksTo (S.lists reading.now.buffers.now) reading.now.each.now.maps reading.now.point
+            (Window self.old) (Window self.new)) }
     {
         self.move_to(reading.buffers, reading.each, reading.point, registers)?;
         Ok(Seen {
@@ -68,16 +59,10 @@ impl WindowLeaf {
         point: i64,
         registers: &mut Vec<Cell>,
     ) -> Result<(), OutOfMemory>
-        requires earlier { AllByRecursion (NameEarlier 0) each.now.maps }
-        requires near { IsBodyTick point }
-        requires fit { (before : ℤ) × (before ≤ℤ point)
-            × IsWindowAt MayGo (S.lists buffers.now) [] each.now.maps before self.old }
-        requires kept { IsKept (S.lists buffers.now) (S.forgotten buffers.now) point
-            (Win (kind_reducer self.old.window.kind) self.old.buffer self.old.from self.old.to self.old.map) }
-        ensures at { OnOk result
-            (IsWindowAt StandsAt (S.lists buffers.now) (S.forgotten buffers.now) each.now.maps point self.new) }
-        ensures same { OnOk result (Win (kind_reducer self.new.window.kind) self.new.buffer self.new.from self.new.to self.new.map
-            ≡ Win (kind_reducer self.old.window.kind) self.old.buffer self.old.from self.old.to self.old.map) }
+        requires may { MayLook (S.lists buffers.now) (S.forgotten buffers.now) each.now.maps point (Window self.old) }
+        requires fit { IsLeafBy (S.lists buffers.now) each.now.maps point (Window self.old) }
+        ensures at { OnOk result (StandsAt (S.lists buffers.now) each.now.maps point self.new) }
+        ensures same { OnOk result (origin (Window self.new) ≡ origin (Window self.old)) }
     {
         let buffer = BufferAt {
             buffers,
@@ -96,9 +81,8 @@ impl WindowLeaf {
     // What the reducer gives at the grid point to which it moved last.
     #[inline]
     fn cell(&self) -> Cell
-        ensures { (lists : List (List Snapshot)) (forgotten : List ℕ) (maps : List Block) (point : ℤ)
-            → IsWindowAt StandsAt lists forgotten maps point self.now → result ≡ (leaf_of (map stream_of lists) maps
-            (Win (kind_reducer self.now.window.kind) self.now.buffer self.now.from self.now.to self.now.map)).cell point }
+        ensures { (lists : List (List Snapshot)) (maps : List Block) (point : ℤ) → StandsAt lists maps point self.now
+            → result ≡ (leaf_of (map stream_of lists) maps (origin (Window self.now))).cell point }
     {
         self.window.result()
     }
@@ -106,11 +90,10 @@ impl WindowLeaf {
     // Its next mark above that grid point: that of its last tick or of its first.
     #[inline]
     fn next(&self) -> Option<i64>
-        requires at { (lists : List (List Snapshot)) × (forgotten : List ℕ) × (maps : List Block) × (point : ℤ) × IsBodyTick point
-            × IsWindowAt StandsAt lists forgotten maps point self.now }
-        ensures next { (lists : List (List Snapshot)) (forgotten : List ℕ) (maps : List Block) (point : ℤ)
-            → IsWindowAt StandsAt lists forgotten maps point self.now → NamesNextMark (leaf_of (map stream_of lists) maps
-            (Win (kind_reducer self.now.window.kind) self.now.buffer self.now.from self.now.to self.now.map)) point result }
+        requires at { (lists : List (List Snapshot)) × (maps : List Block) × (point : ℤ) × IsBodyTick point
+            × StandsAt lists maps point self.now }
+        ensures next { (lists : List (List Snapshot)) (maps : List Block) (point : ℤ) → StandsAt lists maps point self.now
+            → NamesNextMark (leaf_of (map stream_of lists) maps (origin (Window self.now))) point result }
         ensures bounds { IfSome result IsMarkTick }
     {
         lesser(

@@ -8,10 +8,11 @@ ghost use Rattle.tilt_code.specs.Turn.{turn};
 ghost use Rattle.tilt_stream.specs.Marks.{NamesNextMark};
 ghost use Rattle.tilt_stream.specs.Snap.{Snapshot};
 ghost use Rattle.tilt_stream.specs.Stream.{Stream, stream_of};
-ghost use Rattle.tilt_turn.specs.Held.{AreAllRead, ConstantsStand, IsFit, IsPlacedBy, places_of};
+ghost use Rattle.tilt_turn.specs.Held.{IsFit};
 ghost use Rattle.tilt_turn.specs.Picked.{AreRead, computes, picked};
 ghost use Rattle.tilt_turn.specs.Ready.{IsBodyTick, IsKept, IsMarkTick, IsReady, NameEarlier};
 ghost use Rattle.tilt_turn.specs.Sight.{Sees};
+ghost use Rattle.tilt_turn.specs.Stepped.{MayStep, StepsTo};
 
 use crate::buffers::Buffers;
 use crate::computed::{Listed, compute, computed_of};
@@ -117,20 +118,12 @@ fn body_seen<S: Buffers>(
     registers: &mut [Cell],
     arguments: &mut Vec<Cell>,
 ) -> Result<Seen, OutOfMemory>
-    requires all { AreAllRead reading.now.each.now.body (map places_of leaves.old) }
+    requires may { MayStep (S.lists reading.now.buffers.now) (S.forgotten reading.now.buffers.now) reading.now.each.now reading.now.point
+        leaves.old registers.old }
     requires computed { computed.now ≡ picked computes 0 reading.now.each.now.body }
     requires names { NameEarlier 0 reading.now.each.now.body }
-    requires earlier { AllByRecursion (NameEarlier 0) reading.now.each.now.maps }
-    requires stand { ConstantsStand reading.now.each.now.body registers.old }
-    requires near { IsBodyTick reading.now.point }
-    requires fit { AllByRecursion (IsPlacedBy (S.lists reading.now.buffers.now) reading.now.each.now.maps
-        reading.now.each.now.body registers.old reading.now.point) leaves.old }
-    requires kept { AllByRecursion (IsKept (S.lists reading.now.buffers.now) (S.forgotten reading.now.buffers.now) reading.now.point)
-        reading.now.each.now.body }
-    ensures fit { OnOk result (AllByRecursion (IsPlacedBy (S.lists reading.now.buffers.now) reading.now.each.now.maps
-        reading.now.each.now.body registers.new reading.now.point) leaves.new) }
-    ensures same { OnOk result (map places_of leaves.new ≡ map places_of leaves.old) }
-    ensures stand { OnOk result (ConstantsStand reading.now.each.now.body registers.new) }
+    ensures stepped { OnOk result
+        (StepsTo (S.lists reading.now.buffers.now) reading.now.each.now reading.now.point leaves.old leaves.new registers.new) }
     ensures seen { IfOk result
         (Sees (body_of (map stream_of (S.lists reading.now.buffers.now)) reading.now.each.now) reading.now.point) }
 {
@@ -151,18 +144,10 @@ fn leaves_next<S: Buffers>(
     registers: &mut [Cell],
     arguments: &mut Vec<Cell>,
 ) -> Result<Option<i64>, OutOfMemory>
-    requires all { AreAllRead reading.now.each.now.body (map places_of leaves.old) }
-    requires earlier { AllByRecursion (NameEarlier 0) reading.now.each.now.maps }
-    requires stand { ConstantsStand reading.now.each.now.body registers.old }
-    requires near { IsBodyTick reading.now.point }
-    requires fit { AllByRecursion (IsPlacedBy (S.lists reading.now.buffers.now) reading.now.each.now.maps
-        reading.now.each.now.body registers.old reading.now.point) leaves.old }
-    requires kept { AllByRecursion (IsKept (S.lists reading.now.buffers.now) (S.forgotten reading.now.buffers.now) reading.now.point)
-        reading.now.each.now.body }
-    ensures fit { OnOk result (AllByRecursion (IsPlacedBy (S.lists reading.now.buffers.now) reading.now.each.now.maps
-        reading.now.each.now.body registers.new reading.now.point) leaves.new) }
-    ensures same { OnOk result (map places_of leaves.new ≡ map places_of leaves.old) }
-    ensures stand { OnOk result (ConstantsStand reading.now.each.now.body registers.new) }
+    requires may { MayStep (S.lists reading.now.buffers.now) (S.forgotten reading.now.buffers.now) reading.now.each.now reading.now.point
+        leaves.old registers.old }
+    ensures stepped { OnOk result
+        (StepsTo (S.lists reading.now.buffers.now) reading.now.each.now reading.now.point leaves.old leaves.new registers.new) }
     ensures read { OnOk result (AreRead
         (λ leaf. (leaf_of (map stream_of (S.lists reading.now.buffers.now)) reading.now.each.now.maps leaf).cell reading.now.point)
         reading.now.each.now.body registers.new) }

@@ -16,7 +16,7 @@ use Rattle.tilt_turn.proofs.state.body_seen.Goals as goal
 pub compute-requires : goal.compute-requires
 compute-requires g c =
     let body = c.args.reading.now.each.now.body in
-    let count = stand-length body c.leaves_next.new.registers c.in_ok-next.ensures.stand in
+    let count = stand-length body c.leaves_next.new.registers c.in_ok-next.ensures.stepped.stand in
     rw c.requires.computed (computed-within _ body c.requires.names (omega arith))
 
 pub returns : goal.returns
@@ -28,17 +28,19 @@ returns g c =
     let ensures = c.in_ok-next.ensures in
     let cells = c.leaves_next.new.registers in
     let listed = subst (AllByRecursion (IsPicked computes (IsKept lists (g.S.Buffers.forgotten r.buffers.now) r.point) body)) (sym c.requires.computed)
-    (all-picked computes _ body c.requires.kept) in
+    (all-picked computes _ body c.requires.may.kept) in
     let made : c.compute.new.registers ≡ with_registers leaf [] body =
     c.compute.ensures ∙ ap (λ listed. computed_by listed c.leaves_next.new.registers) c.requires.computed
-    ∙ computed-all leaf refl [] c.leaves_next.new.registers 0 body refl ensures.stand ensures.read c.requires.names in
+    ∙ computed-all leaf refl [] c.leaves_next.new.registers 0 body refl ensures.stepped.stand ensures.read c.requires.names in
     record {
-      fit = all-weaker (IsPlacedBy lists r.each.now.maps body cells r.point) _ c.leaves_next.new.leaves
-          (λ own at. placed-over lists r.each.now.maps body r.point cells c.compute.new.registers own
-          (all-weaker (IsPlaceOf body (origin own.leaf)) _ (places_of own)
-          (λ place is. ap (λ all. get_or all place None) c.compute.ensures
-          ∙ computed-apart _ body c.args.computed.now cells place listed (ap reads is.1 ∙ origin-reads own.leaf)) at.places) at) ensures.fit;
-      same = ensures.same;
-      stand = rw made (registers-stand leaf refl [] [] body tt);
+      stepped = record {
+        fit = all-weaker (IsPlacedBy lists r.each.now.maps body cells r.point) _ c.leaves_next.new.leaves
+            (λ own at. placed-over lists r.each.now.maps body r.point cells c.compute.new.registers own
+            (all-weaker (IsPlaceOf body (origin own.leaf)) _ (places_of own)
+            (λ place is. ap (λ all. get_or all place None) c.compute.ensures
+            ∙ computed-apart _ body c.args.computed.now cells place listed (ap reads is.1 ∙ origin-reads own.leaf)) at.places) at) ensures.stepped.fit;
+        same = ensures.stepped.same;
+        stand = rw made (registers-stand leaf refl [] [] body tt);
+      };
       seen = record { cell = c.last.ensures ∙ ap (last_or None) made; next = ensures.next; bounds = ensures.bounds };
     }

@@ -25,35 +25,31 @@ use Rattle.tilt_turn.proofs.state.leaves_next.Goals as goal
 
 pub loop-number-init : goal.loop-number-init
 loop-number-init g c = record {
-  fit = c.requires.fit;
-  same = refl;
-  stand = c.requires.stand;
+  stepped = record { fit = c.requires.may.fit; same = refl; stand = c.requires.may.stand };
   read = tt;
   next = λ other above. refl;
   bounds = tt;
 }
 
-pub step-requires-clause-room : goal.step-requires-clause-room
-step-requires-clause-room g c = stand-length c.args.reading.now.each.now.body c.loop-number.registers c.loop-number.invariant.stand
-
-pub step-requires-clause-fit : goal.step-requires-clause-fit
-step-requires-clause-fit g c =
-    let many = c.loop-number.auto.leaves in
-    let test = c.loop-number-test.true in
-    let own_is = c.index-leaves-number.is in
-    let at = all-at _ c.loop-number.leaves c.loop-number.number c.index-leaves-number.result c.loop-number.invariant.fit (omega arith) own_is in
-    rw (← own_is) at
-
-pub step-requires-clause-kept : goal.step-requires-clause-kept
-step-requires-clause-kept g c =
+pub step-requires : goal.step-requires
+step-requires g c =
     let r = c.args.reading.now in
     let own = c.index-leaves-number.result in
     let own_is = c.index-leaves-number.is in
+    let stepped = c.loop-number.invariant.stepped in
     let kept : Instr → Type 0 = IsKept (g.S.Buffers.lists r.buffers.now) (g.S.Buffers.forgotten r.buffers.now) r.point in
     let many = c.loop-number.auto.leaves in
     let test = c.loop-number-test.true in
-    let at = all-at _ c.loop-number.leaves c.loop-number.number own c.loop-number.invariant.fit (omega arith) own_is in
-    subst (λ (p : Placed). kept (origin p.leaf)) own_is (origin-holds kept r.each.now.body own c.requires.kept at.places)
+    let at = all-at _ c.loop-number.leaves c.loop-number.number own stepped.fit (omega arith) own_is in
+    record {
+      room = stand-length r.each.now.body c.loop-number.registers stepped.stand;
+      may = record {
+        earlier = c.requires.may.earlier;
+        near = c.requires.may.near;
+        kept = subst (λ (p : Placed). kept (origin p.leaf)) own_is (origin-holds kept r.each.now.body own c.requires.may.kept at.places);
+      };
+      fit = rw (← own_is) at;
+    }
 
 pub loop-number-preserved : goal.loop-number-preserved
 loop-number-preserved g c =
@@ -68,11 +64,12 @@ loop-number-preserved g c =
     let own = c.index-leaves-number.result in
     let own_is = c.index-leaves-number.is in
     let inv = c.loop-number.invariant in
+    let stepped = inv.stepped in
     let leaf : Instr → Option ℤ = λ instr. (leaf_of xs each.maps instr).cell r.point in
     let many = c.loop-number.auto.leaves in
     let test = c.loop-number-test.true in
     let within : i < length leaves = omega arith in
-    let at = all-at (IsPlacedBy lists each.maps body cells r.point) leaves i own inv.fit within own_is in
+    let at = all-at (IsPlacedBy lists each.maps body cells r.point) leaves i own stepped.fit within own_is in
     let instr = origin own.leaf in
     let cell = leaf instr in
     let places = places_of own in
@@ -82,24 +79,26 @@ loop-number-preserved g c =
     let told : NamesNextMark (leaf_of xs each.maps instr) r.point c.in_ok-above.above = rw (sym own_is) at c.in_ok-above.ensures.next in
     let right : AllByRecursion (λ place. leaf (get_or body place (Const (pos 0))) ≡ cell) places =
     all-weaker (IsPlaceOf body instr) _ places (λ place is. ap leaf is.1) at.places in
-    let count = stand-length body cells inv.stand in
+    let count = stand-length body cells stepped.stand in
     let room : AllByRecursion (λ place. place < length cells) places =
     all-weaker (IsPlaceOf body instr) _ places (λ place is. let below = is.0 in omega arith) at.places in
-    let here = ap length inv.same in
+    let here = ap length stepped.same in
     let a = length-map leaves places_of in
     let below : i < length all = omega arith in
     let b = length-map all (first_of body) in
     let own_places : get_or all i [] ≡ places =
-    sym (ap (λ (ps : List (List ℕ)). get_or ps i []) inv.same) ∙ read-map places_of leaves i own [] (omega arith) own_is in
+    sym (ap (λ (ps : List (List ℕ)). get_or ps i []) stepped.same) ∙ read-map places_of leaves i own [] (omega arith) own_is in
     let at_first : get_or (map (first_of body) all) i Null ≡ instr =
     get_or-map (first_of body) all i [] Null below ∙ ap (first_of body) own_places ∙ at.places.0.1 in
     record {
-      fit = rw new (placed-step lists each.maps body r.point cells cell places i leaves c.step.new.self right
-          (rw new at c.in_ok-above.ensures.fit) inv.fit);
-      same = said-step places_of i leaves own c.step.new.self within c.in_ok-above.ensures.same ∙ inv.same;
-      stand = rw new (written-stand body cell places cells
-          (all-weaker (IsPlaceOf body instr) (λ place. IsStanding (get_or body place (Const (pos 0))) cell) places
-          (λ place is. reads-stand _ cell (ap reads is.1 ∙ origin-reads own.leaf)) at.places) inv.stand);
+      stepped = record {
+        fit = rw new (placed-step lists each.maps body r.point cells cell places i leaves c.step.new.self right
+            (rw new at c.in_ok-above.ensures.fit) stepped.fit);
+        same = said-step places_of i leaves own c.step.new.self within c.in_ok-above.ensures.same ∙ stepped.same;
+        stand = rw new (written-stand body cell places cells
+            (all-weaker (IsPlaceOf body instr) (λ place. IsStanding (get_or body place (Const (pos 0))) cell) places
+            (λ place is. reads-stand _ cell (ap reads is.1 ∙ origin-reads own.leaf)) at.places) stepped.stand);
+      };
       read = rw (new, take_more all i [] below, own_places)
           (all-push (AreRight leaf body (written cell places cells)) (take i all) places
           (right-stays leaf body cell places cells (take i all) right inv.read) (right-here leaf body cell places cells right room));
@@ -117,7 +116,7 @@ returns-clause-read g c =
     let all = map places_of c.args.leaves.now in
     let count = length-map c.args.leaves.now places_of in
     let test = c.loop-number-test.false in
-    right-all leaf each.body c.loop-number.registers all c.requires.all
+    right-all leaf each.body c.loop-number.registers all c.requires.may.all
     (subst (AllByRecursion (AreRight leaf each.body c.loop-number.registers)) (take_all c.loop-number.number all (omega arith))
     c.loop-number.invariant.read)
 
@@ -132,8 +131,8 @@ returns-clause-next g c =
     let count = length-map c.args.leaves.now places_of in
     let most = length-map all (first_of each.body) in
     let test = c.loop-number-test.false in
-    let equal = leaves-equal lists each.maps each.body c.args.registers.now r.point c.args.leaves.now c.requires.fit in
+    let equal = leaves-equal lists each.maps each.body c.args.registers.now r.point c.args.leaves.now c.requires.may.fit in
     names-same (body_of xs each) (body_of xs (record each { body = block })) r.point
-    (λ other above. leaves-marks xs each.maps other each.body all equal c.requires.all) c.loop-number.next
+    (λ other above. leaves-marks xs each.maps other each.body all equal c.requires.may.all) c.loop-number.next
     (subst (λ (b : Block). NamesNextMark (body_of xs (record each { body = b })) r.point c.loop-number.next)
     (take_all c.loop-number.number block (omega arith)) c.loop-number.invariant.next)

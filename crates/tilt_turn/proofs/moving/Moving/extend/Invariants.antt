@@ -1,8 +1,7 @@
 use Rattle.std.proofs.Common.{◌≡◌, ℤ, ◌≤ℤ◌}
 use Rattle.std.specs.Int.{int_gap}
 use Rattle.tilt_code.specs.Body.{mapped}
-use Rattle.tilt_stream.specs.Stream.{stream_of}
-use Rattle.tilt_turn.specs.Held.{Holds, Knows, StandsAt}
+use Rattle.tilt_turn.specs.Held.{Holds, Knows}
 use Rattle.tilt_turn.specs.Kinds.{kind_reducer}
 use Rattle.tilt_turn.proofs.moving.Moving.extend.Given as goal
 
@@ -13,10 +12,9 @@ invariant-loop-mark g l =
     record {
       low : l.fn.self.back.tick ≤ℤ l.self.back.tick;
       high : l.self.back.tick ≤ℤ l.last;
-      cursor : StandsAt list (g.B.Buffer.forgotten l.source.buffer.now) l.self.back.tick l.self.back;
       knows : Knows list l.self;
       reducer : kind_reducer l.self.kind ≡ kind_reducer l.fn.self.kind;
-      held : (first : ℤ) → first ≤ℤ l.fn.self.back.tick → Holds (stream_of list) by_map first l.fn.self → Holds (stream_of list) by_map first l.self;
+      held : (first : ℤ) → first ≤ℤ l.fn.self.back.tick → Holds list by_map first l.fn.self → Holds list by_map first l.self;
     }
 
 abbrev pub decreases-loop-mark : goal.decreases-loop-mark

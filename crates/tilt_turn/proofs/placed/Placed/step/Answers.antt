@@ -1,9 +1,8 @@
-use Rattle.std.proofs.Common.{◌≡◌, ◌<◌, ◌<ℤ◌, IfSome, refl, sym, ap, ◌∙◌, length, w64, to_z, of_z, set, arith}
-use Rattle.std.proofs.lemmas.Int.{ints}
+use Rattle.std.proofs.Common.{◌≡◌, ◌<◌, ◌<ℤ◌, IfSome, refl, sym, ap, ◌∙◌, length, set, arith}
 use Rattle.std.proofs.lemmas.List.{length-set}
-use Rattle.tilt_turn.proofs.Origins.{leaf-may}
 use Rattle.tilt_turn.proofs.Placing.{SeenBy, just-looked}
 use Rattle.tilt_turn.proofs.Stepwise.{all-weaker}
+use Rattle.tilt_turn.proofs.TurnTicks.{point-fits}
 use Rattle.tilt_turn.proofs.Written.{written-same}
 use Rattle.tilt_turn.specs.Held.{IsPlaceOf, origin, places_of}
 use Rattle.tilt_turn.specs.Picked.{written}
@@ -15,10 +14,7 @@ returns-then-lasts_until g c =
     let p = c.args.self.now in
     let cells = c.args.registers.now in
     let lists = g.S.Buffers.lists r.buffers.now in
-    let low = c.requires.near.low in
-    let high = c.requires.near.high in
-    let point : to_z w64 (of_z w64 r.point) ≡ r.point = omega (arith, ints) in
-    let stays : IfSome p.next (λ next. r.point <ℤ next) = (rw point at c.lasts_until.ensures).0 c.if-lasts_until.true in
+    let stays : IfSome p.next (λ next. r.point <ℤ next) = (rw (point-fits r.point c.requires.may.near) at c.lasts_until.ensures).0 c.if-lasts_until.true in
     let sees = c.requires.fit.known stays in
     record {
       fit = c.requires.fit;
@@ -49,13 +45,12 @@ returns g c =
     let cells = c.args.registers.now in
     let seen = c.in_ok-seen.seen in
     let ensures = c.in_ok-seen.ensures in
-    let at = leaf-may lists _ r.each.now.maps r.point c.look.new.self ensures.at in
     let made : c.write_all.new.registers ≡ written seen.cell (places_of p) cells = rw c.deref.ensures.value at c.write_all.ensures in
     record {
-      fit = rw made (just-looked lists r.each.now.maps r.each.now.body r.point cells p c.look.new.self seen ensures.same at
-          c.requires.fit.places c.requires.room ensures.seen);
+      fit = rw made (just-looked lists r.each.now.maps r.each.now.body r.point cells p c.look.new.self seen ensures
+          c.requires.fit.places c.requires.room);
       same = refl;
-      cells = made ∙ ap (λ cell. written cell (places_of p) cells) ensures.seen.cell;
-      next = ensures.seen.next;
-      bounds = ensures.seen.bounds;
+      cells = made ∙ ap (λ cell. written cell (places_of p) cells) ensures.sees.cell;
+      next = ensures.sees.next;
+      bounds = ensures.sees.bounds;
     }

@@ -1,10 +1,11 @@
-use Rattle.std.proofs.Common.{◌≡◌, ◌+ℤ◌, ◌≤ℤ◌, pos, [], get_or, ap, w64, to_z, of_z, arith}
+use Rattle.std.proofs.Common.{◌+ℤ◌, pos, [], get_or, ap, arith}
 use Rattle.std.proofs.lemmas.Int.{ints}
 use Rattle.std.proofs.lemmas.Result.{on_ok_weaker}
 use Rattle.tilt_base.specs.declared.reducer.Reducer.{Reducer}
 use Rattle.tilt_code.specs.declared.instr.Instr.TheVariants.{Win}
-use Rattle.tilt_turn.proofs.Cursors.{may-later}
-use Rattle.tilt_turn.proofs.Numbered.{all-ok}
+use Rattle.tilt_turn.proofs.Cursors.{knows-may, may-later}
+use Rattle.tilt_turn.proofs.Numbered.{both-ok}
+use Rattle.tilt_turn.proofs.TurnTicks.{next-fits, tick-fits}
 use Rattle.tilt_turn.proofs.span.WindowLeaf.move_to.Goals as goal
 
 pub move_to-requires-clause-cursor : goal.move_to-requires-clause-cursor
@@ -13,56 +14,44 @@ move_to-requires-clause-cursor g c =
     let list = get_or (g.S.Buffers.lists c.args.buffers.now) w.buffer [] in
     let before = c.requires.fit.0 in
     let onwards = c.requires.fit.1 in
-    let r = c.requires.fit.2.0 in
-    let low = r.high.0 in
-    let high = r.high.1 in
-    let first = c.requires.near.low in
-    let last = c.requires.near.high in
-    let at : to_z w64 (of_z w64 (to_z w64 (of_z w64 c.args.point) +ℤ to_z w64 (of_z w64 w.to))) ≡ c.args.point +ℤ w.to = omega (arith, ints) in
-    let later : (before +ℤ w.to) ≤ℤ (c.args.point +ℤ w.to) = omega (arith, ints) in
-    rw at (may-later list (before +ℤ w.to) (c.args.point +ℤ w.to) w.window.back c.requires.fit.2.1.cursor later)
+    let fit = c.requires.fit.2 in
+    rw (tick-fits c.args.point w.to c.requires.may.near fit.readable.high)
+    (may-later list (before +ℤ w.to) (c.args.point +ℤ w.to) w.window.back fit.cursor (omega (arith, ints)))
 
 pub move_to-requires-clause-kept : goal.move_to-requires-clause-kept
 move_to-requires-clause-kept g c =
-    let w = c.args.self.now in
-    let r = c.requires.fit.2.0 in
-    let from_low = r.low.0 in
-    let from_high = r.low.1 in
-    let first = c.requires.near.low in
-    let last = c.requires.near.high in
-    let first_is : to_z w64 (of_z w64 (to_z w64 (of_z w64 (to_z w64 (of_z w64 c.args.point) +ℤ to_z w64 (of_z w64 w.from))) +ℤ pos 1))
-    ≡ c.args.point +ℤ w.from +ℤ pos 1 = omega (arith, ints) in
-    rw first_is c.requires.kept
+    rw (next-fits c.args.point c.args.self.now.from c.requires.may.near c.requires.fit.2.readable.low) c.requires.may.kept
 
-pub move_to-requires-clause-held : goal.move_to-requires-clause-held
-move_to-requires-clause-held g c =
+pub move_to-requires-clause-begins : goal.move_to-requires-clause-begins
+move_to-requires-clause-begins g c =
     let w = c.args.self.now in
     let before = c.requires.fit.0 in
-    let onwards = c.requires.fit.1 in
-    let r = c.requires.fit.2.0 in
-    let low = r.low.0 in
-    let high = r.low.1 in
-    let first = c.requires.near.low in
-    let last = c.requires.near.high in
-    (before +ℤ w.from +ℤ pos 1, omega (arith, ints), c.requires.fit.2.1.held, c.requires.fit.2.1.known)
+    let onwards = c.requires.fit.1 in (
+      before +ℤ w.from +ℤ pos 1,
+      rw (next-fits c.args.point w.from c.requires.may.near c.requires.fit.2.readable.low) (omega (arith, ints)),
+      c.requires.fit.2.begins,
+    )
 
 pub returns-clause-at : goal.returns-clause-at
 returns-clause-at g c =
     let w = c.args.self.now in
-    let r = c.requires.fit.2.0 in
-    let from_low = r.low.0 in
-    let from_high = r.low.1 in
-    let to_low = r.high.0 in
-    let to_high = r.high.1 in
-    let first = c.requires.near.low in
-    let last = c.requires.near.high in
-    let last_is : to_z w64 (of_z w64 (to_z w64 (of_z w64 c.args.point) +ℤ to_z w64 (of_z w64 w.to))) ≡ c.args.point +ℤ w.to = omega (arith, ints) in
-    let first_is : to_z w64 (of_z w64 (to_z w64 (of_z w64 (to_z w64 (of_z w64 c.args.point) +ℤ to_z w64 (of_z w64 w.from))) +ℤ pos 1))
-    ≡ c.args.point +ℤ w.from +ℤ pos 1 = omega (arith, ints) in
-    all-ok c.move_to.result _ _ _ _ c.move_to.ensures.cursor c.move_to.ensures.held c.move_to.ensures.knows
-    (λ cursor held knows. (r, record { cursor = rw last_is at cursor; held = rw first_is at held; known = λ some. knows }))
+    let r = c.requires.fit.2.readable in
+    let first_is = next-fits c.args.point w.from c.requires.may.near r.low in
+    let list = get_or (g.S.Buffers.lists c.args.buffers.now) w.buffer [] in
+    both-ok c.move_to.result _ _ _ c.move_to.ensures.moved c.move_to.ensures.held
+    (λ moved held.
+    let stands = rw (tick-fits c.args.point w.to c.requires.may.near r.high) at moved.stands in
+    record {
+      at = record {
+        readable = r;
+        cursor = knows-may list (c.args.point +ℤ w.to) c.move_to.new.self moved.knows (rw stands (omega (arith, ints)));
+        begins = record { held = rw first_is at held; known = λ some. moved.knows };
+      };
+      last = stands;
+    })
 
 pub returns-clause-same : goal.returns-clause-same
 returns-clause-same g c =
     let w = c.args.self.now in
-    on_ok_weaker c.move_to.result (λ same. ap (λ (reducer : Reducer). Win reducer w.buffer w.from w.to w.map) same) c.move_to.ensures.reducer
+    on_ok_weaker c.move_to.result (λ moved. ap (λ (reducer : Reducer). Win reducer w.buffer w.from w.to w.map) moved.reducer)
+    c.move_to.ensures.moved

@@ -16,16 +16,8 @@ use Rattle.tilt_turn.proofs.state.LoopState.turn.Goals as goal
 use Rattle.tilt_turn.proofs.state.LoopState.turn.Goals.{After-turn_end-end, In_ok-seen}
 use Rattle.tilt_turn.proofs.state.LoopState.turn.Given.{Over}
 
-pub body_seen-requires-clause-kept : goal.body_seen-requires-clause-kept
-body_seen-requires-clause-kept g c =
-    let point = c.point_of-point.result in
-    let fits : FitsSigned w64 point = search rules in
-    let value : point ≡ ceil c.args.each.now.grid (c.args.start +ℤ pos 1) =
-    rw (to_z-of_z w64 c.args.start c.ranges.start) at c.point_of-point.ensures.value in
-    rw (to_z-of_z w64 point fits, value) c.requires.kept
-
-pub body_seen-requires-clause-fit : goal.body_seen-requires-clause-fit
-body_seen-requires-clause-fit g c =
+pub body_seen-requires-clause-may : goal.body_seen-requires-clause-may
+body_seen-requires-clause-may g c =
     let each = c.args.each.now in
     let lists = g.S.Buffers.lists c.args.buffers.now in
     let cells = c.args.self.now.registers.items in
@@ -33,12 +25,18 @@ body_seen-requires-clause-fit g c =
     let fits : FitsSigned w64 point = search rules in
     let value : point ≡ ceil each.grid (c.args.start +ℤ pos 1) =
     rw (to_z-of_z w64 c.args.start c.ranges.start) at c.point_of-point.ensures.value in
-    let onwards = c.requires.fit.1 in
-    rw (to_z-of_z w64 point fits, value, c.deref_mut.ensures.value, c.deref_mut-2.ensures.value)
-    (all-weaker (IsPlacedBy lists each.maps each.body cells c.requires.fit.0)
-    (IsPlacedBy lists each.maps each.body cells (ceil each.grid (c.args.start +ℤ pos 1))) c.args.self.now.leaves.items
-    (λ own at. placed-later lists each.maps each.body cells c.requires.fit.0 (ceil each.grid (c.args.start +ℤ pos 1)) own onwards at)
-    c.requires.fit.2.leaves)
+    let fit = c.requires.fit.2 in
+    rw (to_z-of_z w64 point fits, value, c.deref_mut.ensures.value, c.deref_mut-2.ensures.value) (record {
+      all = fit.all;
+      fit = all-weaker (IsPlacedBy lists each.maps each.body cells c.requires.fit.0)
+          (IsPlacedBy lists each.maps each.body cells (ceil each.grid (c.args.start +ℤ pos 1))) c.args.self.now.leaves.items
+          (λ own at. placed-later lists each.maps each.body cells c.requires.fit.0 (ceil each.grid (c.args.start +ℤ pos 1)) own c.requires.fit.1 at)
+          fit.leaves;
+      stand = fit.registers;
+      earlier = c.requires.ready.maps;
+      near = rw value at c.point_of-point.ensures.near;
+      kept = c.requires.kept;
+    })
 
 -- what is seen of the body
 seen_is : (g : Over) (c : In_ok-seen g) → Sees (body_of (map stream_of (g.S.Buffers.lists c.args.buffers.now)) c.args.each.now)
@@ -80,13 +78,14 @@ returns-clause-fit g c =
     let each = c.args.each.now in
     let new = c.body_seen.new.leaves in
     let old = c.deref_mut.result.now in
-    let same = ap length c.in_ok-seen.ensures.same in
+    let stepped = c.in_ok-seen.ensures.stepped in
+    let same = ap length stepped.same in
     let a = length-map new places_of in
     let b = length-map old places_of in
     let len : length new ≡ c.args.self.now.leaves.len = omega arith in
     let cells = c.body_seen.new.registers in
     let here : c.deref_mut-2.result.now ≡ c.args.self.now.registers.items = c.deref_mut-2.ensures.value in
-    let stand = c.in_ok-seen.ensures.stand in
+    let stand = stepped.stand in
     let many = stand-length each.body cells stand in
     let were = stand-length each.body c.args.self.now.registers.items c.requires.fit.2.registers in
     let room : length cells ≡ c.args.self.now.registers.len = omega arith in
@@ -94,10 +93,10 @@ returns-clause-fit g c =
     let leaves = take_at new (drop (length new) c.args.self.now.leaves.items) c.args.self.now.leaves.len len in
     let point = c.point_of-point.result in
     let fits : FitsSigned w64 point = search rules in
-    let at = rw (to_z-of_z w64 point fits) at c.in_ok-seen.ensures.fit in
+    let at = rw (to_z-of_z w64 point fits) at stepped.fit in
     let value : point ≡ ceil each.grid (c.args.start +ℤ pos 1) = rw (to_z-of_z w64 c.args.start c.ranges.start) at c.point_of-point.ensures.value in
     let places : map places_of new ≡ map places_of c.args.self.now.leaves.items =
-    c.in_ok-seen.ensures.same ∙ ap (map places_of) c.deref_mut.ensures.value in
+    stepped.same ∙ ap (map places_of) c.deref_mut.ensures.value in
     rw (← value) (record {
       all = subst (AreAllRead each.body) (sym (ap (map places_of) leaves ∙ places)) c.requires.fit.2.all;
       leaves = subst (AllByRecursion (IsPlacedBy lists each.maps each.body _ point)) (sym leaves)
