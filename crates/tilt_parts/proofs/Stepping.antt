@@ -8,7 +8,7 @@ use Rattle.tilt_code.specs.References.{IsCode}
 use Rattle.tilt_code.specs.Run.{run_of}
 use Rattle.tilt_parts.proofs.Lists.{get-within}
 use Rattle.tilt_parts.specs.Part.{PartValue, IsPart, part_after}
-use Rattle.tilt_pipe.proofs.Collected.{next-touches, next-low, next-high, with-next}
+use Rattle.tilt_pipe.proofs.Collected.{next-touches, next-within, with-next}
 use Rattle.tilt_pipe.specs.Value.{PipeParts, pipe_after}
 use Rattle.tilt_base.specs.declared.limits.TheConstants.{WIDE}
 use Rattle.std.specs.Option.{ForSome}
@@ -50,11 +50,13 @@ module _ (part : PartValue) (is : IsPart part) (granted : part.refused ≡ false
   next_is s some = sym found_is ∙ some
 
   pub may-take : (s : Snapshot) → found ≡ Some s → MayTake part.taken s
-  may-take s some = record {
-    touches = next-touches part.pipe.code part.pipe.inputs part.taken (length part.taken) s is.code is.taken (next_is s some);
-    low = next-low part.pipe.code part.pipe.inputs part.taken (length part.taken) s is.code is.taken (next_is s some);
-    high = next-high part.pipe.code part.pipe.inputs part.taken (length part.taken) s is.code is.taken (next_is s some);
-  }
+  may-take s some =
+      let within = next-within part.pipe.code part.pipe.inputs part.taken (length part.taken) s is.code is.taken (next_is s some) in
+      record {
+        touches = next-touches part.pipe.code part.pipe.inputs part.taken (length part.taken) s is.code is.taken (next_is s some);
+        low = within.0;
+        high = within.1;
+      }
 
   -- the part once it was taken
   module _ (pipe : PipeParts) (after : part.pipe.refused ≡ false → MatchOption found (pipe ≡ part.pipe)

@@ -1,5 +1,6 @@
 -- The snapshots of a code's run, taken one after the other.
 use Rattle.std.proofs.Common.{◌≡◌, ◌-◌, ℕ, zero, suc, neg_ℤ, ◌≤ℤ◌, List, [], ◌∷◌, ◌++◌, length, take, slice_get, Option, Some, None, refl, sym, ap, ◌∙◌, subst}
+use Rattle.std.proofs.lemmas.List.{take_all}
 use Rattle.std.proofs.lemmas.Option.{same_Some, none-some}
 use Rattle.std.specs.Option.{ForSome}
 use Rattle.tilt_base.proofs.Lists.{all-slice_get, one-more}
@@ -12,7 +13,7 @@ use Rattle.tilt_code.specs.References.{IsCode}
 use Rattle.tilt_code.specs.Run.{run_of}
 use Rattle.tilt_pipe.proofs.Works.{last-loop, work-fills, work-is}
 use Rattle.tilt_pipe.specs.Value.{PipeParts}
-use Rattle.tilt_stream.proofs.Places.{read-within}
+use Rattle.tilt_stream.proofs.Places.{past-all, read-within}
 use Rattle.tilt_stream.specs.Snap.{Snapshot, AreSnapshots, Touch, last_end}
 
 -- the run of a code is a list of snapshots
@@ -35,24 +36,14 @@ touches-at (x ∷ y ∷ xs) (suc zero) s touch is =
     λ end last. sym (same_Some x.end end last) ∙ touch.0 ∙ ap (λ (n : Snapshot). n.start) (same_Some y s is)
 touches-at (x ∷ y ∷ xs) (suc (suc place)) s touch is = touches-at (y ∷ xs) (suc place) s touch.1 is
 
--- all of them, where there is none at the place
-pub all-taken : (all : List Snapshot) (place : ℕ) → slice_get all place ≡ None → take place all ≡ all
-all-taken [] zero is = refl
-all-taken [] (suc place) is = refl
-all-taken (x ∷ xs) zero is = absurd (none-some x (sym is))
-all-taken (x ∷ xs) (suc place) is = ap (λ l. x ∷ l) (all-taken xs place is)
-
 -- of a code's run so many snapshots were taken, and this one comes next
 module _ (code : CodeParts) (inputs : List (List Snapshot)) (list : List Snapshot) (given : ℕ) (s : Snapshot)
     (is : IsCode code) (so_far : list ≡ take given (run_of code inputs)) (next : slice_get (run_of code inputs) given ≡ Some s) where
   pub next-touches : ForSome (last_end list) (λ end. end ≡ s.start)
   next-touches = rw so_far (touches-at (run_of code inputs) given s (run-snapshots code inputs is).touch next)
 
-  pub next-low : neg_ℤ WIDE ≤ℤ s.start
-  next-low = (read-within (neg_ℤ WIDE) WIDE (run_of code inputs) given (Some s) (run-snapshots code inputs is).in_order (sym next)).0
-
-  pub next-high : s.end ≤ℤ WIDE
-  next-high = (read-within (neg_ℤ WIDE) WIDE (run_of code inputs) given (Some s) (run-snapshots code inputs is).in_order (sym next)).1
+  pub next-within : (neg_ℤ WIDE ≤ℤ s.start) × (s.end ≤ℤ WIDE)
+  next-within = read-within (neg_ℤ WIDE) WIDE (run_of code inputs) given (Some s) (run-snapshots code inputs is).in_order (sym next)
 
   pub with-next : list ++ s ∷ [] ≡ take (suc given) (run_of code inputs)
   with-next = ap (λ l. l ++ s ∷ []) so_far ∙ one-more (run_of code inputs) given s next
@@ -60,12 +51,10 @@ module _ (code : CodeParts) (inputs : List (List Snapshot)) (list : List Snapsho
 -- what a pipe of the code gave out
 pub given-out : (pipe : PipeParts) (code : CodeParts) (inputs : List (List Snapshot)) (found : Option Snapshot) → pipe.code ≡ code → pipe.inputs ≡ inputs
     → found ≡ slice_get (run_of pipe.code pipe.inputs) pipe.given → slice_get (run_of code inputs) pipe.given ≡ found
-given-out pipe code inputs found code_is inputs_is is = sym is-there where
-  is-there : found ≡ slice_get (run_of code inputs) pipe.given
-  is-there = rw (code_is, inputs_is) at is
+given-out pipe code inputs found code_is inputs_is is = sym (rw (code_is, inputs_is) at is)
 
 -- where it gave out nothing more, all were given out
 pub nothing-left : (all : List Snapshot) (place : ℕ) (found : Option Snapshot) → slice_get all place ≡ found → ((s : Snapshot) → found ≡ Some s → ⊥)
     → take place all ≡ all
-nothing-left all place None is none = all-taken all place is
+nothing-left all place None is none = take_all place all (past-all all place is)
 nothing-left all place (Some s) is none = absurd (none s refl)

@@ -1,5 +1,5 @@
 -- The earlier loops that a loop reads, as they are gathered and as they are looked at: they say what its next turn waits for.
-use Rattle.std.proofs.Common.{◌≡◌, inl, inr, ℕ, zero, suc, ◌+◌, ◌≤◌, ◌<◌, ℤ, ◌+ℤ◌, ◌<ℤ◌, ◌≤ℤ◌, ◌==◌, ◌||◌, Bool, true, false}
+use Rattle.std.proofs.Common.{◌≡◌, inl, inr, ℕ, suc, ◌+◌, ◌≤◌, ◌<◌, ℤ, ◌+ℤ◌, ◌<ℤ◌, ◌≤ℤ◌, ◌==◌, ◌||◌, Bool, true, false}
 use Rattle.std.proofs.Common.{List, [], ◌∷◌, ◌++◌, length, slice_get, slice_set, Some, Contains, refl, sym, ap, ◌∙◌, subst, arith}
 use Rattle.std.proofs.lemmas.Bool.{cases_eq}
 use Rattle.std.proofs.lemmas.Int.{ints, clamps, by_lt_z}
@@ -9,6 +9,7 @@ use Rattle.circular_buffer.proofs.Places.{slice_get-set_other, slice_get-set_sam
 use Rattle.std.specs.Int.{int_max, int_min}
 use Rattle.std.specs.List.{AllByRecursion}
 use Rattle.tilt_base.proofs.Lists.{Contains-cons_cases, all-each, all-push, all-slice_get}
+use Rattle.tilt_turn.proofs.Stepwise.{all-set}
 use Rattle.tilt_code.specs.References.{IsCode}
 use Rattle.tilt_pipe.proofs.Nears.{loop-reads}
 use Rattle.tilt_pipe.proofs.Telling.{told-one}
@@ -25,13 +26,17 @@ use Rattle.tilt_pipe.specs.declared.sources.Source.{Source}
 pub contains-at : {X : Type 0} (xs : List X) (k : ℕ) (x : X) → slice_get xs k ≡ Some x → Contains xs x
 contains-at xs k x is = (k, slice_get_within xs k x is, get_or_from_slice_get xs k x x is)
 
+-- what is true of the first ones, as many as that, and of the next one
+pub each-more : {X : Type 0} (xs : List X) (count : ℕ) (x : X) (Is : X → Type 0) → ((n : ℕ) (y : X) → n < count → slice_get xs n ≡ Some y → Is y)
+    → slice_get xs count ≡ Some x → Is x → (n : ℕ) (y : X) → n < count + 1 → slice_get xs n ≡ Some y → Is y
+each-more xs count x Is each at is n y below found =
+    elim (cases_eq n count) as (λ _. Is y) [
+      | inl same ↦ subst Is (same_Some x y (sym at ∙ ap (slice_get xs) (sym same) ∙ found)) is
+      | inr other ↦ each n y (omega (arith, below, other)) found
+    ]
+
 pub at-contains : {X : Type 0} (xs : List X) (x : X) → Contains xs x → (k : ℕ) × (slice_get xs k ≡ Some x)
 at-contains xs x (k, within, is) = (k, slice_get_read xs (length xs) k x refl within (sym is))
-
-pub all-set : {X : Type 0} (P : X → Type 0) (xs : List X) (n : ℕ) (x : X) → AllByRecursion P xs → P x → AllByRecursion P (slice_set xs n x)
-all-set P [] n x all new = tt
-all-set P (y ∷ xs) zero x all new = (new, all.1)
-all-set P (y ∷ xs) (suc n) x all new = (all.0, all-set P xs n x all.1 new)
 
 -- with one read more the others are still reads, and a source is still one
 read-later : (reads : List Read) (r : Read) (buffer : ℕ) (x : Read) → IsRead reads buffer x → IsRead (r ∷ reads) buffer x

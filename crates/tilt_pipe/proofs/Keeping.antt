@@ -4,7 +4,7 @@ use Rattle.std.proofs.Common.{Some, Contains, refl, sym, ap, ◌∙◌, subst, a
 use Rattle.std.proofs.lemmas.Bool.{cases_lt}
 use Rattle.std.proofs.lemmas.Int.{ints}
 use Rattle.std.proofs.lemmas.List.{get_or-append-add, get_or-take, length-map}
-use Rattle.std.proofs.lemmas.Option.{same_Some, slice_get_within}
+use Rattle.std.proofs.lemmas.Option.{slice_get_within}
 use Rattle.std.specs.List.{AllByRecursion}
 use Rattle.circular_buffer.proofs.Places.{slice_get-some}
 use Rattle.tilt_base.proofs.Lists.{all-contains, all-each, all-parts}
@@ -28,7 +28,7 @@ use Rattle.tilt_turn.specs.declared.state.LoopState.{LoopState}
 use Rattle.tilt_pipe.proofs.Covered.{contains-at}
 use Rattle.tilt_pipe.proofs.Nears.{reads-near, ready-more, work-ready}
 use Rattle.tilt_pipe.proofs.Telling.{input-forgotten, open-at, same-body}
-use Rattle.tilt_pipe.proofs.RingsKept.{ring-of, loops-there}
+use Rattle.tilt_pipe.proofs.RingsKept.{ring-of}
 use Rattle.tilt_pipe.proofs.Standing.{next-made}
 use Rattle.tilt_pipe.proofs.Trimming.{ended-front, stage-behind}
 use Rattle.tilt_pipe.proofs.Wanted.{stage_at, wanted-within}
@@ -70,7 +70,7 @@ keeps-loop p place source w r code are trimmed is_open used among at before =
     let here = ring-of p place w code are is_open.is in
     let point = turn_point w.loop (start_at p place) in
     let own = slice_get_within (works_in p) place w is_open.is in
-    let found = slice_get-some p.rings source (omega (arith, loops-there p are)) in
+    let found = slice_get-some p.rings source (omega (arith, are.many)) in
     let ring = found.0 in
     let o = open-at p source ring code are found.1 in
     let k = place - suc source in
@@ -203,17 +203,7 @@ turn-next p place w code are is_open told =
     let next = next-made (map stream_of front) w.loop start timed whole is_open.before in
     ap (λ (list : List Snapshot). slice_get list (length (made_by start list))) work.whole ∙ next ∙ ap (λ (s : Snapshot). Some s) (sym over)
 
--- the same of an equal loop and start
-pub told-too : (p : RingsParts) (place : ℕ) (w v : Work) → slice_get (works_in p) place ≡ Some w → slice_get (works_in p) place ≡ Some v
-    → AreTold p place w → AreTold p place v
-told-too p place w v is at told = subst (λ (x : Work). AreTold p place x) (same_Some w v (sym is ∙ at)) told
-
-pub turned-alike : (p : RingsParts) (l m : LoopParts) (start other : ℤ) → l ≡ m → start ≡ other
-    → turn (body_of (map stream_of (lists_of p)) l) l.grid l.hi start ≡ turn (body_of (map stream_of (lists_of p)) m) m.grid m.hi other
-turned-alike p l m start other same at =
-    ap (λ (x : LoopParts). turn (body_of (map stream_of (lists_of p)) x) x.grid x.hi start) same
-    ∙ ap (λ (t : ℤ). turn (body_of (map stream_of (lists_of p)) m) m.grid m.hi t) at
-
+-- a state that is fit over what the rings tell is fit over the whole buffers
 pub fit-whole : (p : RingsParts) (place : ℕ) (w : Work) (state : LoopState) → IsCode p.code → AreRings p → slice_get (works_in p) place ≡ Some w
     → AreTold p place w → IsFit (lists_of p) w.loop (turn_point w.loop (start_at p place)) state
     → IsFit (buffers_of p.code p.inputs) w.loop (turn_point w.loop (start_at p place)) state

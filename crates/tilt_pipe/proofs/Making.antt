@@ -1,9 +1,14 @@
 -- A turn of a chain: what it asks, and what the chain keeps.
-use Rattle.std.proofs.Common.{◌≡◌, ◌≢◌, false, ◌+◌, ◌∙◌, ℕ, ℤ, pos, ◌≤ℤ◌, Bool, true, List, map, length, get_or, slice_get, slice_set, Some, None, sym, ap, subst, arith, ◌<◌}
+use Rattle.std.proofs.lemmas.Bool.{cases_eq}
+use Rattle.std.specs.Global.{Vec}
+use Rattle.tilt_pipe.proofs.Covered.{at-contains}
+use Rattle.tilt_pipe.proofs.Settled.{held-settled, holders-within}
+use Rattle.tilt_pipe.specs.declared.chain.Chain.{Chain}
+use Rattle.std.proofs.Common.{◌≡◌, ◌≢◌, false, ◌∙◌, ℕ, ℤ, pos, ◌≤ℤ◌, Bool, true, List, map, length, get_or, slice_get, slice_set, Some, None, sym, ap, subst, arith, ◌<◌, inl, inr, Option, Contains}
 use Rattle.std.proofs.lemmas.Int.{ints}
 use Rattle.std.proofs.lemmas.List.{length-map}
-use Rattle.std.proofs.lemmas.Option.{get_or_from_slice_get, same_Some}
-use Rattle.circular_buffer.proofs.Places.{slice_get-set_same}
+use Rattle.std.proofs.lemmas.Option.{get_or_from_slice_get, same_Some, slice_get_within}
+use Rattle.circular_buffer.proofs.Places.{slice_get-set_same, slice_get-some}
 use Rattle.tilt_code.specs.References.{IsCode}
 use Rattle.tilt_code.specs.Run.{buffers_of}
 use Rattle.tilt_stream.specs.Snap.{Snapshot}
@@ -11,19 +16,18 @@ use Rattle.tilt_turn.specs.Held.{IsFit}
 use Rattle.tilt_pipe.proofs.Keeping.{keeps-body}
 use Rattle.tilt_pipe.proofs.Nears.{work-ready}
 use Rattle.tilt_pipe.proofs.RingsKept.{next-kept, ring-of}
-use Rattle.tilt_pipe.proofs.Trimming.{IsTurn, alike-works, exact-trimmed, turned, turned-starts, turned-held, turned-later, turned-still, turned-unread}
+use Rattle.tilt_pipe.proofs.Trimming.{IsTurn, exact-trimmed, turned, turned-starts, turned-held, alike-long, alike-holder}
 use Rattle.tilt_pipe.proofs.Turning.{has-many, own-turns, turns-set}
 use Rattle.tilt_pipe.proofs.Wanted.{turn_point-rises}
-use Rattle.tilt_pipe.specs.Chain.{AreTold, AreTurns, AreTurnsOf, MayTurn, IsHeldBy}
-use Rattle.tilt_pipe.specs.Made.{Work, reads_buffer}
+use Rattle.tilt_pipe.specs.Chain.{AreTold, AreTurns, AreTurnsOf, MayTurn, IsHeldBy, IsChain, MayLetGo, LetsGo, IsSettled, IsLeft, held_in, holder_next}
+use Rattle.tilt_pipe.specs.Made.{Work}
 use Rattle.tilt_pipe.specs.Positions.{AreRings, IsOpen, RingParts, RingsParts, made_at, made_by, stages_at, start_at, starts_of, works_in}
 use Rattle.tilt_pipe.specs.Reads.{body_reads, turn_point}
 use Rattle.tilt_pipe.specs.Rings.{rings_of}
-use Rattle.tilt_pipe.specs.Sources.{AreReaders, AreSources, IsReaderOf}
-use Rattle.tilt_pipe.specs.Trimmed.{StandAlike, wanted_at, HasLetGo}
+use Rattle.tilt_pipe.specs.Sources.{AreReaders, AreSources}
+use Rattle.tilt_pipe.specs.Trimmed.{wanted_at, HasLetGo}
 use Rattle.tilt_pipe.specs.declared.chain.LoopTurns.{LoopTurns}
 use Rattle.tilt_pipe.specs.declared.chain.Reader.{Reader}
-use Rattle.tilt_pipe.proofs.Wanting.{reader-behind, trimmed-gone, IsTrimmed}
 
 pub may-turn : (p : RingsParts) (all : List LoopTurns) (place : ℕ) (w : Work) (turns : LoopTurns) → IsCode p.code → AreRings p
     → AreTurns p.code p.inputs (starts_of p.rings) all
@@ -90,29 +94,43 @@ new-turns p all place w old new b r s are turn stands at sources readers none fi
     subst (λ (starts : List ℤ). AreTurns p.code p.inputs starts (slice_set all place new)) (sym (turned-starts p place b r s))
     (turns-set p.code p.inputs (starts_of p.rings) all place s.end w new are turn.of (omega (arith, ints)) own)
 
--- its own ring is settled where it held a snapshot before: its holder is a later loop, which stands where it stood
-pub own-gone : (p : RingsParts) (place : ℕ) (w : Work) (b : Bool) (r : RingParts) (s : Snapshot) → IsTurn p place w b r s → 0 < length r.held
-    → IsTrimmed p place → HasLetGo (turned p place b r s) place (wanted_at (turned p place b r s) place)
-own-gone p place w b r s turn some trimmed =
-    subst (HasLetGo (turned p place b r s) place) (sym (turned-later p place place w b r s turn.of (omega arith)))
-    (turned-still p place place w b r s (wanted_at p place) turn (λ _. some) (trimmed-gone p place trimmed))
+-- after a turn a ring is held that another loop holds, or none; that of the loop itself, where it held a snapshot before
+module _ (c d : Chain) (place k : ℕ) (w : Work) (b : Bool) (r : RingParts) (s : Snapshot) (turn : IsTurn c.rings place w b r s)
+    (rings : d.rings ≡ turned c.rings place b r s) (holders : d.holders.items ≡ c.holders.items) (is : IsChain c) where
+  pub held-after : (x : Option Reader) → (k ≡ place → 0 < length r.held) → ((reader : Reader) → x ≡ Some reader → reader.place ≢ place)
+      → slice_get d.holders.items k ≡ Some x → IsHeldBy d.rings k x
+  held-after x some other at =
+      subst (λ (q : RingsParts). IsHeldBy q k x) (sym rings) (turned-held c.rings place k w b r s x turn some other
+      (is.held k x (ap (λ (xs : List (Option Reader)). slice_get xs k) (sym holders) ∙ at)))
 
-pub own-held : (p : RingsParts) (place : ℕ) (w : Work) (b : Bool) (r : RingParts) (s : Snapshot) (reader : Reader) → IsCode p.code
-    → IsTurn p place w b r s → 0 < length r.held → IsReaderOf (length p.inputs) p.code.loops place reader → IsHeldBy p place reader
-    → IsHeldBy (turned p place b r s) place reader
-own-held p place w b r s reader code turn some own held =
-    turned-held p place place w b r s reader turn (λ _. some) (λ same. absurd (omega (arith, reader-behind p place reader code turn.are own))) held
+  -- once the loop's own ring is settled, each other one is, or it is in the loop's list
+  pub turned-left : (z : Chain) → d.held.items ≡ c.held.items → MayLetGo d → LetsGo d z place → IsSettled z place → k < length z.rings.rings
+      → IsLeft z place (length (held_in z.held.items place)) k
+  turned-left z lists may goes settled there =
+      elim (cases_eq k place) as (λ _. IsLeft z place (length (held_in z.held.items place)) k) [
+        | inl same ↦ inl (subst (IsSettled z) (sym same) settled)
+        | inr other ↦ (
+            let below : k < length d.rings.rings = omega (arith, there, alike-long d.rings z.rings goes.alike) in
+            let x = slice_get-some d.holders.items k (holders-within d k may below) in by other x.0 x.1
+            )
+      ]
+    where
+      apart : (x : Option Reader) → k ≢ place → ((reader : Reader) → x ≡ Some reader → reader.place ≢ place) → slice_get d.holders.items k ≡ Some x
+          → IsLeft z place (length (held_in z.held.items place)) k
+      apart x other away at =
+          inl (held-settled z k x (goes.others k other ∙ at)
+          (subst (HasLetGo z.rings k) (sym (alike-holder d.rings z.rings x goes.alike))
+          (goes.more k (holder_next d.rings x) (held-after x (λ same. absurd (other same)) away at))))
 
--- and of those that it doesn't read all is let go that isn't wanted
-pub unread-gone : (p z : RingsParts) (place k : ℕ) (w v : Work) (b : Bool) (r : RingParts) (s : Snapshot) → IsTurn p place w b r s → IsTrimmed p k
-    → StandAlike (turned p place b r s) z → slice_get (works_in z) place ≡ Some v
-    → reads_buffer (length z.inputs + k) (body_reads v.loop.body) ≡ false → k ≢ place
-    → HasLetGo (turned p place b r s) k (wanted_at (turned p place b r s) k)
-unread-gone p z place k w v b r s turn trimmed alike of unread other =
-    let q = turned p place b r s in
-    let of_w : slice_get (works_in p) place ≡ Some v = subst (λ (ws : List Work). slice_get ws place ≡ Some v) (alike-works q z alike) of in
-    let not_read : reads_buffer (length p.inputs + k) (body_reads w.loop.body) ≡ false =
-    ap (λ (x : Work). reads_buffer (length p.inputs + k) (body_reads x.loop.body)) (same_Some w v (sym turn.of ∙ of_w))
-    ∙ ap (λ (inputs : List (List Snapshot)). reads_buffer (length inputs + k) (body_reads v.loop.body)) (sym alike.inputs) ∙ unread in
-    subst (HasLetGo q k) (sym (turned-unread p place k w b r s turn not_read))
-    (turned-still p place k w b r s (wanted_at p k) turn (λ same. absurd (other same)) (trimmed-gone p k trimmed))
+      by : k ≢ place → (x : Option Reader) → slice_get d.holders.items k ≡ Some x → IsLeft z place (length (held_in z.held.items place)) k
+      by other None at = apart None other (λ reader no. absurd (cc no)) at
+      by other (Some reader) at =
+          elim (cases_eq reader.place place) as (λ _. IsLeft z place (length (held_in z.held.items place)) k) [
+            | inl own ↦ (
+                let was = is.lists.listed k reader (ap (λ (xs : List (Option Reader)). slice_get xs k) (sym holders) ∙ at) in
+                let here = at-contains (held_in c.held.items place) k (subst (λ (n : ℕ). Contains (held_in c.held.items n) k) own was) in
+                let now = goes.listed place here.0 k (ap (λ (all : List (Vec ℕ)). slice_get (held_in all place) here.0) lists ∙ here.1) in
+                inr (here.0, slice_get_within (held_in z.held.items place) here.0 k now, now)
+                )
+            | inr away ↦ apart (Some reader) other (λ x same. subst (λ (y : Reader). y.place ≢ place) (same_Some reader x same) away) at
+          ]

@@ -1,11 +1,11 @@
 -- The grid points of the next turns of loops.
-use Rattle.std.proofs.Common.{◌≡◌, inl, inr, ◌<◌, ℕ, suc, ℤ, pos, ◌+ℤ◌, int_lt, Bool, true, false, ◌&&◌, if◌then◌else◌, List, [], ◌∷◌, ◌++◌, length, get_or}
-use Rattle.std.proofs.Common.{slice_get, slice_set, Option, Some, None, refl, sym, ap, ◌∙◌, subst, arith, length-append}
-use Rattle.std.proofs.lemmas.Bool.{cases_eq, cases_lt}
+use Rattle.std.proofs.Common.{◌≡◌, inl, inr, ℕ, ℤ, pos, ◌+ℤ◌, int_lt, Bool, true, false, ◌&&◌, if◌then◌else◌, List, get_or}
+use Rattle.std.proofs.Common.{slice_get, slice_set, Option, Some, None, refl, sym, ap, ◌∙◌, subst, arith}
+use Rattle.std.proofs.lemmas.Bool.{cases_eq}
 use Rattle.std.proofs.lemmas.Int.{ints}
 use Rattle.std.proofs.lemmas.List.{get_or-set_other}
 use Rattle.std.proofs.lemmas.Option.{get_or_from_slice_get, same_Some, slice_get_within}
-use Rattle.circular_buffer.proofs.Places.{slice_get-append_left, slice_get-append_right, slice_get-set_other, slice_get-set_same}
+use Rattle.circular_buffer.proofs.Places.{slice_get-set_other, slice_get-set_same}
 use Rattle.tilt_stream.specs.Snap.{Snapshot}
 use Rattle.tilt_pipe.proofs.Trimming.{IsTurn, alike-works, turned, turned-starts}
 use Rattle.tilt_pipe.specs.Chain.{ArePoints, point_at}
@@ -96,28 +96,3 @@ turned-points p place w b r s points turn are = λ k v of.
           ∙ get_or-set_other (starts_of p.rings) place k s.end (pos 0) other))
           )
     ]
-
--- the points of so many loops
-pub record ArePointsOf (p : RingsParts) (count : ℕ) (points : List (Option ℤ)) : Type 0 where
-  pub many : length points ≡ count
-  pub each : (k : ℕ) (w : Work) → k < count → slice_get (works_in p) k ≡ Some w → slice_get points k ≡ Some (point_at p k w)
-
-pub points-none : (p : RingsParts) → ArePointsOf p 0 []
-points-none p = record { many = refl; each = λ k w below of. absurd (omega (arith, below)) }
-
-pub points-more : (p : RingsParts) (count : ℕ) (points : List (Option ℤ)) (point : Option ℤ) → ArePointsOf p count points
-    → ((w : Work) → slice_get (works_in p) count ≡ Some w → point ≡ point_at p count w) → ArePointsOf p (suc count) (points ++ point ∷ [])
-points-more p count points point are is =
-    let many = are.many in
-    record {
-      many = (let long = length-append points (point ∷ []) in omega arith);
-      each = λ k w below of.
-          elim (cases_lt k count) as (λ _. slice_get (points ++ point ∷ []) k ≡ Some (point_at p k w)) [
-            | inl low ↦ slice_get-append_left points (point ∷ []) k (omega arith) ∙ are.each k w low of
-            | inr high ↦ (
-                let here : k ≡ count = omega arith in
-                slice_get-append_right points (point ∷ []) k 0 (omega arith) ∙ ap Some (is w (ap (slice_get (works_in p)) (sym here) ∙ of))
-                ∙ ap (λ (n : ℕ). Some (point_at p n w)) (sym here)
-                )
-          ];
-    }

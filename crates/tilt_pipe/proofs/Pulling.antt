@@ -16,11 +16,11 @@ use Rattle.tilt_code.specs.Meaning.{IsTimed}
 use Rattle.tilt_code.specs.References.{IsCode}
 use Rattle.tilt_code.specs.Run.{run_of}
 use Rattle.tilt_code.specs.Turn.{turns}
-use Rattle.tilt_code.proofs.Runs.{loops-timed, turns-Fill}
+use Rattle.tilt_code.proofs.Runs.{last_or-pushed, loops-timed, turns-Fill}
 use Rattle.tilt_stream.specs.Snap.{Snapshot, last_end}
 use Rattle.tilt_stream.specs.Stream.{stream_of}
 use Rattle.tilt_pipe.proofs.Exact.{ended-rises, made-prefix, ArePrefixes, prefix-few, least, same-stages, star-enough, star-prefixes}
-use Rattle.tilt_pipe.proofs.RingsKept.{loops-there, ring-of}
+use Rattle.tilt_pipe.proofs.RingsKept.{ring-of}
 use Rattle.tilt_pipe.proofs.Standing.{IsNextMade, all-made, below_end, end-made, next-is, none-made}
 use Rattle.tilt_pipe.proofs.Wanted.{turn_point-rises, used-source}
 use Rattle.tilt_pipe.proofs.Works.{HasLast, last-loop, run-last, works-filled, works-length}
@@ -57,10 +57,6 @@ falling-last : (is : ℕ → Type 0) (above given : ℕ) (places : List ℕ) →
 falling-last is above given [] h low = low
 falling-last is above given (p ∷ places) h low = omega (arith, h.0, falling-last is p p places h.2 (omega arith))
 
-last_or-push : (given : ℕ) (xs : List ℕ) (x : ℕ) → last_or given (xs ++ x ∷ []) ≡ x
-last_or-push given [] x = refl
-last_or-push given (y ∷ xs) x = last_or-push y xs x
-
 begun-push : (last given : ℕ) (now : List Stage) (places : List ℕ) (place lower : ℕ) → IsBegun last given now (places ++ place ∷ [])
     → IsBegun last given now ((places ++ place ∷ []) ++ lower ∷ [])
 begun-push last given now [] place lower h = h
@@ -72,6 +68,21 @@ begun-pop : (is : ℕ → Type 0) (above last given : ℕ) (now later : List Sta
 begun-pop is above last given now later [] place more same falling h = let begins = h.0 in let count = h.1 in cc
 begun-pop is above last given now later (p ∷ places) place more same falling h =
     (h.0, same last (λ equal. omega (arith, (falling-top is p places place falling.2).0, h.0, equal)) ∙ h.1)
+
+-- the last one of some places, and those before it
+pub last-split : (places : List ℕ) (place : ℕ) → slice_get places (length places - 1) ≡ Some place
+    → (before : List ℕ) × (places ≡ before ++ place ∷ [])
+last-split [] place is = absurd (cc is)
+last-split (p ∷ []) place is = ([], ap (λ (q : ℕ). q ∷ []) (same_Some p place is))
+last-split (p ∷ q ∷ places) place is =
+    let long : length (p ∷ q ∷ places) - 1 ≡ suc (length (q ∷ places) - 1) = omega arith in
+    let rest = last-split (q ∷ places) place (rw long at is) in
+    (p ∷ rest.0, ap (λ (xs : List ℕ). p ∷ xs) rest.1)
+
+-- where there is none, there are no places
+pub last-none : (places : List ℕ) → slice_get places (length places - 1) ≡ None → places ≡ []
+last-none [] is = refl
+last-none (p ∷ places) is = absurd (cc (sym (slice_get-some (p ∷ places) (length (p ∷ places) - 1) (omega arith)).1 ∙ is))
 
 -- how many snapshots each loop has made where it stands
 made_in-at : (works : List Work) (starts : List ℤ) (k : ℕ) (w : Work) → length starts ≡ length works → slice_get works k ≡ Some w
@@ -183,7 +194,7 @@ module _ (given : ℕ) (p : RingsParts) (asked : List ℕ) (place : ℕ) (h : Is
   pub source-nearer : (source : ℕ) → ((w : Work) → IsOpen p place w → IsBehind p place w source)
       → steps_left given p ((asked ++ place ∷ []) ++ source ∷ []) < steps_left given p (asked ++ place ∷ [])
   source-nearer source each =
-      rw (last_or-push 0 (asked ++ place ∷ []) source, last_or-push 0 asked place) (omega (arith, (each asked-last.work asked-open).earlier))
+      rw (last_or-pushed 0 (asked ++ place ∷ []) source, last_or-pushed 0 asked place) (omega (arith, (each asked-last.work asked-open).earlier))
 
 -- the rings after the turn of a loop
 pub record IsTurned (p q : RingsParts) (place : ℕ) (s : Snapshot) : Type 0 where
@@ -301,7 +312,7 @@ module _ (given : ℕ) (p q : RingsParts) (asked : List ℕ) (place : ℕ) (h : 
       (falling-pop (IsAsked (works_in p) (starts_of p.rings) (star given p)) (λ k. k ≡ k) (length (works_in p)) asked place h.falling
       (λ k high one. refl)) (omega arith) in
       let left = left_to_make (stages_at (works_in p) after) (star given p) in
-      rw (t.code, t.inputs, t.starts, ← falls, last_or-push 0 asked place)
+      rw (t.code, t.inputs, t.starts, ← falls, last_or-pushed 0 asked place)
       (less-left left (suc (length (works_in p))) (last_or 0 asked) place (omega arith))
 
   -- where it was the only one, its snapshot is the next one of the run
@@ -312,14 +323,14 @@ module _ (given : ℕ) (p q : RingsParts) (asked : List ℕ) (place : ℕ) (h : 
       let count = made_in-at (works_in p) (starts_of p.rings) place here.work h.standing.many here.is in
       let given_is : now-made place ≡ given = subst (λ (k : ℕ). now-made k ≡ given) (sym begun.0) begun.1 in
       sym (t.found here.work (asked-open given p asked place h)) ∙ ap (slice_get here.work.whole) (sym count ∙ given_is)
-      ∙ ap (λ (list : List Snapshot). slice_get list given) last.run
+      ∙ ap (λ (list : List Snapshot). slice_get list given) last.0
 
 -- the loops of rings stand
 pub rings-stand : (p : RingsParts) → IsCode p.code → AreRings p → AreStanding (works_in p) (starts_of p.rings)
 rings-stand p code rings =
     let filled = works-filled p.code p.inputs (loops-timed p.code.loops code.grammatical.loops) in
     record {
-      many = omega (arith, loops-there p rings, works-length p.code p.inputs, length-map p.rings (λ (r : RingParts). r.start));
+      many = omega (arith, rings.many, works-length p.code p.inputs, length-map p.rings (λ (r : RingParts). r.start));
       each = λ k w is.
           let it = ring-of p k w code rings is in
           rw it.start (record { filled = filled k w is; fill = it.kept.ring.fill; within = it.kept.ring.within });

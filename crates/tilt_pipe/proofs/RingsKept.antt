@@ -1,6 +1,6 @@
 -- What the rings of a code's loops keep: before the first turn, after one more snapshot, and after some were let go.
-use Rattle.std.proofs.Common.{◌≡◌, ◌≤◌, ◌<◌, ◌+◌, ◌^◌, ℕ, zero, suc, ℤ, pos, neg_ℤ, ◌<ℤ◌, ◌≤ℤ◌, Bool, true, false, List}
-use Rattle.std.proofs.Common.{[], ◌∷◌, ◌++◌, map, length, drop, get_or, slice_get, slice_set, option_map, Option, Some, refl, sym, ap, ◌∙◌, subst, arith, length-drop}
+use Rattle.std.proofs.Common.{◌≡◌, ◌<◌, ◌+◌, ◌^◌, ℕ, zero, suc, ℤ, pos, neg_ℤ, ◌<ℤ◌, ◌≤ℤ◌, Bool, true, false, List}
+use Rattle.std.proofs.Common.{[], ◌∷◌, ◌++◌, map, length, drop, get_or, slice_get, slice_set, option_map, Some, refl, sym, ap, ◌∙◌, subst, arith, length-drop}
 use Rattle.std.proofs.lemmas.Int.{ints}
 use Rattle.std.proofs.lemmas.List.{drop_all, drop-append-le, length_push, length-set}
 use Rattle.std.proofs.lemmas.Option.{same_Some, get_or_from_slice_get, slice_get-map, slice_get_read, slice_get_within}
@@ -18,20 +18,14 @@ use Rattle.tilt_code.specs.References.{IsCode}
 use Rattle.tilt_code.specs.Turn.{turns}
 use Rattle.tilt_stream.specs.Snap.{Snapshot, AreSnapshots, last_end, Fill}
 use Rattle.tilt_stream.specs.Stream.{stream_of}
-use Rattle.tilt_pipe.proofs.Kept.{let_go-within}
+use Rattle.tilt_pipe.proofs.Kept.{drop-one}
 use Rattle.tilt_pipe.proofs.Standing.{IsNextMade, end-made, made-few, next-is, none-fills, none-made}
-use Rattle.tilt_pipe.proofs.Works.{work-is, work-fills}
+use Rattle.tilt_pipe.proofs.Works.{work-is, work-fills, works-length}
 use Rattle.tilt_pipe.specs.Made.{Work, is_used, works_from}
-use Rattle.tilt_pipe.specs.Positions.{RingParts, RingsParts, AreRings, AreRingsOf, IsOpen, IsRing, kept_ring, made_at, made_by, start_at, with_ring, works_in}
-use Rattle.tilt_pipe.specs.Rings.{end_or, kept_from, let_go}
+use Rattle.tilt_pipe.specs.Positions.{RingParts, RingsParts, AreRings, AreRingsOf, IsOpen, IsRing, kept_ring, made_at, made_by, start_at, with_ring, works_in, later_ring}
+use Rattle.tilt_pipe.specs.Rings.{end_or}
 
--- there is one ring for each loop
-pub rings-length : (works : List Work) (rings : List RingParts) → AreRingsOf works rings → length rings ≡ length works
-rings-length [] [] are = refl
-rings-length [] (r ∷ rings) are = absurd are
-rings-length (w ∷ works) [] are = absurd are
-rings-length (w ∷ works) (r ∷ rings) are = ap suc (rings-length works rings are.1)
-
+-- the loop at a place has the ring there
 pub ring-at : (works : List Work) (rings : List RingParts) (place : ℕ) (w : Work) (r : RingParts) → AreRingsOf works rings
     → slice_get works place ≡ Some w → slice_get rings place ≡ Some r → IsRing w r
 ring-at [] rings place w r are of is = absurd (cc of)
@@ -86,10 +80,6 @@ last_end-drop (suc n) [] end is = is
 last_end-drop (suc n) (s ∷ []) end is = absurd (cc (last_end-drop n [] end is))
 last_end-drop (suc n) (s ∷ next ∷ ss) end is = last_end-drop n (next ∷ ss) end is
 
--- a ring without those that are let go
-abbrev pub trimmed_ring : Option ℤ → List Snapshot → ℤ → ℤ → RingParts
-trimmed_ring first made start hi = record { held = kept_from first made; forgotten = let_go first made; start = start; hi = hi }
-
 -- how many it has made, that they are in order, and within the limits of time
 module _ (w : Work) (r : RingParts) (k : IsKept w r) where
   pub kept-count : r.forgotten + length r.held ≡ length (made_by r.start w.whole)
@@ -113,13 +103,13 @@ module _ (w : Work) (r : RingParts) (k : IsKept w r) where
       let last = last_end-drop r.forgotten (made_by r.start w.whole) end (rw k.ring.held at is) in
       sym (ap (end_or w.loop.lo) last) ∙ end-made w.loop.lo r.start (made_by r.start w.whole) k.ring.fill
 
-  trimmed-is : (first : Option ℤ) → IsRing w (trimmed_ring first (made_by r.start w.whole) r.start w.loop.hi)
-  trimmed-is first = record {
+  later-is : 0 < length r.held → IsRing w (later_ring r)
+  later-is some = record {
     fill = k.ring.fill;
     within = k.ring.within;
-    forgotten = let_go-within first (made_by r.start w.whole);
-    held = refl;
-    hi = refl;
+    forgotten = omega (arith, kept-count, some);
+    held = drop-one (made_by r.start w.whole) r.held r.forgotten k.ring.held;
+    hi = k.ring.hi;
   }
 
 pub next-kept : (w : Work) (r : RingParts) (s : Snapshot) → IsKept w r → slice_get w.whole (length (made_by r.start w.whole)) ≡ Some s
@@ -153,10 +143,6 @@ kept-is w false r s k none is =
       held = none refl ∙ sym (drop_all (r.forgotten + 1) (made_by s.end w.whole) (omega arith));
       hi = k.ring.hi;
     }
-
--- there are as many loops as rings
-pub loops-there : (p : RingsParts) → AreRings p → length p.rings ≡ length p.code.loops
-loops-there p are = are.many
 
 -- the loop at a place
 pub loop-is : (p : RingsParts) (place : ℕ) (w : Work) (loops : List LoopParts) (l : LoopParts) → slice_get (works_in p) place ≡ Some w
@@ -206,7 +192,7 @@ pub record HasRing (p : RingsParts) (place : ℕ) (w : Work) : Type 0 where
 pub ring-of : (p : RingsParts) (place : ℕ) (w : Work) → IsCode p.code → AreRings p → slice_get (works_in p) place ≡ Some w
     → HasRing p place w
 ring-of p place w code are of =
-    let within : place < length p.rings = omega (arith, rings-length (works_in p) p.rings are.rings, slice_get_within (works_in p) place w of) in
+    let within : place < length p.rings = omega (arith, are.many, works-length p.code p.inputs, slice_get_within (works_in p) place w of) in
     let ring = slice_get-some p.rings place within in
     let it = is-at p place w ring.0 code are of ring.1 in
     record { within = within; ring = ring.0; at = ring.1; start = it.start; kept = it.kept }
@@ -229,7 +215,7 @@ placed p place w code are open_ =
     let it = ring-of p place w code are open_.is in
     record {
       within = it.within;
-      within_loops = omega (arith, loops-there p are, it.within);
+      within_loops = omega (arith, are.many, it.within);
       low = omega (arith, ints, it.start, start-low w it.ring it.kept);
       high = omega (arith, ints, open_.before, it.kept.high);
     }
@@ -263,27 +249,11 @@ may-keep p place w b r s code are of found is none =
       };
     }
 
--- and so they do where some are let go
-pub trim-at : (p : RingsParts) (place : ℕ) (w : Work) (r : RingParts) (first : Option ℤ) → IsAt p place w r
-    → AreRings (with_ring p place (trimmed_ring first (made_at p place w) (start_at p place) w.loop.hi))
-trim-at p place w r first it =
-    rw (it.made, it.start) (record {
-      inputs = it.are.inputs;
-      many = length-set p.rings place (trimmed_ring first (made_by r.start w.whole) r.start w.loop.hi) ∙ it.are.many;
-      rings = rings-set (works_in p) p.rings place w (trimmed_ring first (made_by r.start w.whole) r.start w.loop.hi) it.are.rings it.of
-          (trimmed-is w r it.kept first);
-    })
-
--- which may be done to a ring that forgot no more than that before
-pub record MayTrim (p : RingsParts) (place : ℕ) (first : Option ℤ) (r : RingParts) : Type 0 where
-  pub work : Work
-  pub it : IsAt p place work r
-  pub low : r.forgotten ≤ let_go first (made_by r.start work.whole)
-
-pub may-trim : (p : RingsParts) (place : ℕ) (w : Work) (r read : RingParts) (first : Option ℤ) → IsCode p.code → AreRings p
-    → slice_get (works_in p) place ≡ Some w → slice_get p.rings place ≡ Some r → r.forgotten ≤ let_go first (made_at p place w)
-    → read ≡ get_or p.rings place read → MayTrim p place first read
-may-trim p place w r read first code are of at low is =
-    let it = is-at p place w r code are of at in
-    subst (MayTrim p place first) (sym (is ∙ get_or_from_slice_get p.rings place r read at))
-    (record { work = w; it = it; low = rw it.made at low })
+-- and so they do where its first one is let go
+pub later-at : (p : RingsParts) (place : ℕ) (w : Work) (r : RingParts) → IsAt p place w r → 0 < length r.held
+    → AreRings (with_ring p place (later_ring r))
+later-at p place w r it some = record {
+  inputs = it.are.inputs;
+  many = length-set p.rings place (later_ring r) ∙ it.are.many;
+  rings = rings-set (works_in p) p.rings place w (later_ring r) it.are.rings it.of (later-is w r it.kept some);
+}

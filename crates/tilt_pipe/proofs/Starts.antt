@@ -1,5 +1,5 @@
 -- The loops of a pipe before their first turns: which loops read their buffers, which of them are used, and what is kept of each.
-use Rattle.std.proofs.Common.{◌≢◌, ◌≡◌, inl, inr, ◌<◌, ◌≤◌, ℕ, zero, suc, ◌+◌, ◌==◌, ◌&&◌, ◌||◌, not, ℤ, pos, neg_ℤ, ◌+ℤ◌, ◌≤ℤ◌, Bool, true, false, replicate, None}
+use Rattle.std.proofs.Common.{◌≢◌, ◌≡◌, inl, inr, ◌<◌, ◌≤◌, ℕ, zero, suc, ◌+◌, ◌==◌, ◌&&◌, ◌||◌, not, ℤ, pos, neg_ℤ, ◌+ℤ◌, ◌≤ℤ◌, Bool, true, false, replicate, None, Option}
 use Rattle.std.proofs.Common.{List, [], ◌∷◌, ◌++◌, map, length, take, drop, slice_get, slice_set, option_map, Some, Contains, refl}
 use Rattle.std.proofs.Common.{sym, ap, ◌∙◌, subst, arith, length-drop}
 use Rattle.std.specs.Global.{Vec}
@@ -8,7 +8,7 @@ use Rattle.std.proofs.lemmas.Int.{ints}
 use Rattle.std.proofs.lemmas.List.{drop_all, length-map, length-set, length_push, take_at, length-replicate}
 use Rattle.std.proofs.lemmas.List.Elements.{Contains-append_left, Contains-push}
 use Rattle.std.proofs.lemmas.Option.{same_Some, slice_get-map, slice_get_within}
-use Rattle.circular_buffer.proofs.Places.{slice_get-drop, slice_get-last, slice_get-push, slice_get-set_other, slice_get-set_same, slice_get-some}
+use Rattle.circular_buffer.proofs.Places.{slice_get-drop, slice_get-last, slice_get-push, slice_get-set_other, slice_get-set_same}
 use Rattle.tilt_base.proofs.GridPoints.{ceil-IsCeil}
 use Rattle.tilt_base.proofs.Lists.{all-push, all-slice_get}
 use Rattle.tilt_base.specs.declared.limits.TheConstants.{WIDE}
@@ -23,18 +23,18 @@ use Rattle.tilt_turn.specs.Ready.{IsReady}
 use Rattle.tilt_pipe.proofs.Covered.{at-contains, one-read, source-near}
 use Rattle.tilt_pipe.proofs.Kept.{let_go-within}
 use Rattle.tilt_pipe.proofs.Nears.{ready-more, work-ready}
-use Rattle.tilt_pipe.proofs.RingsKept.{loops-there, ring-of}
+use Rattle.tilt_pipe.proofs.RingsKept.{empty_ring, ring-of}
 use Rattle.tilt_pipe.proofs.Standing.{none-made}
 use Rattle.tilt_pipe.proofs.Trimming.{trimmed-exact}
 use Rattle.tilt_pipe.proofs.Turning.{each-at}
 use Rattle.tilt_pipe.proofs.Wanted.{used-source}
-use Rattle.tilt_pipe.proofs.Works.{buffers-length, work-fills, work-is, works-length}
-use Rattle.tilt_pipe.specs.Chain.{AreTurns, AreHolders, IsHeld}
-use Rattle.tilt_pipe.specs.Gathered.{AreEach, HasAdded, HasBegun, HaveBegun}
+use Rattle.tilt_pipe.proofs.Works.{buffers-length, work-fills, work-is, work-there, works-length}
+use Rattle.tilt_pipe.specs.Chain.{AreTurns, AreHolders, IsHeld, AreLists, IsHeldBy, held_in}
+use Rattle.tilt_pipe.specs.Gathered.{AreEach, HasAdded, HasBegun, HaveBegun, AreEmpty}
 use Rattle.tilt_pipe.specs.Made.{Work, is_used, is_used_by, reads_buffer}
 use Rattle.tilt_pipe.specs.Positions.{AreRings, RingParts, RingsParts, made_by, stages_at, start_at, starts_of, works_in}
 use Rattle.tilt_pipe.specs.Reads.{body_reads}
-use Rattle.tilt_pipe.specs.Rings.{let_go, rings_of}
+use Rattle.tilt_pipe.specs.Rings.{rings_of}
 use Rattle.tilt_pipe.specs.Sources.{AreReaders, AreSources, HasReader, IsRead, IsReaderOf, IsSource}
 use Rattle.tilt_pipe.specs.Trimmed.{wanted_at}
 use Rattle.tilt_pipe.specs.declared.chain.LoopTurns.{LoopTurns}
@@ -52,10 +52,10 @@ each-set p count Old New all place new within are other own = record {
       (λ k apart. slice_get-set_other all place k new apart) (slice_get-set_same all place new within) other own;
 }
 
-pub each-push : (p : RingsParts) (Has : ℕ → Work → LoopTurns → Type 0) (all : List LoopTurns) (place : ℕ) (new : LoopTurns)
+pub each-push : {T : Type 0} (p : RingsParts) (Has : ℕ → Work → T → Type 0) (all : List T) (place : ℕ) (new : T)
     → AreEach p place Has all → ((w : Work) → slice_get (works_in p) place ≡ Some w → Has place w new)
     → AreEach p (suc place) Has (all ++ new ∷ [])
-each-push p Has all place new are own = record {
+each-push {T} p Has all place new are own = record {
   many = omega (arith, length_push all new);
   each = each-at (works_in p) Has Has all (all ++ new ∷ []) place new are.each
       (λ k apart. slice_get-push all new k (λ same. apart (same ∙ are.many))) (slice_get-last all new place (sym are.many))
@@ -126,9 +126,6 @@ used-is p from place w turns zero high more is begun long =
 used-is p from place w turns (suc n) high more is begun long =
     let test : (suc n == 0) ≡ false = grind arith in
     begun.used (omega arith) ∙ ap not (sym test)
-
-pub work-there : (p : RingsParts) (place : ℕ) → place < length p.code.loops → (w : Work) × (slice_get (works_in p) place ≡ Some w)
-work-there p place there = let count = works-length p.code p.inputs in slice_get-some (works_in p) place (omega arith)
 
 -- each loop that it reads is one of them
 pub source-there : (p : RingsParts) (place : ℕ) (sources : List Source) (n : ℕ) (s : Source) → IsCode p.code → AreRings p
@@ -240,49 +237,62 @@ written count all changed long same = take_at changed (drop (length changed) all
 -- where all have said what they read, they are those of loops that stand there
 pub first-turns : (p : RingsParts) (all : List LoopTurns) → AreRings p → HaveBegun p 0 all → AreTurns p.code p.inputs (starts_of p.rings) all
 first-turns p all are begun = record {
-  begins = length-map p.rings (λ (r : RingParts). r.start) ∙ loops-there p are;
+  begins = length-map p.rings (λ (r : RingParts). r.start) ∙ are.many;
   many = begun.many;
   each = λ k w t of at.
       let own = begun.each k w t of at in
       record { sources = own.sources (omega arith); readers = own.readers; fit = own.fit; passed = λ i s below at. absurd (omega (arith, own.passed)) };
 }
 
--- the ring of a loop before its first turn
-abbrev first_ring : LoopParts → RingParts
-first_ring l = record { held = []; forgotten = 0; start = l.lo; hi = l.hi }
-
-first-lows : (loops : List LoopParts) → starts_of (map first_ring loops) ≡ map (λ (l : LoopParts). l.lo) loops
-first-lows [] = refl
-first-lows (l ∷ loops) = ap (λ (rest : List ℤ). l.lo ∷ rest) (first-lows loops)
-
-pub first-starts : (p : RingsParts) (loops : List LoopParts)
-    → p.rings ≡ map (λ (l : LoopParts). record { held = []; forgotten = 0; start = l.lo; hi = l.hi }) loops
-    → starts_of p.rings ≡ map (λ (l : LoopParts). l.lo) loops
-first-starts p loops is = ap starts_of is ∙ first-lows loops
-
--- the rings then hold just what is wanted of them: nothing is made
-pub first-exact : (p : RingsParts) (loops : List LoopParts) → IsCode p.code → AreRings p → loops ≡ p.code.loops
-    → p.rings ≡ map (λ (l : LoopParts). record { held = []; forgotten = 0; start = l.lo; hi = l.hi }) loops
-    → map (λ (r : RingParts). r.held) p.rings ≡ rings_of (length p.inputs) (stages_at (works_in p) (starts_of p.rings))
-first-exact p loops code are same first =
-    trimmed-exact p are (λ k w r of at.
-    let fills = (work-fills p.code p.inputs k w (loops-timed p.code.loops code.grammatical.loops) of).0 in
-    let loop : slice_get loops k ≡ Some w.loop = ap (λ (ls : List LoopParts). slice_get ls k) same ∙ (work-is p.code p.inputs k w of).loop in
-    let here : slice_get p.rings k ≡ Some (first_ring w.loop) =
-    ap (λ (rings : List RingParts). slice_get rings k) first ∙ slice_get-map first_ring loops k ∙ ap (option_map first_ring) loop in
-    let none : 0 ≡ let_go (wanted_at p k) [] = (let few = let_go-within (wanted_at p k) [] in omega arith) in
-    subst (λ (x : RingParts). x.forgotten ≡ let_go (wanted_at p k) (made_by x.start w.whole)) (same_Some (first_ring w.loop) r (sym here ∙ at))
-    (subst (λ (list : List Snapshot). 0 ≡ let_go (wanted_at p k) list) (sym (none-made w.loop.lo w.loop.hi w.whole fills)) none))
+-- one empty list more
+pub empty-push : (lists : List (Vec ℕ)) (list : Vec ℕ) → list.items ≡ [] → ((place : ℕ) → held_in lists place ≡ [])
+    → (place : ℕ) → held_in (lists ++ list ∷ []) place ≡ []
+empty-push [] list none are zero = none
+empty-push [] list none are (suc place) = refl
+empty-push (x ∷ lists) list none are zero = are zero
+empty-push (x ∷ lists) list none are (suc place) = empty-push lists list none (λ n. are (suc n)) place
 
 -- where nobody holds a ring
-none-found : (count k : ℕ) (x : Reader) → slice_get (replicate count None) k ≢ Some (Some x)
-none-found zero k x at = cc at
-none-found (suc count) zero x at = cc at
+none-found : (count k : ℕ) (x : Option Reader) → slice_get (replicate count None) k ≡ Some x → None ≡ x
+none-found zero k x at = absurd (cc at)
+none-found (suc count) zero x at = same_Some None x at
 none-found (suc count) (suc k) x at = none-found count k x at
 
-pub none-held : (p : RingsParts) (all : List LoopTurns) (count : ℕ) → count ≡ length all
-    → AreHolders all (replicate count None) × ((k : ℕ) → IsHeld p (replicate count None) k)
-none-held p all count many = (
-  record { many = length-replicate count None ∙ many; among = λ k t x of at. absurd (none-found count k x at) },
-  λ k x at. absurd (none-found count k x at),
+-- nothing is made then
+module _ (p : RingsParts) (loops : List LoopParts) (code : IsCode p.code) (are : AreRings p) (same : loops ≡ p.code.loops)
+    (first : p.rings ≡ map empty_ring loops) where
+  first-made : (k : ℕ) (w : Work) (r : RingParts) → slice_get (works_in p) k ≡ Some w → slice_get p.rings k ≡ Some r
+      → (r.forgotten ≡ 0) × (made_by r.start w.whole ≡ [])
+  first-made k w r of at =
+      let fills = (work-fills p.code p.inputs k w (loops-timed p.code.loops code.grammatical.loops) of).0 in
+      let loop : slice_get loops k ≡ Some w.loop = ap (λ (ls : List LoopParts). slice_get ls k) same ∙ (work-is p.code p.inputs k w of).loop in
+      let here : slice_get p.rings k ≡ Some (empty_ring w.loop) =
+      ap (λ (rings : List RingParts). slice_get rings k) first ∙ slice_get-map empty_ring loops k ∙ ap (option_map empty_ring) loop in
+      subst (λ (x : RingParts). (x.forgotten ≡ 0) × (made_by x.start w.whole ≡ [])) (same_Some (empty_ring w.loop) r (sym here ∙ at))
+      (refl, none-made w.loop.lo w.loop.hi w.whole fills)
+
+  -- so the rings hold just what is wanted of them
+  pub first-exact : map (λ (r : RingParts). r.held) p.rings ≡ rings_of (length p.inputs) (stages_at (works_in p) (starts_of p.rings))
+  first-exact =
+      trimmed-exact p are (λ k w r of at.
+      let none = first-made k w r of at in
+      omega (arith, none.0, ap length none.1, let_go-within (wanted_at p k) (made_by r.start w.whole)))
+
+  -- and nobody has to hold one
+  pub none-held : (count k : ℕ) → IsHeld p (replicate count None) k
+  none-held count k x at =
+      subst (IsHeldBy p k) (none-found count k x at) (λ w r of here. omega (arith, ap length (first-made k w r of here).1))
+
+pub no-holders : (inputs : ℕ) (loops : List LoopParts) (count : ℕ) (lists : Vec (Vec ℕ)) → count ≡ length loops → AreEmpty count lists
+    → AreHolders inputs loops (replicate count None) × AreLists (replicate count None) lists.items
+no-holders inputs loops count lists many empty = (
+  record {
+    many = length-replicate count None ∙ many;
+    among = λ k x at. (let no = none-found count k (Some x) at in absurd (cc no));
+  },
+  record {
+    many = empty.many ∙ sym (length-replicate count None);
+    listed = λ k x at. (let no = none-found count k (Some x) at in absurd (cc no));
+    within = λ place k among. absurd (omega (arith, among.1, ap length (empty.none place)));
+  },
 )

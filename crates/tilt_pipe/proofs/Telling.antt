@@ -1,13 +1,12 @@
 -- What a turn reads of the rings of a pipe: of each loop what it has made, and one null snapshot for the rest of its stretch. It tells the
 -- same as the whole buffer, up to where the loop stands.
 use Rattle.std.proofs.Common.{◌≡◌, inl, inr, ◌≤◌, ◌<◌, ◌+◌, ◌-◌, ℕ, zero, suc, ℤ, neg_ℤ, ◌<ℤ◌, List, [], ◌∷◌, ◌++◌, map, length, get_or, slice_get, option_map, Some, None, refl, sym, ap, ◌∙◌, subst}
-use Rattle.std.proofs.Common.{arith, length-append, ◌⊎◌, pos, ◌+ℤ◌, ◌≤ℤ◌, true, false, ◌||◌, if◌then◌else◌, int_lt, Contains}
+use Rattle.std.proofs.Common.{arith, length-append, ◌⊎◌, pos, ◌+ℤ◌, ◌≤ℤ◌, true, false, ◌||◌, if◌then◌else◌, int_lt}
 use Rattle.std.proofs.lemmas.Bool.{cases_lt}
 use Rattle.std.proofs.lemmas.Int.{by_lt_z, ints}
 use Rattle.std.proofs.lemmas.List.{drop-append-le, get_or-map, get_or_append_left, length-map, append-nil, get_or-append-add}
 use Rattle.std.proofs.lemmas.Option.{same_Some, get_or_from_slice_get, slice_get-map, slice_get_read, slice_get_within}
 use Rattle.std.specs.Ordering.{int_eq}
-use Rattle.std.proofs.lemmas.List.Elements.{Contains-append_cases, Contains-append_left, Contains-append_right}
 use Rattle.std.specs.List.{AllByRecursion}
 use Rattle.circular_buffer.proofs.Places.{slice_get-drop, slice_get-some}
 use Rattle.tilt_base.specs.declared.limits.TheConstants.{WIDE}
@@ -24,9 +23,9 @@ use Rattle.tilt_stream.proofs.Ended.{none_ended}
 use Rattle.tilt_stream.proofs.Streams.{cell_at-before, mark_at-before, mark_at-start}
 use Rattle.tilt_stream.specs.Stream.{cell_at, mark_at, covers}
 use Rattle.tilt_turn.specs.Same.{IsSameFor}
-use Rattle.tilt_pipe.proofs.RingsKept.{IsAt, is-at, kept-count, kept-few, rings-length, loops-there}
+use Rattle.tilt_pipe.proofs.RingsKept.{IsAt, is-at, kept-count, kept-few}
 use Rattle.tilt_pipe.proofs.Standing.{gap-none, gap-some, open-in_order, all-made, below_end, made-rest}
-use Rattle.tilt_pipe.proofs.Works.{works-length, input-is, work-is}
+use Rattle.tilt_pipe.proofs.Works.{works-length, input-is, work-is, work-there}
 use Rattle.tilt_pipe.specs.Made.{Work}
 use Rattle.tilt_pipe.specs.Positions.{AreRings, RingParts, RingsParts, made_by, open_list, open_lists, starts_of, works_in, lists_of, start_at}
 use Rattle.tilt_pipe.specs.Chain.{IsReached, IsTold}
@@ -57,9 +56,6 @@ pub open_at-past : (p : RingsParts) (place : ℕ) → AreRings p → length p.ri
 open_at-past p place are past =
     open-past (works_in p) (starts_of p.rings) place (omega (arith, works-length p.code p.inputs, are.many))
 
-pub works-there : (p : RingsParts) (place : ℕ) → AreRings p → place < length p.rings → (w : Work) × (slice_get (works_in p) place ≡ Some w)
-works-there p place are within = slice_get-some (works_in p) place (omega (arith, rings-length (works_in p) p.rings are.rings))
-
 -- the loop, its ring, and what a turn reads of it
 pub record IsOpenAt (p : RingsParts) (place : ℕ) (r : RingParts) : Type 0 where
   pub work : Work
@@ -72,7 +68,7 @@ pub record IsOpenAt (p : RingsParts) (place : ℕ) (r : RingParts) : Type 0 wher
 
 pub open-at : (p : RingsParts) (place : ℕ) (r : RingParts) → IsCode p.code → AreRings p → slice_get p.rings place ≡ Some r → IsOpenAt p place r
 open-at p place r code are at =
-    let there = works-there p place are (slice_get_within p.rings place r at) in
+    let there = work-there p place (omega (arith, are.many, slice_get_within p.rings place r at)) in
     let w = there.0 in
     let it = is-at p place w r code are there.1 at in
     let start = slice_get-map (λ (x : RingParts). x.start) p.rings place ∙ ap (option_map (λ (x : RingParts). x.start)) at in
@@ -209,7 +205,7 @@ same-loop : (p : RingsParts) (point : ℤ) (r : Read) (source : ℕ) → IsCode 
     → IsSameUpTo (point +ℤ r.last) (get_or (lists_of p) r.buffer []) (get_or (buffers_of p.code p.inputs) r.buffer [])
 same-loop p point r source code are within at told =
     let last = point +ℤ r.last in
-    let found = slice_get-some p.rings source (omega (arith, loops-there p are, within)) in
+    let found = slice_get-some p.rings source (omega (arith, are.many, within)) in
     let ring = found.0 in
     let o = open-at p source ring code are found.1 in
     let w = o.work in
@@ -279,21 +275,3 @@ told-one p point last r source at most reached = λ other w is of.
       | inl end ↦ inl end
       | inr far ↦ inr (omega (arith, ints))
     ])
-
--- what one instruction reads, the body does
-pub among-body : (body : Block) (i : ℕ) (d : Instr) (r : Read) → i < length body → Contains (reads_of (get_or body i d)) r
-    → Contains (body_reads body) r
-among-body [] i d r within among = absurd (omega arith)
-among-body (x ∷ body) zero d r within among = Contains-append_left (reads_of x) (body_reads body) r among
-among-body (x ∷ body) (suc i) d r within among = Contains-append_right (reads_of x) (body_reads body) r (among-body body i d r (omega arith) among)
-
--- and what the body reads, one instruction does
-pub read-found : (body : Block) (r : Read) (d : Instr) → Contains (body_reads body) r
-    → (k : ℕ) × (k < length body) × Contains (reads_of (get_or body k d)) r
-read-found [] r d among = absurd (omega (arith, among.1))
-read-found (x ∷ body) r d among =
-    elim (Contains-append_cases (reads_of x) (body_reads body) r among) as
-    (λ _. (k : ℕ) × (k < length (x ∷ body)) × Contains (reads_of (get_or (x ∷ body) k d)) r) [
-      | inl first ↦ (0, omega arith, first)
-      | inr rest ↦ (let it = read-found body r d rest in let inside = it.1 in (suc it.0, omega arith, it.2))
-    ]

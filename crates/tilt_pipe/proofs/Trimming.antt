@@ -1,7 +1,6 @@
 -- What rings keep after a turn of one loop, and while they are trimmed one after the other.
 use Rattle.std.proofs.Common.{◌≡◌, ◌≢◌, inl, inr, ◌≤◌, ◌<◌, ◌+◌, ◌-◌, ℕ, suc, ℤ, pos, neg_ℤ, int_lt, Bool, true, false, if◌then◌else◌, List, [], ◌∷◌, ◌++◌, map, length, drop, get_or, ◌+ℤ◌, ◌&&◌}
-use Rattle.std.proofs.Common.{slice_get, slice_set}
-use Rattle.std.proofs.Common.{option_map, Option, Some, None, refl, sym, ap, ◌∙◌, subst, arith, length-drop, length-append}
+use Rattle.std.proofs.Common.{slice_get, slice_set, option_map, Option, Some, None, refl, sym, ap, ◌∙◌, subst, arith, length-drop, length-append}
 use Rattle.std.proofs.lemmas.Bool.{cases_lt, cases_eq}
 use Rattle.std.proofs.lemmas.Int.{ints}
 use Rattle.std.proofs.lemmas.List.{drop_all, drop-set-lt, drop-set-add, length-map, map-set, set-get_or, get_or-set_other}
@@ -12,19 +11,20 @@ use Rattle.tilt_code.specs.Code.{CodeParts}
 use Rattle.tilt_code.specs.References.{IsCode}
 use Rattle.tilt_base.specs.declared.limits.TheConstants.{WIDE}
 use Rattle.tilt_stream.proofs.Filling.{Fill-AreSnapshots}
-use Rattle.tilt_stream.proofs.Places.{passed-at}
+use Rattle.tilt_stream.proofs.Places.{passed-at, ended-within}
 use Rattle.tilt_stream.specs.Snap.{Snapshot, InOrder, ended_below}
 use Rattle.tilt_pipe.proofs.Kept.{let_go-within}
-use Rattle.tilt_pipe.proofs.RingsKept.{IsAt, IsKept, kept-count, kept-made, read-at, ring-at, rings-length, trimmed_ring}
+use Rattle.tilt_pipe.proofs.RingsKept.{IsAt, IsKept, kept-count, kept-made, read-at, ring-at, later-at}
 use Rattle.tilt_pipe.proofs.Standing.{IsNextMade, end-made}
-use Rattle.tilt_pipe.proofs.Wanted.{ring_at, rings_of-are, rings_of-at, stage_at, stages_at-found, stages_at-get, stages_at-length, stages_at-set, wanted-rises, wanted-unread}
+use Rattle.tilt_pipe.proofs.Wanted.{rings_of-at, stage_at, stages_at-get, stages_at-set, wanted-rises, let_go-rises}
 use Rattle.tilt_pipe.proofs.Wanting.{stands-there, IsTrimmed}
-use Rattle.tilt_pipe.specs.Chain.{AreTurns, IsHeldBy}
-use Rattle.tilt_pipe.specs.Made.{Work, Stage, reads_buffer, works_of}
-use Rattle.tilt_pipe.specs.Positions.{RingParts, RingsParts, AreRings, kept_ring, made_at, made_by, stages_at, start_at, starts_of, with_ring, works_in}
-use Rattle.tilt_pipe.specs.Reads.{body_reads, turn_point}
+use Rattle.tilt_pipe.proofs.Works.{work-there}
+use Rattle.tilt_pipe.specs.Chain.{AreTurns, IsHeldBy, holder_next}
+use Rattle.tilt_pipe.specs.Made.{Work, Stage, works_of}
+use Rattle.tilt_pipe.specs.Positions.{RingParts, RingsParts, AreRings, AreRingsOf, kept_ring, made_by, stages_at, start_at, starts_of, with_ring, works_in, later_ring}
+use Rattle.tilt_pipe.specs.Reads.{turn_point}
 use Rattle.tilt_pipe.specs.Rings.{kept_from, let_go, rings_of, wanted}
-use Rattle.tilt_pipe.specs.Trimmed.{KeepsWanted, StandAlike, wanted_at, HasLetGo, read_next}
+use Rattle.tilt_pipe.specs.Trimmed.{KeepsWanted, StandAlike, wanted_at, HasLetGo, read_next, IsNotLater, HasNextEnd, held_at}
 use Rattle.tilt_pipe.specs.declared.chain.LoopTurns.{LoopTurns}
 use Rattle.tilt_pipe.specs.declared.chain.Reader.{Reader}
 
@@ -35,10 +35,8 @@ pub alike-works : (p q : RingsParts) → StandAlike p q → works_in q ≡ works
 alike-works p q a = ap (λ (code : CodeParts). works_of code q.inputs) a.code ∙ ap (λ (inputs : List (List Snapshot)). works_of p.code inputs) a.inputs
 
 pub alike-wanted : (p q : RingsParts) (k : ℕ) → StandAlike p q → wanted_at q k ≡ wanted_at p k
-alike-wanted p q k a =
-    ap (λ (inputs : List (List Snapshot)). wanted (length inputs + k) (drop (suc k) (stages_at (works_in q) (starts_of q.rings)))) a.inputs
-    ∙ ap (λ (works : List Work). wanted (length p.inputs + k) (drop (suc k) (stages_at works (starts_of q.rings)))) (alike-works p q a)
-    ∙ ap (λ (starts : List ℤ). wanted (length p.inputs + k) (drop (suc k) (stages_at (works_in p) starts))) a.starts
+alike-wanted p q k a = λ i.
+    wanted (length (a.inputs i) + k) (drop (suc k) (stages_at (works_of (a.code i) (a.inputs i)) (a.starts i)))
 
 pub alike-turns : (p q : RingsParts) (all : List LoopTurns) → StandAlike p q → AreTurns p.code p.inputs (starts_of p.rings) all
     → AreTurns q.code q.inputs (starts_of q.rings) all
@@ -64,12 +62,6 @@ next-same : (p q : RingsParts) (reader : Reader) (w : Option Work) → start_at 
     → read_next q reader w ≡ read_next p reader w
 next-same p q reader None same = refl
 next-same p q reader (Some w) same = ap (λ (t : ℤ). if w.used && int_lt t w.loop.hi then Some (turn_point w.loop t +ℤ reader.first) else None) same
-
-pub alike-next : (p q : RingsParts) (reader : Reader) → StandAlike p q
-    → read_next q reader (slice_get (works_in q) reader.place) ≡ read_next p reader (slice_get (works_in p) reader.place)
-alike-next p q reader a =
-    next-same p q reader (slice_get (works_in q) reader.place) (ap (λ (starts : List ℤ). get_or starts reader.place (pos 0)) a.starts)
-    ∙ ap (λ (works : List Work). read_next p reader (slice_get works reader.place)) (alike-works p q a)
 
 -- what holds of a loop and its ring, where the ring of one is another
 ring-set : (p : RingsParts) (place k : ℕ) (w : Work) (r ring : RingParts) (Is : Work → RingParts → Type 0)
@@ -112,30 +104,28 @@ exact-trimmed p k are exact = λ w r of is.
     let same : r.held ≡ kept_from (wanted_at p k) made = same_Some r.held (kept_from (wanted_at p k) made) held in
     same-dropped r.forgotten (let_go (wanted_at p k) made) made ring.forgotten (let_go-within (wanted_at p k) made) (sym ring.held ∙ same)
 
-exact-at : (p : RingsParts) (k : ℕ) (s : Stage) → AreRings p → IsTrimmed p k → slice_get (stages_at (works_in p) (starts_of p.rings)) k ≡ Some s
-    → slice_get (map (λ (r : RingParts). r.held) p.rings) k ≡ Some (ring_at (length p.inputs) (stages_at (works_in p) (starts_of p.rings)) k s)
-exact-at p k s are trimmed is =
-    let here = stages_at-found (works_in p) (starts_of p.rings) k s is in
-    let found = slice_get-some p.rings k (omega (arith, rings-length (works_in p) p.rings are.rings, slice_get_within (works_in p) k s.work here.work)) in
-    let r = found.0 in
-    let start : r.start ≡ here.start = same_Some r.start here.start
-    (sym (ap (option_map (λ (x : RingParts). x.start)) found.1) ∙ sym (slice_get-map (λ (x : RingParts). x.start) p.rings k) ∙ here.at) in
-    let ring = ring-at (works_in p) p.rings k s.work r are.rings here.work found.1 in
-    let made : made_by r.start s.work.whole ≡ s.made = ap (λ (t : ℤ). made_by t s.work.whole) start ∙ sym here.made in
-    held-there p k r found.1 ∙ ap (λ (list : List Snapshot). Some list) ring.held
-    ∙ ap (λ (n : ℕ). Some (drop n (made_by r.start s.work.whole))) (trimmed s.work r here.work found.1)
-    ∙ ap (λ (list : List Snapshot). Some (kept_from (wanted_at p k) list)) made
+-- trimmed rings are exact, ring by ring
+rings-exact : (buffer : ℕ) (works : List Work) (rings : List RingParts) → AreRingsOf works rings
+    → ((k : ℕ) (w : Work) (r : RingParts) → slice_get works k ≡ Some w → slice_get rings k ≡ Some r
+    → r.forgotten ≡ let_go (wanted (buffer + k) (drop (suc k) (stages_at works (starts_of rings)))) (made_by r.start w.whole))
+    → map (λ (r : RingParts). r.held) rings ≡ rings_of buffer (stages_at works (starts_of rings))
+rings-exact buffer [] [] are each = refl
+rings-exact buffer [] (r ∷ rings) are each = absurd are
+rings-exact buffer (w ∷ works) [] are each = absurd are
+rings-exact buffer (w ∷ works) (r ∷ rings) are each =
+    let stages = stages_at works (starts_of rings) in
+    let made = made_by r.start w.whole in
+    let at : buffer + 0 ≡ buffer = omega arith in
+    let first : r.held ≡ kept_from (wanted buffer stages) made =
+    are.0.held ∙ ap (λ (n : ℕ). drop n made) (each 0 w r refl refl) ∙ ap (λ (n : ℕ). kept_from (wanted n stages) made) at in
+    let rest = rings-exact (suc buffer) works rings are.1 (λ k v q of is.
+    let next : buffer + suc k ≡ suc buffer + k = omega arith in
+    each (suc k) v q of is ∙ ap (λ (n : ℕ). let_go (wanted n (drop (suc k) stages)) (made_by q.start v.whole)) next) in
+    λ i. first i ∷ rest i
 
 pub trimmed-exact : (p : RingsParts) → AreRings p → ((k : ℕ) → IsTrimmed p k)
     → map (λ (r : RingParts). r.held) p.rings ≡ rings_of (length p.inputs) (stages_at (works_in p) (starts_of p.rings))
-trimmed-exact p are trimmed =
-    let stages = stages_at (works_in p) (starts_of p.rings) in
-    let count = rings-length (works_in p) p.rings are.rings in
-    let starts : length p.rings ≡ length (starts_of p.rings) = sym (length-map p.rings (λ (r : RingParts). r.start)) in
-    let many = stages_at-length (works_in p) (starts_of p.rings) (sym count ∙ starts) in
-    let long = length-map p.rings (λ (r : RingParts). r.held) in
-    rings_of-are (length p.inputs) stages (map (λ (r : RingParts). r.held) p.rings) (long ∙ count ∙ sym many)
-    (λ k s is. exact-at p k s are (trimmed k) is)
+trimmed-exact p are trimmed = rings-exact (length p.inputs) (works_in p) p.rings are.rings trimmed
 
 -- one more snapshot lets no fewer go
 ended-step : (test : Bool) (n m : ℕ) → n ≤ m → (if test then suc n else n) ≤ (if test then suc m else m)
@@ -252,14 +242,26 @@ turned-still p place k w b r s tick t some gone =
     ring-set p place k w r (kept_ring b r s) (λ v q. let_go tick (made_by q.start v.whole) ≤ q.forgotten) t.of t.at (λ _. gone)
     (λ same. turned-gone p place w b r s tick t (some same) (gone w r (ap (slice_get (works_in p)) same ∙ t.of) (ap (slice_get p.rings) same ∙ t.at)))
 
-pub turned-held : (p : RingsParts) (place k : ℕ) (w : Work) (b : Bool) (r : RingParts) (s : Snapshot) (reader : Reader) → IsTurn p place w b r s
-    → (k ≡ place → 0 < length r.held) → reader.place ≢ place → IsHeldBy p k reader → IsHeldBy (turned p place b r s) k reader
-turned-held p place k w b r s reader t some other held =
+-- and so it is held
+holder-same : (p q : RingsParts) (x : Option Reader) → ((reader : Reader) → x ≡ Some reader → start_at q reader.place ≡ start_at p reader.place)
+    → works_in q ≡ works_in p → holder_next q x ≡ holder_next p x
+holder-same p q None same works = refl
+holder-same p q (Some reader) same works =
+    next-same p q reader (slice_get (works_in q) reader.place) (same reader refl)
+    ∙ ap (λ (ws : List Work). read_next p reader (slice_get ws reader.place)) works
+
+pub alike-holder : (p q : RingsParts) (x : Option Reader) → StandAlike p q → holder_next q x ≡ holder_next p x
+alike-holder p q x a =
+    holder-same p q x (λ reader _. ap (λ (starts : List ℤ). get_or starts reader.place (pos 0)) a.starts) (alike-works p q a)
+
+pub turned-held : (p : RingsParts) (place k : ℕ) (w : Work) (b : Bool) (r : RingParts) (s : Snapshot) (x : Option Reader) → IsTurn p place w b r s
+    → (k ≡ place → 0 < length r.held) → ((reader : Reader) → x ≡ Some reader → reader.place ≢ place) → IsHeldBy p k x
+    → IsHeldBy (turned p place b r s) k x
+turned-held p place k w b r s x t some other held =
     let q = turned p place b r s in
-    let stands = ap (λ (starts : List ℤ). get_or starts reader.place (pos 0)) (turned-starts p place b r s)
-    ∙ get_or-set_other (starts_of p.rings) place reader.place s.end (pos 0) other in
-    subst (HasLetGo q k) (sym (next-same p q reader (slice_get (works_in p) reader.place) stands))
-    (turned-still p place k w b r s (read_next p reader (slice_get (works_in p) reader.place)) t some held)
+    let same = holder-same p q x (λ reader is. ap (λ (starts : List ℤ). get_or starts reader.place (pos 0)) (turned-starts p place b r s)
+    ∙ get_or-set_other (starts_of p.rings) place reader.place s.end (pos 0) (other reader is)) refl in
+    subst (HasLetGo q k) (sym same) (turned-still p place k w b r s (holder_next p x) t some held)
 
 -- where no loop reads the ring, it holds none
 pub unread-none : (p : RingsParts) (place : ℕ) (w : Work) (r : RingParts) → IsKept w r → slice_get (works_in p) place ≡ Some w
@@ -278,21 +280,6 @@ turned-wanted p place k w b r s t trimmed =
     ]) (λ same. subst (λ (tick : Option ℤ). (kept_ring b r s).forgotten ≤ let_go tick (made_by s.end w.whole))
     (sym (turned-later p place place w b r s t.of (omega arith)) ∙ ap wants (sym same)) (turned-few p place w b r s t (trimmed place)))
 
--- and of those that the loop doesn't read as much is wanted as before
-pub turned-unread : (p : RingsParts) (place k : ℕ) (w : Work) (b : Bool) (r : RingParts) (s : Snapshot) → IsTurn p place w b r s
-    → reads_buffer (length p.inputs + k) (body_reads w.loop.body) ≡ false → wanted_at (turned p place b r s) k ≡ wanted_at p k
-turned-unread p place k w b r s t unread =
-    elim (cases_lt k place) as (λ _. wanted_at (turned p place b r s) k ≡ wanted_at p k) [
-      | inl before ↦ (
-          let i = place - suc k in
-          let at : place ≡ suc k + i = omega arith in
-          turned-earlier p place k i w b r s t.of at
-          ∙ wanted-unread (length p.inputs + k) (drop (suc k) (stages_at (works_in p) (starts_of p.rings))) i (stage_at w r.start) (stage_at w s.end)
-          (stage-behind p place k i w r t.of t.at at) refl unread
-          )
-      | inr behind ↦ turned-later p place k w b r s t.of behind
-    ]
-
 -- the loop at a place, and its ring
 pub record IsThere (p : RingsParts) (place : ℕ) : Type 0 where
   pub work : Work
@@ -301,41 +288,50 @@ pub record IsThere (p : RingsParts) (place : ℕ) : Type 0 where
 
 pub there-at : (p : RingsParts) (place : ℕ) → IsCode p.code → AreRings p → place < length p.rings → IsThere p place
 there-at p place code are within =
-    let work = slice_get-some (works_in p) place (omega (arith, rings-length (works_in p) p.rings are.rings)) in
+    let work = work-there p place (omega (arith, are.many)) in
     let ring = slice_get-some p.rings place within in
     let at : ring.0 ≡ get_or p.rings place ring.0 = sym (get_or_from_slice_get p.rings place ring.0 ring.0 ring.1) in
     record { work = work.0; ring = ring.0; it = read-at p place work.0 ring.0 code are work.1 at }
 
--- a ring that keeps just what is wanted, among the others
+-- rings of which one let its first snapshot go, which isn't wanted
 pub record IsReleased (p q : RingsParts) (place : ℕ) : Type 0 where
+  pub rings : AreRings q
   pub alike : StandAlike p q
   pub more : (k : ℕ) (tick : Option ℤ) → HasLetGo p k tick → HasLetGo q k tick
   pub wanted : (k : ℕ) → KeepsWanted q k
-  pub gone : HasLetGo q place (wanted_at q place)
+  pub fewer : held_at q place < held_at p place
 
-pub released : (p : RingsParts) (place : ℕ) (w : Work) (r : RingParts) (first : Option ℤ) → IsAt p place w r → first ≡ wanted_at p place
-    → ((k : ℕ) → KeepsWanted p k) → IsReleased p (with_ring p place (trimmed_ring first (made_at p place w) (start_at p place) w.loop.hi)) place
-released p place w r first it is keeps =
-    let made = made_at p place w in
-    let ring = trimmed_ring first made (start_at p place) w.loop.hi in
+pub some-held : (p : RingsParts) (place : ℕ) (w : Work) (r : RingParts) (end : ℤ) → IsAt p place w r → HasNextEnd p place (Some end) → 0 < length r.held
+some-held p place w r end it first =
+    let made = made_by r.start w.whole in
+    omega (arith, (first w r it.of it.at).1, ended-within (end +ℤ pos 1) made, ap length it.kept.ring.held, length-drop r.forgotten made)
+
+held_at-is : (p : RingsParts) (place : ℕ) (r : RingParts) → slice_get p.rings place ≡ Some r → held_at p place ≡ length r.held
+held_at-is p place r at =
+    ap length (get_or_from_slice_get (map (λ (x : RingParts). x.held) p.rings) place r.held [] (held-there p place r at))
+
+pub released : (p : RingsParts) (place : ℕ) (w : Work) (r : RingParts) (end : ℤ) → IsAt p place w r → HasNextEnd p place (Some end)
+    → IsNotLater (Some (end +ℤ pos 1)) (wanted_at p place) → ((k : ℕ) → KeepsWanted p k) → IsReleased p (with_ring p place (later_ring r)) place
+released p place w r end it first late keeps =
+    let made = made_by r.start w.whole in
+    let ring = later_ring r in
     let q = with_ring p place ring in
-    let alike = alike-set p place ring refl in
-    let wants : first ≡ wanted_at q place = is ∙ sym (alike-wanted p q place alike) in
-    let same = ap (λ (tick : Option ℤ). let_go tick made) wants in
+    let alike = alike-set p place ring (sym it.start) in
+    let some = some-held p place w r end it first in
+    let few : r.forgotten + 1 ≤ let_go (wanted_at q place) made =
+    subst (λ (t : Option ℤ). r.forgotten + 1 ≤ let_go t made) (sym (alike-wanted p q place alike))
+    (omega (arith, (first w r it.of it.at).1, let_go-rises (Some (end +ℤ pos 1)) (wanted_at p place) made late)) in
+    let set = slice_get-set_same p.rings place ring (slice_get_within p.rings place r it.at) in
     record {
+      rings = later-at p place w r it some;
       alike = alike;
       more = λ k tick gone.
           ring-set p place k w r ring (λ v x. let_go tick (made_by x.start v.whole) ≤ x.forgotten) it.of it.at (λ _. gone) (λ here.
-          let was = gone w r (ap (slice_get (works_in p)) here ∙ it.of) (ap (slice_get p.rings) here ∙ it.at) in
-          let old = ap (let_go tick) it.made in
-          let new = ap (let_go (wanted_at p place)) it.made in
-          let now = ap (λ (t : Option ℤ). let_go t made) is in
-          omega arith);
+          let was = gone w r (ap (slice_get (works_in p)) here ∙ it.of) (ap (slice_get p.rings) here ∙ it.at) in omega arith);
       wanted = λ k.
           ring-set p place k w r ring (λ v x. x.forgotten ≤ let_go (wanted_at q k) (made_by x.start v.whole)) it.of it.at
           (λ _. subst (λ (t : Option ℤ). (v : Work) (x : RingParts) → slice_get (works_in p) k ≡ Some v → slice_get p.rings k ≡ Some x
           → x.forgotten ≤ let_go t (made_by x.start v.whole)) (sym (alike-wanted p q k alike)) (keeps k))
-          (λ here. subst (λ (n : ℕ). let_go first made ≤ let_go (wanted_at q n) made) (sym here) (omega arith));
-      gone = ring-set p place place w r ring (λ v x. let_go (wanted_at q place) (made_by x.start v.whole) ≤ x.forgotten) it.of it.at
-          (λ other. absurd (other refl)) (λ _. omega arith);
+          (λ here. subst (λ (n : ℕ). r.forgotten + 1 ≤ let_go (wanted_at q n) made) (sym here) few);
+      fewer = omega (arith, held_at-is p place r it.at, held_at-is q place ring set, length-drop 1 r.held, some);
     }

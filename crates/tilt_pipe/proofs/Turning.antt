@@ -1,5 +1,5 @@
 -- The turns of a chain's loops, place by place.
-use Rattle.std.proofs.Common.{◌≡◌, ◌≢◌, inl, inr, ◌<◌, ℕ, ℤ, pos, ◌+ℤ◌, ◌≤ℤ◌, List, get_or, length, slice_get, slice_set, Some, refl, sym, ◌∙◌, subst, arith, Option, Contains, ap}
+use Rattle.std.proofs.Common.{◌≡◌, ◌≢◌, inl, inr, ◌<◌, ℕ, ℤ, pos, ◌+ℤ◌, ◌≤ℤ◌, List, get_or, length, slice_get, slice_set, Some, refl, sym, ◌∙◌, subst, arith}
 use Rattle.std.proofs.lemmas.Bool.{cases_eq}
 use Rattle.std.proofs.lemmas.Int.{ints}
 use Rattle.std.proofs.lemmas.List.{get_or-set_other, get_or-set_same, length-map, length-set, set-get_or}
@@ -8,7 +8,7 @@ use Rattle.circular_buffer.proofs.Places.{slice_get-set_other, slice_get-set_sam
 use Rattle.tilt_code.specs.Code.{CodeParts}
 use Rattle.tilt_stream.specs.Snap.{Snapshot}
 use Rattle.tilt_pipe.proofs.Works.{works-length}
-use Rattle.tilt_pipe.specs.Chain.{AreHolders, AreTurns, AreTurnsOf, HasMade}
+use Rattle.tilt_pipe.specs.Chain.{AreTurns, AreTurnsOf, HasMade}
 use Rattle.tilt_pipe.specs.Made.{Work, works_of}
 use Rattle.tilt_pipe.specs.Positions.{RingParts, RingsParts, start_at, starts_of, works_in}
 use Rattle.tilt_pipe.specs.Reads.{turn_point}
@@ -18,13 +18,13 @@ use Rattle.tilt_pipe.specs.declared.chain.LoopTurns.{LoopTurns}
 use Rattle.tilt_pipe.specs.declared.chain.Reader.{Reader}
 
 -- what holds of each place but one, and of that one
-pub each-at : (works : List Work) (Old New : ℕ → Work → LoopTurns → Type 0) (old all : List LoopTurns) (place : ℕ) (new : LoopTurns)
-    → ((k : ℕ) (w : Work) (t : LoopTurns) → slice_get works k ≡ Some w → slice_get old k ≡ Some t → Old k w t)
+pub each-at : {T : Type 0} (works : List Work) (Old New : ℕ → Work → T → Type 0) (old all : List T) (place : ℕ) (new : T)
+    → ((k : ℕ) (w : Work) (t : T) → slice_get works k ≡ Some w → slice_get old k ≡ Some t → Old k w t)
     → ((k : ℕ) → k ≢ place → slice_get all k ≡ slice_get old k) → slice_get all place ≡ Some new
-    → ((k : ℕ) (w : Work) (t : LoopTurns) → k ≢ place → Old k w t → New k w t)
+    → ((k : ℕ) (w : Work) (t : T) → k ≢ place → Old k w t → New k w t)
     → ((w : Work) → slice_get works place ≡ Some w → New place w new)
-    → (k : ℕ) (w : Work) (t : LoopTurns) → slice_get works k ≡ Some w → slice_get all k ≡ Some t → New k w t
-each-at works Old New old all place new are others here other own k w t of at =
+    → (k : ℕ) (w : Work) (t : T) → slice_get works k ≡ Some w → slice_get all k ≡ Some t → New k w t
+each-at {T} works Old New old all place new are others here other own k w t of at =
     elim (cases_eq k place) as (λ _. New k w t) [
       | inl same ↦ subst (λ (n : ℕ). (v : Work) → slice_get works n ≡ Some v → slice_get all n ≡ Some t → New n v t) (sym same)
           (λ v is there. subst (New place v) (same_Some new t (sym here ∙ there)) (own v is)) w of at
@@ -124,65 +124,3 @@ pub reader-at : (p : RingsParts) (all : List LoopTurns) (place : ℕ) (turns : L
     → n < length turns.readers.items → reader ≡ get_or turns.readers.items n reader → IsReaderOf (length p.inputs) p.code.loops place reader
 reader-at p all place turns n reader are there at within is =
     all-at (IsReaderOf (length p.inputs) p.code.loops place) turns.readers.items n reader (own-readers p all place turns are there at).each within is
-
--- who holds a ring is one of its readers
-pub holder-of : (p : RingsParts) (all : List LoopTurns) (holders : List (Option Reader)) (k : ℕ) (reader : Reader)
-    → AreTurns p.code p.inputs (starts_of p.rings) all → AreHolders all holders → slice_get holders k ≡ Some (Some reader)
-    → IsReaderOf (length p.inputs) p.code.loops k reader
-holder-of p all holders k reader are held at =
-    let long = turns-long p all are in
-    let within = slice_get_within holders k (Some reader) at in
-    let t = slice_get-some all k (omega arith) in
-    let w = slice_get-some (works_in p) k (omega (arith, long.1)) in
-    let among = held.among k t.0 reader t.1 at in
-    all-at (IsReaderOf (length p.inputs) p.code.loops k) t.0.readers.items among.0 reader (are.each k w.0 t.0 w.1 t.1).readers.each among.1
-    (sym among.2)
-
--- the readers of a loop are the same after its turn, and so are the holders
-pub holders-set : (all : List LoopTurns) (holders : List (Option Reader)) (place : ℕ) (old new : LoopTurns) → AreHolders all holders
-    → slice_get all place ≡ Some old → new.readers.items ≡ old.readers.items → AreHolders (slice_set all place new) holders
-holders-set all holders place old new held at same = record {
-  many = held.many ∙ sym (length-set all place new);
-  among = λ k t reader is there.
-      elim (cases_eq k place) as (λ _. Contains t.readers.items reader) [
-        | inl here ↦ (
-            let set = slice_get-set_same all place new (slice_get_within all place old at) in
-            let own = same_Some new t (sym set ∙ ap (slice_get (slice_set all place new)) (sym here) ∙ is) in
-            subst (λ (x : LoopTurns). Contains x.readers.items reader) own (subst (λ (xs : List Reader). Contains xs reader) (sym same)
-            (held.among k old reader (ap (slice_get all) here ∙ at) there))
-            )
-        | inr other ↦ held.among k t reader (sym (slice_get-set_other all place k new other) ∙ is) there
-      ];
-}
-
--- the turns of a loop, and who holds its ring
-pub turns-there : (p : RingsParts) (all : List LoopTurns) (place : ℕ) → AreTurns p.code p.inputs (starts_of p.rings) all → place < length p.rings
-    → (t : LoopTurns) × (slice_get all place ≡ Some t)
-turns-there p all place are there = slice_get-some all place (turns-within p all place are there)
-
-pub found-holder : (p : RingsParts) (all : List LoopTurns) (holders : List (Option Reader)) (place : ℕ) (x holder : Option Reader)
-    → AreTurns p.code p.inputs (starts_of p.rings) all → AreHolders all holders → place < length p.rings → x ≡ get_or holders place x
-    → x ≡ holder → slice_get holders place ≡ Some holder
-found-holder p all holders place x holder are held there at is =
-    slice_get_read holders (length all) place x (sym held.many) (turns-within p all place are there) at ∙ ap Some is
-
--- another holder of a ring is one of its readers too
-pub holder-set : (p : RingsParts) (all : List LoopTurns) (holders : List (Option Reader)) (place : ℕ) (new : Option Reader)
-    → AreTurns p.code p.inputs (starts_of p.rings) all → place < length p.rings → AreHolders all holders
-    → (t : LoopTurns) → slice_get all place ≡ Some t → ((x : Reader) → new ≡ Some x → Contains t.readers.items x)
-    → ((x : Option Reader) → slice_get (slice_set holders place new) place ≡ Some x → new ≡ x) × AreHolders all (slice_set holders place new)
-holder-set p all holders place new are there held t at own =
-    let within : place < length holders = (let many = held.many in let long = turns-within p all place are there in omega arith) in
-    let is : (x : Option Reader) → slice_get (slice_set holders place new) place ≡ Some x → new ≡ x =
-    λ x found. same_Some new x (sym (slice_get-set_same holders place new within) ∙ found) in (
-      is,
-      record {
-        many = length-set holders place new ∙ held.many;
-        among = λ k u x of found.
-            elim (cases_eq k place) as (λ _. Contains u.readers.items x) [
-              | inl here ↦ subst (λ (y : LoopTurns). Contains y.readers.items x) (same_Some t u (sym at ∙ ap (slice_get all) (sym here) ∙ of))
-                  (own x (is (Some x) (ap (slice_get (slice_set holders place new)) (sym here) ∙ found)))
-              | inr other ↦ held.among k u x of (sym (slice_get-set_other holders place k new other) ∙ found)
-            ];
-      },
-    )

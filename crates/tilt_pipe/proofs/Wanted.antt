@@ -3,7 +3,6 @@ use Rattle.std.proofs.Common.{◌≡◌, ◌<◌, ◌≤◌, ℕ, zero, suc, ◌
 use Rattle.std.proofs.Common.{slice_get, slice_set, Option, Some, None, refl, sym, ap, ◌∙◌, subst, arith, Contains}
 use Rattle.std.proofs.lemmas.Int.{ints, clamps}
 use Rattle.std.proofs.lemmas.Option.{same_Some}
-use Rattle.std.specs.Bool.{⊤}
 use Rattle.std.proofs.Math.Bool.{or-true}
 use Rattle.std.proofs.lemmas.Bool.{eq-eqb}
 use Rattle.tilt_base.specs.Grid.{IsGrid, ceil}
@@ -15,15 +14,10 @@ use Rattle.tilt_pipe.specs.Made.{Work, Stage, reads_buffer, is_used_by, is_used,
 use Rattle.tilt_pipe.specs.Positions.{made_by, stages_at}
 use Rattle.tilt_pipe.specs.Reads.{body_reads, earlier, first_tick, turn_point}
 use Rattle.tilt_pipe.specs.Rings.{position, is_at_work, next_read, wanted, let_go, kept_from, rings_of}
+use Rattle.tilt_pipe.specs.Trimmed.{IsNotLater}
 use Rattle.tilt_pipe.specs.declared.read.Read.{Read}
 use Rattle.tilt_stream.proofs.Places.{ended-within, ended-rises}
 use Rattle.tilt_stream.specs.Snap.{Snapshot}
-
--- of two ticks the second is no earlier one; no tick is later than all
-abbrev pub IsNotLater : Option ℤ → Option ℤ → Type 0
-IsNotLater a None = ⊤
-IsNotLater None (Some b) = ⊥
-IsNotLater (Some a) (Some b) = a ≤ℤ b
 
 pub not_later-same : (a : Option ℤ) → IsNotLater a a
 not_later-same None = tt
@@ -87,17 +81,6 @@ first_tick-rises buffer a b (r ∷ reads) le = by (r.buffer == buffer) (first_ti
         earlier-rises (Some (a +ℤ r.first)) (Some (b +ℤ r.first)) (first_tick buffer a reads) (first_tick buffer b reads)
         (omega (arith, ints)) rest
     by false rest = rest
-
--- none where none is of the buffer
-first_tick-none : (buffer : ℕ) (point : ℤ) (reads : List Read) → reads_buffer buffer reads ≡ false → first_tick buffer point reads ≡ None
-first_tick-none buffer point [] none = refl
-first_tick-none buffer point (r ∷ reads) none = by (r.buffer == buffer) none (λ rest. first_tick-none buffer point reads rest)
-  where
-    by : (test : Bool) → (test || reads_buffer buffer reads) ≡ false
-        → (reads_buffer buffer reads ≡ false → first_tick buffer point reads ≡ None)
-        → (if test then earlier (Some (point +ℤ r.first)) (first_tick buffer point reads) else first_tick buffer point reads) ≡ None
-    by true clear rest = cc
-    by false clear rest = rest clear
 
 -- the grid point of a turn doesn't fall
 pub turn_point-rises : (l : LoopParts) (a b : ℤ) → IsGrid l.grid → a ≤ℤ b → turn_point l a ≤ℤ turn_point l b
@@ -185,26 +168,6 @@ wanted-within buffer stages k s r is work among at =
     not_later-tick (wanted buffer stages) (turn_point s.work.loop (position s) +ℤ r.first)
     (wanted-not_later buffer stages k s r is work among at)
 
--- what is wanted of a buffer stays where a loop goes on that doesn't read it
-next_read-none : (buffer : ℕ) (s : Stage) → reads_buffer buffer (body_reads s.work.loop.body) ≡ false → next_read buffer s ≡ None
-next_read-none buffer s none = by (is_at_work s)
-  where
-    by : (test : Bool)
-        → (if test then first_tick buffer (turn_point s.work.loop (position s)) (body_reads s.work.loop.body) else None) ≡ None
-    by true = first_tick-none buffer (turn_point s.work.loop (position s)) (body_reads s.work.loop.body) none
-    by false = refl
-
-pub wanted-unread : (buffer : ℕ) (stages : List Stage) (k : ℕ) (s t : Stage) → slice_get stages k ≡ Some s → t.work ≡ s.work
-    → reads_buffer buffer (body_reads s.work.loop.body) ≡ false → wanted buffer (slice_set stages k t) ≡ wanted buffer stages
-wanted-unread buffer [] k s t is same none = refl
-wanted-unread buffer (x ∷ stages) zero s t is same none =
-    let at : s ≡ x = cc in
-    let old = next_read-none buffer x (subst (λ (y : Stage). reads_buffer buffer (body_reads y.work.loop.body) ≡ false) at none) in
-    let new = next_read-none buffer t (subst (λ (w : Work). reads_buffer buffer (body_reads w.loop.body) ≡ false) (sym same) none) in
-    ap (λ (tick : Option ℤ). earlier tick (wanted buffer stages)) (new ∙ sym old)
-wanted-unread buffer (x ∷ stages) (suc k) s t is same none =
-    ap (λ (tick : Option ℤ). earlier (next_read buffer x) tick) (wanted-unread buffer stages k s t is same none)
-
 -- a buffer that one of some reads is of
 pub reads_buffer-found : (buffer : ℕ) (reads : List Read) (r : Read) → Contains reads r → r.buffer ≡ buffer
     → reads_buffer buffer reads ≡ true
@@ -242,13 +205,7 @@ used-source code inputs place source w v r is used among at before found =
     (work-is code inputs source v found).used ∙ is_used-found (length inputs + source) (drop (suc source) works) (place - suc source) w r
     (slice_get-drop (suc source) works (place - suc source) place later ∙ is) used among at
 
--- loops where they stand, place by place
-pub stages_at-length : (works : List Work) (starts : List ℤ) → length works ≡ length starts → length (stages_at works starts) ≡ length works
-stages_at-length [] starts h = refl
-stages_at-length (w ∷ works) [] h = absurd (omega arith)
-stages_at-length (w ∷ works) (start ∷ starts) h = ap suc (stages_at-length works starts (omega arith))
-
--- a loop that stands there
+-- a loop that stands there, and loops where they stand, place by place
 abbrev pub stage_at : Work → ℤ → Stage
 stage_at w start = record { work = w; made = made_by start w.whole }
 
@@ -256,10 +213,7 @@ pub stages_at-get : (works : List Work) (starts : List ℤ) (place : ℕ) (w : W
     → slice_get starts place ≡ Some start → slice_get (stages_at works starts) place ≡ Some (stage_at w start)
 stages_at-get [] starts place w start is at = absurd (cc is)
 stages_at-get (x ∷ works) [] place w start is at = absurd (cc at)
-stages_at-get (x ∷ works) (y ∷ starts) zero w start is at =
-    let same : x ≡ w = cc in
-    let stands : y ≡ start = cc in
-    rw (same, stands) refl
+stages_at-get (x ∷ works) (y ∷ starts) zero w start is at = λ i. Some (stage_at (same_Some x w is i) (same_Some y start at i))
 stages_at-get (x ∷ works) (y ∷ starts) (suc place) w start is at = stages_at-get works starts place w start is at
 
 -- what stands at a place is the loop and the start there
@@ -284,9 +238,7 @@ pub stages_at-set : (works : List Work) (starts : List ℤ) (place : ℕ) (w : W
     → stages_at works (slice_set starts place start) ≡ slice_set (stages_at works starts) place (stage_at w start)
 stages_at-set [] starts place w start is = refl
 stages_at-set (x ∷ works) [] place w start is = refl
-stages_at-set (x ∷ works) (y ∷ starts) zero w start is =
-    let same : x ≡ w = cc in
-    rw same refl
+stages_at-set (x ∷ works) (y ∷ starts) zero w start is = λ i. stage_at (same_Some x w is i) start ∷ stages_at works starts
 stages_at-set (x ∷ works) (y ∷ starts) (suc place) w start is =
     ap (λ (stages : List Stage). stage_at x y ∷ stages) (stages_at-set works starts place w start is)
 

@@ -1,7 +1,6 @@
 -- What the readers of a buffer want is what the loops after it want.
-use Rattle.std.proofs.Common.{◌≡◌, ◌<◌, ◌+◌, ◌-◌, ℕ, suc, ◌==◌, ℤ, ◌+ℤ◌, ◌≤ℤ◌, int_lt, Bool, true, false}
-use Rattle.std.proofs.Common.{◌&&◌, if◌then◌else◌, List, [], ◌∷◌, length, drop, slice_get, option_map, Option}
-use Rattle.std.proofs.Common.{Some, None, Contains, refl, sym, ap, ◌∙◌, subst, arith}
+use Rattle.std.proofs.Common.{◌≡◌, ◌<◌, ◌+◌, ◌-◌, ℕ, suc, ◌==◌, ℤ, ◌+ℤ◌, int_lt, Bool, true, false, ◌&&◌, if◌then◌else◌, List, [], ◌∷◌, length, drop, slice_get, option_map, Option, Some, None}
+use Rattle.std.proofs.Common.{Contains, refl, sym, ap, ◌∙◌, subst, arith}
 use Rattle.std.proofs.lemmas.Bool.{and_parts}
 use Rattle.std.proofs.lemmas.Int.{ints, clamps}
 use Rattle.std.proofs.lemmas.Option.{same_Some, slice_get-map, slice_get_within}
@@ -12,14 +11,14 @@ use Rattle.tilt_code.specs.References.{IsCode}
 use Rattle.tilt_pipe.proofs.Nears.{loop-reads}
 use Rattle.tilt_pipe.proofs.RingsKept.{ring-of}
 use Rattle.tilt_pipe.proofs.Standing.{end-made}
-use Rattle.tilt_pipe.proofs.Wanted.{IsNotLater, let_go-rises, stage_at, stages_at-found, stages_at-get, wanted-not_later}
+use Rattle.tilt_pipe.proofs.Wanted.{let_go-rises, stage_at, stages_at-found, stages_at-get, wanted-not_later}
 use Rattle.tilt_pipe.proofs.Works.{work-is, works-length}
 use Rattle.tilt_pipe.specs.Made.{Work, Stage}
 use Rattle.tilt_pipe.specs.Positions.{RingParts, RingsParts, AreRings, IsRing, made_by, stages_at, start_at, starts_of, works_in}
 use Rattle.tilt_pipe.specs.Reads.{body_reads, earlier, first_tick, turn_point}
 use Rattle.tilt_pipe.specs.Rings.{end_or, is_at_work, next_read, position, wanted, let_go}
 use Rattle.tilt_pipe.specs.Sources.{AreReaders, HasReader, IsRead, IsReaderOf}
-use Rattle.tilt_pipe.specs.Trimmed.{HasLetGo, IsReader, KeepsWanted, read_next, wanted_at}
+use Rattle.tilt_pipe.specs.Trimmed.{IsNotLater, HasLetGo, IsReader, KeepsWanted, read_next, reads_next, wanted_at}
 use Rattle.tilt_pipe.specs.declared.chain.Reader.{Reader}
 use Rattle.tilt_pipe.specs.declared.read.Read.{Read}
 use Rattle.tilt_stream.specs.Snap.{Snapshot, last_end}
@@ -43,9 +42,6 @@ IsTrimmed p place =
 pub gone-trimmed : (p : RingsParts) (place : ℕ) → KeepsWanted p place → HasLetGo p place (wanted_at p place) → IsTrimmed p place
 gone-trimmed p place keeps gone = λ w r of at. let low = keeps w r of at in let high = gone w r of at in omega arith
 
-pub trimmed-gone : (p : RingsParts) (place : ℕ) → IsTrimmed p place → HasLetGo p place (wanted_at p place)
-trimmed-gone p place trimmed = λ w r of at. let same = trimmed w r of at in omega arith
-
 -- a tick that is no later than two is no later than the earlier one
 pub not_later-both : (x a b : Option ℤ) → IsNotLater x a → IsNotLater x b → IsNotLater x (earlier a b)
 not_later-both x None b h k = k
@@ -53,15 +49,15 @@ not_later-both x (Some a) None h k = h
 not_later-both None (Some a) (Some b) h k = absurd h
 not_later-both (Some x) (Some a) (Some b) h k = omega (arith, ints, clamps)
 
-pub not_later-trans : (x : Option ℤ) (a b : ℤ) → IsNotLater x (Some a) → a ≤ℤ b → IsNotLater x (Some b)
-not_later-trans None a b h le = absurd h
-not_later-trans (Some x) a b h le = omega (arith, ints)
+not_later-trans : (x a b : Option ℤ) → IsNotLater x a → IsNotLater a b → IsNotLater x b
+not_later-trans x a None h k = tt
+not_later-trans x None (Some b) h k = absurd k
+not_later-trans None (Some a) (Some b) h k = absurd h
+not_later-trans (Some x) (Some a) (Some b) h k = omega (arith, ints)
 
-not_later-two : (a b : Option ℤ) → IsNotLater a b → IsNotLater b a → a ≡ b
-not_later-two None None h k = refl
-not_later-two None (Some b) h k = absurd h
-not_later-two (Some a) None h k = absurd k
-not_later-two (Some a) (Some b) h k = let same : a ≡ b = omega (arith, ints) in ap (λ (t : ℤ). Some t) same
+pub not_later-none : (a : Option ℤ) → IsNotLater None a → a ≡ None
+not_later-none None h = refl
+not_later-none (Some a) h = absurd h
 
 -- no later than what each of some loops reads next, and than what each of some reads reads
 wants-all : (x : Option ℤ) (buffer : ℕ) (stages : List Stage)
@@ -165,7 +161,7 @@ read-wanted p j w r readers tick is busy has low =
     let busy_ = ap (λ (n : ℕ). w.used && int_lt (start_at p n) w.loop.hi) has.place ∙ busy in
     let reads = next-is p x w true (ap (slice_get (works_in p)) has.place ∙ is) busy_
     ∙ ap (λ (n : ℕ). Some (turn_point w.loop (start_at p n) +ℤ x.first)) has.place in
-    not_later-trans tick (turn_point w.loop (start_at p j) +ℤ x.first) (turn_point w.loop (start_at p j) +ℤ r.first)
+    not_later-trans tick (Some (turn_point w.loop (start_at p j) +ℤ x.first)) (Some (turn_point w.loop (start_at p j) +ℤ r.first))
     (subst (IsNotLater tick) reads (low x has.among)) (omega (arith, ints, has.first))
 
 stage-wanted : (p : RingsParts) (k i : ℕ) (s : Stage) (readers : List Reader) (tick : Option ℤ) → IsCode p.code → AreRings p
@@ -192,11 +188,9 @@ stage-wanted p k i s readers tick code are of low is =
     (of.all j w r (omega arith) found.work (and_parts w.used (int_lt (start_at p j) w.loop.hi) busy_).0 read) low))))
     (λ idle. subst (λ (b : Bool). IsNotLater tick (if b then reads else None)) (sym idle) tt)
 
--- what the readers read first is just what is wanted
-pub wanted-is : (p : RingsParts) (k : ℕ) (readers : List Reader) (tick : Option ℤ) → IsCode p.code → AreRings p
-    → AreReaders p.code p.inputs 0 k readers
-    → ((x : Reader) → Contains readers x → IsNotLater tick (read_next p x (slice_get (works_in p) x.place)))
-    → IsNotLater (wanted_at p k) tick → tick ≡ wanted_at p k
-wanted-is p k readers tick code are of low high =
-    not_later-two tick (wanted_at p k) (wants-all tick (length p.inputs + k) (drop (suc k) (stages_at (works_in p) (starts_of p.rings)))
-    (λ i s is. stage-wanted p k i s readers tick code are of low is)) high
+-- nor than what is wanted
+pub wanted-low : (p : RingsParts) (k : ℕ) (readers : List Reader) (tick : Option ℤ) → IsCode p.code → AreRings p
+    → AreReaders p.code p.inputs 0 k readers → ((x : Reader) → Contains readers x → IsNotLater tick (reads_next p x)) → IsNotLater tick (wanted_at p k)
+wanted-low p k readers tick code are of low =
+    wants-all tick (length p.inputs + k) (drop (suc k) (stages_at (works_in p) (starts_of p.rings)))
+    (λ i s is. stage-wanted p k i s readers tick code are of low is)

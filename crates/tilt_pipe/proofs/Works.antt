@@ -14,6 +14,7 @@ use Rattle.tilt_code.specs.References.{IsCode}
 use Rattle.tilt_code.specs.Run.{with_buffers, buffers_of, run_of}
 use Rattle.tilt_code.specs.Turn.{turns}
 use Rattle.tilt_pipe.specs.Made.{Work, is_used, works_from, works_of}
+use Rattle.tilt_pipe.specs.Positions.{RingsParts, works_in}
 use Rattle.tilt_pipe.specs.Pulled.{AreFilled}
 use Rattle.tilt_stream.specs.Snap.{Snapshot, Fill}
 use Rattle.tilt_stream.specs.Stream.{stream_of}
@@ -93,6 +94,9 @@ work-is code inputs place w is = work_from-is (length inputs) inputs code.loops 
 pub works-length : (code : CodeParts) (inputs : List (List Snapshot)) → length (works_of code inputs) ≡ length code.loops
 works-length code inputs = works_from-length (length inputs) inputs code.loops
 
+pub work-there : (p : RingsParts) (place : ℕ) → place < length p.code.loops → (w : Work) × (slice_get (works_in p) place ≡ Some w)
+work-there p place there = slice_get-some (works_in p) place (omega (arith, works-length p.code p.inputs))
+
 pub buffers-works : (code : CodeParts) (inputs : List (List Snapshot)) → buffers_of code inputs ≡ inputs ++ wholes (works_of code inputs)
 buffers-works code inputs = with_buffers-works (length inputs) inputs code.loops
 
@@ -118,12 +122,8 @@ last_or-is given (x ∷ y ∷ xs) zero d at = absurd (omega arith)
 last_or-is given (x ∷ y ∷ xs) (suc i) d at = last_or-is x (y ∷ xs) i d (omega arith)
 
 -- the last loop of a code makes its run, and is used
-pub record IsLastWork (code : CodeParts) (inputs : List (List Snapshot)) (w : Work) : Type 0 where
-  pub run : w.whole ≡ run_of code inputs
-  pub used : w.used ≡ true
-
 pub run-last : (code : CodeParts) (inputs : List (List Snapshot)) (w : Work)
-    → slice_get (works_of code inputs) (length code.loops - 1) ≡ Some w → IsLastWork code inputs w
+    → slice_get (works_of code inputs) (length code.loops - 1) ≡ Some w → (w.whole ≡ run_of code inputs) × (w.used ≡ true)
 run-last code inputs w is =
     let works = works_of code inputs in
     let last = length code.loops - 1 in
@@ -131,11 +131,10 @@ run-last code inputs w is =
     let within = slice_get_within works last w is in
     let count = works-length code inputs in
     let at : suc (length inputs + last) ≡ length (buffers_of code inputs) = omega (arith, buffers-length code inputs) in
-    let later : drop (suc last) works ≡ [] = drop_all (suc last) works (omega arith) in
-    record {
-      run = sym (last_or-is [] (buffers_of code inputs) (length inputs + last) [] at ∙ it.filled);
-      used = it.used ∙ ap (λ (ws : List Work). is_used (length inputs + last) ws) later;
-    }
+    let later : drop (suc last) works ≡ [] = drop_all (suc last) works (omega arith) in (
+      sym (last_or-is [] (buffers_of code inputs) (length inputs + last) [] at ∙ it.filled),
+      it.used ∙ ap (λ (ws : List Work). is_used (length inputs + last) ws) later,
+    )
 
 pub record HasLast (code : CodeParts) (inputs : List (List Snapshot)) : Type 0 where
   pub work : Work
@@ -149,7 +148,7 @@ last-loop code inputs is =
     let many = works-length code inputs in
     let it = slice_get-some (works_of code inputs) (length code.loops - 1) (omega arith) in
     let last = run-last code inputs it.0 it.1 in
-    record { work = it.0; is = it.1; run = last.run; used = last.used; place = omega arith }
+    record { work = it.0; is = it.1; run = last.0; used = last.1; place = omega arith }
 
 -- a loop's whole buffer goes from the lower end of its stretch to the upper one
 pub work-timed : (code : CodeParts) (inputs : List (List Snapshot)) (place : ℕ) (w : Work) → AllByRecursion IsTimed code.loops

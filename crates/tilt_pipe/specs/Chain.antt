@@ -1,9 +1,10 @@
 -- What is kept of the loops of a pipe while their turns are made.
-use Rattle.std.specs.Prelude.{◌≡◌, ◌≢◌, ◌⊎◌, ◌<◌, ◌+◌, ℕ, ℤ, pos, neg_ℤ, ◌+ℤ◌, ◌<ℤ◌, ◌≤ℤ◌, int_lt, ◌&&◌, if◌then◌else◌}
-use Rattle.std.specs.Prelude.{List, get_or, length, map, slice_get, Option, Some, None}
+use Rattle.std.specs.Prelude.{◌≡◌, ◌≢◌, ◌⊎◌, ◌<◌, ◌≤◌, ◌+◌, ℕ, ℤ, pos, neg_ℤ, ◌+ℤ◌, ◌<ℤ◌, ◌≤ℤ◌, int_lt, ◌&&◌, if◌then◌else◌}
+use Rattle.std.specs.Prelude.{List, [], get_or, length, map, slice_get, Option, Some, None}
+use Rattle.std.specs.Global.{Vec}
 use Rattle.std.specs.List.{AllByRecursion, Contains}
 use Rattle.tilt_base.specs.declared.limits.TheConstants.{OFFSET}
-use Rattle.tilt_code.specs.Code.{CodeParts}
+use Rattle.tilt_code.specs.Code.{CodeParts, LoopParts}
 use Rattle.tilt_code.specs.Run.{buffers_of}
 use Rattle.tilt_stream.specs.Snap.{Snapshot}
 use Rattle.tilt_turn.specs.Held.{IsFit}
@@ -13,8 +14,8 @@ use Rattle.tilt_pipe.specs.Positions.{RingsParts, AreRings, IsOpen, forgotten_of
 use Rattle.tilt_pipe.specs.declared.read.Read.{Read}
 use Rattle.tilt_pipe.specs.Reads.{body_reads, turn_point}
 use Rattle.tilt_pipe.specs.Rings.{rings_of}
-use Rattle.tilt_pipe.specs.Sources.{AreReaders, AreSources}
-use Rattle.tilt_pipe.specs.Trimmed.{HasLetGo, KeepsWanted, StandAlike, read_next, wanted_at}
+use Rattle.tilt_pipe.specs.Sources.{AreReaders, AreSources, IsReaderOf}
+use Rattle.tilt_pipe.specs.Trimmed.{HasLetGo, KeepsWanted, StandAlike, reads_next}
 use Rattle.tilt_pipe.specs.declared.chain.Chain.{Chain}
 use Rattle.tilt_pipe.specs.declared.chain.LoopTurns.{LoopTurns}
 use Rattle.tilt_pipe.specs.declared.chain.Reader.{Reader}
@@ -60,25 +61,38 @@ point_at p place w =
 abbrev pub ArePoints : RingsParts → List (Option ℤ) → Type 0
 ArePoints p points = (k : ℕ) (w : Work) → slice_get (works_in p) k ≡ Some w → slice_get points k ≡ Some (point_at p k w)
 
--- for each loop, who holds its ring: one of its readers, or none that is known
-pub record AreHolders (all : List LoopTurns) (holders : List (Option Reader)) : Type 0 where
-  pub many : length holders ≡ length all
-  pub among : (k : ℕ) (turns : LoopTurns) (reader : Reader) → slice_get all k ≡ Some turns → slice_get holders k ≡ Some (Some reader)
-      → Contains turns.readers.items reader
+-- for each loop, who holds its ring: a reader of it, or none that is known
+pub record AreHolders (inputs : ℕ) (loops : List LoopParts) (holders : List (Option Reader)) : Type 0 where
+  pub many : length holders ≡ length loops
+  pub among : (k : ℕ) (reader : Reader) → slice_get holders k ≡ Some (Some reader) → IsReaderOf inputs loops k reader
 
--- all that ends below what a reader's next turn reads first was let go of a ring, and all of it where it has no next turn: so it reads
--- the first snapshot that the ring holds, if there is one
-abbrev pub IsHeldBy : RingsParts → ℕ → Reader → Type 0
-IsHeldBy p k reader = HasLetGo p k (read_next p reader (slice_get (works_in p) reader.place))
+-- the rings in the list of the loop at a place
+abbrev pub rings_listed : Option (Vec ℕ) → List ℕ
+rings_listed None = []
+rings_listed (Some list) = list.items
+
+abbrev pub held_in : List (Vec ℕ) → ℕ → List ℕ
+held_in held place = rings_listed (slice_get held place)
+
+-- for each loop a list of rings: all that it holds are in it
+pub record AreLists (holders : List (Option Reader)) (held : List (Vec ℕ)) : Type 0 where
+  pub many : length held ≡ length holders
+  pub listed : (k : ℕ) (reader : Reader) → slice_get holders k ≡ Some (Some reader) → Contains (held_in held reader.place) k
+  pub within : (place k : ℕ) → Contains (held_in held place) k → k < length holders
+
+-- the tick that who holds a ring reads next; none where nobody is known to hold it
+abbrev pub holder_next : RingsParts → Option Reader → Option ℤ
+holder_next p None = None
+holder_next p (Some reader) = reads_next p reader
+
+-- all that ends below what the next turn of a holder reads first was let go of a ring, and all of it where it has no next turn, or
+-- nobody holds the ring: so it reads the first snapshot that the ring holds, if there is one
+abbrev pub IsHeldBy : RingsParts → ℕ → Option Reader → Type 0
+IsHeldBy p k holder = HasLetGo p k (holder_next p holder)
 
 -- so does who holds the ring
 abbrev pub IsHeld : RingsParts → List (Option Reader) → ℕ → Type 0
-IsHeld p holders k = (reader : Reader) → slice_get holders k ≡ Some (Some reader) → IsHeldBy p k reader
-
--- the same where that is another loop than the one at a place
-abbrev pub IsHeldApart : RingsParts → List (Option Reader) → ℕ → ℕ → Type 0
-IsHeldApart p holders place k =
-    (reader : Reader) → slice_get holders k ≡ Some (Some reader) → reader.place ≢ place → IsHeldBy p k reader
+IsHeld p holders k = (holder : Option Reader) → slice_get holders k ≡ Some holder → IsHeldBy p k holder
 
 -- the turns of a chain, whatever its rings hold
 abbrev pub HasTurns : Chain → Type 0
@@ -90,7 +104,11 @@ HasPoints c = ArePoints c.rings c.points.items
 
 -- and who holds its rings
 abbrev pub HasHolders : Chain → Type 0
-HasHolders c = AreHolders c.turns.items c.holders.items
+HasHolders c = AreHolders (length c.rings.inputs) c.rings.code.loops c.holders.items
+
+-- in lists too
+abbrev pub HasLists : Chain → Type 0
+HasLists c = AreLists c.holders.items c.held.items
 
 -- a pipe's loops between two turns: each state is fit, the points are those of the next turns, each ring holds exactly what the next
 -- turns of later loops may read, and who holds it reads the first of that
@@ -98,6 +116,7 @@ pub record IsChain (c : Chain) : Type 0 where
   pub turns : HasTurns c
   pub points : HasPoints c
   pub holders : HasHolders c
+  pub lists : HasLists c
   pub held : (k : ℕ) → IsHeld c.rings c.holders.items k
   pub exact : map (λ r. r.held) c.rings.rings ≡ rings_of (length c.rings.inputs) (stages_at (works_in c.rings) (starts_of c.rings.rings))
 
@@ -107,14 +126,14 @@ pub record MayLetGo (c : Chain) : Type 0 where
   pub turns : HasTurns c
   pub points : HasPoints c
   pub holders : HasHolders c
+  pub lists : HasLists c
   pub wanted : (k : ℕ) → KeepsWanted c.rings k
 
--- all is let go of a ring that isn't wanted, and who holds it, if that is known, reads the first snapshot there
-pub record IsSettled (c : Chain) (k : ℕ) : Type 0 where
-  pub gone : HasLetGo c.rings k (wanted_at c.rings k)
-  pub held : IsHeld c.rings c.holders.items k
+-- who holds a ring reads the first snapshot there; where nobody is known to hold it, there is none
+abbrev pub IsSettled : Chain → ℕ → Type 0
+IsSettled c k = IsHeld c.rings c.holders.items k
 
--- what one ring lets go: then it is settled, no other ring takes anything back, and who holds those is the same
+-- what one ring lets go: no ring takes anything back, who holds the others is the same, and nothing goes off a list
 pub record LetsGo (old new : Chain) (place : ℕ) : Type 0 where
   pub may : MayLetGo new
   pub turns : new.turns.items ≡ old.turns.items
@@ -122,12 +141,29 @@ pub record LetsGo (old new : Chain) (place : ℕ) : Type 0 where
   pub alike : StandAlike old.rings new.rings
   pub more : (k : ℕ) (tick : Option ℤ) → HasLetGo old.rings k tick → HasLetGo new.rings k tick
   pub others : (k : ℕ) → k ≢ place → slice_get new.holders.items k ≡ slice_get old.holders.items k
+  pub listed : (j n k : ℕ) → slice_get (held_in old.held.items j) n ≡ Some k → slice_get (held_in new.held.items j) n ≡ Some k
+
+-- the same, until the ring is settled
+pub record Settles (old new : Chain) (place : ℕ) : Type 0 where
+  pub lets : LetsGo old new place
   pub settled : IsSettled new place
 
--- the reader that is named is one of these, and its next turn reads that tick first
-abbrev pub IsFirst : RingsParts → List Reader → Option ℤ → Option Reader → Type 0
-IsFirst p readers tick named = (reader : Reader) → named ≡ Some reader
-    → Contains readers reader × (read_next p reader (slice_get (works_in p) reader.place) ≡ tick)
+-- a ring is settled, or it is one of the first in the list of a loop, as many as that
+abbrev pub IsLeft : Chain → ℕ → ℕ → ℕ → Type 0
+IsLeft c place count k = IsSettled c k ⊎ ((n : ℕ) × (n < count) × (slice_get (held_in c.held.items place) n ≡ Some k))
+
+-- so is each ring, after a turn of the loop
+pub record AreLeft (c : Chain) (place count : ℕ) : Type 0 where
+  pub may : MayLetGo c
+  pub rings : AreRings c.rings
+  pub there : place < length c.rings.rings
+  pub many : count ≤ length (held_in c.held.items place)
+  pub left : (k : ℕ) → k < length c.rings.rings → IsLeft c place count k
+
+-- a reader of a ring, whose next turn reads the first snapshot there
+pub record IsHolder (c : Chain) (k : ℕ) (reader : Reader) : Type 0 where
+  pub own : IsReaderOf (length c.rings.inputs) c.rings.code.loops k reader
+  pub holds : IsHeldBy c.rings k (Some reader)
 
 -- a read at a grid point is told: it is one of an input, or the loop has made all up to that tick, or all
 abbrev pub IsTold : RingsParts → ℤ → Read → Type 0

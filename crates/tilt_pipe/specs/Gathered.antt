@@ -1,5 +1,7 @@
 -- What is kept of the loops of a pipe before their first turns, while it is found which loops they read and which read their buffers.
-use Rattle.std.specs.Prelude.{◌≡◌, ◌<◌, ◌≤◌, ℕ, suc, ℤ, ◌≤ℤ◌, true, List, length, slice_get, Some}
+use Rattle.std.specs.Global.{Vec}
+use Rattle.tilt_pipe.specs.Chain.{held_in}
+use Rattle.std.specs.Prelude.{◌≡◌, ◌<◌, ◌≤◌, ℕ, suc, ℤ, ◌≤ℤ◌, true, List, length, slice_get, Some, []}
 use Rattle.std.specs.List.{Contains}
 use Rattle.tilt_code.specs.Run.{buffers_of}
 use Rattle.tilt_turn.specs.Held.{IsFit}
@@ -19,6 +21,11 @@ pub record HasBegun (p : RingsParts) (from place : ℕ) (w : Work) (turns : Loop
   pub used : 0 < length turns.readers.items → w.used ≡ true
   pub passed : turns.passed ≡ 0
 
+-- so many lists of rings, which are empty
+pub record AreEmpty (count : ℕ) (lists : Vec (Vec ℕ)) : Type 0 where
+  pub many : length lists.items ≡ count
+  pub none : (place : ℕ) → held_in lists.items place ≡ []
+
 -- the same where those after one have, and so many sources of that one, where it is used
 pub record HasAdded (p : RingsParts) (one : ℕ) (sources : List Source) (count place : ℕ) (w : Work) (turns : LoopTurns) : Type 0 where
   pub begun : HasBegun p (suc one) place w turns
@@ -27,9 +34,9 @@ pub record HasAdded (p : RingsParts) (one : ℕ) (sources : List Source) (count 
       → Contains turns.readers.items (record { place = one; first = s.first })
 
 -- the same of each of so many loops
-pub record AreEach (p : RingsParts) (count : ℕ) (Has : ℕ → Work → LoopTurns → Type 0) (all : List LoopTurns) : Type 0 where
+pub record AreEach {T : Type 0} (p : RingsParts) (count : ℕ) (Has : ℕ → Work → T → Type 0) (all : List T) : Type 0 where
   pub many : length all ≡ count
-  pub each : (k : ℕ) (w : Work) (turns : LoopTurns) → slice_get (works_in p) k ≡ Some w → slice_get all k ≡ Some turns → Has k w turns
+  pub each : (k : ℕ) (w : Work) (t : T) → slice_get (works_in p) k ≡ Some w → slice_get all k ≡ Some t → Has k w t
 
 -- the loops of a code, where those from one on have said what they read
 abbrev pub HaveBegun : RingsParts → ℕ → List LoopTurns → Type 0

@@ -98,6 +98,10 @@ kept_ring read r s = record {
   hi = r.hi;
 }
 
+-- a ring whose first snapshot was let go
+abbrev pub later_ring : RingParts → RingParts
+later_ring r = record { held = drop 1 r.held; forgotten = r.forgotten + 1; start = r.start; hi = r.hi }
+
 -- a loop that stands before the end of its stretch
 pub record IsOpen (p : RingsParts) (place : ℕ) (w : Work) : Type 0 where
   pub is : slice_get (works_in p) place ≡ Some w

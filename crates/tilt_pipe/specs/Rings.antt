@@ -1,6 +1,6 @@
 -- What the ring of each loop holds (our own rule): of what the loop has made, that which the next turns of later loops may read.
-use Rattle.std.specs.Prelude.{ℕ, zero, suc, ◌+◌, ℤ, Bool, ◌&&◌, if◌then◌else◌, List, [], ◌∷◌, length, drop, max, Option, Some, None}
-use Rattle.std.specs.Prelude.{int_lt}
+use Rattle.std.specs.Prelude.{◌<◌, ◌≤◌, ℕ, zero, suc, ◌+◌, ℤ, pos, ◌+ℤ◌, Bool, ◌&&◌, if◌then◌else◌, List, [], ◌∷◌}
+use Rattle.std.specs.Prelude.{length, drop, max, Option, Some, None, int_lt}
 use Rattle.tilt_code.specs.Code.{CodeParts}
 use Rattle.tilt_code.specs.Run.{run_of}
 use Rattle.tilt_stream.specs.Snap.{Snapshot, ended_below, last_end}
@@ -33,6 +33,11 @@ wanted buffer (s ∷ stages) = earlier (next_read buffer s) (wanted buffer stage
 abbrev pub let_go : Option ℤ → List Snapshot → ℕ
 let_go None list = length list
 let_go (Some tick) list = ended_below tick list
+
+-- after so many snapshots the next one ends at a tick; where there is no tick, there is no next one
+abbrev pub IsNextEnd : ℕ → List Snapshot → Option ℤ → Type 0
+IsNextEnd n list None = length list ≤ n
+IsNextEnd n list (Some end) = (ended_below end list ≤ n) × (n < ended_below (end +ℤ pos 1) list)
 
 -- the others
 abbrev pub kept_from : Option ℤ → List Snapshot → List Snapshot

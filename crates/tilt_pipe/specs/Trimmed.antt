@@ -1,11 +1,11 @@
 -- What is let go of the rings of a pipe after a turn.
-use Rattle.std.specs.Prelude.{neg_ℤ, ◌≡◌, ◌<◌, ◌≤◌, ◌+◌, ℕ, suc, ℤ, pos, ◌+ℤ◌, ◌≤ℤ◌, ◌&&◌, if◌then◌else◌, drop}
+use Rattle.std.specs.Prelude.{neg_ℤ, ◌≡◌, ◌<◌, ◌≤◌, ◌+◌, ℕ, suc, ℤ, pos, ◌+ℤ◌, ◌≤ℤ◌, ◌&&◌, if◌then◌else◌, drop, map, get_or, [], ⊤}
 use Rattle.std.specs.Prelude.{length, slice_get, Option, Some, None, int_lt}
 use Rattle.tilt_base.specs.declared.limits.TheConstants.{OFFSET}
 use Rattle.tilt_pipe.specs.Made.{Work}
 use Rattle.tilt_pipe.specs.Positions.{RingParts, RingsParts, made_by, stages_at, start_at, starts_of, works_in}
 use Rattle.tilt_pipe.specs.Reads.{turn_point}
-use Rattle.tilt_pipe.specs.Rings.{let_go, wanted}
+use Rattle.tilt_pipe.specs.Rings.{IsNextEnd, let_go, wanted}
 use Rattle.tilt_pipe.specs.declared.chain.Reader.{Reader}
 use Rattle.tilt_pipe.specs.declared.read.Read.{Read}
 
@@ -28,6 +28,15 @@ read_next p reader (Some w) =
     if w.used && int_lt (start_at p reader.place) w.loop.hi then Some (turn_point w.loop (start_at p reader.place) +ℤ reader.first)
     else None
 
+abbrev pub reads_next : RingsParts → Reader → Option ℤ
+reads_next p reader = read_next p reader (slice_get (works_in p) reader.place)
+
+-- of two ticks the second is no earlier one; no tick is later than all
+abbrev pub IsNotLater : Option ℤ → Option ℤ → Type 0
+IsNotLater a None = ⊤
+IsNotLater None (Some b) = ⊥
+IsNotLater (Some a) (Some b) = a ≤ℤ b
+
 -- a loop that is there, and reads a buffer no further off than an offset goes and one tick more
 pub record IsReader (p : RingsParts) (reader : Reader) : Type 0 where
   pub work : Work
@@ -46,6 +55,16 @@ abbrev pub HasLetGo : RingsParts → ℕ → Option ℤ → Type 0
 HasLetGo p place tick =
     (w : Work) (r : RingParts) → slice_get (works_in p) place ≡ Some w → slice_get p.rings place ≡ Some r
     → let_go tick (made_by r.start w.whole) ≤ r.forgotten
+
+-- the first snapshot that a ring holds ends at a tick; where there is no tick, it holds none
+abbrev pub HasNextEnd : RingsParts → ℕ → Option ℤ → Type 0
+HasNextEnd p place end =
+    (w : Work) (r : RingParts) → slice_get (works_in p) place ≡ Some w → slice_get p.rings place ≡ Some r
+    → IsNextEnd r.forgotten (made_by r.start w.whole) end
+
+-- how many snapshots a ring holds
+abbrev pub held_at : RingsParts → ℕ → ℕ
+held_at p place = length (get_or (map (λ r. r.held) p.rings) place [])
 
 -- rings of the same loops, which stand at the same ticks
 pub record StandAlike (p q : RingsParts) : Type 0 where

@@ -1,17 +1,17 @@
 // The loops of a pipe, and their turns.
-ghost use Rattle.std.specs.Prelude.{◌≡◌, ◌<◌, ◌≤◌, ◌+◌, ℕ, ℤ, ◌+ℤ◌, ◌≤ℤ◌};
-ghost use Rattle.std.specs.Prelude.{List, length, slice_get, slice_set, Some, None, true, false, IfOk, OnOk};
+ghost use Rattle.std.specs.Prelude.{◌≡◌, ◌≢◌, ◌⊎◌, ◌<◌, ◌+◌, ◌++◌, ◌∷◌, [], ℕ, pos, ◌+ℤ◌};
+ghost use Rattle.std.specs.Prelude.{length, slice_get, slice_set, Some, None, true, false, IfOk, OnOk};
 ghost use Rattle.std.specs.Prelude.{MatchOption};
 ghost use Rattle.std.specs.List.{AllByRecursion, Contains};
 ghost use Rattle.tilt_code.specs.References.{IsCode};
 ghost use Rattle.tilt_code.specs.Run.{buffers_of};
-ghost use Rattle.tilt_pipe.specs.Chain.{AreTold, HasHolders, HasPoints, HasTurns, IsBehind, IsChain, IsFirst, IsHeldApart};
-ghost use Rattle.tilt_pipe.specs.Chain.{IsLate, IsNearSource, IsReached, IsSettled, LetsGo, MayLetGo, MayTurn, point_at};
-ghost use Rattle.tilt_pipe.specs.Made.{Work, reads_buffer};
+ghost use Rattle.tilt_pipe.specs.Chain.{AreLeft, AreTold, HasPoints, HasTurns, IsBehind, IsChain, IsHolder};
+ghost use Rattle.tilt_pipe.specs.Chain.{IsLate, IsNearSource, IsReached, IsSettled, LetsGo, MayLetGo, MayTurn, Settles, held_in, point_at};
+ghost use Rattle.tilt_pipe.specs.Made.{Work};
 ghost use Rattle.tilt_pipe.specs.Positions.{AreRings, IsOpen, made_at};
 ghost use Rattle.tilt_pipe.specs.Positions.{start_at, starts_of, works_in};
-ghost use Rattle.tilt_pipe.specs.Reads.{body_reads, earlier, turn_point};
-ghost use Rattle.tilt_pipe.specs.Trimmed.{HasLetGo, IsReader, StandAlike, read_next, wanted_at};
+ghost use Rattle.tilt_pipe.specs.Reads.{turn_point};
+ghost use Rattle.tilt_pipe.specs.Trimmed.{HasLetGo, IsNotLater, IsReader, StandAlike, held_at, reads_next, wanted_at};
 ghost use Rattle.tilt_turn.specs.Held.{IsFit};
 ghost use Rattle.tilt_turn.specs.Ready.{IsBodyTick};
 ghost use Rattle.tilt_pipe.specs.declared.chain.LoopTurns.{LoopTurns};
@@ -43,13 +43,15 @@ pub(crate) struct LoopTurns {
 
 // The rings of a code, and what is kept for the turns of each loop; the grid point of its next turn, where it is at work: used, and
 // not at the end of its stretch; and who holds its ring: a reader whose next turn reads the first snapshot there, where one is known.
-// As long as it does, nothing goes.
+// As long as it does, nothing goes. For each loop, the places of the rings that it holds are in a list, which is looked at after its
+// turn. There may also be some that it held before.
 #[derive(Drop)]
 pub(crate) struct Chain {
     pub(crate) rings: Rings,
     pub(crate) turns: Vec<LoopTurns>,
     pub(crate) points: Vec<Option<i64>>,
     pub(crate) holders: Vec<Option<Reader>>,
+    pub(crate) held: Vec<Vec<usize>>,
 }
 
 impl Chain {
@@ -93,8 +95,8 @@ impl Chain {
         let snap = next_snap(&mut self.turns[place], &self.rings, place)?;
         self.rings.keep(place, snap, read)?;
         self.set_point(place);
-        self.trim_own(place, had);
-        self.trim_sources(place);
+        self.trim_own(place, had)?;
+        self.trim_held(place)?;
         Ok(snap)
     }
 
@@ -110,68 +112,23 @@ impl Chain {
         !self.turns[place].readers.is_empty()
     }
 
-    // The first tick of a loop's buffer that the next turns of later loops read; none where none of them is at work and reads it.
-    fn wanted(&self, place: usize) -> Option<i64>
-        requires turns { HasTurns self.now }
-        requires points { HasPoints self.now }
+    // The first of a ring's readers whose next turn reads at a tick or below it.
+    fn reader_up_to(&self, place: usize, end: i64) -> Option<Reader>
+        requires may { MayLetGo self.now }
         requires there { place < length self.now.rings.rings }
-        ensures { result ≡ wanted_at self.now.rings place }
-    {
-        // What rings keep is known from here on.
-        let _ = self.rings.loops();
-        let mut wanted = None;
-        let readers = &self.turns[place].readers;
-        for number in 0..readers.len() {
-            wanted = earlier(self.next_read(readers[number]), wanted);
-        }
-        wanted
-    }
-
-    // A reader whose next turn reads a tick first of a loop's buffer; none where there is none. It is the one that held the ring so far,
-    // if that does: loops go on in turns, so that the one whose turn was the last is mostly the last the next time.
-    fn first_reader(&self, place: usize, tick: Option<i64>) -> Option<Reader>
-        requires turns { HasTurns self.now }
-        requires points { HasPoints self.now }
-        requires holders { HasHolders self.now }
-        requires there { place < length self.now.rings.rings }
-        ensures { (turns : LoopTurns) → slice_get self.now.turns.items place ≡ Some turns
-            → IsFirst self.now.rings turns.readers.items tick result }
-    {
-        // What rings keep is known from here on.
-        let _ = self.rings.loops();
-        match self.holders[place] {
-            Some(reader) if self.reads_first(reader, tick) => Some(reader),
-            _ => self.other_reader(place, tick),
-        }
-    }
-
-    // The same, whoever held the ring.
-    fn other_reader(&self, place: usize, tick: Option<i64>) -> Option<Reader>
-        requires turns { HasTurns self.now }
-        requires points { HasPoints self.now }
-        requires there { place < length self.now.rings.rings }
-        ensures { (turns : LoopTurns) → slice_get self.now.turns.items place ≡ Some turns
-            → IsFirst self.now.rings turns.readers.items tick result }
+        requires end { HasLetGo self.now.rings place (Some end) }
+        ensures { MatchOption result (IsNotLater (Some (end +ℤ pos 1)) (wanted_at self.now.rings place)) (IsHolder self.now place) }
     {
         // What rings keep is known from here on.
         let _ = self.rings.loops();
         let readers = &self.turns[place].readers;
         for number in 0..readers.len() {
-            if self.reads_first(readers[number], tick) {
-                return Some(readers[number]);
+            let reader = readers[number];
+            if self.reads_up_to(reader, end) {
+                return Some(reader);
             }
         }
         None
-    }
-
-    // Whether a reader's next turn reads a tick first, or it has no next turn and there is no tick.
-    #[inline]
-    fn reads_first(&self, reader: Reader, tick: Option<i64>) -> bool
-        requires points { HasPoints self.now }
-        requires reader { IsReader self.now.rings reader }
-        ensures { result ≡ true → read_next self.now.rings reader (slice_get (works_in self.now.rings) reader.place) ≡ tick }
-    {
-        self.next_read(reader) == tick
     }
 
     // The grid point of the next turn of a loop that is at work.
@@ -194,6 +151,7 @@ impl Chain {
         ensures rings { self.new.rings ≡ self.old.rings }
         ensures turns { self.new.turns.items ≡ self.old.turns.items }
         ensures holders { self.new.holders.items ≡ self.old.holders.items }
+        ensures held { self.new.held.items ≡ self.old.held.items }
     {
         let point = next_point(&self.rings, place, true);
         self.points[place] = point;
@@ -204,7 +162,7 @@ impl Chain {
     fn next_read(&self, reader: Reader) -> Option<i64>
         requires points { HasPoints self.now }
         requires reader { IsReader self.now.rings reader }
-        ensures { result ≡ read_next self.now.rings reader (slice_get (works_in self.now.rings) reader.place) }
+        ensures { result ≡ reads_next self.now.rings reader }
     {
         // What rings keep is known from here on.
         let _ = self.rings.loops();
@@ -219,8 +177,8 @@ impl Chain {
     fn reads_up_to(&self, reader: Reader, end: i64) -> bool
         requires points { HasPoints self.now }
         requires reader { IsReader self.now.rings reader }
-        ensures { result ≡ true → (tick : ℤ) × (tick ≤ℤ end)
-            × (read_next self.now.rings reader (slice_get (works_in self.now.rings) reader.place) ≡ Some tick) }
+        ensures early { result ≡ true → IsNotLater (reads_next self.now.rings reader) (Some end) }
+        ensures late { result ≡ false → IsNotLater (Some (end +ℤ pos 1)) (reads_next self.now.rings reader) }
     {
         match self.next_read(reader) {
             Some(tick) => tick <= end,
@@ -244,103 +202,157 @@ impl Chain {
         }
     }
 
+    // Whether a ring holds no snapshot, or who holds it reads the first one.
+    #[inline]
+    fn is_first_held(&self, place: usize) -> bool
+        requires may { MayLetGo self.now }
+        requires there { place < length self.now.rings.rings }
+        ensures { result ≡ true → IsSettled self.now place }
+    {
+        match self.rings.first_end(place) {
+            Some(end) => self.is_held(place, end),
+            None => true,
+        }
+    }
+
+    // Whether the loop at a place holds a ring.
+    #[inline]
+    fn holds(&self, place: usize, ring: usize) -> bool
+        requires { ring < length self.now.holders.items }
+        ensures { result ≡ false → (reader : Reader) → slice_get self.now.holders.items ring ≡ Some (Some reader) → reader.place ≢ place }
+    {
+        match self.holders[ring] {
+            Some(reader) => reader.place == place,
+            None => false,
+        }
+    }
+
     // Lets go what no next turn reads any more of the buffer of a loop whose turn was made. Where its ring held a snapshot before, that
     // one is read still, so that nothing goes.
     #[inline]
-    fn trim_own(&mut self, place: usize, had: bool)
+    fn trim_own(&mut self, place: usize, had: bool) -> Result<(), OutOfMemory>
         requires may { MayLetGo self.old }
         requires there { place < length self.old.rings.rings }
         requires had { had ≡ true → IsSettled self.old place }
-        ensures { LetsGo self.old self.new place }
+        ensures alike { StandAlike self.old.rings self.new.rings }
+        ensures settles { OnOk result (Settles self.old self.new place) }
     {
         // What rings keep is known from here on.
         let _ = self.rings.loops();
         if had {
-            return;
+            return Ok(());
         }
-        self.trim(place);
+        self.trim(place)
     }
 
     // Lets go what no next turn reads any more of a loop's buffer. Mostly who held its ring does so still, and nothing goes.
     #[inline]
-    fn trim(&mut self, place: usize)
+    fn trim(&mut self, place: usize) -> Result<(), OutOfMemory>
         requires may { MayLetGo self.old }
         requires there { place < length self.old.rings.rings }
-        ensures { LetsGo self.old self.new place }
+        ensures alike { StandAlike self.old.rings self.new.rings }
+        ensures settles { OnOk result (Settles self.old self.new place) }
+    {
+        // What rings keep is known from here on.
+        let _ = self.rings.loops();
+        if self.is_first_held(place) {
+            return Ok(());
+        }
+        self.release(place)
+    }
+
+    // Lets go what no reader's next turn reads, one snapshot after the other.
+    #[inline(never)]
+    fn release(&mut self, place: usize) -> Result<(), OutOfMemory>
+        requires may { MayLetGo self.old }
+        requires there { place < length self.old.rings.rings }
+        ensures alike { StandAlike self.old.rings self.new.rings }
+        ensures settles { OnOk result (Settles self.old self.new place) }
+    {
+        // What rings keep is known from here on.
+        let _ = self.rings.loops();
+        while self.drops_first(place)? {}
+        Ok(())
+    }
+
+    // Lets the first snapshot of a ring go, if no reader's next turn reads it, and answers whether the next one is to be looked at. A
+    // reader whose next turn reads it holds the ring from then on.
+    fn drops_first(&mut self, place: usize) -> Result<bool, OutOfMemory>
+        requires may { MayLetGo self.old }
+        requires there { place < length self.old.rings.rings }
+        ensures alike { StandAlike self.old.rings self.new.rings }
+        ensures lets { OnOk result (LetsGo self.old self.new place) }
+        ensures settled { IfOk result (λ more. more ≡ false → IsSettled self.new place) }
+        ensures fewer { IfOk result (λ more. more ≡ true → held_at self.new.rings place < held_at self.old.rings place) }
     {
         // What rings keep is known from here on.
         let _ = self.rings.loops();
         let Some(end) = self.rings.first_end(place) else {
-            return;
+            return Ok(false);
         };
-        if self.is_held(place, end) {
-            return;
+        if let Some(reader) = self.reader_up_to(place, end) {
+            self.set_holder(place, reader)?;
+            return Ok(false);
         }
-        self.release(place);
+        self.rings.let_first_go(place);
+        Ok(!self.is_first_held(place))
     }
 
-    // Lets go what no reader's next turn reads. Who reads first holds the ring then.
-    #[inline(never)]
-    fn release(&mut self, place: usize)
+    // Says that a reader holds a ring, which is then in the list of its loop.
+    fn set_holder(&mut self, place: usize, reader: Reader) -> Result<(), OutOfMemory>
         requires may { MayLetGo self.old }
         requires there { place < length self.old.rings.rings }
-        ensures { LetsGo self.old self.new place }
+        requires holder { IsHolder self.old place reader }
+        ensures alike { StandAlike self.old.rings self.new.rings }
+        ensures settles { OnOk result (Settles self.old self.new place) }
     {
         // What rings keep is known from here on.
         let _ = self.rings.loops();
-        let wanted = self.wanted(place);
-        let reader = self.first_reader(place, wanted);
-        self.rings.keep_from(place, wanted);
-        self.holders[place] = reader;
+        add_ring(&mut self.held[reader.place], place)?;
+        self.holders[place] = Some(reader);
+        Ok(())
     }
 
-    // The same of the buffers that a loop reads, after its turn.
-    fn trim_sources(&mut self, place: usize)
-        requires may { MayLetGo self.old }
-        requires there { place < length self.old.rings.rings }
-        requires unread { (w : Work) → slice_get (works_in self.old.rings) place ≡ Some w
-            → (k : ℕ) → reads_buffer (length self.old.rings.inputs + k) (body_reads w.loop.body) ≡ false
-            → HasLetGo self.old.rings k (wanted_at self.old.rings k) }
-        requires apart { (k : ℕ) → IsHeldApart self.old.rings self.old.holders.items place k }
-        ensures is { IsChain self.new }
+    // Lets go what no next turn reads any more of the buffers whose rings a loop holds, after its turn. The list is looked at from its
+    // end: in the place of a ring that is taken off there comes one that was looked at, or one that was added.
+    fn trim_held(&mut self, place: usize) -> Result<(), OutOfMemory>
+        requires { AreLeft self.old place (length (held_in self.old.held.items place)) }
+        ensures is { OnOk result (IsChain self.new) }
         ensures alike { StandAlike self.old.rings self.new.rings }
     {
         // What rings keep is known from here on.
         let _ = self.rings.loops();
-        let count = self.turns[place].sources.len();
-        for number in 0..count {
-            let source = self.turns[place].sources[number].place;
-            self.trim_source(place, source);
+        for number in (0..self.held[place].len()).rev() {
+            self.trim_number(place, number)?;
         }
+        Ok(())
     }
 
-    // The same of one of them. Where another loop holds its ring, nothing goes, for none but this loop went on.
-    #[inline(always)]
-    fn trim_source(&mut self, place: usize, source: usize)
-        requires may { MayLetGo self.old }
-        requires there { source < length self.old.rings.rings }
-        requires apart { IsHeldApart self.old.rings self.old.holders.items place source }
-        ensures { LetsGo self.old self.new source }
+    // The same of one of them, which the loop then holds still, or it isn't in the list.
+    #[inline]
+    fn trim_number(&mut self, place: usize, number: usize) -> Result<(), OutOfMemory>
+        requires { AreLeft self.old place (number + 1) }
+        ensures left { OnOk result (AreLeft self.new place number) }
+        ensures alike { StandAlike self.old.rings self.new.rings }
     {
-        // What rings keep is known from here on.
-        let _ = self.rings.loops();
-        match self.holders[source] {
-            Some(reader) if reader.place != place => {}
-            _ => self.trim(source),
+        let ring = self.held[place][number];
+        self.trim(ring)?;
+        if !self.holds(place, ring) {
+            self.held[place].swap_remove(number);
         }
+        Ok(())
     }
 }
 
-// The earlier one of two ticks, where both are there.
-#[inline]
-fn earlier(a: Option<i64>, b: Option<i64>) -> Option<i64>
-    ensures { result ≡ earlier a b }
+// Adds a ring to a list, if it isn't in it.
+fn add_ring(rings: &mut Vec<usize>, ring: usize) -> Result<(), OutOfMemory>
+    ensures among { OnOk result (Contains rings.new.items ring) }
+    ensures added { (rings.new.items ≡ rings.old.items) ⊎ (rings.new.items ≡ rings.old.items ++ ring ∷ []) }
 {
-    match (a, b) {
-        (None, b) => b,
-        (Some(a), Some(b)) => Some(a.min(b)),
-        (Some(a), None) => Some(a),
+    if !rings.contains(&ring) {
+        rings.push(ring)?;
     }
+    Ok(())
 }
 
 // The grid point of the next turn of a loop; none where it isn't at work: not used, or at the end of its stretch.

@@ -9,7 +9,6 @@
 #![tactic(auto)]
 
 mod chain;
-mod hints;
 mod loop_ring;
 mod pipe;
 mod read;

@@ -3,8 +3,8 @@ ghost use Rattle.std.specs.Prelude.{◌≡◌, ◌<◌, ◌≤◌, ◌+◌, ◌-
 ghost use Rattle.std.specs.Prelude.{slice_get, Some, neg_ℤ, ◌<ℤ◌, ◌≤ℤ◌, IfOk, OnOk, OnErr, IsTrue, ◌↔◌};
 ghost use Rattle.std.specs.Option.{ForSome};
 ghost use Rattle.tilt_base.specs.declared.limits.TheConstants.{WIDE};
-ghost use Rattle.tilt_pipe.specs.Positions.{kept_ring};
-ghost use Rattle.tilt_pipe.specs.Rings.{kept_from, let_go};
+ghost use Rattle.tilt_pipe.specs.Positions.{kept_ring, later_ring};
+ghost use Rattle.tilt_pipe.specs.Rings.{IsNextEnd};
 ghost use Rattle.tilt_stream.specs.Snap.{Snapshot, InOrder, gap_before, last_end};
 
 use crate::snap_ring::SnapRing;
@@ -139,51 +139,21 @@ impl LoopRing {
         Ok(())
     }
 
-    // Lets go the snapshots that end below a tick, and all where there is no tick: of what was made, the others are kept.
-    #[inline]
-    pub(crate) fn keep_from(&mut self, first: Option<i64>)
-        requires { self.old.forgotten + length self.old.held < 2 ^ 64 }
-        ensures { (made : List Snapshot) → InOrder (neg_ℤ WIDE) WIDE made
-            → self.old.forgotten ≤ let_go first made → self.old.held ≡ drop self.old.forgotten made
-            → self.new ≡ record { held = kept_from first made; forgotten = let_go first made; start = self.old.start; hi = self.old.hi } }
-    {
-        while self.lets_go(first) {
-            self.let_first_go();
-        }
-    }
-
     // Where the first snapshot that is kept ends.
     #[inline]
     pub(crate) fn first_end(&self) -> Option<i64>
         ensures { (made : List Snapshot) → InOrder (neg_ℤ WIDE) WIDE made → self.now.held ≡ drop self.now.forgotten made
-            → let_go result made ≤ self.now.forgotten }
+            → IsNextEnd self.now.forgotten made result }
     {
         Some(self.ring.at(0)?.end)
     }
 
-    // Whether there is a first snapshot, and it ends below the tick, or there is no tick.
-    #[inline]
-    fn lets_go(&self, first: Option<i64>) -> bool
-        ensures some { IsTrue result → 0 < length self.now.held }
-        ensures more { (made : List Snapshot) → InOrder (neg_ℤ WIDE) WIDE made → self.now.held ≡ drop self.now.forgotten made
-            → IsTrue result ↔ (self.now.forgotten < let_go first made) }
-    {
-        let Some(snap) = self.ring.at(0) else {
-            return false;
-        };
-        match first {
-            Some(tick) => snap.end < tick,
-            None => true,
-        }
-    }
-
     // Lets the first snapshot go.
     #[inline]
-    fn let_first_go(&mut self)
+    pub(crate) fn let_first_go(&mut self)
         requires some { 0 < length self.old.held }
         requires fits { self.old.forgotten + length self.old.held < 2 ^ 64 }
-        ensures { self.new ≡
-            record { held = drop 1 self.old.held; forgotten = self.old.forgotten + 1; start = self.old.start; hi = self.old.hi } }
+        ensures { self.new ≡ later_ring self.old }
     {
         self.ring.pop_front();
         self.forgotten += 1;

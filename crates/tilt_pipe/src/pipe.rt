@@ -1,5 +1,5 @@
 // The pipelined machine.
-ghost use Rattle.std.specs.Prelude.{◌≡◌, ◌++◌, ◌∷◌, [], ◌<◌, ℕ, suc, true, false, length};
+ghost use Rattle.std.specs.Prelude.{◌≡◌, List, [], ◌∷◌, ◌++◌, ◌<◌, ℕ, suc, true, false, length};
 ghost use Rattle.std.specs.Prelude.{slice_get, IfOk, OnOk, IsErr, OnErr, MatchOption};
 ghost use Rattle.tilt_code.specs.Run.{run_of};
 ghost use Rattle.tilt_pipe.specs.Chain.{IsChain};
@@ -100,36 +100,37 @@ fn pull(chain: &mut Chain, asked: &mut Vec<usize>) -> Result<Option<Snap>, OutOf
     }
     asked.push(last)?;
     let mut made = None;
-    while let Some(place) = asked.pop() {
+    while let Some(place) = asked.last().copied() {
         made = step(chain, asked, place)?;
     }
     Ok(made)
 }
 
-// One step towards the next snapshot: the turn of the last one of the loops that are asked for, or an earlier loop is asked for that
-// this turn waits for.
+// One step towards the next snapshot: the turn of the last one of the loops that are asked for, which then isn't any more; or an
+// earlier loop is asked for too that this turn waits for.
 fn step(
     chain: &mut Chain,
     asked: &mut Vec<usize>,
     place: usize,
 ) -> Result<Option<Snap>, OutOfMemory>
     requires chain { IsChain chain.old }
-    requires pulled { (given : ℕ) × IsPulled given chain.old.rings (asked.old.items ++ place ∷ []) }
+    requires pulled { (given : ℕ) × IsPulled given chain.old.rings asked.old.items }
+    requires last { (before : List ℕ) × (asked.old.items ≡ before ++ place ∷ []) }
     ensures chain { OnOk result (IsChain chain.new) }
-    ensures pulled { (given : ℕ) → IsPulled given chain.old.rings (asked.old.items ++ place ∷ [])
+    ensures pulled { (given : ℕ) → IsPulled given chain.old.rings asked.old.items
         → OnOk result (IsPulled given chain.new.rings asked.new.items) }
-    ensures made { (given : ℕ) → IsPulled given chain.old.rings (asked.old.items ++ place ∷ [])
+    ensures made { (given : ℕ) → IsPulled given chain.old.rings asked.old.items
         → IfOk result (λ made. asked.new.items ≡ [] → made ≡ slice_get (run_of chain.old.rings.code chain.old.rings.inputs) given) }
-    ensures nearer { (given : ℕ) → IsPulled given chain.old.rings (asked.old.items ++ place ∷ [])
-        → OnOk result (steps_left given chain.new.rings asked.new.items
-        < steps_left given chain.old.rings (asked.old.items ++ place ∷ [])) }
+    ensures nearer { (given : ℕ) → IsPulled given chain.old.rings asked.old.items
+        → OnOk result (steps_left given chain.new.rings asked.new.items < steps_left given chain.old.rings asked.old.items) }
     ensures code { chain.new.rings.code ≡ chain.old.rings.code }
     ensures inputs { chain.new.rings.inputs ≡ chain.old.rings.inputs }
 {
     if let Some(source) = chain.behind(place) {
-        asked.push(place)?;
         asked.push(source)?;
         return Ok(None);
     }
-    Ok(Some(chain.make(place)?))
+    let snap = chain.make(place)?;
+    asked.pop();
+    Ok(Some(snap))
 }

@@ -1,15 +1,15 @@
 // The buffers that the loops of a pipe read: the rows of the inputs, and a ring for each loop.
-ghost use Rattle.std.specs.Prelude.{◌≡◌, ◌<◌, ◌≤◌, ◌+◌, ℕ, ℤ, pos, neg_ℤ, ◌<ℤ◌, List, [], ◌∷◌, ◌++◌, get_or};
+ghost use Rattle.std.specs.Prelude.{◌≡◌, ◌<◌, ◌≤◌, ◌+◌, neg_ℤ, ◌<ℤ◌, [], get_or};
 ghost use Rattle.std.specs.Prelude.{length, map, slice_get, Some, true, false, IfOk, OnOk, OnErr, IsTrue, ◌↔◌, MatchOption};
 ghost use Rattle.tilt_code.specs.References.{IsCode};
 ghost use Rattle.tilt_base.specs.declared.limits.TheConstants.{WIDE};
 ghost use Rattle.tilt_pipe.specs.Made.{Work};
-ghost use Rattle.tilt_pipe.specs.Positions.{AreRings, IsOpen, RingParts, forgotten_of, kept_ring, lists_of};
-ghost use Rattle.tilt_pipe.specs.Positions.{made_at, made_by, open_lists, start_at, starts_of, with_ring};
+ghost use Rattle.tilt_pipe.specs.Positions.{AreRings, IsOpen, RingParts, forgotten_of, kept_ring, later_ring, lists_of};
+ghost use Rattle.tilt_pipe.specs.Positions.{made_at, open_lists, start_at, starts_of, with_ring};
 ghost use Rattle.tilt_pipe.specs.Positions.{works_in};
 ghost use Rattle.tilt_pipe.specs.Reads.{turn_point};
-ghost use Rattle.tilt_pipe.specs.Rings.{held, kept_from, let_go};
-ghost use Rattle.tilt_pipe.specs.Trimmed.{HasLetGo};
+ghost use Rattle.tilt_pipe.specs.Rings.{held};
+ghost use Rattle.tilt_pipe.specs.Trimmed.{HasNextEnd};
 ghost use Rattle.tilt_stream.specs.Snap.{InOrder};
 
 use crate::loop_ring::LoopRing;
@@ -175,28 +175,22 @@ impl Rings {
     #[inline]
     pub(crate) fn first_end(&self, place: usize) -> Option<i64>
         requires { place < length self.now.rings }
-        ensures { HasLetGo self.now place result }
+        ensures { HasNextEnd self.now place result }
     {
         // What a code keeps is known from here on.
         let _ = self.code.loops();
         self.rings[place].first_end()
     }
 
-    // Lets go what a loop has made and ends below a tick, and all of it where there is no tick. It may have let go less before.
-    pub(crate) fn keep_from(&mut self, place: usize, first: Option<i64>)
-        requires { (w : Work) × (r : RingParts) × (slice_get (works_in self.old) place ≡ Some w)
-            × (slice_get self.old.rings place ≡ Some r)
-            × (r.forgotten ≤ let_go first (made_at self.old place w)) }
-        ensures { (w : Work) → slice_get (works_in self.old) place ≡ Some w → self.new ≡ with_ring self.old place (record {
-          held = kept_from first (made_at self.old place w);
-          forgotten = let_go first (made_at self.old place w);
-          start = start_at self.old place;
-          hi = w.loop.hi;
-        }) }
+    // Lets the first snapshot go that a loop's ring holds.
+    #[inline]
+    pub(crate) fn let_first_go(&mut self, place: usize)
+        requires { (r : RingParts) × (slice_get self.old.rings place ≡ Some r) × (0 < length r.held) }
+        ensures { (r : RingParts) → slice_get self.old.rings place ≡ Some r → self.new ≡ with_ring self.old place (later_ring r) }
     {
         // What a code keeps is known from here on.
         let _ = self.code.loops();
-        self.rings[place].keep_from(first);
+        self.rings[place].let_first_go();
     }
 
     // How many snapshots the rings hold together.

@@ -1,5 +1,5 @@
 // The earlier loops that a loop reads.
-ghost use Rattle.std.specs.Prelude.{◌≡◌, ◌<◌, ◌+◌, ℕ, ◌∷◌, ◌++◌, true, List, length, slice_get, Some, IfOk, OnOk};
+ghost use Rattle.std.specs.Prelude.{◌≡◌, ◌<◌, ◌≤◌, ◌+◌, ℕ, ◌∷◌, ◌++◌, true, List, length, slice_get, Some, IfOk, OnOk};
 ghost use Rattle.std.specs.Int.{int_max, int_min};
 ghost use Rattle.std.specs.List.{AllByRecursion};
 ghost use Rattle.tilt_pipe.specs.Made.{Work};
@@ -9,7 +9,6 @@ ghost use Rattle.tilt_pipe.specs.Sources.{AreSources};
 ghost use Rattle.tilt_turn.specs.Ready.{IsReadable};
 ghost use Rattle.tilt_pipe.specs.declared.read.Read.{Read};
 
-use crate::hints::Hints;
 use crate::read::{Read, read_of};
 use crate::rings::Rings;
 use std::alloc::{AllocError as OutOfMemory, Global};
@@ -24,14 +23,16 @@ pub(crate) struct Source {
     pub(crate) last: i64,
 }
 
-// The earlier loops that a loop reads, each once. The numbers say where in the list a loop stands, where it does.
+// The earlier loops that a loop reads, each once. The numbers, one for each loop, say where in the list it stands, where it does. Any
+// number is right, for what is looked at is tested.
 pub(crate) fn sources_of(
     alloc: Global,
     rings: &Rings,
     place: usize,
-    numbers: &mut Hints,
+    numbers: &mut [usize],
 ) -> Result<Vec<Source>, OutOfMemory>
-    requires { place < length rings.now.code.loops }
+    requires there { place < length rings.now.code.loops }
+    requires numbers { length rings.now.code.loops ≤ length numbers.old }
     ensures { (w : Work) → slice_get (works_in rings.now) place ≡ Some w
         → IfOk result (λ sources. AreSources (length rings.now.inputs) (body_reads w.loop.body) sources.items) }
 {
@@ -44,9 +45,10 @@ fn body_sources(
     alloc: Global,
     rings: &Rings,
     body: &[Instr],
-    numbers: &mut Hints,
+    numbers: &mut [usize],
 ) -> Result<Vec<Source>, OutOfMemory>
-    requires { (buffers maps : ℕ) × AllByRecursion (IsReadable buffers maps) body.now }
+    requires { (buffers maps : ℕ) × AllByRecursion (IsReadable buffers maps) body.now
+        × (buffers ≤ length rings.now.inputs + length numbers.old) }
     ensures { IfOk result (λ sources. AreSources (length rings.now.inputs) (body_reads body.now) sources.items) }
 {
     let mut sources = Vec::new(alloc);
@@ -61,9 +63,9 @@ fn add_instr(
     sources: &mut Vec<Source>,
     rings: &Rings,
     instr: Instr,
-    numbers: &mut Hints,
+    numbers: &mut [usize],
 ) -> Result<(), OutOfMemory>
-    requires { (buffers maps : ℕ) × IsReadable buffers maps instr }
+    requires { (buffers maps : ℕ) × IsReadable buffers maps instr × (buffers ≤ length rings.now.inputs + length numbers.old) }
     ensures { (reads : List Read) → AreSources (length rings.now.inputs) reads sources.old.items
         → OnOk result (AreSources (length rings.now.inputs) (reads_of instr ++ reads) sources.new.items) }
 {
@@ -81,17 +83,18 @@ fn add_read(
     sources: &mut Vec<Source>,
     place: usize,
     read: Read,
-    numbers: &mut Hints,
+    numbers: &mut [usize],
 ) -> Result<(), OutOfMemory>
+    requires { place < length numbers.old }
     ensures { (inputs : ℕ) (reads : List Read) → read.buffer ≡ inputs + place → AreSources inputs reads sources.old.items
         → OnOk result (AreSources inputs (read ∷ reads) sources.new.items) }
 {
-    let number = numbers.at(place);
+    let number = numbers[place];
     if is_source(sources, number, place) {
         sources[number] = with_read(sources[number], read);
         return Ok(());
     }
-    numbers.set(place, sources.len());
+    numbers[place] = sources.len();
     sources.push(source_of(place, read))?;
     Ok(())
 }

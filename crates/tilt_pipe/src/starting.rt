@@ -2,14 +2,13 @@
 ghost use Rattle.std.specs.Prelude.{◌≡◌, ◌<◌, ◌≤◌, ℕ, suc, length, map, replicate, slice_get, None, Some, IfOk, OnOk};
 ghost use Rattle.tilt_code.specs.References.{IsCode};
 ghost use Rattle.tilt_pipe.specs.Chain.{ArePoints, IsChain};
-ghost use Rattle.tilt_pipe.specs.Gathered.{AreEach, HasAdded, HasBegun, HaveBegun};
+ghost use Rattle.tilt_pipe.specs.Gathered.{AreEach, AreEmpty, HasAdded, HasBegun, HaveBegun};
 ghost use Rattle.tilt_pipe.specs.Made.{Work};
 ghost use Rattle.tilt_pipe.specs.Positions.{starts_of, works_in};
 ghost use Rattle.tilt_pipe.specs.Reads.{body_reads};
 ghost use Rattle.tilt_pipe.specs.Sources.{AreSources};
 
 use crate::chain::{Chain, LoopTurns, Reader, next_point};
-use crate::hints::Hints;
 use crate::rings::Rings;
 use crate::sources::{Source, sources_of};
 use std::alloc::{AllocError as OutOfMemory, Global};
@@ -29,8 +28,9 @@ impl Chain {
     {
         let rings = Rings::new(alloc, code, inputs)?;
         let count = rings.loops().len();
-        let mut numbers = Hints::new(alloc, count)?;
+        let mut numbers = vec![in alloc; 0; count]?;
         let holders = no_holders(alloc, count)?;
+        let held = empty_lists(alloc, count)?;
         let mut turns = first_turns(alloc, &rings)?;
         find_sources(alloc, &rings, &mut turns, &mut numbers)?;
         let points = first_points(alloc, &rings, &turns)?;
@@ -39,6 +39,7 @@ impl Chain {
             turns,
             points,
             holders,
+            held,
         })
     }
 }
@@ -48,6 +49,17 @@ fn no_holders(alloc: Global, count: usize) -> Result<Vec<Option<Reader>>, OutOfM
     ensures { IfOk result (λ holders. holders.items ≡ replicate count None) }
 {
     vec![in alloc; None; count]
+}
+
+// So many lists of rings, which are empty.
+fn empty_lists(alloc: Global, count: usize) -> Result<Vec<Vec<usize>>, OutOfMemory>
+    ensures { IfOk result (AreEmpty count) }
+{
+    let mut lists = Vec::new(alloc);
+    for _ in 0..count {
+        lists.push(Vec::new(alloc))?;
+    }
+    Ok(lists)
 }
 
 // What is kept for the turns of loops before the first ones, as if no loop read another.
@@ -82,9 +94,10 @@ fn find_sources(
     alloc: Global,
     rings: &Rings,
     turns: &mut [LoopTurns],
-    numbers: &mut Hints,
+    numbers: &mut [usize],
 ) -> Result<(), OutOfMemory>
-    requires { HaveBegun rings.now (length rings.now.code.loops) turns.old }
+    requires begun { HaveBegun rings.now (length rings.now.code.loops) turns.old }
+    requires numbers { length rings.now.code.loops ≤ length numbers.old }
     ensures { OnOk result (HaveBegun rings.now 0 turns.new) }
 {
     for place in (0..rings.loops().len()).rev() {
@@ -99,10 +112,11 @@ fn find_own(
     rings: &Rings,
     turns: &mut [LoopTurns],
     place: usize,
-    numbers: &mut Hints,
+    numbers: &mut [usize],
 ) -> Result<(), OutOfMemory>
     requires there { place < length rings.now.code.loops }
     requires begun { HaveBegun rings.now (suc place) turns.old }
+    requires numbers { length rings.now.code.loops ≤ length numbers.old }
     ensures { OnOk result (HaveBegun rings.now place turns.new) }
 {
     let sources = sources_of(alloc, rings, place, numbers)?;

@@ -1,9 +1,8 @@
-use Rattle.std.proofs.Common.{◌≡◌, inl, inr, ℤ, neg_ℤ, ◌+ℤ◌, ◌<ℤ◌, ◌≤ℤ◌, true, false, FitsSigned, to_z, of_z, w64, refl, arith, rules}
+use Rattle.std.proofs.Common.{◌≡◌, inl, inr, ℤ, neg_ℤ, ◌+ℤ◌, ◌≤ℤ◌, true, FitsSigned, to_z, of_z, w64, refl, arith, rules}
 use Rattle.std.proofs.lemmas.Int.{ints, by_lt_z, to_z-of_z}
-use Rattle.std.specs.Int.Signed.{lt_z}
 use Rattle.tilt_base.specs.declared.limits.TheConstants.{OFFSET}
 use Rattle.tilt_turn.specs.Ready.{IsBodyTick}
-use Rattle.tilt_pipe.proofs.Telling.{works-there}
+use Rattle.tilt_pipe.proofs.Works.{work-there}
 use Rattle.tilt_pipe.specs.Positions.{start_at}
 use Rattle.tilt_pipe.proofs.chain.is_short.Goals as goal
 
@@ -16,24 +15,18 @@ last-fits point last near low high =
     let both : FitsSigned w64 (point +ℤ last) = omega (arith, ints) in
     rw (to_z-of_z w64 point one, to_z-of_z w64 last two, to_z-of_z w64 (point +ℤ last) both) refl
 
-below : (a b : ℤ) → lt_z a b ≡ true → a <ℤ b
-below a b test = grind (arith, ints)
-
-above : (a b : ℤ) → lt_z a b ≡ false → b ≤ℤ a
-above a b test = grind (arith, ints)
-
 pub returns-then-start-point-clause-late : goal.returns-then-start-point-clause-late
 returns-then-start-point-clause-late c = λ on.
     let p = c.args.rings.now in
     let s = c.args.source in
-    let there = works-there p s.place c.requires.rings c.requires.near.there in
+    let there = work-there p s.place (omega (arith, c.requires.rings.many, c.requires.near.there)) in
     let fits : FitsSigned w64 c.start.result = search rules in
     let last = last-fits c.args.point s.last c.requires.point c.requires.near.low c.requires.near.high in
     let test = rw (to_z-of_z w64 c.start.result fits, last, c.start.ensures) at c.if-start-point.true in
     record {
       work = there.0;
       is_open = record { is = there.1; before = (c.is_open.ensures there.0 there.1).0 on };
-      short = below (start_at p s.place) (c.args.point +ℤ s.last) test;
+      short = grind (arith, ints);
     }
 
 pub returns-then-start-point-clause-reached : goal.returns-then-start-point-clause-reached
@@ -49,4 +42,4 @@ returns-else-start-point-clause-reached c = λ _ w is.
     let fits : FitsSigned w64 c.start.result = search rules in
     let last = last-fits c.args.point s.last c.requires.point c.requires.near.low c.requires.near.high in
     let test = rw (to_z-of_z w64 c.start.result fits, last, c.start.ensures) at c.if-start-point.false in
-    inr (above (start_at p s.place) (c.args.point +ℤ s.last) test)
+    inr (grind (arith, ints))

@@ -1,8 +1,7 @@
 use Rattle.std.proofs.Common.{◌∙◌, sym, refl, arith, rules}
 use Rattle.std.proofs.lemmas.Int.{ints}
-use Rattle.std.proofs.lemmas.List.{nil_from_length}
 use Rattle.tilt_code.specs.References.{IsCode}
-use Rattle.tilt_pipe.proofs.Pulling.{none-left, pull-begun, pull-ends, rings-stand}
+use Rattle.tilt_pipe.proofs.Pulling.{last-none, last-split, none-left, pull-begun, pull-ends, rings-stand}
 use Rattle.tilt_pipe.proofs.Works.{last-loop}
 use Rattle.tilt_pipe.specs.Pulled.{given_in}
 use Rattle.tilt_pipe.proofs.pipe.pull.Goals as goal
@@ -30,30 +29,31 @@ loop-place-init c =
     }
 
 pub step-requires-clause-pulled : goal.step-requires-clause-pulled
-step-requires-clause-pulled c = (given_in c.args.chain.now.rings, rw (← c.in-Some.ensures.items) c.loop-place.invariant.pulled)
+step-requires-clause-pulled c = (given_in c.args.chain.now.rings, c.loop-place.invariant.pulled)
+
+pub step-requires-clause-last : goal.step-requires-clause-last
+step-requires-clause-last c =
+    last-split c.loop-place.asked.items c.in-Some.place (rw c.deref.ensures.value at (sym c.last.ensures.value ∙ sym c.copied.ensures ∙ c.in-Some.is))
 
 pub loop-place-smaller : goal.loop-place-smaller
-loop-place-smaller c =
-    rw c.in-Some.ensures.items
-    (c.in_ok-made.ensures.nearer (given_in c.args.chain.now.rings) (rw c.in-Some.ensures.items at c.loop-place.invariant.pulled))
+loop-place-smaller c = c.in_ok-made.ensures.nearer (given_in c.args.chain.now.rings) c.loop-place.invariant.pulled
 
 pub loop-place-preserved : goal.loop-place-preserved
 loop-place-preserved c =
     let i = c.loop-place.invariant in
     let given = given_in c.args.chain.now.rings in
-    let before = rw c.in-Some.ensures.items at i.pulled in
     record {
       chain = c.in_ok-made.ensures.chain;
       code = c.step.ensures.code ∙ i.code;
       inputs = c.step.ensures.inputs ∙ i.inputs;
-      pulled = c.in_ok-made.ensures.pulled given before;
-      made = λ none. rw (i.code, i.inputs) at (c.in_ok-made.ensures.made given before none);
+      pulled = c.in_ok-made.ensures.pulled given i.pulled;
+      made = λ none. rw (i.code, i.inputs) at (c.in_ok-made.ensures.made given i.pulled none);
     }
 
 pub returns : goal.returns
 returns c =
     let i = c.loop-place.invariant in
-    let none = nil_from_length c.loop-place.asked.items (sym c.loop-place.asked.ok.0 ∙ c.in_default.ensures.cases.0) in
+    let none = last-none c.loop-place.asked.items (rw c.deref.ensures.value at (sym c.last.ensures.value ∙ sym c.copied.ensures ∙ c.in_default.is)) in
     let code : IsCode c.loop-place.chain.rings.code = rw i.code c.loops.ensures.code in
     let done = pull-ends (given_in c.args.chain.now.rings) c.loop-place.chain.rings c.loop-place.made code (rw none at i.pulled)
     (rw (i.code, i.inputs) (i.made none)) in

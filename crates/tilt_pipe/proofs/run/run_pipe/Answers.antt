@@ -1,7 +1,7 @@
 use Rattle.std.proofs.Common.{◌≡◌, ◌∙◌, sym, ap, arith, take, slice_get, Some}
 use Rattle.tilt_code.specs.Run.{run_of}
 use Rattle.std.proofs.lemmas.Option.{slice_get_within}
-use Rattle.tilt_pipe.proofs.Collected.{given-out, next-touches, next-low, next-high, with-next, nothing-left}
+use Rattle.tilt_pipe.proofs.Collected.{given-out, next-touches, next-within, with-next, nothing-left}
 use Rattle.tilt_pipe.specs.Value.{PipeParts}
 use Rattle.tilt_pipe.proofs.run.run_pipe.Goals as goal
 use Rattle.tilt_pipe.proofs.run.run_pipe.Goals.{In-Some}
@@ -19,10 +19,11 @@ push-requires c =
     let inputs = c.args.inputs.items in
     let given = c.loop-list.pipe.given in
     let next_is = next (goal.at.push-requires c).In-Some in
+    let within = next-within code inputs c.loop-list.list given c.in-Some.snap i.is i.taken next_is in
     record {
       touches = next-touches code inputs c.loop-list.list given c.in-Some.snap i.is i.taken next_is;
-      low = next-low code inputs c.loop-list.list given c.in-Some.snap i.is i.taken next_is;
-      high = next-high code inputs c.loop-list.list given c.in-Some.snap i.is i.taken next_is;
+      low = within.0;
+      high = within.1;
     }
 
 pub loop-list-smaller : goal.loop-list-smaller

@@ -1,4 +1,4 @@
-use Rattle.std.proofs.Common.{◌≡◌, ◌+◌, ◌∙◌, ℕ, slice_get, Some, sym, ap}
+use Rattle.std.proofs.Common.{◌≡◌, ◌+◌, ◌∙◌, ℕ, get_or, slice_get, Some, sym, ap}
 use Rattle.std.proofs.lemmas.Option.{get_or_from_slice_get}
 use Rattle.tilt_pipe.proofs.Covered.{sources-push, sources-set}
 use Rattle.tilt_pipe.proofs.sources.add_read.Goals as goal
@@ -7,7 +7,7 @@ pub returns-then-is_source : goal.returns-then-is_source
 returns-then-is_source c = λ inputs reads is of.
     let items = c.args.sources.now.items in
     let read = c.args.read in
-    let number = c.at-number.result in
+    let number = get_or c.args.numbers.now c.args.place 0 in
     let it = c.is_source.ensures c.if-is_source.true in
     let at : slice_get items number ≡ Some it.0 = rw c.deref.ensures.value at it.1 in
     let same : c.index.result.now ≡ it.0 = c.index.ensures ∙ get_or_from_slice_get items number it.0 c.index.result.now at in

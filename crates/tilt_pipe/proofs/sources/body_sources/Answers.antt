@@ -9,8 +9,12 @@ use Rattle.tilt_pipe.proofs.sources.body_sources.Goals as goal
 pub add_instr-requires : goal.add_instr-requires
 add_instr-requires c =
     let number = c.loop-number.number - 1 in
-    let readable = IsReadable c.requires.0 c.requires.1 in
-    (c.requires.0, c.requires.1, All-from_recursion readable c.args.body.now c.requires.2 number (Const (pos 0)) (omega arith))
+    let readable = IsReadable c.requires.0 c.requires.1 in (
+      c.requires.0,
+      c.requires.1,
+      All-from_recursion readable c.args.body.now c.requires.2 number (Const (pos 0)) (omega arith),
+      omega (arith, c.requires.3),
+    )
 
 pub loop-number-preserved : goal.loop-number-preserved
 loop-number-preserved c =

@@ -1,8 +1,9 @@
 use Rattle.std.proofs.Common.{◌∙◌, ◌++◌, ◌∷◌, [], pos, suc, ap, get_or, arith, add-one}
 use Rattle.std.proofs.lemmas.Option.{slice_get-get_or}
-use Rattle.tilt_pipe.proofs.Starts.{added-push, source-there, work-there}
+use Rattle.tilt_pipe.proofs.Starts.{added-push, source-there}
 use Rattle.tilt_pipe.specs.declared.chain.Reader.{Reader}
 use Rattle.tilt_pipe.specs.declared.sources.Source.{Source}
+use Rattle.tilt_pipe.proofs.Works.{work-there}
 use Rattle.tilt_pipe.proofs.starting.add_readers.Goals as goal
 
 pub is_used-requires-clause-begun : goal.is_used-requires-clause-begun

@@ -1,6 +1,7 @@
 use Rattle.std.proofs.Common.{get_or, arith}
 use Rattle.std.proofs.lemmas.Option.{slice_get-get_or}
-use Rattle.tilt_pipe.proofs.Starts.{all-down, work-there}
+use Rattle.tilt_pipe.proofs.Starts.{all-down}
+use Rattle.tilt_pipe.proofs.Works.{work-there}
 use Rattle.tilt_pipe.proofs.starting.find_own.Goals as goal
 
 pub add_readers-requires-clause-reads : goal.add_readers-requires-clause-reads

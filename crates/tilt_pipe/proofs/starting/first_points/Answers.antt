@@ -1,8 +1,9 @@
-use Rattle.std.proofs.Common.{length, refl, ap, arith, add-one}
+use Rattle.std.proofs.Common.{◌≡◌, ◌∙◌, Some, length, refl, ap, arith, add-one}
 use Rattle.std.proofs.lemmas.Option.{slice_get_read, slice_get_within}
-use Rattle.tilt_pipe.proofs.Points.{points-more}
-use Rattle.tilt_pipe.proofs.RingsKept.{loops-there}
+use Rattle.circular_buffer.proofs.Places.{slice_get-some}
+use Rattle.tilt_pipe.proofs.Starts.{each-push}
 use Rattle.tilt_pipe.proofs.Works.{works-length}
+use Rattle.tilt_pipe.specs.Chain.{point_at}
 use Rattle.tilt_pipe.specs.Positions.{works_in}
 use Rattle.tilt_pipe.proofs.starting.first_points.Goals as goal
 
@@ -18,15 +19,20 @@ is_used-used-requires-clause-begun c =
     )
 
 pub next_point-requires : goal.next_point-requires
-next_point-requires c = omega (arith, loops-there c.args.rings.now c.loops-place-end.ensures.rings, ap length c.loops-place-end.ensures.loops)
+next_point-requires c = omega (arith, c.loops-place-end.ensures.rings.many, ap length c.loops-place-end.ensures.loops)
 
 pub loop-place-preserved : goal.loop-place-preserved
 loop-place-preserved c =
+    let p = c.args.rings.now in
     rw (add-one, c.in_ok-push.ensures.items)
-    (points-more c.args.rings.now c.loop-place.place c.loop-place.points.items c.next_point.result c.loop-place.invariant
+    (each-push p (λ k w point. point ≡ point_at p k w) c.loop-place.points.items c.loop-place.place c.next_point.result c.loop-place.invariant
     (λ w of. c.next_point.ensures w of (c.is_used-used.ensures w of)))
 
 pub returns : goal.returns
 returns c = λ k w of.
     let p = c.args.rings.now in
-    c.loop-place.invariant.each k w (omega (arith, ap length c.loops-place-end.ensures.loops, works-length p.code p.inputs, slice_get_within (works_in p) k w of)) of
+    let i = c.loop-place.invariant in
+    let loops = ap length c.loops-place-end.ensures.loops in
+    let found = slice_get-some c.loop-place.points.items k
+    (omega (arith, i.many, works-length p.code p.inputs, slice_get_within (works_in p) k w of)) in
+    found.1 ∙ ap Some (i.each k w found.0 of found.1)

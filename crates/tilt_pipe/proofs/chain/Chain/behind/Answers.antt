@@ -1,11 +1,11 @@
 -- The sources that are looked at, and those that were passed before, are all that the loop reads.
-use Rattle.std.proofs.Common.{◌≡◌, ◌∙◌, FitsSigned, to_z, of_z, w64, refl, sym, subst, rules}
+use Rattle.std.proofs.Common.{◌≡◌, ◌∙◌, FitsSigned, to_z, of_z, w64, sym, subst, rules}
 use Rattle.std.proofs.lemmas.Int.{to_z-of_z}
 use Rattle.std.proofs.lemmas.Option.{get_or_from_slice_get, same_Some, slice_get_within}
 use Rattle.tilt_pipe.proofs.Nears.{turn-near}
 use Rattle.tilt_pipe.proofs.RingsKept.{placed}
 use Rattle.tilt_pipe.proofs.Covered.{source-behind, sources-near, sources-told}
-use Rattle.tilt_pipe.proofs.Turning.{found-turns, has-many, holders-set, own-turns, turns-passed}
+use Rattle.tilt_pipe.proofs.Turning.{HasMany, found-turns, has-many, own-turns, turns-passed}
 use Rattle.tilt_pipe.specs.Chain.{AreTurnsOf, IsBehind}
 use Rattle.tilt_pipe.specs.Made.{Work}
 use Rattle.tilt_pipe.specs.Positions.{IsOpen, start_at, starts_of}
@@ -13,17 +13,16 @@ use Rattle.tilt_pipe.specs.Reads.{turn_point}
 use Rattle.tilt_pipe.specs.declared.chain.LoopTurns.{LoopTurns}
 use Rattle.tilt_pipe.specs.declared.sources.Source.{Source}
 use Rattle.tilt_pipe.proofs.chain.Chain.behind.Goals as goal
-use Rattle.tilt_pipe.proofs.chain.Chain.behind.Goals.{After-index-turns}
+use Rattle.tilt_pipe.proofs.chain.Chain.behind.Goals.{After-index-turns, Start}
+
+many : (c : Start) → HasMany c.args.self.now.rings c.args.self.now.turns.items c.args.place
+many c = has-many c.args.self.now.rings c.args.self.now.turns.items c.args.place c.requires.«open».0 c.requires.is.turns c.requires.«open».1.is
 
 pub index-turns-requires : goal.index-turns-requires
-index-turns-requires c =
-    let many = has-many c.args.self.now.rings c.args.self.now.turns.items c.args.place c.requires.«open».0 c.requires.is.turns c.requires.«open».1.is in
-    search rules
+index-turns-requires c = let m = many (goal.at.index-turns-requires c).Start in search rules
 
 pub index_mut-requires : goal.index_mut-requires
-index_mut-requires c =
-    let many = has-many c.args.self.now.rings c.args.self.now.turns.items c.args.place c.requires.«open».0 c.requires.is.turns c.requires.«open».1.is in
-    search rules
+index_mut-requires c = let m = many (goal.at.index_mut-requires c).Start in search rules
 
 -- what is known of the loop, and of the point where its next turn reads
 known : (c : After-index-turns) (w : Work) → IsOpen c.args.self.now.rings c.args.place w
@@ -87,7 +86,7 @@ returns-clause-is c =
     let is = c.requires.is in
     let old = c.index_mut.result.now in
     let new : LoopTurns = record { state = old.state; sources = old.sources; readers = old.readers; passed = c.in-Some.number } in
-    let there = (has-many d.rings d.turns.items c.args.place w is.turns open_.is).rings in
+    let there = (many (goal.at.returns-clause-is c).Start).rings in
     let at = found-turns d.rings d.turns.items c.args.place old is.turns there c.index_mut.ensures.value in
     let same = same_Some c.index-turns.result.now old
     (sym (found-turns d.rings d.turns.items c.args.place c.index-turns.result.now is.turns there c.index-turns.ensures) ∙ at) in
@@ -98,7 +97,8 @@ returns-clause-is c =
       turns = turns-passed d.rings d.turns.items c.args.place w new is.turns open_.is
           (record { sources = own.sources; readers = own.readers; fit = own.fit; passed = rw (← same) passed });
       points = is.points;
-      holders = holders-set d.turns.items d.holders.items c.args.place old new is.holders at refl;
+      holders = is.holders;
+      lists = is.lists;
       held = is.held;
       exact = is.exact;
     }

@@ -1,19 +1,18 @@
 -- The turn is made over the whole buffers, and each ring lets go just what isn't wanted then.
-use Rattle.std.proofs.Common.{◌≡◌, ◌<◌, ◌∙◌, ℕ, length, sym, ap, subst, arith, rules, inl, inr}
+use Rattle.tilt_pipe.proofs.Wanting.{reader-behind}
+use Rattle.std.proofs.Common.{◌≡◌, ◌<◌, ◌∙◌, ℕ, length, sym, ap, subst, arith, rules, Some}
 use Rattle.std.proofs.lemmas.List.{length-set}
 use Rattle.std.proofs.lemmas.Option.{slice_get_within}
-use Rattle.tilt_pipe.proofs.Making.{HasTurned, made-turn, may-turn, new-turns, own-gone, own-held, unread-gone}
+use Rattle.tilt_pipe.proofs.Making.{HasTurned, made-turn, may-turn, new-turns, held-after, turned-left}
 use Rattle.tilt_pipe.proofs.Points.{turned-points}
 use Rattle.tilt_pipe.proofs.RingsKept.{is-at}
-use Rattle.tilt_pipe.proofs.Trimming.{alike-long, exact-trimmed, turned, turned-starts, turned-wanted, unread-none, turned-held}
-use Rattle.tilt_pipe.proofs.Turning.{has-many, found-turns, holder-of, holders-set}
+use Rattle.tilt_pipe.proofs.Trimming.{alike-long, exact-trimmed, turned, turned-starts, turned-wanted, unread-none, alike-both}
+use Rattle.tilt_pipe.proofs.Turning.{has-many}
 use Rattle.tilt_pipe.specs.Positions.{RingsParts, kept_ring, starts_of}
-use Rattle.tilt_pipe.specs.Chain.{ArePoints, point_at}
-use Rattle.tilt_pipe.specs.Trimmed.{StandAlike, HasLetGo, wanted_at}
-use Rattle.std.proofs.lemmas.Bool.{cases_eq}
-use Rattle.tilt_pipe.proofs.Settled.{gone-too, held-too}
+use Rattle.tilt_pipe.specs.Chain.{ArePoints, point_at, MayLetGo}
+use Rattle.tilt_pipe.specs.Trimmed.{StandAlike}
 use Rattle.tilt_pipe.proofs.chain.Chain.make.Goals as goal
-use Rattle.tilt_pipe.proofs.chain.Chain.make.Goals.{After-set_point}
+use Rattle.tilt_pipe.proofs.chain.Chain.make.Goals.{After-set_point, After-trim_held}
 
 pub index_mut-requires : goal.index_mut-requires
 index_mut-requires c =
@@ -78,83 +77,102 @@ there c =
     let set = length-set p.rings c.args.place (kept_ring c.is_read-read.result n.0.ring c.in_ok-snap.snap) in
     omega (arith, ap (λ (q : RingsParts). length q.rings) n.1, (has-many p c.args.self.now.turns.items c.args.place t.0 c.requires.is.turns t.1.is).rings)
 
-pub trim_own-requires : goal.trim_own-requires
-trim_own-requires c =
+may : (c : After-set_point) → MayLetGo c.set_point.new.self
+may c =
     let p = c.args.self.now.rings in
     let all = c.args.self.now.turns.items in
-    let holders = c.args.self.now.holders.items in
     let place = c.args.place in
     let t = c.requires.told in
     let s = c.in_ok-snap.snap in
     let b = c.is_read-read.result in
-    let n = now (goal.at.trim_own-requires c).After-set_point in
+    let n = now c in
     let m = n.0 in
-    let code = c.loops.ensures.code in
     let e = c.set_point.ensures in
     let snap = c.in_ok-snap.ensures in
-    let many = has-many p all place t.0 c.requires.is.turns t.1.is in
-    let old = found-turns p all place c.index_mut.result.now c.requires.is.turns many.rings c.index_mut.ensures.value in
-    let trimmed = λ (k : ℕ). exact-trimmed p k c.loops.ensures.rings c.requires.is.exact in
+    let points = rw (c.in_ok-keep.ensures.ok m.ring m.turn.at) at e.points in
     record {
-      may = record {
-        turns = rw (e.turns, n.1) (new-turns p all place t.0 c.index_mut.result.now c.next_snap.new.turns b m.ring s c.requires.is.turns m.turn m.stands
-            c.index_mut.ensures.value snap.sources snap.readers snap.passed (snap.fit t.0 t.1));
-        points = (
-            let points = rw (c.in_ok-keep.ensures.ok m.ring m.turn.at) at e.points in
-            rw n.1 (subst (ArePoints (turned p place b m.ring s)) (sym (points t.0 m.turn.of t.2))
-            (turned-points p place t.0 b m.ring s c.args.self.now.points.items m.turn c.requires.is.points))
-            );
-        holders = rw (e.turns, e.holders) (holders-set all holders place c.index_mut.result.now c.next_snap.new.turns c.requires.is.holders old snap.readers);
-        wanted = λ k. rw n.1 (turned-wanted p place k t.0 b m.ring s m.turn trimmed);
-      };
-      there = there (goal.at.trim_own-requires c).After-set_point;
-      had = λ had.
-          let some = c.holds-had.ensures m.ring m.turn.at had in
-          record {
-            gone = rw n.1 (own-gone p place t.0 b m.ring s m.turn some (trimmed place));
-            held = λ reader at.
-                let here = rw e.holders at at in
-                rw n.1 (own-held p place t.0 b m.ring s reader code m.turn some (holder-of p all holders place reader c.requires.is.turns c.requires.is.holders here)
-                (c.requires.is.held place reader here));
-          };
+      turns = rw (e.turns, n.1) (new-turns p all place t.0 c.index_mut.result.now c.next_snap.new.turns b m.ring s c.requires.is.turns m.turn m.stands
+          c.index_mut.ensures.value snap.sources snap.readers snap.passed (snap.fit t.0 t.1));
+      points = rw n.1 (subst (ArePoints (turned p place b m.ring s)) (sym (points t.0 m.turn.of t.2))
+          (turned-points p place t.0 b m.ring s c.args.self.now.points.items m.turn c.requires.is.points));
+      holders = rw (n.1, e.holders) c.requires.is.holders;
+      lists = rw (e.holders, e.held) c.requires.is.lists;
+      wanted = λ k. rw n.1 (turned-wanted p place k t.0 b m.ring s m.turn (λ j. exact-trimmed p j c.loops.ensures.rings c.requires.is.exact));
     }
 
-pub trim_sources-requires : goal.trim_sources-requires
-trim_sources-requires c =
-    let p = c.args.self.now.rings in
+pub trim_own-requires : goal.trim_own-requires
+trim_own-requires c =
+    let d = c.args.self.now in
+    let place = c.args.place in
+    let n = now (goal.at.trim_own-requires c).After-set_point in
+    let m = n.0 in
+    record {
+      may = may (goal.at.trim_own-requires c).After-set_point;
+      there = there (goal.at.trim_own-requires c).After-set_point;
+      had = λ had x at.
+          held-after d c.set_point.new.self place place c.requires.told.0 c.is_read-read.result m.ring c.in_ok-snap.snap m.turn n.1
+          c.set_point.ensures.holders c.requires.is x (λ _. c.holds-had.ensures m.ring m.turn.at had) (λ reader is.
+          let own = c.requires.is.holders.among place reader (rw c.set_point.ensures.holders at at ∙ ap Some is) in
+          let behind = reader-behind d.rings place reader c.loops.ensures.code c.loops.ensures.rings own in
+          omega (arith, behind)) at;
+    }
+
+pub trim_held-requires : goal.trim_held-requires
+trim_held-requires c =
     let d = c.set_point.new.self in
     let z = c.trim_own.new.self in
     let place = c.args.place in
-    let t = c.requires.told in
-    let s = c.in_ok-snap.snap in
-    let b = c.is_read-read.result in
-    let n = now (goal.at.trim_sources-requires c).After-set_point in
+    let n = now (goal.at.trim_held-requires c).After-set_point in
     let m = n.0 in
-    let e = c.trim_own.ensures in
+    let e = c.in_ok-trim_own.ensures.settles.lets in
     record {
       may = e.may;
-      there = omega (arith, alike-long d.rings z.rings e.alike, there (goal.at.trim_sources-requires c).After-set_point);
-      unread = λ v of k none.
-          elim (cases_eq k place) as (λ _. HasLetGo z.rings k (wanted_at z.rings k)) [
-            | inl same ↦ subst (λ (j : ℕ). HasLetGo z.rings j (wanted_at z.rings j)) (sym same) e.settled.gone
-            | inr other ↦ gone-too d z place k e (rw n.1 (unread-gone p z.rings place k t.0 v b m.ring s m.turn
-                (exact-trimmed p k c.loops.ensures.rings c.requires.is.exact) (subst (λ (q : RingsParts). StandAlike q z.rings) n.1 e.alike) of none other))
-          ];
-      apart = λ k reader at other. held-too d z place k reader e at
-          (λ apart was. rw n.1 (turned-held p place k t.0 b m.ring s reader m.turn (λ same. absurd (apart same)) other
-          (c.requires.is.held k reader (rw c.set_point.ensures.holders at was))));
+      rings = e.rings;
+      there = omega (arith, alike-long d.rings z.rings e.alike, there (goal.at.trim_held-requires c).After-set_point);
+      many = omega arith;
+      left = λ k below.
+          turned-left c.args.self.now d place k c.requires.told.0 c.is_read-read.result m.ring c.in_ok-snap.snap m.turn n.1 c.set_point.ensures.holders
+          c.requires.is z c.set_point.ensures.held (may (goal.at.trim_held-requires c).After-set_point) e c.in_ok-trim_own.ensures.settles.settled below;
     }
+
+-- the code and the inputs stay, however far it goes
+same : (c : After-set_point) (q : RingsParts) → StandAlike c.set_point.new.self.rings q
+    → (q.code ≡ c.args.self.now.rings.code) × (q.inputs ≡ c.args.self.now.rings.inputs)
+same c q alike =
+    let n = now c in (alike.code ∙ ap (λ (x : RingsParts). x.code) n.1, alike.inputs ∙ ap (λ (x : RingsParts). x.inputs) n.1)
+
+pub returns-in_err-trim_own-clause-code : goal.returns-in_err-trim_own-clause-code
+returns-in_err-trim_own-clause-code c =
+    (same (goal.at.returns-in_err-trim_own-clause-code c).After-set_point c.trim_own.new.self.rings c.trim_own.ensures.alike).0
+
+pub returns-in_err-trim_own-clause-inputs : goal.returns-in_err-trim_own-clause-inputs
+returns-in_err-trim_own-clause-inputs c =
+    (same (goal.at.returns-in_err-trim_own-clause-inputs c).After-set_point c.trim_own.new.self.rings c.trim_own.ensures.alike).1
+
+-- and after all
+alike : (c : After-trim_held) → StandAlike c.set_point.new.self.rings c.trim_held.new.self.rings
+alike c = alike-both c.set_point.new.self.rings c.trim_own.new.self.rings c.trim_held.new.self.rings c.trim_own.ensures.alike c.trim_held.ensures.alike
+
+pub returns-in_err-trim_held-clause-code : goal.returns-in_err-trim_held-clause-code
+returns-in_err-trim_held-clause-code c =
+    let at = goal.at.returns-in_err-trim_held-clause-code c in
+    (same at.After-set_point c.trim_held.new.self.rings (alike at.After-trim_held)).0
+
+pub returns-in_err-trim_held-clause-inputs : goal.returns-in_err-trim_held-clause-inputs
+returns-in_err-trim_held-clause-inputs c =
+    let at = goal.at.returns-in_err-trim_held-clause-inputs c in
+    (same at.After-set_point c.trim_held.new.self.rings (alike at.After-trim_held)).1
 
 pub returns : goal.returns
 returns c =
-    let n = now (goal.at.returns c).After-set_point in
-    let e = c.trim_sources.ensures in
-    let own = c.trim_own.ensures.alike in
+    let at = goal.at.returns c in
+    let n = now at.After-set_point in
+    let both = same at.After-set_point c.trim_held.new.self.rings (alike at.After-trim_held) in
     record {
-      is = e.is;
+      is = c.in_ok-trim_held.ensures.is;
       snap = c.in_ok-snap.ensures.snap;
-      starts = e.alike.starts ∙ own.starts ∙ ap (λ (q : RingsParts). starts_of q.rings) n.1
+      starts = (alike at.After-trim_held).starts ∙ ap (λ (q : RingsParts). starts_of q.rings) n.1
           ∙ turned-starts c.args.self.now.rings c.args.place c.is_read-read.result n.0.ring c.in_ok-snap.snap;
-      code = e.alike.code ∙ own.code ∙ ap (λ (q : RingsParts). q.code) n.1;
-      inputs = e.alike.inputs ∙ own.inputs ∙ ap (λ (q : RingsParts). q.inputs) n.1;
+      code = both.0;
+      inputs = both.1;
     }
