@@ -16,7 +16,7 @@ use Rattle.tilt_code.specs.declared.instr.Instr.TheVariants as instr
 use Rattle.tilt_fuse.specs.FusedTree.{FusedTree}
 use Rattle.tilt_fuse.specs.FusedTree as tree
 use Rattle.tilt_fuse.specs.Streams.{map_cell, fused_stream}
-use Rattle.tilt_fuse.specs.Trees.{EachAsks}
+use Rattle.tilt_fuse.specs.Trees.{EachAsks, IsMap}
 use Rattle.tilt_lower.specs.Lowering.{registers, result_at, maps, maps_of, block_of}
 use Rattle.tilt_stream.specs.Pointwise.{nothing}
 use Rattle.tilt_stream.specs.Stream.{Stream, SameStream}
@@ -252,6 +252,28 @@ map_tree-cell buffer cell number (tree.If c a b) =
 
 map_block-cell : (map : FusedTree) (cell : Option ℤ) → block_cell (map_leaf cell) (block_of (λ source. source) 0 0 map) ≡ map_cell map cell
 map_block-cell map cell = block_cell-is (map_leaf cell) (λ source. source) map ∙ map_tree-cell (λ source. source) cell 0 map
+
+-- a map reads no buffer, whatever the numbers of buffers are
+pub map_block-any : (f g : ℕ → ℕ) (map : FusedTree) → IsMap map → (register number : ℕ) → block_of f register number map ≡ block_of g register number map
+map_block-any f g (tree.Const value) is register number = refl
+map_block-any f g (tree.Port source offset) is register number = absurd is
+map_block-any f g (tree.Win reducer source from to) is register number = absurd is
+map_block-any f g (tree.WinBy map reducer source from to) is register number = absurd is
+map_block-any f g tree.Argument is register number = refl
+map_block-any f g (tree.One op a) is register number =
+    let one = map_block-any f g a is register number in λ i. one i ++ instr.One op (result_at register a) ∷ []
+map_block-any f g (tree.Two op a b) is register number =
+    let second = register + registers a in
+    let one = map_block-any f g a is.0 register number in
+    let two = map_block-any f g b is.1 second (number + maps a) in
+    λ i. one i ++ two i ++ instr.Two op (result_at register a) (result_at second b) ∷ []
+map_block-any f g (tree.If c a b) is register number =
+    let second = register + registers c in
+    let third = second + registers a in
+    let one = map_block-any f g c is.0 register number in
+    let two = map_block-any f g a is.1 second (number + maps c) in
+    let three = map_block-any f g b is.2 third (number + maps c + maps a) in
+    λ i. one i ++ two i ++ three i ++ instr.If (result_at register c) (result_at second a) (result_at third b) ∷ []
 
 -- the maps of a tree stand among those of a loop from a number on
 abbrev MapsStand : List Block → ℕ → FusedTree → Type 0

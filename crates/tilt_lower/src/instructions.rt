@@ -114,7 +114,7 @@ fn take_number(next: &mut u32) -> u32
 }
 
 /// Adds a constant.
-pub fn push_constant(block: &mut Vec<Instr>, number: i64) -> Result<u32, OutOfMemory>
+fn push_constant(block: &mut Vec<Instr>, number: i64) -> Result<u32, OutOfMemory>
     requires { length block.old.items < 2 ^ 32 }
     ensures block { OnOk result (block.new.items ≡ block.old.items ++ Instr.Const number ∷ []) }
     ensures register { IfOk result (λ register. register ≡ length block.old.items) }
@@ -124,7 +124,7 @@ pub fn push_constant(block: &mut Vec<Instr>, number: i64) -> Result<u32, OutOfMe
 }
 
 /// Adds an instruction, and gives its register.
-pub fn push(block: &mut Vec<Instr>, instr: Instr) -> Result<u32, OutOfMemory>
+fn push(block: &mut Vec<Instr>, instr: Instr) -> Result<u32, OutOfMemory>
     requires { length block.old.items < 2 ^ 32 }
     ensures block { OnOk result (block.new.items ≡ block.old.items ++ instr ∷ []) }
     ensures register { IfOk result (λ register. register ≡ length block.old.items) }

@@ -1,13 +1,14 @@
 // The blocks of the maps of an expression's windows.
-ghost use Rattle.std.specs.Prelude.{◌≡◌, ◌+◌, ◌^◌, ◌≤◌, ◌++◌, [], ◌∷◌, length, map, IfOk, OnOk};
+ghost use Rattle.std.specs.Prelude.{◌≡◌, ◌^◌, ◌≤◌, ◌++◌, [], ◌∷◌, map, IfOk, OnOk};
 ghost use Rattle.std.specs.List.{AllByRecursion};
 ghost use Rattle.tilt_fuse.specs.FusedTree.{fused_tree_of};
 ghost use Rattle.tilt_fuse.specs.Plan.{nodes};
 ghost use Rattle.tilt_fuse.specs.Trees.{HasMaps, IsMap};
-ghost use Rattle.tilt_lower.specs.Constants.{BlockFits, ConstantFits};
-ghost use Rattle.tilt_lower.specs.Lowering.{block_of, maps, maps_of, registers, result_at};
+ghost use Rattle.tilt_lower.specs.Constants.{BlockFits};
+ghost use Rattle.tilt_lower.specs.Lowering.{block_of, maps_of};
 
-use crate::instructions::{push, push_constant};
+use crate::buffers::Buffers;
+use crate::instructions::block_of;
 use std::alloc::{AllocError as OutOfMemory, Global};
 use tilt_code::Instr;
 use tilt_fuse::Fused;
@@ -54,7 +55,7 @@ fn push_maps(alloc: Global, made: &mut Vec<Vec<Instr>>, tree: &Fused) -> Result<
     Ok(())
 }
 
-// Adds the block of a map.
+// Adds the block of a map, which reads no buffer.
 fn push_map(alloc: Global, made: &mut Vec<Vec<Instr>>, tree: &Fused) -> Result<(), OutOfMemory>
     requires small { nodes (fused_tree_of tree.now) ≤ 2 ^ 16 }
     requires is_map { IsMap (fused_tree_of tree.now) }
@@ -63,41 +64,10 @@ fn push_map(alloc: Global, made: &mut Vec<Vec<Instr>>, tree: &Fused) -> Result<(
     ensures fit { OnOk result (AllByRecursion BlockFits (map (λ m. m.items) made.old.items)
         → AllByRecursion BlockFits (map (λ m. m.items) made.new.items)) }
 {
-    let mut block = Vec::new(alloc);
-    emit(&mut block, tree)?;
-    made.push(block)?;
+    let none = Buffers {
+        inputs: 0,
+        loops: &[],
+    };
+    made.push(block_of(alloc, tree, &none)?)?;
     Ok(())
-}
-
-// Adds the instructions of a map, its operands first, and gives the register of its result.
-fn emit(block: &mut Vec<Instr>, tree: &Fused) -> Result<u32, OutOfMemory>
-    requires few { length block.old.items + registers (fused_tree_of tree.now) ≤ 2 ^ 16 }
-    requires is_map { IsMap (fused_tree_of tree.now) }
-    requires plain { maps (fused_tree_of tree.now) ≡ 0 }
-    ensures block { OnOk result (block.new.items ≡ block.old.items
-        ++ block_of (λ source. source) (length block.old.items) 0 (fused_tree_of tree.now)) }
-    ensures many { OnOk result (length block.new.items ≡ length block.old.items + registers (fused_tree_of tree.now)) }
-    ensures register { IfOk result (λ register. register ≡ result_at (length block.old.items) (fused_tree_of tree.now)) }
-    ensures fit { OnOk result (AllByRecursion ConstantFits block.old.items → AllByRecursion ConstantFits block.new.items) }
-{
-    match tree {
-        Fused::Const(number) => push_constant(block, *number),
-        Fused::Argument => push(block, Instr::Argument),
-        Fused::Port { .. } | Fused::Win { .. } => unreachable!(),
-        Fused::One(op, a) => {
-            let a = emit(block, a)?;
-            push(block, Instr::One(*op, a))
-        }
-        Fused::Two(op, a, b) => {
-            let a = emit(block, a)?;
-            let b = emit(block, b)?;
-            push(block, Instr::Two(*op, a, b))
-        }
-        Fused::If(c, a, b) => {
-            let c = emit(block, c)?;
-            let a = emit(block, a)?;
-            let b = emit(block, b)?;
-            push(block, Instr::If(c, a, b))
-        }
-    }
 }
