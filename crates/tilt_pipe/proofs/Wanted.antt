@@ -257,21 +257,3 @@ rings_of-at buffer (x ∷ stages) zero s is =
 rings_of-at buffer (x ∷ stages) (suc k) s is =
     let next : suc buffer + k ≡ buffer + suc k = omega arith in
     rings_of-at (suc buffer) stages k s is ∙ ap (λ (n : ℕ). Some (kept_from (wanted n (drop (suc k) stages)) s.made)) next
-
--- lists that are each the ring of the loop at its place are the rings
-pub rings_of-are : (buffer : ℕ) (stages : List Stage) (lists : List (List Snapshot)) → length lists ≡ length stages
-    → ((k : ℕ) (s : Stage) → slice_get stages k ≡ Some s → slice_get lists k ≡ Some (ring_at buffer stages k s))
-    → lists ≡ rings_of buffer stages
-rings_of-are buffer [] [] long each = refl
-rings_of-are buffer [] (list ∷ lists) long each = absurd (omega arith)
-rings_of-are buffer (s ∷ stages) [] long each = absurd (omega arith)
-rings_of-are buffer (s ∷ stages) (list ∷ lists) long each =
-    let first : Some list ≡ Some (ring_at buffer (s ∷ stages) 0 s) = each 0 s refl in
-    let at : buffer + 0 ≡ buffer = omega arith in
-    let ring : list ≡ kept_from (wanted buffer stages) s.made =
-    same_Some list (ring_at buffer (s ∷ stages) 0 s) first ∙ ap (λ (n : ℕ). kept_from (wanted n stages) s.made) at in
-    let rest : lists ≡ rings_of (suc buffer) stages =
-    rings_of-are (suc buffer) stages lists (omega arith) (λ k t is.
-    let next : buffer + suc k ≡ suc buffer + k = omega arith in
-    each (suc k) t is ∙ ap (λ (n : ℕ). Some (kept_from (wanted n (drop (suc k) stages)) t.made)) next) in
-    ap (λ (ys : List (List Snapshot)). list ∷ ys) rest ∙ ap (λ (y : List Snapshot). y ∷ rings_of (suc buffer) stages) ring

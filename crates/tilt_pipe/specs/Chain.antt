@@ -66,11 +66,12 @@ pub record AreHolders (inputs : ℕ) (loops : List LoopParts) (holders : List (O
   pub many : length holders ≡ length loops
   pub among : (k : ℕ) (reader : Reader) → slice_get holders k ≡ Some (Some reader) → IsReaderOf inputs loops k reader
 
--- the rings in the list of the loop at a place
+-- the rings in a list, and none where there is no list
 abbrev pub rings_listed : Option (Vec ℕ) → List ℕ
 rings_listed None = []
 rings_listed (Some list) = list.items
 
+-- the rings in the list of the loop at a place
 abbrev pub held_in : List (Vec ℕ) → ℕ → List ℕ
 held_in held place = rings_listed (slice_get held place)
 

@@ -28,6 +28,7 @@ read_next p reader (Some w) =
     if w.used && int_lt (start_at p reader.place) w.loop.hi then Some (turn_point w.loop (start_at p reader.place) +ℤ reader.first)
     else None
 
+-- the same of the loop that the reader is
 abbrev pub reads_next : RingsParts → Reader → Option ℤ
 reads_next p reader = read_next p reader (slice_get (works_in p) reader.place)
 
