@@ -1,22 +1,38 @@
--- No two reserved words have one text, nor have two signs.
-use Rattle.std.proofs.Common.{◌≡◌, ℕ, List, Option, Some, refl, sym, ap, ◌∙◌}
+-- No two reserved words have one text, nor have two signs: each is found by its text.
+use Rattle.std.proofs.Common.{◌≡◌, ◌≢◌, inl, inr, ℕ, Bool, true, List, [], ◌∷◌, Option, Some, None, refl, sym, ap, ◌∙◌}
 use Rattle.std.specs.List.{find}
 use Rattle.std.specs.Str.{bytes_eq}
+use Rattle.std.proofs.lemmas.Bool.{cases_Bool}
 use Rattle.std.proofs.lemmas.Option.{same_Some}
+use Rattle.std.proofs.lemmas.Slice.Eq.{bytes_eq-Decides}
 use Rattle.tilt_lexer.specs.declared.key.Key.{Key}
 use Rattle.tilt_lexer.specs.declared.key.Key.TheVariants as key
-use Rattle.tilt_lexer.specs.declared.key.TheConstants.{KEYS}
 use Rattle.tilt_lexer.specs.declared.mark.Mark.{Mark}
 use Rattle.tilt_lexer.specs.declared.mark.Mark.TheVariants as mark
-use Rattle.tilt_lexer.specs.declared.mark.TheConstants.{MARKS}
 use Rattle.tilt_lexer.specs.Tokens.{mark_text}
 use Rattle.tilt_lexer.specs.Word.{key_text}
 
--- the first reserved word of the table with this text
-abbrev pub key_with : List ℕ → Option Key
-key_with bytes = find (λ k. bytes_eq (key_text k) bytes) KEYS
+-- what is found in a list passes
+pub found_passes : {X : Type 0} (p : X → Bool) (xs : List X) (x : X) → find p xs ≡ Some x → p x ≡ true
+found_passes p [] x e = cc
+found_passes p (y ∷ ys) x e =
+    elim (cases_Bool (p y)) [
+      | inl passes ↦ (let same : y ≡ x = same_Some y x (rw passes at e) in rw (← same) passes)
+      | inr stops ↦ found_passes p ys x (rw stops at e)
+    ]
 
-pub key_with-text : (k : Key) → key_with (key_text k) ≡ Some k
+-- each reserved word
+abbrev keys : List Key
+keys =
+    key.Input ∷ key.Let ∷ key.Emit ∷ key.Over ∷ key.Every ∷ key.From ∷ key.If ∷ key.Then ∷ key.Else ∷ key.When ∷ key.Or ∷ key.And ∷ key.Not
+    ∷ key.TrueWord ∷ key.FalseWord ∷ key.IsNull ∷ key.IfNull ∷ key.Time ∷ key.Sum ∷ key.Avg ∷ key.Min ∷ key.Max ∷ key.Count ∷ key.First
+    ∷ key.Last ∷ key.Any ∷ key.All ∷ []
+
+-- the first of them with this text
+abbrev pub key_with : List ℕ → Option Key
+key_with bytes = find (λ k. bytes_eq (key_text k) bytes) keys
+
+key_with-text : (k : Key) → key_with (key_text k) ≡ Some k
 key_with-text key.Input = refl
 key_with-text key.Let = refl
 key_with-text key.Emit = refl
@@ -48,9 +64,23 @@ key_with-text key.All = refl
 pub same_key : (k j : Key) → key_text k ≡ key_text j → k ≡ j
 same_key k j e = same_Some k j (sym (key_with-text k) ∙ ap key_with e ∙ key_with-text j)
 
--- the first sign of the table with this text
-abbrev sign_with : List ℕ → Option Mark
-sign_with bytes = find (λ m. bytes_eq (mark_text m) bytes) MARKS
+-- the reserved word that is found has the text, and where none is found none has it
+pub key_found : (k : Key) (text : List ℕ) → key_with text ≡ Some k → key_text k ≡ text
+key_found k text e = (bytes_eq-Decides (key_text k) text).0 (found_passes (λ j. bytes_eq (key_text j) text) keys k e)
+
+pub no_key_found : (k : Key) (text : List ℕ) → key_with text ≡ None → text ≢ key_text k
+no_key_found k text e same = let some = sym (key_with-text k) ∙ ap key_with (sym same) ∙ e in cc
+
+-- each sign
+abbrev signs : List Mark
+signs =
+    mark.Semicolon ∷ mark.Assign ∷ mark.Equal ∷ mark.NotEqual ∷ mark.Less ∷ mark.AtMost ∷ mark.Greater ∷ mark.AtLeast ∷ mark.Plus ∷ mark.Minus
+    ∷ mark.Star ∷ mark.Slash ∷ mark.Percent ∷ mark.OpenParen ∷ mark.CloseParen ∷ mark.OpenBracket ∷ mark.CloseBracket ∷ mark.Comma
+    ∷ mark.Colon ∷ []
+
+-- the first of them with this text
+abbrev pub sign_with : List ℕ → Option Mark
+sign_with bytes = find (λ m. bytes_eq (mark_text m) bytes) signs
 
 sign_with-text : (m : Mark) → sign_with (mark_text m) ≡ Some m
 sign_with-text mark.Semicolon = refl
@@ -75,3 +105,10 @@ sign_with-text mark.Colon = refl
 
 pub same_sign : (m n : Mark) → mark_text m ≡ mark_text n → m ≡ n
 same_sign m n e = same_Some m n (sym (sign_with-text m) ∙ ap sign_with e ∙ sign_with-text n)
+
+-- the sign that is found has the text, and where none is found none has it
+pub sign_found : (m : Mark) (text : List ℕ) → sign_with text ≡ Some m → mark_text m ≡ text
+sign_found m text e = (bytes_eq-Decides (mark_text m) text).0 (found_passes (λ n. bytes_eq (mark_text n) text) signs m e)
+
+pub no_sign_found : (m : Mark) (text : List ℕ) → sign_with text ≡ None → text ≢ mark_text m
+no_sign_found m text e same = let some = sym (sign_with-text m) ∙ ap sign_with (sym same) ∙ e in cc

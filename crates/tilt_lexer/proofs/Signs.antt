@@ -1,92 +1,82 @@
--- Each sign stands in the table of them, the longer ones first.
-use Rattle.std.proofs.Common.{◌≡◌, ◌≢◌, ◌⊎◌, inl, inr, ℕ, zero, suc, ◌<◌, ◌≤◌, List, ◌++◌, length, get_or, refl, sym, ap, ◌∙◌, arith}
-use Rattle.std.proofs.lemmas.Bool.{cases_lt}
+-- Bytes begin with a sign, and with none longer, or with none.
+use Rattle.std.proofs.Common.{◌≡◌, ◌≢◌, ◌⊎◌, inl, inr, ℕ, Option, Some, None}
+use Rattle.std.proofs.Common.{List, ◌++◌, length, take, drop, refl, sym, ap, ◌∙◌, arith, take-append-drop, length-append, length-take}
+use Rattle.std.proofs.lemmas.List.{take_at}
 use Rattle.tilt_lexer.specs.declared.mark.Mark.{Mark}
 use Rattle.tilt_lexer.specs.declared.mark.Mark.TheVariants as mark
-use Rattle.tilt_lexer.specs.declared.mark.TheConstants.{MARKS}
 use Rattle.tilt_lexer.specs.Tokens.{mark_text}
 use Rattle.tilt_lexer.specs.Front.{BeginsWithSign}
+use Rattle.tilt_lexer.proofs.Differ.{sign_with, sign_found, no_sign_found}
+use Rattle.tilt_lexer.proofs.Texts.{sign_first}
 
--- the place of a sign in the table
-abbrev pub sign_place : Mark → ℕ
-sign_place mark.Equal = 0
-sign_place mark.NotEqual = 1
-sign_place mark.AtMost = 2
-sign_place mark.AtLeast = 3
-sign_place mark.Semicolon = 4
-sign_place mark.Assign = 5
-sign_place mark.Less = 6
-sign_place mark.Greater = 7
-sign_place mark.Plus = 8
-sign_place mark.Minus = 9
-sign_place mark.Star = 10
-sign_place mark.Slash = 11
-sign_place mark.Percent = 12
-sign_place mark.OpenParen = 13
-sign_place mark.CloseParen = 14
-sign_place mark.OpenBracket = 15
-sign_place mark.CloseBracket = 16
-sign_place mark.Comma = 17
-sign_place mark.Colon = 18
+-- a sign has one byte or two
+sign_length : (m : Mark) → length (mark_text m) ≡ 1 ⊎ length (mark_text m) ≡ 2
+sign_length mark.Semicolon = inl refl
+sign_length mark.Assign = inl refl
+sign_length mark.Equal = inr refl
+sign_length mark.NotEqual = inr refl
+sign_length mark.Less = inl refl
+sign_length mark.AtMost = inr refl
+sign_length mark.Greater = inl refl
+sign_length mark.AtLeast = inr refl
+sign_length mark.Plus = inl refl
+sign_length mark.Minus = inl refl
+sign_length mark.Star = inl refl
+sign_length mark.Slash = inl refl
+sign_length mark.Percent = inl refl
+sign_length mark.OpenParen = inl refl
+sign_length mark.CloseParen = inl refl
+sign_length mark.OpenBracket = inl refl
+sign_length mark.CloseBracket = inl refl
+sign_length mark.Comma = inl refl
+sign_length mark.Colon = inl refl
 
--- the sign stands at its place, and has one byte where that isn't one of the first four
-pub record SignInTable (m : Mark) : Type 0 where
-  pub below : sign_place m < 19
-  pub there : get_or MARKS (sign_place m) m ≡ m
-  pub some : 0 < length (mark_text m)
-  pub short : (sign_place m < 4) ⊎ (length (mark_text m) ≡ 1)
+module _ (bytes : List ℕ) where
+  -- the first n bytes, where they are a sign
+  begins_at : (m : Mark) (n : ℕ) → sign_with (take n bytes) ≡ Some m → bytes ≡ mark_text m ++ drop n bytes
+  begins_at m n e = rw (sign_found m (take n bytes) e) (sym (take-append-drop n bytes))
 
-pub sign_in_table : (m : Mark) → SignInTable m
-sign_in_table mark.Equal = record { below = omega arith; there = refl; some = omega arith; short = inl (omega arith) }
-sign_in_table mark.NotEqual = record { below = omega arith; there = refl; some = omega arith; short = inl (omega arith) }
-sign_in_table mark.AtMost = record { below = omega arith; there = refl; some = omega arith; short = inl (omega arith) }
-sign_in_table mark.AtLeast = record { below = omega arith; there = refl; some = omega arith; short = inl (omega arith) }
-sign_in_table mark.Semicolon = record { below = omega arith; there = refl; some = omega arith; short = inr refl }
-sign_in_table mark.Assign = record { below = omega arith; there = refl; some = omega arith; short = inr refl }
-sign_in_table mark.Less = record { below = omega arith; there = refl; some = omega arith; short = inr refl }
-sign_in_table mark.Greater = record { below = omega arith; there = refl; some = omega arith; short = inr refl }
-sign_in_table mark.Plus = record { below = omega arith; there = refl; some = omega arith; short = inr refl }
-sign_in_table mark.Minus = record { below = omega arith; there = refl; some = omega arith; short = inr refl }
-sign_in_table mark.Star = record { below = omega arith; there = refl; some = omega arith; short = inr refl }
-sign_in_table mark.Slash = record { below = omega arith; there = refl; some = omega arith; short = inr refl }
-sign_in_table mark.Percent = record { below = omega arith; there = refl; some = omega arith; short = inr refl }
-sign_in_table mark.OpenParen = record { below = omega arith; there = refl; some = omega arith; short = inr refl }
-sign_in_table mark.CloseParen = record { below = omega arith; there = refl; some = omega arith; short = inr refl }
-sign_in_table mark.OpenBracket = record { below = omega arith; there = refl; some = omega arith; short = inr refl }
-sign_in_table mark.CloseBracket = record { below = omega arith; there = refl; some = omega arith; short = inr refl }
-sign_in_table mark.Comma = record { below = omega arith; there = refl; some = omega arith; short = inr refl }
-sign_in_table mark.Colon = record { below = omega arith; there = refl; some = omega arith; short = inr refl }
+  -- a sign that the bytes begin with has the first one byte or two
+  first_bytes : (m : Mark) (n : ℕ) (more : List ℕ) → bytes ≡ mark_text m ++ more → length (mark_text m) ≡ n → take n bytes ≡ mark_text m
+  first_bytes m n more e size = rw e (take_at (mark_text m) more n size)
 
--- the first four have two bytes
-first_four : (i : ℕ) (d : Mark) → i < 4 → length (mark_text (get_or MARKS i d)) ≡ 2
-first_four zero d h = refl
-first_four (suc zero) d h = refl
-first_four (suc (suc zero)) d h = refl
-first_four (suc (suc (suc zero))) d h = refl
-first_four (suc (suc (suc (suc i)))) d h = absurd (omega arith)
+  -- the bytes begin with a sign, and with none longer, or with none
+  abbrev pub AtFront : Type 0
+  AtFront = ((m : Mark) × BeginsWithSign m bytes) ⊎ ((m : Mark) (more : List ℕ) → bytes ≢ mark_text m ++ more)
 
--- the bytes begin with no sign that stands before the place i in the table
-abbrev pub NoneBelow : List ℕ → ℕ → Type 0
-NoneBelow bytes i = (j : ℕ) (d : Mark) (more : List ℕ) → j < i → bytes ≢ mark_text (get_or MARKS j d) ++ more
+  -- a sign that is the first two bytes, or the only byte, is the longest
+  sign_of_two : (m : Mark) → sign_with (take 2 bytes) ≡ Some m → BeginsWithSign m bytes
+  sign_of_two m e = record {
+    begins = (drop 2 bytes, begins_at m 2 e);
+    longest = λ other more f.
+        let size = ap length (sign_found m (take 2 bytes) e) ∙ length-take 2 bytes in
+        let room = ap length f ∙ length-append (mark_text other) more in
+        elim (sign_length other) [ inl one ↦ omega (arith, size, room) | inr two ↦ omega (arith, size, room) ];
+  }
 
-module _ (bytes : List ℕ) (i : ℕ) where
-  -- a sign that the bytes begin with does not stand before i
-  behind : NoneBelow bytes i → (m : Mark) (more : List ℕ) → bytes ≡ mark_text m ++ more → i ≤ sign_place m
-  behind none m more e =
-      elim (cases_lt (sign_place m) i) [
-        | inl before ↦ absurd (none (sign_place m) m more before (e ∙ ap (λ n. mark_text n ++ more) (sym (sign_in_table m).there)))
-        | inr after ↦ after
-      ]
-
-  -- the first one in the table is the longest
-  pub first_is_longest : NoneBelow bytes i → (d : Mark) (more : List ℕ) → bytes ≡ mark_text (get_or MARKS i d) ++ more → BeginsWithSign (get_or MARKS i d) bytes
-  first_is_longest none d more e = record {
-    begins = (more, e);
-    longest = λ other others f.
-        let after = behind none other others f in
-        let in_table = sign_in_table (get_or MARKS i d) in
-        elim (sign_in_table other).short [
-          | inl among ↦ omega (arith, first_four i d (omega arith), first_four (sign_place other) other among, ap (λ n. length (mark_text n)) (sign_in_table other).there)
-          | inr one ↦ omega (arith, in_table.some)
+  -- so is one that is the first byte, where no sign is the first two
+  sign_of_one : (m : Mark) → sign_with (take 2 bytes) ≡ None → sign_with (take 1 bytes) ≡ Some m → BeginsWithSign m bytes
+  sign_of_one m none e = record {
+    begins = (drop 1 bytes, begins_at m 1 e);
+    longest = λ other more f.
+        elim (sign_length other) [
+          | inl one ↦ omega (arith, (sign_first m).some)
+          | inr two ↦ absurd (no_sign_found other (take 2 bytes) none (first_bytes other 2 more f two))
         ];
   }
+
+  -- where neither is a sign, the bytes begin with none
+  no_sign : sign_with (take 2 bytes) ≡ None → sign_with (take 1 bytes) ≡ None → (m : Mark) (more : List ℕ) → bytes ≢ mark_text m ++ more
+  no_sign none_of_two none_of_one m more e =
+      elim (sign_length m) [
+        | inl one ↦ no_sign_found m (take 1 bytes) none_of_one (first_bytes m 1 more e one)
+        | inr two ↦ no_sign_found m (take 2 bytes) none_of_two (first_bytes m 2 more e two)
+      ]
+
+  front_sign : (two one : Option Mark) → sign_with (take 2 bytes) ≡ two → sign_with (take 1 bytes) ≡ one → AtFront
+  front_sign (Some m) one e f = inl (m, sign_of_two m e)
+  front_sign None (Some m) e f = inl (m, sign_of_one m e f)
+  front_sign None None e f = inr (no_sign e f)
+
+  pub sign_or_none : AtFront
+  sign_or_none = front_sign (sign_with (take 2 bytes)) (sign_with (take 1 bytes)) refl refl

@@ -62,84 +62,42 @@ pub enum Key {
     All,
 }
 
-/// Each reserved word.
-const KEYS: [Key; 27] = [
-    Key::Input,
-    Key::Let,
-    Key::Emit,
-    Key::Over,
-    Key::Every,
-    Key::From,
-    Key::If,
-    Key::Then,
-    Key::Else,
-    Key::When,
-    Key::Or,
-    Key::And,
-    Key::Not,
-    Key::TrueWord,
-    Key::FalseWord,
-    Key::IsNull,
-    Key::IfNull,
-    Key::Time,
-    Key::Sum,
-    Key::Avg,
-    Key::Min,
-    Key::Max,
-    Key::Count,
-    Key::First,
-    Key::Last,
-    Key::Any,
-    Key::All,
-];
-
-// The text of a reserved word.
-fn key_text(key: Key) -> &'static [u8]
-    ensures { result.now ≡ key_text key }
-{
-    match key {
-        Key::Input => b"input",
-        Key::Let => b"let",
-        Key::Emit => b"emit",
-        Key::Over => b"over",
-        Key::Every => b"every",
-        Key::From => b"from",
-        Key::If => b"if",
-        Key::Then => b"then",
-        Key::Else => b"else",
-        Key::When => b"when",
-        Key::Or => b"or",
-        Key::And => b"and",
-        Key::Not => b"not",
-        Key::TrueWord => b"true",
-        Key::FalseWord => b"false",
-        Key::IsNull => b"isnull",
-        Key::IfNull => b"ifnull",
-        Key::Time => b"t",
-        Key::Sum => b"sum",
-        Key::Avg => b"avg",
-        Key::Min => b"min",
-        Key::Max => b"max",
-        Key::Count => b"count",
-        Key::First => b"first",
-        Key::Last => b"last",
-        Key::Any => b"any",
-        Key::All => b"all",
-    }
-}
-
 // The reserved word with this text, or `None` where there is none.
 pub(crate) fn find_key(bytes: &[u8]) -> Option<Key>
     ensures { MatchOption result
         ((k : Key) → key_text k ≢ bytes.now)
         (λ k. key_text k ≡ bytes.now) }
 {
-    for key in KEYS {
-        if key_text(key) == bytes {
-            return Some(key);
-        }
+    match bytes {
+        b"input" => Some(Key::Input),
+        b"let" => Some(Key::Let),
+        b"emit" => Some(Key::Emit),
+        b"over" => Some(Key::Over),
+        b"every" => Some(Key::Every),
+        b"from" => Some(Key::From),
+        b"if" => Some(Key::If),
+        b"then" => Some(Key::Then),
+        b"else" => Some(Key::Else),
+        b"when" => Some(Key::When),
+        b"or" => Some(Key::Or),
+        b"and" => Some(Key::And),
+        b"not" => Some(Key::Not),
+        b"true" => Some(Key::TrueWord),
+        b"false" => Some(Key::FalseWord),
+        b"isnull" => Some(Key::IsNull),
+        b"ifnull" => Some(Key::IfNull),
+        b"t" => Some(Key::Time),
+        b"sum" => Some(Key::Sum),
+        b"avg" => Some(Key::Avg),
+        b"min" => Some(Key::Min),
+        b"max" => Some(Key::Max),
+        b"count" => Some(Key::Count),
+        b"first" => Some(Key::First),
+        b"last" => Some(Key::Last),
+        b"any" => Some(Key::Any),
+        b"all" => Some(Key::All),
+        _ => None,
     }
-    None
 }
 
 /// Whether the bytes are a reserved word.

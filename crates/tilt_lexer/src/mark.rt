@@ -47,29 +47,6 @@ pub enum Mark {
     Colon,
 }
 
-/// Each sign, the longer ones first.
-const MARKS: [Mark; 19] = [
-    Mark::Equal,
-    Mark::NotEqual,
-    Mark::AtMost,
-    Mark::AtLeast,
-    Mark::Semicolon,
-    Mark::Assign,
-    Mark::Less,
-    Mark::Greater,
-    Mark::Plus,
-    Mark::Minus,
-    Mark::Star,
-    Mark::Slash,
-    Mark::Percent,
-    Mark::OpenParen,
-    Mark::CloseParen,
-    Mark::OpenBracket,
-    Mark::CloseBracket,
-    Mark::Comma,
-    Mark::Colon,
-];
-
 // The text of a sign.
 pub(crate) fn mark_text(mark: Mark) -> &'static [u8]
     ensures { result.now ≡ mark_text mark }
@@ -103,10 +80,27 @@ pub(crate) fn find_mark(bytes: &[u8]) -> Option<Mark>
         ((m : Mark) (more : List ℕ) → bytes.now ≢ mark_text m ++ more)
         (λ m. BeginsWithSign m bytes.now) }
 {
-    for mark in MARKS {
-        if bytes.starts_with(mark_text(mark)) {
-            return Some(mark);
-        }
+    // The longer ones come first: what begins with `==` begins with `=` too.
+    match bytes {
+        [b'=', b'=', ..] => Some(Mark::Equal),
+        [b'!', b'=', ..] => Some(Mark::NotEqual),
+        [b'<', b'=', ..] => Some(Mark::AtMost),
+        [b'>', b'=', ..] => Some(Mark::AtLeast),
+        [b';', ..] => Some(Mark::Semicolon),
+        [b'=', ..] => Some(Mark::Assign),
+        [b'<', ..] => Some(Mark::Less),
+        [b'>', ..] => Some(Mark::Greater),
+        [b'+', ..] => Some(Mark::Plus),
+        [b'-', ..] => Some(Mark::Minus),
+        [b'*', ..] => Some(Mark::Star),
+        [b'/', ..] => Some(Mark::Slash),
+        [b'%', ..] => Some(Mark::Percent),
+        [b'(', ..] => Some(Mark::OpenParen),
+        [b')', ..] => Some(Mark::CloseParen),
+        [b'[', ..] => Some(Mark::OpenBracket),
+        [b']', ..] => Some(Mark::CloseBracket),
+        [b',', ..] => Some(Mark::Comma),
+        [b':', ..] => Some(Mark::Colon),
+        _ => None,
     }
-    None
 }
