@@ -112,7 +112,11 @@ impl Reduction for AvgR {
         if state.count == 0 {
             return None;
         }
-        i64::try_from(state.sum / i128::from(state.count)).ok()
+        // Mostly 64 bits hold the sum, and are divided in fewer steps.
+        match (i64::try_from(state.sum), i64::try_from(state.count)) {
+            (Ok(sum), Ok(count)) => Some(sum / count),
+            _ => i64::try_from(state.sum / i128::from(state.count)).ok(),
+        }
     }
 }
 

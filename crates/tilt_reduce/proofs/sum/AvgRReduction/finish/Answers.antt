@@ -9,14 +9,14 @@ use Rattle.tilt_reduce.proofs.Reduced.{reduce_on_some}
 use Rattle.tilt_base.proofs.Totals.{average_within}
 use Rattle.tilt_reduce.proofs.sum.AvgRReduction.finish.Goals as goal
 
-pub returns : goal.returns
-returns c = λ ns held.
+pub returns-in_default : goal.returns-in_default
+returns-in_default c = λ ns held.
     let fits = average_within ns held.fits in
     let sum : FitsSigned w128 c.args.state.now.sum = search rules in
     let count : FitsSigned w128 c.from.result = search rules in
     let same : int_div c.args.state.now.sum c.from.result ≡ int_div (total ns) (pos (length ns)) = rw (held.sum, c.from.ensures, held.count) refl in
     let wide : FitsSigned w128 (int_div c.args.state.now.sum c.from.result) = rw same (record { sfits = omega (arith, fits.sfits) }) in
     let exact = quot_is w128 c.args.state.now.sum c.from.result sum count wide ∙ same in
-    let found = Ok-from_Ok_iff _ _ _ c.try_from.ensures (subst (FitsSigned w64) (sym exact) fits) in
+    let found = Ok-from_Ok_iff _ _ _ c.try_from-in_default.ensures (subst (FitsSigned w64) (sym exact) fits) in
     let some = reduce_on_some (λ ms. Some (int_div (total ms) (pos (length ms)))) Avg (λ _ _. refl) ns (λ none. c.if-state-eq0.false (held.count ∙ none)) in
     c.ok.ensures.value ∙ ap result_ok found ∙ ap Some exact ∙ some
