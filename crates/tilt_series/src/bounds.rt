@@ -4,6 +4,7 @@ ghost use Rattle.std.specs.Bool.{OnFalse, OnTrue};
 ghost use Rattle.std.specs.Option.{ForSome};
 ghost use Rattle.tilt_base.specs.declared.limits.TheConstants.{T};
 ghost use Rattle.tilt_series.specs.Series.{is_below, is_past, is_time};
+ghost use Rattle.tilt_series.specs.Stretch.{FitsBounds};
 
 use std::marker::Model;
 use tilt_base::T;
@@ -27,6 +28,28 @@ impl Model for Bounds {
     ghost view = { λ b. record { last_end = b.last_end; from = b.from; upto = b.upto } };
 
     ghost inverse = { λ b. record { last_end = b.last_end; from = b.from; upto = b.upto } };
+}
+
+/// The ticks in `low..high`. A row that lies within has no fault of its times.
+#[derive(Clone, Copy)]
+pub(crate) struct Stretch {
+    /// The first tick.
+    pub(crate) low: i64,
+    /// The tick after the last one.
+    pub(crate) high: i64,
+}
+
+/// The ticks that are free for rows by all bounds.
+pub(crate) fn free_stretch(bounds: &Bounds) -> Stretch
+    ensures { FitsBounds bounds.now result.low result.high }
+{
+    let last_end = bounds.last_end.unwrap_or(-T);
+    let from = bounds.from.unwrap_or(-T);
+    let upto = bounds.upto.unwrap_or(T);
+    Stretch {
+        low: last_end.max(from).max(-T),
+        high: upto.min(T),
+    }
 }
 
 /// Whether the tick lies below the bound, which it doesn't where there is none.

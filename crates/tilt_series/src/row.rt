@@ -4,8 +4,9 @@ ghost use Rattle.std.specs.Option.{ForSome};
 ghost use Rattle.csv.specs.Records.{fields_of};
 ghost use Rattle.tilt_base.specs.declared.limits.TheConstants.{T};
 ghost use Rattle.tilt_series.specs.Series.{is_header, row_of, fields_spelled, three_of, time_fault, value_spelled};
+ghost use Rattle.tilt_series.specs.Stretch.{FitsBounds};
 
-use crate::bounds::{Bounds, is_below, is_past, is_time};
+use crate::bounds::{Bounds, Stretch, is_below, is_past, is_time};
 use crate::fault::SeriesFault;
 use csv::ByteRecord;
 use tilt_base::{Cell, read_number};
@@ -25,27 +26,41 @@ pub(crate) fn is_header(fields: &ByteRecord) -> bool
 
 /// The row of a record, or its first fault.
 #[inline]
-pub(crate) fn read_row(fields: &ByteRecord, row: u64, bounds: &Bounds) -> Result<Row, SeriesFault>
+pub(crate) fn read_row(
+    fields: &ByteRecord,
+    row: u64,
+    bounds: &Bounds,
+    free: Stretch,
+) -> Result<Row, SeriesFault>
+    requires { FitsBounds bounds.now free.low free.high }
     ensures read { result ≡ row_of bounds.now row (fields_of fields.now) }
     ensures low { IfOk result (λ s. neg_ℤ T ≤ℤ s.start) }
     ensures high { IfOk result (λ s. s.end ≤ℤ T) }
     ensures behind { IfOk result (λ s. ForSome bounds.now.last_end (λ end. end ≤ℤ s.start)) }
+    ensures cut { IfOk result (λ s. ForSome bounds.now.from (λ from. from ≤ℤ s.start)) }
 {
     let (start, end, value) = read_fields(fields, row)?;
+    // Nearly every row passes this test, which looks at no bound that may be absent. A row that starts below `upto` and ends above
+    // it has no fault either, and is looked at by each bound.
+    if free.low <= start && start < end && end <= free.high {
+        return Ok(Row { start, end, value });
+    }
     match time_fault(start, end, row, bounds) {
         Some(fault) => Err(fault),
         None => Ok(Row { start, end, value }),
     }
 }
 
-// The first fault of the times of a row, if there is one.
-#[inline]
+// The first fault of the times of a row, if there is one. It's called only for a row that doesn't lie within the free ticks.
+#[cold]
+#[inline(never)]
 fn time_fault(start: i64, end: i64, row: u64, bounds: &Bounds) -> Option<SeriesFault>
     ensures fault { result ≡ time_fault bounds.now row start end }
     ensures low { IfNone result (neg_ℤ T ≤ℤ start) }
     ensures high { IfNone result (end ≤ℤ T) }
     ensures some_ticks { IfNone result (start <ℤ end) }
     ensures behind { IfNone result (ForSome bounds.now.last_end (λ last. last ≤ℤ start)) }
+    ensures cut { IfNone result (ForSome bounds.now.from (λ from. from ≤ℤ start)) }
 {
     if !is_time(start) || !is_time(end) {
         Some(SeriesFault::TimeRange { row })

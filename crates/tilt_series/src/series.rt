@@ -2,7 +2,7 @@
 ghost use Rattle.tilt_series.specs.Records.{IsBetween, records_left};
 ghost use Rattle.tilt_series.specs.Series.{Gives, rows_of, series_of};
 
-use crate::bounds::Bounds;
+use crate::bounds::{Bounds, free_stretch};
 use crate::fault::{ReadRowsFault, SeriesFault};
 use crate::records::{next_record, open};
 use crate::row::{is_header, read_row};
@@ -56,13 +56,15 @@ fn read_behind_header(
 {
     let mut rows = Rows::new(alloc);
     let mut here = bounds;
+    let mut free = free_stretch(&bounds);
     for row in 1..u64::MAX {
         if !next_record(reader, fields)? {
             return Ok(rows);
         }
-        let read = read_row(fields, row, &here)?;
+        let read = read_row(fields, row, &here, free)?;
         rows.push(read)?;
         here.last_end = Some(read.end);
+        free.low = read.end;
     }
     // No memory holds so many rows.
     Err(ReadRowsFault::OutOfMemory)

@@ -1,9 +1,10 @@
-use Rattle.std.proofs.Common.{◌≡◌, true, ◌∷◌, arith, rules, ap, sym, ◌∙◌, to_z, of_z, w64}
+use Rattle.std.proofs.Common.{◌≡◌, ◌<ℤ◌, true, ◌∷◌, arith, rules, ap, sym, subst, ◌∙◌, to_z, of_z, w64}
 use Rattle.csv.specs.Records.{fields_of}
 use Rattle.tilt_stream.specs.Snap.{Snapshot}
 use Rattle.tilt_series.specs.Records.{records_left}
 use Rattle.tilt_series.specs.Series.{row_of}
 use Rattle.tilt_series.proofs.Loop.{behind_so_far, bounds_behind-row, whole_of, whole_of-row}
+use Rattle.tilt_series.proofs.Stretch.{FitsBounds-row}
 use Rattle.tilt_series.proofs.series.read_behind_header.Goals as goal
 
 pub push-requires-clause-behind : goal.push-requires-clause-behind
@@ -18,6 +19,9 @@ loop-row-preserved c =
     let end : to_z w64 (of_z w64 c.read.inside.end) ≡ c.read.inside.end = search rules in
     record {
       between = rw found at c.in_ok-next_record.ensures.between;
+      fits = FitsBounds-row c.loop-row.here c.in_ok-read.read _ _ _ c.loop-row.free.low c.loop-row.free.high _ c.here.view_is
+          (end ∙ ap (λ (s : Snapshot). s.end) c.read.view_is) c.loop-row.invariant.fits c.in_ok-read.ensures.low
+          (subst (λ (s : Snapshot). s.start <ℤ s.end) c.read.view_is c.read.invariant) c.in_ok-read.ensures.cut;
       here = rw c.in_ok-push.ensures.ok (bounds_behind-row c.args.bounds c.loop-row.here c.loop-row.rows c.in_ok-read.read _ _ _ _ c.here.view_is
           (end ∙ ap (λ (s : Snapshot). s.end) c.read.view_is) c.loop-row.invariant.here);
       read = rw c.in_ok-push.ensures.ok (sym (whole_of-row c.args.bounds c.loop-row.rows c.loop-row.row fields left c.in_ok-read.read
