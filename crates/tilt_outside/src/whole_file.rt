@@ -11,7 +11,7 @@ use std::alloc::{AllocError, Global};
 use thiserror::Error;
 
 /// How many bytes one read asks for at most. They are copied once more, so that they should stay in the nearest cache.
-const PIECE: usize = 16384;
+const PIECE: usize = 8192;
 
 /// Why a file wasn't read whole.
 #[derive(Debug, Drop, PartialEq, Eq, Error)]

@@ -13,6 +13,10 @@ use tilt_stream::Rows;
 /// Two byte order marks, U+FEFF in UTF-8.
 const TWO_MARKS: &[u8] = b"\xEF\xBB\xBF\xEF\xBB\xBF";
 
+/// How many bytes of memory a row takes. Most rows are spelled by fewer, so that room for as many rows as fit into the bytes of the file is
+/// mostly filled.
+const ROW: usize = 32;
+
 /// The rows of a series file, or its first fault (`Refused`). The first record is the header `start,end,value`, and each other is a
 /// row. Records are those of the crate `csv`, which takes more than RFC 4180: fields parted by commas, fields in quotes,
 /// records ended by LF, CR or CRLF, empty lines skipped. One byte order mark at the beginning is passed over.
@@ -41,20 +45,22 @@ pub fn read_rows(
         from,
         upto,
     };
-    read_behind_header(alloc, &mut reader, &mut fields, bounds)
+    let room = bytes.len() / ROW;
+    read_behind_header(alloc, &mut reader, &mut fields, bounds, room)
 }
 
-// The rows of the records that are left.
+// The rows of the records that are left. There is room for so many at first.
 fn read_behind_header(
     alloc: Global,
     reader: &mut Reader<&[u8]>,
     fields: &mut ByteRecord,
     bounds: Bounds,
+    room: usize,
 ) -> Result<Rows, ReadRowsFault>
     requires { IsBetween reader.old }
     ensures { Gives result (rows_of bounds 1 (records_left reader.old)) }
 {
-    let mut rows = Rows::new(alloc);
+    let mut rows = Rows::with_capacity(alloc, room)?;
     let mut here = bounds;
     let mut free = free_stretch(&bounds);
     for row in 1..u64::MAX {

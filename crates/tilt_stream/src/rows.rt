@@ -1,4 +1,4 @@
-ghost use Rattle.std.specs.Prelude.{◌≡◌, ◌<◌, ◌≤◌, [], ◌∷◌, ◌++◌, length, neg_ℤ, ◌≤ℤ◌, slice_get, IsTrue, ◌↔◌, OnOk, OnErr, IfSome, Some};
+ghost use Rattle.std.specs.Prelude.{◌≡◌, ◌<◌, ◌≤◌, [], ◌∷◌, ◌++◌, length, neg_ℤ, ◌≤ℤ◌, slice_get, IsTrue, ◌↔◌, IfOk, OnOk, OnErr, IfSome, Some};
 ghost use Rattle.std.specs.List.{AllByRecursion, insert, remove};
 ghost use Rattle.std.specs.Option.{ForSome};
 ghost use Rattle.tilt_base.specs.declared.limits.TheConstants.{T};
@@ -34,6 +34,15 @@ impl Rows {
         Rows {
             rows: Vec::new(alloc),
         }
+    }
+
+    /// No rows, and room for so many.
+    pub fn with_capacity(alloc: Global, rows: usize) -> Result<Rows, OutOfMemory>
+        ensures { IfOk result (λ made. made ≡ []) }
+    {
+        Ok(Rows {
+            rows: Vec::with_capacity(alloc, rows)?,
+        })
     }
 
     /// Adds a row after the last one. After want of memory the rows are as before.
