@@ -81,21 +81,8 @@ impl Cursor {
             self.stand(tick, second);
             return seen;
         }
-        self.look_from(buffer, second, tick)
-    }
-
-    // The same from a place on. It isn't inlined, so that `look`, which mostly ends before it, is.
-    #[inline(never)]
-    fn look_from<B: Buffer>(&mut self, buffer: &B, from: usize, tick: i64) -> Seen
-        requires fits { from ≤ ended_below tick (B.list buffer.now) }
-        requires kept { B.forgotten buffer.now ≤ from }
-        ensures moved { self.new ≡ record { tick = tick; place = ended_below tick (B.list buffer.now) } }
-        ensures cell { result.cell ≡ cell_at (B.list buffer.now) tick }
-        ensures next { NamesNextMark (stream_of (B.list buffer.now)) tick result.next }
-        ensures low { IfSome result.next (λ next. neg_ℤ WIDE <ℤ next) }
-        ensures high { IfSome result.next (λ next. next ≤ℤ (WIDE +ℤ pos 1)) }
-    {
-        self.stand(tick, passing(buffer, from, tick));
+        let place = passing(buffer, second, tick);
+        self.stand(tick, place);
         self.seen(buffer)
     }
 
@@ -187,7 +174,9 @@ fn seen_at<B: Buffer>(buffer: &B, place: usize, tick: i64) -> Option<Seen>
     }
 }
 
-// The place of the first snapshot from a place on that doesn't end below a tick: by steps that grow, and then by halves.
+// The place of the first snapshot from a place on that doesn't end below a tick: by steps that grow, and then by halves. It isn't inlined,
+// so that `look`, which mostly needs none of it, is.
+#[inline(never)]
 fn passing<B: Buffer>(buffer: &B, from: usize, tick: i64) -> usize
     requires fits { from ≤ ended_below tick (B.list buffer.now) }
     requires kept { B.forgotten buffer.now ≤ from }
