@@ -116,3 +116,7 @@ moved x f first last later cells marks some onwards none held =
     let all : met x (first -ℤ pos 1) later ≡ met x (first -ℤ pos 1) last =
     met-marked x first later (omega (arith, ints)) ∙ ap (λ (ts : List ℤ). x.cell first ∷ map x.cell ts) same ∙ sym (met-marked x first last some) in
     record { cells_met = held.cells_met ∙ ap (map f) (sym all); marks_met = held.marks_met ∙ sym same }
+
+-- a window in which a next mark is stored
+abbrev pub stored : Moving → Option ℤ → Moving
+stored w next = record { kind = w.kind; marks = w.marks; back = w.back; next = next }

@@ -1,6 +1,6 @@
 // What the maps of a loop give on a cell.
-ghost use Rattle.std.specs.Prelude.{◌≡◌, ◌<◌, [], get_or, length, IfOk};
-ghost use Rattle.tilt_code.specs.Body.{block_cell, map_leaf, mapped};
+ghost use Rattle.std.specs.Prelude.{◌≡◌, ◌<◌, [], get_or, length, IfOk, OnOk};
+ghost use Rattle.tilt_code.specs.Body.{map_leaf, mapped, with_registers};
 ghost use Rattle.tilt_turn.specs.Ready.{MayMap, NameEarlier};
 
 use crate::register::{last, register};
@@ -21,7 +21,10 @@ pub(crate) fn mapped(
 {
     match map {
         None => Ok(cell),
-        Some(number) => block_cell(block_of(each, number), cell, registers),
+        Some(number) => {
+            run_block(block_of(each, number), cell, registers)?;
+            Ok(last(registers))
+        }
     }
 }
 
@@ -33,17 +36,18 @@ fn block_of(each: &Loop, number: u32) -> &[Instr]
     &each.maps[number as usize]
 }
 
-// What the block of a map gives on a cell. It isn't inlined, so that `mapped`, which mostly names no map, is.
+// Writes the registers anew that the block of a map fills, which is run on a cell. It isn't inlined, so that `mapped`, which mostly names
+// no map, is.
 #[inline(never)]
-fn block_cell(block: &[Instr], cell: Cell, registers: &mut Vec<Cell>) -> Result<Cell, OutOfMemory>
+fn run_block(block: &[Instr], cell: Cell, registers: &mut Vec<Cell>) -> Result<(), OutOfMemory>
     requires { NameEarlier 0 block.now }
-    ensures { IfOk result (λ given. given ≡ block_cell (map_leaf cell) block.now) }
+    ensures { OnOk result (registers.new.items ≡ with_registers (map_leaf cell) [] block.now) }
 {
     registers.clear();
     for instr in block {
         registers.push(register(instr, registers, argument(instr, cell)))?;
     }
-    Ok(last(registers))
+    Ok(())
 }
 
 // What the leaf of a map gives: its argument is the cell that the map is run on.

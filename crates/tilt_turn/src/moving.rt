@@ -153,7 +153,8 @@ impl Moving {
         self.marks.front().copied()
     }
 
-    // Takes the cells in that the ticks after those of the window meet, up to a last one.
+    // Takes the cells in that the ticks after those of the window meet, up to a last one. The next mark is kept beside the window
+    // meanwhile, and stored once, so that a cell that comes in takes fewer steps.
     fn extend<B: Buffer>(
         &mut self,
         source: &Source<'_, '_, B>,
@@ -171,16 +172,18 @@ impl Moving {
             → Holds (B.list source.now.buffer.now) (mapped source.now.each.now.maps source.now.map) first self.old
             → Holds (B.list source.now.buffer.now) (mapped source.now.each.now.maps source.now.map) first self.new) }
     {
-        while let Some(mark) = self.next_up_to(last) {
-            self.push_at(source, mark, registers)?;
-            self.marks.push_back(mark)?;
+        let mut next = self.next;
+        while let Some(mark) = up_to(next, last) {
+            let seen = self.back.look(source.buffer, mark);
+            next = seen.next;
+            self.push_marked(source, mark, seen.cell, registers)?;
         }
         self.back.stay_until(last);
+        self.next = next;
         Ok(())
     }
 
-    // Moves the cursor to a tick, and adds the cell there. It is inlined, since a window does it for each cell that comes in.
-    #[inline(always)]
+    // Moves the cursor to a tick, and adds the cell there: the first cell of a window.
     fn push_at<B: Buffer>(
         &mut self,
         source: &Source<'_, '_, B>,
@@ -198,8 +201,29 @@ impl Moving {
     {
         let seen = self.back.look(source.buffer, tick);
         self.next = seen.next;
-        let cell = mapped(source.each, source.map, seen.cell, registers)?;
-        self.kind.push_back(cell)
+        push_mapped(&mut self.kind, source, seen.cell, registers)
+    }
+
+    // Adds a mark, and the cell there. It is inlined, since a window does it for each cell that comes in.
+    #[inline(always)]
+    fn push_marked<B: Buffer>(
+        &mut self,
+        source: &Source<'_, '_, B>,
+        mark: i64,
+        cell: Cell,
+        registers: &mut Vec<Cell>,
+    ) -> Result<(), OutOfMemory>
+        requires map { MayMap source.now.each.now.maps source.now.map }
+        requires few { length (kind_cells self.old.kind) < 4611686018427387904 }
+        ensures cells { OnOk result (kind_cells self.new.kind ≡ kind_cells self.old.kind
+            ++ mapped source.now.each.now.maps source.now.map cell ∷ []) }
+        ensures marks { OnOk result (self.new.marks.items ≡ self.old.marks.items ++ mark ∷ []) }
+        ensures back { self.new.back ≡ self.old.back }
+        ensures reducer { OnOk result (kind_reducer self.new.kind ≡ kind_reducer self.old.kind) }
+    {
+        push_mapped(&mut self.kind, source, cell, registers)?;
+        self.marks.push_back(mark)?;
+        Ok(())
     }
 
     // What the reducer gives on the cells that aren't null.
@@ -233,15 +257,32 @@ impl Moving {
             None => self.next,
         }
     }
+}
 
-    // The next mark above the last tick, where it isn't above a later one.
-    #[inline]
-    fn next_up_to(&self, last: i64) -> Option<i64>
-        ensures { (list : List Snapshot) → Knows list self.now → MatchOption result
-            ((other : ℤ) → self.now.back.tick <ℤ other → other ≤ℤ last → (stream_of list).mark other ≡ false)
-            (λ mark. IsNextMark (stream_of list) self.now.back.tick mark × (mark ≤ℤ last)) }
-    {
-        let next = self.next?;
-        if next <= last { Some(next) } else { None }
-    }
+// The next mark above some tick, where it isn't above a later one.
+#[inline(always)]
+fn up_to(next: Option<i64>, last: i64) -> Option<i64>
+    ensures { (list : List Snapshot) (tick : ℤ) → NamesNextMark (stream_of list) tick next → MatchOption result
+        ((other : ℤ) → tick <ℤ other → other ≤ℤ last → (stream_of list).mark other ≡ false)
+        (λ mark. IsNextMark (stream_of list) tick mark × (mark ≤ℤ last)) }
+{
+    let next = next?;
+    if next <= last { Some(next) } else { None }
+}
+
+// Adds what the map gives on a cell.
+#[inline(always)]
+fn push_mapped<B: Buffer>(
+    kind: &mut Kind,
+    source: &Source<'_, '_, B>,
+    cell: Cell,
+    registers: &mut Vec<Cell>,
+) -> Result<(), OutOfMemory>
+    requires map { MayMap source.now.each.now.maps source.now.map }
+    requires few { length (kind_cells kind.old) < 4611686018427387904 }
+    ensures cells { OnOk result (kind_cells kind.new ≡ kind_cells kind.old ++ mapped source.now.each.now.maps source.now.map cell ∷ []) }
+    ensures reducer { kind_reducer kind.new ≡ kind_reducer kind.old }
+{
+    let given = mapped(source.each, source.map, cell, registers)?;
+    kind.push_back(given)
 }

@@ -57,6 +57,8 @@ impl LoopState {
     /// above that of this turn, and is then at it. Each buffer has to keep the snapshots from the first tick on that the loop reads of
     /// it at the grid point of this turn, and no more. `OutOfMemory` comes
     /// where memory is refused, and for no other reason; the state is of no use then.
+    // Inlined, so that what a turn takes and gives stays in registers of the processor.
+    #[inline(always)]
     pub fn turn<S: Buffers>(
         &mut self,
         buffers: &S,

@@ -1,6 +1,7 @@
 use Rattle.std.proofs.Common.{◌≡◌, ℤ, ◌≤ℤ◌}
 use Rattle.std.specs.Int.{int_gap}
 use Rattle.tilt_code.specs.Body.{mapped}
+use Rattle.tilt_turn.proofs.Moves.{stored}
 use Rattle.tilt_turn.specs.Held.{Holds, Knows}
 use Rattle.tilt_turn.specs.Kinds.{kind_reducer}
 use Rattle.tilt_turn.proofs.moving.Moving.extend.Given as goal
@@ -12,9 +13,10 @@ invariant-loop-mark g l =
     record {
       low : l.fn.self.back.tick ≤ℤ l.self.back.tick;
       high : l.self.back.tick ≤ℤ l.last;
-      knows : Knows list l.self;
+      knows : Knows list (stored l.self l.next);
       reducer : kind_reducer l.self.kind ≡ kind_reducer l.fn.self.kind;
-      held : (first : ℤ) → first ≤ℤ l.fn.self.back.tick → Holds list by_map first l.fn.self → Holds list by_map first l.self;
+      held : (first : ℤ) → first ≤ℤ l.fn.self.back.tick → Holds list by_map first l.fn.self
+          → Holds list by_map first (stored l.self l.next);
     }
 
 abbrev pub decreases-loop-mark : goal.decreases-loop-mark

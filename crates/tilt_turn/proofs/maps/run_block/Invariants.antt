@@ -1,7 +1,7 @@
 use Rattle.std.proofs.Common.{◌≡◌, [], length, drop}
 use Rattle.tilt_code.specs.Body.{map_leaf, with_registers}
 use Rattle.tilt_turn.specs.Ready.{NameEarlier}
-use Rattle.tilt_turn.proofs.maps.block_cell.Given as goal
+use Rattle.tilt_turn.proofs.maps.run_block.Given as goal
 
 abbrev pub invariant-loop-instr : goal.invariant-loop-instr
 invariant-loop-instr l = record {
