@@ -69,21 +69,6 @@ begun-pop is above last given now later [] place more same falling h = let begin
 begun-pop is above last given now later (p ∷ places) place more same falling h =
     (h.0, same last (λ equal. omega (arith, (falling-top is p places place falling.2).0, h.0, equal)) ∙ h.1)
 
--- the last one of some places, and those before it
-pub last-split : (places : List ℕ) (place : ℕ) → slice_get places (length places - 1) ≡ Some place
-    → (before : List ℕ) × (places ≡ before ++ place ∷ [])
-last-split [] place is = absurd (cc is)
-last-split (p ∷ []) place is = ([], ap (λ (q : ℕ). q ∷ []) (same_Some p place is))
-last-split (p ∷ q ∷ places) place is =
-    let long : length (p ∷ q ∷ places) - 1 ≡ suc (length (q ∷ places) - 1) = omega arith in
-    let rest = last-split (q ∷ places) place (rw long at is) in
-    (p ∷ rest.0, ap (λ (xs : List ℕ). p ∷ xs) rest.1)
-
--- where there is none, there are no places
-pub last-none : (places : List ℕ) → slice_get places (length places - 1) ≡ None → places ≡ []
-last-none [] is = refl
-last-none (p ∷ places) is = absurd (cc (sym (slice_get-some (p ∷ places) (length (p ∷ places) - 1) (omega arith)).1 ∙ is))
-
 -- how many snapshots each loop has made where it stands
 made_in-at : (works : List Work) (starts : List ℤ) (k : ℕ) (w : Work) → length starts ≡ length works → slice_get works k ≡ Some w
     → made_in (stages_at works starts) k ≡ length (made_by (get_or starts k (pos 0)) w.whole)

@@ -5,7 +5,7 @@ use Rattle.std.proofs.lemmas.Bool.{cases_lt, cases_eq}
 use Rattle.std.proofs.lemmas.Int.{ints}
 use Rattle.std.proofs.lemmas.List.{drop_all, drop-set-lt, drop-set-add, length-map, map-set, set-get_or, get_or-set_other}
 use Rattle.std.proofs.lemmas.Option.{same_Some, get_or_from_slice_get, slice_get-map, slice_get_within}
-use Rattle.circular_buffer.proofs.Places.{slice_get-append_left, slice_get-drop, slice_get-set_other, slice_get-set_same, slice_get-some}
+use Rattle.circular_buffer.proofs.Places.{slice_get-append_left, slice_get-append_right, slice_get-drop, slice_get-set_other, slice_get-set_same, slice_get-some}
 use Rattle.tilt_base.specs.Grid.{IsGrid}
 use Rattle.tilt_code.specs.Code.{CodeParts}
 use Rattle.tilt_code.specs.References.{IsCode}
@@ -13,7 +13,7 @@ use Rattle.tilt_base.specs.declared.limits.TheConstants.{WIDE}
 use Rattle.tilt_stream.proofs.Filling.{Fill-AreSnapshots}
 use Rattle.tilt_stream.proofs.Places.{passed-at, ended-within}
 use Rattle.tilt_stream.specs.Snap.{Snapshot, InOrder, ended_below}
-use Rattle.tilt_pipe.proofs.Kept.{let_go-within}
+use Rattle.tilt_pipe.proofs.Kept.{let_go-within, next-end}
 use Rattle.tilt_pipe.proofs.RingsKept.{IsAt, IsKept, kept-count, kept-made, read-at, ring-at, later-at}
 use Rattle.tilt_pipe.proofs.Standing.{IsNextMade, end-made}
 use Rattle.tilt_pipe.proofs.Wanted.{rings_of-at, stage_at, stages_at-get, stages_at-set, wanted-rises, let_go-rises}
@@ -206,6 +206,12 @@ turned-few p place w true r s t trimmed =
 turned-few p place w false r s t trimmed =
     rw (t.unread refl) (omega (arith, ap length t.next.more ∙ length-append (made_by r.start w.whole) (s ∷ []), t.kept.ring.forgotten))
 
+-- what is made then is in order
+turned-order : (p : RingsParts) (place : ℕ) (w : Work) (b : Bool) (r : RingParts) (s : Snapshot) → IsTurn p place w b r s
+    → InOrder (neg_ℤ WIDE) WIDE (made_by s.end w.whole)
+turned-order p place w b r s t =
+    (Fill-AreSnapshots w.loop.lo s.end (made_by s.end w.whole) t.kept.low (omega (arith, ints, t.next.within, t.kept.high)) t.next.fill).in_order
+
 -- where the ring held a snapshot, that one is wanted still, and no more is let go
 let_go-still : (first : Option ℤ) (from limit : ℤ) (list more : List Snapshot) → InOrder from limit list → InOrder from limit (list ++ more)
     → let_go first list < length list → let_go first (list ++ more) ≡ let_go first list
@@ -221,26 +227,37 @@ let_go-still (Some tick) from limit list more before after few =
       | inr high ↦ omega arith
     ]
 
+gone-kept : (b : Bool) (r : RingParts) (s : Snapshot) (n : ℕ) → n ≤ r.forgotten → n ≤ (kept_ring b r s).forgotten
+gone-kept true r s n le = le
+gone-kept false r s n le = omega arith
+
 turned-gone : (p : RingsParts) (place : ℕ) (w : Work) (b : Bool) (r : RingParts) (s : Snapshot) (tick : Option ℤ) → IsTurn p place w b r s
     → 0 < length r.held → let_go tick (made_by r.start w.whole) ≤ r.forgotten → let_go tick (made_by s.end w.whole) ≤ (kept_ring b r s).forgotten
 turned-gone p place w b r s tick t some gone =
     let count = kept-count w r t.kept in
-    let all = (Fill-AreSnapshots w.loop.lo s.end (made_by s.end w.whole) t.kept.low (omega (arith, ints, t.next.within, t.kept.high)) t.next.fill).in_order in
     let still = let_go-still tick (neg_ℤ WIDE) WIDE (made_by r.start w.whole) (s ∷ []) (kept-made w r t.kept).in_order
-    (subst (InOrder (neg_ℤ WIDE) WIDE) t.next.more all) (omega arith) in
+    (subst (InOrder (neg_ℤ WIDE) WIDE) t.next.more (turned-order p place w b r s t)) (omega arith) in
     let now = ap (let_go tick) t.next.more in
-    by b (omega arith)
-  where
-    by : (c : Bool) → let_go tick (made_by s.end w.whole) ≤ r.forgotten
-        → let_go tick (made_by s.end w.whole) ≤ (if c then r.forgotten else r.forgotten + 1)
-    by true le = le
-    by false le = omega arith
+    gone-kept b r s (let_go tick (made_by s.end w.whole)) (omega arith)
 
 pub turned-still : (p : RingsParts) (place k : ℕ) (w : Work) (b : Bool) (r : RingParts) (s : Snapshot) (tick : Option ℤ) → IsTurn p place w b r s
     → (k ≡ place → 0 < length r.held) → HasLetGo p k tick → HasLetGo (turned p place b r s) k tick
 turned-still p place k w b r s tick t some gone =
     ring-set p place k w r (kept_ring b r s) (λ v q. let_go tick (made_by q.start v.whole) ≤ q.forgotten) t.of t.at (λ _. gone)
     (λ same. turned-gone p place w b r s tick t (some same) (gone w r (ap (slice_get (works_in p)) same ∙ t.of) (ap (slice_get p.rings) same ∙ t.at)))
+
+-- where the ring held none, all is let go that ends below the end of the new one
+pub turned-first : (p : RingsParts) (place : ℕ) (w : Work) (b : Bool) (r : RingParts) (s : Snapshot) → IsTurn p place w b r s → length r.held ≡ 0
+    → HasLetGo (turned p place b r s) place (Some s.end)
+turned-first p place w b r s t none =
+    let made = made_by s.end w.whole in
+    let n = r.forgotten in
+    let at : slice_get made n ≡ Some s =
+    ap (λ (list : List Snapshot). slice_get list n) t.next.more
+    ∙ slice_get-append_right (made_by r.start w.whole) (s ∷ []) n 0 (omega (arith, kept-count w r t.kept, none)) in
+    let end = next-end (neg_ℤ WIDE) WIDE made (drop n made) n s (turned-order p place w b r s t) refl (slice_get-drop n made 0 n (omega arith) ∙ at) in
+    ring-set p place place w r (kept_ring b r s) (λ v q. let_go (Some s.end) (made_by q.start v.whole) ≤ q.forgotten) t.of t.at
+    (λ other. absurd (other refl)) (λ _. gone-kept b r s (ended_below s.end made) end.0)
 
 -- and so it is held
 holder-same : (p q : RingsParts) (x : Option Reader) → ((reader : Reader) → x ≡ Some reader → start_at q reader.place ≡ start_at p reader.place)

@@ -1,6 +1,6 @@
 // The loops of a pipe, and their turns.
 ghost use Rattle.std.specs.Prelude.{◌≡◌, ◌≢◌, ◌⊎◌, ◌<◌, ◌+◌, ◌++◌, ◌∷◌, [], ℕ, pos, ◌+ℤ◌};
-ghost use Rattle.std.specs.Prelude.{length, slice_get, slice_set, Some, None, true, false, IfOk, OnOk};
+ghost use Rattle.std.specs.Prelude.{length, slice_get, slice_set, Some, None, true, false, IfOk, IsSome, OnOk};
 ghost use Rattle.std.specs.Prelude.{MatchOption};
 ghost use Rattle.std.specs.List.{AllByRecursion, Contains};
 ghost use Rattle.tilt_code.specs.References.{IsCode};
@@ -11,7 +11,7 @@ ghost use Rattle.tilt_pipe.specs.Made.{Work};
 ghost use Rattle.tilt_pipe.specs.Positions.{AreRings, IsOpen, made_at};
 ghost use Rattle.tilt_pipe.specs.Positions.{start_at, starts_of, works_in};
 ghost use Rattle.tilt_pipe.specs.Reads.{turn_point};
-ghost use Rattle.tilt_pipe.specs.Trimmed.{HasLetGo, IsNotLater, IsReader, StandAlike, held_at, reads_next, wanted_at};
+ghost use Rattle.tilt_pipe.specs.Trimmed.{HasLetGo, HasNextEnd, IsNotLater, IsReader, StandAlike, held_at, reads_next, wanted_at};
 ghost use Rattle.tilt_turn.specs.Held.{IsFit};
 ghost use Rattle.tilt_turn.specs.Ready.{IsBodyTick};
 ghost use Rattle.tilt_pipe.specs.declared.chain.LoopTurns.{LoopTurns};
@@ -57,6 +57,7 @@ pub(crate) struct Chain {
 impl Chain {
     // A loop that has made less than the next turn of a loop reads. `None` where all that this turn reads is made. Those before the
     // loop that was found last have made enough already, so that the search goes on from that one: each is passed once for a turn.
+    #[inline(always)]
     pub(crate) fn behind(&mut self, place: usize) -> Option<usize>
         requires open { (w : Work) × IsOpen self.old.rings place w × (w.used ≡ true) }
         requires is { IsChain self.old }
@@ -78,6 +79,7 @@ impl Chain {
     }
 
     // Makes the next turn of a loop, and lets go what no next turn reads any more.
+    #[inline(always)]
     pub(crate) fn make(&mut self, place: usize) -> Result<Snap, OutOfMemory>
         requires is { IsChain self.old }
         requires told { (w : Work) × IsOpen self.old.rings place w × (w.used ≡ true) × AreTold self.old.rings place w }
@@ -95,7 +97,7 @@ impl Chain {
         let snap = next_snap(&mut self.turns[place], &self.rings, place)?;
         self.rings.keep(place, snap, read)?;
         self.set_point(place);
-        self.trim_own(place, had)?;
+        self.trim_own(place, had, snap.end)?;
         self.trim_held(place)?;
         Ok(snap)
     }
@@ -202,16 +204,18 @@ impl Chain {
         }
     }
 
-    // Whether a ring holds no snapshot, or who holds it reads the first one.
+    // Where the first snapshot of a ring ends, unless who holds the ring reads it.
     #[inline]
-    fn is_first_held(&self, place: usize) -> bool
+    fn unheld_end(&self, place: usize) -> Option<i64>
         requires may { MayLetGo self.now }
         requires there { place < length self.now.rings.rings }
-        ensures { result ≡ true → IsSettled self.now place }
+        ensures { MatchOption result (IsSettled self.now place) (λ end. HasNextEnd self.now.rings place (Some end)) }
     {
-        match self.rings.first_end(place) {
-            Some(end) => self.is_held(place, end),
-            None => true,
+        let end = self.rings.first_end(place)?;
+        if self.is_held(place, end) {
+            None
+        } else {
+            Some(end)
         }
     }
 
@@ -228,18 +232,19 @@ impl Chain {
     }
 
     // Lets go what no next turn reads any more of the buffer of a loop whose turn was made. Where its ring held a snapshot before, that
-    // one is read still, so that nothing goes.
+    // one is read still, so that nothing goes; else the ring holds the new one alone, which ends at a tick, if it is read.
     #[inline]
-    fn trim_own(&mut self, place: usize, had: bool) -> Result<(), OutOfMemory>
+    fn trim_own(&mut self, place: usize, had: bool, end: i64) -> Result<(), OutOfMemory>
         requires may { MayLetGo self.old }
         requires there { place < length self.old.rings.rings }
         requires had { had ≡ true → IsSettled self.old place }
+        requires end { had ≡ false → HasLetGo self.old.rings place (Some end) }
         ensures alike { StandAlike self.old.rings self.new.rings }
         ensures settles { OnOk result (Settles self.old self.new place) }
     {
         // What rings keep is known from here on.
         let _ = self.rings.loops();
-        if had {
+        if had || self.is_held(place, end) {
             return Ok(());
         }
         self.trim(place)
@@ -255,47 +260,50 @@ impl Chain {
     {
         // What rings keep is known from here on.
         let _ = self.rings.loops();
-        if self.is_first_held(place) {
-            return Ok(());
+        match self.unheld_end(place) {
+            Some(end) => self.release(place, end),
+            None => Ok(()),
         }
-        self.release(place)
     }
 
-    // Lets go what no reader's next turn reads, one snapshot after the other.
+    // Lets go what no reader's next turn reads, one snapshot after the other, of which the first ends at a tick.
     #[inline(never)]
-    fn release(&mut self, place: usize) -> Result<(), OutOfMemory>
+    fn release(&mut self, place: usize, first: i64) -> Result<(), OutOfMemory>
         requires may { MayLetGo self.old }
         requires there { place < length self.old.rings.rings }
+        requires end { HasNextEnd self.old.rings place (Some first) }
         ensures alike { StandAlike self.old.rings self.new.rings }
         ensures settles { OnOk result (Settles self.old self.new place) }
     {
         // What rings keep is known from here on.
         let _ = self.rings.loops();
-        while self.drops_first(place)? {}
+        let mut end = first;
+        while let Some(next) = self.drops_first(place, end)? {
+            end = next;
+        }
         Ok(())
     }
 
-    // Lets the first snapshot of a ring go, if no reader's next turn reads it, and answers whether the next one is to be looked at. A
-    // reader whose next turn reads it holds the ring from then on.
-    fn drops_first(&mut self, place: usize) -> Result<bool, OutOfMemory>
+    // Lets the first snapshot of a ring go, which ends at a tick, if no reader's next turn reads it, and answers where the next one ends,
+    // if it is to be looked at. A reader whose next turn reads the first one holds the ring from then on.
+    fn drops_first(&mut self, place: usize, end: i64) -> Result<Option<i64>, OutOfMemory>
         requires may { MayLetGo self.old }
         requires there { place < length self.old.rings.rings }
+        requires end { HasNextEnd self.old.rings place (Some end) }
         ensures alike { StandAlike self.old.rings self.new.rings }
         ensures lets { OnOk result (LetsGo self.old self.new place) }
-        ensures settled { IfOk result (λ more. more ≡ false → IsSettled self.new place) }
-        ensures fewer { IfOk result (λ more. more ≡ true → held_at self.new.rings place < held_at self.old.rings place) }
+        ensures settled { IfOk result
+            (λ next. MatchOption next (IsSettled self.new place) (λ end. HasNextEnd self.new.rings place (Some end))) }
+        ensures fewer { IfOk result (λ next. IsSome next → held_at self.new.rings place < held_at self.old.rings place) }
     {
         // What rings keep is known from here on.
         let _ = self.rings.loops();
-        let Some(end) = self.rings.first_end(place) else {
-            return Ok(false);
-        };
         if let Some(reader) = self.reader_up_to(place, end) {
             self.set_holder(place, reader)?;
-            return Ok(false);
+            return Ok(None);
         }
         self.rings.let_first_go(place);
-        Ok(!self.is_first_held(place))
+        Ok(self.unheld_end(place))
     }
 
     // Says that a reader holds a ring, which is then in the list of its loop.
@@ -315,6 +323,7 @@ impl Chain {
 
     // Lets go what no next turn reads any more of the buffers whose rings a loop holds, after its turn. The list is looked at from its
     // end: in the place of a ring that is taken off there comes one that was looked at, or one that was added.
+    #[inline(always)]
     fn trim_held(&mut self, place: usize) -> Result<(), OutOfMemory>
         requires { AreLeft self.old place (length (held_in self.old.held.items place)) }
         ensures is { OnOk result (IsChain self.new) }
@@ -403,6 +412,7 @@ fn is_short(rings: &Rings, source: Source, point: i64) -> bool
 }
 
 // The snapshot of a loop's next turn. Its state is then fit for the turn after that, of which nothing is known yet to be made.
+#[inline(always)]
 fn next_snap(turns: &mut LoopTurns, rings: &Rings, place: usize) -> Result<Snap, OutOfMemory>
     requires { (w : Work) × MayTurn rings.now place turns.old w }
     ensures snap { (w : Work) → IsOpen rings.now place w

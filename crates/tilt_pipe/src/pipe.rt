@@ -1,6 +1,6 @@
 // The pipelined machine.
-ghost use Rattle.std.specs.Prelude.{◌≡◌, List, [], ◌∷◌, ◌++◌, ◌<◌, ℕ, suc, true, false, length};
-ghost use Rattle.std.specs.Prelude.{slice_get, IfOk, OnOk, IsErr, OnErr, MatchOption};
+ghost use Rattle.std.specs.Prelude.{◌≡◌, [], ◌∷◌, ◌++◌, ◌<◌, ℕ, suc, true, false};
+ghost use Rattle.std.specs.Prelude.{length, slice_get, None, Some, IfOk, IfSome, OnOk, IsErr, IsSome, OnErr, MatchOption};
 ghost use Rattle.tilt_code.specs.Run.{run_of};
 ghost use Rattle.tilt_pipe.specs.Chain.{IsChain};
 ghost use Rattle.tilt_pipe.specs.Pulled.{IsPulled, given_in, steps_left};
@@ -54,6 +54,8 @@ impl Pipe {
 
     /// The next snapshot of the code's run: `None` exactly where all were given out, and then nothing changes. `OutOfMemory` comes
     /// where memory is refused, and each time after that.
+    // Inlined, so that who owns a pipe reads its parts where they lie, and not by an address that takes a register.
+    #[inline(always)]
     pub fn next(&mut self) -> Result<Option<Snap>, OutOfMemory>
         ensures given { self.old.refused ≡ false → IfOk result
             (λ next. next ≡ slice_get (run_of self.old.code self.old.inputs) self.old.given) }
@@ -82,6 +84,7 @@ impl Pipe {
 }
 
 // The next snapshot of the last loop. `None` where it is at the end of its stretch, and then nothing changes.
+#[inline(always)]
 fn pull(chain: &mut Chain, asked: &mut Vec<usize>) -> Result<Option<Snap>, OutOfMemory>
     requires exact { IsExact chain.old }
     requires none { asked.old.items ≡ [] }
@@ -98,39 +101,47 @@ fn pull(chain: &mut Chain, asked: &mut Vec<usize>) -> Result<Option<Snap>, OutOf
     if !chain.rings.is_open(last) {
         return Ok(None);
     }
-    asked.push(last)?;
-    let mut made = None;
-    while let Some(place) = asked.last().copied() {
-        made = step(chain, asked, place)?;
+    let mut place = last;
+    loop {
+        if let Some(snap) = step(chain, asked, &mut place)? {
+            return Ok(Some(snap));
+        }
     }
-    Ok(made)
 }
 
-// One step towards the next snapshot: the turn of the last one of the loops that are asked for, which then isn't any more; or an
-// earlier loop is asked for too that this turn waits for.
+// One step towards the next snapshot, of the loop at a place: its turn, and then the loop goes on that waits for it; or an earlier loop
+// goes on that this turn waits for. It gives the snapshot of a turn for which no loop waits, which is the last loop's.
+#[inline(always)]
 fn step(
     chain: &mut Chain,
     asked: &mut Vec<usize>,
-    place: usize,
+    place: &mut usize,
 ) -> Result<Option<Snap>, OutOfMemory>
     requires chain { IsChain chain.old }
-    requires pulled { (given : ℕ) × IsPulled given chain.old.rings asked.old.items }
-    requires last { (before : List ℕ) × (asked.old.items ≡ before ++ place ∷ []) }
+    requires pulled { (given : ℕ) × IsPulled given chain.old.rings (asked.old.items ++ place.old ∷ []) }
     ensures chain { OnOk result (IsChain chain.new) }
-    ensures pulled { (given : ℕ) → IsPulled given chain.old.rings asked.old.items
-        → OnOk result (IsPulled given chain.new.rings asked.new.items) }
-    ensures made { (given : ℕ) → IsPulled given chain.old.rings asked.old.items
-        → IfOk result (λ made. asked.new.items ≡ [] → made ≡ slice_get (run_of chain.old.rings.code chain.old.rings.inputs) given) }
-    ensures nearer { (given : ℕ) → IsPulled given chain.old.rings asked.old.items
-        → OnOk result (steps_left given chain.new.rings asked.new.items < steps_left given chain.old.rings asked.old.items) }
+    ensures pulled { (given : ℕ) → IsPulled given chain.old.rings (asked.old.items ++ place.old ∷ [])
+        → IfOk result (λ made. MatchOption made (IsPulled given chain.new.rings (asked.new.items ++ place.new ∷ []))
+        (λ _. IsPulled given chain.new.rings [])) }
+    ensures nearer { (given : ℕ) → IsPulled given chain.old.rings (asked.old.items ++ place.old ∷ [])
+        → IfOk result (λ made. made ≡ None → steps_left given chain.new.rings (asked.new.items ++ place.new ∷ [])
+        < steps_left given chain.old.rings (asked.old.items ++ place.old ∷ [])) }
+    ensures made { (given : ℕ) → IsPulled given chain.old.rings (asked.old.items ++ place.old ∷ [])
+        → IfOk result (λ made. IfSome made (λ snap. Some snap ≡ slice_get (run_of chain.old.rings.code chain.old.rings.inputs) given)) }
+    ensures none { IfOk result (λ made. IsSome made → asked.new.items ≡ []) }
     ensures code { chain.new.rings.code ≡ chain.old.rings.code }
     ensures inputs { chain.new.rings.inputs ≡ chain.old.rings.inputs }
 {
-    if let Some(source) = chain.behind(place) {
-        asked.push(source)?;
+    let here = *place;
+    if let Some(source) = chain.behind(here) {
+        asked.push(here)?;
+        *place = source;
         return Ok(None);
     }
-    let snap = chain.make(place)?;
-    asked.pop();
-    Ok(Some(snap))
+    let snap = chain.make(here)?;
+    let Some(before) = asked.pop() else {
+        return Ok(Some(snap));
+    };
+    *place = before;
+    Ok(None)
 }

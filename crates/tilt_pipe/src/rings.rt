@@ -166,7 +166,7 @@ impl Rings {
     #[inline]
     pub(crate) fn holds(&self, place: usize) -> bool
         requires { place < length self.now.rings }
-        ensures { (r : RingParts) → slice_get self.now.rings place ≡ Some r → result ≡ true → 0 < length r.held }
+        ensures { (r : RingParts) → slice_get self.now.rings place ≡ Some r → IsTrue result ↔ (0 < length r.held) }
     {
         self.rings[place].len() > 0
     }

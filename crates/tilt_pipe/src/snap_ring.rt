@@ -27,15 +27,29 @@ impl Model for SnapRing {
     ghost invariant = { λ r. AreSnapshots r.ring.items };
 }
 
-// Makes the ring larger where it is full: to twice its size, but for no more than a few snapshots.
-fn make_room(ring: &mut HeapCircularBuffer<Snap>) -> Result<(), OutOfMemory>
-    ensures items { ring.new.items ≡ ring.old.items }
-    ensures room { OnOk result (length ring.new.items < ring.new.capacity) }
+// Adds a snapshot to a ring.
+#[inline]
+fn push_back(ring: &mut HeapCircularBuffer<Snap>, snap: Snap) -> Result<(), OutOfMemory>
+    ensures ok { OnOk result (ring.new.items ≡ ring.old.items ++ snap ∷ []) }
+    ensures err { OnErr result (ring.new.items ≡ ring.old.items) }
+{
+    match ring.try_push_back(snap) {
+        Ok(()) => Ok(()),
+        Err(snap) => push_grown(ring, snap),
+    }
+}
+
+// Adds a snapshot to a ring that is full, and is made larger for it: to twice its size, but for no more than a few snapshots.
+#[cold]
+#[inline(never)]
+fn push_grown(ring: &mut HeapCircularBuffer<Snap>, snap: Snap) -> Result<(), OutOfMemory>
+    requires { ring.old.capacity ≤ length ring.old.items }
+    ensures ok { OnOk result (ring.new.items ≡ ring.old.items ++ snap ∷ []) }
+    ensures err { OnErr result (ring.new.items ≡ ring.old.items) }
 {
     let capacity = ring.capacity();
-    if ring.is_full() {
-        ring.resize(capacity + capacity.max(4))?;
-    }
+    ring.resize(capacity + capacity.max(4))?;
+    ring.push_back(snap);
     Ok(())
 }
 
@@ -58,8 +72,7 @@ impl SnapRing {
         ensures err { OnErr result (self.new ≡ self.old) }
     {
         prove!(snap.start < snap.end);
-        make_room(&mut self.ring)?;
-        self.ring.push_back(snap);
+        push_back(&mut self.ring, snap)?;
         Ok(())
     }
 

@@ -1,42 +1,36 @@
 -- The first snapshot goes only where it isn't wanted, and stays only where a reader reads it.
 use Rattle.std.proofs.Common.{FitsSigned, w64, sym, subst, rules, arith}
 use Rattle.std.proofs.lemmas.Int.{to_z-of_z}
-use Rattle.tilt_pipe.proofs.Settled.{none-goes, none-settled, one-goes}
+use Rattle.tilt_pipe.proofs.Settled.{one-goes}
 use Rattle.tilt_pipe.proofs.Trimming.{IsReleased, alike-long, released, some-held, there-at}
 use Rattle.tilt_pipe.specs.Positions.{RingsParts}
 use Rattle.tilt_pipe.proofs.chain.Chain.drops_first.Goals as goal
 use Rattle.tilt_pipe.proofs.chain.Chain.drops_first.Goals.{After-let_first_go}
 
-pub returns-in_default-clause-lets : goal.returns-in_default-clause-lets
-returns-in_default-clause-lets c = none-goes c.args.self.now c.args.place c.loops.ensures.rings c.requires.may
-
-pub returns-in_default-clause-settled : goal.returns-in_default-clause-settled
-returns-in_default-clause-settled c = λ _. none-settled c.args.self.now c.args.place c.in_default.ensures
-
 pub reader_up_to-requires-clause-end : goal.reader_up_to-requires-clause-end
 reader_up_to-requires-clause-end c =
-    let fits : FitsSigned w64 c.in-Some.end = search rules in
-    rw (to_z-of_z w64 c.in-Some.end fits) (λ w r of at. (c.in-Some.ensures w r of at).0)
+    let fits : FitsSigned w64 c.args.end = search rules in
+    rw (to_z-of_z w64 c.args.end fits) (λ w r of at. (c.requires.«end» w r of at).0)
 
 pub let_first_go-requires : goal.let_first_go-requires
 let_first_go-requires c =
     let p = c.args.self.now.rings in
     let it = there-at p c.args.place c.loops.ensures.code c.loops.ensures.rings c.requires.there in
-    (it.ring, it.it.at, some-held p c.args.place it.work it.ring c.in-Some.end it.it c.in-Some.ensures)
+    (it.ring, it.it.at, some-held p c.args.place it.work it.ring c.args.end it.it c.requires.«end»)
 
 -- the rings after it
 after : (c : After-let_first_go) → IsReleased c.args.self.now.rings c.let_first_go.new.self c.args.place
 after c =
     let p = c.args.self.now.rings in
     let it = there-at p c.args.place c.loops.ensures.code c.loops.ensures.rings c.requires.there in
-    let fits : FitsSigned w64 c.in-Some.end = search rules in
-    let late = rw (to_z-of_z w64 c.in-Some.end fits) at c.in_default-reader_up_to.ensures in
+    let fits : FitsSigned w64 c.args.end = search rules in
+    let late = rw (to_z-of_z w64 c.args.end fits) at c.in_default.ensures in
     subst (λ (q : RingsParts). IsReleased p q c.args.place) (sym (c.let_first_go.ensures it.ring it.it.at))
-    (released p c.args.place it.work it.ring c.in-Some.end it.it c.in-Some.ensures late c.requires.may.wanted)
+    (released p c.args.place it.work it.ring c.args.end it.it c.requires.«end» late c.requires.may.wanted)
 
-pub is_first_held-requires : goal.is_first_held-requires
-is_first_held-requires c =
-    let a = after (goal.at.is_first_held-requires c).After-let_first_go in
+pub unheld_end-requires : goal.unheld_end-requires
+unheld_end-requires c =
+    let a = after (goal.at.unheld_end-requires c).After-let_first_go in
     let d = c.args.self.now in
     record {
       may = (one-goes d c.args.place c.let_first_go.new.self c.requires.may a).may;

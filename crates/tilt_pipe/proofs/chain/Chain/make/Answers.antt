@@ -1,12 +1,14 @@
 -- The turn is made over the whole buffers, and each ring lets go just what isn't wanted then.
 use Rattle.tilt_pipe.proofs.Wanting.{reader-behind}
-use Rattle.std.proofs.Common.{◌≡◌, ◌<◌, ◌∙◌, ℕ, length, sym, ap, subst, arith, rules, Some}
+use Rattle.std.proofs.Common.{◌≡◌, ◌<◌, ◌∙◌, ℕ, length, sym, ap, subst, arith, rules, FitsSigned, w64, Some}
+use Rattle.std.proofs.lemmas.Int.{to_z-of_z}
+use Rattle.tilt_stream.specs.Snap.{Snapshot}
 use Rattle.std.proofs.lemmas.List.{length-set}
 use Rattle.std.proofs.lemmas.Option.{slice_get_within}
 use Rattle.tilt_pipe.proofs.Making.{HasTurned, made-turn, may-turn, new-turns, held-after, turned-left}
 use Rattle.tilt_pipe.proofs.Points.{turned-points}
 use Rattle.tilt_pipe.proofs.RingsKept.{is-at}
-use Rattle.tilt_pipe.proofs.Trimming.{alike-long, exact-trimmed, turned, turned-starts, turned-wanted, unread-none, alike-both}
+use Rattle.tilt_pipe.proofs.Trimming.{alike-long, exact-trimmed, turned, turned-first, turned-starts, turned-wanted, unread-none, alike-both}
 use Rattle.tilt_pipe.proofs.Turning.{has-many}
 use Rattle.tilt_pipe.specs.Positions.{RingsParts, kept_ring, starts_of}
 use Rattle.tilt_pipe.specs.Chain.{ArePoints, point_at, MayLetGo}
@@ -111,10 +113,15 @@ trim_own-requires c =
       there = there (goal.at.trim_own-requires c).After-set_point;
       had = λ had x at.
           held-after d c.set_point.new.self place place c.requires.told.0 c.is_read-read.result m.ring c.in_ok-snap.snap m.turn n.1
-          c.set_point.ensures.holders c.requires.is x (λ _. c.holds-had.ensures m.ring m.turn.at had) (λ reader is.
+          c.set_point.ensures.holders c.requires.is x (λ _. (c.holds-had.ensures m.ring m.turn.at).0 (rw had search rules)) (λ reader is.
           let own = c.requires.is.holders.among place reader (rw c.set_point.ensures.holders at at ∙ ap Some is) in
           let behind = reader-behind d.rings place reader c.loops.ensures.code c.loops.ensures.rings own in
           omega (arith, behind)) at;
+      end = λ none.
+          let tells = c.holds-had.ensures m.ring m.turn.at in
+          let fits : FitsSigned w64 c.snap.inside.end = search rules in
+          rw (n.1, to_z-of_z w64 c.snap.inside.end fits, ap (λ (x : Snapshot). x.end) c.snap.view_is)
+          (turned-first d.rings place c.requires.told.0 c.is_read-read.result m.ring c.in_ok-snap.snap m.turn (grind (arith, none, tells)));
     }
 
 pub trim_held-requires : goal.trim_held-requires

@@ -1,8 +1,8 @@
 use Rattle.tilt_pipe.proofs.Settled.{none-goes}
 use Rattle.tilt_pipe.proofs.chain.Chain.trim.Goals as goal
 
-pub returns-then-is_first_held-clause-settles : goal.returns-then-is_first_held-clause-settles
-returns-then-is_first_held-clause-settles c = record {
+pub returns-in-None-clause-settles : goal.returns-in-None-clause-settles
+returns-in-None-clause-settles c = record {
   lets = none-goes c.args.self.now c.args.place c.loops.ensures.rings c.requires.may;
-  settled = c.is_first_held.ensures c.if-is_first_held.true;
+  settled = c.in-None.ensures;
 }
