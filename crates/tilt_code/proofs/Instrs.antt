@@ -20,7 +20,7 @@ use Rattle.tilt_base.specs.declared.operator.Op2.TheVariants as op2
 use Rattle.tilt_base.specs.declared.reducer.Reducer.{Reducer}
 use Rattle.tilt_base.specs.declared.reducer.Reducer.TheVariants as reducer
 use Rattle.tilt_base.proofs.Lists.{guard_some}
-use Rattle.tilt_lexer.proofs.Whole.{found_passes}
+use Rattle.tilt_lexer.proofs.Differ.{found_passes}
 use Rattle.tilt_text.specs.Step.{◌>>=◌}
 use Rattle.tilt_text.specs.Spelled.{shortest}
 use Rattle.tilt_text.proofs.Step.{bind_some}

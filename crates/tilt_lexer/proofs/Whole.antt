@@ -20,8 +20,6 @@ use Rattle.tilt_lexer.proofs.Fronts.{front_is_word, word_is_front, number_is_fro
 use Rattle.tilt_lexer.proofs.Reading.{front_some, tokens_from, faults_from}
 use Rattle.tilt_lexer.proofs.Signs.{sign_or_none}
 use Rattle.tilt_lexer.proofs.Texts.{sign_from_first}
--- passed on, for what cites it from here
-pub use Rattle.tilt_lexer.proofs.Differ.{found_passes}
 
 -- a text is that of a reserved word, or of none
 reserved_if : (text : List ℕ) (found : Option Key) → key_with text ≡ found → IsReserved text ⊎ (¬ (IsReserved text))

@@ -144,7 +144,7 @@ impl Chain {
     }
 
     // Says where the next turn lies of a loop that is used.
-    #[inline]
+    #[inline(always)]
     fn set_point(&mut self, place: usize)
         requires there { place < length self.old.rings.rings }
         requires kept { place < length self.old.points.items }
@@ -205,7 +205,7 @@ impl Chain {
     }
 
     // Where the first snapshot of a ring ends, unless who holds the ring reads it.
-    #[inline]
+    #[inline(always)]
     fn unheld_end(&self, place: usize) -> Option<i64>
         requires may { MayLetGo self.now }
         requires there { place < length self.now.rings.rings }
@@ -233,7 +233,7 @@ impl Chain {
 
     // Lets go what no next turn reads any more of the buffer of a loop whose turn was made. Where its ring held a snapshot before, that
     // one is read still, so that nothing goes; else the ring holds the new one alone, which ends at a tick, if it is read.
-    #[inline]
+    #[inline(always)]
     fn trim_own(&mut self, place: usize, had: bool, end: i64) -> Result<(), OutOfMemory>
         requires may { MayLetGo self.old }
         requires there { place < length self.old.rings.rings }
@@ -251,7 +251,7 @@ impl Chain {
     }
 
     // Lets go what no next turn reads any more of a loop's buffer. Mostly who held its ring does so still, and nothing goes.
-    #[inline]
+    #[inline(always)]
     fn trim(&mut self, place: usize) -> Result<(), OutOfMemory>
         requires may { MayLetGo self.old }
         requires there { place < length self.old.rings.rings }
@@ -306,7 +306,8 @@ impl Chain {
         Ok(self.unheld_end(place))
     }
 
-    // Says that a reader holds a ring, which is then in the list of its loop.
+    // Says that a reader holds a ring, which is then in the list of its loop. `release` seldom calls it, and is shorter with the call.
+    #[inline(never)]
     fn set_holder(&mut self, place: usize, reader: Reader) -> Result<(), OutOfMemory>
         requires may { MayLetGo self.old }
         requires there { place < length self.old.rings.rings }
@@ -338,7 +339,7 @@ impl Chain {
     }
 
     // The same of one of them, which the loop then holds still, or it isn't in the list.
-    #[inline]
+    #[inline(always)]
     fn trim_number(&mut self, place: usize, number: usize) -> Result<(), OutOfMemory>
         requires { AreLeft self.old place (number + 1) }
         ensures left { OnOk result (AreLeft self.new place number) }
@@ -365,7 +366,7 @@ fn add_ring(rings: &mut Vec<usize>, ring: usize) -> Result<(), OutOfMemory>
 }
 
 // The grid point of the next turn of a loop; none where it isn't at work: not used, or at the end of its stretch.
-#[inline]
+#[inline(always)]
 pub(crate) fn next_point(rings: &Rings, place: usize, used: bool) -> Option<i64>
     requires { place < length rings.now.rings }
     ensures { (w : Work) → slice_get (works_in rings.now) place ≡ Some w → w.used ≡ used → result ≡ point_at rings.now place w }

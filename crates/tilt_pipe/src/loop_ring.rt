@@ -121,7 +121,7 @@ impl LoopRing {
 
     // Goes on by a snapshot that starts where the last one ends: it is taken in where it is read, and else it is let go at once.
     // After want of memory all is as before.
-    #[inline]
+    #[inline(always)]
     pub(crate) fn keep(&mut self, snap: Snap, read: bool) -> Result<(), OutOfMemory>
         requires touches { ForSome (last_end self.old.held) (λ end. end ≡ snap.start) }
         requires low { neg_ℤ WIDE ≤ℤ snap.start }

@@ -130,7 +130,7 @@ impl Rings {
     }
 
     // The grid point of a loop's next turn.
-    #[inline]
+    #[inline(always)]
     pub(crate) fn point(&self, place: usize) -> i64
         requires { (w : Work) × IsOpen self.now place w }
         ensures { (w : Work) → IsOpen self.now place w → result ≡ turn_point w.loop (start_at self.now place) }
@@ -149,6 +149,7 @@ impl Rings {
 
     // Adds a snapshot to what a loop has made: the one of its buffer that starts where it stands. Where no later loop reads it, the
     // ring holds none, and takes none in.
+    #[inline(always)]
     pub(crate) fn keep(&mut self, place: usize, snap: Snap, read: bool) -> Result<(), OutOfMemory>
         requires next { (w : Work) × IsOpen self.old place w × (slice_get w.whole (length (made_at self.old place w)) ≡ Some snap) }
         requires none { read ≡ false → (r : RingParts) → slice_get self.old.rings place ≡ Some r → r.held ≡ [] }

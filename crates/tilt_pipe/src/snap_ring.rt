@@ -28,7 +28,7 @@ impl Model for SnapRing {
 }
 
 // Adds a snapshot to a ring.
-#[inline]
+#[inline(always)]
 fn push_back(ring: &mut HeapCircularBuffer<Snap>, snap: Snap) -> Result<(), OutOfMemory>
     ensures ok { OnOk result (ring.new.items ≡ ring.old.items ++ snap ∷ []) }
     ensures err { OnErr result (ring.new.items ≡ ring.old.items) }
@@ -64,6 +64,7 @@ impl SnapRing {
     }
 
     /// Adds a snapshot that starts where the last one ends. After want of memory the ring holds what it held.
+    #[inline(always)]
     pub fn push(&mut self, snap: Snap) -> Result<(), OutOfMemory>
         requires touches { ForSome (last_end self.old) (λ end. end ≡ snap.start) }
         requires low { neg_ℤ WIDE ≤ℤ snap.start }

@@ -1,10 +1,11 @@
 -- Rows within a stretch of ticks that fits the bounds.
-use Rattle.std.proofs.Common.{◌≡◌, ℕ, ℤ, ◌≤ℤ◌, ◌<ℤ◌, neg_ℤ, false, Option, None, Some, refl, sym, ap, ◌∙◌, arith}
+use Rattle.std.proofs.Common.{◌≡◌, ℕ, ℤ, ◌≤ℤ◌, ◌<ℤ◌, neg_ℤ, false, List, [], ◌∷◌, ◌++◌, Option, None, Some, refl, arith}
 use Rattle.std.proofs.lemmas.Int.{ints}
 use Rattle.std.specs.Option.{ForSome}
 use Rattle.tilt_base.specs.declared.limits.TheConstants.{T}
 use Rattle.tilt_stream.specs.Snap.{Snapshot}
-use Rattle.tilt_series.specs.Series.{Bounds, is_below, is_past, time_fault}
+use Rattle.tilt_stream.proofs.Order.{last_end-push}
+use Rattle.tilt_series.specs.Series.{Bounds, bounds_after, is_below, is_past, time_fault}
 use Rattle.tilt_series.specs.Stretch.{FitsBounds}
 
 -- a tick from `low` on isn't below a bound that isn't above `low`
@@ -34,15 +35,14 @@ pub at_low : (bound : Option ℤ) (low start : ℤ) → ForSome bound (λ tick. 
 at_low bound low start at h = λ tick is. let at_tick = at tick is in grind (arith, ints)
 
 -- after a row, the stretch begins at its end
-pub FitsBounds-row : (here : Bounds) (s : Snapshot) (last from upto : Option ℤ) (low high end : ℤ)
-    → ◌≡◌ {A = Bounds} (record { last_end = last; from = from; upto = upto }) here → end ≡ s.end → FitsBounds here low high
-    → neg_ℤ T ≤ℤ s.start → s.start <ℤ s.end → ForSome here.from (λ tick. tick ≤ℤ s.start)
-    → FitsBounds (record { last_end = Some end; from = from; upto = upto }) end high
-FitsBounds-row here s last from upto low high end view is fits first ticks at_from =
-    record {
+pub FitsBounds-row : (bounds : Bounds) (rows : List Snapshot) (s : Snapshot) (low high end : ℤ) → end ≡ s.end
+    → FitsBounds (bounds_after bounds rows) low high → neg_ℤ T ≤ℤ s.start → s.start <ℤ s.end → ForSome bounds.from (λ tick. tick ≤ℤ s.start)
+    → FitsBounds (bounds_after bounds (rows ++ s ∷ [])) end high
+FitsBounds-row bounds rows s low high end is fits first ticks at_from =
+    rw (last_end-push rows s) (record {
       first = grind (arith, ints);
       last = fits.last;
-      last_end = λ tick e. let same : end ≡ tick = cc in grind (arith, ints);
-      from = λ tick e. let below = at_from tick (sym (ap (λ (b : Bounds). b.from) view) ∙ e) in grind (arith, ints);
-      upto = λ tick e. fits.upto tick (sym (ap (λ (b : Bounds). b.upto) view) ∙ e);
-    }
+      last_end = λ tick e. let same : s.end ≡ tick = cc in grind (arith, ints);
+      from = λ tick e. let below = at_from tick e in grind (arith, ints);
+      upto = fits.upto;
+    })

@@ -2,12 +2,12 @@
 use Rattle.std.specs.Prelude.{◌≡◌, ℕ, ◌+◌, ℤ, neg_ℤ, Bool, false, not, ◌&&◌, int_lt, int_le, nat_eq, if◌then◌else◌}
 use Rattle.std.specs.Prelude.{List, [], ◌∷◌, ◌++◌, Option, Some, None, option_map, Result, Ok, Err, codes}
 use Rattle.std.specs.List.{starts_with}
-use Rattle.std.specs.Option.{ok_or}
+use Rattle.std.specs.Option.{ok_or, option_or}
 use Rattle.std.specs.Str.{bytes_eq}
 use Rattle.csv.specs.Reading.{default_config, records, strip_bom}
 use Rattle.tilt_base.specs.Number.{number_spelled}
 use Rattle.tilt_base.specs.declared.limits.TheConstants.{T}
-use Rattle.tilt_stream.specs.Snap.{Snapshot}
+use Rattle.tilt_stream.specs.Snap.{Snapshot, last_end}
 use Rattle.tilt_series.specs.declared.fault.SeriesFault.{SeriesFault}
 use Rattle.tilt_series.specs.declared.fault.SeriesFault.TheVariants.{BadHeader, BadFields, BadField, TimeRange, EmptyInterval}
 use Rattle.tilt_series.specs.declared.fault.SeriesFault.TheVariants.{OutOfOrder, RowBeforeCut, RowPastCut}
@@ -25,6 +25,10 @@ pub record Bounds : Type 0 where
   pub last_end : Option ℤ
   pub from : Option ℤ
   pub upto : Option ℤ
+
+-- the bounds of a row that stands after some rows
+abbrev pub bounds_after : Bounds → List Snapshot → Bounds
+bounds_after bounds rows = record bounds { last_end = option_or (last_end rows) bounds.last_end }
 
 -- whether the tick lies below the bound
 abbrev pub is_below : ℤ → Option ℤ → Bool

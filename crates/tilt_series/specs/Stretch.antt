@@ -4,7 +4,7 @@ use Rattle.std.specs.Option.{ForSome}
 use Rattle.tilt_base.specs.declared.limits.TheConstants.{T}
 use Rattle.tilt_series.specs.Series.{Bounds}
 
--- `low..high` lies in `-T..T`, and is not below a bound that no row starts below, nor above the bound that each row starts below
+-- `low` and `high` are times; `low` isn't below a bound that no row starts below, nor `high` above the bound that each row starts below
 pub record FitsBounds (bounds : Bounds) (low high : ℤ) : Type 0 where
   pub first : neg_ℤ T ≤ℤ low
   pub last : high ≤ℤ T

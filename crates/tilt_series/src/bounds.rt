@@ -3,11 +3,12 @@ ghost use Rattle.std.specs.Prelude.{◌≡◌, ◌≤ℤ◌, neg_ℤ};
 ghost use Rattle.std.specs.Bool.{OnFalse, OnTrue};
 ghost use Rattle.std.specs.Option.{ForSome};
 ghost use Rattle.tilt_base.specs.declared.limits.TheConstants.{T};
-ghost use Rattle.tilt_series.specs.Series.{is_below, is_past, is_time};
+ghost use Rattle.tilt_series.specs.Series.{bounds_after, is_below, is_past, is_time};
 ghost use Rattle.tilt_series.specs.Stretch.{FitsBounds};
 
 use std::marker::Model;
 use tilt_base::T;
+use tilt_stream::Rows;
 
 /// Where a row may start, each bound where it is given.
 #[derive(Clone, Copy)]
@@ -30,16 +31,26 @@ impl Model for Bounds {
     ghost inverse = { λ b. record { last_end = b.last_end; from = b.from; upto = b.upto } };
 }
 
-/// The ticks in `low..high`. A row that lies within has no fault of its times.
+impl Bounds {
+    /// The bounds of a row that stands after some rows.
+    pub(crate) fn after(&self, rows: &Rows) -> Bounds
+        ensures { result ≡ bounds_after self.now rows.now }
+    {
+        Bounds {
+            last_end: rows.last_end().or(self.last_end),
+            ..*self
+        }
+    }
+}
+
+/// Where a row has no fault of its times: one that doesn't start below `low`, and doesn't end above `high`.
 #[derive(Clone, Copy)]
 pub(crate) struct Stretch {
-    /// The first tick.
     pub(crate) low: i64,
-    /// The tick after the last one.
     pub(crate) high: i64,
 }
 
-/// The ticks that are free for rows by all bounds.
+/// Where the first row has no fault by any bound.
 pub(crate) fn free_stretch(bounds: &Bounds) -> Stretch
     ensures { FitsBounds bounds.now result.low result.high }
 {

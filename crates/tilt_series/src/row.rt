@@ -1,16 +1,16 @@
 // One record as a row.
-ghost use Rattle.std.specs.Prelude.{◌≡◌, ◌<ℤ◌, ◌≤ℤ◌, neg_ℤ, option_map, IfNone, IfOk};
+ghost use Rattle.std.specs.Prelude.{◌≡◌, ◌+◌, ◌<ℤ◌, ◌≤ℤ◌, neg_ℤ, length, option_map, IfNone, IfOk};
 ghost use Rattle.std.specs.Option.{ForSome};
 ghost use Rattle.csv.specs.Records.{fields_of};
 ghost use Rattle.tilt_base.specs.declared.limits.TheConstants.{T};
-ghost use Rattle.tilt_series.specs.Series.{is_header, row_of, fields_spelled, three_of, time_fault, value_spelled};
+ghost use Rattle.tilt_series.specs.Series.{bounds_after, is_header, row_of, fields_spelled, three_of, time_fault, value_spelled};
 ghost use Rattle.tilt_series.specs.Stretch.{FitsBounds};
 
 use crate::bounds::{Bounds, Stretch, is_below, is_past, is_time};
 use crate::fault::SeriesFault;
 use csv::ByteRecord;
 use tilt_base::{Cell, read_number};
-use tilt_stream::Row;
+use tilt_stream::{Row, Rows};
 
 /// Whether the fields are `start`, `end` and `value`.
 pub(crate) fn is_header(fields: &ByteRecord) -> bool
@@ -24,28 +24,29 @@ pub(crate) fn is_header(fields: &ByteRecord) -> bool
     }
 }
 
-/// The row of a record, or its first fault.
+/// The row of a record that stands after some rows, or its first fault.
 #[inline]
 pub(crate) fn read_row(
     fields: &ByteRecord,
-    row: u64,
     bounds: &Bounds,
+    rows: &Rows,
     free: Stretch,
 ) -> Result<Row, SeriesFault>
-    requires { FitsBounds bounds.now free.low free.high }
-    ensures read { result ≡ row_of bounds.now row (fields_of fields.now) }
+    requires { FitsBounds (bounds_after bounds.now rows.now) free.low free.high }
+    ensures read { result ≡ row_of (bounds_after bounds.now rows.now) (length rows.now + 1) (fields_of fields.now) }
     ensures low { IfOk result (λ s. neg_ℤ T ≤ℤ s.start) }
     ensures high { IfOk result (λ s. s.end ≤ℤ T) }
-    ensures behind { IfOk result (λ s. ForSome bounds.now.last_end (λ end. end ≤ℤ s.start)) }
+    ensures after { IfOk result (λ s. ForSome (bounds_after bounds.now rows.now).last_end (λ end. end ≤ℤ s.start)) }
     ensures cut { IfOk result (λ s. ForSome bounds.now.from (λ from. from ≤ℤ s.start)) }
 {
+    let row = rows.as_slice().len() as u64 + 1;
     let (start, end, value) = read_fields(fields, row)?;
     // Nearly every row passes this test, which looks at no bound that may be absent. A row that starts below `upto` and ends above
     // it has no fault either, and is looked at by each bound.
     if free.low <= start && start < end && end <= free.high {
         return Ok(Row { start, end, value });
     }
-    match time_fault(start, end, row, bounds) {
+    match time_fault(start, end, row, &bounds.after(rows)) {
         Some(fault) => Err(fault),
         None => Ok(Row { start, end, value }),
     }

@@ -61,17 +61,11 @@ fn read_behind_header(
     ensures { Gives result (rows_of bounds 1 (records_left reader.old)) }
 {
     let mut rows = Rows::with_capacity(alloc, room)?;
-    let mut here = bounds;
     let mut free = free_stretch(&bounds);
-    for row in 1..u64::MAX {
-        if !next_record(reader, fields)? {
-            return Ok(rows);
-        }
-        let read = read_row(fields, row, &here, free)?;
+    while next_record(reader, fields)? {
+        let read = read_row(fields, &bounds, &rows, free)?;
         rows.push(read)?;
-        here.last_end = Some(read.end);
         free.low = read.end;
     }
-    // No memory holds so many rows.
-    Err(ReadRowsFault::OutOfMemory)
+    Ok(rows)
 }

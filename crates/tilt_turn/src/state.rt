@@ -112,7 +112,7 @@ fn point_of(each: &Loop, start: i64) -> i64
 
 // The result of a body at the grid point of a reading, and its next mark: first the registers of the leaves have their cells there, and
 // then what is computed by them is computed.
-#[inline]
+#[inline(always)]
 fn body_seen<S: Buffers>(
     leaves: &mut [Placed],
     computed: &[Listed],
@@ -139,7 +139,7 @@ fn body_seen<S: Buffers>(
 
 // Makes the registers of the leaves those of the grid point of a reading, and gives the next mark of the body, which is the least of
 // theirs.
-#[inline]
+#[inline(always)]
 fn leaves_next<S: Buffers>(
     leaves: &mut [Placed],
     reading: &Reading<'_, '_, S>,

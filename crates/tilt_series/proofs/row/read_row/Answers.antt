@@ -1,5 +1,6 @@
-use Rattle.std.proofs.Common.{◌≡◌, arith, refl, rules, to_z, of_z, w64}
+use Rattle.std.proofs.Common.{◌≡◌, ◌+◌, length, arith, refl, rules, to_z, of_z, w64}
 use Rattle.std.proofs.lemmas.Int.{ints}
+use Rattle.tilt_series.specs.Series.{bounds_after}
 use Rattle.tilt_series.proofs.Stretch.{at_low, no_fault}
 use Rattle.tilt_series.proofs.row.read_row.Goals as goal
 
@@ -7,13 +8,14 @@ pub returns-then-end-free-clause-read : goal.returns-then-end-free-clause-read
 returns-then-end-free-clause-read c =
     let start : to_z w64 (of_z w64 c.in_ok-start.start) ≡ c.in_ok-start.start = search rules in
     let end : to_z w64 (of_z w64 c.in_ok-start.end) ≡ c.in_ok-start.end = search rules in
-    let at = no_fault c.args.bounds.now c.args.row c.args.free.low c.args.free.high c.in_ok-start.start c.in_ok-start.end in
+    let at = no_fault (bounds_after c.args.bounds.now c.args.rows.now) (length c.args.rows.now + 1) c.args.free.low c.args.free.high c.in_ok-start.start c.in_ok-start.end in
     let clear = at c.requires (grind (arith, ints)) (grind (arith, ints)) (grind (arith, ints)) in
-    rw (start, end, ← c.in_ok-start.ensures, clear) refl
+    let spelled = rw c.as_slice.ensures.rows at c.in_ok-start.ensures in
+    rw (start, end, ← spelled, clear) refl
 
-pub returns-then-end-free-clause-behind : goal.returns-then-end-free-clause-behind
-returns-then-end-free-clause-behind c =
-    at_low c.args.bounds.now.last_end c.args.free.low _ c.requires.last_end (grind (arith, ints))
+pub returns-then-end-free-clause-after : goal.returns-then-end-free-clause-after
+returns-then-end-free-clause-after c =
+    at_low _ c.args.free.low _ c.requires.last_end (grind (arith, ints))
 
 pub returns-then-end-free-clause-cut : goal.returns-then-end-free-clause-cut
 returns-then-end-free-clause-cut c =
