@@ -1,8 +1,8 @@
 // Texts of which each line is put before the next snapshot is made.
-ghost use Rattle.std.specs.Prelude.{◌≡◌, length, IfOk};
+ghost use Rattle.std.specs.Prelude.{◌≡◌, false, length, max, IfOk};
 ghost use Rattle.tilt_code.specs.Run.{run_of};
 ghost use Rattle.tilt_outside.specs.Written.{Puts};
-ghost use Rattle.tilt_pipe.specs.Rings.{most_ever};
+ghost use Rattle.tilt_pipe.specs.Rings.{held, most_ever};
 ghost use Rattle.tilt_pipe.specs.Value.{pipe_after};
 ghost use Rattle.tilt_printed.specs.Prints.{Prints};
 ghost use Rattle.tilt_printed.specs.Rings.{rings_line, rings_text};
@@ -57,9 +57,19 @@ fn put_lines<O: Sink>(out: &mut O, pipe: Pipe) -> Result<u128, Unput>
     let mut most = pipe.held();
     while let Some(snap) = pipe.next()? {
         put_snap(out, &snap)?;
-        most = most.max(pipe.held());
+        note_held(&mut most, &pipe);
     }
     Ok(most)
+}
+
+// Notes how many snapshots the rings of a pipe hold, if they are more than the most so far. It isn't inlined, so that a turn doesn't keep
+// that number in registers.
+#[inline(never)]
+fn note_held(most: &mut u128, pipe: &Pipe)
+    requires { pipe.now.refused ≡ false }
+    ensures { most.new ≡ max most.old (held pipe.now.rings) }
+{
+    *most = (*most).max(pipe.held());
 }
 
 // Puts the line `rings G`.

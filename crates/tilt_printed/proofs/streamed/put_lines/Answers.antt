@@ -1,4 +1,4 @@
-use Rattle.std.proofs.Common.{◌≡◌, ◌∙◌, ◌≤◌, ℕ, length, max, ap, subst, sym, arith}
+use Rattle.std.proofs.Common.{◌≡◌, ◌∙◌, ◌≤◌, ℕ, length, ap, subst, sym, arith}
 use Rattle.std.proofs.lemmas.Option.{slice_get_within}
 use Rattle.std.proofs.lemmas.Result.{err_from_is_err_and}
 use Rattle.tilt_printed.proofs.Streams.{line-failed, line-put, line-room, line-wanting, lines-none, lines-put, most-first, most-later, next-of, none-of, one-later, place-end}
@@ -48,7 +48,7 @@ loop-pipe-preserved g c =
     record {
       is = later.1;
       within = omega arith;
-      most = c.max-most.ensures ∙ ap (max c.loop-pipe.most) c.held.ensures
+      most = c.note_held.ensures
           ∙ most-later c.args.pipe.code c.args.pipe.inputs c.loop-pipe.pipe c.next.new.self c.loop-pipe.most i.most later;
       prints = line-put _ _ _ _ _ _ (run_of c.args.pipe.code c.args.pipe.inputs) c.loop-pipe.pipe.given i.prints c.in-Some.snap _ c.next.new.self.given later.0
           (next ∙ c.in-Some.is) c.in_ok-put_snap.ensures;
