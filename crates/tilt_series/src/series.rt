@@ -13,9 +13,9 @@ use tilt_stream::Rows;
 /// Two byte order marks, U+FEFF in UTF-8.
 const TWO_MARKS: &[u8] = b"\xEF\xBB\xBF\xEF\xBB\xBF";
 
-/// How many bytes of memory a row takes. Most rows are spelled by fewer, so that room for as many rows as fit into the bytes of the file is
-/// mostly filled.
-const ROW: usize = 32;
+/// By how many bytes of the file most rows are spelled at least, so that the room that is made for them at first is mostly enough. Room that
+/// no row comes into is never touched.
+const BYTES_A_ROW: usize = 16;
 
 /// The rows of a series file, or its first fault (`Refused`). The first record is the header `start,end,value`, and each other is a
 /// row. Records are those of the crate `csv`, which takes more than RFC 4180: fields parted by commas, fields in quotes,
@@ -45,7 +45,7 @@ pub fn read_rows(
         from,
         upto,
     };
-    let room = bytes.len() / ROW;
+    let room = bytes.len() / BYTES_A_ROW;
     read_behind_header(alloc, &mut reader, &mut fields, bounds, room)
 }
 
