@@ -9,9 +9,8 @@ use Rattle.tilt_lexer.specs.declared.fault.LexFault.{LexFault}
 use Rattle.tilt_lexer.specs.declared.token.Tok.{Tok}
 use Rattle.tilt_lexer.specs.declared.token.Token.{Token}
 use Rattle.tilt_lexer.specs.Front.{IsFront}
-use Rattle.tilt_lexer.specs.Next.{IsNext, here, after_blank}
-use Rattle.tilt_lexer.specs.Tokens.{is_blank, IsSound, AreTokens, nothing, blank, token, IsFaultyAt, behind_blank, behind_token}
-use Rattle.tilt_lexer.proofs.Sound.{sound_kind}
+use Rattle.tilt_lexer.specs.Next.{IsNext, here, after_blank, IsNextFault, no_token, too_big, past_blank}
+use Rattle.tilt_lexer.specs.Tokens.{is_blank, AreTokens, nothing, blank, token, IsFaultyAt, bad_byte, big_number, after_blank as faulty_after_blank, after_token}
 use Rattle.tilt_lexer.proofs.Texts.{token_first}
 
 -- laws of the next token
@@ -25,13 +24,14 @@ next_tokens (after_blank is next) more are = blank is (next_tokens next more are
 -- the fault after it is the fault
 pub next_faults : {at : ℕ} {bytes : List ℕ} {t : Token} {rest : List ℕ} → IsNext at bytes t rest → (f : LexFault)
     → IsFaultyAt t.end rest f → IsFaultyAt at bytes f
-next_faults (here begins within) f is = behind_token begins within is
-next_faults (after_blank is next) f faulty = behind_blank is (next_faults next f faulty)
+next_faults (here begins within) f is = after_token begins within is
+next_faults (after_blank is next) f faulty = faulty_after_blank is (next_faults next f faulty)
 
--- it is sound
-pub next_sound : {at : ℕ} {bytes : List ℕ} {t : Token} {rest : List ℕ} → IsNext at bytes t rest → IsSound t.kind
-next_sound (here {kind = kind} {text = text} begins within) = sound_kind kind text begins.is_text within
-next_sound (after_blank is next) = next_sound next
+-- where there is none, its fault is that of the bytes
+pub next_fault : {at : ℕ} {bytes : List ℕ} {f : LexFault} → IsNextFault at bytes f → IsFaultyAt at bytes f
+next_fault (no_token no_blank none) = bad_byte no_blank none
+next_fault (too_big big) = big_number big
+next_fault (past_blank is faulty) = faulty_after_blank is (next_fault faulty)
 
 -- it has some bytes, and the rest has the others
 pub record IsAhead (at : ℕ) (bytes : List ℕ) (end : ℕ) (rest : List ℕ) : Type 0 where
@@ -67,8 +67,8 @@ module _ (at : ℕ) (bytes : List ℕ) where
       over_blanks (λ m left. AreTokens m left []) (λ m b left is are. blank is are) at bytes
       (subst (λ left. AreTokens (at + prefix_len is_blank bytes) left []) (sym none) nothing)
 
-  pub faulty_past : (f : LexFault) → IsFaultyAt (at + prefix_len is_blank bytes) (drop (prefix_len is_blank bytes) bytes) f → IsFaultyAt at bytes f
-  faulty_past f = over_blanks (λ m left. IsFaultyAt m left f) (λ m b left is faulty. behind_blank is faulty) at bytes
+  pub faulty_past : (f : LexFault) → IsNextFault (at + prefix_len is_blank bytes) (drop (prefix_len is_blank bytes) bytes) f → IsNextFault at bytes f
+  faulty_past f = over_blanks (λ m left. IsNextFault m left f) (λ m b left is faulty. past_blank is faulty) at bytes
 
   -- the token at the beginning of what is left is the next
   pub front_next : (kind : Tok) (n : ℕ) → let blanks = prefix_len is_blank bytes in IsFront kind n (drop blanks bytes)
@@ -104,9 +104,9 @@ module _ (at : ℕ) (bytes : List ℕ) (blanks : ℕ) (count : blanks ≡ prefix
       let first : Starts (drop (at + blanks) bytes) = subst Starts past (first_no_blank (drop at bytes)) in
       first (omega (arith, length-drop (at + blanks) bytes))
 
-  pub fault_past : (f : LexFault) → IsFaultyAt (at + blanks) (drop (at + blanks) bytes) f → IsFaultyAt at (drop at bytes) f
+  pub fault_past : (f : LexFault) → IsNextFault (at + blanks) (drop (at + blanks) bytes) f → IsNextFault at (drop at bytes) f
   fault_past f is =
-      let At : ℕ → List ℕ → Type 0 = λ n left. IsFaultyAt (at + n) left f in
+      let At : ℕ → List ℕ → Type 0 = λ n left. IsNextFault (at + n) left f in
       faulty_past at (drop at bytes) f (subst (λ n. At n (drop (prefix_len is_blank (drop at bytes)) (drop at bytes))) count (subst (At blanks) (sym past) is))
 
   pub token_past : (kind : Tok) (n : ℕ) → IsFront kind n (drop (at + blanks) bytes)

@@ -7,7 +7,7 @@ use Rattle.tilt_lexer.specs.declared.fault.LexFault.TheVariants as fault
 use Rattle.tilt_lexer.specs.declared.token.Tok.{Tok}
 use Rattle.tilt_lexer.specs.declared.token.Token.{Token}
 use Rattle.tilt_lexer.specs.Front.{IsFront}
-use Rattle.tilt_lexer.specs.Tokens.{is_blank, AreTokens, nothing, blank, token, IsFaultyAt, behind_blank, behind_token}
+use Rattle.tilt_lexer.specs.Tokens.{is_blank, AreTokens, nothing, blank, token, IsFaultyAt, after_blank, after_token}
 use Rattle.tilt_lexer.proofs.Texts.{token_first}
 use Rattle.tilt_lexer.proofs.Unique.{tokens_or_fault, same_fault}
 
@@ -32,7 +32,7 @@ module _ (at n : ℕ) (kind : Tok) (bytes after : List ℕ) (front : IsFront kin
   pub faults_from : (f : LexFault) → IsFaultyAt (at + n) after f → IsFaultyAt at bytes f
   faults_from f =
       let At : ℕ → List ℕ → Type 0 = λ m rest. IsFaultyAt (at + m) rest f → IsFaultyAt at bytes f in
-      subst (λ m. At m after) (length-take-le n bytes front.fits) (subst (At (length (take n bytes))) behind (λ is. behind_token front.begins front.within is))
+      subst (λ m. At m after) (length-take-le n bytes front.fits) (subst (At (length (take n bytes))) behind (λ is. after_token front.begins front.within is))
 
 module _ (bytes : List ℕ) where
   pub before_blank : (at : ℕ) (tokens : List Token) → TokensBefore bytes at tokens → at < length bytes → IsTrue (is_blank (get_or bytes at 0)) → TokensBefore bytes (at + 1) tokens
@@ -41,7 +41,7 @@ module _ (bytes : List ℕ) where
       record {
         within = omega arith;
         go_on = λ more are. before.go_on more (subst (λ l. AreTokens at l more) (sym step) (blank is are));
-        faults = λ f faulty. before.faults f (subst (λ l. IsFaultyAt at l f) (sym step) (behind_blank is faulty));
+        faults = λ f faulty. before.faults f (subst (λ l. IsFaultyAt at l f) (sym step) (after_blank is faulty));
       }
 
   pub before_token : (at n : ℕ) (kind : Tok) (tokens next : List Token) → TokensBefore bytes at tokens → IsFront kind n (drop at bytes)

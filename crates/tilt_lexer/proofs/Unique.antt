@@ -11,7 +11,7 @@ use Rattle.tilt_lexer.specs.declared.token.Tok.{Tok}
 use Rattle.tilt_lexer.specs.declared.token.Tok.TheVariants as tok
 use Rattle.tilt_lexer.specs.declared.token.Token.{Token}
 use Rattle.tilt_lexer.specs.Tokens.{is_blank, mark_text, IsDigits, IsTextOf, Begins, BeginsBig, IsWithin}
-use Rattle.tilt_lexer.specs.Tokens.{AreTokens, nothing, blank, token, IsFaultyAt, bad_byte, big_number, behind_blank, behind_token}
+use Rattle.tilt_lexer.specs.Tokens.{AreTokens, nothing, blank, token, IsFaultyAt, bad_byte, big_number, after_blank, after_token}
 use Rattle.tilt_lexer.specs.Word.{is_word, IsWord, begins_word}
 use Rattle.tilt_lexer.proofs.Differ.{same_key, same_sign}
 use Rattle.tilt_lexer.proofs.Texts.{digit_no_word, word_first, digits_first, sign_first, key_is_word, token_first, first_same}
@@ -101,35 +101,35 @@ same_tokens (token {kind = k} {bytes = bytes} {text = text} {rest = rest} b v r)
 pub tokens_or_fault : {at at' : ℕ} {bytes bytes' : List ℕ} {ts : List Token} {f : LexFault} → AreTokens at bytes ts → IsFaultyAt at' bytes' f → bytes ≡ bytes' → ⊥
 tokens_or_fault nothing (bad_byte q n) e = cc
 tokens_or_fault nothing (big_number {bytes = bytes'} big) e = no_begin (tok.Number big.number) bytes' big.text big.rest e big.begins
-tokens_or_fault nothing (behind_blank q f) e = cc
-tokens_or_fault nothing (behind_token {kind = j} {bytes = bytes'} {text = other} {rest = others} c w f) e = no_begin j bytes' other others e c
+tokens_or_fault nothing (after_blank q f) e = cc
+tokens_or_fault nothing (after_token {kind = j} {bytes = bytes'} {text = other} {rest = others} c w f) e = no_begin j bytes' other others e c
 tokens_or_fault (blank {b = x} p b) (bad_byte {b = y} q n) e = let heads : x ≡ y = cc in both_ways (is_blank y) q (ap is_blank (sym heads) ∙ p)
 tokens_or_fault (blank {b = x} {bytes = bs} p b) (big_number {bytes = bytes'} big) e = no_blank_begin (tok.Number big.number) x bs bytes' big.text big.rest p e big.begins
-tokens_or_fault (blank {bytes = bs} p b) (behind_blank {bytes = cs} q f) e = let tails : bs ≡ cs = cc in tokens_or_fault b f tails
-tokens_or_fault (blank {b = x} {bytes = bs} p b) (behind_token {kind = j} {bytes = bytes'} {text = other} {rest = others} c w f) e = no_blank_begin j x bs bytes' other others p e c
+tokens_or_fault (blank {bytes = bs} p b) (after_blank {bytes = cs} q f) e = let tails : bs ≡ cs = cc in tokens_or_fault b f tails
+tokens_or_fault (blank {b = x} {bytes = bs} p b) (after_token {kind = j} {bytes = bytes'} {text = other} {rest = others} c w f) e = no_blank_begin j x bs bytes' other others p e c
 tokens_or_fault (token {kind = k} {text = text} {rest = rest} b v r) (bad_byte q n) e = n text rest (sym e ∙ b.whole) (k, b.is_text)
 tokens_or_fault (token {kind = k} {bytes = bytes} {text = text} {rest = rest} b v r) (big_number {bytes = bytes'} big) e = no_big k bytes bytes' text rest e b v big
-tokens_or_fault (token {kind = k} {bytes = bytes} {text = text} {rest = rest} b v r) (behind_blank {b = y} {bytes = cs} q f) e = no_blank_begin k y cs bytes text rest q (sym e) b
-tokens_or_fault (token {kind = k} {bytes = bytes} {text = text} {rest = rest} b v r) (behind_token {kind = j} {bytes = bytes'} {text = other} {rest = others} c w f) e =
+tokens_or_fault (token {kind = k} {bytes = bytes} {text = text} {rest = rest} b v r) (after_blank {b = y} {bytes = cs} q f) e = no_blank_begin k y cs bytes text rest q (sym e) b
+tokens_or_fault (token {kind = k} {bytes = bytes} {text = text} {rest = rest} b v r) (after_token {kind = j} {bytes = bytes'} {text = other} {rest = others} c w f) e =
     tokens_or_fault r f (same_begin k j bytes bytes' text other rest others e b c).rests
 
 -- and those that have a fault have no other
 pub same_fault : {at at' : ℕ} {bytes bytes' : List ℕ} {f g : LexFault} → IsFaultyAt at bytes f → IsFaultyAt at' bytes' g → at ≡ at' → bytes ≡ bytes' → f ≡ g
 same_fault (bad_byte p m) (bad_byte q n) a e = ap fault.BadByte a
 same_fault (bad_byte p m) (big_number big) a e = absurd (m big.text big.rest (e ∙ big.begins.whole) (tok.Number big.number, big.begins.is_text))
-same_fault (bad_byte {b = x} p m) (behind_blank {b = y} q g) a e = let heads : x ≡ y = cc in absurd (both_ways (is_blank x) p (ap is_blank heads ∙ q))
-same_fault (bad_byte p m) (behind_token {kind = j} {text = other} {rest = others} c w g) a e = absurd (m other others (e ∙ c.whole) (j, c.is_text))
+same_fault (bad_byte {b = x} p m) (after_blank {b = y} q g) a e = let heads : x ≡ y = cc in absurd (both_ways (is_blank x) p (ap is_blank heads ∙ q))
+same_fault (bad_byte p m) (after_token {kind = j} {text = other} {rest = others} c w g) a e = absurd (m other others (e ∙ c.whole) (j, c.is_text))
 same_fault (big_number big) (bad_byte q n) a e = absurd (n big.text big.rest (sym e ∙ big.begins.whole) (tok.Number big.number, big.begins.is_text))
 same_fault (big_number big) (big_number other) a e = ap fault.BigNumber a
-same_fault (big_number {bytes = bytes} big) (behind_blank {b = y} {bytes = cs} q g) a e = absurd (no_blank_begin (tok.Number big.number) y cs bytes big.text big.rest q (sym e) big.begins)
-same_fault (big_number {bytes = bytes} big) (behind_token {kind = j} {bytes = bytes'} {text = other} {rest = others} c w g) a e = absurd (no_big j bytes' bytes other others (sym e) c w big)
-same_fault (behind_blank {b = x} p f) (bad_byte {b = y} q n) a e = let heads : x ≡ y = cc in absurd (both_ways (is_blank y) q (ap is_blank (sym heads) ∙ p))
-same_fault (behind_blank {b = x} {bytes = bs} p f) (big_number {bytes = bytes'} big) a e = absurd (no_blank_begin (tok.Number big.number) x bs bytes' big.text big.rest p e big.begins)
-same_fault (behind_blank {bytes = bs} p f) (behind_blank {bytes = cs} q g) a e = let tails : bs ≡ cs = cc in same_fault f g (ap (λ n. n + 1) a) tails
-same_fault (behind_blank {b = x} {bytes = bs} p f) (behind_token {kind = j} {bytes = bytes'} {text = other} {rest = others} c w g) a e = absurd (no_blank_begin j x bs bytes' other others p e c)
-same_fault (behind_token {kind = k} {text = text} {rest = rest} b v f) (bad_byte q n) a e = absurd (n text rest (sym e ∙ b.whole) (k, b.is_text))
-same_fault (behind_token {kind = k} {bytes = bytes} {text = text} {rest = rest} b v f) (big_number {bytes = bytes'} big) a e = absurd (no_big k bytes bytes' text rest e b v big)
-same_fault (behind_token {kind = k} {bytes = bytes} {text = text} {rest = rest} b v f) (behind_blank {b = y} {bytes = cs} q g) a e = absurd (no_blank_begin k y cs bytes text rest q (sym e) b)
-same_fault (behind_token {kind = k} {bytes = bytes} {text = text} {rest = rest} b v f) (behind_token {kind = j} {bytes = bytes'} {text = other} {rest = others} c w g) a e =
+same_fault (big_number {bytes = bytes} big) (after_blank {b = y} {bytes = cs} q g) a e = absurd (no_blank_begin (tok.Number big.number) y cs bytes big.text big.rest q (sym e) big.begins)
+same_fault (big_number {bytes = bytes} big) (after_token {kind = j} {bytes = bytes'} {text = other} {rest = others} c w g) a e = absurd (no_big j bytes' bytes other others (sym e) c w big)
+same_fault (after_blank {b = x} p f) (bad_byte {b = y} q n) a e = let heads : x ≡ y = cc in absurd (both_ways (is_blank y) q (ap is_blank (sym heads) ∙ p))
+same_fault (after_blank {b = x} {bytes = bs} p f) (big_number {bytes = bytes'} big) a e = absurd (no_blank_begin (tok.Number big.number) x bs bytes' big.text big.rest p e big.begins)
+same_fault (after_blank {bytes = bs} p f) (after_blank {bytes = cs} q g) a e = let tails : bs ≡ cs = cc in same_fault f g (ap (λ n. n + 1) a) tails
+same_fault (after_blank {b = x} {bytes = bs} p f) (after_token {kind = j} {bytes = bytes'} {text = other} {rest = others} c w g) a e = absurd (no_blank_begin j x bs bytes' other others p e c)
+same_fault (after_token {kind = k} {text = text} {rest = rest} b v f) (bad_byte q n) a e = absurd (n text rest (sym e ∙ b.whole) (k, b.is_text))
+same_fault (after_token {kind = k} {bytes = bytes} {text = text} {rest = rest} b v f) (big_number {bytes = bytes'} big) a e = absurd (no_big k bytes bytes' text rest e b v big)
+same_fault (after_token {kind = k} {bytes = bytes} {text = text} {rest = rest} b v f) (after_blank {b = y} {bytes = cs} q g) a e = absurd (no_blank_begin k y cs bytes text rest q (sym e) b)
+same_fault (after_token {kind = k} {bytes = bytes} {text = text} {rest = rest} b v f) (after_token {kind = j} {bytes = bytes'} {text = other} {rest = others} c w g) a e =
     let same = same_begin k j bytes bytes' text other rest others e b c in
     same_fault f g (λ i. a i + length (same.texts i)) same.rests

@@ -13,7 +13,7 @@ use Rattle.tilt_lexer.specs.declared.token.Tok.{Tok}
 use Rattle.tilt_lexer.specs.declared.token.Tok.TheVariants as tok
 use Rattle.tilt_lexer.specs.declared.token.Token.{Token}
 use Rattle.tilt_lexer.specs.Front.{IsFront}
-use Rattle.tilt_lexer.specs.Tokens.{is_blank, mark_text, AreTokens, nothing, blank, IsFaultyAt, bad_byte, big_number, behind_blank}
+use Rattle.tilt_lexer.specs.Tokens.{is_blank, mark_text, AreTokens, nothing, blank, IsFaultyAt, bad_byte, big_number, after_blank}
 use Rattle.tilt_lexer.specs.Word.{begins_word, goes_on_word, IsReserved}
 use Rattle.tilt_lexer.proofs.Differ.{key_with, key_found, no_key_found}
 use Rattle.tilt_lexer.proofs.Fronts.{front_is_word, word_is_front, number_is_front, number_is_big, sign_is_front}
@@ -76,7 +76,7 @@ Reads at bytes = ((tokens : List Token) × AreTokens at bytes tokens) ⊎ ((f : 
 
 after_a_blank : (at b : ℕ) (bytes : List ℕ) → IsTrue (is_blank b) → Reads (at + 1) bytes → Reads at (b ∷ bytes)
 after_a_blank at b bytes is (inl rest) = inl (rest.0, blank is rest.1)
-after_a_blank at b bytes is (inr rest) = inr (rest.0, behind_blank is rest.1)
+after_a_blank at b bytes is (inr rest) = inr (rest.0, after_blank is rest.1)
 
 after_a_token : (at n : ℕ) (kind : Tok) (bytes : List ℕ) → IsFront kind n bytes → Reads (at + n) (drop n bytes) → Reads at bytes
 after_a_token at n kind bytes front (inl rest) =

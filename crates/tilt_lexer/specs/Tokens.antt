@@ -110,8 +110,8 @@ pub data IsFaultyAt : ℕ → List ℕ → LexFault → Type 0 where
   -- the longest token there has a number above the greatest
   big_number : {at : ℕ} {bytes : List ℕ} → BeginsBig bytes → IsFaultyAt at bytes (fault.BigNumber at)
   -- a blank, and the place is after it
-  behind_blank : {at b : ℕ} {bytes : List ℕ} {f : LexFault} → IsTrue (is_blank b) → IsFaultyAt (at + 1) bytes f
+  after_blank : {at b : ℕ} {bytes : List ℕ} {f : LexFault} → IsTrue (is_blank b) → IsFaultyAt (at + 1) bytes f
       → IsFaultyAt at (b ∷ bytes) f
   -- the longest token, and the place is after it
-  behind_token : {at : ℕ} {kind : Tok} {bytes text rest : List ℕ} {f : LexFault}
+  after_token : {at : ℕ} {kind : Tok} {bytes text rest : List ℕ} {f : LexFault}
       → Begins kind bytes text rest → IsWithin kind → IsFaultyAt (at + length text) rest f → IsFaultyAt at bytes f

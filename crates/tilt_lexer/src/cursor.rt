@@ -1,8 +1,8 @@
 // The next token of a text.
 ghost use Rattle.std.specs.Prelude.{◌≡◌, ◌≢◌, ◌≤◌, [], length, drop, IfOk, IfErr, MatchOption};
 ghost use Rattle.std.specs.List.{prefix_len};
-ghost use Rattle.tilt_lexer.specs.Next.{IsNext};
-ghost use Rattle.tilt_lexer.specs.Tokens.{is_blank, AreTokens, IsFaultyAt};
+ghost use Rattle.tilt_lexer.specs.Next.{IsNext, IsNextFault};
+ghost use Rattle.tilt_lexer.specs.Tokens.{is_blank, AreTokens};
 ghost use Rattle.tilt_lexer.specs.declared.fault.LexFault.{LexFault};
 
 use crate::fault::LexFault;
@@ -19,7 +19,7 @@ pub fn next_token(alloc: Global, bytes: &[u8], at: usize) -> Result<Option<Token
     ensures next { IfOk result (λ found. MatchOption found
         (AreTokens at (drop at bytes.now) [])
         (λ token. IsNext at (drop at bytes.now) token (drop token.end bytes.now))) }
-    ensures faulty { IfErr result (λ fault. fault ≢ LexFault.OutOfMemory → IsFaultyAt at (drop at bytes.now) fault) }
+    ensures faulty { IfErr result (λ fault. fault ≢ LexFault.OutOfMemory → IsNextFault at (drop at bytes.now) fault) }
 {
     let start = at + blanks_length(&bytes[at..]);
     if start == bytes.len() {

@@ -1,9 +1,10 @@
 // The longest token at the beginning of bytes.
-ghost use Rattle.std.specs.Prelude.{◌≡◌, ◌≢◌, ◌<◌, length, slice_index, IfOk, IfErr, IsTrue, MatchOption};
+ghost use Rattle.std.specs.Prelude.{◌≢◌, ◌<◌, length, slice_index, IfOk, IfErr, IsTrue, MatchOption};
 ghost use Rattle.std.specs.Bool.{IsFalse};
 ghost use Rattle.std.specs.Char.{is_ascii_digit};
 ghost use Rattle.tilt_lexer.specs.Front.{IsFront};
-ghost use Rattle.tilt_lexer.specs.Tokens.{is_blank, BeginsBig, BeginsNone, IsFaultyAt};
+ghost use Rattle.tilt_lexer.specs.Next.{IsNextFault};
+ghost use Rattle.tilt_lexer.specs.Tokens.{is_blank, BeginsBig, BeginsNone};
 ghost use Rattle.tilt_lexer.specs.Word.{begins_word};
 
 use crate::fault::LexFault;
@@ -20,7 +21,7 @@ pub(crate) fn front_token(alloc: Global, bytes: &[u8], at: u64) -> Result<(Tok, 
     requires some { 0 < length bytes.now }
     requires no_blank { IsFalse (is_blank (slice_index bytes.now 0)) }
     ensures ok { IfOk result (λ found. IsFront found.0 found.1 bytes.now) }
-    ensures err { IfErr result (λ fault. fault ≢ LexFault.OutOfMemory → IsFaultyAt at bytes.now fault) }
+    ensures err { IfErr result (λ fault. fault ≢ LexFault.OutOfMemory → IsNextFault at bytes.now fault) }
 {
     if begins_word(bytes[0]) {
         Ok(front_word(alloc, bytes)?)

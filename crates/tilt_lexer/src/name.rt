@@ -1,5 +1,5 @@
 // Names, and what a word is.
-ghost use Rattle.std.specs.Prelude.{◌≡◌, IfOk, MatchOption, IsTrue};
+ghost use Rattle.std.specs.Prelude.{◌≡◌, IfOk, MatchOption};
 ghost use Rattle.std.specs.List.{list_all, prefix_len};
 ghost use Rattle.tilt_lexer.specs.Word.{begins_word, goes_on_word, is_word, IsWord};
 

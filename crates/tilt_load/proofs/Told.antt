@@ -2,7 +2,7 @@
 use Rattle.std.proofs.Common.{◌≡◌, ◌+◌, ℕ, List, Result, Err, refl}
 use Rattle.tilt_bounds.specs.Margins.{MarginsParts}
 use Rattle.tilt_core.specs.Needs.{Need}
-use Rattle.tilt_lexer.specs.Tokens.{IsFaultyAt, bad_byte, big_number, behind_blank, behind_token}
+use Rattle.tilt_lexer.specs.Tokens.{IsFaultyAt, bad_byte, big_number, after_blank, after_token}
 use Rattle.tilt_lexer.specs.declared.fault.LexFault.{LexFault}
 use Rattle.tilt_lexer.specs.declared.token.Tok.{Tok}
 use Rattle.tilt_report.specs.Report.{Reason, Report, refusal, report_of_place, report_of_syntax, report_of_check}
@@ -30,8 +30,8 @@ same_far e = cc
 pub place_told : (at : ℕ) (bytes : List ℕ) (f : LexFault) → IsFaultyAt at bytes f → IsRefusal (report_of_place f)
 place_told at bytes f (bad_byte other none) = (_, refl)
 place_told at bytes f (big_number big) = (_, refl)
-place_told at bytes f (behind_blank {b = b} {bytes = rest} is h) = place_told (at + 1) rest f h
-place_told at bytes f (behind_token {text = text} {rest = rest} begins within h) = place_told _ rest f h
+place_told at bytes f (after_blank {b = b} {bytes = rest} is h) = place_told (at + 1) rest f h
+place_told at bytes f (after_token {text = text} {rest = rest} begins within h) = place_told _ rest f h
 
 -- what tokens are refused for
 fault_told : (n : ℕ) (ts : List Tok) (behind : List (List Tok)) (f : SyntaxFault) → HasFault n ts behind f → IsRefusal (report_of_syntax f)

@@ -1,6 +1,7 @@
 use Rattle.std.proofs.Common.{refl, sym, add-zero, get_or-drop, arith}
 use Rattle.std.proofs.lemmas.List.{take_rest}
 use Rattle.std.proofs.lemmas.Result.{err_from_is_err_and}
+use Rattle.tilt_lexer.proofs.Next.{next_fault}
 use Rattle.tilt_lexer.proofs.Reading.{front_some, before_blank, before_token, tokens_all, refused_tokens, refused_first}
 use Rattle.tilt_lexer.proofs.Sound.{sound}
 use Rattle.tilt_lexer.proofs.Unique.{same_tokens, tokens_or_fault}
@@ -24,17 +25,23 @@ loop-at-smaller c =
     let front = rw (take_rest bytes c.loop-at.at) at c.in_ok-kind.ensures.ok in
     omega (arith, c.loop-at-test.true, front_some c.in_ok-kind.kind c.in_ok-kind.length _ front)
 
+pub returns-in_err-kind-clause-faulty : goal.returns-in_err-kind-clause-faulty
+returns-in_err-kind-clause-faulty c =
+    let p = err_from_is_err_and c.from_residual.result c.from_residual.ensures.1 in
+    let known = rw (take_rest c.args.bytes.now c.loop-at.at) at c.in_err-kind.ensures.err in
+    rw (p.1, p.2) (λ other. c.loop-at.invariant.faults _ (next_fault (known other)))
+
 pub returns-in_err-kind-clause-only : goal.returns-in_err-kind-clause-only
 returns-in_err-kind-clause-only c = λ tokens are.
     let p = err_from_is_err_and c.from_residual.result c.from_residual.ensures.1 in
     let known = rw (take_rest c.args.bytes.now c.loop-at.at) at c.in_err-kind.ensures.err in
-    rw (p.1, p.2) (refused_tokens c.args.bytes.now _ (λ other. c.loop-at.invariant.faults _ (known other)) tokens are)
+    rw (p.1, p.2) (refused_tokens c.args.bytes.now _ (λ other. c.loop-at.invariant.faults _ (next_fault (known other))) tokens are)
 
 pub returns-in_err-kind-clause-first : goal.returns-in_err-kind-clause-first
 returns-in_err-kind-clause-first c = λ first is_first.
     let p = err_from_is_err_and c.from_residual.result c.from_residual.ensures.1 in
     let known = rw (take_rest c.args.bytes.now c.loop-at.at) at c.in_err-kind.ensures.err in
-    rw (p.1, p.2) (refused_first c.args.bytes.now _ (λ other. c.loop-at.invariant.faults _ (known other)) first is_first)
+    rw (p.1, p.2) (refused_first c.args.bytes.now _ (λ other. c.loop-at.invariant.faults _ (next_fault (known other))) first is_first)
 
 pub returns-clause-tokens : goal.returns-clause-tokens
 returns-clause-tokens c =
