@@ -1,5 +1,5 @@
 // One step of a pipeline, read.
-ghost use Rattle.std.specs.Prelude.{◌≡◌, ◌≤◌, ◌<◌, List, ℕ, codes, length, IfOk, MatchOption};
+ghost use Rattle.std.specs.Prelude.{◌≤◌, ◌<◌, List, ℕ, codes, length, IfOk, MatchOption};
 ghost use Rattle.tilt_base.specs.declared.span.Span.{Span};
 ghost use Rattle.tilt_operators.specs.Flow.{StepTree, step_tree};
 ghost use Rattle.tilt_operators.specs.Parts.{FindsStep};
@@ -14,7 +14,7 @@ use crate::step::Step;
 use std::alloc::{AllocError as OutOfMemory, Global};
 use tilt_base::Span;
 use tilt_lexer::{Key, Name, Token};
-use tilt_syntax::{behind_key, front_name, front_number, is_end};
+use tilt_syntax::{after_key, first_name, first_number, is_end};
 use tilt_types::is_stretch;
 
 // The name of the input that the first step reads, where the tokens are such a step.
@@ -24,10 +24,10 @@ pub(crate) fn read_first(tokens: &[Token]) -> Result<Option<Name>, OutOfMemory>
         ((name : List ℕ) → ¬ (IsFirst (kinds tokens.now) name))
         (λ name. IsFirst (kinds tokens.now) name)) }
 {
-    let Some(named) = behind_key(tokens, Key::From) else {
+    let Some(named) = after_key(tokens, Key::From) else {
         return Ok(None);
     };
-    let Some((name, end)) = front_name(named) else {
+    let Some((name, end)) = first_name(named) else {
         return Ok(None);
     };
     if !is_end(end) {
@@ -47,8 +47,8 @@ pub(crate) fn read_last(tokens: &[Token]) -> Option<Span>
         ((domain : Span) → ¬ (IsLast (kinds tokens.now) domain))
         (λ domain. IsLast (kinds tokens.now) domain) }
 {
-    let over = behind_key(tokens, Key::Emit)?;
-    let bounds = behind_key(over, Key::Over)?;
+    let over = after_key(tokens, Key::Emit)?;
+    let bounds = after_key(over, Key::Over)?;
     let domain = inside_span(bounds)?;
     if is_stretch(domain) {
         Some(domain)
@@ -65,7 +65,7 @@ pub(crate) fn read_step(alloc: Global, tokens: &[Token]) -> Result<Option<Step>,
         ((s : StepTree) → ¬ (IsStep (kinds tokens.now) s))
         (λ s. IsStep (kinds tokens.now) (step_tree s))) }
 {
-    let Some((word, behind)) = front_name(tokens) else {
+    let Some((word, behind)) = first_name(tokens) else {
         return Ok(None);
     };
     let Some(inside) = before_end(behind) else {
@@ -135,7 +135,7 @@ fn read_window(inside: &[Token]) -> Option<Step>
     ensures { FindsStep (codes "window") (kinds inside.now) result }
 {
     let (reducer, behind) = front_reducer(inside)?;
-    let (width, end) = front_number(behind)?;
+    let (width, end) = first_number(behind)?;
     if end.is_empty() && width >= 1 && is_of_numbers(reducer) {
         Some(Step::Window { reducer, width })
     } else {
@@ -149,7 +149,7 @@ fn read_join(alloc: Global, inside: &[Token]) -> Result<Option<Step>, OutOfMemor
     requires few { length (kinds inside.now) ≤ 256 }
     ensures { IfOk result (λ found. FindsStep (codes "join") (kinds inside.now) found) }
 {
-    let Some((name, behind)) = front_name(inside) else {
+    let Some((name, behind)) = first_name(inside) else {
         return Ok(None);
     };
     if is_kept_back(name) {

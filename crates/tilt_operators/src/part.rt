@@ -10,7 +10,7 @@ ghost use Rattle.tilt_syntax.specs.Query.{kinds, AreSound};
 
 use tilt_base::{Reducer, Span};
 use tilt_lexer::{Mark, Name, Tok, Token};
-use tilt_syntax::{behind_mark, front_number, is_end, is_mark, reducer_of};
+use tilt_syntax::{after_mark, first_number, is_end, is_mark, reducer_of};
 
 // What stands before the `;`, where the tokens end with it.
 pub(crate) fn before_end(tokens: &[Token]) -> Option<&[Token]>
@@ -34,11 +34,11 @@ pub(crate) fn front_bound(tokens: &[Token]) -> Option<(i64, &[Token])>
         (λ found. HasBound (kinds tokens.now) found.0 (kinds found.1.now)) }
     ensures sound { IfSome result (λ found. AreSound (kinds found.1.now)) }
 {
-    if let Some(behind) = behind_mark(tokens, Mark::Minus) {
-        let (number, rest) = front_number(behind)?;
+    if let Some(behind) = after_mark(tokens, Mark::Minus) {
+        let (number, rest) = first_number(behind)?;
         return Some((-number, rest));
     }
-    let (number, rest) = front_number(tokens)?;
+    let (number, rest) = first_number(tokens)?;
     Some((number, rest))
 }
 
@@ -60,11 +60,11 @@ pub(crate) fn inside_span(tokens: &[Token]) -> Option<Span>
         ((span : Span) → ¬ (IsInside (kinds tokens.now) span))
         (λ span. IsInside (kinds tokens.now) span) }
 {
-    let opened = behind_mark(tokens, Mark::OpenParen)?;
+    let opened = after_mark(tokens, Mark::OpenParen)?;
     let (start, left) = front_bound(opened)?;
-    let between = behind_mark(left, Mark::Comma)?;
+    let between = after_mark(left, Mark::Comma)?;
     let (end, right) = front_bound(between)?;
-    let rest = behind_mark(right, Mark::CloseBracket)?;
+    let rest = after_mark(right, Mark::CloseBracket)?;
     if is_end(rest) {
         Some(Span { start, end })
     } else {

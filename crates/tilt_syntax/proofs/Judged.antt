@@ -70,19 +70,3 @@ query_or_refused (t ∷ ts) sound =
         | inr first ↦ inr (first.0, faulty few first.1)
       ]
     ]
-
--- the tokens of a text are a query or are refused
-tokens_judged : (bytes : List ℕ) (tokens : List Token) → AreTokens 0 bytes tokens
-    → ((query : List StatementTree) × IsQueryOf (kinds tokens) query) ⊎ ((f : SyntaxFault) × IsRefused (kinds tokens) f)
-    → ((query : List StatementTree) × IsQueryText bytes query) ⊎ ((f : TextFault) × IsRefusedText bytes f)
-tokens_judged bytes tokens lexed (inl is) = inl (is.0, record { tokens = tokens; lexed = lexed; parsed = is.1 })
-tokens_judged bytes tokens lexed (inr is) = inr (text.Refused is.0, no_query tokens lexed is.1)
-
--- a text is a query or is refused; that it is not both stands in `Texts`
-pub text_or_refused : (bytes : List ℕ)
-    → ((query : List StatementTree) × IsQueryText bytes query) ⊎ ((f : TextFault) × IsRefusedText bytes f)
-text_or_refused bytes =
-    elim (tokens_or_fault bytes) [
-      | inl has ↦ tokens_judged bytes has.0 has.1 (query_or_refused (kinds has.0) (sound-kinds has.0 (sound has.1)))
-      | inr place ↦ inr (text.Lexical place.0, no_place place.1)
-    ]

@@ -17,10 +17,6 @@ pub token_kept : (n room : ℕ) (t : Tok) (ts : List Tok) → t ≢ Sign mark.Se
 token_kept n room (Sign mark.Semicolon) ts other = absurd (other refl)
 token_kept n room t ts other = refl
 
-pub token_let_go : (n : ℕ) (t : Tok) (ts : List Tok) → t ≢ Sign mark.Semicolon → trimmed (suc n) 0 (t ∷ ts) ≡ trimmed (suc n) 0 ts
-token_let_go n (Sign mark.Semicolon) ts other = absurd (other refl)
-token_let_go n t ts other = refl
-
 -- statement by statement
 
 -- the statement is kept as it is, or both have that many tokens

@@ -9,7 +9,7 @@ ghost use Rattle.tilt_syntax.specs.Rest.{Finds, FindsExpr, FindsPart};
 ghost use Rattle.tilt_syntax.specs.Tree.{Reduce};
 
 use crate::expr::Expr;
-use crate::front::{behind_key, behind_mark, front_name, front_number};
+use crate::front::{after_key, after_mark, first_name, first_number};
 use std::alloc::AllocError as OutOfMemory;
 use tilt_base::Reducer;
 use tilt_lexer::{Key, Mark, Name, Token};
@@ -19,12 +19,12 @@ fn offset(tokens: &[Token]) -> Option<(i64, &[Token])>
     requires { AreSound (kinds tokens.now) }
     ensures { FindsPart (offset_plan (kinds tokens.now)) (kinds tokens.now) result }
 {
-    let rest = behind_key(tokens, Key::Time)?;
-    if let Some(rest) = behind_mark(rest, Mark::Plus) {
-        return front_number(rest);
+    let rest = after_key(tokens, Key::Time)?;
+    if let Some(rest) = after_mark(rest, Mark::Plus) {
+        return first_number(rest);
     }
-    if let Some(rest) = behind_mark(rest, Mark::Minus) {
-        let (number, rest) = front_number(rest)?;
+    if let Some(rest) = after_mark(rest, Mark::Minus) {
+        let (number, rest) = first_number(rest)?;
         return Some((-number, rest));
     }
     Some((0, rest))
@@ -38,14 +38,14 @@ pub(crate) fn reading<'a>(
     requires { AreSound (kinds tokens.now) }
     ensures { IfOk result (λ found. FindsExpr (reading_plan name.now (kinds tokens.now)) (kinds tokens.now) found) }
 {
-    let Some(inside) = behind_mark(tokens, Mark::OpenBracket) else {
+    let Some(inside) = after_mark(tokens, Mark::OpenBracket) else {
         let name = name.copy()?;
         return Ok(Some((Expr::Read { name, offset: 0 }, tokens)));
     };
     let Some((offset, behind)) = offset(inside) else {
         return Ok(None);
     };
-    let Some(rest) = behind_mark(behind, Mark::CloseBracket) else {
+    let Some(rest) = after_mark(behind, Mark::CloseBracket) else {
         return Ok(None);
     };
     let name = name.copy()?;
@@ -80,14 +80,14 @@ fn window(tokens: &[Token]) -> Option<(&Name, i64, i64, &[Token])>
         (λ found. (r : Reducer) → Finds (window_plan r (kinds tokens.now)) (kinds tokens.now)
         (Some (record { tree = Leaf (Reduce r found.0.now found.1 found.2); rest = kinds found.3.now }))) }
 {
-    let opened = behind_mark(tokens, Mark::OpenParen)?;
-    let (name, named) = front_name(opened)?;
-    let inside = behind_mark(named, Mark::OpenBracket)?;
+    let opened = after_mark(tokens, Mark::OpenParen)?;
+    let (name, named) = first_name(opened)?;
+    let inside = after_mark(named, Mark::OpenBracket)?;
     let (from, left) = offset(inside)?;
-    let between = behind_mark(left, Mark::Colon)?;
+    let between = after_mark(left, Mark::Colon)?;
     let (to, right) = offset(between)?;
-    let closed = behind_mark(right, Mark::CloseBracket)?;
-    let rest = behind_mark(closed, Mark::CloseParen)?;
+    let closed = after_mark(right, Mark::CloseBracket)?;
+    let rest = after_mark(closed, Mark::CloseParen)?;
     Some((name, from, to, rest))
 }
 

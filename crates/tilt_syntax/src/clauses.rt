@@ -6,7 +6,7 @@ ghost use Rattle.tilt_syntax.specs.Rest.{FindsPart};
 ghost use Rattle.tilt_syntax.specs.Statements.{bound_plan, domain_plan, from_plan, grid_plan, span_plan};
 
 use crate::every::Every;
-use crate::front::{behind_key, behind_mark, front_number};
+use crate::front::{after_key, after_mark, first_number};
 use tilt_base::Span;
 use tilt_lexer::{Key, Mark, Token};
 
@@ -15,10 +15,10 @@ fn bound(tokens: &[Token]) -> Option<(i64, &[Token])>
     requires { AreSound (kinds tokens.now) }
     ensures { FindsPart (bound_plan (kinds tokens.now)) (kinds tokens.now) result }
 {
-    let Some(behind) = behind_mark(tokens, Mark::Minus) else {
-        return front_number(tokens);
+    let Some(behind) = after_mark(tokens, Mark::Minus) else {
+        return first_number(tokens);
     };
-    let (number, rest) = front_number(behind)?;
+    let (number, rest) = first_number(behind)?;
     Some((-number, rest))
 }
 
@@ -27,11 +27,11 @@ pub(crate) fn span(tokens: &[Token]) -> Option<(Span, &[Token])>
     requires { AreSound (kinds tokens.now) }
     ensures { FindsPart (span_plan (kinds tokens.now)) (kinds tokens.now) result }
 {
-    let opened = behind_mark(tokens, Mark::OpenParen)?;
+    let opened = after_mark(tokens, Mark::OpenParen)?;
     let (start, left) = bound(opened)?;
-    let between = behind_mark(left, Mark::Comma)?;
+    let between = after_mark(left, Mark::Comma)?;
     let (end, right) = bound(between)?;
-    let rest = behind_mark(right, Mark::CloseBracket)?;
+    let rest = after_mark(right, Mark::CloseBracket)?;
     Some((Span { start, end }, rest))
 }
 
@@ -40,7 +40,7 @@ pub(crate) fn domain(tokens: &[Token]) -> Option<(Option<Span>, &[Token])>
     requires { AreSound (kinds tokens.now) }
     ensures { FindsPart (domain_plan (kinds tokens.now)) (kinds tokens.now) result }
 {
-    let Some(behind) = behind_key(tokens, Key::Over) else {
+    let Some(behind) = after_key(tokens, Key::Over) else {
         return Some((None, tokens));
     };
     let (over, rest) = span(behind)?;
@@ -52,10 +52,10 @@ fn offset(tokens: &[Token]) -> Option<(i64, &[Token])>
     requires { AreSound (kinds tokens.now) }
     ensures { FindsPart (from_plan (kinds tokens.now)) (kinds tokens.now) result }
 {
-    let Some(behind) = behind_key(tokens, Key::From) else {
+    let Some(behind) = after_key(tokens, Key::From) else {
         return Some((0, tokens));
     };
-    front_number(behind)
+    first_number(behind)
 }
 
 // The grid with which the tokens begin, where they begin with `every`, and what stands after it.
@@ -63,10 +63,10 @@ pub(crate) fn grid(tokens: &[Token]) -> Option<(Option<Every>, &[Token])>
     requires { AreSound (kinds tokens.now) }
     ensures { FindsPart (grid_plan (kinds tokens.now)) (kinds tokens.now) result }
 {
-    let Some(behind) = behind_key(tokens, Key::Every) else {
+    let Some(behind) = after_key(tokens, Key::Every) else {
         return Some((None, tokens));
     };
-    let (period, left) = front_number(behind)?;
+    let (period, left) = first_number(behind)?;
     let (offset, rest) = offset(left)?;
     Some((Some(Every { period, offset }), rest))
 }
@@ -75,7 +75,7 @@ pub(crate) fn grid(tokens: &[Token]) -> Option<(Option<Every>, &[Token])>
 pub fn is_end(tokens: &[Token]) -> bool
     ensures { IsTrue result ↔ (kinds tokens.now ≡ Tok.Mark Mark.Semicolon ∷ []) }
 {
-    match behind_mark(tokens, Mark::Semicolon) {
+    match after_mark(tokens, Mark::Semicolon) {
         Some(rest) => rest.is_empty(),
         None => false,
     }

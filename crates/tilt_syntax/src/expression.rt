@@ -10,7 +10,7 @@ ghost use Rattle.tilt_syntax.specs.Tree.{expr_tree};
 
 use crate::atom::{reading, reducer_of, reduction};
 use crate::expr::Expr;
-use crate::front::{behind_key, behind_mark};
+use crate::front::{after_key, after_mark};
 use crate::level::{Level, front_operator};
 use crate::tree::{choose, one, two};
 use std::alloc::{AllocError as OutOfMemory, Global};
@@ -42,19 +42,19 @@ fn choice(alloc: Global, tokens: &[Token]) -> Found<'_>
     requires { AreSound (kinds tokens.now) }
     ensures { IfOk result (λ found. FindsExpr (choice_plan (kinds tokens.now)) (kinds tokens.now) found) }
 {
-    let Some(first) = behind_key(tokens, Key::If) else {
+    let Some(first) = after_key(tokens, Key::If) else {
         return expression(alloc, Level::When, tokens);
     };
     let Some((c, behind_c)) = expression(alloc, Level::Choice, first)? else {
         return Ok(None);
     };
-    let Some(second) = behind_key(behind_c, Key::Then) else {
+    let Some(second) = after_key(behind_c, Key::Then) else {
         return Ok(None);
     };
     let Some((a, behind_a)) = expression(alloc, Level::Choice, second)? else {
         return Ok(None);
     };
-    let Some(third) = behind_key(behind_a, Key::Else) else {
+    let Some(third) = after_key(behind_a, Key::Else) else {
         return Ok(None);
     };
     let Some((b, rest)) = expression(alloc, Level::Choice, third)? else {
@@ -103,7 +103,7 @@ fn negation(alloc: Global, tokens: &[Token]) -> Found<'_>
     requires { AreSound (kinds tokens.now) }
     ensures { IfOk result (λ found. FindsExpr (negation_plan (kinds tokens.now)) (kinds tokens.now) found) }
 {
-    let Some(behind) = behind_key(tokens, Key::Not) else {
+    let Some(behind) = after_key(tokens, Key::Not) else {
         return expression(alloc, Level::Comparison, tokens);
     };
     let Some((a, rest)) = expression(alloc, Level::Negation, behind)? else {
@@ -119,7 +119,7 @@ fn minus(alloc: Global, tokens: &[Token]) -> Found<'_>
     requires { AreSound (kinds tokens.now) }
     ensures { IfOk result (λ found. FindsExpr (minus_plan (kinds tokens.now)) (kinds tokens.now) found) }
 {
-    let Some(behind) = behind_mark(tokens, Mark::Minus) else {
+    let Some(behind) = after_mark(tokens, Mark::Minus) else {
         return expression(alloc, Level::Atom, tokens);
     };
     let Some((a, rest)) = expression(alloc, Level::Minus, behind)? else {
@@ -170,13 +170,13 @@ fn enclosed(alloc: Global, tokens: &[Token]) -> Found<'_>
     requires { AreSound (kinds tokens.now) }
     ensures { IfOk result (λ found. FindsExpr (enclosed_plan (kinds tokens.now) give) (kinds tokens.now) found) }
 {
-    let Some(opened) = behind_mark(tokens, Mark::OpenParen) else {
+    let Some(opened) = after_mark(tokens, Mark::OpenParen) else {
         return Ok(None);
     };
     let Some((inside, behind)) = expression(alloc, Level::Choice, opened)? else {
         return Ok(None);
     };
-    let Some(rest) = behind_mark(behind, Mark::CloseParen) else {
+    let Some(rest) = after_mark(behind, Mark::CloseParen) else {
         return Ok(None);
     };
     Ok(Some((inside, rest)))
@@ -188,13 +188,13 @@ fn is_null(alloc: Global, tokens: &[Token]) -> Found<'_>
     requires { AreSound (kinds tokens.now) }
     ensures { IfOk result (λ found. FindsExpr (word_plan Key.IsNull (kinds tokens.now)) (kinds tokens.now) found) }
 {
-    let Some(opened) = behind_mark(tokens, Mark::OpenParen) else {
+    let Some(opened) = after_mark(tokens, Mark::OpenParen) else {
         return Ok(None);
     };
     let Some((a, behind)) = expression(alloc, Level::Choice, opened)? else {
         return Ok(None);
     };
-    let Some(rest) = behind_mark(behind, Mark::CloseParen) else {
+    let Some(rest) = after_mark(behind, Mark::CloseParen) else {
         return Ok(None);
     };
     let tested = one(alloc, Op1::IsNull, a)?;
@@ -207,19 +207,19 @@ fn if_null(alloc: Global, tokens: &[Token]) -> Found<'_>
     requires { AreSound (kinds tokens.now) }
     ensures { IfOk result (λ found. FindsExpr (word_plan Key.IfNull (kinds tokens.now)) (kinds tokens.now) found) }
 {
-    let Some(opened) = behind_mark(tokens, Mark::OpenParen) else {
+    let Some(opened) = after_mark(tokens, Mark::OpenParen) else {
         return Ok(None);
     };
     let Some((a, behind_a)) = expression(alloc, Level::Choice, opened)? else {
         return Ok(None);
     };
-    let Some(second) = behind_mark(behind_a, Mark::Comma) else {
+    let Some(second) = after_mark(behind_a, Mark::Comma) else {
         return Ok(None);
     };
     let Some((b, behind_b)) = expression(alloc, Level::Choice, second)? else {
         return Ok(None);
     };
-    let Some(rest) = behind_mark(behind_b, Mark::CloseParen) else {
+    let Some(rest) = after_mark(behind_b, Mark::CloseParen) else {
         return Ok(None);
     };
     let other = two(alloc, Op2::IfNull, a, b)?;

@@ -1,13 +1,12 @@
 // What stands at the beginning of tokens.
 ghost use Rattle.std.specs.Prelude.{◌≡◌, ◌≢◌, ◌<◌, List, ◌∷◌, ℕ, ℤ, pos, ◌≤ℤ◌, length, IsTrue, ◌↔◌, MatchOption, IfSome};
-ghost use Rattle.tilt_lexer.specs.Tokens.{IsSound};
 ghost use Rattle.tilt_lexer.specs.declared.token.Tok.{Tok};
 ghost use Rattle.tilt_syntax.specs.Query.{kinds, AreSound};
 
 use tilt_lexer::{Key, Mark, Name, Tok, Token};
 
 /// What stands after the reserved word, where the tokens begin with it.
-pub fn behind_key(tokens: &[Token], key: Key) -> Option<&[Token]>
+pub fn after_key(tokens: &[Token], key: Key) -> Option<&[Token]>
     ensures front { MatchOption result
         ((ts : List Tok) → kinds tokens.now ≢ Tok.Key key ∷ ts)
         (λ rest. kinds tokens.now ≡ Tok.Key key ∷ kinds rest.now) }
@@ -21,7 +20,7 @@ pub fn behind_key(tokens: &[Token], key: Key) -> Option<&[Token]>
 }
 
 /// What stands after the sign, where the tokens begin with it.
-pub fn behind_mark(tokens: &[Token], mark: Mark) -> Option<&[Token]>
+pub fn after_mark(tokens: &[Token], mark: Mark) -> Option<&[Token]>
     ensures front { MatchOption result
         ((ts : List Tok) → kinds tokens.now ≢ Tok.Mark mark ∷ ts)
         (λ rest. kinds tokens.now ≡ Tok.Mark mark ∷ kinds rest.now) }
@@ -35,7 +34,7 @@ pub fn behind_mark(tokens: &[Token], mark: Mark) -> Option<&[Token]>
 }
 
 /// The number at the beginning, and what stands after it.
-pub fn front_number(tokens: &[Token]) -> Option<(i64, &[Token])>
+pub fn first_number(tokens: &[Token]) -> Option<(i64, &[Token])>
     ensures front { MatchOption result
         ((n : ℤ) (ts : List Tok) → kinds tokens.now ≢ Tok.Number n ∷ ts)
         (λ found. kinds tokens.now ≡ Tok.Number found.0 ∷ kinds found.1.now) }
@@ -52,7 +51,7 @@ pub fn front_number(tokens: &[Token]) -> Option<(i64, &[Token])>
 }
 
 /// The name at the beginning, and what stands after it.
-pub fn front_name(tokens: &[Token]) -> Option<(&Name, &[Token])>
+pub fn first_name(tokens: &[Token]) -> Option<(&Name, &[Token])>
     ensures front { MatchOption result
         ((x : List ℕ) (ts : List Tok) → kinds tokens.now ≢ Tok.Word x ∷ ts)
         (λ found. kinds tokens.now ≡ Tok.Word found.0.now ∷ kinds found.1.now) }

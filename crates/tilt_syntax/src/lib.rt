@@ -31,7 +31,7 @@ pub use cut::first_statement;
 pub use every::Every;
 pub use expr::Expr;
 pub use fault::{SyntaxFault, TextFault};
-pub use front::{behind_key, behind_mark, front_name, front_number, is_mark};
+pub use front::{after_key, after_mark, first_name, first_number, is_mark};
 pub use parser::{parse, parse_expression};
 pub use printer::print;
 pub use query::Query;

@@ -1,5 +1,5 @@
 // From tokens to the query that they are.
-ghost use Rattle.std.specs.Prelude.{◌≡◌, ◌≢◌, ◌↔◌, ◌≤◌, ◌<◌, ◌+◌, ◌^◌, ◌⊎◌, List, [], ◌∷◌, ◌++◌};
+ghost use Rattle.std.specs.Prelude.{◌≡◌, ◌≢◌, ◌↔◌, ◌≤◌, ◌<◌, ◌+◌, ◌⊎◌, List, [], ◌∷◌, ◌++◌};
 ghost use Rattle.std.specs.Prelude.{length, map, All, IsTrue, IfOk, IfErr, OnOk, MatchOption, MatchResult, vec_len};
 ghost use Rattle.tilt_lexer.specs.Tokens.{IsSound};
 ghost use Rattle.tilt_syntax.specs.Grammar.{IsExpr};

@@ -1,5 +1,5 @@
 // The text of a query.
-ghost use Rattle.std.specs.Prelude.{◌≡◌, ◌++◌, IfOk, OnOk, MatchOption};
+ghost use Rattle.std.specs.Prelude.{◌≡◌, ◌++◌, map, IfOk, OnOk, MatchOption};
 ghost use Rattle.tilt_base.specs.Expression.{One, Two};
 ghost use Rattle.tilt_lexer.specs.Word.{key_text};
 ghost use Rattle.tilt_syntax.specs.Grammar.{infix_of, reducer_key};
@@ -23,13 +23,21 @@ pub fn print(alloc: Global, query: &Query) -> Result<Vec<u8>, OutOfMemory>
     ensures text { IfOk result (λ text. text.items ≡ query_text query.now) }
 
     // The text reads as this query and as no other, and no statement can be written with fewer tokens.
-    ensures reads_back { ReadsBack (query_text query.now) query.now }
+    ensures reads_back { IfOk result (λ text. ReadsBack text.items query.now) }
 {
     let mut text = Vec::new(alloc);
-    for statement in query.statements() {
-        put_statement(&mut text, statement)?;
-    }
+    put_statements(&mut text, query.statements())?;
     Ok(text)
+}
+
+// Puts the lines of statements.
+fn put_statements(text: &mut Vec<u8>, statements: &[Statement]) -> Result<(), OutOfMemory>
+    ensures { OnOk result (text.new.items ≡ text.old.items ++ query_text (map statement_tree statements.now)) }
+{
+    for statement in statements {
+        put_statement(text, statement)?;
+    }
+    Ok(())
 }
 
 // Puts the line of a statement.

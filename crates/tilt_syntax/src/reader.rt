@@ -1,5 +1,5 @@
 // Statements, read from left to right without going back.
-ghost use Rattle.std.specs.Prelude.{List, Option, IfOk, MatchOption};
+ghost use Rattle.std.specs.Prelude.{Option, IfOk, MatchOption};
 ghost use Rattle.tilt_syntax.specs.Descent.{Comes, Found, Plan};
 ghost use Rattle.tilt_syntax.specs.Query.{kinds, AreSound};
 ghost use Rattle.tilt_syntax.specs.Statements.{emit_plan, input_plan, let_plan, statement_plan};
@@ -7,7 +7,7 @@ ghost use Rattle.tilt_syntax.specs.Tree.{StatementTree, statement_tree};
 
 use crate::clauses::{domain, grid, is_end, span};
 use crate::expression::expression;
-use crate::front::{behind_key, behind_mark, front_name};
+use crate::front::{after_key, after_mark, first_name};
 use crate::level::Level;
 use crate::statement::Statement;
 use std::alloc::{AllocError as OutOfMemory, Global};
@@ -24,13 +24,13 @@ pub(crate) fn read_statement(
         (λ s. (behind : StatementTree → Plan) (r : Option Found) → Comes (behind (statement_tree s)) r
         → Comes (statement_plan (kinds tokens.now) behind) r)) }
 {
-    if let Some(behind) = behind_key(tokens, Key::Input) {
+    if let Some(behind) = after_key(tokens, Key::Input) {
         return read_input(behind);
     }
-    if let Some(behind) = behind_key(tokens, Key::Let) {
+    if let Some(behind) = after_key(tokens, Key::Let) {
         return read_let(alloc, behind);
     }
-    match behind_key(tokens, Key::Emit) {
+    match after_key(tokens, Key::Emit) {
         Some(behind) => read_emit(alloc, behind),
         None => Ok(None),
     }
@@ -44,7 +44,7 @@ fn read_input(tokens: &[Token]) -> Result<Option<Statement>, OutOfMemory>
         (λ s. (behind : StatementTree → Plan) (r : Option Found) → Comes (behind (statement_tree s)) r
         → Comes (input_plan (kinds tokens.now) behind) r)) }
 {
-    let Some((name, rest)) = front_name(tokens) else {
+    let Some((name, rest)) = first_name(tokens) else {
         return Ok(None);
     };
     if !is_end(rest) {
@@ -62,10 +62,10 @@ fn read_let(alloc: Global, tokens: &[Token]) -> Result<Option<Statement>, OutOfM
         (λ s. (behind : StatementTree → Plan) (r : Option Found) → Comes (behind (statement_tree s)) r
         → Comes (let_plan (kinds tokens.now) behind) r)) }
 {
-    let Some((name, named)) = front_name(tokens) else {
+    let Some((name, named)) = first_name(tokens) else {
         return Ok(None);
     };
-    let Some(body) = behind_mark(named, Mark::Assign) else {
+    let Some(body) = after_mark(named, Mark::Assign) else {
         return Ok(None);
     };
     let Some((expr, behind)) = expression(alloc, Level::Choice, body)? else {
@@ -100,7 +100,7 @@ fn read_emit(alloc: Global, tokens: &[Token]) -> Result<Option<Statement>, OutOf
     let Some((expr, behind)) = expression(alloc, Level::Choice, tokens)? else {
         return Ok(None);
     };
-    let Some(bounds) = behind_key(behind, Key::Over) else {
+    let Some(bounds) = after_key(behind, Key::Over) else {
         return Ok(None);
     };
     let Some((over, last)) = span(bounds) else {

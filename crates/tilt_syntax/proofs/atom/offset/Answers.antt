@@ -27,29 +27,29 @@ returns-in_err-rest c = rw c.from_residual.ensures (λ behind. missed c.in_err-r
 
 pub returns-in-Some : goal.returns-in-Some
 returns-in-Some c =
-    behind_plus c.front_number.result _ _ _ c.in_ok-rest.ensures.front c.in-Some.ensures.front c.front_number.ensures.front
+    behind_plus c.first_number.result _ _ _ c.in_ok-rest.ensures.front c.in-Some.ensures.front c.first_number.ensures.front
 
 pub returns-in_err-number : goal.returns-in_err-number
 returns-in_err-number c = rw c.from_residual-in_err-number.ensures (λ behind.
-    met c.in_ok-rest.ensures.front (missed c.in_default.ensures.front (met c.in-Some-behind_mark.ensures.front (
+    met c.in_ok-rest.ensures.front (missed c.in_default.ensures.front (met c.in-Some-after_mark.ensures.front (
     number-none _ (λ n. behind (neg_ℤ n)) c.in_err-number.ensures.front))))
 
-pub returns-in-Some-behind_mark : goal.returns-in-Some-behind_mark
-returns-in-Some-behind_mark c =
+pub returns-in-Some-after_mark : goal.returns-in-Some-after_mark
+returns-in-Some-after_mark c =
     let n = c.in_ok-number.number in
-    let above = (c.in_ok-number.ensures.sound (c.in-Some-behind_mark.ensures.sound (c.in_ok-rest.ensures.sound c.requires))).0 in
+    let above = (c.in_ok-number.ensures.sound (c.in-Some-after_mark.ensures.sound (c.in_ok-rest.ensures.sound c.requires))).0 in
     let negated : to_z w64 (of_z w64 (pos 0 -ℤ to_z w64 (of_z w64 n))) ≡ neg_ℤ n = grind (arith, ints, above) in
     record {
       goes_on = λ behind r h.
-          met c.in_ok-rest.ensures.front (missed c.in_default.ensures.front (met c.in-Some-behind_mark.ensures.front (
+          met c.in_ok-rest.ensures.front (missed c.in_default.ensures.front (met c.in-Some-after_mark.ensures.front (
           number-comes _ n (kinds c.in_ok-number.rest.now) (λ m. behind (neg_ℤ m)) r c.in_ok-number.ensures.front (rw negated at h))));
       rest = then-rest (first-rest c.in_ok-rest.ensures.front) (
-          then-rest (first-rest c.in-Some-behind_mark.ensures.front) (first-rest c.in_ok-number.ensures.front));
+          then-rest (first-rest c.in-Some-after_mark.ensures.front) (first-rest c.in_ok-number.ensures.front));
     }
 
 pub returns : goal.returns
 returns c = record {
   goes_on = λ behind r h.
-      met c.in_ok-rest.ensures.front (missed c.in_default.ensures.front (missed c.in_default-behind_mark.ensures.front h));
+      met c.in_ok-rest.ensures.front (missed c.in_default.ensures.front (missed c.in_default-after_mark.ensures.front h));
   rest = first-rest c.in_ok-rest.ensures.front;
 }

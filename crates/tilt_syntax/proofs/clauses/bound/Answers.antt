@@ -24,7 +24,7 @@ unsigned (Some x) ts fails h = record {
 
 pub returns-in_default : goal.returns-in_default
 unfolding bound_plan
-returns-in_default c = unsigned c.front_number.result _ c.in_default.ensures.front c.front_number.ensures.front
+returns-in_default c = unsigned c.first_number.result _ c.in_default.ensures.front c.first_number.ensures.front
 
 pub returns-in_err-number : goal.returns-in_err-number
 unfolding bound_plan

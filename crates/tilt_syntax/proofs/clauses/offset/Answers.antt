@@ -26,4 +26,4 @@ unfolding from_plan
 returns-in_default c = record { goes_on = λ behind r h. missed c.in_default.ensures.front h; rest = same-rest _ }
 
 pub returns : goal.returns
-returns c = written c.front_number.result _ _ c.in-Some.ensures.front c.front_number.ensures.front
+returns c = written c.first_number.result _ _ c.in-Some.ensures.front c.first_number.ensures.front

@@ -45,32 +45,32 @@ pub choice-returns-in_default-2 : goal.choice-returns-in_default-2
 choice-returns-in_default-2 t c =
     meets c.in-Some.ensures.front (asks_nothing (rw c.in_default-2.is at c.in_ok-c.ensures))
 
-pub choice-returns-in_default-behind_key : goal.choice-returns-in_default-behind_key
-choice-returns-in_default-behind_key t c =
+pub choice-returns-in_default-after_key : goal.choice-returns-in_default-after_key
+choice-returns-in_default-after_key t c =
     meets c.in-Some.ensures.front (asks (rw c.in-Some-2.is at c.in_ok-c.ensures) (
-    misses c.in_default-behind_key.ensures.front gives_nothing))
+    misses c.in_default-after_key.ensures.front gives_nothing))
 
 pub choice-returns-in_default-3 : goal.choice-returns-in_default-3
 choice-returns-in_default-3 t c =
-    meets c.in-Some.ensures.front (asks (rw c.in-Some-2.is at c.in_ok-c.ensures) (meets c.in-Some-behind_key.ensures.front (asks_nothing (
+    meets c.in-Some.ensures.front (asks (rw c.in-Some-2.is at c.in_ok-c.ensures) (meets c.in-Some-after_key.ensures.front (asks_nothing (
     rw c.in_default-3.is at c.in_ok-a.ensures))))
 
-pub choice-returns-in_default-behind_key-2 : goal.choice-returns-in_default-behind_key-2
-choice-returns-in_default-behind_key-2 t c =
-    meets c.in-Some.ensures.front (asks (rw c.in-Some-2.is at c.in_ok-c.ensures) (meets c.in-Some-behind_key.ensures.front (asks (
-    rw c.in-Some-3.is at c.in_ok-a.ensures) (misses c.in_default-behind_key-2.ensures.front gives_nothing))))
+pub choice-returns-in_default-after_key-2 : goal.choice-returns-in_default-after_key-2
+choice-returns-in_default-after_key-2 t c =
+    meets c.in-Some.ensures.front (asks (rw c.in-Some-2.is at c.in_ok-c.ensures) (meets c.in-Some-after_key.ensures.front (asks (
+    rw c.in-Some-3.is at c.in_ok-a.ensures) (misses c.in_default-after_key-2.ensures.front gives_nothing))))
 
 pub choice-returns-in_default-4 : goal.choice-returns-in_default-4
 choice-returns-in_default-4 t c =
-    meets c.in-Some.ensures.front (asks (rw c.in-Some-2.is at c.in_ok-c.ensures) (meets c.in-Some-behind_key.ensures.front (asks (
-    rw c.in-Some-3.is at c.in_ok-a.ensures) (meets c.in-Some-behind_key-2.ensures.front (asks_nothing (
+    meets c.in-Some.ensures.front (asks (rw c.in-Some-2.is at c.in_ok-c.ensures) (meets c.in-Some-after_key.ensures.front (asks (
+    rw c.in-Some-3.is at c.in_ok-a.ensures) (meets c.in-Some-after_key-2.ensures.front (asks_nothing (
     rw c.in_default-4.is at c.in_ok-b.ensures))))))
 
 pub choice-returns : goal.choice-returns
 choice-returns t c =
     rw c.in_ok-chosen.ensures (meets c.in-Some.ensures.front (asks (rw c.in-Some-2.is at c.in_ok-c.ensures) (
-    meets c.in-Some-behind_key.ensures.front (asks (rw c.in-Some-3.is at c.in_ok-a.ensures) (
-    meets c.in-Some-behind_key-2.ensures.front (asks (rw c.in-Some-4.is at c.in_ok-b.ensures) (gives _ _)))))))
+    meets c.in-Some-after_key.ensures.front (asks (rw c.in-Some-3.is at c.in_ok-a.ensures) (
+    meets c.in-Some-after_key-2.ensures.front (asks (rw c.in-Some-4.is at c.in_ok-b.ensures) (gives _ _)))))))
 
 pub enclosed-returns-in_default : goal.enclosed-returns-in_default
 enclosed-returns-in_default t c =
@@ -80,15 +80,15 @@ pub enclosed-returns-in_default-2 : goal.enclosed-returns-in_default-2
 enclosed-returns-in_default-2 t c =
     meets c.in-Some.ensures.front (asks_nothing (rw c.in_default-2.is at c.in_ok-inside.ensures))
 
-pub enclosed-returns-in_default-behind_mark : goal.enclosed-returns-in_default-behind_mark
-enclosed-returns-in_default-behind_mark t c =
+pub enclosed-returns-in_default-after_mark : goal.enclosed-returns-in_default-after_mark
+enclosed-returns-in_default-after_mark t c =
     meets c.in-Some.ensures.front (asks (rw c.in-Some-2.is at c.in_ok-inside.ensures) (
-    misses c.in_default-behind_mark.ensures.front gives_nothing))
+    misses c.in_default-after_mark.ensures.front gives_nothing))
 
 pub enclosed-returns : goal.enclosed-returns
 enclosed-returns t c =
     meets c.in-Some.ensures.front (asks (rw c.in-Some-2.is at c.in_ok-inside.ensures) (
-    meets c.in-Some-behind_mark.ensures.front (gives _ _)))
+    meets c.in-Some-after_mark.ensures.front (gives _ _)))
 
 pub is_null-returns-in_default : goal.is_null-returns-in_default
 is_null-returns-in_default t c =
@@ -98,15 +98,15 @@ pub is_null-returns-in_default-2 : goal.is_null-returns-in_default-2
 is_null-returns-in_default-2 t c =
     meets c.in-Some.ensures.front (asks_nothing (rw c.in_default-2.is at c.in_ok-a.ensures))
 
-pub is_null-returns-in_default-behind_mark : goal.is_null-returns-in_default-behind_mark
-is_null-returns-in_default-behind_mark t c =
+pub is_null-returns-in_default-after_mark : goal.is_null-returns-in_default-after_mark
+is_null-returns-in_default-after_mark t c =
     meets c.in-Some.ensures.front (asks (rw c.in-Some-2.is at c.in_ok-a.ensures) (
-    misses c.in_default-behind_mark.ensures.front gives_nothing))
+    misses c.in_default-after_mark.ensures.front gives_nothing))
 
 pub is_null-returns : goal.is_null-returns
 is_null-returns t c =
     rw c.in_ok-tested.ensures (meets c.in-Some.ensures.front (asks (rw c.in-Some-2.is at c.in_ok-a.ensures) (
-    meets c.in-Some-behind_mark.ensures.front (gives _ _))))
+    meets c.in-Some-after_mark.ensures.front (gives _ _))))
 
 pub if_null-returns-in_default : goal.if_null-returns-in_default
 if_null-returns-in_default t c =
@@ -116,26 +116,26 @@ pub if_null-returns-in_default-2 : goal.if_null-returns-in_default-2
 if_null-returns-in_default-2 t c =
     meets c.in-Some.ensures.front (asks_nothing (rw c.in_default-2.is at c.in_ok-a.ensures))
 
-pub if_null-returns-in_default-behind_mark : goal.if_null-returns-in_default-behind_mark
-if_null-returns-in_default-behind_mark t c =
+pub if_null-returns-in_default-after_mark : goal.if_null-returns-in_default-after_mark
+if_null-returns-in_default-after_mark t c =
     meets c.in-Some.ensures.front (asks (rw c.in-Some-2.is at c.in_ok-a.ensures) (
-    misses c.in_default-behind_mark.ensures.front gives_nothing))
+    misses c.in_default-after_mark.ensures.front gives_nothing))
 
 pub if_null-returns-in_default-3 : goal.if_null-returns-in_default-3
 if_null-returns-in_default-3 t c =
-    meets c.in-Some.ensures.front (asks (rw c.in-Some-2.is at c.in_ok-a.ensures) (meets c.in-Some-behind_mark.ensures.front (asks_nothing (
+    meets c.in-Some.ensures.front (asks (rw c.in-Some-2.is at c.in_ok-a.ensures) (meets c.in-Some-after_mark.ensures.front (asks_nothing (
     rw c.in_default-3.is at c.in_ok-b.ensures))))
 
-pub if_null-returns-in_default-behind_mark-2 : goal.if_null-returns-in_default-behind_mark-2
-if_null-returns-in_default-behind_mark-2 t c =
-    meets c.in-Some.ensures.front (asks (rw c.in-Some-2.is at c.in_ok-a.ensures) (meets c.in-Some-behind_mark.ensures.front (asks (
-    rw c.in-Some-3.is at c.in_ok-b.ensures) (misses c.in_default-behind_mark-2.ensures.front gives_nothing))))
+pub if_null-returns-in_default-after_mark-2 : goal.if_null-returns-in_default-after_mark-2
+if_null-returns-in_default-after_mark-2 t c =
+    meets c.in-Some.ensures.front (asks (rw c.in-Some-2.is at c.in_ok-a.ensures) (meets c.in-Some-after_mark.ensures.front (asks (
+    rw c.in-Some-3.is at c.in_ok-b.ensures) (misses c.in_default-after_mark-2.ensures.front gives_nothing))))
 
 pub if_null-returns : goal.if_null-returns
 if_null-returns t c =
     rw c.in_ok-other.ensures (meets c.in-Some.ensures.front (asks (rw c.in-Some-2.is at c.in_ok-a.ensures) (
-    meets c.in-Some-behind_mark.ensures.front (asks (rw c.in-Some-3.is at c.in_ok-b.ensures) (
-    meets c.in-Some-behind_mark-2.ensures.front (gives _ _))))))
+    meets c.in-Some-after_mark.ensures.front (asks (rw c.in-Some-3.is at c.in_ok-b.ensures) (
+    meets c.in-Some-after_mark-2.ensures.front (gives _ _))))))
 
 pub going_on-returns-in_default : goal.going_on-returns-in_default
 going_on-returns-in_default t c =

@@ -1,9 +1,10 @@
 -- The law holds of each query.
+use Rattle.std.proofs.Common.{◌≡◌, rules}
+use Rattle.tilt_syntax.specs.Printing.{query_text}
 use Rattle.tilt_syntax.proofs.Law.{reads_back}
 use Rattle.tilt_syntax.proofs.printer.print.Goals as goal
 
 pub returns-clause-reads_back : goal.returns-clause-reads_back
-returns-clause-reads_back c = reads_back _ c.statements-statement-items.ensures.parsed
-
-pub returns-in_err-put_statement-clause-reads_back : goal.returns-in_err-put_statement-clause-reads_back
-returns-in_err-put_statement-clause-reads_back c = reads_back _ c.statements-statement-items.ensures.parsed
+returns-clause-reads_back c =
+    let same : c.put_statements.new.text.items ≡ query_text c.args.query.now = search rules in
+    rw same (reads_back _ c.statements.ensures.parsed)

@@ -22,18 +22,18 @@ returns-in-Some c =
     as_statement c.read_input.result (input_plan (kinds c.in-Some.behind.now)) (statement_plan (kinds c.args.tokens.now))
     (λ behind r h. met c.in-Some.ensures.front h) c.read_input.ensures
 
-pub returns-in-Some-behind_key : goal.returns-in-Some-behind_key
-returns-in-Some-behind_key c =
-    as_statement c.read_let.result (let_plan (kinds c.in-Some-behind_key.behind.now)) (statement_plan (kinds c.args.tokens.now))
-    (λ behind r h. missed c.in_default.ensures.front (met c.in-Some-behind_key.ensures.front h)) c.read_let.ensures
+pub returns-in-Some-after_key : goal.returns-in-Some-after_key
+returns-in-Some-after_key c =
+    as_statement c.read_let.result (let_plan (kinds c.in-Some-after_key.behind.now)) (statement_plan (kinds c.args.tokens.now))
+    (λ behind r h. missed c.in_default.ensures.front (met c.in-Some-after_key.ensures.front h)) c.read_let.ensures
 
-pub returns-in-Some-behind_key-2 : goal.returns-in-Some-behind_key-2
-returns-in-Some-behind_key-2 c =
-    as_statement c.read_emit.result (emit_plan (kinds c.in-Some-behind_key-2.behind.now)) (statement_plan (kinds c.args.tokens.now))
-    (λ behind r h. missed c.in_default.ensures.front (missed c.in_default-behind_key.ensures.front (
-    met c.in-Some-behind_key-2.ensures.front h)))
+pub returns-in-Some-after_key-2 : goal.returns-in-Some-after_key-2
+returns-in-Some-after_key-2 c =
+    as_statement c.read_emit.result (emit_plan (kinds c.in-Some-after_key-2.behind.now)) (statement_plan (kinds c.args.tokens.now))
+    (λ behind r h. missed c.in_default.ensures.front (missed c.in_default-after_key.ensures.front (
+    met c.in-Some-after_key-2.ensures.front h)))
     c.read_emit.ensures
 
 pub returns-in-None : goal.returns-in-None
 returns-in-None c = λ behind.
-    missed c.in_default.ensures.front (missed c.in_default-behind_key.ensures.front (missed c.in-None.ensures.front done))
+    missed c.in_default.ensures.front (missed c.in_default-after_key.ensures.front (missed c.in-None.ensures.front done))
