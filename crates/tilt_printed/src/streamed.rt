@@ -20,7 +20,20 @@ pub(crate) fn put_run<O: Sink>(out: &mut O, pipe: Pipe) -> Result<(), Unput>
     requires room { O.takes out.old (length (text_of (run_of pipe.code pipe.inputs))) }
     ensures { Prints O.tells O.written O.faults O.takes out.old out.new (text_of (run_of pipe.code pipe.inputs)) result }
 {
-    put_text(out, pipe)?;
+    put_header(out)?;
+    put_lines(out, pipe)
+}
+
+// Puts the lines of the snapshots that the pipe gives out.
+fn put_lines<O: Sink>(out: &mut O, pipe: Pipe) -> Result<(), Unput>
+    requires fresh { pipe ≡ pipe_after pipe.code pipe.inputs 0 }
+    requires room { O.takes out.old (length (lines_of (run_of pipe.code pipe.inputs))) }
+    ensures { Prints O.tells O.written O.faults O.takes out.old out.new (lines_of (run_of pipe.code pipe.inputs)) result }
+{
+    let mut pipe = pipe;
+    while let Some(snap) = pipe.next()? {
+        put_snap(out, &snap)?;
+    }
     Ok(())
 }
 
@@ -30,24 +43,24 @@ pub(crate) fn put_rings<O: Sink>(out: &mut O, pipe: Pipe) -> Result<(), Unput>
     requires room { O.takes out.old (length (rings_text pipe.code pipe.inputs)) }
     ensures { Prints O.tells O.written O.faults O.takes out.old out.new (rings_text pipe.code pipe.inputs) result }
 {
-    let most = put_text(out, pipe)?;
+    let most = put_counted_text(out, pipe)?;
     put_most(out, most)?;
     Ok(())
 }
 
 // Puts the text of the snapshots that the pipe gives out, and answers the most that its rings held.
-fn put_text<O: Sink>(out: &mut O, pipe: Pipe) -> Result<u128, Unput>
+fn put_counted_text<O: Sink>(out: &mut O, pipe: Pipe) -> Result<u128, Unput>
     requires fresh { pipe ≡ pipe_after pipe.code pipe.inputs 0 }
     requires room { O.takes out.old (length (text_of (run_of pipe.code pipe.inputs))) }
     ensures prints { Prints O.tells O.written O.faults O.takes out.old out.new (text_of (run_of pipe.code pipe.inputs)) result }
     ensures most { IfOk result (λ most. most ≡ most_ever pipe.code pipe.inputs) }
 {
     put_header(out)?;
-    put_lines(out, pipe)
+    put_counted_lines(out, pipe)
 }
 
 // Puts the lines of the snapshots that the pipe gives out, and answers the most that its rings held.
-fn put_lines<O: Sink>(out: &mut O, pipe: Pipe) -> Result<u128, Unput>
+fn put_counted_lines<O: Sink>(out: &mut O, pipe: Pipe) -> Result<u128, Unput>
     requires fresh { pipe ≡ pipe_after pipe.code pipe.inputs 0 }
     requires room { O.takes out.old (length (lines_of (run_of pipe.code pipe.inputs))) }
     ensures prints { Prints O.tells O.written O.faults O.takes out.old out.new (lines_of (run_of pipe.code pipe.inputs)) result }
@@ -55,8 +68,8 @@ fn put_lines<O: Sink>(out: &mut O, pipe: Pipe) -> Result<u128, Unput>
 {
     let mut pipe = pipe;
     let mut most = pipe.held();
-    while let Some(snap) = pipe.next()? {
-        put_snap(out, &snap)?;
+    while let Some(snapshot) = pipe.next()? {
+        put_snap(out, &snapshot)?;
         note_held(&mut most, &pipe);
     }
     Ok(most)

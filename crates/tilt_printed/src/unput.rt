@@ -14,7 +14,7 @@ pub enum Unput {
     /// A put or the flush failed.
     #[error("the output can't be written")]
     Failed,
-    /// There was no memory for the next snapshot.
+    /// There was no memory for the next snapshot, or for the places of the watchers.
     #[error("out of memory")]
     OutOfMemory,
 }

@@ -1,10 +1,9 @@
 use Rattle.std.proofs.Common.{◌≡◌, ◌∙◌, ◌≤◌, ℕ, length, ap, subst, sym, arith}
 use Rattle.std.proofs.lemmas.Option.{slice_get_within}
 use Rattle.std.proofs.lemmas.Result.{err_from_is_err_and}
-use Rattle.tilt_printed.proofs.Streams.{line-failed, line-put, line-room, line-wanting, lines-none, lines-put, most-first, most-later, next-of, none-of, one-later, place-end}
+use Rattle.tilt_printed.proofs.Streams.{line-failed, line-put, line-room, line-wanting, lines-none, lines-put, next-of, one-later}
 use Rattle.tilt_code.specs.Run.{run_of}
 use Rattle.tilt_pipe.proofs.Collected.{nothing-left}
-use Rattle.tilt_pipe.specs.Rings.{most_held}
 use Rattle.tilt_pipe.specs.Value.{PipeParts, pipe_after}
 use Rattle.tilt_printed.proofs.streamed.put_lines.Goals as goal
 
@@ -14,12 +13,11 @@ loop-pipe-init g c =
     record {
       is = c.requires.fresh ∙ ap (pipe_after c.args.pipe.code c.args.pipe.inputs) (sym given);
       within = subst (λ (n : ℕ). n ≤ length (run_of c.args.pipe.code c.args.pipe.inputs)) (sym given) (omega arith);
-      most = c.held-most.ensures ∙ most-first c.args.pipe.code c.args.pipe.inputs c.args.pipe c.requires.fresh;
       prints = lines-none _ _ _ _ _ (run_of c.args.pipe.code c.args.pipe.inputs) c.args.pipe.given given;
     }
 
-pub returns-in_err-snap-clause-prints : goal.returns-in_err-snap-clause-prints
-returns-in_err-snap-clause-prints g c =
+pub returns-in_err-snap : goal.returns-in_err-snap
+returns-in_err-snap g c =
     let p = err_from_is_err_and c.from_residual.result c.from_residual.ensures.1 in
     line-wanting _ _ _ _ _ _ (run_of c.args.pipe.code c.args.pipe.inputs) c.loop-pipe.pipe.given c.loop-pipe.invariant.prints p.0 c.from_residual.result p.1 p.2
 
@@ -48,29 +46,20 @@ loop-pipe-preserved g c =
     record {
       is = later.1;
       within = omega arith;
-      most = c.note_held.ensures
-          ∙ most-later c.args.pipe.code c.args.pipe.inputs c.loop-pipe.pipe c.next.new.self c.loop-pipe.most i.most later;
       prints = line-put _ _ _ _ _ _ (run_of c.args.pipe.code c.args.pipe.inputs) c.loop-pipe.pipe.given i.prints c.in-Some.snap _ c.next.new.self.given later.0
           (next ∙ c.in-Some.is) c.in_ok-put_snap.ensures;
     }
 
-pub returns-in_err-put_snap-clause-prints : goal.returns-in_err-put_snap-clause-prints
-returns-in_err-put_snap-clause-prints g c =
+pub returns-in_err-put_snap : goal.returns-in_err-put_snap
+returns-in_err-put_snap g c =
     let i = c.loop-pipe.invariant in
     let next = next-of c.args.pipe.code c.args.pipe.inputs c.loop-pipe.pipe c.in_ok-snap.field-0 i.is c.in_ok-snap.ensures.given in
     line-failed _ _ _ _ _ _ (run_of c.args.pipe.code c.args.pipe.inputs) c.loop-pipe.pipe.given i.prints c.in-Some.snap _ _ c.from_residual-in_err-put_snap.result
     c.from_residual-in_err-put_snap.ensures.0 (next ∙ c.in-Some.is) c.in_err-put_snap.ensures
 
-pub returns-clause-prints : goal.returns-clause-prints
-returns-clause-prints g c =
+pub returns : goal.returns
+returns g c =
     let i = c.loop-pipe.invariant in
     let next = next-of c.args.pipe.code c.args.pipe.inputs c.loop-pipe.pipe c.in_ok-snap.field-0 i.is c.in_ok-snap.ensures.given in
     lines-put _ _ _ _ _ _ (run_of c.args.pipe.code c.args.pipe.inputs) c.loop-pipe.pipe.given i.prints _
     (nothing-left (run_of c.args.pipe.code c.args.pipe.inputs) c.loop-pipe.pipe.given c.in_ok-snap.field-0 next c.in_default.not-Some)
-
-pub returns-clause-most : goal.returns-clause-most
-returns-clause-most g c =
-    let i = c.loop-pipe.invariant in
-    let next = next-of c.args.pipe.code c.args.pipe.inputs c.loop-pipe.pipe c.in_ok-snap.field-0 i.is c.in_ok-snap.ensures.given in
-    i.most ∙ ap (most_held c.args.pipe.code c.args.pipe.inputs)
-    (place-end (run_of c.args.pipe.code c.args.pipe.inputs) c.loop-pipe.pipe.given (none-of next c.in_default.not-Some) i.within)

@@ -1,7 +1,6 @@
 use Rattle.std.proofs.Common.{◌≡◌, ◌≤◌, ◌-◌, length, take, Ok}
 use Rattle.tilt_printed.specs.Prints.{Prints}
 use Rattle.tilt_code.specs.Run.{run_of}
-use Rattle.tilt_pipe.specs.Rings.{most_held}
 use Rattle.tilt_pipe.specs.Value.{pipe_after}
 use Rattle.tilt_stream.specs.Text.{lines_of}
 use Rattle.tilt_printed.proofs.streamed.put_lines.Given as goal
@@ -13,7 +12,6 @@ invariant-loop-pipe g l =
     record {
       is : l.pipe ≡ pipe_after code rows l.pipe.given;
       within : l.pipe.given ≤ length (run_of code rows);
-      most : l.most ≡ most_held code rows l.pipe.given;
       prints : Prints {T = Unit {0}} g.O.Sink.tells g.O.Sink.written g.O.Sink.faults g.O.Sink.takes l.initial.out l.out (lines_of (take l.pipe.given (run_of code rows))) (Ok tt);
     }
 
