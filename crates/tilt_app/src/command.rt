@@ -132,16 +132,17 @@ fn tell<E: Sink>(err: &mut E, fault: &Fault<'_>) -> u8
 /// what `run` puts, and then the line of how many snapshots the loops held at most. `watch QUERY NAME=FILE ..`
 /// puts what `run` puts, shows each row to the watchers once its line was put, drops those that have seen enough, and puts a line of the
 /// figures of each. `parts QUERY NAME=FILE .. --at TIME,TIME ..` puts what `run` puts, by parts of the output domain, and then the line of
-/// how many snapshots come from each. `flow FILE NAME=FILE ..` puts the text of what a pipeline of operators gives. `try SEED COUNT`
+/// how many snapshots come from each. `fix QUERY NAME=FILE .. --edits FILE` puts what `run` puts of the corrected rows, and then a line
+/// for each correction. `flow FILE NAME=FILE ..` puts the text of what a pipeline of operators gives. `try SEED COUNT`
 /// reads nothing: it puts the summary of a query on that many rows for each input, which are made from the seed. `start QUERY ..`
 /// puts what `run` would put by a cut, and `resume CHECKPOINT ..` the lines after it; where they end by a cut, the bytes of a
 /// checkpoint are saved after all puts. Where that isn't done, one line that tells why goes to `err`, and nothing else. A
 /// fault of `err` changes nothing.
 ///
-/// The first refusal is told: that of the words, then of the query, the pipeline, the code or the checkpoint, then of the cuts or the
-/// order of parts, then of the names that are bound, then of the series in the order in which the inputs are declared. `run` without
-/// cuts, `pipe`, `watch` and `flow` take memory between puts, so that it may be wanting after a prefix of the text. All other commands
-/// take all memory before the first put.
+/// The first refusal is told: that of the words, then of the query, the pipeline, the code or the checkpoint, then of the names that are
+/// given cuts, then of the cuts or the order of parts, then of the names that are bound, then of the series in the order in which the
+/// inputs are declared, and then of the corrections. `run` without cuts, `pipe`, `watch` and `flow` take memory between puts, so that it
+/// may be wanting after a prefix of the text. All other commands take all memory before the first put.
 ///
 /// The answer is the status that the program ends with: 0 done, 1 refused, 2 the words are no command, 3 a read failed, 4 a
 /// put or the flush failed, 5 there was no memory, 6 the save failed.

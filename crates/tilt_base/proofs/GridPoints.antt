@@ -4,8 +4,26 @@ use Rattle.std.specs.Int.{int_rem_euclid}
 use Rattle.std.proofs.lemmas.Bool.{false≢true}
 use Rattle.std.proofs.lemmas.Bool.Decides.{Decides-int_eq}
 use Rattle.std.proofs.lemmas.Int.{ints}
-use Rattle.tilt_base.specs.Grid.{GridPoints, IsPoint, IsCeil, IsFloor, is_point, ceil, floor}
+use Rattle.tilt_base.specs.Grid.{GridPoints, IsGrid, IsPoint, IsCeil, IsFloor, is_grid, is_point, ceil, floor}
 use Rattle.tilt_base.proofs.Multiples.{mul_add, mul_neg, mul_before, mul_above, IsLeft, rem_euclid-left, rem_euclid_same}
+
+-- the test for a grid is passed by grids alone
+pub tested-IsGrid : (grid : GridPoints) → is_grid grid ≡ true → IsGrid grid
+tested-IsGrid grid h = record {
+  period_low = grind (arith, ints);
+  period_high = grind (arith, ints);
+  offset_low = grind (arith, ints);
+  offset_high = grind (arith, ints);
+}
+
+-- and each grid passes it
+pub IsGrid-tested : (grid : GridPoints) → IsGrid grid → is_grid grid ≡ true
+IsGrid-tested grid h =
+    let period_low = h.period_low in
+    let period_high = h.period_high in
+    let offset_low = h.offset_low in
+    let offset_high = h.offset_high in
+    grind (arith, ints)
 
 -- what is left from a tick up to the offset, by what is left from the offset up to the tick: nothing where that is
 -- nothing, and the rest of a period elsewhere

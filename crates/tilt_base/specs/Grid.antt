@@ -1,5 +1,5 @@
 -- Grids: the ticks at which an expression is taken (the TiLT paper's precision; the offset is our own rule).
-use Rattle.std.specs.Prelude.{◌≡◌, ℤ, pos, ◌+ℤ◌, ◌-ℤ◌, ◌*ℤ◌, ◌≤ℤ◌, ◌<ℤ◌, Bool}
+use Rattle.std.specs.Prelude.{◌≡◌, ℤ, pos, ◌+ℤ◌, ◌-ℤ◌, ◌*ℤ◌, ◌≤ℤ◌, ◌<ℤ◌, Bool, ◌&&◌, int_le, int_lt}
 use Rattle.std.specs.Int.{int_rem_euclid}
 use Rattle.std.specs.Ordering.{int_eq}
 use Rattle.tilt_base.specs.declared.limits.TheConstants.{PERIOD}
@@ -15,6 +15,10 @@ pub record IsGrid (grid : GridPoints) : Type 0 where
   pub period_high : grid.period ≤ℤ PERIOD
   pub offset_low : pos 0 ≤ℤ grid.offset
   pub offset_high : grid.offset <ℤ grid.period
+
+-- whether a period is one that a grid may have, and an offset is below it
+abbrev pub is_grid : GridPoints → Bool
+is_grid grid = int_le (pos 1) grid.period && int_le grid.period PERIOD && int_le (pos 0) grid.offset && int_lt grid.offset grid.period
 
 -- a grid point: a tick that lies a multiple of the period from the offset
 abbrev pub IsPoint : GridPoints → ℤ → Type 0

@@ -28,3 +28,8 @@ within_64_bits (negsuc n) = if nat_lt n (2 ^ 63) then Some (negsuc n) else None
 -- the number of 64 bits that the bytes spell
 abbrev pub number_spelled : List ℕ → Option ℤ
 number_spelled bytes = option_and_then within_64_bits (integer_spelled bytes)
+
+-- the value that the bytes spell, which is null where there are none
+abbrev pub cell_spelled : List ℕ → Option (Option ℤ)
+cell_spelled [] = Some None
+cell_spelled (c ∷ cs) = option_map Some (number_spelled (c ∷ cs))

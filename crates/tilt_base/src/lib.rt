@@ -21,7 +21,7 @@ mod span;
 pub use cell::Cell;
 pub use grid::Grid;
 pub use limits::{FILE, OFFSET, PERIOD, REACH, T, WIDE};
-pub use number::{read_number, read_shortest};
+pub use number::{read_cell, read_number, read_shortest};
 pub use operator::{Op1, Op2};
 pub use reducer::{Reducer, reduce};
 pub use scalar::{apply1, apply2, choose};

@@ -4,8 +4,9 @@ ghost use Rattle.std.specs.Prelude.{option_and_then};
 ghost use Rattle.std.specs.Char.{digit_value, is_ascii_digit};
 ghost use Rattle.std.specs.Int.{w64};
 ghost use Rattle.std.specs.Fmt.{signed_decimal};
-ghost use Rattle.tilt_base.specs.Number.{natural_spelled, number_spelled, within_u64};
+ghost use Rattle.tilt_base.specs.Number.{cell_spelled, natural_spelled, number_spelled, within_u64};
 
+use crate::cell::Cell;
 use itoa::Buffer;
 
 // So many digits spell a number below 2^63, whichever they are.
@@ -20,6 +21,18 @@ pub fn read_number(bytes: &[u8]) -> Option<i64>
         read_short(bytes)
     } else {
         read_long(bytes)
+    }
+}
+
+/// The value that the bytes spell: null where there are none, and else their number, as `read_number` reads it.
+#[inline]
+pub fn read_cell(bytes: &[u8]) -> Option<Cell>
+    ensures { result ≡ cell_spelled bytes.now }
+{
+    if bytes.is_empty() {
+        Some(None)
+    } else {
+        read_number(bytes).map(Some)
     }
 }
 

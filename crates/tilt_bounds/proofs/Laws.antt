@@ -1,21 +1,19 @@
 -- The laws of needs, of every core.
-use Rattle.std.proofs.Common.{◌≡◌, ℕ, zero, suc, ◌+◌, ◌<◌, ℤ, pos, ◌+ℤ◌, ◌-ℤ◌, ◌≤ℤ◌, ◌<ℤ◌, List, [], ◌∷◌, ◌++◌, length, map, Option, Some, None, ◌⊎◌, inl, inr, refl, sym, ap, ◌∙◌, arith, subst}
-use Rattle.std.proofs.Common.{get_or}
+use Rattle.std.proofs.Common.{◌≡◌, ℕ, zero, suc, ◌<◌, ℤ, pos, ◌-ℤ◌, ◌≤ℤ◌, ◌<ℤ◌, List, [], ◌∷◌, ◌++◌, length, map, Option, Some, None, inl, inr, refl, sym, ap, ◌∙◌, arith}
 use Rattle.std.specs.Int.{int_min}
 use Rattle.std.proofs.lemmas.Int.{ints, clamps}
 use Rattle.std.proofs.lemmas.List.{length-map}
 use Rattle.tilt_base.specs.declared.limits.TheConstants.{T}
 use Rattle.tilt_stream.proofs.Streams.{cell_at-before, mark_at-before}
-use Rattle.tilt_stream.specs.Agreement.{Agree}
 use Rattle.tilt_stream.specs.Snap.{Snapshot, InOrder}
 use Rattle.tilt_stream.specs.Stream.{Stream, stream_of, cell_at, mark_at}
 use Rattle.tilt_core.proofs.Sources.{with_definitions-front}
 use Rattle.tilt_core.specs.Core.{CoreParts, IsCore}
-use Rattle.tilt_core.specs.Meaning.{source_of, with_definitions, meaning}
+use Rattle.tilt_core.specs.Meaning.{source_of, meaning}
 use Rattle.tilt_core.specs.Needs.{Need, asked_from, needs}
 use Rattle.tilt_bounds.proofs.Local.{with_definitions-agrees}
 use Rattle.tilt_bounds.proofs.Needs.{below_or_behind, need_at-input, need_at-definition}
-use Rattle.tilt_bounds.specs.Laws.{AgreeAsAsked, IsLocal, IsContinued, AreContinued, SameUpTo, StaysAsAsked, IsCausal}
+use Rattle.tilt_bounds.specs.Laws.{AgreeAsAsked, IsLocal, AreContinued, SameUpTo, StaysAsAsked, IsCausal}
 use Rattle.tilt_bounds.specs.Margins.{MarginsParts, IsWithin, AreWithin, need_at}
 
 -- the meaning of an input is its rows

@@ -1,5 +1,5 @@
 -- The margins that a core has, or that it has none.
-use Rattle.std.proofs.Common.{◌≡◌, ℕ, ◌+◌, ℤ, pos, ◌≤ℤ◌, true, false, List, ◌++◌, length, map, take, drop, Option, Some, None, Result, Ok, Err, refl, sym, ap, subst, ◌∙◌, arith}
+use Rattle.std.proofs.Common.{◌≡◌, ℕ, ◌≤ℤ◌, true, false, List, ◌++◌, length, map, take, drop, Option, Some, None, Ok, Err, refl, sym, ap, subst, ◌∙◌, arith}
 use Rattle.std.specs.List.{range_with_len}
 use Rattle.std.proofs.Math.Seq.{take-append_seam, drop-append_seam}
 use Rattle.std.proofs.lemmas.Int.{ints}
@@ -11,7 +11,7 @@ use Rattle.tilt_core.specs.CoreTree.{Definition}
 use Rattle.tilt_core.specs.Needs.{Need, asked_from, needs_from, needs, body_needs, widest, reach}
 use Rattle.tilt_bounds.proofs.Needs.{AreWithin-widest, widest-low}
 use Rattle.tilt_bounds.proofs.Steps.{length-needs_from}
-use Rattle.tilt_bounds.specs.Margins.{MarginsParts, IsWithin, AreWithin, evenly, is_too_far, margins_of, need_at}
+use Rattle.tilt_bounds.specs.Margins.{IsWithin, AreWithin, evenly, is_too_far, margins_of, need_at}
 
 -- no part is above the limit
 pub near : (n : Need) → is_too_far n ≡ false → (n.back ≤ℤ REACH) × (n.ahead ≤ℤ REACH)

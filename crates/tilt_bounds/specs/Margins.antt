@@ -1,5 +1,5 @@
 -- How far a query looks, as plain data, and when that is too far (our own rule).
-use Rattle.std.specs.Prelude.{◌≡◌, ℕ, ℤ, pos, ◌≤ℤ◌, Bool, ◌||◌, if◌then◌else◌, List, map, length, Option, Some, None, Result, Ok, Err}
+use Rattle.std.specs.Prelude.{◌≡◌, ℕ, ℤ, pos, ◌≤ℤ◌, Bool, ◌||◌, if◌then◌else◌, List, length, Option, Some, None, Result, Ok, Err}
 use Rattle.std.specs.Prelude.{int_lt, MatchResult, ⊤, refl}
 use Rattle.std.specs.Coded.{Coded, code_by, coded×, coded_ℤ, coded_list, coded_option}
 use Rattle.std.specs.List.{slice_index_or}

@@ -1,5 +1,5 @@
 -- The stretch of time on which the loop of a definition runs (our own rule).
-use Rattle.std.specs.Prelude.{◌≡◌, ℤ, ◌+ℤ◌, ◌-ℤ◌, true, false, if◌then◌else◌, Option, Some, None, int_lt}
+use Rattle.std.specs.Prelude.{ℤ, ◌+ℤ◌, ◌-ℤ◌, true, false, if◌then◌else◌, Option, Some, None, int_lt}
 use Rattle.std.specs.Int.{int_min, int_max}
 use Rattle.tilt_base.specs.declared.span.Span.{Span}
 use Rattle.tilt_core.specs.CoreTree.{Definition}

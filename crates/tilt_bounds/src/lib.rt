@@ -18,5 +18,5 @@ mod widest;
 pub use fault::ReachFault;
 pub use loop_span::{LoopSpan, stretch};
 pub use margins::Margins;
-pub use need::Need;
+pub use need::{Need, need_at};
 pub use query_reach::reach;

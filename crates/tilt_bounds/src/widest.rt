@@ -1,5 +1,5 @@
 // The widest of the needs of a query.
-ghost use Rattle.std.specs.Prelude.{◌≡◌, ◌+◌, ◌*◌, ◌++◌, ◌≤◌, ◌^◌, pos, length, take, drop};
+ghost use Rattle.std.specs.Prelude.{◌≡◌, ◌+◌, ◌*◌, ◌++◌, ◌^◌, pos, length, take, drop};
 ghost use Rattle.tilt_core.specs.Needs.{body_needs, widest};
 ghost use Rattle.tilt_bounds.specs.Margins.{AreWithin, evenly};
 

@@ -76,15 +76,6 @@ never-by (o ∷ os) old new kept cut is on = falls old.each new.each kept cut is
 pub not-both : (old new : CutsParts) → IsOnward old (Upto new) → (back : ℤ × ℤ) → first_fall old new ≡ Some back → ⊥
 not-both old new on back is = never-by old.each old new back.0 back.1 is on
 
--- one of the two holds
-pub onward-or-falls : (old new : CutsParts) → AreCuts old → AreCuts new → length new.each ≡ length old.each
-    → IsOnward old (Upto new) ⊎ ((back : ℤ × ℤ) × (first_fall old new ≡ Some back))
-onward-or-falls old new are_old are_new e = by (first_fall old new) refl
-  where
-    by : (told : Option (ℤ × ℤ)) → first_fall old new ≡ told → IsOnward old (Upto new) ⊎ ((back : ℤ × ℤ) × (first_fall old new ≡ Some back))
-    by None is = inl (none-onward old new are_old.least are_new.least e is)
-    by (Some back) is = inr (back, is)
-
 -- whether there are inputs, by a test
 pub none-there : (series : List KeptParts) → (length series == 0) ≡ true → series ≡ []
 none-there [] is = refl

@@ -1,6 +1,6 @@
 -- What is read of a line is its text, and its text is read.
 use Rattle.std.proofs.Common.{◌≡◌, ℕ, ◌^◌, ◌<◌, Bool, true, false, ◌&&◌, not, if◌then◌else◌, List, [], ◌∷◌, ◌++◌, Option, Some, None}
-use Rattle.std.proofs.Common.{ℤ, pos, neg_ℤ, FitsSigned, refl, sym, ap, ◌∙◌, subst, arith, inl, inr, append-nil, append_assoc}
+use Rattle.std.proofs.Common.{ℤ, neg_ℤ, FitsSigned, refl, sym, ap, ◌∙◌, subst, arith, inl, inr, append-nil, append_assoc}
 use Rattle.std.specs.Prelude.{codes, ◌==◌, int_lt, int_le}
 use Rattle.std.specs.Fmt.{decimal, signed_decimal}
 use Rattle.std.specs.Int.{w64}
@@ -11,9 +11,10 @@ use Rattle.std.proofs.lemmas.Int.{ints}
 use Rattle.std.proofs.lemmas.List.Splits.{join_with_byte-slice_split}
 use Rattle.std.proofs.lemmas.Option.{same_Some}
 use Rattle.tilt_base.proofs.Comparisons.{lt_true, true_lt, le_true, true_le, bytes_same}
-use Rattle.tilt_base.specs.Grid.{GridPoints, IsGrid}
+use Rattle.tilt_base.proofs.GridPoints.{IsGrid-tested, tested-IsGrid}
+use Rattle.tilt_base.specs.Grid.{GridPoints, IsGrid, is_grid}
 use Rattle.tilt_base.specs.Reduce.{reducer_word}
-use Rattle.tilt_base.specs.declared.limits.TheConstants.{WIDE, PERIOD}
+use Rattle.tilt_base.specs.declared.limits.TheConstants.{WIDE}
 use Rattle.tilt_base.specs.declared.operator.Op1.{Op1}
 use Rattle.tilt_base.specs.declared.operator.Op1.TheVariants as op1
 use Rattle.tilt_base.specs.declared.operator.Op2.{Op2}
@@ -28,7 +29,7 @@ use Rattle.tilt_lexer.specs.Word.{goes_on_word, is_word, IsWord, IsName}
 use Rattle.tilt_lexer.proofs.Fronts.{word_goes_on}
 use Rattle.tilt_code.specs.Grammar.{IsInstr, IsNumber, IsStretch, IsWindow}
 use Rattle.tilt_code.specs.Line.{one_word, two_word, buffer_word, register_word, map_word, instr_words, line_words, line_text, spaced}
-use Rattle.tilt_code.specs.Reading.{named, word_at, number_at, only, pieces, is_reserved, is_input_name, input_line, is_grid}
+use Rattle.tilt_code.specs.Reading.{named, word_at, number_at, only, pieces, is_reserved, is_input_name, input_line}
 use Rattle.tilt_code.specs.Reading.{is_stretch, grid_of, head_at, title_at, step_at, other_at, whole_line, last_word, line_of}
 use Rattle.tilt_code.specs.Reading.{instr_at}
 use Rattle.tilt_code.specs.declared.instr.Instr.{Instr}
@@ -73,24 +74,6 @@ true_stretch : (lo hi : ℤ) → IsStretch lo hi → is_stretch lo hi ≡ true
 true_stretch lo hi h =
     and_from (int_le (neg_ℤ WIDE) lo && int_lt lo hi) (int_le hi WIDE)
     (and_from (int_le (neg_ℤ WIDE) lo) (int_lt lo hi) (true_le (neg_ℤ WIDE) lo h.low) (true_lt lo hi h.some_ticks)) (true_le hi WIDE h.high)
-
-grid_true : (grid : GridPoints) → is_grid grid.period grid.offset ≡ true → IsGrid grid
-grid_true grid h =
-    let p = and_parts (int_le (pos 1) grid.period && int_le grid.period PERIOD && int_le (pos 0) grid.offset) (int_lt grid.offset grid.period) h in
-    let q = and_parts (int_le (pos 1) grid.period && int_le grid.period PERIOD) (int_le (pos 0) grid.offset) p.0 in
-    let r = and_parts (int_le (pos 1) grid.period) (int_le grid.period PERIOD) q.0 in
-    record {
-      period_low = le_true (pos 1) grid.period r.0;
-      period_high = le_true grid.period PERIOD r.1;
-      offset_low = le_true (pos 0) grid.offset q.1;
-      offset_high = lt_true grid.offset grid.period p.1;
-    }
-
-true_grid : (grid : GridPoints) → IsGrid grid → is_grid grid.period grid.offset ≡ true
-true_grid grid h =
-    let q = and_from (int_le (pos 1) grid.period) (int_le grid.period PERIOD) (true_le (pos 1) grid.period h.period_low) (true_le grid.period PERIOD h.period_high) in
-    let p = and_from (int_le (pos 1) grid.period && int_le grid.period PERIOD) (int_le (pos 0) grid.offset) q (true_le (pos 0) grid.offset h.offset_low) in
-    and_from (int_le (pos 1) grid.period && int_le grid.period PERIOD && int_le (pos 0) grid.offset) (int_lt grid.offset grid.period) p (true_lt grid.offset grid.period h.offset_high)
 
 stretch_fits : (lo hi : ℤ) → IsStretch lo hi → FitsSigned w64 lo × FitsSigned w64 hi
 stretch_fits lo hi h =
@@ -150,14 +133,14 @@ head_takes words l rest e =
     let p = bind_some (number_at hi.0.1) (head3 lo.0 hi.0) (l, rest) hi.2 in
     let o = bind_some (number_at p.0.1) (head4 lo.0 hi.0 p.0) (l, rest) p.2 in
     let grid = bind_some (grid_of p.0.0 o.0.0) (head5 lo.0 hi.0 p.0 o.0) (l, rest) o.2 in
-    let made = guard_some (is_grid p.0.0 o.0.0) (Some (record { period = p.0.0; offset = o.0.0 })) grid.0 grid.1 in
+    let made = guard_some (is_grid (record { period = p.0.0; offset = o.0.0 })) (Some (record { period = p.0.0; offset = o.0.0 })) grid.0 grid.1 in
     let same = same_Some (record { period = p.0.0; offset = o.0.0 }) grid.0 made.1 in
     let g = guard_some (is_stretch lo.0.0 hi.0.0) (Some (line.Head lo.0.0 hi.0.0 grid.0, o.0.1)) (l, rest) grid.2 in
     let los = number_takes words lo.0.0 lo.0.1 lo.1 in
     let his = number_takes lo.0.1 hi.0.0 hi.0.1 hi.1 in
     let ps = number_takes hi.0.1 p.0.0 p.0.1 p.1 in
     let os = number_takes p.0.1 o.0.0 o.0.1 o.1 in
-    let is-grid = grid_true (record { period = p.0.0; offset = o.0.0 }) made.0 in
+    let is-grid = tested-IsGrid (record { period = p.0.0; offset = o.0.0 }) made.0 in
     let parts = los.0 ∙ ap (λ (ws : Words). signed_decimal lo.0.0 ∷ ws) (his.0 ∙ ap (λ (ws : Words). signed_decimal hi.0.0 ∷ ws) (ps.0 ∙ ap (λ (ws : Words). signed_decimal p.0.0 ∷ ws) os.0)) in
     spells_line (codes "loop") words (line.Head lo.0.0 hi.0.0 grid.0) l o.0.1 rest g.1
     (ap (λ (ws : Words). codes "loop" ∷ ws) parts ∙ ap (λ (k : GridPoints). line_words (line.Head lo.0.0 hi.0.0 k) ++ o.0.1) same) (stretch_true lo.0.0 hi.0.0 g.0, subst IsGrid same is-grid)
@@ -249,7 +232,7 @@ head_again lo hi grid s g =
     ∙ ap (λ (o : Option (ℤ × Words)). o >>= head2 (lo, rest1)) (number_again hi rest2 ends.1)
     ∙ ap (λ (o : Option (ℤ × Words)). o >>= head3 (lo, rest1) (hi, rest2)) (number_again grid.period rest3 points.0)
     ∙ ap (λ (o : Option (ℤ × Words)). o >>= head4 (lo, rest1) (hi, rest2) (grid.period, rest3)) (number_again grid.offset [] points.1)
-    ∙ ap (λ (t : Bool). (if t then Some grid else None) >>= head5 (lo, rest1) (hi, rest2) (grid.period, rest3) (grid.offset, [])) (true_grid grid g)
+    ∙ ap (λ (t : Bool). (if t then Some grid else None) >>= head5 (lo, rest1) (hi, rest2) (grid.period, rest3) (grid.offset, [])) (IsGrid-tested grid g)
     ∙ ap (λ (t : Bool). if t then Some (line.Head lo hi grid, []) else None) (true_stretch lo hi s)
 
 -- and its words are read

@@ -3,9 +3,9 @@ use Rattle.std.specs.Prelude.{ℕ, ◌^◌, ◌==◌, ℤ, pos, negsuc, neg_ℤ,
 use Rattle.std.specs.Prelude.{if◌then◌else◌, List, [], ◌∷◌, Option, Some, None, MatchOption, codes, ◌≡◌}
 use Rattle.std.specs.List.{find, list_any, slice_split}
 use Rattle.std.specs.Str.{bytes_eq}
-use Rattle.tilt_base.specs.Grid.{GridPoints}
+use Rattle.tilt_base.specs.Grid.{GridPoints, is_grid}
 use Rattle.tilt_base.specs.Reduce.{reducer_word}
-use Rattle.tilt_base.specs.declared.limits.TheConstants.{OFFSET, PERIOD, WIDE}
+use Rattle.tilt_base.specs.declared.limits.TheConstants.{OFFSET, WIDE}
 use Rattle.tilt_base.specs.declared.operator.Op1.{Op1}
 use Rattle.tilt_base.specs.declared.reducer.Reducer.{Reducer}
 use Rattle.tilt_text.specs.Spelled.{shortest}
@@ -153,13 +153,10 @@ title_at words = do
 abbrev pub is_stretch : ℤ → ℤ → Bool
 is_stretch lo hi = int_le (neg_ℤ WIDE) lo && int_lt lo hi && int_le hi WIDE
 
--- whether a period and an offset bound a grid
-abbrev pub is_grid : ℤ → ℤ → Bool
-is_grid period offset = int_le (pos 1) period && int_le period PERIOD && int_le (pos 0) offset && int_lt offset period
-
 -- the grid, where the numbers bound one
 abbrev pub grid_of : ℤ → ℤ → Option GridPoints
-grid_of period offset = if is_grid period offset then Some (record { period = period; offset = offset }) else None
+grid_of period offset =
+    if is_grid (record { period = period; offset = offset }) then Some (record { period = period; offset = offset }) else None
 
 -- the first line of a loop
 abbrev pub head_at : List (List ℕ) → Option (Line × List (List ℕ))

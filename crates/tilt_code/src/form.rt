@@ -1,5 +1,4 @@
 // The words of an instruction, read.
-ghost use Rattle.std.specs.Prelude.{◌≡◌};
 ghost use Rattle.std.specs.List.{find};
 ghost use Rattle.std.specs.Str.{bytes_eq};
 ghost use Rattle.tilt_code.specs.Line.{one_word};

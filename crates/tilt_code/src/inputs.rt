@@ -8,7 +8,7 @@ use std::collections::BTreeSet;
 use std::marker::Model;
 use tilt_lexer::Name;
 
-// InputNames in order, and a set of their bytes, in which one is looked up in few steps. A clause sees them as their list.
+// Names in order, and a set of their bytes, in which one is looked up in few steps. A clause sees them as their list.
 #[derive(Drop)]
 pub(crate) struct InputNames {
     list: Vec<Name>,

@@ -3,7 +3,7 @@ ghost use Rattle.std.specs.Prelude.{◌≡◌, ◌++◌, [], ◌∷◌, map, fla
 ghost use Rattle.std.specs.Fmt.{decimal, signed_decimal};
 ghost use Rattle.tilt_base.specs.Reduce.{reducer_word};
 ghost use Rattle.tilt_code.specs.declared.line.Line.TheVariants.{Head, Input, Step};
-ghost use Rattle.tilt_code.specs.Line.{buffer_word, instr_words, line_text, one_word, register_word, spaced, two_word};
+ghost use Rattle.tilt_code.specs.Line.{buffer_word, instr_words, line_text, one_word, spaced, two_word};
 ghost use Rattle.tilt_code.specs.Listing.{block_lines, ended, listing, loop_lines, map_lines};
 
 use crate::code::Code;
@@ -140,12 +140,7 @@ fn put_instr(text: &mut Vec<u8>, instr: Instr) -> Result<(), OutOfMemory>
         }
         Instr::Null => put(text, b"null"),
         Instr::Argument => put(text, b"cell"),
-        Instr::Port { buffer, offset } => {
-            put(text, b"port")?;
-            put_named(text, b" b", buffer)?;
-            put(text, b" ")?;
-            put_number(text, offset)
-        }
+        Instr::Port { buffer, offset } => put_port(text, buffer, offset),
         Instr::Win {
             reducer,
             buffer,
@@ -175,6 +170,17 @@ fn put_instr(text: &mut Vec<u8>, instr: Instr) -> Result<(), OutOfMemory>
             put_named(text, b" r", b)
         }
     }
+}
+
+// Puts a port.
+fn put_port(text: &mut Vec<u8>, buffer: u32, offset: i64) -> Result<(), OutOfMemory>
+    ensures { OnOk result (text.new.items
+        ≡ text.old.items ++ spaced (codes "port" ∷ buffer_word buffer ∷ signed_decimal offset ∷ [])) }
+{
+    put(text, b"port")?;
+    put_named(text, b" b", buffer)?;
+    put(text, b" ")?;
+    put_number(text, offset)
 }
 
 // Puts a window without its map.

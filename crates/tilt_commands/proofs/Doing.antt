@@ -75,17 +75,6 @@ module _ {T W : Type 0} (query : List ℕ) (gives : W → CoreParts → List (Li
     rest = loads.rest;
   })
 
-  -- there was no memory for what is made of them
-  pub does_short : (run : LoadedRun) (fault : Fault) (told : Result T Fault) → told ≡ Err fault → report_of fault ≡ out_of_memory
-      → Loads query binds shelf (Ok run) → Does (λ w. query_row query (gives w)) comes keeps query binds shelf told
-  does_short run fault told same memory loads = rw same (record {
-    made = λ t. tt;
-    kept = tt;
-    fault = λ w. rw memory tt;
-    read = λ t. tt;
-    rest = loads.rest;
-  })
-
   -- it was made
   pub does_made : (run : LoadedRun) (x : T) → ((w : W) → gives w run.accepted.core run.rows.items (comes w x)) → keeps x
       → Loads query binds shelf (Ok run) → Does (λ w. query_row query (gives w)) comes keeps query binds shelf (Ok x)

@@ -1,11 +1,11 @@
 // What is told of a query.
-ghost use Rattle.std.specs.Prelude.{◌≡◌, ◌++◌, ◌+◌, ◌≤◌, [], ℕ, List, Ok, IfOk, OnOk, codes, length, map, if◌then◌else◌};
-ghost use Rattle.tilt_bounds.specs.Margins.{margins_of, need_at, need_of};
+ghost use Rattle.std.specs.Prelude.{◌≡◌, ◌++◌, ◌+◌, ℕ, List, Ok, IfOk, OnOk, codes, length, map, if◌then◌else◌};
+ghost use Rattle.tilt_bounds.specs.Margins.{margins_of, need_of};
 ghost use Rattle.tilt_fuse.specs.Plan.{has_loop};
 ghost use Rattle.tilt_explain.specs.Explain.{explained, input_lines, let_lines, loops_line, reach_line, source_line, spaced};
 
 use std::alloc::{AllocError as OutOfMemory, Global};
-use tilt_bounds::{Margins, Need};
+use tilt_bounds::{Margins, Need, need_at};
 use tilt_core::Core;
 use tilt_fuse::{PlanLoop, plan};
 use tilt_lexer::Name;
@@ -120,16 +120,6 @@ fn word_of(loops: bool) -> &'static [u8]
     ensures { result.now ≡ (if loops then codes " loop" else codes " merged") }
 {
     if loops { b" loop" } else { b" merged" }
-}
-
-// The need of a source; one that isn't there isn't used.
-fn need_at(needs: &[Need], source: usize) -> Need
-    ensures { need_of result ≡ need_at (map need_of needs.now) source }
-{
-    match needs.get(source) {
-        Some(need) => *need,
-        None => Need::Unused,
-    }
 }
 
 // Whether one of the loops is that of a definition.

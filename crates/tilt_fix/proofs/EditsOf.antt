@@ -7,10 +7,10 @@ use Rattle.std.proofs.lemmas.Bool.{and_parts}
 use Rattle.std.proofs.lemmas.Int.{ints}
 use Rattle.std.proofs.lemmas.List.Quantifiers.{position-Some}
 use Rattle.std.proofs.lemmas.Option.{none-some, same_Some}
-use Rattle.tilt_base.specs.Number.{number_spelled}
+use Rattle.tilt_base.specs.Number.{cell_spelled, number_spelled}
 use Rattle.tilt_base.specs.declared.limits.TheConstants.{T}
 use Rattle.tilt_fix.specs.Edited.{IsEditOf}
-use Rattle.tilt_fix.specs.Edits.{edit_by, edit_of, fields_of, row_of, times_of, until_blank, value_of, AreEdits, Say}
+use Rattle.tilt_fix.specs.Edits.{edit_by, edit_of, fields_of, row_of, times_of, until_blank, AreEdits, Say}
 use Rattle.tilt_fix.specs.declared.edit.Edit.{Edit}
 use Rattle.tilt_fix.specs.declared.edit.Edit.TheVariants.{Add, Remove, Set}
 use Rattle.tilt_stream.specs.Snap.{Snapshot}
@@ -50,12 +50,12 @@ times_of-times fields row is =
 fields_of-times : (fields : List ℕ) (row : Snapshot) → fields_of fields ≡ Some row → AreTimes row.start row.end
 fields_of-times fields row is =
     let s = bind_some (until_at 44 fields) (λ s. until_at 44 s.1 >>= λ e.
-    number_spelled s.0 >>= λ start. number_spelled e.0 >>= λ end. value_of e.1 >>= row_of start end) row is in
+    number_spelled s.0 >>= λ start. number_spelled e.0 >>= λ end. cell_spelled e.1 >>= row_of start end) row is in
     let e = bind_some (until_at 44 s.0.1) (λ e.
-    number_spelled s.0.0 >>= λ start. number_spelled e.0 >>= λ end. value_of e.1 >>= row_of start end) row s.2 in
-    let start = bind_some (number_spelled s.0.0) (λ start. number_spelled e.0.0 >>= λ end. value_of e.0.1 >>= row_of start end) row e.2 in
-    let end = bind_some (number_spelled e.0.0) (λ end. value_of e.0.1 >>= row_of start.0 end) row start.2 in
-    let value = bind_some (value_of e.0.1) (row_of start.0 end.0) row end.2 in
+    number_spelled s.0.0 >>= λ start. number_spelled e.0 >>= λ end. cell_spelled e.1 >>= row_of start end) row s.2 in
+    let start = bind_some (number_spelled s.0.0) (λ start. number_spelled e.0.0 >>= λ end. cell_spelled e.0.1 >>= row_of start end) row e.2 in
+    let end = bind_some (number_spelled e.0.0) (λ end. cell_spelled e.0.1 >>= row_of start.0 end) row start.2 in
+    let value = bind_some (cell_spelled e.0.1) (row_of start.0 end.0) row end.2 in
     row_of-times start.0 end.0 value.0 row value.2
 
 -- an edit that is made of a row that was read

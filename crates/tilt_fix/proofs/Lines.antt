@@ -88,10 +88,6 @@ say-more inputs (l ∷ ls) [] line edit say lacks reads = absurd say
 say-more inputs (l ∷ ls) (e ∷ es) line edit say lacks reads =
     (say.0, say.1, say-more inputs ls es line edit say.2 lacks reads)
 
--- before the first line
-pub read_none : (inputs : List (List ℕ)) (bytes : List ℕ) → HasRead inputs bytes bytes [] 1
-read_none inputs bytes = record { good = []; is = refl; say = tt; number_is = refl }
-
 -- after one line more
 pub read_more : (inputs : List (List ℕ)) (bytes left : List ℕ) (edits : List Edit) (number : ℕ) (edit : Edit) (rest : List ℕ)
     → HasRead inputs bytes left edits number → next_edit inputs left ≡ Some (edit, rest)
@@ -103,28 +99,4 @@ read_more inputs bytes left edits number edit rest so next =
       is = so.is ∙ ap (λ (t : List ℕ). text_of_lines so.good ++ t) n.is ∙ text-more so.good n.line rest;
       say = say-more inputs so.good edits n.line edit so.say n.lacks n.reads;
       number_is = omega (arith, so.number_is, length-append so.good (n.line ∷ []));
-    }
-
--- where nothing is left
-pub read_all : (inputs : List (List ℕ)) (bytes left : List ℕ) (edits : List Edit) (number : ℕ) → HasRead inputs bytes left edits number
-    → left ≡ [] → AreEdits inputs bytes edits
-read_all inputs bytes left edits number so none =
-    record {
-      lines = so.good;
-      is = so.is ∙ ap (λ (t : List ℕ). text_of_lines so.good ++ t) none ∙ append-nil (text_of_lines so.good);
-      say = so.say;
-    }
-
--- where the next line is bad
-pub read_bad : (inputs : List (List ℕ)) (bytes left : List ℕ) (edits : List Edit) (number : ℕ) → HasRead inputs bytes left edits number
-    → left ≢ [] → next_edit inputs left ≡ None → IsBadLine inputs bytes number
-read_bad inputs bytes left edits number so some none =
-    record {
-      good = so.good;
-      edits = edits;
-      rest = left;
-      is = so.is;
-      say = so.say;
-      bad = no_line inputs left some none;
-      number_is = so.number_is;
     }

@@ -3,7 +3,7 @@ use Rattle.std.specs.Prelude.{◌≡◌, ◌≢◌, ℕ, suc, ℤ, neg_ℤ, pos,
 use Rattle.std.specs.Prelude.{List, [], ◌∷◌, ◌++◌, codes, length, Option, Some, None, option_map}
 use Rattle.std.specs.List.{position}
 use Rattle.std.specs.Str.{bytes_eq}
-use Rattle.tilt_base.specs.Number.{number_spelled}
+use Rattle.tilt_base.specs.Number.{cell_spelled, number_spelled}
 use Rattle.tilt_base.specs.declared.limits.TheConstants.{T}
 use Rattle.tilt_fix.specs.declared.edit.Edit.{Edit}
 use Rattle.tilt_fix.specs.declared.edit.Edit.TheVariants.{Add, Remove, Set}
@@ -15,11 +15,6 @@ use Rattle.tilt_text.specs.Step.{◌>>=◌}
 abbrev pub until_blank : List ℕ → Option (List ℕ × List ℕ)
 until_blank [] = None
 until_blank (byte ∷ bytes) = if byte == 32 || byte == 9 then Some ([], bytes) else (until_blank bytes >>= onto byte)
-
--- a value: nothing for null, or a number
-abbrev pub value_of : List ℕ → Option (Option ℤ)
-value_of [] = Some None
-value_of (byte ∷ bytes) = option_map Some (number_spelled (byte ∷ bytes))
 
 -- the row of these times and this value, where the times lie in `-T..T` and in order
 abbrev pub row_of : ℤ → ℤ → Option ℤ → Option Snapshot
@@ -34,7 +29,7 @@ times_of fields = until_at 44 fields >>= λ s. number_spelled s.0 >>= λ start. 
 abbrev pub fields_of : List ℕ → Option Snapshot
 fields_of fields =
     until_at 44 fields >>= λ s. until_at 44 s.1 >>= λ e.
-    number_spelled s.0 >>= λ start. number_spelled e.0 >>= λ end. value_of e.1 >>= row_of start end
+    number_spelled s.0 >>= λ start. number_spelled e.0 >>= λ end. cell_spelled e.1 >>= row_of start end
 
 -- the edit of an input, by the word that says which one it is, and the fields of its row
 abbrev pub edit_by : List ℕ → ℕ → List ℕ → Option Edit

@@ -2,10 +2,10 @@
 ghost use Rattle.std.specs.Prelude.{◌≡◌, ◌||◌, ◌==◌, ◌<◌, ◌^◌, length, Option, Some, None, MatchOption};
 ghost use Rattle.std.specs.List.{position};
 ghost use Rattle.std.specs.Str.{bytes_eq};
-ghost use Rattle.tilt_fix.specs.Edits.{edit_by, edit_of, fields_of, row_of, times_of, until_blank, value_of};
+ghost use Rattle.tilt_fix.specs.Edits.{edit_by, edit_of, fields_of, row_of, times_of, until_blank};
 
 use crate::edit::Edit;
-use tilt_base::{Cell, T, read_number};
+use tilt_base::{Cell, T, read_cell, read_number};
 use tilt_lexer::Name;
 use tilt_stream::Row;
 use tilt_text::until;
@@ -91,19 +91,8 @@ fn fields_of(fields: &[u8]) -> Option<Row>
     let (end, value) = until(rest, b',')?;
     let start = read_number(start)?;
     let end = read_number(end)?;
-    let value = value_of(value)?;
+    let value = read_cell(value)?;
     row_of(start, end, value)
-}
-
-// A value: nothing for null, or a number.
-fn value_of(bytes: &[u8]) -> Option<Cell>
-    ensures { result ≡ value_of bytes.now }
-{
-    if bytes.is_empty() {
-        return Some(None);
-    }
-    let number = read_number(bytes)?;
-    Some(Some(number))
 }
 
 // The row of these times and this value, where the times lie in `-T..=T` and in order.

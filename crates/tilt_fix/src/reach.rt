@@ -8,9 +8,8 @@ ghost use Rattle.tilt_fix.specs.Piece.{first_before};
 ghost use Rattle.tilt_fix.specs.Reached.{looking_at, reached};
 
 use crate::edit::Edit;
-use crate::window::need_at;
 use tilt_base::Span;
-use tilt_bounds::Need;
+use tilt_bounds::{Need, need_at};
 use tilt_compiler::Accepted;
 
 // The ticks of the output that an edit reaches; none where its input isn't used.

@@ -3,7 +3,7 @@ ghost use Rattle.std.specs.Prelude.{◌≡◌, ◌<◌, neg_ℤ, ◌+ℤ◌, ◌
 ghost use Rattle.std.specs.List.{AllByRecursion, slice_index_or};
 ghost use Rattle.std.specs.Option.{option_to_list};
 ghost use Rattle.tilt_base.specs.declared.limits.TheConstants.{REACH, T};
-ghost use Rattle.tilt_bounds.specs.Margins.{AreWithin, IsWithin as LooksWithin, evenly, need_at, need_of};
+ghost use Rattle.tilt_bounds.specs.Margins.{AreWithin, IsWithin as LooksWithin, evenly, need_of};
 ghost use Rattle.tilt_fix.specs.Change.{IsChangeOf, IsWithin, all_made, made, next_of, place_of};
 ghost use Rattle.tilt_fix.specs.Edited.{input_of};
 ghost use Rattle.tilt_fix.specs.Window.{early, late, seen, window, window_in, windows};
@@ -13,7 +13,7 @@ use crate::change::Change;
 use crate::edit::Edit;
 use std::alloc::{AllocError as OutOfMemory, Global};
 use tilt_base::Span;
-use tilt_bounds::Need;
+use tilt_bounds::{Need, need_at};
 use tilt_stream::{Row, Rows};
 
 // Of each input the rows that the output on these ticks looks at, after a change of the rows of one of them.
@@ -202,14 +202,4 @@ fn early(rows: &[Row], tick: i64) -> &[Row]
     ensures { result.now ≡ early tick rows.now }
 {
     &rows[..rows.partition_point(|row| row.start < tick)]
-}
-
-// The need of a source; one that isn't there isn't used.
-pub(crate) fn need_at(needs: &[Need], source: usize) -> Need
-    ensures { need_of result ≡ need_at (map need_of needs.now) source }
-{
-    match needs.get(source) {
-        Some(need) => *need,
-        None => Need::Unused,
-    }
 }

@@ -8,7 +8,7 @@ use Rattle.std.proofs.lemmas.Int.{ints}
 use Rattle.csv.specs.Reading.{default_config, records, strip_bom}
 use Rattle.tilt_base.proofs.Comparisons.{le_false}
 use Rattle.tilt_base.proofs.Decimals.{number_spelled_fits}
-use Rattle.tilt_base.specs.Number.{number_spelled}
+use Rattle.tilt_base.specs.Number.{cell_spelled, number_spelled}
 use Rattle.tilt_base.specs.declared.limits.TheConstants.{FILE, T}
 use Rattle.tilt_checkpoint.specs.Valid.{IsCell}
 use Rattle.tilt_load.proofs.InputRows.{both_taken}
@@ -17,7 +17,7 @@ use Rattle.tilt_load.specs.Inputs.{file_of}
 use Rattle.tilt_load.specs.SeriesFiles.{AreWithin, input_read, inputs_read, named, with_rows}
 use Rattle.tilt_report.specs.Report.{Reason, file_too_long, bad_checkpoint}
 use Rattle.tilt_series.specs.Series.{◌>>=◌, Bounds, byte_order_mark, fields_spelled, is_below, is_header, is_time, row_of, row_unless}
-use Rattle.tilt_series.specs.Series.{rows_behind_header, rows_of, series_of, three_of, time_fault, value_spelled}
+use Rattle.tilt_series.specs.Series.{rows_after_header, rows_of, series_of, three_of, time_fault}
 use Rattle.tilt_series.specs.declared.fault.SeriesFault.{SeriesFault}
 use Rattle.tilt_series.specs.declared.fault.SeriesFault.TheVariants.{BadFields, BadField, TimeRange, EmptyInterval, OutOfOrder}
 use Rattle.tilt_stream.specs.Snap.{Snapshot, InOrder, AreRows}
@@ -36,7 +36,7 @@ number_cell : (bytes : List ℕ) (spelled : Option ℤ) → number_spelled bytes
 number_cell bytes None is f v e = absurd (cc e)
 number_cell bytes (Some z) is f v e = subst IsCell (same_value e) (number_spelled_fits bytes z is)
 
-value_cell : (field : List ℕ) (f : SeriesFault) (v : Option ℤ) → ok_or (value_spelled field) f ≡ Ok v → IsCell v
+value_cell : (field : List ℕ) (f : SeriesFault) (v : Option ℤ) → ok_or (cell_spelled field) f ≡ Ok v → IsCell v
 value_cell [] f v e = subst IsCell (same_value e) tt
 value_cell (c ∷ cs) f v e = number_cell (c ∷ cs) (number_spelled (c ∷ cs)) refl f v e
 
@@ -50,13 +50,13 @@ fields_are start end value r e cell =
 fields_cell : (row : ℕ) (fields : List (List ℕ)) (r : ℤ × ℤ × Option ℤ) → fields_spelled row fields ≡ Ok r → IsCell r.2
 fields_cell row fields r e =
     let three = bind_ok (ok_or (three_of fields) (BadFields row)) (λ t. ok_or (number_spelled t.0) (BadField row 1) >>= λ start.
-    ok_or (number_spelled t.1) (BadField row 2) >>= λ end. ok_or (value_spelled t.2) (BadField row 3) >>= λ value. Ok (start, end, value)) r e in
+    ok_or (number_spelled t.1) (BadField row 2) >>= λ end. ok_or (cell_spelled t.2) (BadField row 3) >>= λ value. Ok (start, end, value)) r e in
     let t = three.0 in
     let start = bind_ok (ok_or (number_spelled t.0) (BadField row 1)) (λ start.
-    ok_or (number_spelled t.1) (BadField row 2) >>= λ end. ok_or (value_spelled t.2) (BadField row 3) >>= λ value. Ok (start, end, value)) r three.2 in
+    ok_or (number_spelled t.1) (BadField row 2) >>= λ end. ok_or (cell_spelled t.2) (BadField row 3) >>= λ value. Ok (start, end, value)) r three.2 in
     let end = bind_ok (ok_or (number_spelled t.1) (BadField row 2)) (λ end.
-    ok_or (value_spelled t.2) (BadField row 3) >>= λ value. Ok (start.0, end, value)) r start.2 in
-    let value = bind_ok (ok_or (value_spelled t.2) (BadField row 3)) (λ value. Ok (start.0, end.0, value)) r end.2 in
+    ok_or (cell_spelled t.2) (BadField row 3) >>= λ value. Ok (start.0, end, value)) r start.2 in
+    let value = bind_ok (ok_or (cell_spelled t.2) (BadField row 3)) (λ value. Ok (start.0, end.0, value)) r end.2 in
     let cell = value_cell t.2 (BadField row 3) value.0 value.1 in
     fields_are start.0 end.0 value.0 r value.2 cell
 
@@ -107,7 +107,7 @@ rows_good bounds row (fields ∷ more) rows e from low =
     ((low first.0.start one.low one.behind, one.some, one.high, next.0), (one.cell, next.1)) in
     subst (λ (l : List Snapshot). InOrder from T l × AreNumbers l) (same_list (first.0 ∷ others.0) rows others.2) both
 
-header_good : (bounds : Bounds) (all : List (List (List ℕ))) (rows : List Snapshot) → rows_behind_header bounds all ≡ Ok rows → AreRows rows × AreNumbers rows
+header_good : (bounds : Bounds) (all : List (List (List ℕ))) (rows : List Snapshot) → rows_after_header bounds all ≡ Ok rows → AreRows rows × AreNumbers rows
 header_good bounds [] rows e = absurd (cc e)
 header_good bounds (fields ∷ more) rows e =
     rows_good bounds 1 more rows (where_good (is_header (three_of fields)) (rows_of bounds 1 more) rows e) (neg_ℤ T) (λ tick range after. range)
@@ -116,7 +116,7 @@ series_good : (bounds : Bounds) (bytes : List ℕ) (rows : List Snapshot) → se
 series_good bounds bytes rows e =
     let all = records default_config (strip_bom bytes) in
     let marks = starts_with nat_eq bytes (byte_order_mark ++ byte_order_mark) in
-    header_good bounds all rows (unless_bad marks (rows_behind_header bounds all) rows e)
+    header_good bounds all rows (unless_bad marks (rows_after_header bounds all) rows e)
 
 -- the series of an input
 named_series : (name : List ℕ) (read : Result (List Snapshot) SeriesFault) (rows : List Snapshot) → named name read ≡ Ok rows → read ≡ Ok rows

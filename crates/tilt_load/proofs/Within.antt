@@ -8,7 +8,7 @@ use Rattle.std.proofs.lemmas.Option.{none-some, same_Some}
 use Rattle.csv.specs.Reading.{default_config, records, strip_bom}
 use Rattle.tilt_base.proofs.Comparisons.{le_false}
 use Rattle.tilt_series.specs.Series.{◌>>=◌, Bounds, byte_order_mark, fields_spelled, is_below, is_header, is_past}
-use Rattle.tilt_series.specs.Series.{is_time, row_of, row_unless, rows_behind_header, rows_of, series_of, three_of}
+use Rattle.tilt_series.specs.Series.{is_time, row_of, row_unless, rows_after_header, rows_of, series_of, three_of}
 use Rattle.tilt_series.specs.Series.{time_fault}
 use Rattle.tilt_series.specs.declared.fault.SeriesFault.{SeriesFault}
 use Rattle.tilt_series.specs.declared.fault.SeriesFault.TheVariants.{BadHeader, TimeRange, EmptyInterval, OutOfOrder, RowBeforeCut, RowPastCut}
@@ -100,17 +100,17 @@ pub where_good : (test : Bool) (read : Result (List Snapshot) SeriesFault) (rows
 where_good true read rows e = e
 where_good false read rows e = cc e
 
-behind_header_within : (bounds : Bounds) (all : List (List (List ℕ))) (rows : List Snapshot) → rows_behind_header bounds all ≡ Ok rows
+after_header_within : (bounds : Bounds) (all : List (List (List ℕ))) (rows : List Snapshot) → rows_after_header bounds all ≡ Ok rows
     → AllByRecursion (IsWithin bounds) rows
-behind_header_within bounds [] rows e = cc e
-behind_header_within bounds (fields ∷ more) rows e =
+after_header_within bounds [] rows e = cc e
+after_header_within bounds (fields ∷ more) rows e =
     rows_within bounds 1 more rows (where_good (is_header (three_of fields)) (rows_of bounds 1 more) rows e)
 
 pub series_within : (bounds : Bounds) (bytes : List ℕ) (rows : List Snapshot) → series_of bounds bytes ≡ Ok rows → AllByRecursion (IsWithin bounds) rows
 series_within bounds bytes rows e =
     let all = records default_config (strip_bom bytes) in
     let marks = starts_with nat_eq bytes (byte_order_mark ++ byte_order_mark) in
-    behind_header_within bounds all rows (unless_bad marks (rows_behind_header bounds all) rows e)
+    after_header_within bounds all rows (unless_bad marks (rows_after_header bounds all) rows e)
 
 -- one input more
 pub within_more : (bounds : ℕ → Bounds) (all : List (List Snapshot)) (rows : List Snapshot) → AreWithin bounds all

@@ -101,7 +101,3 @@ TakesInputs files binds inputs rows = TakesSession files binds (λ _. no_bounds)
 -- why inputs have no rows
 abbrev pub RefusesInputs : (List ℕ → List ℕ) → List Binding → List (List ℕ) → Reason → Type 0
 RefusesInputs files binds inputs why = RefusesSession files binds (λ _. no_bounds) inputs why
-
--- the next of these inputs is that of a bind
-abbrev pub IsNextInput : (List ℕ → List ℕ) → List Binding → List (List ℕ) → Binding → Type 0
-IsNextInput files binds inputs bind = IsNextOfSession files binds (λ _. no_bounds) inputs bind

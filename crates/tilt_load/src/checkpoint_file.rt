@@ -23,7 +23,8 @@ pub struct LoadedCheckpoint {
 }
 
 /// The checkpoint in the file of that name, whose query goes on with fusion or without. Its reader has checked the query, which
-/// isn't done again.
+/// isn't done again. `Refused` tells the first reason why the file is refused, `ReadFault` comes where a read failed, and `OutOfMemory`
+/// for want of memory alone.
 pub fn load_checkpoint<'a, S: Shelf>(
     alloc: Global,
     shelf: &mut S,

@@ -12,7 +12,8 @@ use tilt_code::{Code, read_code};
 use tilt_outside::Shelf;
 use tilt_report::Fault;
 
-/// The loop code whose listing is the file of that name.
+/// The loop code whose listing is the file of that name. `Refused` tells the first reason why the file is refused, `ReadFault` comes
+/// where a read failed, and `OutOfMemory` for want of memory alone.
 pub fn load_code<'a, S: Shelf>(
     alloc: Global,
     shelf: &mut S,

@@ -25,7 +25,8 @@ pub struct LoadedFlow {
     pub accepted: Accepted,
 }
 
-/// The pipeline in the file of that name, whose query is run with fusion or without.
+/// The pipeline in the file of that name, whose query is run with fusion or without. `Refused` tells the first reason why the file is
+/// refused, `ReadFault` comes where a read failed, and `OutOfMemory` for want of memory alone.
 pub fn load_flow<'a, S: Shelf>(
     alloc: Global,
     shelf: &mut S,

@@ -24,7 +24,8 @@ pub struct LoadedQuery {
     pub accepted: Accepted,
 }
 
-/// The query in the file of that name, with fusion or without.
+/// The query in the file of that name, with fusion or without. `Refused` tells the first reason why the file is refused,
+/// `ReadFault` comes where a read failed, and `OutOfMemory` for want of memory alone.
 pub fn load_query<'a, S: Shelf>(
     alloc: Global,
     shelf: &mut S,
@@ -59,6 +60,7 @@ pub fn read_query<'a>(alloc: Global, bytes: &[u8], fuse: bool) -> Result<LoadedQ
     let query = read_text(alloc, bytes)?;
     let core = check(alloc, &query)?;
     let accepted = accept(alloc, core, fuse)?;
+    // That some text reads as the query is known from here on.
     let _parsed = query.statements();
     Ok(LoadedQuery { query, accepted })
 }

@@ -113,7 +113,7 @@ fn take_number(next: &mut u32) -> u32
     number
 }
 
-/// Adds a constant.
+// Adds a constant.
 fn push_constant(block: &mut Vec<Instr>, number: i64) -> Result<u32, OutOfMemory>
     requires { length block.old.items < 2 ^ 32 }
     ensures block { OnOk result (block.new.items ≡ block.old.items ++ Instr.Const number ∷ []) }
@@ -123,7 +123,7 @@ fn push_constant(block: &mut Vec<Instr>, number: i64) -> Result<u32, OutOfMemory
     push(block, Instr::Const(number))
 }
 
-/// Adds an instruction, and gives its register.
+// Adds an instruction, and gives its register.
 fn push(block: &mut Vec<Instr>, instr: Instr) -> Result<u32, OutOfMemory>
     requires { length block.old.items < 2 ^ 32 }
     ensures block { OnOk result (block.new.items ≡ block.old.items ++ instr ∷ []) }

@@ -1,6 +1,6 @@
 -- The query of a pipeline is well formed: all its sources are numbers.
-use Rattle.std.proofs.Common.{◌≡◌, inl, inr, ◌≤◌, ◌<◌, ◌^◌, ℕ, zero, suc, ◌+◌, ℤ, pos, neg_ℤ, ◌≤ℤ◌, ◌+ℤ◌, ◌*ℤ◌, Bool, true, false, not, ◌&&◌, ◌||◌, List, [], ◌∷◌, ◌++◌, length, map, codes}
-use Rattle.std.proofs.Common.{Option, Some, None, option_and_then, is_some, if◌then◌else◌, refl, sym, ap, ◌∙◌, subst, arith, append_assoc, append-nil}
+use Rattle.std.proofs.Common.{◌≡◌, inl, inr, ◌≤◌, ◌<◌, ◌^◌, ℕ, suc, ◌+◌, ℤ, pos, neg_ℤ, ◌+ℤ◌, ◌*ℤ◌, Bool, true, false, ◌&&◌, ◌||◌, List, [], ◌∷◌, ◌++◌, length, map, codes}
+use Rattle.std.proofs.Common.{Option, Some, None, option_and_then, is_some, if◌then◌else◌, refl, sym, ap, ◌∙◌, arith, append_assoc, append-nil}
 use Rattle.std.specs.List.{AllByRecursion}
 use Rattle.std.specs.Ordering.{int_eq}
 use Rattle.std.specs.Str.{bytes_eq}
@@ -15,20 +15,20 @@ use Rattle.tilt_base.specs.declared.operator.Op2.TheVariants as op2
 use Rattle.tilt_base.specs.declared.reducer.Reducer.{Reducer}
 use Rattle.tilt_base.specs.declared.reducer.Reducer.TheVariants as reducer
 use Rattle.tilt_base.specs.declared.span.Span.{Span}
-use Rattle.tilt_syntax.specs.Tree.{ExprTree, Num, Truth, Read, Reduce, StatementTree, Input, Let, Emit}
+use Rattle.tilt_syntax.specs.Tree.{ExprTree, Num, Truth, Read, Reduce, StatementTree, Input}
 use Rattle.tilt_types.specs.Types.{type_declared, type_of, type_of_one, type_of_two, type_of_if, type_of_reducer}
-use Rattle.tilt_types.specs.WellFormed.{declared_by, first_fault, grid_of, has_bounds_on, has_windows, is_declared, is_fitting, is_stretch, knows_names, IsWellFormed}
+use Rattle.tilt_types.specs.WellFormed.{first_fault, grid_of, has_bounds_on, has_windows, is_fitting, is_stretch, knows_names, IsWellFormed}
 use Rattle.tilt_types.specs.declared.declared.Declared.{Declared}
 use Rattle.tilt_types.specs.declared.value_type.ValueType.{ValueType}
 use Rattle.tilt_types.specs.declared.value_type.ValueType.TheVariants as value
-use Rattle.tilt_operators.specs.Desugared.{over_sources, query_of, reading, source_for, source_name, step_definitions, step_expr}
+use Rattle.tilt_operators.specs.Desugared.{over_sources, query_of, reading, source_name, step_expr}
 use Rattle.tilt_operators.specs.Flow.{StepTree, Select, Keep, Shift, Window, Join, FlowTree}
 use Rattle.tilt_operators.specs.Inputs.{inputs_of}
-use Rattle.tilt_operators.specs.Steps.{IsFlow, is_number, is_of_numbers, is_operand, is_over, is_truth, is_typed, operand_types}
+use Rattle.tilt_operators.specs.Steps.{IsFlow, is_of_numbers, is_operand, is_over, is_typed, operand_types}
 use Rattle.tilt_operators.specs.declared.operands.Operands.{Operands}
 use Rattle.tilt_operators.specs.declared.operands.Operands.TheVariants.{Value, Both}
 use Rattle.tilt_operators.proofs.Composed.{tail}
-use Rattle.tilt_operators.proofs.Known.{AreNew, IsKnown, IsKnownFlow, among-push, flow-known}
+use Rattle.tilt_operators.proofs.Known.{AreNew, IsKnown, among-push, flow-known}
 use Rattle.tilt_operators.proofs.Names.{is_among, IsNoneOf, none_of-inputs, none_of-push, numbers_differ}
 
 -- names of numbers

@@ -1,5 +1,5 @@
 -- An expression of a step, over the sources that it reads: its cells are its values, and it has no mark where they have none.
-use Rattle.std.proofs.Common.{◌≡◌, ℕ, ℤ, pos, ◌+ℤ◌, Bool, true, false, ◌&&◌, ◌||◌, if◌then◌else◌, List, Option, Some, None, codes, refl, sym, ap, ◌∙◌, arith}
+use Rattle.std.proofs.Common.{◌≡◌, ℕ, ℤ, pos, ◌+ℤ◌, Bool, true, false, ◌&&◌, if◌then◌else◌, List, Some, codes, refl, ap, ◌∙◌, arith}
 use Rattle.std.specs.Ordering.{int_eq}
 use Rattle.std.specs.Str.{bytes_eq}
 use Rattle.std.proofs.lemmas.Bool.{and_parts, or_from, false≢true}
@@ -7,7 +7,6 @@ use Rattle.std.proofs.lemmas.Int.{ints}
 use Rattle.tilt_base.specs.Expression.{Leaf, One, Two, If}
 use Rattle.tilt_base.specs.Scalar.{apply1, apply2, choose}
 use Rattle.tilt_core.specs.Meaning.{source_of, body_of}
-use Rattle.tilt_stream.specs.Pointwise.{shifted}
 use Rattle.tilt_stream.specs.Stream.{Stream}
 use Rattle.tilt_syntax.specs.Tree.{ExprTree, Num, Truth, Read, Reduce}
 use Rattle.tilt_types.specs.Checked.{numbered, place_of}

@@ -1,16 +1,10 @@
 -- The list of a pipeline has the stream of its query's core: step by step, each definition over the sources before it.
-use Rattle.std.proofs.Common.{◌≡◌, ◌≢◌, ◌≤◌, ◌<◌, ◌^◌, ℕ, zero, suc, ◌+◌, ◌==◌, ℤ, pos, ◌+ℤ◌, neg_ℤ, ◌≤ℤ◌, ◌<ℤ◌, Bool, true, false, List, [], ◌∷◌, ◌++◌, length, map, Option, Some, None}
-use Rattle.std.proofs.Common.{if◌then◌else◌, refl, sym, ap, ◌∙◌, subst, arith, append_assoc, append-nil, length-append}
+use Rattle.std.proofs.Common.{◌≡◌, ◌≤◌, ◌<◌, ◌^◌, ℕ, suc, ◌+◌, ℤ, pos, ◌+ℤ◌, neg_ℤ, true, List, [], ◌∷◌, ◌++◌, length, Some, None}
+use Rattle.std.proofs.Common.{refl, sym, ap, ◌∙◌, subst, arith, append_assoc, length-append}
 use Rattle.std.specs.List.{AllByRecursion}
-use Rattle.std.specs.Str.{bytes_eq}
-use Rattle.std.proofs.lemmas.Bool.{cases_Bool, false≢true}
 use Rattle.std.proofs.lemmas.Int.{ints}
-use Rattle.std.proofs.lemmas.List.{length-map}
-use Rattle.tilt_base.specs.Expression.{Leaf, One, Two, If}
 use Rattle.tilt_base.specs.declared.span.Span.{Span}
 use Rattle.tilt_core.proofs.Sources.{source_of-front, source_of-last}
-use Rattle.tilt_core.specs.Core.{domain_of}
-use Rattle.tilt_core.specs.CoreTree.{Definition}
 use Rattle.tilt_core.specs.Meaning.{source_of, body_of, definition_of, with_definitions}
 use Rattle.tilt_stream.proofs.Restricted.{uncut}
 use Rattle.tilt_stream.proofs.Same.{period-one, same_is}
@@ -18,14 +12,14 @@ use Rattle.tilt_stream.specs.Agreement.{Agree}
 use Rattle.tilt_stream.specs.Domain.{on_grid, restricted}
 use Rattle.tilt_stream.specs.Pointwise.{shifted}
 use Rattle.tilt_stream.specs.Snap.{Snapshot, AreRows}
-use Rattle.tilt_stream.specs.Stream.{Stream, SameStream, stream_of}
+use Rattle.tilt_stream.specs.Stream.{Stream, stream_of}
 use Rattle.tilt_stream.specs.Window.{windowed as window_of}
-use Rattle.tilt_syntax.specs.Tree.{ExprTree, StatementTree, Input, Let, Emit}
+use Rattle.tilt_syntax.specs.Tree.{ExprTree, StatementTree, Emit}
 use Rattle.tilt_types.specs.Checked.{definition, definitions, let_names, numbered, place_of}
 use Rattle.tilt_types.specs.WellFormed.{grid_of}
 use Rattle.tilt_operators.specs.Desugared.{source_name, reading, step_expr, step_definitions}
 use Rattle.tilt_operators.specs.Flow.{StepTree, Select, Keep, Shift, Window, Join}
-use Rattle.tilt_operators.specs.Lists.{filled, kept_if, rows_of, step_list, steps_list, value_of}
+use Rattle.tilt_operators.specs.Lists.{filled, kept_if, step_list, steps_list, value_of}
 use Rattle.tilt_operators.specs.declared.operands.Operands.TheVariants.{Value, Both}
 use Rattle.tilt_operators.proofs.Bodies.{body, body-cell, body-mark}
 use Rattle.tilt_operators.proofs.Known.{IsKnown}

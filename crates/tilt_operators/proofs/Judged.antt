@@ -1,6 +1,6 @@
 -- Tokens are a pipeline, or are refused for a fault.
-use Rattle.std.proofs.Common.{◌≡◌, ◌≢◌, ◌⊎◌, inl, inr, ◌≤◌, ◌<◌, ℕ, ◌+◌, ℤ, pos, ◌≤ℤ◌, Bool, true, false, List, [], ◌∷◌, ◌++◌, length, codes, Option, Some, None, refl, sym, ap, ◌∙◌, subst}
-use Rattle.std.proofs.Common.{arith, length-append, append-nil}
+use Rattle.std.proofs.Common.{◌≡◌, ◌≢◌, ◌⊎◌, inl, inr, ℕ, ◌+◌, ℤ, pos, ◌≤ℤ◌, true, false, List, [], ◌∷◌, ◌++◌, length, codes, Option, Some, None, refl, sym, ap, ◌∙◌, subst}
+use Rattle.std.proofs.Common.{arith, length-append}
 use Rattle.std.specs.Prelude.{int_le}
 use Rattle.std.proofs.lemmas.Bool.{cases_Bool, cases_lt, false≢true}
 use Rattle.tilt_base.proofs.Comparisons.{le_true, true_le}
@@ -25,7 +25,7 @@ use Rattle.tilt_operators.specs.declared.fault.FlowFault.{FlowFault}
 use Rattle.tilt_operators.specs.declared.fault.FlowFault.TheVariants as fault
 use Rattle.tilt_operators.specs.declared.operands.Operands.{Operands}
 use Rattle.tilt_operators.specs.declared.operands.Operands.TheVariants.{Value, Both}
-use Rattle.tilt_operators.proofs.Reading.{bad-join, bad-window, behind-of, found-none, found-step, is-window, last_same, no-name, no-reducer, no-select, no-shift, no-where, no-width}
+use Rattle.tilt_operators.proofs.Reading.{bad-join, bad-window, found-none, found-step, is-window, last_same, no-name, no-reducer, no-select, no-shift, no-where, no-width}
 use Rattle.tilt_operators.proofs.Reading.{no-word, no_emit, no_over, no_stretch, not-ended, others-none}
 use Rattle.tilt_operators.proofs.Spans.{closed_by, ended_by, has_whole, inside_is, inside_last, last_inside, minus_bound, no_bound, no_number, one_has, opened, parted, plain_bound, started, whole_has}
 use Rattle.tilt_operators.proofs.Unique.{key_or_none}

@@ -1,6 +1,6 @@
 -- The core of a pipeline's query gives what the pipeline gives.
-use Rattle.std.proofs.Common.{◌≡◌, inl, inr, ◌<◌, ◌^◌, ℕ, zero, suc, ◌+◌, ◌==◌, Bool, true, false, List, [], ◌∷◌, ◌++◌, length, map, Option, Some, None, if◌then◌else◌, refl, sym, ap, ◌∙◌}
-use Rattle.std.proofs.Common.{subst, arith, length-append, append-nil}
+use Rattle.std.proofs.Common.{◌≡◌, inl, inr, ℕ, suc, ◌+◌, ◌==◌, Bool, true, false, List, [], ◌∷◌, ◌++◌, length, map, Option, Some, None, if◌then◌else◌, refl, sym, ap, ◌∙◌}
+use Rattle.std.proofs.Common.{subst, arith, append-nil}
 use Rattle.std.proofs.Common.{option_and_then, option_map}
 use Rattle.std.specs.List.{AllByRecursion}
 use Rattle.std.specs.Str.{bytes_eq}
@@ -16,13 +16,13 @@ use Rattle.tilt_stream.specs.Agreement.{Agree}
 use Rattle.tilt_stream.specs.Snap.{Snapshot, AreRows}
 use Rattle.tilt_stream.specs.Snapshots.{snapshots}
 use Rattle.tilt_stream.specs.Stream.{Stream, stream_of}
-use Rattle.tilt_syntax.specs.Tree.{ExprTree, StatementTree, Input, Let, Emit}
+use Rattle.tilt_syntax.specs.Tree.{ExprTree, StatementTree, Input, Emit}
 use Rattle.tilt_types.specs.Checked.{core_of, definitions, input_names, let_names, place_of, source_names}
 use Rattle.tilt_operators.specs.Desugared.{query_of, reading, source_name, step_definitions}
 use Rattle.tilt_operators.specs.Flow.{StepTree, FlowTree}
 use Rattle.tilt_operators.specs.Inputs.{inputs_of}
 use Rattle.tilt_operators.specs.Law.{AreSeries, KeepsMeaning}
-use Rattle.tilt_operators.specs.Lists.{filled, flow_list, rows_of, steps_list}
+use Rattle.tilt_operators.specs.Lists.{filled, flow_list, rows_of}
 use Rattle.tilt_operators.specs.Steps.{IsFlow}
 use Rattle.tilt_operators.proofs.Composed.{tail, steps-agree, IsAt}
 use Rattle.tilt_operators.proofs.Known.{IsKnownFlow, flow-known}

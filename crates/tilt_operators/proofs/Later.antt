@@ -95,11 +95,6 @@ refused-alone ts step rest cut none =
 pub refused-none : (ts : List Tok) → ts ≡ [] → IsRefused ts (fault.BadStep 1)
 refused-none ts none = bad_step (subst (λ (us : List Tok). HasBadStep (statements us) 1) (sym none) no_steps)
 
-pub good-flow : (ts step : List Tok) (rest : List (List Tok)) (name : List ℕ) (steps : List StepTree) (domain : Span) → statements ts ≡ step ∷ rest
-    → IsFirst step name → AreSteps 2 rest steps domain → AreFlow (statements ts) (record { first = name; steps = steps; domain = domain })
-good-flow ts step rest name steps domain cut is h =
-    subst (λ (ss : List (List Tok)). AreFlow ss (record { first = name; steps = steps; domain = domain })) (sym cut) (first-fit step name is, is, h)
-
 -- the steps of a pipeline are few
 pub few-steps : (ss : List (List Tok)) (name : List ℕ) (steps : List StepTree) (domain : Span)
     → AreFlow ss (record { first = name; steps = steps; domain = domain }) → length steps ≤ 98

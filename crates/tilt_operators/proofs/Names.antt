@@ -1,5 +1,5 @@
 -- The names of a pipeline's sources, and their places among all.
-use Rattle.std.proofs.Common.{◌≡◌, inl, inr, ◌≢◌, ℕ, zero, suc, ◌+◌, ◌<◌, ◌^◌, Bool, true, false, ◌||◌, ◌==◌, List, [], ◌∷◌, ◌++◌, length, map, codes, if◌then◌else◌, refl, sym, ap, ◌∙◌}
+use Rattle.std.proofs.Common.{◌≡◌, inl, inr, ◌≢◌, ℕ, zero, suc, ◌<◌, ◌^◌, Bool, true, false, List, [], ◌∷◌, ◌++◌, length, codes, if◌then◌else◌, refl, sym, ap, ◌∙◌}
 use Rattle.std.proofs.Common.{arith, decimal}
 use Rattle.std.specs.List.{AllByRecursion, list_any}
 use Rattle.std.specs.Str.{bytes_eq}
@@ -22,10 +22,6 @@ IsNoneOf names name = AllByRecursion (λ other. bytes_eq other name ≡ false) n
 pub place_of-at : (front back : List (List ℕ)) (name : List ℕ) → IsNoneOf front name → place_of (front ++ name ∷ back) name ≡ length front
 place_of-at [] back name h = rw (same_bytes name) refl
 place_of-at (other ∷ front) back name h = rw h.0 (ap suc (place_of-at front back name h.1))
-
-place-by : (here : Bool) (m n : ℕ) → m ≡ n → (if here then zero else suc m) ≡ (if here then zero else suc n)
-place-by true m n is = refl
-place-by false m n is = ap suc is
 
 -- a name that is among the first of them has its place there
 pub place_of-front : (front back : List (List ℕ)) (name : List ℕ) → is_among front name ≡ true → place_of (front ++ back) name ≡ place_of front name

@@ -1,12 +1,11 @@
 -- A list that is made of boundaries has the stream that has its marks after them, and on each piece the piece's value.
-use Rattle.std.proofs.Common.{◌≡◌, ℤ, pos, ◌+ℤ◌, ◌≤ℤ◌, ◌<ℤ◌, Bool, true, false, ◌||◌, List, [], ◌∷◌, Option, None, refl, sym, ap, ◌∙◌, arith}
+use Rattle.std.proofs.Common.{◌≡◌, ℤ, pos, ◌+ℤ◌, ◌≤ℤ◌, ◌<ℤ◌, Bool, true, false, ◌||◌, List, [], ◌∷◌, Option, None, refl, sym, ◌∙◌, arith}
 use Rattle.std.specs.Ordering.{int_eq}
 use Rattle.std.proofs.lemmas.Int.{ints, by_lt_z}
-use Rattle.std.proofs.lemmas.Bool.{or_from}
 use Rattle.tilt_stream.proofs.MarkedTicks.{cell-kept}
 use Rattle.tilt_stream.proofs.Streams.{cell_at-before}
 use Rattle.tilt_stream.specs.Agreement.{ChangesOnlyAtMarks}
-use Rattle.tilt_stream.specs.Snap.{Snapshot, InOrder, Touch}
+use Rattle.tilt_stream.specs.Snap.{InOrder, Touch}
 use Rattle.tilt_stream.specs.Stream.{Stream, SameStream, stream_of, cell_at, mark_at, covers}
 use Rattle.tilt_operators.specs.Lists.{pieces}
 use Rattle.tilt_operators.proofs.Boundaries.{Rise, last_two, marks_of, marks-before, IsNotOne}

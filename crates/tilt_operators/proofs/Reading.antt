@@ -84,11 +84,6 @@ found-none ts us inner x is ended none s h =
     let words = parts.0 in
     none s (rw (← words, ← same) h.is)
 
-pub step-found : (ts us inner : List Tok) (x : List ℕ) → ts ≡ Word x ∷ us → us ≡ inner ++ Sign mark.Semicolon ∷ [] → (found : Option Step)
-    → FindsStep x inner found → MatchOption found ((s : StepTree) → ¬ (IsStep ts s)) (λ s. IsStep ts (step_tree s))
-step-found ts us inner x is ended None h = found-none ts us inner x is ended h
-step-found ts us inner x is ended (Some s) h = found-step ts us inner x (step_tree s) is ended h
-
 -- each word has its own steps
 
 module _ (ts : List Tok) where
@@ -171,9 +166,6 @@ module _ (ts : List Tok) where
   others-none word a b c d e (Shift by) h = c h.0
   others-none word a b c d e (Window r width) h = d h.0
   others-none word a b c d e (Join name x) h = e h.0
-
-pub differs : (word text : List ℕ) → bytes_eq word text ≡ false → word ≢ text
-differs word text other is = false≢true (sym other ∙ ap (λ (w : List ℕ). bytes_eq w text) is ∙ same_bytes text)
 
 -- tokens of a text that are refused
 pub tokens_refuse : (bytes : List ℕ) (tokens : List Token) (f : FlowFault) → AreTokens 0 bytes tokens

@@ -1,15 +1,15 @@
 -- The first step, the last and bounds, as they are read from left to right.
-use Rattle.std.proofs.Common.{◌≡◌, ◌≢◌, ℕ, ℤ, neg_ℤ, Bool, true, false, List, [], ◌∷◌, ◌++◌, length, Option, Some, None, refl, sym, ap, ◌∙◌, subst, arith, append-nil, append_assoc}
+use Rattle.std.proofs.Common.{◌≡◌, ◌≢◌, ℤ, neg_ℤ, true, List, [], ◌∷◌, ◌++◌, Some, refl, sym, ap, ◌∙◌, subst, append-nil, append_assoc}
 use Rattle.tilt_base.specs.declared.span.Span.{Span}
 use Rattle.tilt_lexer.specs.declared.key.Key.TheVariants as key
 use Rattle.tilt_lexer.specs.declared.mark.Mark.TheVariants as mark
 use Rattle.tilt_lexer.specs.declared.token.Tok.{Tok}
-use Rattle.tilt_lexer.specs.declared.token.Tok.TheVariants.{Word, Number, Key as Reserved, Mark as Sign}
+use Rattle.tilt_lexer.specs.declared.token.Tok.TheVariants.{Number, Key as Reserved, Mark as Sign}
 use Rattle.tilt_syntax.specs.Grammar.{IsBound, from_zero, below_zero, IsSpan, over}
 use Rattle.tilt_types.specs.WellFormed.{is_stretch}
 use Rattle.tilt_operators.specs.Parts.{HasBound, IsInside}
-use Rattle.tilt_operators.specs.Steps.{IsFirst, IsLast, is_kept_back}
-use Rattle.tilt_operators.proofs.Unique.{bound-front, ended-inj}
+use Rattle.tilt_operators.specs.Steps.{IsLast}
+use Rattle.tilt_operators.proofs.Unique.{bound-front}
 
 abbrev end_of : List Tok
 end_of = Sign mark.CloseBracket ∷ Sign mark.Semicolon ∷ []

@@ -1,5 +1,5 @@
 -- What a window meets of the stream of a list is the snapshots of the list that start before its end and end after its beginning.
-use Rattle.std.proofs.Common.{◌≡◌, ℕ, zero, suc, ℤ, pos, ◌+ℤ◌, ◌-ℤ◌, ◌≤ℤ◌, ◌<ℤ◌, Bool, true, false, ◌&&◌, ◌||◌, if◌then◌else◌, int_lt, int_le, List, [], ◌∷◌, map, filter, Option, Some, None}
+use Rattle.std.proofs.Common.{◌≡◌, ℕ, zero, suc, ℤ, pos, ◌+ℤ◌, ◌-ℤ◌, ◌≤ℤ◌, ◌<ℤ◌, Bool, true, false, ◌&&◌, ◌||◌, if◌then◌else◌, int_lt, List, [], ◌∷◌, map, filter, Option, Some, None}
 use Rattle.std.proofs.Common.{refl, sym, ap, ◌∙◌, arith}
 use Rattle.std.specs.Int.{int_gap}
 use Rattle.std.specs.Ordering.{int_eq}
@@ -12,8 +12,8 @@ use Rattle.tilt_stream.proofs.Streams.{cell_at-before, mark_at-before, mark_at-w
 use Rattle.tilt_stream.specs.Agreement.{Agree}
 use Rattle.tilt_stream.specs.Marked.{marked}
 use Rattle.tilt_stream.specs.Marks.{IsNextMark}
-use Rattle.tilt_stream.specs.Snap.{Snapshot, InOrder, Touch}
-use Rattle.tilt_stream.specs.Stream.{Stream, stream_of, cell_at, mark_at, covers}
+use Rattle.tilt_stream.specs.Snap.{Snapshot, InOrder}
+use Rattle.tilt_stream.specs.Stream.{Stream, stream_of, covers}
 use Rattle.tilt_stream.specs.Window.{met_behind, met}
 
 -- a snapshot has a tick in `(lo, hi]`, where it has any

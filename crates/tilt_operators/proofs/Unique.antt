@@ -1,5 +1,5 @@
 -- Tokens are one step at most, and one pipeline, or are refused for one fault, and not both; and so is a text.
-use Rattle.std.proofs.Common.{◌≡◌, ◌≢◌, ◌⊎◌, inl, inr, ℕ, ◌+◌, ◌*◌, ℤ, pos, Bool, true, false, List, [], ◌∷◌, ◌++◌, length, get_or, codes, Option, Some, None, refl, sym, ap, ◌∙◌, subst}
+use Rattle.std.proofs.Common.{◌≡◌, ◌≢◌, ◌⊎◌, inl, inr, ℕ, ◌+◌, ◌*◌, ℤ, List, [], ◌∷◌, ◌++◌, length, get_or, Some, None, refl, sym, ap, ◌∙◌, subst}
 use Rattle.std.proofs.Common.{arith, length-append}
 use Rattle.tilt_base.specs.declared.reducer.Reducer.{Reducer}
 use Rattle.tilt_base.specs.declared.reducer.Reducer.TheVariants as reducer
@@ -18,7 +18,6 @@ use Rattle.tilt_syntax.proofs.Total.{tokens_same}
 use Rattle.tilt_syntax.proofs.Unique.{one_expr}
 use Rattle.tilt_syntax.specs.Grammar.{IsBound, from_zero, below_zero, IsExpr, IsSpan, over, reducer_key}
 use Rattle.tilt_syntax.specs.Query.{kinds, statements}
-use Rattle.tilt_syntax.specs.Tree.{ExprTree}
 use Rattle.tilt_operators.specs.Fault.{of_place}
 use Rattle.tilt_operators.specs.Flow.{StepTree, Select, Keep, Shift, Window, Join, FlowTree}
 use Rattle.tilt_operators.specs.Steps.{AreFlow, AreSteps, HasBadStep, no_steps, first, alone, behind, IsBadStep, between, last, later}

@@ -1,5 +1,5 @@
 -- The lists of small pipelines, computed from the definition.
-use Rattle.std.proofs.Common.{◌≡◌, ℕ, ℤ, pos, negsuc, List, [], ◌∷◌, codes, Option, Some, None, refl}
+use Rattle.std.proofs.Common.{◌≡◌, ℕ, pos, List, [], ◌∷◌, codes, Some, None, refl}
 use Rattle.tilt_base.specs.Expression.{Leaf, Two}
 use Rattle.tilt_base.specs.declared.operator.Op2.TheVariants.{Add, Sub, Gt, IfNull}
 use Rattle.tilt_base.specs.declared.reducer.Reducer.TheVariants.{Sum, Max, Count}

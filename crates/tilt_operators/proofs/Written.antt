@@ -1,6 +1,6 @@
 -- The query of a pipeline is that of some tokens: those of its steps, with other names.
-use Rattle.std.proofs.Common.{◌≡◌, ◌<◌, ◌≤◌, ◌^◌, ◌/◌, ◌%◌, ℕ, zero, suc, ◌+◌, ℤ, pos, negsuc, neg_ℤ, ◌≤ℤ◌, Bool, true, false, ◌&&◌, ◌||◌, List, [], ◌∷◌, ◌++◌, length, map, codes, get_or}
-use Rattle.std.proofs.Common.{decimal, Option, Some, None, if◌then◌else◌, IsTrue, refl, sym, ap, ◌∙◌, subst, arith, length-append}
+use Rattle.std.proofs.Common.{◌≡◌, ◌<◌, ◌≤◌, ◌^◌, ◌%◌, ℕ, zero, suc, ◌+◌, ℤ, pos, negsuc, neg_ℤ, ◌≤ℤ◌, Bool, true, false, ◌&&◌, List, [], ◌∷◌, ◌++◌, length, map, codes, get_or}
+use Rattle.std.proofs.Common.{decimal, Option, Some, None, if◌then◌else◌, refl, sym, ap, subst, arith, length-append}
 use Rattle.std.specs.Char.{is_ascii_digit}
 use Rattle.std.specs.List.{AllByRecursion, list_all, flat_map}
 use Rattle.std.specs.Prelude.{⊤}
@@ -11,8 +11,8 @@ use Rattle.std.proofs.lemmas.Fmt.{decimal_by_steps}
 use Rattle.std.proofs.lemmas.Int.{ints}
 use Rattle.std.proofs.lemmas.List.{length-map, map-append}
 use Rattle.std.proofs.lemmas.List.Folds.{list_all-append}
-use Rattle.tilt_base.proofs.Lists.{all-append, all-parts}
-use Rattle.tilt_base.specs.Expression.{Leaf, One, Two, If}
+use Rattle.tilt_base.proofs.Lists.{all-append}
+use Rattle.tilt_base.specs.Expression.{Two}
 use Rattle.tilt_base.specs.declared.operator.Op1.TheVariants as op1
 use Rattle.tilt_base.specs.declared.operator.Op2.{Op2}
 use Rattle.tilt_base.specs.declared.operator.Op2.TheVariants as op2
@@ -31,12 +31,12 @@ use Rattle.tilt_syntax.proofs.Written.{statement_is, statement_tokens}
 use Rattle.tilt_syntax.specs.Grammar.{Infix, infix_of, SpellsOffset, now, later, earlier, IsExpr, tighter, choice, between, negation, minus}
 use Rattle.tilt_syntax.specs.Grammar.{number, true_word, false_word, name, reading as reading_at, window, is_null, if_null, enclosed, reducer_key}
 use Rattle.tilt_syntax.specs.Grammar.{IsBound, from_zero, below_zero, no_span, no_grid, IsStatement, input, definition, emission}
-use Rattle.tilt_syntax.specs.Query.{AreGood, AreSound, IsGood, IsInPlace, IsQuery, statements}
-use Rattle.tilt_syntax.specs.Tree.{ExprTree, Num, Truth, Read, Reduce, StatementTree, Input, Let, Emit}
+use Rattle.tilt_syntax.specs.Query.{AreGood, AreSound, IsQuery, statements}
+use Rattle.tilt_syntax.specs.Tree.{ExprTree, StatementTree, Input, Let, Emit}
 use Rattle.tilt_operators.specs.Desugared.{over_sources, query_of, reading, some_value, source_for, source_name, step_definitions, step_expr}
 use Rattle.tilt_operators.specs.Flow.{StepTree, Select, Keep, Shift, Window, Join, FlowTree}
 use Rattle.tilt_operators.specs.Inputs.{inputs_of, with_name, with_steps}
-use Rattle.tilt_operators.specs.Steps.{AreFlow, AreSteps, IsExprOver, IsFlow, IsStep, is_over, step_of}
+use Rattle.tilt_operators.specs.Steps.{AreFlow, AreSteps, IsFlow, IsStep, is_over, step_of}
 use Rattle.tilt_operators.specs.declared.operands.Operands.{Operands}
 use Rattle.tilt_operators.specs.declared.operands.Operands.TheVariants.{Value, Both}
 use Rattle.tilt_operators.proofs.Known.{IsKnownFlow, flow-known, with_steps-few}

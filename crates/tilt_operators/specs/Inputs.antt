@@ -2,7 +2,7 @@
 use Rattle.std.specs.Prelude.{ℕ, List, [], ◌∷◌, ◌++◌, if◌then◌else◌}
 use Rattle.std.specs.Str.{bytes_eq}
 use Rattle.std.specs.List.{list_any}
-use Rattle.tilt_operators.specs.Flow.{StepTree, Select, Keep, Shift, Window, Join, FlowTree}
+use Rattle.tilt_operators.specs.Flow.{StepTree, Join, FlowTree}
 
 -- names with one more, unless it is one of them
 abbrev pub with_name : List (List ℕ) → List ℕ → List (List ℕ)

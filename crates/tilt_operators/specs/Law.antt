@@ -1,5 +1,5 @@
 -- What the query of a pipeline is for: it gives what the pipeline gives.
-use Rattle.std.specs.Prelude.{◌≡◌, List, length, Option, Some}
+use Rattle.std.specs.Prelude.{◌≡◌, List, length, Some}
 use Rattle.std.specs.List.{AllByRecursion}
 use Rattle.tilt_core.specs.Core.{CoreParts, domain_of}
 use Rattle.tilt_core.specs.Meaning.{emitted, output_of}

@@ -1,5 +1,5 @@
 -- How pipelines are told apart, which a type that contracts see as plain data needs.
-use Rattle.std.specs.Prelude.{◌≡◌, ℕ, ℤ, List, refl}
+use Rattle.std.specs.Prelude.{◌≡◌, ℕ, List, refl}
 use Rattle.std.specs.Coded.{Coded, code_by, coded×, coded_ℤ, coded_list}
 use base.Stored.{Gv, gnil, gnum, gcons}
 use Rattle.tilt_base.specs.contracts.reducer.Reducer as reducer

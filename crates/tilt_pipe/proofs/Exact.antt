@@ -13,7 +13,7 @@ use Rattle.tilt_stream.specs.Snap.{Snapshot, Fill, last_end}
 use Rattle.tilt_pipe.proofs.Standing.{ended-after}
 use Rattle.tilt_pipe.specs.Made.{begun_below, Stage, read_by_turn, asked, Work, stages_from}
 use Rattle.tilt_pipe.specs.Positions.{made_by}
-use Rattle.tilt_pipe.specs.Rings.{end_or}
+use Rattle.std.specs.Option.{unwrap_or}
 use Rattle.tilt_pipe.specs.Reads.{body_reads, later, last_tick, turn_point}
 use Rattle.tilt_pipe.specs.declared.read.Read.{Read}
 use Rattle.tilt_pipe.proofs.Wanted.{turn_point-rises}
@@ -21,7 +21,7 @@ use Rattle.tilt_pipe.specs.Pulled.{AreEnough, AreFilled, IsFilled, made_in, star
 
 -- where so many of them end
 abbrev pub ended : ℤ → List Snapshot → ℕ → ℤ
-ended lo whole n = end_or lo (last_end (take n whole))
+ended lo whole n = unwrap_or (last_end (take n whole)) lo
 
 -- more of them end no earlier
 pub ended-rises : (lo hi : ℤ) (whole : List Snapshot) (m n : ℕ) → Fill lo hi whole → m ≤ n → ended lo whole m ≤ℤ ended lo whole n

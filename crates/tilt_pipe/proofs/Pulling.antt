@@ -5,6 +5,7 @@ use Rattle.std.proofs.Common.{map, length, take, get_or, slice_get, slice_set, O
 use Rattle.std.proofs.lemmas.Bool.{cases_eq, cases_lt, false≢true}
 use Rattle.std.proofs.lemmas.Int.{ints}
 use Rattle.std.proofs.lemmas.List.{get_or-set_other, get_or-set_same, length-map, length-set, length-take, length_push, take_all}
+use Rattle.std.specs.Option.{unwrap_or}
 use Rattle.std.proofs.lemmas.Option.{same_Some, slice_get_past, slice_get_within}
 use Rattle.std.specs.List.{AllByRecursion}
 use Rattle.std.specs.Result.{is_err}
@@ -30,7 +31,7 @@ use Rattle.tilt_pipe.specs.Positions.{AreRings, IsOpen, RingParts, RingsParts, m
 use Rattle.tilt_pipe.specs.Pulled.{AreEnough, AreFalling, AreFilled, AreStanding, ArePulled, IsAsked, IsBegun, IsPulled, IsReadOf, IsStanding, given_in, left_to_make, made_in, stages_in, start_after}
 use Rattle.tilt_pipe.specs.Pulled.{steps_left}
 use Rattle.tilt_pipe.specs.Reads.{body_reads, turn_point}
-use Rattle.tilt_pipe.specs.Rings.{end_or, rings_after, rings_of}
+use Rattle.tilt_pipe.specs.Rings.{rings_after, rings_of}
 use Rattle.tilt_pipe.specs.Value.{PipeParts, pipe_after}
 
 -- places that fall: the last is the lowest, a still lower one may follow, and the others are left without it
@@ -88,7 +89,7 @@ stands-at : (works : List Work) (starts : List ℤ) (k : ℕ) (w : Work) → Are
 stands-at works starts k w all is =
     let start = get_or starts k (pos 0) in
     ap (λ (n : ℕ). start_after w n) (made_in-at works starts k w all.many is)
-    ∙ sym (ap (λ (list : List Snapshot). end_or w.loop.lo (last_end list)) (made-prefix start w.whole))
+    ∙ sym (ap (λ (list : List Snapshot). unwrap_or (last_end list) w.loop.lo) (made-prefix start w.whole))
     ∙ end-made w.loop.lo start (made_by start w.whole) (all.each k w is).fill
 
 -- a turn is of its own loop alone

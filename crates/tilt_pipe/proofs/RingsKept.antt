@@ -1,11 +1,11 @@
 -- What the rings of a code's loops keep: before the first turn, after one more snapshot, and after some were let go.
 use Rattle.std.proofs.Common.{◌≡◌, ◌<◌, ◌+◌, ◌^◌, ℕ, zero, suc, ℤ, pos, neg_ℤ, ◌<ℤ◌, ◌≤ℤ◌, Bool, true, false, List}
-use Rattle.std.proofs.Common.{[], ◌∷◌, ◌++◌, map, length, drop, get_or, slice_get, slice_set, option_map, Some, refl, sym, ap, ◌∙◌, subst, arith, length-drop}
+use Rattle.std.proofs.Common.{[], ◌∷◌, ◌++◌, map, length, drop, get_or, slice_get, slice_set, option_map, Option, Some, refl, sym, ap, ◌∙◌, subst, arith, length-drop}
 use Rattle.std.proofs.lemmas.Int.{ints}
 use Rattle.std.proofs.lemmas.List.{drop_all, drop-append-le, length_push, length-set}
 use Rattle.std.proofs.lemmas.Option.{same_Some, get_or_from_slice_get, slice_get-map, slice_get_read, slice_get_within}
 use Rattle.std.specs.List.{AllByRecursion}
-use Rattle.std.specs.Option.{ForSome}
+use Rattle.std.specs.Option.{ForSome, unwrap_or}
 use Rattle.circular_buffer.proofs.Places.{slice_get-some}
 use Rattle.tilt_base.proofs.Lists.{all-slice_get}
 use Rattle.tilt_base.specs.declared.limits.TheConstants.{WIDE}
@@ -23,7 +23,6 @@ use Rattle.tilt_pipe.proofs.Standing.{IsNextMade, end-made, made-few, next-is, n
 use Rattle.tilt_pipe.proofs.Works.{work-is, work-fills, works-length}
 use Rattle.tilt_pipe.specs.Made.{Work, is_used, works_from}
 use Rattle.tilt_pipe.specs.Positions.{RingParts, RingsParts, AreRings, AreRingsOf, IsOpen, IsRing, kept_ring, made_at, made_by, start_at, with_ring, works_in, later_ring}
-use Rattle.tilt_pipe.specs.Rings.{end_or}
 
 -- the loop at a place has the ring there
 pub ring-at : (works : List Work) (rings : List RingParts) (place : ℕ) (w : Work) (r : RingParts) → AreRingsOf works rings
@@ -101,7 +100,7 @@ module _ (w : Work) (r : RingParts) (k : IsKept w r) where
   held-ends : (end : ℤ) → last_end r.held ≡ Some end → end ≡ r.start
   held-ends end is =
       let last = last_end-drop r.forgotten (made_by r.start w.whole) end (rw k.ring.held at is) in
-      sym (ap (end_or w.loop.lo) last) ∙ end-made w.loop.lo r.start (made_by r.start w.whole) k.ring.fill
+      sym (ap (λ (end : Option ℤ). unwrap_or end w.loop.lo) last) ∙ end-made w.loop.lo r.start (made_by r.start w.whole) k.ring.fill
 
   later-is : 0 < length r.held → IsRing w (later_ring r)
   later-is some = record {

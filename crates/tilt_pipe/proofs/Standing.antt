@@ -14,7 +14,7 @@ use Rattle.tilt_base.specs.Grid.{GridPoints, IsGrid}
 use Rattle.tilt_code.specs.Meaning.{IsTimed}
 use Rattle.tilt_code.specs.Turn.{turn, turns_until, turns}
 use Rattle.tilt_pipe.specs.Positions.{made_by}
-use Rattle.tilt_pipe.specs.Rings.{end_or}
+use Rattle.std.specs.Option.{unwrap_or}
 use Rattle.tilt_stream.specs.Snap.{Snapshot, InOrder, last_end, gap_before, Fill}
 use Rattle.tilt_stream.specs.Stream.{Stream}
 
@@ -44,12 +44,12 @@ pub none-fills : (lo hi : ℤ) (whole : List Snapshot) → Fill lo hi whole → 
 none-fills lo hi whole h = subst (Fill lo lo) (sym (none-made lo hi whole h)) refl
 
 -- where the last one ends, where the first one does
-pub ended-after : (lo : ℤ) (s : Snapshot) (ss : List Snapshot) → end_or lo (last_end (s ∷ ss)) ≡ end_or s.end (last_end ss)
+pub ended-after : (lo : ℤ) (s : Snapshot) (ss : List Snapshot) → unwrap_or (last_end (s ∷ ss)) lo ≡ unwrap_or (last_end ss) s.end
 ended-after lo s [] = refl
 ended-after lo s (next ∷ ss) = ended-after lo next ss ∙ sym (ended-after s.end next ss)
 
 -- what has filled a stretch ends where it ends
-pub end-made : (lo start : ℤ) (made : List Snapshot) → Fill lo start made → end_or lo (last_end made) ≡ start
+pub end-made : (lo start : ℤ) (made : List Snapshot) → Fill lo start made → unwrap_or (last_end made) lo ≡ start
 end-made lo start [] h = h
 end-made lo start (s ∷ made) h = ended-after lo s made ∙ end-made s.end start made h.2
 

@@ -3,6 +3,7 @@ use Rattle.std.proofs.Common.{◌≡◌, ◌<◌, ◌+◌, ◌-◌, ℕ, suc, �
 use Rattle.std.proofs.Common.{Contains, refl, sym, ap, ◌∙◌, subst, arith}
 use Rattle.std.proofs.lemmas.Bool.{and_parts}
 use Rattle.std.proofs.lemmas.Int.{ints, clamps}
+use Rattle.std.specs.Option.{unwrap_or}
 use Rattle.std.proofs.lemmas.Option.{same_Some, slice_get-map, slice_get_within}
 use Rattle.circular_buffer.proofs.Places.{slice_get-drop, slice_get-some}
 use Rattle.tilt_base.proofs.Booleans.{by_test}
@@ -16,7 +17,7 @@ use Rattle.tilt_pipe.proofs.Works.{work-is, works-length}
 use Rattle.tilt_pipe.specs.Made.{Work, Stage}
 use Rattle.tilt_pipe.specs.Positions.{RingParts, RingsParts, AreRings, IsRing, made_by, stages_at, start_at, starts_of, works_in}
 use Rattle.tilt_pipe.specs.Reads.{body_reads, earlier, first_tick, turn_point}
-use Rattle.tilt_pipe.specs.Rings.{end_or, is_at_work, next_read, position, wanted, let_go}
+use Rattle.tilt_pipe.specs.Rings.{is_at_work, next_read, position, wanted, let_go}
 use Rattle.tilt_pipe.specs.Sources.{AreReaders, HasReader, IsRead, IsReaderOf}
 use Rattle.tilt_pipe.specs.Trimmed.{IsNotLater, HasLetGo, IsReader, KeepsWanted, read_next, reads_next, wanted_at}
 use Rattle.tilt_pipe.specs.declared.chain.Reader.{Reader}
@@ -177,7 +178,7 @@ stage-wanted p k i s readers tick code are of low is =
     let stands = stands-at p j w code are found.work in
     let start : found.start ≡ start_at p j = same_Some found.start (start_at p j) (sym found.at ∙ stands.at) in
     let at : position s ≡ start_at p j =
-    ap (λ (list : List Snapshot). end_or w.loop.lo (last_end list)) (found.made ∙ ap (λ (t : ℤ). made_by t w.whole) start) ∙ stands.position in
+    ap (λ (list : List Snapshot). unwrap_or (last_end list) w.loop.lo) (found.made ∙ ap (λ (t : ℤ). made_by t w.whole) start) ∙ stands.position in
     let reads = first_tick buffer (turn_point w.loop (position s)) (body_reads w.loop.body) in
     by_test (is_at_work s) (IsNotLater tick (next_read buffer s))
     (λ busy.

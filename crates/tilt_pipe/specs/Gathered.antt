@@ -21,11 +21,6 @@ pub record HasBegun (p : RingsParts) (from place : ℕ) (w : Work) (turns : Loop
   pub used : 0 < length turns.readers.items → w.used ≡ true
   pub passed : turns.passed ≡ 0
 
--- so many lists of rings, which are empty
-pub record AreEmpty (count : ℕ) (lists : Vec (Vec ℕ)) : Type 0 where
-  pub many : length lists.items ≡ count
-  pub none : (place : ℕ) → held_in lists.items place ≡ []
-
 -- the same where those after one have, and so many sources of that one, where it is used
 pub record HasAdded (p : RingsParts) (one : ℕ) (sources : List Source) (count place : ℕ) (w : Work) (turns : LoopTurns) : Type 0 where
   pub begun : HasBegun p (suc one) place w turns
@@ -41,3 +36,8 @@ pub record AreEach {T : Type 0} (p : RingsParts) (count : ℕ) (Has : ℕ → Wo
 -- the loops of a code, where those from one on have said what they read
 abbrev pub HaveBegun : RingsParts → ℕ → List LoopTurns → Type 0
 HaveBegun p from all = AreEach p (length p.code.loops) (HasBegun p from) all
+
+-- so many lists of rings, which are empty
+pub record AreEmpty (count : ℕ) (lists : Vec (Vec ℕ)) : Type 0 where
+  pub many : length lists.items ≡ count
+  pub none : (place : ℕ) → held_in lists.items place ≡ []

@@ -26,6 +26,7 @@ abbrev pub is_used_by : ℕ → List Work → Bool
 is_used_by buffer [] = false
 is_used_by buffer (w ∷ works) = (w.used && reads_buffer buffer (body_reads w.loop.body)) || is_used_by buffer works
 
+-- the same, where the last loop is used
 abbrev pub is_used : ℕ → List Work → Bool
 is_used buffer [] = true
 is_used buffer (w ∷ works) = is_used_by buffer (w ∷ works)

@@ -22,10 +22,11 @@ pub record IsExact (c : Chain) : Type 0 where
   pub chain : IsChain c
   pub made : stages_in c.rings ≡ stages_after c.rings.code c.rings.inputs (given_in c.rings)
 
--- as long as memory isn't refused
+-- the same, and no loop waits for another
 pub record IsWhole (p : Inside) : Type 0 where
   pub exact : IsExact p.chain
   pub none_asked : p.asked.items ≡ []
 
+-- what holds of a pipe: nothing is said once memory was refused
 abbrev pub IsPipe : Inside → Type 0
 IsPipe p = p.refused ≡ false → IsWhole p

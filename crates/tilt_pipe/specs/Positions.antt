@@ -50,6 +50,7 @@ pub record AreRings (p : RingsParts) : Type 0 where
 abbrev pub open_list : Work → ℤ → List Snapshot
 open_list w start = made_by start w.whole ++ gap_before (Some start) w.loop.hi
 
+-- the same of each loop
 abbrev pub open_lists : List Work → List ℤ → List (List Snapshot)
 open_lists [] starts = []
 open_lists (w ∷ works) [] = []
@@ -85,7 +86,7 @@ works_in p = works_of p.code p.inputs
 abbrev pub made_at : RingsParts → ℕ → Work → List Snapshot
 made_at p place w = made_by (start_at p place) w.whole
 
--- the same with another ring at a place
+-- rings, with another one at a place
 abbrev pub with_ring : RingsParts → ℕ → RingParts → RingsParts
 with_ring p place ring = record { code = p.code; inputs = p.inputs; rings = slice_set p.rings place ring }
 

@@ -3,13 +3,13 @@
 use Rattle.std.specs.Prelude.{◌≡◌, ◌<◌, ◌≤◌, ◌-◌, ◌+◌, ◌*◌, ℕ, zero, suc, ℤ, pos, ◌+ℤ◌, ◌<ℤ◌, ◌≤ℤ◌, true, List, [], ◌∷◌}
 use Rattle.std.specs.Prelude.{get_or, length, slice_get, take, Some, ⊤}
 use Rattle.std.specs.List.{Contains}
+use Rattle.std.specs.Option.{unwrap_or}
 use Rattle.tilt_base.specs.Grid.{IsGrid}
 use Rattle.tilt_code.specs.Body.{last_or}
 use Rattle.tilt_stream.specs.Snap.{Fill, last_end}
 use Rattle.tilt_pipe.specs.Made.{Stage, Work, stages_from}
 use Rattle.tilt_pipe.specs.Positions.{RingsParts, made_by, stages_at, starts_of, works_in}
 use Rattle.tilt_pipe.specs.Reads.{body_reads, turn_point}
-use Rattle.tilt_pipe.specs.Rings.{end_or}
 use Rattle.tilt_pipe.specs.declared.read.Read.{Read}
 
 -- a loop with a grid whose whole buffer fills its stretch
@@ -40,7 +40,7 @@ made_in (s ∷ stages) (suc place) = made_in stages place
 
 -- where a loop stands that has made so many
 abbrev pub start_after : Work → ℕ → ℤ
-start_after w count = end_or w.loop.lo (last_end (take count w.whole))
+start_after w count = unwrap_or (last_end (take count w.whole)) w.loop.lo
 
 -- a later loop reads the buffer of an earlier one; the first of all fills the buffer with the number
 pub record IsReadOf (buffer : ℕ) (works : List Work) (source place : ℕ) (v w : Work) (r : Read) : Type 0 where

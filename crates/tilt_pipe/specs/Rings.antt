@@ -1,20 +1,16 @@
 -- What the ring of each loop holds (our own rule): of what the loop has made, that which the next turns of later loops may read.
 use Rattle.std.specs.Prelude.{◌<◌, ◌≤◌, ℕ, zero, suc, ◌+◌, ℤ, pos, ◌+ℤ◌, Bool, ◌&&◌, if◌then◌else◌, List, [], ◌∷◌}
 use Rattle.std.specs.Prelude.{length, drop, max, Option, Some, None, int_lt}
+use Rattle.std.specs.Option.{unwrap_or}
 use Rattle.tilt_code.specs.Code.{CodeParts}
 use Rattle.tilt_code.specs.Run.{run_of}
 use Rattle.tilt_stream.specs.Snap.{Snapshot, ended_below, last_end}
 use Rattle.tilt_pipe.specs.Made.{Stage, stages_after}
 use Rattle.tilt_pipe.specs.Reads.{body_reads, earlier, first_tick, turn_point}
 
--- an end, or a tick where there is none
-abbrev pub end_or : ℤ → Option ℤ → ℤ
-end_or tick None = tick
-end_or tick (Some end) = end
-
 -- where the next turn of a loop begins
 abbrev pub position : Stage → ℤ
-position s = end_or s.work.loop.lo (last_end s.made)
+position s = unwrap_or (last_end s.made) s.work.loop.lo
 
 -- whether a loop is at work: it is used, and not at the end of its stretch
 abbrev pub is_at_work : Stage → Bool
@@ -39,7 +35,7 @@ abbrev pub IsNextEnd : ℕ → List Snapshot → Option ℤ → Type 0
 IsNextEnd n list None = length list ≤ n
 IsNextEnd n list (Some end) = (ended_below end list ≤ n) × (n < ended_below (end +ℤ pos 1) list)
 
--- the others
+-- the snapshots that aren't let go
 abbrev pub kept_from : Option ℤ → List Snapshot → List Snapshot
 kept_from tick list = drop (let_go tick list) list
 

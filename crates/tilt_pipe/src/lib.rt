@@ -5,7 +5,7 @@
 //! may read. One of these later loops holds the ring, and reads the first snapshot there: until it goes on, the ring isn't looked at.
 //! `specs/Made` says what each loop has made, and `specs/Rings` what its ring holds, after so many snapshots of the
 //! output; the clauses of `Pipe::next` say that the snapshots are those of the code's run (`given`), and that the rings are these
-//! (`after`). A turn is the one that the machine over whole buffers makes too.
+//! (`after`). A turn is the one that the machine over whole buffers makes too. Outside this crate only tests use a `SnapRing`.
 #![tactic(auto)]
 
 mod chain;

@@ -1,6 +1,6 @@
 // The buffers that the loops of a pipe read: the rows of the inputs, and a ring for each loop.
 ghost use Rattle.std.specs.Prelude.{◌≡◌, ◌<◌, ◌≤◌, ◌+◌, neg_ℤ, ◌<ℤ◌, [], get_or};
-ghost use Rattle.std.specs.Prelude.{length, map, slice_get, Some, true, false, IfOk, OnOk, OnErr, IsTrue, ◌↔◌, MatchOption};
+ghost use Rattle.std.specs.Prelude.{length, map, slice_get, Some, false, IfOk, OnOk, OnErr, IsTrue, ◌↔◌, MatchOption};
 ghost use Rattle.tilt_code.specs.References.{IsCode};
 ghost use Rattle.tilt_base.specs.declared.limits.TheConstants.{WIDE};
 ghost use Rattle.tilt_pipe.specs.Made.{Work};

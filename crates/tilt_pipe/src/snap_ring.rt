@@ -39,7 +39,7 @@ fn push_back(ring: &mut HeapCircularBuffer<Snap>, snap: Snap) -> Result<(), OutO
     }
 }
 
-// Adds a snapshot to a ring that is full, and is made larger for it: to twice its size, but for no more than a few snapshots.
+// Adds a snapshot to a ring that is full, and is made larger for it: to twice its size, and by room for four at least.
 #[cold]
 #[inline(never)]
 fn push_grown(ring: &mut HeapCircularBuffer<Snap>, snap: Snap) -> Result<(), OutOfMemory>

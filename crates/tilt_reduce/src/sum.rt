@@ -1,5 +1,5 @@
 // The sum and the average.
-ghost use Rattle.std.specs.Prelude.{◌≡◌, ◌<◌, ℤ, List, [], ◌∷◌, ◌++◌, length};
+ghost use Rattle.std.specs.Prelude.{◌<◌, ℤ, List, [], ◌∷◌, ◌++◌, length};
 ghost use Rattle.tilt_base.specs.declared.reducer.Reducer.TheVariants.{Avg, Sum};
 ghost use Rattle.tilt_reduce.specs.States.{IsSumAndCount};
 

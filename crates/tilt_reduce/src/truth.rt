@@ -1,5 +1,5 @@
 // Whether one of the numbers is true, and whether each is. Any number but 0 is true.
-ghost use Rattle.std.specs.Prelude.{◌≡◌, ◌<◌, ℤ, List, [], ◌∷◌, ◌++◌, length};
+ghost use Rattle.std.specs.Prelude.{◌<◌, ℤ, List, [], ◌∷◌, ◌++◌, length};
 ghost use Rattle.tilt_base.specs.declared.reducer.Reducer.TheVariants.{All, Any};
 ghost use Rattle.tilt_reduce.specs.States.{IsTrueCount};
 

@@ -26,12 +26,12 @@ pub enum Refusal<'a> {
         /// Why.
         fault: SeriesFault,
     },
-    /// The byte of the query at this place is no blank, and no token begins there.
+    /// The byte of the query or the pipeline at this place is no blank, and no token begins there.
     BadByte {
         /// The place, counted in bytes from 0.
         at: u64,
     },
-    /// The digits of the query that begin at this place spell a number above 9223372036854775807.
+    /// The digits of the query or the pipeline that begin at this place spell a number above 9223372036854775807.
     BigNumber {
         /// The place, counted in bytes from 0.
         at: u64,

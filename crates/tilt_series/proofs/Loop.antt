@@ -12,8 +12,8 @@ abbrev pub with_front : List Snapshot → Result (List Snapshot) SeriesFault →
 with_front front read = read >>= λ rows. Ok (front ++ rows)
 
 -- what the rows from here on make with those that were read
-abbrev pub whole_of : Bounds → List Snapshot → ℕ → List (List (List ℕ)) → Result (List Snapshot) SeriesFault
-whole_of bounds rows row left = with_front rows (rows_of (bounds_after bounds rows) row left)
+abbrev pub whole_of : Bounds → List Snapshot → List (List (List ℕ)) → Result (List Snapshot) SeriesFault
+whole_of bounds rows left = with_front rows (rows_of (bounds_after bounds rows) (length rows + 1) left)
 
 regroup : (front : List Snapshot) (s : Snapshot) (read : Result (List Snapshot) SeriesFault) → with_front front (read >>= λ rows. Ok (s ∷ rows)) ≡ with_front (front ++ s ∷ []) read
 regroup front s (Ok rows) = ap (λ (rs : List Snapshot). Ok rs) (sym (append_assoc front (s ∷ []) rows))
@@ -22,7 +22,7 @@ regroup front s (Err fault) = refl
 -- one more row
 pub whole_of-row : (bounds : Bounds) (front : List Snapshot) (fields : List (List ℕ)) (left : List (List (List ℕ))) (s : Snapshot)
     → Ok s ≡ row_of (bounds_after bounds front) (length front + 1) fields
-    → whole_of bounds front (length front + 1) (fields ∷ left) ≡ whole_of bounds (front ++ s ∷ []) (length (front ++ s ∷ []) + 1) left
+    → whole_of bounds front (fields ∷ left) ≡ whole_of bounds (front ++ s ∷ []) left
 whole_of-row bounds front fields left s is =
     rw (← is, last_end-push front s, length-append front (s ∷ [])) (regroup front s (rows_of (record bounds { last_end = Some s.end }) (length front + 1 + 1) left))
 

@@ -35,10 +35,10 @@ pub at_low : (bound : Option ℤ) (low start : ℤ) → ForSome bound (λ tick. 
 at_low bound low start at h = λ tick is. let at_tick = at tick is in grind (arith, ints)
 
 -- after a row, the stretch begins at its end
-pub FitsBounds-row : (bounds : Bounds) (rows : List Snapshot) (s : Snapshot) (low high end : ℤ) → end ≡ s.end
+pub FitsBounds-row : (bounds : Bounds) (rows : List Snapshot) (s : Snapshot) (low high : ℤ)
     → FitsBounds (bounds_after bounds rows) low high → neg_ℤ T ≤ℤ s.start → s.start <ℤ s.end → ForSome bounds.from (λ tick. tick ≤ℤ s.start)
-    → FitsBounds (bounds_after bounds (rows ++ s ∷ [])) end high
-FitsBounds-row bounds rows s low high end is fits first ticks at_from =
+    → FitsBounds (bounds_after bounds (rows ++ s ∷ [])) s.end high
+FitsBounds-row bounds rows s low high fits first ticks at_from =
     rw (last_end-push rows s) (record {
       first = grind (arith, ints);
       last = fits.last;

@@ -1,11 +1,11 @@
 -- The rows of a series file, or its first fault (our own rule, over records as the crate `csv` defines them, after RFC 4180).
 use Rattle.std.specs.Prelude.{◌≡◌, ℕ, ◌+◌, ℤ, neg_ℤ, Bool, false, not, ◌&&◌, int_lt, int_le, nat_eq, if◌then◌else◌}
-use Rattle.std.specs.Prelude.{List, [], ◌∷◌, ◌++◌, Option, Some, None, option_map, Result, Ok, Err, codes}
+use Rattle.std.specs.Prelude.{List, [], ◌∷◌, ◌++◌, Option, Some, None, Result, Ok, Err, codes}
 use Rattle.std.specs.List.{starts_with}
 use Rattle.std.specs.Option.{ok_or, option_or}
 use Rattle.std.specs.Str.{bytes_eq}
 use Rattle.csv.specs.Reading.{default_config, records, strip_bom}
-use Rattle.tilt_base.specs.Number.{number_spelled}
+use Rattle.tilt_base.specs.Number.{cell_spelled, number_spelled}
 use Rattle.tilt_base.specs.declared.limits.TheConstants.{T}
 use Rattle.tilt_stream.specs.Snap.{Snapshot, last_end}
 use Rattle.tilt_series.specs.declared.fault.SeriesFault.{SeriesFault}
@@ -54,18 +54,13 @@ abbrev pub is_header : Option (List ℕ × List ℕ × List ℕ) → Bool
 is_header None = false
 is_header (Some three) = bytes_eq three.0 (codes "start") && bytes_eq three.1 (codes "end") && bytes_eq three.2 (codes "value")
 
--- the value that a field spells, which is null where it is empty
-abbrev pub value_spelled : List ℕ → Option (Option ℤ)
-value_spelled [] = Some None
-value_spelled (c ∷ cs) = option_map Some (number_spelled (c ∷ cs))
-
 -- the start, the end and the value that the fields of that row spell
 abbrev pub fields_spelled : ℕ → List (List ℕ) → Result (ℤ × ℤ × Option ℤ) SeriesFault
 fields_spelled row fields = do
   three ← ok_or (three_of fields) (BadFields row)
   start ← ok_or (number_spelled three.0) (BadField row 1)
   end ← ok_or (number_spelled three.1) (BadField row 2)
-  value ← ok_or (value_spelled three.2) (BadField row 3)
+  value ← ok_or (cell_spelled three.2) (BadField row 3)
   Ok (start, end, value)
 
 -- the first fault of the times of that row, if there is one
@@ -98,9 +93,9 @@ rows_of bounds row (fields ∷ more) = do
   Ok (first ∷ others)
 
 -- the rows after the header; they are counted from 1
-abbrev pub rows_behind_header : Bounds → List (List (List ℕ)) → Result (List Snapshot) SeriesFault
-rows_behind_header bounds [] = Err BadHeader
-rows_behind_header bounds (fields ∷ more) = if is_header (three_of fields) then rows_of bounds 1 more else Err BadHeader
+abbrev pub rows_after_header : Bounds → List (List (List ℕ)) → Result (List Snapshot) SeriesFault
+rows_after_header bounds [] = Err BadHeader
+rows_after_header bounds (fields ∷ more) = if is_header (three_of fields) then rows_of bounds 1 more else Err BadHeader
 
 -- a byte order mark, U+FEFF in UTF-8
 abbrev pub byte_order_mark : List ℕ
@@ -110,7 +105,7 @@ byte_order_mark = 0xEF ∷ 0xBB ∷ 0xBF ∷ []
 abbrev pub series_of : Bounds → List ℕ → Result (List Snapshot) SeriesFault
 series_of bounds bytes =
     if starts_with nat_eq bytes (byte_order_mark ++ byte_order_mark) then Err BadHeader
-    else rows_behind_header bounds (records default_config (strip_bom bytes))
+    else rows_after_header bounds (records default_config (strip_bom bytes))
 
 -- that answer is what was read, unless memory ran out
 abbrev pub Gives : Result (List Snapshot) ReadRowsFault → Result (List Snapshot) SeriesFault → Type 0

@@ -3,13 +3,13 @@ ghost use Rattle.std.specs.Prelude.{◌≡◌, ◌+◌, ◌<ℤ◌, ◌≤ℤ◌
 ghost use Rattle.std.specs.Option.{ForSome};
 ghost use Rattle.csv.specs.Records.{fields_of};
 ghost use Rattle.tilt_base.specs.declared.limits.TheConstants.{T};
-ghost use Rattle.tilt_series.specs.Series.{bounds_after, is_header, row_of, fields_spelled, three_of, time_fault, value_spelled};
+ghost use Rattle.tilt_series.specs.Series.{bounds_after, is_header, row_of, fields_spelled, three_of, time_fault};
 ghost use Rattle.tilt_series.specs.Stretch.{FitsBounds};
 
 use crate::bounds::{Bounds, Stretch, is_below, is_past, is_time};
 use crate::fault::SeriesFault;
 use csv::ByteRecord;
-use tilt_base::{Cell, read_number};
+use tilt_base::{Cell, read_cell, read_number};
 use tilt_stream::{Row, Rows};
 
 /// Whether the fields are `start`, `end` and `value`.
@@ -60,7 +60,7 @@ fn time_fault(start: i64, end: i64, row: u64, bounds: &Bounds) -> Option<SeriesF
     ensures low { IfNone result (neg_ℤ T ≤ℤ start) }
     ensures high { IfNone result (end ≤ℤ T) }
     ensures some_ticks { IfNone result (start <ℤ end) }
-    ensures behind { IfNone result (ForSome bounds.now.last_end (λ last. last ≤ℤ start)) }
+    ensures after { IfNone result (ForSome bounds.now.last_end (λ last. last ≤ℤ start)) }
     ensures cut { IfNone result (ForSome bounds.now.from (λ from. from ≤ℤ start)) }
 {
     if !is_time(start) || !is_time(end) {
@@ -86,7 +86,7 @@ fn read_fields(fields: &ByteRecord, row: u64) -> Result<(i64, i64, Cell), Series
     let (start, end, value) = three_fields(fields).ok_or(SeriesFault::BadFields { row })?;
     let start = read_number(start).ok_or(SeriesFault::BadField { row, field: 1 })?;
     let end = read_number(end).ok_or(SeriesFault::BadField { row, field: 2 })?;
-    let value = read_value(value).ok_or(SeriesFault::BadField { row, field: 3 })?;
+    let value = read_cell(value).ok_or(SeriesFault::BadField { row, field: 3 })?;
     Ok((start, end, value))
 }
 
@@ -99,16 +99,4 @@ fn three_fields(fields: &ByteRecord) -> Option<(&[u8], &[u8], &[u8])>
         return None;
     }
     Some((fields.get(0)?, fields.get(1)?, fields.get(2)?))
-}
-
-// The value that a field spells, which is null where it is empty.
-#[inline]
-fn read_value(field: &[u8]) -> Option<Cell>
-    ensures { result ≡ value_spelled field.now }
-{
-    if field.is_empty() {
-        Some(None)
-    } else {
-        read_number(field).map(Some)
-    }
 }

@@ -13,8 +13,8 @@ use tilt_stream::Rows;
 /// Two byte order marks, U+FEFF in UTF-8.
 const TWO_MARKS: &[u8] = b"\xEF\xBB\xBF\xEF\xBB\xBF";
 
-/// By how many bytes of the file most rows are spelled at least, so that the room that is made for them at first is mostly enough. Room that
-/// no row comes into is never touched.
+/// Most rows are spelled by so many bytes of the file at least, so that the room that is made for them at first is mostly enough. Room
+/// that no row comes into is never touched.
 const BYTES_A_ROW: usize = 16;
 
 /// The rows of a series file, or its first fault (`Refused`). The first record is the header `start,end,value`, and each other is a
@@ -46,11 +46,11 @@ pub fn read_rows(
         upto,
     };
     let room = bytes.len() / BYTES_A_ROW;
-    read_behind_header(alloc, &mut reader, &mut fields, bounds, room)
+    read_after_header(alloc, &mut reader, &mut fields, bounds, room)
 }
 
 // The rows of the records that are left. There is room for so many at first.
-fn read_behind_header(
+fn read_after_header(
     alloc: Global,
     reader: &mut Reader<&[u8]>,
     fields: &mut ByteRecord,

@@ -29,7 +29,6 @@ use Rattle.tilt_load.proofs.ReadRows.{AreNumbers, inputs_good, inputs_no_checkpo
 use Rattle.tilt_load.specs.CheckpointFile.{TakesCheckpoint, long, of_none}
 use Rattle.tilt_load.specs.Does.{IsUndone, Reading}
 use Rattle.tilt_load.specs.FileCommand.{IsFileOutcome, no_file, no_inputs, done}
-use Rattle.tilt_load.specs.InputCuts.{RefusesCuts}
 use Rattle.tilt_load.specs.InputCuts as cuts
 use Rattle.tilt_load.specs.SeriesFiles.{RefusesSession, TakesSession, by_names, by_series}
 use Rattle.tilt_report.specs.Report.{Outcome, Reason, Report, bad_checkpoint, printed_and_saved, refused, refusal, usage, read_fault, write_fault, save_fault, out_of_memory}

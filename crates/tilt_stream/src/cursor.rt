@@ -37,14 +37,6 @@ impl Cursor {
         self.tick
     }
 
-    /// The place of the first snapshot that doesn't end below the tick: no earlier one is read any more.
-    #[inline]
-    pub fn place(&self) -> usize
-        ensures { result ≡ self.now.place }
-    {
-        self.place
-    }
-
     /// Moves to a tick that isn't below its own, where the buffer keeps the snapshots from that tick on; those that it passes needn't
     /// be kept any more. It takes the logarithm of the number of snapshots that it passes, and reads one where it passes none.
     pub fn move_to<B: Buffer>(&mut self, buffer: &B, tick: i64)

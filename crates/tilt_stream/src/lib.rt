@@ -7,8 +7,8 @@
 //! memory.
 //!
 //! The machines read rows and lists by cursors, and the commands read them as slices: no code but tests calls
-//! `SnapList::from_rows`, `value_at` and `next_begin`, `get` of `Rows` and of `SnapList`, `Rows::is_empty`, and `move_to`, `value`,
-//! `next` and `place` of `Cursor`.
+//! `SnapList::from_rows`, `value_at` and `next_begin`, `get` of `Rows` and of `SnapList`, `Rows::is_empty`, and `move_to`, `value`
+//! and `next` of `Cursor`.
 //!
 //! The definitions that all crates above share stand in `specs/`: streams and their marks, what scalar operators, windows, grids
 //! and stretches of time make of them, when two streams agree, and the snapshots of a stream and their text. Their laws stand in

@@ -10,7 +10,7 @@ use crate::placed::Placed;
 use tilt_code::Instr;
 
 // So many of the latest leaves are looked at, so that the time stays linear.
-const REACH: usize = 64;
+const MOST_LOOKED_AT: usize = 64;
 
 // The number of a leaf that reads what the instruction in a place of the body reads.
 pub(crate) fn earlier_equal(body: &[Instr], place: usize, leaves: &[Placed]) -> Option<usize>
@@ -20,7 +20,7 @@ pub(crate) fn earlier_equal(body: &[Instr], place: usize, leaves: &[Placed]) -> 
         × ((own : Placed) → own ≡ get_or leaves.now number own
         → get_or body.now own.place (Const (pos 0)) ≡ get_or body.now place (Const (pos 0)))) }
 {
-    let first = leaves.len().saturating_sub(REACH);
+    let first = leaves.len().saturating_sub(MOST_LOOKED_AT);
     for number in first..leaves.len() {
         if body[leaves[number].place] == body[place] {
             return Some(number);

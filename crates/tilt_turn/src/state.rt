@@ -55,8 +55,8 @@ impl LoopState {
 
     /// The snapshot that begins at a start, over the buffers before the loop's own. The state has to be at a grid point that isn't
     /// above that of this turn, and is then at it. Each buffer has to keep the snapshots from the first tick on that the loop reads of
-    /// it at the grid point of this turn, and no more. `OutOfMemory` comes
-    /// where memory is refused, and for no other reason; the state is of no use then.
+    /// it at the grid point of this turn; it needn't keep those before. `OutOfMemory` comes where memory is refused, and for no other
+    /// reason; the state is of no use then.
     // Inlined, so that what a turn takes and gives stays in registers of the processor.
     #[inline(always)]
     pub fn turn<S: Buffers>(

@@ -3,7 +3,7 @@ use Rattle.std.proofs.Common.{◌≡◌, ℕ, zero, suc, ◌+◌, ◌<◌, Bool,
 use Rattle.std.specs.Option.{option_or}
 use Rattle.std.proofs.lemmas.Int.{ints}
 use Rattle.std.proofs.lemmas.Bool.{and_parts}
-use Rattle.tilt_base.specs.Grid.{GridPoints, IsGrid}
+use Rattle.tilt_base.specs.Grid.{GridPoints, is_grid}
 use Rattle.tilt_syntax.specs.Tree.{ExprTree, StatementTree, Input, Let, Emit, statement_tree}
 use Rattle.tilt_base.specs.declared.span.Span.{Span}
 use Rattle.tilt_syntax.specs.declared.every.Every.{Every}
@@ -11,7 +11,7 @@ use Rattle.tilt_syntax.specs.declared.statement.Statement.{Statement}
 use Rattle.tilt_core.specs.Core.{IsStretch}
 use Rattle.tilt_types.specs.Types.{type_of}
 use Rattle.tilt_types.specs.WellFormed.{declared_by, domain_fault, expr_fault, fault_of, first_fault, has_bounds_on, has_windows}
-use Rattle.tilt_types.specs.WellFormed.{grid_of, is_declared, is_domain, is_fitting, is_grid, is_stretch, knows_names, name_fault, statement_grid}
+use Rattle.tilt_types.specs.WellFormed.{grid_of, is_declared, is_domain, is_fitting, is_stretch, knows_names, name_fault, statement_grid}
 use Rattle.tilt_types.specs.declared.declared.Declared.{Declared}
 use Rattle.tilt_types.specs.declared.fault.CheckFault.{CheckFault}
 
@@ -46,15 +46,6 @@ expr-clear n declared emitted e h =
 
 pub domain-clear : (n : ℕ) (over : Option Span) (every : Option Every) → domain_fault n over every ≡ None → is_domain over every ≡ true
 domain-clear n over every h = (not_faulty (is_domain over every) _ _ h).0
-
--- the test for a grid is passed by grids alone
-pub tested-IsGrid : (grid : GridPoints) → is_grid grid ≡ true → IsGrid grid
-tested-IsGrid grid h = record {
-  period_low = grind (arith, ints);
-  period_high = grind (arith, ints);
-  offset_low = grind (arith, ints);
-  offset_high = grind (arith, ints);
-}
 
 pub stretch-IsStretch : (over : Option Span) → is_stretch over ≡ true → IsStretch over
 stretch-IsStretch None h = tt

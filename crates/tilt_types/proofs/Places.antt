@@ -10,11 +10,12 @@ use Rattle.std.proofs.lemmas.Slice.Eq.{bytes_eq-Decides}
 use Rattle.std.specs.Prelude.{Contains, ℤ}
 use Rattle.std.proofs.lemmas.Bool.{and_parts}
 use Rattle.tilt_base.proofs.Comparisons.{same_bytes}
+use Rattle.tilt_base.proofs.GridPoints.{tested-IsGrid}
 use Rattle.tilt_base.specs.Expression.{Leaf, One, Two, If}
 use Rattle.tilt_syntax.specs.Tree.{Num, Truth, Read, Reduce, ExprTree, StatementTree, Input, Let, Emit}
 use Rattle.tilt_base.specs.declared.span.Span.{Span}
 use Rattle.tilt_syntax.specs.declared.every.Every.{Every}
-use Rattle.tilt_types.proofs.Clear.{IsClear, neither, expr-clear, domain-clear, domain-grid, domain-stretch, stretch-IsStretch, tested-IsGrid}
+use Rattle.tilt_types.proofs.Clear.{IsClear, neither, expr-clear, domain-clear, domain-grid, domain-stretch, stretch-IsStretch}
 use Rattle.tilt_types.proofs.Distinct.{is_declared-push}
 use Rattle.tilt_types.proofs.Texts.{IsOfText}
 use Rattle.tilt_types.specs.Checked.{definition, definitions, input_names, let_names, numbered, place_of, source_names}

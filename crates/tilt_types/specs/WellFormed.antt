@@ -3,8 +3,8 @@ use Rattle.std.specs.Prelude.{◌≡◌, ℕ, ◌+◌, pos, neg_ℤ, Bool, true,
 use Rattle.std.specs.Prelude.{List, [], ◌∷◌, ◌++◌, Option, Some, None, is_some}
 use Rattle.std.specs.Option.{option_or}
 use Rattle.tilt_base.specs.Expression.{Leaf, One, Two, If}
-use Rattle.tilt_base.specs.Grid.{GridPoints, is_point}
-use Rattle.tilt_base.specs.declared.limits.TheConstants.{T, PERIOD}
+use Rattle.tilt_base.specs.Grid.{GridPoints, is_grid, is_point}
+use Rattle.tilt_base.specs.declared.limits.TheConstants.{T}
 use Rattle.tilt_syntax.specs.Tree.{Num, Truth, Read, Reduce, ExprTree, StatementTree, Input, Let, Emit}
 use Rattle.tilt_base.specs.declared.span.Span.{Span}
 use Rattle.tilt_syntax.specs.declared.every.Every.{Every}
@@ -49,10 +49,6 @@ abbrev pub statement_grid : StatementTree → GridPoints
 statement_grid (Input name) = grid_of None
 statement_grid (Let name e over every) = grid_of every
 statement_grid (Emit e over every) = grid_of every
-
--- whether a period is one that a grid may have, and an offset is below it
-abbrev pub is_grid : GridPoints → Bool
-is_grid grid = int_le (pos 1) grid.period && int_le grid.period PERIOD && int_le (pos 0) grid.offset && int_lt grid.offset grid.period
 
 -- whether a span, where one is written, bounds a stretch of time within `-T..T`
 abbrev pub is_stretch : Option Span → Bool

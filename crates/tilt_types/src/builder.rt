@@ -1,11 +1,12 @@
 // The core of a well-formed query.
 ghost use Rattle.std.specs.Prelude.{◌≡◌, ◌≤◌, ◌++◌, [], ◌∷◌, length, map, IfOk, OnOk, IsTrue};
 ghost use Rattle.std.specs.List.{AllByRecursion};
+ghost use Rattle.tilt_base.specs.Grid.{is_grid};
 ghost use Rattle.tilt_lexer.specs.Word.{IsWord};
 ghost use Rattle.tilt_syntax.specs.Tree.{expr_tree, statement_tree};
 ghost use Rattle.tilt_types.specs.Checked.{core_of, definition, definitions, input_names, let_names, numbered, place_of};
 ghost use Rattle.tilt_core.specs.CoreTree.{tree_of};
-ghost use Rattle.tilt_types.specs.WellFormed.{IsWellFormed, grid_of, is_grid, statement_grid};
+ghost use Rattle.tilt_types.specs.WellFormed.{IsWellFormed, grid_of, statement_grid};
 
 use crate::grid::grid_of;
 use std::alloc::{AllocError as OutOfMemory, Global};

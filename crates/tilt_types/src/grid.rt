@@ -1,6 +1,7 @@
 // The grids that a query writes.
 ghost use Rattle.std.specs.Prelude.{◌≡◌, true, false, MatchOption};
-ghost use Rattle.tilt_types.specs.WellFormed.{grid_of, is_grid};
+ghost use Rattle.tilt_base.specs.Grid.{is_grid};
+ghost use Rattle.tilt_types.specs.WellFormed.{grid_of};
 
 use tilt_base::Grid;
 use tilt_syntax::Every;

@@ -1,5 +1,5 @@
 // A state with one cell more or less.
-ghost use Rattle.std.specs.Prelude.{◌≤◌, ◌<◌, ℤ, List, [], ◌∷◌, ◌++◌, Option, length};
+ghost use Rattle.std.specs.Prelude.{◌<◌, ℤ, List, [], ◌∷◌, ◌++◌, Option, length};
 ghost use Rattle.tilt_base.specs.Reduce.{numbers};
 
 use tilt_base::Cell;

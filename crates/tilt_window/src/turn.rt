@@ -1,5 +1,5 @@
 // Turning the stack of newer cells over.
-ghost use Rattle.std.specs.Prelude.{◌≡◌, ◌≤◌, ◌<◌, ℤ, List, [], ◌∷◌, ◌++◌, Option, length, OnOk};
+ghost use Rattle.std.specs.Prelude.{◌≡◌, ◌≤◌, ◌<◌, ℤ, List, [], ◌∷◌, Option, length, OnOk};
 ghost use Rattle.tilt_base.specs.Reduce.{numbers};
 ghost use Rattle.tilt_window.specs.Stacked.{AreStatesFromEach, IsStacked};
 

@@ -8,14 +8,13 @@ use crate::bind::Bind;
 use crate::upto::Upto;
 
 /// What the words of a command line ask for. The names of files are as the words give them, not empty; those that a
-/// command reads first don't begin with `--`. Times are in ticks and lie in `-T..=T`.
+/// command reads first don't begin with `--`. Times are in ticks and lie in `-T..=T`. Where `plain` is true no loops are merged.
 #[derive(Debug, Drop)]
 pub enum Command {
     /// Run the query on the files that are bound.
     Run {
         query: String,
         binds: Vec<Bind>,
-        /// Whether no loops are merged.
         plain: bool,
         /// The times at which the run is cut into sessions, none below the one before it. Without `--cut` there is none.
         cuts: Vec<i64>,
@@ -62,7 +61,7 @@ pub enum Command {
         binds: Vec<Bind>,
         plain: bool,
     },
-    /// Run the query turn by turn beside whoever watches.
+    /// Run the query on the files that are bound, show each row to the watchers once its line was put, and tell their figures.
     Watch {
         query: String,
         binds: Vec<Bind>,

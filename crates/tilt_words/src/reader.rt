@@ -14,7 +14,7 @@ const SEED: u32 = 2_147_483_647;
 const COUNT: u32 = 1_000_000;
 
 /// The command that the words are, as they stand after the program's name. The first word names the command, and for
-/// each but `try` the second is a file: not empty, and it doesn't begin with `--`. Behind it come binds `NAME=FILE` and
+/// each but `try` the second is a file: not empty, and it doesn't begin with `--`. After it come binds `NAME=FILE` and
 /// the options that the command takes, in any order, each option at most once. `Usage` comes where the words are no
 /// command.
 pub fn read_words(alloc: Global, words: &[String]) -> Result<Command, WordsFault>

@@ -1,4 +1,4 @@
-use Rattle.std.proofs.Common.{◌≡◌, ◌∙◌, ℕ, ◌<◌, ◌+◌, ◌==◌, ℤ, pos, ◌+ℤ◌, ap, arith, length, List, Option, Some, None, if◌then◌else◌, to_z, of_z}
+use Rattle.std.proofs.Common.{◌≡◌, ◌∙◌, ◌+◌, ◌==◌, ℤ, pos, ◌+ℤ◌, ap, arith, List, Option, Some, None, if◌then◌else◌, to_z, of_z}
 use Rattle.std.proofs.lemmas.Int.{ints}
 use Rattle.std.specs.Int.{w128}
 use Rattle.tilt_core.specs.CoreTree.{tree_of}

@@ -1,9 +1,9 @@
-use Rattle.std.proofs.Common.{◌≡◌, ◌∙◌, ◌+◌, ◌*◌, ◌^◌, ◌<◌, ◌≤◌, ℕ, suc, pos, ◌≤ℤ◌, List, length, Option, Some, None, set, sym, ap, arith}
+use Rattle.std.proofs.Common.{◌≡◌, ◌∙◌, ◌+◌, ◌*◌, ◌^◌, suc, pos, length, Option, Some, set, sym, ap, arith}
 use Rattle.std.proofs.lemmas.Int.{ints}
 use Rattle.std.proofs.lemmas.List.{length-set}
-use Rattle.tilt_core.specs.CoreTree.{CoreTree, Definition, tree_of}
+use Rattle.tilt_core.specs.CoreTree.{Definition, tree_of}
 use Rattle.tilt_core.specs.Needs.{Need, either, asked_by, asked_of, body_need}
-use Rattle.tilt_bounds.specs.Margins.{IsWithin, AreWithin, evenly, need_at}
+use Rattle.tilt_bounds.specs.Margins.{need_at}
 use Rattle.tilt_bounds.proofs.Steps.{length-needs, reads-more, asked-needs, either-none, within-greater, all_within-greater, within-asked, all_within-put_down}
 use Rattle.tilt_bounds.proofs.asking.ask_before.Goals as goal
 

@@ -1,4 +1,4 @@
-use Rattle.std.proofs.Common.{◌≡◌, ◌∙◌, ◌+◌, ◌-◌, ℕ, pos, List, length, drop, sym, ap, subst, arith, replicate, None}
+use Rattle.std.proofs.Common.{◌≡◌, ◌∙◌, ◌+◌, ◌-◌, pos, length, sym, ap, subst, arith}
 use Rattle.std.proofs.Math.Seq.{drop-length}
 use Rattle.tilt_core.specs.Core.{IsDefinition}
 use Rattle.tilt_core.specs.CoreTree.{Definition}

@@ -1,6 +1,5 @@
-use Rattle.std.proofs.Common.{arith, pos, to_z, of_z, ◌+ℤ◌, ◌-ℤ◌, ◌≡◌, ap, ◌∙◌}
+use Rattle.std.proofs.Common.{arith, ◌≡◌, ap}
 use Rattle.std.proofs.lemmas.Int.{ints, clamps}
-use Rattle.std.specs.Int.{w128, int_max}
 use Rattle.tilt_bounds.proofs.Needs.{same_need}
 use Rattle.tilt_core.specs.Needs.{Need, reaching}
 use Rattle.tilt_bounds.proofs.asking.reaching.Goals as goal

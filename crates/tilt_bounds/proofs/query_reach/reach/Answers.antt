@@ -1,8 +1,8 @@
-use Rattle.std.proofs.Common.{◌≡◌, ◌∙◌, ◌+◌, ◌*◌, ◌^◌, pos, length, map, sym, ap, subst, true, false, Ok, Err, List, Option, arith}
+use Rattle.std.proofs.Common.{◌≡◌, ◌∙◌, ◌*◌, ◌^◌, pos, length, map, sym, ap}
 use Rattle.tilt_base.specs.declared.limits.TheConstants.{REACH}
 use Rattle.tilt_core.proofs.Constancy.{meaning-changes, definitions-AreGrids}
-use Rattle.tilt_core.specs.Needs.{Need, needs}
-use Rattle.tilt_bounds.specs.Margins.{MarginsParts, AreWithin, evenly, is_too_far, need_of}
+use Rattle.tilt_core.specs.Needs.{needs}
+use Rattle.tilt_bounds.specs.Margins.{MarginsParts, evenly, need_of}
 use Rattle.tilt_bounds.proofs.Laws.{core-IsLocal, core-IsCausal}
 use Rattle.tilt_bounds.proofs.Reached.{items-needs, items-within, widest-within, widest-Err, widest-Ok, all_within-limit}
 use Rattle.tilt_bounds.proofs.Steps.{length-needs}

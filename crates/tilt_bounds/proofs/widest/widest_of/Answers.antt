@@ -1,4 +1,4 @@
-use Rattle.std.proofs.Common.{◌≡◌, ◌∙◌, ap, sym, take, drop, arith}
+use Rattle.std.proofs.Common.{◌∙◌, sym, take, drop}
 use Rattle.tilt_core.specs.Needs.{body_needs}
 use Rattle.tilt_bounds.proofs.Needs.{widest-append}
 use Rattle.tilt_bounds.proofs.widest.widest_of.Goals as goal

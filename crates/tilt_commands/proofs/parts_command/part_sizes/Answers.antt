@@ -1,4 +1,4 @@
-use Rattle.std.proofs.Common.{◌≡◌, ◌∙◌, ◌++◌, ◌∷◌, [], List, ℕ, length, map, take, ap, sym, arith}
+use Rattle.std.proofs.Common.{◌∙◌, ◌++◌, ◌∷◌, [], List, ℕ, length, map, ap, sym, arith}
 use Rattle.std.proofs.lemmas.List.{take_all, length-map}
 use Rattle.tilt_commands.proofs.Divided.{more_sizes}
 use Rattle.tilt_parts.specs.Part.{PartValue}

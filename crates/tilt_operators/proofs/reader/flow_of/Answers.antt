@@ -1,7 +1,7 @@
-use Rattle.std.proofs.Common.{◌≡◌, length, map, Some, ◌∙◌, ap, sym, arith}
+use Rattle.std.proofs.Common.{sym, arith}
 use Rattle.std.proofs.lemmas.List.{length-map}
 use Rattle.tilt_operators.specs.Flow.{step_tree}
-use Rattle.tilt_operators.specs.Steps.{first_untyped, step_type}
+use Rattle.tilt_operators.specs.Steps.{step_type}
 use Rattle.tilt_operators.proofs.Later.{few-steps}
 use Rattle.tilt_operators.proofs.reader.flow_of.Goals as goal
 

@@ -1,4 +1,4 @@
-use Rattle.std.proofs.Common.{◌≡◌, ◌≤◌, ◌+◌, List, ◌∷◌, ◌++◌, length, map, vec_len}
+use Rattle.std.proofs.Common.{◌≤◌, ◌+◌, List, ◌∷◌, ◌++◌, length, map, vec_len}
 use Rattle.tilt_base.specs.declared.span.Span.{Span}
 use Rattle.tilt_syntax.specs.Query.{AreSound, kinds, statements}
 use Rattle.tilt_operators.specs.Flow.{StepTree, step_tree}

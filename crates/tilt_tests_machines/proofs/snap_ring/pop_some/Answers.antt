@@ -1,4 +1,4 @@
-use Rattle.std.proofs.Common.{◌≡◌, ℤ, List, [], ◌∷◌, Option, Some, None, MatchOption, sym}
+use Rattle.std.proofs.Common.{◌≡◌, ℤ, List, [], ◌∷◌, Option, Some, None, MatchOption}
 use Rattle.std.specs.Option.{ForSome}
 use Rattle.tilt_stream.specs.Snap.{Snapshot, last_end}
 use Rattle.tilt_tests_machines.proofs.snap_ring.pop_some.Goals as goal

@@ -7,7 +7,7 @@ use Rattle.tilt_pipe.proofs.Covered.{contains-at}
 use Rattle.tilt_pipe.proofs.Settled.{left-less, left-shorter, list-read, list-within, listed-there, ring-read}
 use Rattle.tilt_pipe.specs.Chain.{held_in}
 use Rattle.tilt_pipe.proofs.chain.Chain.trim_number.Goals as goal
-use Rattle.tilt_pipe.proofs.chain.Chain.trim_number.Goals.{After-index, After-index-ring, After-index_mut}
+use Rattle.tilt_pipe.proofs.chain.Chain.trim_number.Goals.{After-index-ring, After-index_mut}
 
 pub index-requires : goal.index-requires
 index-requires c = let within = list-within c.args.self.now c.args.place c.requires.may c.requires.there in search rules
