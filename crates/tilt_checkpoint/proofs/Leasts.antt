@@ -5,11 +5,7 @@ use Rattle.std.specs.List.{AllByRecursion}
 use Rattle.std.proofs.lemmas.Int.{ints, fold-int_min_bounds, fold-int_min_reached}
 use Rattle.std.proofs.lemmas.List.Elements.{Contains-get_or, recursion_from_All}
 use Rattle.tilt_base.proofs.Lists.{all-contains}
-use Rattle.tilt_types.specs.Checked.{core_of}
-use Rattle.tilt_checkpoint.specs.Checkpoint.{CheckpointParts, KeptParts, cuts_kept, cuts_of}
 use Rattle.tilt_checkpoint.specs.Cuts.{AreCuts, IsCut, IsLeast}
-use Rattle.tilt_checkpoint.specs.Decided.{first_kept, frame_of}
-use Rattle.tilt_checkpoint.specs.Valid.{IsCheckpoint, IsSeries}
 
 -- numbers have one least
 pub least_once : (a b : ℤ) (numbers : List ℤ) → numbers ≢ [] → IsLeast a numbers → IsLeast b numbers → a ≡ b
@@ -72,17 +68,4 @@ cuts_among least each some within is = record {
   range = all-contains IsCut each least within (is.among some);
   each = within;
   least = is;
-}
-
--- cuts of checkpoints
-
-cuts_within : (first : ℤ) (series : List KeptParts) → AllByRecursion (IsSeries first) series → AllByRecursion IsCut (cuts_kept series)
-cuts_within first [] all = tt
-cuts_within first (kept ∷ series) all = (all.0.cut, cuts_within first series all.1)
-
-pub cuts_of_valid : (c : CheckpointParts) → IsCheckpoint c → AreCuts (cuts_of c)
-cuts_of_valid c is = record {
-  range = is.cut;
-  each = cuts_within (first_kept (frame_of (core_of c.query)) c.cut) c.series is.series;
-  least = is.least;
 }

@@ -1,5 +1,5 @@
 -- The lines of a query that are read are those that are spelled.
-use Rattle.std.proofs.Common.{◌≡◌, ℕ, ◌-◌, List, ◌∷◌, ◌++◌, length, take, Some, sym, ap, ◌∙◌, arith, append_assoc, length-append}
+use Rattle.std.proofs.Common.{◌≡◌, ℕ, ◌-◌, List, ◌∷◌, ◌++◌, length, take, Some, sym, ap, subst, ◌∙◌, arith, append_assoc, length-append}
 use Rattle.std.specs.Prelude.{codes}
 use Rattle.std.specs.Fmt.{decimal}
 use Rattle.std.proofs.Math.Seq.{take-append_seam}
@@ -7,8 +7,11 @@ use Rattle.std.proofs.lemmas.Option.{some_pair_parts}
 use Rattle.tilt_types.proofs.Texts.{query-few}
 use Rattle.tilt_text.specs.Step.{◌>>=◌}
 use Rattle.tilt_text.proofs.Step.{bind_some}
+use Rattle.tilt_lexer.specs.Tokens.{AreTokens}
+use Rattle.tilt_syntax.proofs.Law.{reads_back}
 use Rattle.tilt_syntax.specs.Printing.{query_text}
 use Rattle.tilt_syntax.specs.Query.{IsQuery}
+use Rattle.tilt_syntax.specs.Text.{IsQueryText}
 use Rattle.tilt_syntax.specs.Tree.{StatementTree}
 use Rattle.tilt_checkpoint.specs.Reading.{behind, behind_line, count_at, front_of, query_at, statements_at, times}
 use Rattle.tilt_checkpoint.specs.Spelling.{query_lines}
@@ -66,3 +69,13 @@ lines-spelled bytes count text left query e counted is =
     (query-was bytes count text left e).spelled
     ∙ (λ i. codes "query " ++ (decimal (sym counted i) ++ 10 ∷ (is i ++ left)))
     ∙ sym (lines_shape query left)
+
+-- a text that is the printing of a query reads as the query
+pub query-reads : (text : List ℕ) (query : List StatementTree) → IsQuery query → text ≡ query_text query → IsQueryText text query
+query-reads text query is e =
+    let back = reads_back query is in
+    record {
+      tokens = back.tokens;
+      lexed = subst (λ (t : List ℕ). AreTokens 0 t back.tokens) (sym e) back.are;
+      parsed = back.parsed;
+    }

@@ -1,12 +1,11 @@
 ghost use Rattle.std.specs.Prelude.{◌≡◌};
-ghost use Rattle.tilt_checkpoint.specs.Faults.{of_check, of_lex, of_reach, of_syntax};
+ghost use Rattle.tilt_checkpoint.specs.Faults.{of_check, of_reach, of_text};
 ghost use Rattle.tilt_checkpoint.specs.declared.fault.CheckpointFault.TheVariants.{OutOfMemory};
 
 use std::alloc::AllocError;
 use thiserror::Error;
 use tilt_bounds::ReachFault;
-use tilt_lexer::LexFault;
-use tilt_syntax::SyntaxFault;
+use tilt_syntax::TextFault;
 use tilt_types::CheckFault;
 
 /// Why bytes gave no checkpoint.
@@ -28,27 +27,13 @@ impl From<AllocError> for CheckpointFault {
     }
 }
 
-impl From<LexFault> for CheckpointFault {
-    ghost from_gives = { λ was fault. fault ≡ of_lex was };
+impl From<TextFault> for CheckpointFault {
+    ghost from_gives = { λ was fault. fault ≡ of_text was };
 
-    fn from(was: LexFault) -> Self {
+    fn from(was: TextFault) -> Self {
         match was {
-            LexFault::OutOfMemory => CheckpointFault::OutOfMemory,
-            LexFault::BadByte { .. } | LexFault::BigNumber { .. } => CheckpointFault::BadCheckpoint,
-        }
-    }
-}
-
-impl From<SyntaxFault> for CheckpointFault {
-    ghost from_gives = { λ was fault. fault ≡ of_syntax was };
-
-    fn from(was: SyntaxFault) -> Self {
-        match was {
-            SyntaxFault::OutOfMemory => CheckpointFault::OutOfMemory,
-            SyntaxFault::TooManyStatements
-            | SyntaxFault::StatementTooLong { .. }
-            | SyntaxFault::Syntax { .. }
-            | SyntaxFault::EmitPlace { .. } => CheckpointFault::BadCheckpoint,
+            TextFault::OutOfMemory => CheckpointFault::OutOfMemory,
+            TextFault::Lexical(_) | TextFault::Refused(_) => CheckpointFault::BadCheckpoint,
         }
     }
 }

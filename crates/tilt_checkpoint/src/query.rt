@@ -13,8 +13,7 @@ use crate::reader::Reader;
 use std::alloc::{AllocError as OutOfMemory, Global};
 use tilt_bounds::{Margins, reach};
 use tilt_core::Core;
-use tilt_lexer::lex;
-use tilt_syntax::{Query, parse, print};
+use tilt_syntax::{Query, print, read_text};
 use tilt_types::check;
 
 // A query that is accepted, its core, and how far it looks.
@@ -65,8 +64,7 @@ fn query_of(alloc: Global, text: &[u8]) -> Result<Query, CheckpointFault>
     ensures only { (query : List StatementTree) → IsQuery query → text.now ≡ query_text query
         → MatchResult result (λ found. found ≡ query) (λ fault. fault ≡ CheckpointFault.OutOfMemory) }
 {
-    let tokens = lex(alloc, text)?;
-    let query = parse(alloc, &tokens)?;
+    let query = read_text(alloc, text)?;
     Ok(query)
 }
 
@@ -85,6 +83,7 @@ fn core_and_margins(alloc: Global, query: &Query) -> Result<(Core, Margins), Che
     ensures margins { IfOk result (λ found. margins_of found.0 ≡ Ok found.1) }
     ensures only { IsAccepted query.now → IfErr result (λ fault. fault ≡ CheckpointFault.OutOfMemory) }
 {
+    // That some text reads as the query is known from here on.
     let _parsed = query.statements();
     let core = check(alloc, query)?;
     let margins = reach(alloc, &core)?;
