@@ -1,6 +1,7 @@
 // A sink over a writer of the standard library, with a buffer before it.
-ghost use Rattle.std.specs.Io.KnownBytes.{Appends};
-ghost use Rattle.std.specs.Prelude.{◌≡◌, ⊤, [], IfOk, OnOk};
+ghost use Rattle.std.specs.Io.KnownBytes.{Appends, Keeps};
+ghost use Rattle.std.specs.Prelude.{◌≡◌, ◌↔◌, ⊤, [], ℕ, List, IfOk, OnOk};
+ghost use Rattle.tilt_outside.specs.Faults.{HasCause};
 ghost use Rattle.tilt_outside.specs.Written.{Puts};
 
 use crate::failed::Failed;
@@ -37,7 +38,7 @@ impl<W: Write + Drop> Model for BufferedSink<W> {
 impl<W: Write + Drop> BufferedSink<W> {
     /// A sink over the writer, with no fault yet. It takes the memory of the buffer.
     pub fn new(alloc: Global, writer: W) -> Result<BufferedSink<W>, OutOfMemory>
-        ensures { IfOk result (λ sink. (sink.held_back ≡ 0) × (sink.faults ≡ 0)) }
+        ensures { IfOk result (λ sink. sink ≡ record { contents = W.contents writer; held_back = 0; faults = 0 }) }
     {
         match BufWriter::with_capacity(alloc, ROOM, writer) {
             Ok(writer) => Ok(BufferedSink { writer, faults: 0 }),
@@ -71,7 +72,15 @@ impl<W: Write + Drop> Sink for BufferedSink<W> {
         Err(Failed)
     }
 
-    fn flush(&mut self) -> Result<(), Failed> {
+    /// Where the writer is known to hold its bytes, those that were put stay as they are.
+    fn flush(&mut self) -> Result<(), Failed>
+        ensures handed_on { OnOk result (self.new.held_back ≡ 0) }
+        ensures written { let none : List ℕ = [] in none ≡ none }
+        ensures cause { HasCause self.old.faults self.new.faults result }
+        ensures takes { (n : ℕ) → ⊤ ↔ ⊤ }
+
+        ensures bytes { Keeps self.old.contents self.new.contents }
+    {
         if self.writer.flush().is_ok() {
             return Ok(());
         }

@@ -1,6 +1,7 @@
 // A sink over a writer of the standard library.
-ghost use Rattle.std.specs.Io.KnownBytes.{Appends};
-ghost use Rattle.std.specs.Prelude.{◌≡◌, ◌<◌, ◌≤◌, ⊤, [], length, take, IfOk, OnOk};
+ghost use Rattle.std.specs.Io.KnownBytes.{Appends, Keeps};
+ghost use Rattle.std.specs.Prelude.{◌≡◌, ◌<◌, ◌≤◌, ◌↔◌, ⊤, [], ℕ, List, length, take, IfOk, OnOk};
+ghost use Rattle.tilt_outside.specs.Faults.{HasCause};
 ghost use Rattle.tilt_outside.specs.Written.{Puts};
 
 use crate::failed::Failed;
@@ -59,7 +60,15 @@ impl<W: Write> Sink for StdSink<W> {
         outcome
     }
 
-    fn flush(&mut self) -> Result<(), Failed> {
+    /// Where the writer is known to hold its bytes, they stay as they are.
+    fn flush(&mut self) -> Result<(), Failed>
+        ensures handed_on { OnOk result (self.new.held_back ≡ 0) }
+        ensures written { let none : List ℕ = [] in none ≡ none }
+        ensures cause { HasCause self.old.faults self.new.faults result }
+        ensures takes { (n : ℕ) → ⊤ ↔ ⊤ }
+
+        ensures bytes { Keeps self.old.contents self.new.contents }
+    {
         if self.writer.flush().is_ok() {
             return Ok(());
         }
