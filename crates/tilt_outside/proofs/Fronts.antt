@@ -1,4 +1,4 @@
--- Fronts of a piece.
+-- Prefixes of a piece.
 use Rattle.std.proofs.Common.{ℕ, List, ◌++◌, take, drop, refl, sym, take-append-drop}
 use Rattle.tilt_outside.specs.Written.{AppendsFront}
 
