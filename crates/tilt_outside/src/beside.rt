@@ -1,4 +1,5 @@
 // The new file beside a name that is saved to.
+use crate::digits::is_number;
 use crate::uninterrupted::again;
 use std::alloc::{AllocError as OutOfMemory, Global};
 use std::fs;
@@ -11,7 +12,8 @@ const ENDING: &str = ".tilt-save";
 /// How many bytes of a file's name the name of the new file begins with at most, so that the whole isn't too long.
 const MOST_OF_NAME: usize = 200;
 
-/// The path of the new file: in the same folder, `.NAME.PROGRAM.tilt-save`.
+/// The path of the new file: in the same folder, `.NAME.PROGRAM.tilt-save`. Only the first 200 bytes of NAME stand there, so
+/// files of one folder whose names begin with the same 200 bytes aren't to be saved at the same time.
 pub(crate) fn path_beside(
     alloc: Global,
     path: &PathBuf,
@@ -23,8 +25,8 @@ pub(crate) fn path_beside(
     path.with_file_name(alloc, beside.as_str())
 }
 
-/// Takes away the new files that saves under that name have left, where the program was ended before they were renamed.
-/// A file that can't be taken away stays.
+/// Takes away the new files that saves under that name have left before they were renamed, also those of programs that still
+/// run: their saves then fail. A file that can't be taken away stays.
 pub(crate) fn remove_left<R: Files>(alloc: Global, files: &R, folder: &str, name: &str) {
     let name = start_of(name);
     let Ok(entries) = fs::read_dir(&(files, alloc), folder) else {
@@ -51,5 +53,5 @@ fn is_beside(found: &str, name: &str) -> bool {
         .and_then(|rest| rest.strip_prefix(name))
         .and_then(|rest| rest.strip_prefix('.'))
         .and_then(|rest| rest.strip_suffix(ENDING));
-    program.is_some_and(|program| program.bytes().all(|byte| byte.is_ascii_digit()))
+    program.is_some_and(is_number)
 }

@@ -6,6 +6,7 @@
 
 mod beside;
 mod buffered_sink;
+mod digits;
 mod disk_shelf;
 mod failed;
 mod held_file;

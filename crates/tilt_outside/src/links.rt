@@ -1,18 +1,19 @@
 // Where the links of a name lead.
+use crate::digits::is_number;
 use crate::uninterrupted::again;
 use std::alloc::Global;
 use std::fs::Metadata;
 use std::io::{self, ErrorKind};
-use std::path::PathBuf;
+use std::path::{Path, PathBuf};
 use std::rt::Files;
 
-/// How many links a name may lead through.
+/// How many links a name may lead through, as on Linux.
 const MOST_LINKS: u32 = 40;
 
 /// The path that the name leads to: it is no link, but where it is a file that the program was handed open.
 pub(crate) fn followed<R: Files>(alloc: Global, files: &R, name: &str) -> io::Result<PathBuf> {
     let mut path = PathBuf::from_str(alloc, name)?;
-    for _ in 0..MOST_LINKS {
+    for _ in 0..=MOST_LINKS {
         if is_descriptor(&path) || !is_link(files, path.as_str())? {
             return Ok(path);
         }
@@ -21,13 +22,30 @@ pub(crate) fn followed<R: Files>(alloc: Global, files: &R, name: &str) -> io::Re
     Err(io::Error::from(ErrorKind::FilesystemLoop))
 }
 
-/// Whether the path is that of a file that the program was handed open, as `/dev/stdout` leads to.
+/// Whether the path is that of a file that the program was handed open, as `/dev/stdout` leads to: one of `/dev/fd`, or of
+/// `/proc/PROCESS/fd` or `/proc/PROCESS/task/THREAD/fd`. Any other folder may be named `fd` too, as `/dev/shm/fd`.
 pub(crate) fn is_descriptor(path: &PathBuf) -> bool {
-    let is_of_the_system = path.starts_with("/proc") || path.starts_with("/dev");
-    match path.parent() {
-        Some(folder) => is_of_the_system && folder.ends_with("fd"),
-        None => false,
-    }
+    let Some(folder) = path.parent() else {
+        return false;
+    };
+    folder == Path::new("/dev/fd") || folder.strip_prefix("/proc").is_ok_and(is_of_process)
+}
+
+// Whether that folder below `/proc` has the open files of a process or of one of its threads.
+fn is_of_process(folder: Path<'_>) -> bool {
+    let mut names = folder.components().map(|name| name.as_os_str());
+    let process = names.next();
+    let below = (names.next(), names.next(), names.next(), names.next());
+    process.is_some_and(is_process)
+        && match below {
+            (Some("fd"), None, ..) => true,
+            (Some("task"), Some(thread), Some("fd"), None) => is_number(thread),
+            _ => false,
+        }
+}
+
+fn is_process(name: &str) -> bool {
+    name == "self" || name == "thread-self" || is_number(name)
 }
 
 /// What the system says of the path, with its links followed, and `None` where nothing is there.

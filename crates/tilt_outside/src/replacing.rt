@@ -3,16 +3,22 @@ use crate::beside::{path_beside, remove_left};
 use crate::links::{find, followed, is_descriptor};
 use crate::uninterrupted::again;
 use std::alloc::Global;
-use std::fs::{Metadata, OpenFile, OpenOptions};
+use std::fs::{Metadata, OpenFile, OpenOptions, Permissions};
 use std::io::{self, ErrorKind, Write};
 use std::os::unix::fs::{MetadataExt, OpenOptionsExt, PermissionsExt};
 use std::path::PathBuf;
 use std::rt::Files;
 
+/// The rights of a file's owner, in its mode.
+const OF_OWNER: u32 = 0o700;
+
+/// Those of all who are neither its owner nor in its group.
+const OF_OTHERS: u32 = 0o007;
+
 /// Makes the name hold these bytes. Where its links lead to a regular file, or to none, a new file beside it takes its
-/// place once it is whole and on the disk; the old file's mode is kept, and one that may not be written stays. What is
-/// no regular file, and a file that the program was handed open, is written in place. `program` is a number that no
-/// other running program has.
+/// place once it is whole and on the disk; the old file's rights are kept, and one that may not be written stays. What is
+/// no regular file, and a file that the program was handed open, is written in place: where that fails, a prefix of the
+/// bytes may have been written. `program` is a number that no other running program has.
 pub(crate) fn save_whole<R: Files>(
     alloc: Global,
     files: &R,
@@ -80,7 +86,8 @@ fn put_in_place<R: Files>(
     again(|| files.rename(new, path))
 }
 
-// Makes the new file, with the owner and the mode of the old one, and waits until the disk has its bytes.
+// Makes the new file, with the rights of the old one, and waits until the disk has its bytes. Before it has its owner and its
+// group, nobody but the program's user may open it.
 fn write_new<R: Files>(
     files: &R,
     path: &str,
@@ -90,32 +97,50 @@ fn write_new<R: Files>(
     let mut options = OpenOptions::new();
     options.write(true).create_new(true);
     if let Some(old) = old {
-        options.mode(old.permissions().mode() & 0o777);
+        options.mode(rights_of(old) & OF_OWNER);
     }
     let mut file = options.open(files, path)?;
     if let Some(old) = old {
         let new = again(|| file.metadata())?;
-        keep_owner(files, path, &new, old);
-        keep_mode(&file, &new, old)?;
+        let is_group_kept = keep_owner(files, path, &new, old);
+        keep_mode(&file, &new, old, is_group_kept)?;
     }
     file.write_all(bytes)?;
     file.flush()?;
     file.sync_all()
 }
 
-// Gives the file to the owner of the old one, where the program may.
-fn keep_owner<R: Files>(files: &R, path: &str, new: &Metadata, old: &Metadata) {
-    if new.uid() != old.uid() || new.gid() != old.gid() {
-        let _ = again(|| files.chown(path, Some(old.uid()), Some(old.gid())));
+// Gives the file to the owner and the group of the old one, or to the group alone where the program may do no more. Whether
+// the file has the old one's group then.
+fn keep_owner<R: Files>(files: &R, path: &str, new: &Metadata, old: &Metadata) -> bool {
+    let group = Some(old.gid());
+    if new.uid() != old.uid() && again(|| files.chown(path, Some(old.uid()), group)).is_ok() {
+        return true;
     }
+    new.gid() == old.gid() || again(|| files.chown(path, None, group)).is_ok()
 }
 
-// Gives the file the mode of the old one, where it has another.
-fn keep_mode<F: OpenFile>(file: &F, new: &Metadata, old: &Metadata) -> io::Result<()> {
-    if new.permissions() == old.permissions() {
+// Gives the file the mode of the old one, where it has another. A group that isn't the old one's gets no right that others
+// don't have.
+fn keep_mode<F: OpenFile>(
+    file: &F,
+    new: &Metadata,
+    old: &Metadata,
+    is_group_kept: bool,
+) -> io::Result<()> {
+    let mut rights = rights_of(old);
+    if !is_group_kept {
+        let of_group = (rights & OF_OTHERS) << 3;
+        rights &= OF_OWNER | of_group | OF_OTHERS;
+    }
+    if rights_of(new) == rights {
         return Ok(());
     }
-    file.set_permissions(old.permissions())
+    file.set_permissions(Permissions::from_mode(rights))
+}
+
+fn rights_of(metadata: &Metadata) -> u32 {
+    metadata.mode() & 0o7777
 }
 
 // Waits until the disk has the folder's names, where the folder can be opened and the file system can do that.

@@ -7,6 +7,8 @@
 #[cfg(test)]
 mod faulty_files;
 #[cfg(test)]
+mod files_below;
+#[cfg(test)]
 mod saves;
 #[cfg(test)]
 mod series;

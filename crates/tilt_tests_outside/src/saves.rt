@@ -1,5 +1,6 @@
 // Saves on a disk.
 use crate::faulty_files::{Faults, FaultyFiles};
+use crate::files_below::FilesBelow;
 use std::cell::Cell;
 use std::fs;
 use std::io::{self, ErrorKind};
@@ -185,6 +186,32 @@ fn what_a_link_leads_to_is_replaced(rt: HostRuntime) -> Result<(), Fail> {
     Ok(())
 }
 
+// Makes so many links, each to the one before and the first to a name.
+fn chain(rt: &HostRuntime, links: u32) -> Result<(), Fail> {
+    empty_folder(rt, "saves_chain")?;
+    symlink(rt, "state", "saves_chain/1")?;
+    for link in 1..links {
+        let from = format!(in rt.alloc(); "{link}")?;
+        let next = link.saturating_add(1);
+        let path = format!(in rt.alloc(); "saves_chain/{next}")?;
+        symlink(rt, from.as_str(), path.as_str())?;
+    }
+    Ok(())
+}
+
+#[test]
+fn as_many_links_are_followed_as_the_system_follows(rt: HostRuntime) -> Result<(), Fail> {
+    chain(&rt, 41)?;
+    assert_eq!(rt; save(&rt, "saves_chain/40", NEW), Ok(()));
+    assert_eq!(rt; fs::read(&rt, "saves_chain/state")?.as_slice(), NEW);
+    assert_eq!(rt; fs::read(&rt, "saves_chain/40")?.as_slice(), NEW);
+    assert_eq!(rt; save(&rt, "saves_chain/41", OLD), Err(Failed));
+    assert!(rt; fs::read(&rt, "saves_chain/41").is_err());
+    assert_eq!(rt; fs::read(&rt, "saves_chain/state")?.as_slice(), NEW);
+    fs::remove_dir_all(&rt, "saves_chain")?;
+    Ok(())
+}
+
 const NO_FILES: &[&str] = &[
     "saves_places",
     "saves_places/",
@@ -206,6 +233,66 @@ fn what_is_no_regular_file_is_written_in_place(rt: HostRuntime) -> Result<(), Fa
     Ok(())
 }
 
+// What stands in a file after a save over the old bytes, in a system whose root is a folder.
+fn held_below(rt: &HostRuntime, folder: &str, name: &str) -> Result<Vec<u8>, Fail> {
+    let place = format!(in rt.alloc(); "saves_handed{folder}")?;
+    fs::create_dir_all(rt, place.as_str())?;
+    let path = format!(in rt.alloc(); "saves_handed{folder}/{name}")?;
+    fs::write(rt, path.as_str(), OLD)?;
+    let files = FilesBelow {
+        alloc: rt.alloc(),
+        files: rt,
+        folder: "saves_handed",
+    };
+    let saved = format!(in rt.alloc(); "{folder}/{name}")?;
+    DiskShelf::new(rt.alloc(), &files, PROGRAM).save(saved.as_str(), NEW)?;
+    Ok(fs::read(rt, path.as_str())?)
+}
+
+// Folders, and whether what stands in them was handed open to a program.
+const HANDED: &[(&str, bool)] = &[
+    ("/dev/fd", true),
+    ("/proc/self/fd", true),
+    ("/proc/thread-self/fd", true),
+    ("/proc/12/fd", true),
+    ("/proc/12/task/13/fd", true),
+    ("/proc/self/task/13/fd", true),
+    ("/dev//fd", true),
+    ("/dev", false),
+    ("/dev/shm/fd", false),
+    ("/dev/shm/dev/fd", false),
+    ("/dev/fds", false),
+    ("/device/fd", false),
+    ("/proc/fd", false),
+    ("/proc/12x/fd", false),
+    ("/proc/12/fdinfo", false),
+    ("/proc/12/task/fd", false),
+    ("/proc/12/task/self/fd", false),
+    ("/proc/self/cwd/fd", false),
+    ("/proc/self/root/dev/fd", false),
+    ("/proc/self/fd/14/fd", false),
+    ("/proc/self/fd/14", false),
+    ("/tmp/dev/fd", false),
+    ("/tmp/proc/self/fd", false),
+    ("/fd", false),
+];
+
+#[test]
+fn only_what_was_handed_open_is_written_at_its_end(rt: HostRuntime) -> Result<(), Fail> {
+    empty_folder(&rt, "saves_handed")?;
+    for (folder, is_handed) in HANDED {
+        let held = held_below(&rt, folder, "3")?;
+        let want: &[u8] = if *is_handed {
+            b"the old bytesand the new ones, which are more"
+        } else {
+            NEW
+        };
+        assert_eq!(rt; held.as_slice(), want, "{folder}");
+    }
+    fs::remove_dir_all(&rt, "saves_handed")?;
+    Ok(())
+}
+
 // Whether a file of this name stays where another is saved.
 fn stays(rt: &HostRuntime, left: &str) -> Result<bool, Fail> {
     let path = format!(in rt.alloc(); "saves_left/{left}")?;
@@ -220,6 +307,7 @@ const LEFT: &[(&str, bool)] = &[
     (".state.7.tilt-save", false),
     (".other.12.tilt-save", true),
     (".state.x.tilt-save", true),
+    (".state..tilt-save", true),
     ("state.12.tilt-save", true),
     (".state.12.tilt-saved", true),
 ];
