@@ -93,3 +93,45 @@ def test_tests_that_could_have_been_run_are_a_failure(check, apt, monkeypatch, c
     assert data.main() == status
     out = capsys.readouterr().out
     assert out.endswith(f"0 passed, {status} failed\n") and "tests left out; not installed: python3-pytest" in out
+
+
+ECHO = "echo 'input x; emit x | y && z > 3 over (0, 10];' > q; "
+
+
+@pytest.mark.parametrize("command, calls", [
+    ("tilt run q x=x.csv", [(["run", "q", "x=x.csv"], None, None)]),
+    ("tilt flow p x=x.csv --plain", [(["flow", "p", "x=x.csv", "--plain"], None, None)]),
+    (ECHO + "tilt run q x=x.csv", [(["run", "q", "x=x.csv"], None, None)]),
+    ("m4 q.m4 > q && tilt run q", [(["run", "q"], None, None)]),
+    (ECHO + "tilt run q x=x.csv | head -n 5", [(["run", "q", "x=x.csv"], None, 5)]),
+    ("tilt run q x=x.csv > out", [(["run", "q", "x=x.csv"], "out", None)]),
+    ("tilt run q x=x.csv > out; tilt flow p x=x.csv | cmp - out", [(["run", "q", "x=x.csv"], "out", None)]),
+    ("tilt run q x=x.csv > a; tilt run q x=y.csv", [(["run", "q", "x=x.csv"], "a", None), (["run", "q", "x=y.csv"], None, None)]),
+    # What the line prints isn't the output of the call alone, or the words aren't those of the call.
+    ("cat q; tilt run q x=x.csv", []), ("tilt run q x=x.csv; cat q", []), ("tilt run q x=x.csv | wc -l", []), ("tilt run q x=x.csv 2>&1", []),
+    ("for n in 1 2; do tilt run q x=x.csv; done", []), ("tilt run q x=$FILE", []), ("tilt explain q", []), ("tilt-data run q x=x.csv", []),
+])
+def test_which_calls_of_a_line_are_worked_out_again(check, command, calls):
+    assert [(call.words, call.file, call.most) for call in check("check_examples").calls_of(command)] == calls
+
+
+def page_of(folder: pathlib.Path, output: str) -> str:
+    """A page with one line, whose output is made by a file in place of the program."""
+    (folder / "page.md").write_text(f"```console\n$ {ECHO.replace('x | y && z > 3', 'x')}tilt run q x=x.csv\n{output}```\n")
+    (folder / "tilt").write_text(f"#!/bin/sh\nprintf '{output}'\n")
+    (folder / "tilt").chmod(0o755)
+    (folder / "x.csv").write_text("start,end,value\n0,5,7\n")
+    return "page.md"
+
+
+@pytest.mark.parametrize("row, failed", [("0,5,7", 0), ("0,5,8", 1)])
+def test_a_page_that_has_what_the_program_prints_is_held_to_its_meaning(check, tmp_path, monkeypatch, capsys, row, failed):
+    examples = check("check_examples")
+    page = page_of(tmp_path, f"start,end,value\n{row}\n")
+    monkeypatch.setattr(examples, "TOP", str(tmp_path))
+    monkeypatch.setattr(examples, "BUILT", str(tmp_path))
+    monkeypatch.setattr(examples, "lay_out", lambda folder, lines: (pathlib.Path(folder) / "x.csv").write_bytes((tmp_path / "x.csv").read_bytes()))
+    tally = examples.Tally()
+    examples.check_page(tally, page)
+    assert (tally.passed, tally.failed, tally.evaluated, tally.others) == (2 - failed, failed, 1, 0)
+    assert ("by tools/evaluate" in capsys.readouterr().out) == bool(failed)
