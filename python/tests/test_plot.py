@@ -1,9 +1,11 @@
 """`tilt-data plot`: what is drawn where, and what is refused."""
 from __future__ import annotations
 
+import datetime
 import os
 import pathlib
 import random
+import zoneinfo
 
 import pytest
 from tilt_data.clock import Clock
@@ -54,6 +56,66 @@ def test_bands():
 def test_the_axis_of_a_clock(tick, lo, hi, marks, texts, label):
     places, shown, its = axis_of(Clock(tick, 0), lo, hi, None, "UTC")
     assert len(places) == marks and shown[:len(texts)] == texts and its == label and places[0] == 0
+
+
+def local(zone: str, *when: int, fold: int = 0) -> int:
+    """The seconds since 1970 of a local time."""
+    return int(datetime.datetime(*when, tzinfo=zoneinfo.ZoneInfo(zone), fold=fold).timestamp())
+
+
+@pytest.mark.parametrize("zone, first, last", [
+    ("Europe/Zurich", (2026, 10, 23), (2026, 10, 29)), ("Europe/Zurich", (2026, 3, 26), (2026, 4, 1)), ("America/New_York", (2026, 10, 31), (2026, 11, 6)),
+])
+def test_days_begin_at_midnight_also_after_a_change_of_the_clocks(zone, first, last):
+    begin, end = local(zone, *first), local(zone, *last)
+    places, shown, label = axis_of(Clock(10**9, begin * 10**9), 0, end - begin, zoneinfo.ZoneInfo(zone), zone)
+    day, dates = datetime.date(*first), []
+    while day <= datetime.date(*last):
+        dates.append(day)
+        day += datetime.timedelta(days=1)
+    assert shown == [date.isoformat() for date in dates]
+    assert [begin + place for place in places] == [local(zone, date.year, date.month, date.day) for date in dates]
+
+
+@pytest.mark.parametrize("zone, first, last, dates, times", [
+    # At midnight the clocks go to 01:00, which is where this day begins.
+    ("America/Sao_Paulo", (2018, 11, 3), (2018, 11, 5), [3, 4, 5], [(2018, 11, 3), (2018, 11, 4, 1), (2018, 11, 5)]),
+    # At 01:00 the clocks go back to midnight: the day begins at the first of the two.
+    ("America/Havana", (2026, 10, 31), (2026, 11, 2), [31, 1, 2], [(2026, 10, 31), (2026, 11, 1), (2026, 11, 2)]),
+])
+def test_a_day_has_one_mark_where_its_midnight_is_left_out_or_there_twice(zone, first, last, dates, times):
+    begin, end = local(zone, *first) - 7 * 86400, local(zone, *last)
+    places, shown, _ = axis_of(Clock(10**9, begin * 10**9), 0, end - begin, zoneinfo.ZoneInfo(zone), zone)
+    assert [int(text[8:]) for text in shown[-3:]] == dates and [begin + place for place in places[-3:]] == [local(zone, *one) for one in times]
+
+
+@pytest.mark.parametrize("begin, texts, hours", [
+    # At 03:00 the clocks go back to 02:00, and at 02:00 on to 03:00.
+    ((2026, 10, 25), ["00:00", "01:00", "02:00", "02:00", "03:00", "04:00"], [0, 1, 2, 3, 4, 5]),
+    ((2026, 3, 29), ["00:00", "01:00", "03:00", "04:00", "05:00", "06:00"], [0, 1, 2, 3, 4, 5]),
+])
+def test_hours_over_a_change_of_the_clocks(begin, texts, hours):
+    zone = zoneinfo.ZoneInfo("Europe/Zurich")
+    places, shown, _ = axis_of(Clock(10**9, local(zone.key, *begin) * 10**9), 0, 5 * 3600, zone, zone.key)
+    assert shown == texts and places == [hour * 3600 for hour in hours]
+
+
+def test_times_of_a_day_are_those_of_the_clock_after_a_change():
+    zone = zoneinfo.ZoneInfo("Europe/Zurich")
+    begin, end = local(zone.key, 2026, 10, 24), local(zone.key, 2026, 10, 26)
+    places, shown, _ = axis_of(Clock(10**9, begin * 10**9), 0, end - begin, zone, zone.key)
+    assert shown == ["00:00", "06:00", "12:00", "18:00"] * 2 + ["00:00"]
+    assert [begin + place for place in places] == [*(local(zone.key, 2026, 10, 24 + at // 4, at % 4 * 6) for at in range(8)), end]
+
+
+def test_a_short_stretch_around_a_change():
+    zone = zoneinfo.ZoneInfo("Europe/Zurich")
+    # The clocks go back an hour after the first 02:00, which is two seconds after this stretch begins.
+    begin = local(zone.key, 2026, 10, 25, 2) + 3600 - 2
+    places, shown, _ = axis_of(Clock(10**6, begin * 10**9), 0, 4500, zone, zone.key)
+    assert shown == ["02:59:58.000", "02:59:58.500", "02:59:59.000", "02:59:59.500", "02:00:00.000", "02:00:00.500", "02:00:01.000",
+                     "02:00:01.500", "02:00:02.000", "02:00:02.500"]
+    assert places == [500 * at for at in range(10)]
 
 
 def test_the_axis_of_ticks():

@@ -8,7 +8,7 @@ import os
 import re
 from typing import Any, Iterable, Iterator
 
-from .clock import Clock, Moments, moment_text, zone_of
+from .clock import DAY, EPOCH, Clock, Moments, moment_text, zone_of
 from .errors import Refused
 from .files import Notes, Row, beside, notes_of, reading, rows_of
 from .progress import shown
@@ -25,7 +25,7 @@ WIDTH = 900
 STEPS = [step * unit for unit, steps in (
     (1, (1, 2, 5, 10, 20, 50, 100, 200, 500)), (10**3, (1, 2, 5, 10, 20, 50, 100, 200, 500)), (10**6, (1, 2, 5, 10, 20, 50, 100, 200, 500)),
     (10**9, (1, 2, 5, 10, 15, 30, 60, 120, 300, 600, 900, 1800, 3600, 7200, 10800, 21600, 43200)),
-    (86400 * 10**9, (1, 2, 7, 14, 30, 60, 120, 365, 730, 3650))) for step in steps]
+    (DAY, (1, 2, 7, 14, 30, 60, 120, 365, 730, 3650))) for step in steps]
 
 
 @dataclasses.dataclass
@@ -206,6 +206,57 @@ def draw_one(axes: Any, one: Drawn, lo: int, hi: int, colour: str) -> None:
     axes.plot([time - lo for time in corners], heights, label=one.name, **style)
 
 
+def shift_at(moment: int, zone: datetime.tzinfo | None) -> int:
+    """How many nanoseconds the clocks of a zone are before UTC at a moment."""
+    if zone is None:
+        return 0
+    try:
+        local = datetime.datetime.fromtimestamp(moment // 10**9, zone)
+    except (ValueError, OverflowError) as error:
+        raise Refused(f"the moment {moment} ns after 1970 lies outside of the years 1 to 9999") from error
+    return (local.utcoffset() or datetime.timedelta()) // datetime.timedelta(seconds=1) * 10**9
+
+
+def midnight(local: int, zone: datetime.tzinfo | None) -> int:
+    """The moment of a midnight of local time: the first one of a day that has two. One that the zone leaves out is where it would be by the
+    clocks before that."""
+    if zone is None:
+        return local
+    shift = (EPOCH + datetime.timedelta(seconds=local // 10**9)).replace(tzinfo=zone).utcoffset() or datetime.timedelta()
+    return local - shift // datetime.timedelta(seconds=1) * 10**9
+
+
+def days(begin: int, end: int, step: int, zone: datetime.tzinfo | None) -> list[int]:
+    """The midnights of a stretch, one for each step of whole days."""
+    first, last = begin + shift_at(begin, zone), end + shift_at(end, zone)
+    found = {midnight(local, zone) for local in range(-(-first // step) * step, last + 1, step)}
+    return sorted(moment for moment in found if begin <= moment <= end)
+
+
+def times_of_day(begin: int, end: int, step: int, zone: datetime.tzinfo | None) -> Iterator[int]:
+    """The moments whose local time is a multiple of a step: a time that the zone has twice has two, and one that it leaves out none."""
+    while begin <= end:
+        shift = shift_at(begin, zone)
+        moment = -(-(begin + shift) // step) * step - shift
+        if shift_at(moment, zone) != shift:
+            begin = change(begin, moment, zone)
+        else:
+            if moment <= end:
+                yield moment
+            begin = moment + 1
+
+
+def change(before: int, after: int, zone: datetime.tzinfo | None) -> int:
+    """The moment at which the clocks are changed between two."""
+    while after - before > 1:
+        middle = (before + after) // 2
+        if shift_at(middle, zone) == shift_at(before, zone):
+            before = middle
+        else:
+            after = middle
+    return after
+
+
 def axis_of(clock: Clock | None, lo: int, hi: int, zone: datetime.tzinfo | None, zone_name: str) -> tuple[list[float], list[str], str]:
     """Where the marks of the axis stand, in ticks after `lo`, their texts, and the text of the axis."""
     if clock is None:
@@ -216,22 +267,18 @@ def axis_of(clock: Clock | None, lo: int, hi: int, zone: datetime.tzinfo | None,
         return [float(mark - lo) for mark in marks], [f"{mark:,}" for mark in marks], "ticks"
     begin, end = clock.moment(lo), clock.moment(hi)
     step = next((step for step in STEPS if (end - begin) // step <= 9), STEPS[-1])
-    shift = 0
-    if zone is not None:
-        offset = datetime.datetime.fromtimestamp(begin // 10**9, zone).utcoffset()
-        shift = (offset or datetime.timedelta()) // datetime.timedelta(seconds=1) * 10**9
-    moments = range(-(-(begin + shift) // step) * step - shift, end + 1, step)
+    moments = days(begin, end, step, zone) if step >= DAY else list(times_of_day(begin, end, step, zone))
     digits = 0 if step % 10**9 == 0 else 3 if step % 10**6 == 0 else 6 if step % 10**3 == 0 else 9
     texts = [moment_text(moment, digits, zone) for moment in moments]
     first, last = (moment_text(moment, 0, zone)[:10] for moment in (begin, end - 1))
     part = slice(11, 20 + digits if digits else 19)
     if step % (60 * 10**9) == 0:
-        part = slice(0, 10) if step >= 86400 * 10**9 else slice(11, 16)
+        part = slice(0, 10) if step >= DAY else slice(11, 16)
     day = first if first == last else f"{first} to {last}"
     return [(moment - begin) / clock.tick for moment in moments], [text[part] for text in texts], f"{day} ({zone_name})"
 
 
-def draw(words: argparse.Namespace, panels: list[list[Drawn]], form: str) -> Any:
+def draw(words: argparse.Namespace, panels: list[list[Drawn]]) -> Any:
     """The figure; matplotlib is there."""
     import matplotlib
     matplotlib.use("Agg")
@@ -270,7 +317,7 @@ def main(words: argparse.Namespace) -> int:
         import matplotlib  # noqa: F401
     except ImportError as error:
         raise Refused("matplotlib isn't there: apt-get install python3-matplotlib, or pip install matplotlib") from error
-    figure = draw(words, panels_of(words), form)
+    figure = draw(words, panels_of(words))
     new = beside(words.out)
     try:
         figure.savefig(new, format=form, metadata={"Date": None} if form == "svg" else {})
