@@ -2,6 +2,8 @@
 from __future__ import annotations
 
 import concurrent.futures
+import contextlib
+import errno
 import fcntl
 import json
 import os
@@ -247,6 +249,29 @@ def test_an_index_is_made_once_and_anew_where_the_file_has_changed(tmp_path):
     assert blocks.found_index(str(path), str(tmp_path)) is None
     with pytest.raises(Refused, match="changed after its index was made"):
         blocks.bytes_of(next(blocks.stretch_of([indexed], 0, 100))[0])
+
+
+QUOTED = '"start","end","value"\n'
+
+
+def test_a_full_disk_is_no_fault_of_a_series_that_is_written_plainly(tmp_path, monkeypatch):
+    @contextlib.contextmanager
+    def full(path, lasting=True):
+        with open("/dev/full", "wb", buffering=0) as file:
+            yield file
+
+    path, folder = tmp_path / "x.csv", str(tmp_path / "index")
+    path.write_text(QUOTED + "0,5,7\n")
+    with monkeypatch.context() as patched:
+        patched.setattr(blocks, "placed", full)
+        # A task that ends by an error is begun again; a refusal is told at once.
+        with pytest.raises(OSError) as caught:
+            tasks.make_indexes(tasks.Indexing((str(path),), folder))
+        assert caught.value.errno == errno.ENOSPC
+    assert tasks.make_indexes(tasks.Indexing((str(path),), folder)).status == 0
+    assert read_back(blocks.make_index(str(path), folder), 0, 5) == b"0,5,7\n"
+    path.write_text(QUOTED + "0,5,7\n5,6\n")
+    assert tasks.make_indexes(tasks.Indexing((str(path),), folder)).line.startswith(f"{path}:3: a row start,end,value")
 
 
 def test_files_of_an_input_do_not_overlap(tmp_path):
@@ -745,6 +770,19 @@ def test_a_disk_that_is_full(cluster, here, small_disk):
     # What another worker had begun may have ended after the first call.
     assert outputs(found) == {"output": wanted} and found.parts == 12 and 12 - there - 1 <= found.made <= 12 - there
     assert not hidden(str(out))
+
+
+def test_a_disk_that_is_full_for_an_index(cluster, here, small_disk):
+    """A series with quotes is written plainly beside its index, for which there is no room at first."""
+    rows = [(at, at + 1, at * 7919 % 10**6) for at in range(60000)]
+    pathlib.Path("x.csv").write_text(text_of(rows).replace(HEADER, QUOTED))
+    query = "input x; emit x over (0, 60000];"
+    words = {"scheduler": cluster.address, "index": str(small_disk / "index")}
+    with pytest.raises(Refused, match=r"^the index 1 was begun 2 times and never ended: \[Errno 28\] No space left on device"):
+        scale(query, {"x": "x.csv"}, "out", retries=1, **words)
+    subprocess.run(["mount", "-o", "remount,size=8m", str(small_disk)], check=True)
+    assert outputs(scale(query, {"x": "x.csv"}, "out", **words)) == {"output": run_program(str(PROGRAM), query, "x=x.csv")}
+    assert not hidden(str(small_disk))
 
 
 def test_a_refusal_is_told_once_with_its_part(cluster, here, capfd):

@@ -14,7 +14,7 @@ from typing import IO, Iterable, Iterator
 
 from .convert import row_text
 from .errors import Refused, refused_at
-from .files import HEADER, placed, reading, rows_of
+from .files import HEADER, Row, placed, reading, rows_of
 
 LONGEST, SHORTEST, FEWEST = 1 << 18, 1 << 9, 64
 # What a plain file has besides the ends of its lines.
@@ -121,10 +121,16 @@ def make_index(path: str, folder: str) -> Indexed:
 
 
 def write_plainly(path: str, target: str) -> None:
-    with reading(path) as file, placed(target) as new:
+    with placed(target) as new:
         new.write((",".join(HEADER) + "\n").encode())
-        for row in rows_of(path, file):
+        for row in rows_in(path):
             new.write(row_text(row).encode())
+
+
+def rows_in(path: str) -> Iterator[Row]:
+    """The rows of a series. What fails while they are written elsewhere isn't told as a fault of this file."""
+    with reading(path) as file:
+        yield from rows_of(path, file)
 
 
 def blocks_of(path: str, file: str) -> list[Block] | None:
