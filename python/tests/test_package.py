@@ -3,6 +3,8 @@ from __future__ import annotations
 
 import os
 import pathlib
+import re
+import shlex
 import shutil
 import subprocess
 
@@ -70,9 +72,32 @@ def test_what_is_in_it(root):
     for name in ("man/man1/tilt-stream.1.gz", "man/man1/tilt-data.1.gz", "doc/tilt-stream/copyright", "doc/tilt-stream/docs/DATA.md",
                  "bash-completion/completions/tilt-data", "doc/tilt-stream/examples/sensors/raw/readings.csv"):
         assert (root / "usr/share" / name).stat().st_size > 0, name
-    done = subprocess.run(["bash", "-c", ". usr/share/bash-completion/completions/tilt; COMP_WORDS=(tilt ex); COMP_CWORD=1; _tilt; echo ${COMPREPLY[*]}"],
-                          cwd=root, capture_output=True, text=True)
-    assert done.stdout == "exec explain\n"
+
+
+def offered(root: pathlib.Path, *words: str) -> list[str]:
+    """What the completion for bash offers for the last of some words."""
+    text = " ".join(shlex.quote(word) for word in words)
+    script = f". usr/share/bash-completion/completions/tilt; COMP_WORDS=({text}); COMP_CWORD={len(words) - 1}; _tilt; echo ${{COMPREPLY[*]}}"
+    return subprocess.run(["bash", "-c", script], cwd=root, capture_output=True, text=True, check=True).stdout.split()
+
+
+def table_of_commands() -> dict[str, set[str]]:
+    """The commands at the top of docs/COMMANDS.md with their options."""
+    lines = (TOP / "docs" / "COMMANDS.md").read_text().partition("| command | prints |\n|---|---|\n")[2].partition("\n\n")[0].splitlines()
+    found: dict[str, set[str]] = {}
+    for line in lines:
+        call = re.match(r"\| `(\w+)([^`]*)` \|", line)
+        assert call is not None, line
+        found.setdefault(call[1], set()).update(re.findall(r"--\w+", call[2]))
+    return found
+
+
+def test_the_completion_has_the_commands_and_their_options(root):
+    assert offered(root, "tilt", "ex") == ["exec", "explain"] and offered(root, "tilt", "f") == ["fix", "flow"]
+    commands = table_of_commands()
+    assert len(commands) > 10 and set(offered(root, "tilt", "")) == set(commands)
+    for command, options in commands.items():
+        assert set(offered(root, "tilt", command, "--")) == options, command
 
 
 def test_it_goes_away_again(root):
