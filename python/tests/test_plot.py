@@ -64,7 +64,8 @@ def local(zone: str, *when: int, fold: int = 0) -> int:
 
 
 @pytest.mark.parametrize("zone, first, last", [
-    ("Europe/Zurich", (2026, 10, 23), (2026, 10, 29)), ("Europe/Zurich", (2026, 3, 26), (2026, 4, 1)), ("America/New_York", (2026, 10, 31), (2026, 11, 6)),
+    ("Europe/Zurich", (2026, 10, 23), (2026, 10, 29)), ("Europe/Zurich", (2026, 3, 26), (2026, 4, 1)),
+    ("America/New_York", (2026, 10, 31), (2026, 11, 6)),
 ])
 def test_days_begin_at_midnight_also_after_a_change_of_the_clocks(zone, first, last):
     begin, end = local(zone, *first), local(zone, *last)
