@@ -9,6 +9,7 @@ import zoneinfo
 
 import pytest
 from tilt_data.clock import Clock
+from tilt_data.errors import Refused
 from tilt_data.files import Notes
 from tilt_data.plot import axis_of, clipped, joined, steps, thinned
 
@@ -117,6 +118,12 @@ def test_a_short_stretch_around_a_change():
     assert shown == ["02:59:58.000", "02:59:58.500", "02:59:59.000", "02:59:59.500", "02:00:00.000", "02:00:00.500", "02:00:01.000",
                      "02:00:01.500", "02:00:02.000", "02:00:02.500"]
     assert places == [500 * at for at in range(10)]
+
+
+@pytest.mark.parametrize("zone", [None, zoneinfo.ZoneInfo("Europe/Zurich")])
+def test_an_axis_beyond_the_years_of_dates_is_refused(zone):
+    with pytest.raises(Refused, match="outside of the years 1 to 9999"):
+        axis_of(Clock(10**9, 0), 0, 4 * 10**18, zone, "UTC")
 
 
 def test_the_axis_of_ticks():

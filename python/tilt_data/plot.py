@@ -266,11 +266,11 @@ def axis_of(clock: Clock | None, lo: int, hi: int, zone: datetime.tzinfo | None,
         marks = range(-(-lo // step) * step, hi + 1, step)
         return [float(mark - lo) for mark in marks], [f"{mark:,}" for mark in marks], "ticks"
     begin, end = clock.moment(lo), clock.moment(hi)
+    first, last = (moment_text(moment, 0, zone)[:10] for moment in (begin, end - 1))
     step = next((step for step in STEPS if (end - begin) // step <= 9), STEPS[-1])
     moments = days(begin, end, step, zone) if step >= DAY else list(times_of_day(begin, end, step, zone))
     digits = 0 if step % 10**9 == 0 else 3 if step % 10**6 == 0 else 6 if step % 10**3 == 0 else 9
     texts = [moment_text(moment, digits, zone) for moment in moments]
-    first, last = (moment_text(moment, 0, zone)[:10] for moment in (begin, end - 1))
     part = slice(11, 20 + digits if digits else 19)
     if step % (60 * 10**9) == 0:
         part = slice(0, 10) if step >= DAY else slice(11, 16)
