@@ -2,6 +2,7 @@
 from __future__ import annotations
 
 import decimal
+import json
 import pathlib
 import random
 
@@ -81,6 +82,42 @@ def test_files(told):
     assert told("series", "raw.csv", "--time", "time", "--tick", "1s", "--scale", "1000", "--max-age", "1min")[0] == 0
     pathlib.Path("q.tilt").write_text(AVERAGE)
     assert run(pathlib.Path("q.tilt"), inputs={"temp": "temp.csv"}).equals(run(AVERAGE, readings(), max_age="1min", scale=1000))
+
+
+def noted(name: str, tick: str, origin: str = "2026-03-01") -> str:
+    """A file of a series, one row long, with its JSON file."""
+    pathlib.Path(f"{name}.csv").write_text("start,end,value\n0,600,7\n")
+    notes = {"tilt-data": 1, "tick": tick, "origin": origin, "scale": 1}
+    pathlib.Path(f"{name}.json").write_text(json.dumps(notes))
+    return f"{name}.csv"
+
+
+@pytest.mark.parametrize("tick, origin", [("1min", "2026-03-01"), ("1s", "2026-03-02")])
+def test_files_of_other_clocks_are_refused(tmp_path, monkeypatch, tick, origin):
+    monkeypatch.chdir(tmp_path)
+    query = "input x; input y; emit x + y over (0, 600];"
+    x, same, other = noted("x", "1s"), noted("same", "1s"), noted("other", tick, origin)
+    with pytest.raises(Refused, match="the series x and y have other ticks or origins"):
+        run(query, inputs={"x": x, "y": other})
+    got = run(query, inputs={"x": x, "y": same})
+    assert list(got["value"]) == [14] and got.index[0].left == pandas.Timestamp("2026-03-01")
+
+
+@pytest.mark.parametrize("kind", ["Int64", "Float64", "object"])
+def test_missing_values_of_extension_types(kind):
+    index = pandas.date_range("2026-03-01", periods=3, freq="1s")
+    got = run("input x; emit x over (0, 3];", pandas.Series([7, pandas.NA, 9], index, dtype=kind))
+    assert [(interval.left, value) for interval, value in zip(got.index, got["value"])] == [(index[0], 7), (index[2], 9)]
+    with Query("input x; emit x over (0, 3];").live(origin="2026-03-01", scale=1) as live:
+        parts = [live.push(pandas.Series([7, pandas.NA, 9], index, dtype=kind)), live.end()]
+    assert [value for part in parts for value in part["value"]] == [7, 9]
+
+
+@pytest.mark.parametrize("missing", [None, float("nan"), pandas.NA])
+def test_a_row_without_a_key_is_refused(missing):
+    data = readings(3).to_frame().assign(station=["a", missing, "b"])
+    with pytest.raises(Refused, match="by='station': a key was expected in each row, and 1 of 3 have none"):
+        run(AVERAGE, data, by="station")
 
 
 def test_explain():

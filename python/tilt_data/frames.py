@@ -20,7 +20,7 @@ from .errors import Refused, TiltError
 from .files import Row, notes_of, reading, rows_of
 from .program import program
 from .scales import Scale, digits_after_point
-from .why import refusal_of
+from .why import clashes, refusal_of
 
 if TYPE_CHECKING:
     import pandas
@@ -103,6 +103,9 @@ class Query:
         import pandas
         if not isinstance(data, pandas.DataFrame) or by not in data.columns:
             raise Refused(f"by={by!r}: a DataFrame with this column was expected")
+        keyless = int(data[by].isna().sum())
+        if keyless:
+            raise Refused(f"by={by!r}: a key was expected in each row, and {keyless} of {len(data)} have none: dropna(subset=[{by!r}])")
         if convention.origin is None and len(data):
             first = min(moments_of(data.index, "the DataFrame"))
             convention = dataclasses.replace(convention, origin=moment_text(first, 0)[:10])
@@ -194,14 +197,16 @@ def moments_of(index: Any, what: str) -> list[int]:
 
 def text_of(value: Any) -> str | None:
     """The decimal text of a value of pandas; None for a missing one."""
-    if value is None or value != value:
+    import pandas
+    # What NA is compared to is NA, which is neither true nor false.
+    if value is None or value is pandas.NA or value != value:
         return None
     if isinstance(value, (decimal.Decimal, int)):
         return str(value)
     kind = type(value).__name__
     if kind.startswith("float"):
         return repr(float(value)) if kind in ("float", "float64") else str(value)
-    return str(value) if kind.startswith(("int", "uint", "str")) else None if kind == "NAType" else str(value)
+    return str(value)
 
 
 def digits_of(value: Any) -> int:
@@ -283,9 +288,12 @@ def zone_in(index: Any) -> Any:
 
 def shape_of(files: dict[str, str], series: dict[str, Any], convention: Convention) -> tuple[Clock, int]:
     """The clock and the scale: of the files, where there are some with JSON files, else of the convention and the readings."""
-    notes = next((found for found in map(notes_of, files.values()) if found is not None), None)
-    if notes is not None:
-        return notes.clock, notes.scale
+    known = [notes for notes in map(notes_of, files.values()) if notes is not None]
+    clash = clashes(["query", *(f"{name}={file}" for name, file in files.items())])
+    if clash is not None:
+        raise Refused(clash)
+    if known:
+        return known[0].clock, known[0].scale
     starts = [min(starts_of(name, one.index)) for name, one in series.items() if len(one)]
     if convention.origin is not None:
         origin = moment_read(convention.origin)
