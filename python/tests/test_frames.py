@@ -3,6 +3,7 @@ from __future__ import annotations
 
 import decimal
 import json
+import os
 import pathlib
 import random
 
@@ -165,3 +166,101 @@ def test_sessions_print_together_what_one_run_prints():
             parts.append(live.end())
         joined = pandas.concat([part for part in parts if len(part)])
         assert list(joined.index) == list(whole.index) and list(joined["value"]) == list(whole["value"])
+
+
+PUSHED = "input temp; emit sum(temp[t-600:t]) over (0, 7200] every 300;"
+COMMON = {"tick": "1s", "origin": "2026-03-01", "scale": 10}
+
+
+def faulty(folder: pathlib.Path, monkeypatch: pytest.MonkeyPatch) -> pathlib.Path:
+    """A file: while it is there the program ends with the status that stands in it, after all was printed and saved."""
+    stop, program = folder / "stop", folder / "program"
+    program.write_text(f'#!/bin/sh\n"{PROGRAM}" "$@" || exit\n[ ! -e "{stop}" ] || {{ echo "tilt: 7 out of memory" >&2; exit $(cat "{stop}"); }}\n')
+    program.chmod(0o755)
+    monkeypatch.setenv("TILT", str(program))
+    return stop
+
+
+def joined(parts: list) -> list[tuple[object, float]]:
+    return [(interval, value) for part in parts for interval, value in zip(part.index, part["value"])]
+
+
+@pytest.mark.parametrize("status", [3, 4, 5, 6])
+@pytest.mark.parametrize("again", [True, False])
+def test_after_a_fault_nothing_is_lost(tmp_path, monkeypatch, status, again):
+    temp = readings(120)
+    whole = run(PUSHED, temp, **COMMON)
+    stop = faulty(tmp_path, monkeypatch)
+    parts = []
+    with Query(PUSHED).live(**COMMON) as live:
+        for at in range(0, 120, 20):
+            if at in (0, 40):
+                stop.write_text(str(status))
+                with pytest.raises(TiltError) as caught:
+                    live.push(temp.iloc[at:at + 20])
+                assert caught.value.status == status
+                os.unlink(stop)
+                parts += [live.push()] if again else []
+            else:
+                parts.append(live.push(temp.iloc[at:at + 20]))
+        stop.write_text(str(status))
+        with pytest.raises(TiltError):
+            live.end()
+        os.unlink(stop)
+        parts.append(live.end())
+    assert joined(parts) == joined([whole])
+
+
+def intervals(*minutes: tuple[int, int]):
+    """A Series of intervals of the first hour."""
+    begin = pandas.Timestamp("2026-03-01")
+    ends = [tuple(begin + pandas.Timedelta(minutes=minute) for minute in both) for both in minutes]
+    return pandas.Series([20] * len(ends), pandas.IntervalIndex.from_tuples(ends, closed="left"))
+
+
+@pytest.mark.parametrize("bad", [
+    # A reading that loses digits, and one that comes twice, in the midst of an input that is taken after another one.
+    pandas.Series([20, 0.123, 21], pandas.date_range("2026-03-01 00:30", periods=3, freq="1min")),
+    pandas.Series([20, 21, 22], pandas.to_datetime(["2026-03-01 00:30", "2026-03-01 00:31", "2026-03-01 00:31"])),
+    # Intervals that overlap, before and after what is decided by this push, and an empty one.
+    intervals((30, 40), (35, 50)), intervals((80, 90), (85, 95)), intervals((30, 40), (40, 40)), intervals((0, 10)),
+])
+def test_a_push_that_is_refused_takes_nothing(bad):
+    query = "input temp; input limit; emit temp - limit over (0, 7200];"
+    temp, limit = readings(60), readings(60, seed=5)
+    with Query(query).live(**COMMON) as live:
+        parts = [live.push(temp=temp.iloc[:30], limit=limit.iloc[:30])]
+        with pytest.raises(Refused, match="^the input limit: "):
+            live.push(temp=temp.iloc[30:], limit=bad)
+        parts += [live.push(temp=temp.iloc[30:], limit=limit.iloc[30:]), live.end()]
+    assert joined(parts) == joined([run(query, inputs={"temp": temp, "limit": limit}, **COMMON)])
+
+
+def test_sessions_over_intervals():
+    query = "input x; emit count(x[t-600:t]) over (0, 7200] every 300;"
+    rows = intervals((0, 10), (10, 25), (30, 31), (40, 70))
+    with Query(query).live(**COMMON) as live:
+        parts = [live.push(x=rows.iloc[:2]), live.push(x=rows.iloc[2:]), live.end()]
+    assert len(parts[1]) and joined(parts) == joined([run(query, inputs={"x": rows}, **COMMON)])
+
+
+def test_after_the_end_nothing_is_taken():
+    with Query(PUSHED).live(**COMMON) as live:
+        live.push(readings(20))
+        live.end()
+        for call in (live.end, live.push):
+            with pytest.raises(Refused, match="has ended"):
+                call()
+
+
+def test_sessions_have_the_zone_of_their_readings():
+    temp = readings(120, zone="Europe/Zurich")
+    common = {**COMMON, "origin": "2026-03-01T00:00+01:00"}
+    with Query(PUSHED).live(**common) as live:
+        empty = live.push(temp.iloc[:0])
+        parts = [live.push(temp.iloc[:50]), live.push(temp.iloc[50:]), live.end()]
+    assert str(empty.index.left.tz) == "Europe/Zurich"
+    assert all(str(part.index.left.tz) == "Europe/Zurich" for part in parts)
+    # At five past midnight, local time, the five readings from midnight on are added.
+    assert parts[0].index[0].right == temp.index[5] and parts[0]["value"].iloc[0] == pytest.approx(sum(temp.iloc[:5]))
+    assert joined(parts) == joined([run(PUSHED, temp, **common)])

@@ -18,7 +18,7 @@ from .clock import Clock, Moments, duration_of, moment_text
 from .convert import Converter, Rule
 from .errors import Refused, TiltError
 from .files import Row, notes_of, reading, rows_of
-from .program import program
+from .program import REFUSALS, program
 from .scales import Scale, digits_after_point
 from .why import clashes, refusal_of
 
@@ -368,6 +368,37 @@ def on_ticks(name: str, clock: Clock, moment: int) -> int:
 # Sessions
 
 
+@dataclasses.dataclass
+class Taken:
+    """What was pushed and no session was handed yet: of each input the reading that is held back, the rows, and the tick up to which it is
+    known. The zone is that of the first readings, which the output has too."""
+
+    converters: dict[str, Converter]
+    held: dict[str, list[Row]]
+    reached: dict[str, int | None]
+    zone: Any = None
+    zoned: bool = False
+
+    @staticmethod
+    def nothing(names: list[str], clock: Clock, rule: Rule) -> Taken:
+        return Taken({name: Converter(clock, rule) for name in names}, {name: [] for name in names}, {name: None for name in names})
+
+    def copy(self) -> Taken:
+        converters = {name: dataclasses.replace(converter) for name, converter in self.converters.items()}
+        held = {name: list(rows) for name, rows in self.held.items()}
+        return dataclasses.replace(self, converters=converters, held=held, reached=dict(self.reached))
+
+    def cut(self) -> int | None:
+        """The last tick that all inputs have reached."""
+        known = [tick for tick in self.reached.values() if tick is not None]
+        return min(known) if known and len(known) == len(self.reached) else None
+
+    def note_zone(self, index: Any) -> None:
+        zone = zone_in(index)
+        if not self.zoned and (len(index) or zone is not None):
+            self.zone, self.zoned = zone, True
+
+
 class Live:
     """A run by sessions. Each `push` takes the readings or rows that came, and gives the rows of the output that are decided by them; `end`
     gives the rest. The outputs are together what one run over all prints."""
@@ -377,13 +408,9 @@ class Live:
             raise Refused("a run by sessions has to be told its origin and its scale beforehand")
         self.query = query
         self.convention = convention
-        clock, scale = shape_of({}, {}, convention)
-        self.clock, self.scale = clock, scale
-        self.shape = Shape(clock, None, convention.output_scale or scale)
-        self.converters = {name: Converter(clock, rule_of(clock, convention)) for name in query.inputs}
-        self.held: dict[str, list[Row]] = {name: [] for name in query.inputs}
-        self.reached: dict[str, int | None] = {name: None for name in query.inputs}
-        self.cut: int | None = None
+        self.clock, self.scale = shape_of({}, {}, convention)
+        self.taken = Taken.nothing(query.inputs, self.clock, rule_of(self.clock, convention))
+        self.done: int | None = None
         self.folder = tempfile.TemporaryDirectory(prefix="tilt-data-")
 
     def __enter__(self) -> Live:
@@ -393,27 +420,40 @@ class Live:
         self.folder.cleanup()
 
     def push(self, data: Any = None, **inputs: Any) -> pandas.DataFrame:
-        """Takes more readings, and goes on to the last moment that all inputs have reached."""
+        """Takes more readings, and goes on to the last moment that all inputs have reached. A push that is refused takes nothing. Where the
+        program ends by a fault, as of a full disk, what was pushed is kept, and the next push gives its rows too; that one may be without
+        readings."""
+        before, taken = self.taken, self.going().copy()
         for name, series in {**frame_inputs(data, self.query.inputs), **inputs}.items():
-            if name not in self.held:
+            if name not in taken.held:
                 raise Refused(f"the query reads {', '.join(self.query.inputs)}: not {name}")
-            self.take(name, series)
-        cuts = list(self.reached.values())
-        cut = None if not cuts or None in cuts else min(tick for tick in cuts if tick is not None)
-        if cut is None or self.cut is not None and cut <= self.cut:
-            return self.shape.frame([])
-        return self.shape.frame(self.session(cut))
+            self.take(taken, name, series)
+        self.taken = taken
+        cut = taken.cut()
+        if cut is None or self.done is not None and cut <= self.done:
+            return self.frame([])
+        try:
+            return self.frame(self.session(taken, cut))
+        except TiltError as error:
+            if error.status in REFUSALS:
+                self.taken = before
+            raise
 
-    def take(self, name: str, series: Any) -> None:
+    def going(self) -> Taken:
+        if not os.path.isdir(self.folder.name):
+            raise Refused("the run by sessions has ended")
+        return self.taken
+
+    def take(self, taken: Taken, name: str, series: Any) -> None:
         import pandas
+        taken.note_zone(series.index)
         if isinstance(series.index, pandas.IntervalIndex):
-            rows = list(rows_from(name, series, self.clock, self.convention, self.scale))
-            self.held[name] += rows
-            if rows:
-                self.reached[name] = rows[-1][1]
+            for whole in rows_from(name, series, self.clock, self.convention, self.scale):
+                taken.held[name].append(self.checked(name, whole, taken.reached[name]))
+                taken.reached[name] = whole[1]
             return
         read = Scale(self.scale)
-        converter = self.converters[name]
+        converter = taken.converters[name]
         for moment, value in zip(starts_of(name, series.index), series):
             text = text_of(value)
             try:
@@ -421,40 +461,51 @@ class Live:
             except ValueError as error:
                 raise Refused(f"the input {name}: {error}") from error
             if row is not None:
-                self.held[name].append(row)
-            self.reached[name] = converter.start
+                taken.held[name].append(row)
+            taken.reached[name] = converter.start
+
+    def checked(self, name: str, row: Row, before: int | None) -> Row:
+        """The program may be handed a row long after the push that it came with, so that its order is looked at here."""
+        if row[0] >= row[1] or before is not None and row[0] < before:
+            what = "is empty, or begins before the one before it ends: sort_index()"
+            raise Refused(f"the input {name}: the interval at {moment_text(self.clock.moment(row[0]), 9)} {what}")
+        return row
+
+    def frame(self, rows: list[Row]) -> pandas.DataFrame:
+        return Shape(self.clock, self.taken.zone, self.convention.output_scale or self.scale).frame(rows)
 
     def path(self, name: str) -> str:
         return os.path.join(self.folder.name, name)
 
-    def session(self, cut: int | None) -> list[Row]:
-        """A session up to a cut, or the last one; the rows that it prints."""
-        handed = dict(self.held)
-        if cut is not None:
-            for name, rows in self.held.items():
-                handed[name], self.held[name] = sessions.below(rows, cut)
-        binds = sessions.put_rows(self.folder.name, handed)
-        out, state = self.path("out"), self.path("state")
-        if self.cut is None and cut is None:
+    def session(self, taken: Taken, cut: int | None) -> list[Row]:
+        """A session up to a cut, or the last one; the rows that it prints. Nothing is changed before it has come to its end."""
+        parted = {name: sessions.below(rows, cut) for name, rows in taken.held.items()}
+        binds = sessions.put_rows(self.folder.name, {name: handed for name, (handed, _) in parted.items()})
+        out, state, new = self.path("out"), self.path("state"), self.path("state.new")
+        if self.done is None and cut is None:
             sessions.whole(self.query.put(self.folder.name), binds, out)
-        elif self.cut is None and cut is not None:
-            sessions.first(self.query.put(self.folder.name), binds, cut, state, out)
+        elif self.done is None and cut is not None:
+            sessions.first(self.query.put(self.folder.name), binds, cut, new, out)
         elif cut is None:
             sessions.last(state, binds, out)
         else:
-            sessions.following(state, binds, cut, state, out)
+            sessions.following(state, binds, cut, new, out)
         lines = pathlib.Path(out).read_text().splitlines()
-        lines = lines[1:] if self.cut is None else lines
-        self.cut = cut
-        return [(int(start), int(end), int(value)) for start, end, value in (line.split(",") for line in lines)]
+        lines = lines[1:] if self.done is None else lines
+        rows: list[Row] = [(int(start), int(end), int(value)) for start, end, value in (line.split(",") for line in lines)]
+        if cut is not None:
+            os.replace(new, state)
+        self.taken, self.done = dataclasses.replace(taken, held={name: left for name, (_, left) in parted.items()}), cut
+        return rows
 
     def end(self) -> pandas.DataFrame:
-        """The last session, over what is left."""
+        """The last session, over what is left. Where it fails nothing is changed, and it may be called again."""
+        taken = self.going().copy()
         until = self.convention.until
-        for name, converter in self.converters.items():
+        for name, converter in taken.converters.items():
             row = converter.finish(None if until is None else self.clock.start(moment_read(until)))
             if row is not None:
-                self.held[name].append(row)
-        frame = self.shape.frame(self.session(None))
+                taken.held[name].append(row)
+        frame = self.frame(self.session(taken, None))
         self.folder.cleanup()
         return frame

@@ -7,6 +7,8 @@ import shutil
 
 from .errors import Refused
 
+# The program refuses with these; with all others it may be called again.
+REFUSALS = (1, 2)
 CHECKOUT = pathlib.Path(__file__).resolve().parent.parent.parent / "crates" / "tilt" / "out" / "tilt"
 
 

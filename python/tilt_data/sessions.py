@@ -6,7 +6,7 @@ import subprocess
 from typing import Iterable, Mapping
 
 from .convert import row_text
-from .errors import TiltError
+from .errors import Refused, TiltError
 from .files import Row
 from .program import program
 from .why import refusal_of
@@ -14,8 +14,11 @@ from .why import refusal_of
 
 def call(words: list[str], out: str) -> None:
     """Calls the program, with its output in a file. What it refuses is an error that carries its line, its status and the place."""
-    with open(out, "wb") as file:
-        done = subprocess.run([program(), *words], stdin=subprocess.DEVNULL, stdout=file, stderr=subprocess.PIPE)
+    try:
+        with open(out, "wb") as file:
+            done = subprocess.run([program(), *words], stdin=subprocess.DEVNULL, stdout=file, stderr=subprocess.PIPE)
+    except OSError as error:
+        raise Refused(f"the program can't be run: {error.strerror}") from error
     if done.returncode:
         told = done.stderr.decode("utf-8", "replace").rstrip("\n")
         raise TiltError(told, done.returncode, refusal_of(told, words[1:]))
@@ -26,9 +29,12 @@ def put_rows(folder: str, rows: Mapping[str, Iterable[Row]]) -> list[str]:
     words = []
     for name, its in rows.items():
         path = os.path.join(folder, f"rows.{name}.csv")
-        with open(path, "w", encoding="ascii") as file:
-            file.write("start,end,value\n")
-            file.writelines(map(row_text, its))
+        try:
+            with open(path, "w", encoding="ascii") as file:
+                file.write("start,end,value\n")
+                file.writelines(map(row_text, its))
+        except OSError as error:
+            raise Refused(f"{path}: it can't be written: {error.strerror}") from error
         words.append(f"{name}={path}")
     return words
 
@@ -49,7 +55,9 @@ def whole(query: str, binds: list[str], out: str) -> None:
     call(["run", query, *binds], out)
 
 
-def below(rows: list[Row], cut: int) -> tuple[list[Row], list[Row]]:
-    """The rows that start below a cut, and the others."""
+def below(rows: list[Row], cut: int | None) -> tuple[list[Row], list[Row]]:
+    """The rows that start below a cut, and the others; without a cut all start below it."""
+    if cut is None:
+        return rows, []
     count = next((at for at, row in enumerate(rows) if row[0] >= cut), len(rows))
     return rows[:count], rows[count:]

@@ -15,11 +15,8 @@ from .blocks import Segment
 from .errors import Refused
 from .files import placed, scratch
 from .parts import Part
-from .program import program
+from .program import REFUSALS, program
 from .why import Refusal, refusal_of
-
-# The program refuses with these; with all others it is called again.
-REFUSALS = (1, 2)
 
 
 class Failed(Exception):
