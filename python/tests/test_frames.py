@@ -12,7 +12,7 @@ import pytest
 pandas = pytest.importorskip("pandas")
 
 from conftest import PROGRAM  # noqa: E402
-from tilt_data import Query, Refused, TiltError, run  # noqa: E402
+from tilt_data import Query, Refused, TiltError, run, sessions  # noqa: E402
 
 AVERAGE = "input temp; emit avg(temp[t-600:t]) over (0, 3600] every 600;"
 
@@ -209,6 +209,26 @@ def test_after_a_fault_nothing_is_lost(tmp_path, monkeypatch, status, again):
         os.unlink(stop)
         parts.append(live.end())
     assert joined(parts) == joined([whole])
+
+
+def test_a_program_that_isnt_there_is_told_in_a_line_and_loses_nothing(tmp_path, monkeypatch):
+    temp = readings(60)
+    with Query(PUSHED).live(**COMMON) as live:
+        monkeypatch.setenv("TILT", str(tmp_path / "nowhere"))
+        for call in (lambda: live.push(temp.iloc[:30]), lambda: run(PUSHED, temp, **COMMON)):
+            with pytest.raises(Refused, match="^the program can't be run: No such file or directory$"):
+                call()
+        monkeypatch.setenv("TILT", str(PROGRAM))
+        parts = [live.push(temp.iloc[30:]), live.end()]
+    assert joined(parts) == joined([run(PUSHED, temp, **COMMON)])
+
+
+def test_rows_that_cant_be_written_are_told_in_a_line(tmp_path):
+    with pytest.raises(Refused, match="nowhere/rows.x.csv: it can't be written: No such file or directory$"):
+        sessions.put_rows(str(tmp_path / "nowhere"), {"x": [(0, 5, 7)]})
+    (tmp_path / "rows.x.csv").symlink_to("/dev/full")
+    with pytest.raises(Refused, match="rows.x.csv: it can't be written: No space left on device$"):
+        sessions.put_rows(str(tmp_path), {"x": [(0, 5, 7)]})
 
 
 def intervals(*minutes: tuple[int, int]):

@@ -1,9 +1,10 @@
 """Sessions of `tilt`: each is handed the rows that start below its cut, and goes on from the checkpoint of the one before."""
 from __future__ import annotations
 
+import contextlib
 import os
 import subprocess
-from typing import Iterable, Mapping
+from typing import IO, Iterable, Iterator, Mapping
 
 from .convert import row_text
 from .errors import Refused, TiltError
@@ -12,13 +13,23 @@ from .program import program
 from .why import refusal_of
 
 
+@contextlib.contextmanager
+def opened(path: str) -> Iterator[IO[bytes]]:
+    """A file that is written."""
+    try:
+        with open(path, "wb") as file:
+            yield file
+    except OSError as error:
+        raise Refused(f"{path}: it can't be written: {error.strerror}") from error
+
+
 def call(words: list[str], out: str) -> None:
     """Calls the program, with its output in a file. What it refuses is an error that carries its line, its status and the place."""
-    try:
-        with open(out, "wb") as file:
+    with opened(out) as file:
+        try:
             done = subprocess.run([program(), *words], stdin=subprocess.DEVNULL, stdout=file, stderr=subprocess.PIPE)
-    except OSError as error:
-        raise Refused(f"the program can't be run: {error.strerror}") from error
+        except OSError as error:
+            raise Refused(f"the program can't be run: {error.strerror}") from error
     if done.returncode:
         told = done.stderr.decode("utf-8", "replace").rstrip("\n")
         raise TiltError(told, done.returncode, refusal_of(told, words[1:]))
@@ -29,12 +40,9 @@ def put_rows(folder: str, rows: Mapping[str, Iterable[Row]]) -> list[str]:
     words = []
     for name, its in rows.items():
         path = os.path.join(folder, f"rows.{name}.csv")
-        try:
-            with open(path, "w", encoding="ascii") as file:
-                file.write("start,end,value\n")
-                file.writelines(map(row_text, its))
-        except OSError as error:
-            raise Refused(f"{path}: it can't be written: {error.strerror}") from error
+        with opened(path) as file:
+            file.write(b"start,end,value\n")
+            file.writelines(row_text(row).encode() for row in its)
         words.append(f"{name}={path}")
     return words
 
