@@ -29,6 +29,15 @@ def test_the_keys_of_a_pattern(tmp_path, monkeypatch):
     assert keys_of("d/{key}/x.csv") == ["e"] and keys_of("{key}/e/x.csv") == ["d"] and keys_of("n/{key}.csv") == []
 
 
+def test_keys_that_no_file_is_named_by_come_back(told, tilt):
+    texts = ["Zürich", ".5", "a/b", "..", "plain"]
+    pathlib.Path("raw.csv").write_text("time,k,x\n" + "".join(f"2026-03-01T00:00:0{at},{key},{at}\n" for at, key in enumerate(texts)))
+    assert told("series", "raw.csv", "--time", "time", "--tick", "1s", "--key", "k", "--out", "data")[0] == 0
+    pathlib.Path("q").write_text("input x; emit x over (0, 10];")
+    status, out, _ = told("by", "q", "x=data/{key}/x.csv")
+    assert status == 0 and sorted(out.splitlines()[1:]) == sorted(f"{key},{at},{at + 1},{at}" for at, key in enumerate(texts))
+
+
 def test_each_key_has_what_its_own_run_prints(told, tilt):
     lay_out(20)
     wanted = "key,start,end,value\n"

@@ -8,10 +8,13 @@ import os
 import pathlib
 import random
 import sys
+import urllib.parse
+from fractions import Fraction
 
 import pytest
 from conftest import rows_in, run_program
 from tilt_data.clock import Clock, Moments, moment_text, zone_of
+from tilt_data.files import safe
 from tilt_data.scales import Scale, decimal_text, digits_after_point
 
 READINGS = "time,temp\n2026-03-01T06:00:05,20.5\n2026-03-01T06:01:05,20.25\n2026-03-01T06:03:05,21\n"
@@ -243,6 +246,23 @@ def test_sorting_in_parts(tmp_path):
 ])
 def test_what_is_refused(told, text, words, what):
     assert what in refused(told, text, *words)
+
+
+@pytest.mark.parametrize("sign", ["\\t", "\t"])
+def test_a_tab_may_be_written_by_two_signs(told, sign):
+    assert series(told, "time\ttemp\n2026-03-01T00:00:01\t7\n", "--tick", "1s", "--delimiter", sign)[0] == [(1, 2, 7)]
+
+
+def test_names_of_files_and_back():
+    assert [safe(text) for text in ("a b", "Zürich", ".5", "..", "a.b", "%2E", "a/b")] == [
+        "a b", "Z%C3%BCrich", "%2E5", "%2E.", "a.b", "%252E", "a%2Fb"]
+    draws = random.Random(11)
+    seen = {}
+    for _ in range(5000):
+        text = "".join(draws.choice("aZ09._-~ +,=@()%/\\:*?\"<>|\n\0äéΩ漢😀") for _ in range(draws.randrange(1, 8)))
+        name = safe(text)
+        assert urllib.parse.unquote(name) == text and seen.setdefault(name, text) == text
+        assert name.isascii() and not set(name) & set("/\n\0") and not name.startswith(".")
 
 
 def test_two_keys_never_share_a_file(told):

@@ -99,9 +99,10 @@ def spooled(path: str, folder: str) -> str:
 
 
 def safe(text: str) -> str:
-    """A text as the name of a file or a folder: signs that no such name has are written as %XX."""
-    quoted = urllib.parse.quote(text, safe=" +,=@()äöüÄÖÜéèà")
-    return quoted.replace(".", "%2E") if quoted.strip(".") == "" else quoted
+    """A text as the name of a file or a folder: signs outside ASCII, those that no such name has, and a point at the begin, which would
+    hide it, are written as %XX. `urllib.parse.unquote` gives the text back."""
+    quoted = urllib.parse.quote(text, safe=" +,=@()")
+    return "%2E" + quoted[1:] if quoted.startswith(".") else quoted
 
 
 class Outputs:
