@@ -122,6 +122,7 @@ def test_series_and_then_table_gives_the_readings_back(told, closed, kind):
 
 
 @pytest.mark.parametrize("text, what", [
+    ("start,end,value\n0,5,7\n5,6,\"8", "x.csv:3: a record of CSV was expected: unexpected end of data"),
     ("a,b\n", "x.csv:1: the header start,end,value or key,start,end,value was expected"),
     ("start,end,value\n0,5,7.5\n", "x.csv:2: a row of whole numbers as in the header was expected, not 0,5,7.5"),
     ("start,end,value\n0,5\n", "x.csv:2: a row of whole numbers as in the header was expected, not 0,5"),

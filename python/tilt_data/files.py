@@ -55,14 +55,17 @@ def undecodable(path: str) -> int | None:
 
 
 def records(path: str, file: IO[str], delimiter: str = ",") -> Iterator[tuple[int, list[str]]]:
-    """Each record that isn't empty, with the number of the line on which it ends, from 1."""
-    reader = csv.reader(file, delimiter=delimiter)
+    """Each record that isn't empty, with the number of the line on which it ends, from 1. One that is torn is told by the line on which it
+    begins."""
+    reader = csv.reader(file, delimiter=delimiter, strict=True)
+    ended = 0
     try:
         for record in reader:
+            ended = reader.line_num
             if record:
-                yield reader.line_num, record
+                yield ended, record
     except csv.Error as error:
-        raise refused_at(path, reader.line_num, f"a record of CSV was expected: {error}") from error
+        raise refused_at(path, ended + 1, f"a record of CSV was expected: {error}") from error
 
 
 def rows_of(path: str, file: IO[str]) -> Iterator[Row]:
