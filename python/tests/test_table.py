@@ -6,8 +6,13 @@ import io
 import os
 import pathlib
 import random
+import stat
+import subprocess
+import sys
+import threading
 
 import pytest
+from conftest import PYTHON
 from tilt_data.clock import Clock, moment_text
 from tilt_data.files import Notes
 from tilt_data.scales import decimal_text
@@ -119,6 +124,91 @@ def test_series_and_then_table_gives_the_readings_back(told, closed, kind):
             assert [row[2] for row in rows] == texts
         else:
             assert [(row[at], row[2]) for row in rows] == list(zip(times, texts))
+
+
+# Where it is written
+
+WRITTEN = "start,end,value\n1970-01-01T00:00:00Z,1970-01-01T00:00:05Z,7\n"
+
+
+def test_a_link_stays_and_what_it_leads_to_is_replaced(told):
+    put("x", "0,5,7\n", scale=1)
+    os.mkdir("far")
+    pathlib.Path("far/real").write_text("old")
+    os.chmod("far/real", 0o600)
+    os.symlink("far/real", "first")
+    os.symlink("first", "second")
+    os.symlink("far/none", "dangling")
+    for link, leads, real in (("second", "first", "far/real"), ("dangling", "far/none", "far/none")):
+        assert told("table", "x.csv", "-o", link) == (0, "", "")
+        assert os.readlink(link) == leads and pathlib.Path(real).read_text() == WRITTEN and not os.path.islink(real)
+    assert os.stat("far/real").st_mode & 0o777 == 0o600 and os.readlink("first") == "far/real"
+    assert sorted(os.listdir("far")) == ["none", "real"] and len(os.listdir()) == 6
+
+
+def test_a_refusal_leaves_what_a_link_leads_to(told):
+    put("x", "0,5,7\nx\n", scale=1)
+    pathlib.Path("real").write_text("old")
+    os.symlink("real", "link")
+    assert told("table", "x.csv", "-o", "link")[0] == 1
+    assert pathlib.Path("real").read_text() == "old" and os.readlink("link") == "real"
+    assert sorted(os.listdir()) == ["link", "real", "x.csv", "x.json"]
+
+
+def test_a_pipe_is_written_as_it_stands(told):
+    put("x", "0,5,7\n", scale=1)
+    os.mkfifo("pipe")
+    read = []
+    reader = threading.Thread(target=lambda: read.append(pathlib.Path("pipe").read_text()), daemon=True)
+    reader.start()
+    assert told("table", "x.csv", "-o", "pipe") == (0, "", "")
+    reader.join(10)
+    assert read == [WRITTEN] and pathlib.Path("pipe").is_fifo()
+
+
+def call(command: str, folder: pathlib.Path) -> subprocess.CompletedProcess[str]:
+    environment = {**os.environ, "PYTHONPATH": str(PYTHON)}
+    return subprocess.run(["sh", "-c", command.replace("tilt-data", f"{sys.executable} -m tilt_data")], cwd=folder, env=environment,
+                          capture_output=True, text=True)
+
+
+# No test names /dev/stdout or a device itself: a root that this fails for would lose it.
+@pytest.mark.parametrize("name", ["/dev/fd/1", "/proc/self/fd/1", "link"])
+def test_what_the_caller_handed_open_is_written_after_what_is_there(told, tmp_path, name):
+    put("x", "0,5,7\n", scale=1)
+    os.symlink("/proc/self/fd/1", "link")
+    done = call(f"{{ echo before; tilt-data table x.csv -o {name}; }} > out", tmp_path)
+    assert (done.returncode, done.stderr) == (0, "")
+    assert pathlib.Path("out").read_text() == "before\n" + WRITTEN and os.readlink("link") == "/proc/self/fd/1"
+    assert call(f"tilt-data table x.csv -o {name}", tmp_path).stdout == WRITTEN
+
+
+def test_an_output_that_has_no_room_is_told(told, tmp_path):
+    put("x", "0,5,7\n", scale=1)
+    done = call("tilt-data table x.csv > /dev/full", tmp_path)
+    assert (done.returncode, done.stderr) == (1, "tilt-data: standard output: it can't be written: No space left on device\n")
+
+
+def test_a_device_is_written_as_it_stands(told, tmp_path):
+    put("x", "0,5,7\n", scale=1)
+    try:
+        os.mknod("full", stat.S_IFCHR | 0o666, os.makedev(1, 7))
+        open("full", "w").close()
+    except PermissionError:
+        pytest.skip("no device can be made here")
+    assert told("table", "x.csv", "-o", "full") == (1, "", "tilt-data: full: it can't be written: No space left on device\n")
+    assert stat.S_ISCHR(os.stat("full").st_mode) and sorted(os.listdir()) == ["full", "x.csv", "x.json"]
+
+
+def test_a_scale_of_a_name_that_no_file_has(told):
+    put("x", "0,5,7\n", scale=1)
+    assert told("table", "x.csv", "--scale", "y=10") == (1, "", "tilt-data: --scale y=..: no file has this name; there are: x\n")
+
+
+@pytest.mark.parametrize("scale", [0, -1])
+def test_notes_with_a_scale_that_is_none(told, scale):
+    put("x", "0,5,7\n", scale=scale)
+    assert told("table", "x.csv")[2] == "tilt-data: x.json: the JSON that `tilt-data series` writes was expected: a scale above 0\n"
 
 
 @pytest.mark.parametrize("text, what", [

@@ -31,13 +31,27 @@ def main(words: list[str] | None = None) -> int:
         return status
     except Refused as refused:
         print(f"tilt-data: {refused}", file=sys.stderr)
+        give_up_output()
         return refused.status
     except BrokenPipeError:
         # The reader of the output has gone: nothing more is written, also not at the end.
         os.dup2(os.open(os.devnull, os.O_WRONLY), 1)
         return 1
+    except OSError as error:
+        print(f"tilt-data: {'' if error.filename is None else f'{error.filename}: '}{error.strerror or error}", file=sys.stderr)
+        give_up_output()
+        return 1
     except KeyboardInterrupt:
         return 130
+
+
+def give_up_output() -> None:
+    """What standard output doesn't take isn't tried again at the end."""
+    try:
+        if sys.stdout is not None:
+            sys.stdout.flush()
+    except OSError:
+        os.dup2(os.open(os.devnull, os.O_WRONLY), 1)
 
 
 if __name__ == "__main__":

@@ -116,15 +116,15 @@ class Outputs:
         self.held: dict[str, list[str]] = {}
         self.count = 0
         self.most = most
-        self.begun: set[str] = set()
+        self.begun: dict[str, str] = {}
+        self.news: set[str] = set()
 
     def __enter__(self) -> Outputs:
         return self
 
     def __exit__(self, kind: object, *_: object) -> None:
-        for path in self.begun:
-            with contextlib.suppress(OSError):
-                os.unlink(beside(path))
+        for path, new in self.begun.items():
+            drop(new, path)
 
     def write(self, path: str, text: str) -> None:
         self.held.setdefault(path, []).append(text)
@@ -136,23 +136,32 @@ class Outputs:
         for path, texts in self.held.items():
             try:
                 if path not in self.begun:
-                    os.makedirs(os.path.dirname(path) or ".", exist_ok=True)
-                with open(beside(path), "a" if path in self.begun else "w", encoding="utf-8", newline="") as file:
-                    self.begun.add(path)
+                    self.begin(path)
+                with open(self.begun[path], "a", encoding="utf-8", newline="") as file:
                     file.write("".join(texts))
             except OSError as error:
                 raise Refused(f"{path}: it can't be written: {error.strerror}") from error
         self.held.clear()
         self.count = 0
 
+    def begin(self, path: str) -> None:
+        os.makedirs(os.path.dirname(path) or ".", exist_ok=True)
+        new = new_of(path)
+        if new in self.news:
+            raise Refused(f"{path}: its links lead to the file of another output")
+        if new != path:
+            open(new, "w").close()
+        self.news.add(new)
+        self.begun[path] = new
+
     def commit(self) -> None:
         self.flush()
-        for path in sorted(self.begun):
+        for path, new in sorted(self.begun.items()):
             try:
-                os.replace(beside(path), path)
+                take_place(new, path)
             except OSError as error:
                 raise Refused(f"{path}: it can't be written: {error.strerror}") from error
-            self.begun.discard(path)
+            del self.begun[path]
 
 
 def beside(path: str) -> str:
@@ -160,25 +169,86 @@ def beside(path: str) -> str:
     return os.path.join(folder, f".{name}.{os.getpid()}.tilt-data")
 
 
+def followed(path: str) -> str:
+    """Where the links of a path lead. A file that the caller handed open, as /dev/stdout leads to, is the end of them."""
+    for _ in range(40):
+        if is_handed(path) or not os.path.islink(path):
+            break
+        path = os.path.join(os.path.dirname(path), os.readlink(path))
+    return path
+
+
+def is_handed(path: str) -> bool:
+    """Whether it is the path of a descriptor."""
+    folder = os.path.realpath(os.path.dirname(path) or ".")
+    return folder.startswith(("/proc/", "/dev/")) and os.path.basename(folder) == "fd"
+
+
+def new_of(path: str) -> str:
+    """Where an output is written before it takes its place, as the program saves: beside the file that its links lead to. A device, a pipe,
+    and a file that the caller handed open are written as they stand, after what is there."""
+    target = followed(path)
+    if is_handed(target) or os.path.exists(target) and not os.path.isfile(target):
+        return path
+    return beside(target)
+
+
+def take_place(new: str, path: str) -> None:
+    """What was written takes the place of the file that the links of the path lead to, with the mode of that."""
+    if new == path:
+        return
+    target = followed(path)
+    if os.path.exists(target):
+        with contextlib.suppress(OSError):
+            shutil.copymode(target, new)
+    os.replace(new, target)
+
+
+def drop(new: str, path: str) -> None:
+    """What was written and hasn't taken its place goes away."""
+    if new != path:
+        with contextlib.suppress(OSError):
+            os.unlink(new)
+
+
+def same_file(path: str, source: str) -> bool:
+    """Whether a path leads to the file that is read, of which `-` is standard input."""
+    try:
+        read = os.fstat(sys.stdin.fileno()) if source == "-" else os.stat(source)
+        return os.path.samestat(read, os.stat(path))
+    except (OSError, ValueError):
+        return False
+
+
 @contextlib.contextmanager
 def writing(path: str | None) -> Iterator[IO[str]]:
-    """A text that is written to standard output, or beside a file whose name it takes at the end."""
-    if path is None:
-        yield sys.stdout
-        sys.stdout.flush()
-        return
-    new = beside(path)
+    """A text that is written to standard output, or beside a file whose place it takes at the end."""
+    out: contextlib.AbstractContextManager[IO[str]] = contextlib.nullcontext(sys.stdout) if path is None else replaced(path)
     try:
-        with open(new, "w", encoding="utf-8", newline="") as file:
+        with out as file:
             yield file
-        os.replace(new, path)
+            file.flush()
     except BrokenPipeError:
         raise
     except OSError as error:
-        raise Refused(f"{path}: it can't be written: {error.strerror}") from error
+        raise Refused(f"{path or 'standard output'}: it can't be written: {error.strerror}") from error
+
+
+@contextlib.contextmanager
+def replaced(path: str) -> Iterator[IO[str]]:
+    with taking(path) as new, open(new, "a" if new == path else "w", encoding="utf-8", newline="") as file:
+        yield file
+
+
+@contextlib.contextmanager
+def taking(path: str) -> Iterator[str]:
+    """The path of a new file, which takes the place of another at the end, or goes away. Where that is written as it stands, it is its own."""
+    new = new_of(path)
+    try:
+        yield new
+        take_place(new, path)
     finally:
-        with contextlib.suppress(OSError):
-            os.unlink(new)
+        drop(new, path)
 
 
 @contextlib.contextmanager
