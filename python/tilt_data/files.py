@@ -314,6 +314,8 @@ def notes_of(series: str) -> Notes | None:
         with open(path, encoding="utf-8") as file:
             found = json.load(file)
         clock = Clock(duration_of(found["tick"]), Moments().read(found["origin"]), found.get("closed", "left"))
+        if int(found["scale"]) < 1:
+            raise ValueError("a scale above 0")
         return Notes(clock, int(found["scale"]), found.get("kind", "hold"), found.get("name", ""), found.get("key"), found.get("zone"))
     except (OSError, ValueError, KeyError, TypeError, AttributeError) as error:
         raise Refused(f"{path}: the JSON that `tilt-data series` writes was expected: {error}") from error

@@ -78,6 +78,13 @@ class Looks:
             if not text.isdigit() or int(text) == 0:
                 raise Refused(f"--scale {text}: a whole number above 0 was expected")
 
+    def check_names(self, words: list[str]) -> None:
+        """Refuses a scale of a name that no file has: it would have changed nothing."""
+        names = [named(word)[0] for word in words]
+        for name in self.scales:
+            if name and name not in names:
+                raise Refused(f"--scale {name}=..: no file has this name; there are: {', '.join(names)}")
+
     def of(self, name: str, file: str) -> Look:
         notes: Notes | None = notes_of(file) or self.like
         if notes is None:
@@ -110,6 +117,7 @@ def main(words: argparse.Namespace) -> int:
     if len(words.files) > 1 and not words.wide:
         raise Refused("several files were named: --wide puts them side by side")
     looks = Looks(words)
+    looks.check_names([*words.files, *words.of])
     with writing(words.out) as out:
         if words.wide:
             put(out, wide([named(word) for word in words.files], looks, words.merge))
