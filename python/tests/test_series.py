@@ -114,6 +114,25 @@ def test_moments_are_exact():
             Moments().read(text)
 
 
+@pytest.mark.parametrize("text", [
+    "2026-03-01T00:00+99:99", "2026-03-01T00:00+24:00", "2026-03-01T00:00-0060", "0001-01-01T00:00:00+01:00", "9999-12-31T23:59-00:01",
+    "0000-01-01"])
+def test_texts_of_no_moment(told, text):
+    with pytest.raises(ValueError, match="is no time"):
+        Moments().read(text)
+    assert refused(told, f"time,temp\n{text},1\n", "--tick", "1s").startswith(f"raw.csv:2: '{text}' is no time")
+
+
+def test_the_farthest_offsets():
+    assert Moments().read("2026-03-01T00:00+23:59") == Moments().read("2026-02-28T00:01Z")
+    assert Moments().read("0001-01-01T00:00:00-01:00") == Moments().read("0001-01-01T01:00:00Z")
+
+
+@pytest.mark.parametrize("text", ["1e5000", "9" * 5000, "-1e60"])
+def test_numbers_beyond_all_ticks_are_no_times(told, text):
+    assert "is no time" in refused(told, f"time,temp\n{text},1\n", "--tick", "1s", "--unit", "s")
+
+
 def test_local_times():
     zone = zone_of("Europe/Zurich")
     assert Moments(None, zone).read("2026-07-01T08:00") == Moments().read("2026-07-01T06:00Z")

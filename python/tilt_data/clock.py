@@ -16,11 +16,15 @@ from .errors import Refused
 UNITS = {
     "ns": 1, "us": 10**3, "ms": 10**6, "s": 10**9, "min": 60 * 10**9, "m": 60 * 10**9, "h": 3600 * 10**9, "d": 86400 * 10**9,
 }
-DURATION = re.compile(r"(\d+)\s*(ns|us|ms|s|min|m|h|d)")
+DURATION = re.compile(r"([0-9]{1,30})\s*(ns|us|ms|s|min|m|h|d)")
 ISO = re.compile(
-    r"(\d{4}-\d\d-\d\d)(?:[T ](\d\d:\d\d)(?::(\d\d)(?:[.,](\d+))?)?)?\s*(Z|z|[+-]\d\d(?::?\d\d)?)?")
+    r"(\d{4}-\d\d-\d\d)(?:[T ](\d\d:\d\d)(?::(\d\d)(?:[.,](\d+))?)?)?\s*(Z|z|[+-](?:[01]\d|2[0-3])(?::?[0-5]\d)?)?")
 EPOCH = datetime.datetime(1970, 1, 1)
 DAY = UNITS["d"]
+# The program takes times from -TIMES to TIMES, in ticks (`T` of crates/tilt_base/src/limits.rt).
+TIMES = 4 * 10**18
+# Moments farther from 1970 than this, in nanoseconds, are no times: TIMES ticks of a year don't reach it.
+FARTHEST = 10**36
 # More digits than any time or value of 64 bits has; nothing is rounded silently.
 EXACT = decimal.Context(prec=80, traps=[decimal.Inexact, decimal.InvalidOperation, decimal.Overflow])
 
@@ -83,13 +87,13 @@ class Moments:
 
     def number(self, text: str) -> int:
         try:
-            return int(text) * self.unit if text.isdigit() else int(self.exact(text))
+            return int(text) * self.unit if text.isdigit() and len(text) < 30 else int(self.exact(text))
         except (decimal.DecimalException, ValueError) as error:
             raise ValueError(f"{text!r} is no time: a number was expected, no finer than a nanosecond") from error
 
     def exact(self, text: str) -> decimal.Decimal:
         moment = EXACT.multiply(decimal.Decimal(text), decimal.Decimal(self.unit))
-        if not moment.is_finite() or moment != moment.to_integral_value():
+        if not moment.is_finite() or moment != moment.to_integral_value() or moment.copy_abs() > FARTHEST:
             raise ValueError
         return moment
 
@@ -115,7 +119,10 @@ class Moments:
             raise ValueError(f"{text!r} is no time: there is no such day or minute") from error
         if len(self.known) > 50000:
             self.known.clear()
-        self.known[place] = local_moment(local, self.zone) if offset is None else local_moment(local - offset_of(offset), None)
+        try:
+            self.known[place] = local_moment(local, self.zone) if offset is None else local_moment(local - offset_of(offset), None)
+        except OverflowError as error:
+            raise ValueError(f"{text!r} is no time: with its offset it lies outside of the years 1 to 9999") from error
 
 
 def moment_text(moment: int, digits: int, zone: datetime.tzinfo | None = None) -> str:
