@@ -187,6 +187,32 @@ def test_scale_and_back():
         assert Scale(scale).whole(decimal_text(value, scale)) == value
 
 
+def test_decimals_are_exact_where_the_scale_has_no_other_factors_than_2_and_5():
+    # 2 to the power of -21 has 21 digits after the point.
+    assert decimal_text(1, 2**21) == "0.000000476837158203125"
+    draws = random.Random(10)
+    for _ in range(2000):
+        scale, value = 2**draws.randrange(40) * 5**draws.randrange(20), draws.randrange(-2**63, 2**63)
+        assert Fraction(decimal_text(value, scale)) == Fraction(value, scale)
+        other = scale * draws.choice([3, 7, 11])
+        assert abs(Fraction(decimal_text(value, other)) - Fraction(value, other)) <= Fraction(1, 2 * 10**20)
+    assert [decimal_text(2, 3), decimal_text(-10**25 + 1, 10**25 + 1), decimal_text(0, 3)] == ["0.66666666666666666667", "-1", "0"]
+
+
+def test_a_decimal_comma(told):
+    text = "time;temp\n2026-03-01T00:00:01;1,5\n2026-03-01T00:00:02;{}\n"
+    for words in (("--scale", "10"), ("--scale", "auto")):
+        common = ("--tick", "1s", "--delimiter", ";", "--decimal", ",", *words)
+        assert series(told, text.format("-2"), *common)[0] == [(1, 2, 15), (2, 3, -20)]
+        pathlib.Path("temp.csv").unlink(), pathlib.Path("temp.json").unlink()
+        # In such a file 1.500 is one and a half thousand.
+        wanted = "raw.csv:3: temp: '1.500' has a point, and --decimal says that ',' stands before the fraction"
+        assert refused(told, text.format("1.500"), *common) == wanted
+        assert refused(told, text.format("1.500,5"), *common).startswith("raw.csv:3: temp: '1.500,5' has a point")
+    for sign in ("", "5", "-", ",."):
+        assert refused(told, text, "--tick", "1s", f"--decimal={sign}") == f"--decimal {sign!r}: one sign was expected, as . or ,"
+
+
 def test_auto_is_one_scale_for_the_columns_that_have_none_of_their_own(told):
     text = "time,temp,limit,volume\n2026-03-01T00:00:01,20.5,23.75,7\n2026-03-01T00:00:02,20,24,1.125\n"
     status, _, err = told("series", put(text), "--time", "time", "--tick", "1s", "--scale", "auto", "volume=1000")

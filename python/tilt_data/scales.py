@@ -2,6 +2,7 @@
 from __future__ import annotations
 
 import decimal
+import functools
 
 from .clock import EXACT
 
@@ -57,14 +58,29 @@ class Scale:
 
 
 def decimal_text(value: int, scale: int) -> str:
-    """A whole number divided by its scale: exact where the scale has no factors but 2 and 5, else with 20 digits."""
+    """A whole number divided by its scale: exact where the scale has no factors but 2 and 5, else rounded to 20 digits."""
     if scale == 1:
         return str(value)
     digits = len(str(scale)) - 1
     if scale == 10**digits:
         shown = str(abs(value)).rjust(digits + 1, "0")
         return f"{'-' if value < 0 else ''}{shown[:-digits]}.{shown[-digits:]}"
-    whole, rest = divmod(abs(value), scale)
-    quotient = decimal.Context(prec=40).divide(decimal.Decimal(rest), decimal.Decimal(scale))
-    part = f"{quotient:.20f}".rstrip("0").partition(".")[2]
-    return f"{'-' if value < 0 else ''}{whole}{'.' + part if part else ''}"
+    digits = digits_of_parts(scale)
+    scaled, rest = divmod(abs(value) * 10**digits, scale)
+    # Half to even; where it is exact there is no rest.
+    scaled += 2 * rest > scale or 2 * rest == scale and scaled % 2
+    whole, part = divmod(scaled, 10**digits)
+    shown = str(part).rjust(digits, "0").rstrip("0")
+    return f"{'-' if value < 0 else ''}{whole}{'.' + shown if shown else ''}"
+
+
+@functools.lru_cache(maxsize=64)
+def digits_of_parts(scale: int) -> int:
+    """How many digits after the point whole numbers divided by a scale need; 20 where they have no end."""
+    counts = []
+    for factor in (2, 5):
+        count = 0
+        while scale % factor == 0:
+            scale, count = scale // factor, count + 1
+        counts.append(count)
+    return max(counts) if scale == 1 else 20
