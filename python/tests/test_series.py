@@ -7,12 +7,13 @@ import json
 import os
 import pathlib
 import random
+import subprocess
 import sys
 import urllib.parse
 from fractions import Fraction
 
 import pytest
-from conftest import rows_in, run_program
+from conftest import PYTHON, rows_in, run_program
 from tilt_data.clock import Clock, Moments, moment_text, zone_of
 from tilt_data.files import safe
 from tilt_data.scales import Scale, decimal_text, digits_after_point
@@ -243,6 +244,55 @@ def test_a_key_never_leaves_the_folder(told, tmp_path, key):
     assert sorted(os.listdir(tmp_path)) == ["in", "raw.csv"] and len(os.listdir("in")) == 1
 
 
+def call(*words: str, folder: pathlib.Path, **streams) -> subprocess.CompletedProcess[str]:
+    return subprocess.run([sys.executable, "-m", "tilt_data", *words], cwd=folder, env={**os.environ, "PYTHONPATH": str(PYTHON)}, text=True,
+                          **{"stdout": subprocess.PIPE, "stderr": subprocess.PIPE, **streams})
+
+
+@pytest.mark.parametrize("words, path", [
+    (["v.csv"], "v.csv"), (["link.csv"], "v.csv"), (["./v.csv", "--out", "../here"], "../here/v.csv"), (["v.csv", "--out", "other"], "other/v.csv")])
+def test_a_series_never_takes_the_place_of_its_readings(tmp_path, words, path):
+    here, there = tmp_path / "here", tmp_path / "there"
+    here.mkdir()
+    raw = "time,w,v\n2026-03-01T00:00:01,1,2\n"
+    (here / "v.csv").write_text(raw)
+    (here / "link.csv").symlink_to("v.csv")
+    (here / "other").symlink_to(".")
+    before = sorted(os.listdir(here))
+    done = call("series", *words, "--time", "time", "--tick", "1s", folder=here)
+    wanted = f"tilt-data: {path}: it is the file that is read, and the series v would take its place: name a folder by --out\n"
+    assert (done.returncode, done.stderr) == (1, wanted)
+    assert (here / "v.csv").read_text() == raw and sorted(os.listdir(here)) == before
+    done = call("series", words[0], "--time", "time", "--tick", "1s", "--out", "../there", folder=here)
+    assert done.returncode == 0 and rows_in(str(there / "v.csv")) == [(1, 2, 2)]
+
+
+def test_nor_does_it_where_they_come_by_standard_input_or_have_the_name_of_its_notes(tmp_path):
+    raw = "time,v\n2026-03-01T00:00:01,2\n"
+    (tmp_path / "v.csv").write_text(raw)
+    with open(tmp_path / "v.csv") as given:
+        done = call("series", "-", "--time", "time", "--tick", "1s", folder=tmp_path, stdin=given)
+    assert done.returncode == 1 and done.stderr.startswith("tilt-data: v.csv: it is the file that is read")
+    assert (tmp_path / "v.csv").read_text() == raw
+    os.rename(tmp_path / "v.csv", tmp_path / "v.json")
+    done = call("series", "v.json", "--time", "time", "--tick", "1s", folder=tmp_path)
+    assert done.returncode == 1 and done.stderr.startswith("tilt-data: v.json: it is the file that is read")
+    assert (tmp_path / "v.json").read_text() == raw and os.listdir(tmp_path) == ["v.json"]
+
+
+def test_the_links_of_outputs_stay(told):
+    os.mkdir("far")
+    os.symlink("far/real.csv", "temp.csv")
+    rows, _ = series(told, READINGS, "--tick", "1s", "--scale", "100")
+    assert os.readlink("temp.csv") == "far/real.csv" and rows_in("far/real.csv") == rows and len(rows) == 3
+    assert sorted(os.listdir()) == ["far", "raw.csv", "temp.csv", "temp.json"] and os.listdir("far") == ["real.csv"]
+    os.symlink("temp.csv", "power.csv")
+    put("time,temp,power\n2026-03-01T00:00:01,1,2\n")
+    status, _, err = told("series", "raw.csv", "--time", "time", "--tick", "1s")
+    assert status == 1 and err == "tilt-data: power.csv: its links lead to the file of another output\n"
+    assert rows_in("far/real.csv") == rows
+
+
 def test_what_comes_from_a_pipe(told, monkeypatch):
     for words in (("--scale", "100"), ("--scale", "auto"), ("--scale", "auto", "--sort")):
         monkeypatch.setattr(sys, "stdin", io.TextIOWrapper(io.BytesIO(READINGS.encode())))
@@ -282,6 +332,16 @@ def test_sorting_in_parts(tmp_path):
     ("time,temp\n2026-03-01,1\n", [], "how long is a tick?"),
     ("time,temp\n2026-03-01,1\n", ["--tick", "1x"], "'1x' is no duration"),
     ("time,temp\n2026-03-01,1\n", ["--tick", "1s", "--max-age", "1500ms"], "--max-age 1500ms is no whole number of ticks of 1s"),
+    ("time,temp\n2026-03-01,\"12", ["--tick", "1s"], "raw.csv:2: a record of CSV was expected: unexpected end of data"),
+    ("time,temp\n2026-03-01,1\n2026-03-02,\"2\n2026-03-03,3\n", ["--tick", "1s"], "raw.csv:3: a record of CSV was expected"),
+    ("time,temp\n2026-03-01,1\n", ["--tick", "1s", "--delimiter", "ab"], "--delimiter 'ab': one sign was expected, or \\t for a tab"),
+    ("time,temp\n2026-03-01,1\n", ["--tick", "1s", "--delimiter", ""], "--delimiter '': one sign was expected"),
+    ("time\ttemp\n2026-03-01\t1\n", ["--tick", "1s"], "are its fields parted by '\\t'? --delimiter '\\t'"),
+    ("time,temp,hum\n2026-03-01,1,2\n", ["--tick", "1s", "--max-age", "5s", "tmep=1min"],
+     "--max-age tmep=..: no series has this name; there are: hum, temp"),
+    ("time,temp,hum\n2026-03-01,1,2\n", ["--tick", "1s", "--scale", "tmep=10"], "--scale tmep=..: no series has this name; there are: hum, temp"),
+    ("time,temp,hum\n2026-03-01,1,2\n", ["--tick", "1s", "--scale", "tmep=auto", "--value", "temp"],
+     "--scale tmep=..: no series has this name; there are: temp"),
     ("time,temp\n2026-03-01,1\n", ["--tick", "1s", "--scale", "0"], "--scale 0: a whole number above 0"),
     ("time,temp\n2026-03-01,1\n", ["--tick", "1s", "--zone", "Zurich"], "'Zurich' is no time zone"),
     ("time,temp\n2026-03-01,1\n", ["--tick", "1s", "--event", "--hold", "next"], "--event is a reading of one tick"),

@@ -15,7 +15,7 @@ from typing import Any, Iterable, Iterator
 from .clock import Clock, Moments, duration_of, duration_text, moment_text, zone_of
 from .convert import TIES, Converter, Late, Rule, Tie, row_text
 from .errors import Refused, refused_at
-from .files import Notes, Outputs, notes_of, notes_path, reading, records, safe, scratch, spooled
+from .files import Notes, Outputs, notes_of, notes_path, reading, records, safe, same_file, scratch, spooled
 from .progress import shown
 from .scales import Scale, digits_after_point
 
@@ -23,6 +23,8 @@ HELP = """Reads a CSV with a header: a column of times, and one column of values
 (tall, --name). It writes a series file NAME.csv for each, and beside it NAME.json with the length of a tick, the origin and the scale.
 Readings are in order of time, or --sort puts them in order. What was dropped, moved and scaled is told on standard error."""
 DECIMAL_COMMA = re.compile(r"-?\d+,\d+")
+# How a tab is written in a word of the command.
+TAB = r"\t"
 Reading = tuple[int, int, str, str, str]
 
 
@@ -64,7 +66,7 @@ def add_source(parser: argparse.ArgumentParser) -> None:
     parser.add_argument("--time", metavar="COL", help="the column of times")
     parser.add_argument("--value", metavar="COL", nargs="+", help="the columns of values; all others where it is left out")
     parser.add_argument("--name", metavar="COL", help="a tall file: the column that names the series; --value is then the one value column")
-    parser.add_argument("--delimiter", default=",", help="what parts the fields (,)")
+    parser.add_argument("--delimiter", default=",", help="the sign that parts the fields; \\t is a tab (,)")
     parser.add_argument("--decimal", default=".", help="what stands before the fraction of a value (.)")
 
 
@@ -92,11 +94,20 @@ def add_convention(parser: argparse.ArgumentParser) -> None:
     parser.add_argument("--skip-empty", action="store_true", help="a field without a value is no reading at all")
 
 
+def delimiter_of(text: str) -> str:
+    sign = "\t" if text == TAB else text
+    if len(sign) != 1 or sign in '"\r\n':
+        raise Refused(f"--delimiter {text!r}: one sign was expected, or {TAB} for a tab")
+    return sign
+
+
 def column(header: list[str], name: str, path: str) -> int:
     if header.count(name) != 1:
         many = "more than once" if name in header else "not"
         other = next((sign for sign in (";", "\t", "|") if len(header) == 1 and sign in header[0]), None)
-        cure = f"there are: {', '.join(header)}" if other is None else f"are its fields parted by {other!r}? --delimiter {shlex.quote(other)}"
+        cure = f"there are: {', '.join(header)}"
+        if other is not None:
+            cure = f"are its fields parted by {other!r}? --delimiter {shlex.quote(TAB if other == chr(9) else other)}"
         raise refused_at(path, 1, f"the column {name!r} is {many} in the header; {cure}")
     return header.index(name)
 
@@ -119,9 +130,9 @@ def columns_of(header: list[str], words: argparse.Namespace, path: str) -> Colum
 def readings_of(source: str, words: argparse.Namespace) -> Iterator[Reading]:
     """Each reading: its moment, its line, its key, the name of its series, and the text of its value. The source is the file of the words,
     or a copy of it."""
-    path, moments = words.file, Moments(words.unit, zone_of(words.zone))
+    path, moments, delimiter = words.file, Moments(words.unit, zone_of(words.zone)), delimiter_of(words.delimiter)
     with reading(source) as file:
-        found = records(path, file, words.delimiter)
+        found = records(path, file, delimiter)
         _, header = next(found, (1, [""]))
         columns = columns_of(header, words, path)
         for line, record in shown(found, "readings"):
@@ -229,7 +240,7 @@ class Converting:
 
     def value(self, name: str, text: str, line: int) -> int:
         try:
-            return self.scales.of(name).whole(text if self.words.decimal == "." else text.replace(self.words.decimal, "."))
+            return self.scales.of(name).whole(pointed(text, self.words.decimal))
         except ValueError as error:
             cure = "; for a decimal comma: --decimal ," if DECIMAL_COMMA.fullmatch(text.strip()) and self.words.decimal == "." else ""
             raise refused_at(self.path, line, f"{name}: {error}{cure}") from error
@@ -242,6 +253,9 @@ class Converting:
             raise refused_at(self.path, line, f"a key was expected in the column {self.words.key}")
         converter = self.series[place] = Converter(self.clock, self.rule(name))
         path = os.path.normpath(os.path.join(self.words.out, file_of(key, name, self.words.prefix)))
+        for one in (path, notes_path(path)):
+            if same_file(one, self.path):
+                raise Refused(f"{one}: it is the file that is read, and the series {name} would take its place: name a folder by --out")
         if path in self.paths:
             raise refused_at(self.path, line, f"the key {key} with {name} and another key have one file, {path}: leave --prefix out")
         self.paths.add(path)
@@ -269,6 +283,15 @@ class Converting:
                 self.put(place, row)
             self.outputs.write(notes_path(self.files[place]), self.notes(place).text())
 
+    def check_names(self) -> None:
+        """Refuses words that name a series which isn't there: they would have changed nothing."""
+        names = {name for _, name in self.series}
+        given = [("--max-age", name) for name in self.ages] + [("--scale", name) for name in self.scales.named]
+        for option, name in given:
+            if name and self.begun and name not in names:
+                there = ", ".join(sorted(names)[:10])
+                raise Refused(f"{option} {name}=..: no series has this name; there are: {there}{', ..' if len(names) > 10 else ''}")
+
     def notes(self, place: tuple[str, str]) -> Notes:
         key, name = place
         kind = "event" if self.words.event else "hold"
@@ -294,6 +317,15 @@ class Converting:
             "moved to the next free tick", converter.moved), ("gaps after --max-age", converter.gaps)
         scaled = [f"values times {scale}"] if scale != 1 else []
         return ", ".join([text, *scaled, *(f"{what}: {count}" for what, count in notes if count)])
+
+
+def pointed(text: str, sign: str) -> str:
+    """A decimal with a point, of one with this sign before its fraction. A point in it can only part its thousands."""
+    if sign == ".":
+        return text
+    if "." in text:
+        raise ValueError(f"{text!r} has a point, and --decimal says that {sign!r} stands before the fraction")
+    return text.replace(sign, ".")
 
 
 def file_of(key: str, name: str, prefix: bool) -> str:
@@ -373,6 +405,8 @@ def digits_of(path: str, words: argparse.Namespace, nulls: Nulls) -> dict[str, i
 def main(words: argparse.Namespace) -> int:
     if words.event and (words.hold or words.max_age or words.until):
         raise Refused("--event is a reading of one tick: --hold, --max-age and --until are for readings that hold")
+    if len(words.decimal) != 1 or words.decimal.isalnum() or words.decimal in "+-":
+        raise Refused(f"--decimal {words.decimal!r}: one sign was expected, as . or ,")
     with scratch() as folder, Outputs() as outputs:
         path = spooled(words.file, folder) if "auto" in str(words.scale) else words.file
         converting = Converting(words, words.file, outputs)
@@ -380,6 +414,7 @@ def main(words: argparse.Namespace) -> int:
         readings = readings_of(path, words)
         for one in in_order(readings, folder) if words.sort else readings:
             converting.take(one)
+        converting.check_names()
         converting.finish()
         outputs.commit()
     for line in converting.told():
