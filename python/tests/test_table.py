@@ -53,7 +53,7 @@ def test_equal_neighbours_are_joined(told):
     assert table(told, "x.csv", "--merge")[1][1] == "1970-01-01T00:00:08Z"
 
 
-def test_a_key_stays_in_front(told):
+def test_a_key_stays_the_first_column(told):
     put("x", "", scale=1)
     pathlib.Path("all.csv").write_text("key,start,end,value\na,0,5,7\na,5,6,7\nb,6,7,7\n")
     assert [[row[0], row[-1]] for row in table(told, "all.csv", "--like", "x.csv", "--merge")[1:]] == [["a", "7"], ["b", "7"]]

@@ -21,7 +21,7 @@ from .why import refusal_of
 
 HELP = """Runs a query for each key. A word NAME=FILE whose FILE has {key} in it is another file for each key, as
 temperature=data/{key}/temperature.csv for what `tilt-data series --key` writes, or data/{key}_temperature.csv for --prefix; the keys are
-those for which the first such file is there. The other inputs are the same for all. The output has the key in front:
+those for which the first such file is there. The other inputs are the same for all. The output has the key as its first column:
 key,start,end,value."""
 
 
@@ -105,7 +105,7 @@ def main(words: argparse.Namespace) -> int:
 
 
 def keyed(done: Done) -> Iterator[str]:
-    """The lines of an output with the key in front, as CSV."""
+    """The lines of an output with the key as their first column, as CSV."""
     key = f'"{done.key.replace(chr(34), chr(34) * 2)}"' if re.search(r'[",\r\n]', done.key) else done.key
     with open(done.file, encoding="ascii") as file:
         next(file, None)

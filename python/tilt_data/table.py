@@ -19,7 +19,7 @@ from .scales import decimal_text
 
 HELP = """Prints outputs of tilt, or series, with dates and decimals. The clock and the scale are those of the JSON file beside the file,
 or of the series that --like names. A row start,end is the stretch of time from the first to the second; which of its ends belongs to it is
-the `closed` of the series. Where a file begins with key,start,end,value, as of `tilt-data by`, the key stays in front."""
+the `closed` of the series. Where a file begins with key,start,end,value, as of `tilt-data by`, the key stays the first column."""
 
 
 @dataclasses.dataclass
@@ -129,7 +129,7 @@ def main(words: argparse.Namespace) -> int:
 
 
 def plain(words: argparse.Namespace, looks: Looks) -> Iterator[list[str]]:
-    """A row of text for each row, or for each stretch of equal neighbours; with a key in front where the file has one."""
+    """A row of text for each row, or for each stretch of equal neighbours; with the key as its first column where the file has one."""
     name, file = named(words.files[0])
     look = looks.of(name, file)
     with reading(file) as opened:
