@@ -234,11 +234,10 @@ def why(words: argparse.Namespace) -> int:
 
 
 def add(commands: Any) -> None:
-    parser = commands.add_parser(
+    # It is here for the list of commands and its own help: `cli.main` hands all other words on as they are.
+    commands.add_parser(
         "run", help="tilt run, and the place of a mistake", usage="tilt-data run QUERY NAME=FILE .. [--plain] [--cut TIME,..]",
         description="Runs `tilt run` with the same words: its output, line and status. Where it refuses, the place stands after its line.")
-    parser.add_argument("words", nargs="*")
-    parser.set_defaults(main=lambda parsed: run(parsed.words))
     parser = commands.add_parser("why", help="why a query is refused", description="Tells why a query is refused, and where; else what "
                                  "`tilt explain` prints.")
     parser.add_argument("query", metavar="QUERY")
