@@ -4,6 +4,7 @@ from __future__ import annotations
 import os
 import pathlib
 import random
+import resource
 import shutil
 import signal
 import socket
@@ -157,6 +158,219 @@ def test_bad_lines(tilt, tmp_path, line, what):
     if "clock" not in what:
         status, out, err = done(follow(tmp_path, *words, "--skip-bad", stdin=subprocess.PIPE), b"temp,7,9,1\n")
         assert status == 0 and what in err
+
+
+LIMIT, BIT = 4 * 10**18, 2**63
+
+
+@pytest.mark.parametrize("line, what", [
+    (f"temp,5,{LIMIT + 1},1", f"a time within {-LIMIT} to {LIMIT} was expected"),
+    (f"temp,{-LIMIT - 1},5,1", f"a time within {-LIMIT} to {LIMIT} was expected"),
+    (f"temp,5,6,{BIT}", f"a value within {-BIT} to {BIT - 1} was expected"),
+    (f"temp,5,6,{-BIT - 1}", f"a value within {-BIT} to {BIT - 1} was expected"),
+    pytest.param(f"temp,5,6,{'9' * 5000}", f"a value within {-BIT} to {BIT - 1} was expected", id="5000 digits"),
+    ("temp,1970-01-01T00:00:06,1", "temp came as rows before"),
+])
+def test_a_line_that_the_program_would_not_take_is_passed_over(tilt, tmp_path, line, what):
+    lay_out(tmp_path)
+    (tmp_path / "q").write_text("input temp; emit temp over (0, 20];")
+    words = ["--state", "s", "--rows", "1", "--skip-bad", "--tick", "1s", "--origin", "1970-01-01"]
+    if "rows before" in what:
+        # A reading may follow rows, but no row may follow a reading.
+        given, wanted = f"temp,0,3,1\n{line}\ntemp,7,9,1\n", "start,end,value\n0,3,1\n6,7,1\n"
+        what = "temp came as readings before: no row can follow them"
+    else:
+        given, wanted = f"temp,0,3,1\n{line}\ntemp,7,9,1\n", "start,end,value\n0,3,1\n7,9,1\n"
+    status, out, err = done(follow(tmp_path, *words, "--end", stdin=subprocess.PIPE), given.encode())
+    assert status == 0 and what in err and err.count("\n") == 1 and out == wanted == (tmp_path / "s" / "output.csv").read_text()
+
+
+def test_the_farthest_rows_are_taken(tilt, tmp_path):
+    (tmp_path / "q").write_text("input x; input y; emit x + y over (0, 20];")
+    given = f"x,{-LIMIT},{LIMIT},{BIT - 1}\ny,{-LIMIT},5,{-BIT}\ny,5,{LIMIT},+0\n".encode()
+    words = ["--state", "s", "--rows", "1"]
+    assert done(follow(tmp_path, *words, stdin=subprocess.PIPE), given)[::2] == (0, "")
+    assert done(follow(tmp_path, *words, "--end", stdin=subprocess.DEVNULL))[::2] == (0, "")
+    assert (tmp_path / "s" / "output.csv").read_text() == f"start,end,value\n0,5,-1\n5,20,{BIT - 1}\n"
+
+
+def test_the_farthest_reading_is_taken(tilt, tmp_path):
+    (tmp_path / "q").write_text("input x; emit x over (0, 20];")
+    words = ["--state", "s", "--rows", "1", "--tick", "1s", "--origin", "1970-01-01", "--unit", "s", "--max-age", "2s"]
+    given = f"x,{-LIMIT},1\nx,5,2\nx,{LIMIT - 2},3\n".encode()
+    assert done(follow(tmp_path, *words, stdin=subprocess.PIPE), given)[::2] == (0, "")
+    assert done(follow(tmp_path, *words, "--end", stdin=subprocess.DEVNULL))[::2] == (0, "")
+    assert (tmp_path / "s" / "output.csv").read_text() == "start,end,value\n5,7,2\n"
+
+
+@pytest.mark.parametrize("reading, what", [
+    ("temp,1e20,1", f"its row would not lie within {-LIMIT} to {LIMIT} ticks"), ("temp,1e5000,1", "is no time"),
+    (f"temp,{LIMIT - 1},1", f"its row would not lie within {-LIMIT} to {LIMIT} ticks"), (f"temp,8,{BIT}", "isn't within 64 bits"),
+    ("temp,2,1", "it lies before 3, up to where its rows were known: it came too late"),
+])
+def test_a_reading_that_the_program_would_not_take_is_passed_over(tilt, tmp_path, reading, what):
+    (tmp_path / "q").write_text("input temp; emit temp over (0, 20];")
+    words = ["--state", "s", "--rows", "1", "--skip-bad", "--tick", "1s", "--origin", "1970-01-01", "--unit", "s", "--max-age", "2s", "--end"]
+    given = f"temp,0,3,1\n{reading}\ntemp,9,5\n".encode()
+    status, out, err = done(follow(tmp_path, *words, stdin=subprocess.PIPE), given)
+    assert status == 0 and what in err and err.count("\n") == 1 and out == "start,end,value\n0,3,1\n9,11,5\n"
+
+
+def test_a_time_that_is_none_is_passed_over(tilt, tmp_path):
+    (tmp_path / "q").write_text("input temp; emit temp over (0, 20];")
+    words = ["--state", "s", "--skip-bad", "--tick", "1s", "--origin", "1970-01-01", "--end"]
+    given = b"temp,0001-01-01T00:00:00+01:00,1\ntemp,1970-01-01T00:00:05,7\n"
+    status, out, err = done(follow(tmp_path, *words, stdin=subprocess.PIPE), given)
+    assert status == 0 and "line 1: '0001-01-01T00:00:00+01:00' is no time" in err and err.count("\n") == 1
+    assert out == "start,end,value\n5,6,7\n"
+
+
+# The folder
+
+
+def tree(folder: pathlib.Path) -> dict[str, str]:
+    return {str(path.relative_to(folder)): path.read_text() for path in sorted(folder.rglob("*")) if path.is_file()}
+
+
+@pytest.mark.parametrize("names", [["notes.md", "log.txt", "rows.csv"], ["log/one"], ["query.tilt"], ["query.tilt", "state.md"], ["lock", "x"]])
+def test_a_folder_that_it_did_not_begin_is_left_as_it_is(tmp_path, names):
+    (tmp_path / "q").write_text(QUERY)
+    for name in names:
+        (tmp_path / "s" / name).parent.mkdir(parents=True, exist_ok=True)
+        (tmp_path / "s" / name).write_text(QUERY)
+    before = tree(tmp_path)
+    status, out, err = done(follow(tmp_path, "--state", "s", stdin=subprocess.DEVNULL))
+    assert (status, out) == (1, "")
+    assert err == "tilt-data: s: it isn't empty, and `tilt-data follow` didn't begin it: name another folder by --state\n"
+    assert tree(tmp_path) == before
+
+
+def test_a_folder_that_is_empty_or_was_begun_is_taken(tilt, tmp_path):
+    lines, wanted = lay_out(tmp_path)
+    (tmp_path / "s").mkdir()
+    # So a call that is killed at its begin leaves it.
+    (tmp_path / "s" / "lock").write_text("")
+    (tmp_path / "s" / "query.tilt.new").write_text("input")
+    given = "".join(line + "\n" for line in lines).encode()
+    assert done(follow(tmp_path, "--state", "s", "--end", stdin=subprocess.PIPE), given) == (0, wanted, "")
+
+
+def test_the_files_of_others_in_a_state_stay(tilt, tmp_path):
+    lines, wanted = lay_out(tmp_path)
+    middle = len(lines) // 2
+    first, second = ("".join(line + "\n" for line in some).encode() for some in (lines[:middle], lines[middle:]))
+    assert done(follow(tmp_path, "--state", "s", stdin=subprocess.PIPE), first)[0] == 0
+    folder = tmp_path / "s"
+    others = ["notes.md", "log.txt", "rows.csv", "part.1.csv", "state.old", "new", "log.5.gz", "xlog.5", "log.7/kept"]
+    for name in others:
+        (folder / name).parent.mkdir(exist_ok=True)
+        (folder / name).write_text(name)
+    (folder / "log.9").symlink_to("notes.md")
+    (folder / "log.3").write_text("it is left of a session before")
+    assert done(follow(tmp_path, "--state", "s", "--end", stdin=subprocess.PIPE), second)[0] == 0
+    assert (folder / "output.csv").read_text() == wanted
+    assert [(folder / name).read_text() for name in others] == others and (folder / "log.9").is_symlink()
+    assert not (folder / "log.3").exists()
+
+
+def test_a_last_line_without_an_end_is_not_taken(tilt, tmp_path):
+    (tmp_path / "q").write_text("input x; emit x over (0, 20];")
+    words = ["--state", "s", "--again", "--rows", "1"]
+    told = "tilt-data: the last line has no end, and isn't taken without --end: x,5,9,1\n"
+    # The row that is taken may go on yet, so that nothing of it is decided.
+    assert done(follow(tmp_path, *words, stdin=subprocess.PIPE), b"x,0,5,3\nx,5,9,1") == (0, "start,end,value\n", told)
+    # What the writer puts after it is read as one line with it.
+    status, out, err = done(follow(tmp_path, *words, stdin=subprocess.PIPE), b"x,0,5,3\nx,5,9,17\nx,9,12,4\n")
+    assert (status, err) == (0, "")
+    status, out, err = done(follow(tmp_path, *words, "--end", stdin=subprocess.PIPE), b"x,0,5,3\nx,5,9,17\nx,9,12,4\nx,12,13,5\r\nx,13,14,6")
+    assert (status, err) == (0, "")
+    assert (tmp_path / "s" / "output.csv").read_text() == "start,end,value\n0,5,3\n5,9,17\n9,12,4\n12,13,5\n13,14,6\n"
+
+
+@pytest.mark.parametrize("change", ["moved", "shortened", "lengthened"])
+def test_an_output_that_was_changed_is_refused(tilt, tmp_path, change):
+    (tmp_path / "q").write_text("input x; emit x over (0, 40];")
+    given = "".join(f"x,{at},{at + 1},{at}\n" for at in range(30)).encode()
+    words = ["--state", "s", "--again", "--rows", "10", "--quiet"]
+    assert done(follow(tmp_path, *words, stdin=subprocess.PIPE), given)[0] == 0
+    output = tmp_path / "s" / "output.csv"
+    whole = output.read_bytes()
+    assert whole.startswith(b"start,end,value\n0,1,0\n1,2,1\n")
+    output.unlink() if change == "moved" else output.write_bytes(whole[:20] if change == "shortened" else whole + b"mine\n")
+    before = output.read_bytes() if output.exists() else None
+    status, _, err = done(follow(tmp_path, *words, stdin=subprocess.PIPE), given)
+    size = 0 if before is None else len(before)
+    assert status == 1 and err.startswith(f"tilt-data: s/output.csv: it has {size} bytes, not ") and err.count("\n") == 1
+    assert (output.read_bytes() if output.exists() else None) == before
+    output.write_bytes(whole)
+    assert done(follow(tmp_path, *words, "--end", stdin=subprocess.PIPE), given)[0] == 0
+    assert output.read_text() == "start,end,value\n" + "".join(f"{at},{at + 1},{at}\n" for at in range(30))
+
+
+def test_an_output_that_is_moved_away_under_way_is_refused(tilt, tmp_path):
+    (tmp_path / "q").write_text("input x; emit x over (0, 40];")
+    process = follow(tmp_path, "--state", "s", "--rows", "2", stdin=subprocess.PIPE, stdout=subprocess.DEVNULL)
+    output = tmp_path / "s" / "output.csv"
+    process.stdin.write(b"x,0,1,5\nx,1,2,6\n")
+    process.stdin.flush()
+    wait_for(lambda: output.exists() and (tmp_path / "s" / "log.2").exists())
+    text = output.read_text()
+    output.rename(tmp_path / "away")
+    _, err = process.communicate(b"x,2,3,7\nx,3,4,8\n", timeout=60)
+    wanted = f"tilt-data: s/output.csv: it has 0 bytes, not {len(text)}: it was moved away or changed; put it back as it was\n"
+    assert (process.returncode, err.decode()) == (1, wanted)
+    (tmp_path / "away").rename(output)
+    assert done(follow(tmp_path, "--state", "s", "--end", stdin=subprocess.DEVNULL))[0] == 0
+    assert output.read_text() == "start,end,value\n0,1,5\n1,2,6\n2,3,7\n3,4,8\n"
+
+
+def test_a_log_that_has_no_room_is_told_and_nothing_is_lost(tilt, tmp_path):
+    lines, wanted = lay_out(tmp_path)
+    given = "".join(line + "\n" for line in lines).encode()
+    words = [sys.executable, "-m", "tilt_data", "follow", "q", "--state", "s", "--again"]
+    room = 1000
+    assert len(given) > 10 * room > len(QUERY)
+    full = subprocess.run(words, cwd=tmp_path, env={**BEGUN, "PYTHONDONTWRITEBYTECODE": "1"}, input=given, capture_output=True,
+                          preexec_fn=lambda: resource.setrlimit(resource.RLIMIT_FSIZE, (room, room)))
+    assert (full.returncode, full.stdout) == (1, b"")
+    assert full.stderr == b"tilt-data: s/log.begin: it can't be written: File too large\n"
+    assert (tmp_path / "s" / "log.begin").stat().st_size == room
+    assert done(follow(tmp_path, "--state", "s", "--again", "--end", stdin=subprocess.PIPE), given) == (0, wanted, "")
+
+
+def test_an_output_that_standard_output_does_not_take_is_in_the_folder(tilt, tmp_path):
+    lines, wanted = lay_out(tmp_path)
+    given = "".join(line + "\n" for line in lines).encode()
+    with open("/dev/full", "wb") as full:
+        process = follow(tmp_path, "--state", "s", "--end", stdin=subprocess.PIPE, stdout=full)
+        _, err = process.communicate(given, timeout=60)
+    assert (process.returncode, err) == (1, b"tilt-data: standard output: it can't be written: No space left on device\n")
+    assert done(follow(tmp_path, "--state", "s", "--end", stdin=subprocess.DEVNULL))[0] == 0
+    assert (tmp_path / "s" / "output.csv").read_text() == wanted
+
+
+def test_a_query_that_is_refused_begins_no_state(tilt, tmp_path):
+    lines, wanted = lay_out(tmp_path)
+    given = "".join(line + "\n" for line in lines).encode()
+    (tmp_path / "q").write_text(QUERY.replace("a - limit", "b - limit"))
+    status, out, err = done(follow(tmp_path, "--state", "s", "--end", stdin=subprocess.PIPE), given)
+    assert (status, out) == (1, "") and err.startswith("tilt-data: tilt: 27 statement 5: unknown name\nq:2:6: ") and "Traceback" not in err
+    assert sorted(os.listdir(tmp_path / "s")) == ["lock"]
+    (tmp_path / "q").write_text(QUERY)
+    assert done(follow(tmp_path, "--state", "s", "--end", stdin=subprocess.PIPE), given) == (0, wanted, "")
+
+
+@pytest.mark.parametrize("words, what", [
+    (["--until", "tomorrow"], "'tomorrow' is no time: ISO 8601 was expected"),
+    (["--until", "9999-01-01", "--tick", "1ns", "--origin", "1677-01-01"], "--until 9999-01-01: its tick "),
+    (["--scale", "0"], "--scale: 1 or more was expected"), (["--rows", "0"], "--rows: 1 or more was expected"),
+])
+def test_words_are_read_before_any_line(tilt, tmp_path, words, what):
+    lay_out(tmp_path)
+    # The stream doesn't end: what is told doesn't wait for it.
+    process = follow(tmp_path, "--state", "s", *words, stdin=subprocess.PIPE)
+    assert process.wait(60) == 1
+    assert what in done(process)[2]
 
 
 def test_what_is_refused(tilt, tmp_path):

@@ -3,10 +3,12 @@
 What is kept is tied by the cut in its name. A session from one cut to the next writes `part.CUT`, the lines that it decided, `notes.CUT`,
 what was taken and not handed on yet and how long `output.csv` was before, and last `state.CUT`, the checkpoint of `tilt`: when that stands,
 the session counts. Then the part is put to the end of `output.csv`. Killed in between, it is put there when the command is called again; a
-part without its state is thrown away, and its session made anew. `log.CUT` has the lines that came since the cut."""
+part without its state is thrown away, and its session made anew. `log.CUT` has the lines that came since the cut. Only files of names that are
+written here are ever taken away, and only in a folder that was begun here."""
 from __future__ import annotations
 
 import argparse
+import contextlib
 import dataclasses
 import fcntl
 import json
@@ -18,12 +20,13 @@ import time
 from typing import Any, Iterator
 
 from . import sessions
-from .clock import Clock, Moments, duration_of, zone_of
+from .clock import TIMES, Clock, Moments, duration_of, zone_of
 from .convert import Converter, Late, Rule, TIES, Tie
-from .errors import Refused
-from .files import Row, notes_of, notes_path, reading, rows_of
-from .scales import Scale
-from .series import Nulls, clock_of
+from .errors import Refused, TiltError
+from .files import Row, notes_of, notes_path, reading, rows_of, writing
+from .scales import GREATEST, LEAST, Scale
+from .series import Nulls, clock_of, moment_of
+from .why import inputs_of
 
 HELP = """Runs a query over lines that keep coming on standard input, as from `mosquitto_sub` or `tail -F`: NAME,start,end,value with
 ticks, or NAME,time,value with readings, which become rows as `tilt-data series` has it. A session is run every --every, or after --rows
@@ -31,6 +34,10 @@ lines; it is cut at the last moment that all inputs have reached. The lines that
 in the folder --state. Killed at any moment and called again with the same words it goes on, and no line of output.csv is lost or doubled.
 A word NAME=FILE gives an input whole, from a series file."""
 Taken = dict[str, Any]
+WHOLE = re.compile(r"[+-]?[0-9]+")
+# The names of the files that are written here and aren't needed any more after the session that they are of.
+PASSING = re.compile(r"(part|notes|state|log)\.(begin|end|-?[0-9]+)|new\.(part|notes|state)\.[0-9]+|rows\.[A-Za-z_]\w*\.csv", re.ASCII)
+STATE = re.compile(r"state\.(end|-?[0-9]+)")
 
 
 def add(commands: Any) -> None:
@@ -95,7 +102,18 @@ class Reader:
         self.clock: Clock | None = None
         if words.tick is not None and words.origin is not None or self.like is not None:
             self.clock = clock_of(words, self.like, 0)
+        self.until = self.until_of(words)
         self.unknown: set[str] = set()
+
+    def until_of(self, words: argparse.Namespace) -> int | None:
+        """The tick of --until, which is read before any line is."""
+        if words.until is None:
+            return None
+        moment = moment_of(words.until, words)
+        tick = None if self.clock is None else self.clock.start(moment)
+        if tick is not None and not -TIMES <= tick <= TIMES:
+            raise Refused(f"--until {words.until}: its tick {tick} isn't within {-TIMES} to {TIMES}")
+        return tick
 
     def take(self, line: str) -> None:
         """One line, without its end. What it can't be is a BadLine."""
@@ -117,33 +135,47 @@ class Reader:
             self.reading(source, fields)
 
     def row(self, source: Source, fields: list[str]) -> None:
-        if not all(re.fullmatch(r"[+-]?\d+", field) for field in fields[1:3]) or not re.fullmatch(r"([+-]?\d+)?", fields[3]):
+        if not all(map(WHOLE.fullmatch, fields[1:3])) or not WHOLE.fullmatch(fields[3] or "0"):
             raise BadLine("NAME,start,end,value with whole numbers was expected")
-        start, end = int(fields[1]), int(fields[2])
+        start, end = (number(field, -TIMES, TIMES, "a time") for field in fields[1:3])
+        value = number(fields[3], LEAST, GREATEST, "a value") if fields[3] else None
         if start >= end:
             raise BadLine(f"a start below the end {end} was expected")
+        if source.converter is not None and source.converter.moment is not None:
+            raise BadLine(f"{fields[0]} came as readings before: no row can follow them")
         if source.reached is not None and start < source.reached:
             raise BadLine(f"it starts before {source.reached}, up to where {fields[0]} was known: it came too late")
-        source.rows.append((start, end, int(fields[3]) if fields[3] else None))
+        source.rows.append((start, end, value))
         source.reached = end
 
     def reading(self, source: Source, fields: list[str]) -> None:
         if self.clock is None:
             raise Refused("readings need a clock: --tick and --origin, or --like a series")
-        if source.converter is None:
-            source.converter = Converter(self.clock, self.rule(self.clock))
+        converter = source.converter or Converter(self.clock, self.rule(self.clock))
         try:
             value = None if self.nulls.has(fields[2]) else self.scale.whole(fields[2])
-            row = source.converter.push(self.moments.read(fields[1]), value)
+            moment = self.moments.read(fields[1])
+            self.within(source, converter, self.clock.start(moment))
+            row = converter.push(moment, value)
         except Tie as error:
             raise BadLine("a second reading in one tick: --ties last, first or spread, or a shorter --tick") from error
         except Late as error:
             raise BadLine(f"it lies before the reading of {fields[0]} before it: it came too late") from error
         except ValueError as error:
             raise BadLine(str(error)) from error
+        source.converter = converter
         if row is not None:
             source.rows.append(row)
-        source.reached = source.converter.start
+        source.reached = converter.start
+
+    def within(self, source: Source, converter: Converter, tick: int) -> None:
+        """Whether the row of a reading in this tick can be handed to the program."""
+        if converter.moment is None and source.reached is not None and tick < source.reached:
+            raise BadLine(f"it lies before {source.reached}, up to where its rows were known: it came too late")
+        if converter.moment is not None and converter.rule.ties == "spread":
+            tick = max(tick, converter.start + 1)
+        if not -TIMES <= tick <= TIMES - (converter.rule.max_age or 1):
+            raise BadLine(f"its row would not lie within {-TIMES} to {TIMES} ticks")
 
     def rule(self, clock: Clock) -> Rule:
         age = None if self.words.max_age is None else clock.ticks(duration_of(self.words.max_age), "--max-age")
@@ -152,10 +184,7 @@ class Reader:
     def finish(self) -> None:
         """The readings that are held back become rows."""
         for source in self.sources.values():
-            until = None
-            if self.words.until is not None and self.clock is not None:
-                until = self.clock.start(self.moments.iso(self.words.until))
-            row = None if source.converter is None else source.converter.finish(until)
+            row = None if source.converter is None else source.converter.finish(self.until)
             if row is not None:
                 source.rows.append(row)
 
@@ -173,6 +202,18 @@ class Reader:
             source.converter.load(kept["converter"])
 
 
+def number(text: str, least: int, greatest: int, what: str) -> int:
+    """A whole number that the program takes."""
+    try:
+        found = int(text)
+    except ValueError:
+        # More digits than Python reads.
+        found = greatest + 1
+    if not least <= found <= greatest:
+        raise BadLine(f"{what} within {least} to {greatest} was expected")
+    return found
+
+
 # The folder
 
 
@@ -185,9 +226,12 @@ class Store:
             os.makedirs(folder, exist_ok=True)
         except OSError as error:
             raise Refused(f"{folder}: it can't be made: {error.strerror}") from error
+        if not is_ours(os.listdir(folder)):
+            raise Refused(f"{folder}: it isn't empty, and `tilt-data follow` didn't begin it: name another folder by --state")
         self.lock()
         self.cut: str = self.found()
         self.output = os.path.join(folder, "output.csv")
+        self.placed = 0
         self.log: Any = None
 
     def path(self, kind: str, cut: str | None = None) -> str:
@@ -195,16 +239,17 @@ class Store:
 
     def found(self) -> str:
         """The cut of the newest session that counts: `end`, a number, or `begin` for none."""
-        cuts = [name.partition(".")[2] for name in os.listdir(self.folder) if name.startswith("state.")]
-        if "end" in cuts:
-            return "end"
-        return max((cut for cut in cuts if re.fullmatch(r"-?\d+", cut)), key=int, default="begin")
+        cuts = [found[1] for found in map(STATE.fullmatch, os.listdir(self.folder)) if found]
+        return "end" if "end" in cuts else max(cuts, key=int, default="begin")
 
     def notes(self) -> Taken:
         if self.cut == "begin":
             return {"output": 0, "lines": 0, "inputs": {}}
-        with open(self.path("notes"), encoding="utf-8") as file:
-            found: Taken = json.load(file)
+        try:
+            with open(self.path("notes"), encoding="utf-8") as file:
+                found: Taken = json.load(file)
+        except ValueError as error:
+            raise Refused(f"{self.path('notes')}: what `tilt-data follow` wrote was expected: {error}") from error
         return found
 
     def bring_up(self) -> bytes:
@@ -213,17 +258,32 @@ class Store:
         if self.cut != "begin":
             with open(self.path("part"), "rb") as file:
                 part = file.read()
+            before = self.notes()["output"]
+            self.check_size(before, before + len(part))
             with open(self.output, "r+b" if os.path.exists(self.output) else "w+b") as out:
-                out.truncate(self.notes()["output"])
+                out.truncate(before)
                 out.seek(0, os.SEEK_END)
                 out.write(part)
                 out.flush()
                 os.fsync(out.fileno())
-        kept = {f"{kind}.{self.cut}" for kind in ("part", "notes", "state", "log")}
-        for name in os.listdir(self.folder):
-            if name.partition(".")[0] in ("part", "notes", "state", "log", "new", "rows") and name not in kept:
-                os.unlink(os.path.join(self.folder, name))
+            self.placed = before + len(part)
+        self.sweep()
         return part
+
+    def sweep(self) -> None:
+        """Takes away what sessions before the last one left."""
+        kept = {f"{kind}.{self.cut}" for kind in ("part", "notes", "state", "log")}
+        with os.scandir(self.folder) as entries:
+            for entry in entries:
+                if PASSING.fullmatch(entry.name) and entry.name not in kept and entry.is_file(follow_symlinks=False):
+                    os.unlink(entry.path)
+
+    def check_size(self, least: int, most: int) -> None:
+        """Refuses an output that isn't as it was left: what was taken from it would be filled up, and what was added cut off."""
+        size = self.size()
+        if not least <= size <= most:
+            raise Refused(f"{self.output}: it has {size} bytes, not {least if least == most else f'{least} to {most}'}: it was moved away or "
+                          "changed; put it back as it was")
 
     def logged(self) -> tuple[list[str], int]:
         """The whole lines that came since the last session, and how many bytes they are."""
@@ -242,6 +302,15 @@ class Store:
         self.log = open(self.path("log"), "ab", buffering=0)
         self.log.truncate(size)
 
+    def put_log(self, text: bytes) -> None:
+        """Writes all of it to the log, or is refused; the next call takes the whole lines that are there."""
+        rest = memoryview(text)
+        try:
+            while rest:
+                rest = rest[self.log.write(rest):]
+        except OSError as error:
+            raise Refused(f"{self.path('log')}: it can't be written: {error.strerror}") from error
+
     def new(self, kind: str) -> str:
         """A name that no other call has: the program may still be writing for one that was killed."""
         return self.path("new", f"{kind}.{os.getpid()}")
@@ -256,9 +325,10 @@ class Store:
 
     def commit(self, cut: str, notes: Taken) -> None:
         """Makes a session count: its part, its notes, and last its state take their names."""
+        self.check_size(self.placed, self.placed)
         new = self.new("notes")
         with open(new, "w", encoding="utf-8") as file:
-            json.dump({**notes, "output": self.size()}, file)
+            json.dump({**notes, "output": self.placed}, file)
         for path in (new, self.new("part")):
             sync(path)
         os.replace(self.new("part"), self.path("part", cut))
@@ -273,6 +343,12 @@ class Store:
 
     def size(self) -> int:
         return os.path.getsize(self.output) if os.path.exists(self.output) else 0
+
+
+def is_ours(names: list[str]) -> bool:
+    """Whether a folder with these names is empty, or was begun here; a call that was killed at its begin leaves the lock alone."""
+    begun = "query.tilt" in names and ("lock" in names or any(map(STATE.fullmatch, names)))
+    return begun or set(names) <= {"lock", "query.tilt.new"}
 
 
 def sync(path: str) -> None:
@@ -313,15 +389,20 @@ class Follower:
                 if file.read() != text:
                     raise Refused(f"{self.words.query}: it isn't the query that {self.words.state} was begun with: take another folder")
             return copy
-        with open(copy + ".new", "w", encoding="utf-8", newline="") as file:
-            file.write(text)
-        sync(copy + ".new")
-        os.replace(copy + ".new", copy)
+        new = copy + ".new"
+        try:
+            with open(new, "w", encoding="utf-8", newline="") as file:
+                file.write(text)
+            check_query(new, self.words.query)
+            sync(new)
+            os.replace(new, copy)
+        finally:
+            with contextlib.suppress(OSError):
+                os.unlink(new)
         return copy
 
     def sources_of(self) -> dict[str, Source]:
         """Each input of the query; those of the words whole."""
-        from .why import inputs_of
         sources = {name: Source([]) for name in inputs_of(self.query)}
         for word in self.words.fixed:
             name, _, path = word.partition("=")
@@ -403,15 +484,15 @@ class Follower:
         if cut != "end":
             self.store.open_log(0)
         if not self.words.quiet:
-            sys.stdout.buffer.write(part)
-            sys.stdout.flush()
+            with writing(None) as out:
+                out.write(part.decode("ascii"))
 
     def follow(self, number: int) -> None:
         """Takes what comes on a descriptor until its end."""
         passed = self.lines if self.words.again else 0
         every = duration_of(self.words.every) / 10**9
         due = time.monotonic() + every
-        for chunk in chunks(number, lambda: due):
+        for chunk in chunks(number, lambda: due, self.words.end):
             lines, passed = chunk[passed:], max(0, passed - len(chunk))
             while True:
                 most = len(lines) if self.words.rows is None else max(1, self.words.rows - self.fresh)
@@ -425,14 +506,23 @@ class Follower:
 
     def take_all(self, lines: list[bytes]) -> None:
         """Takes lines, which are written to the log first."""
-        self.store.log.write(b"".join(line + b"\n" for line in lines))
+        self.store.put_log(b"".join(line + b"\n" for line in lines))
         for line in lines:
             self.take(line.decode("utf-8", "replace"))
 
 
-def chunks(number: int, due: Any) -> Iterator[list[bytes]]:
-    """The whole lines that are there, without their ends; none when it is time for a session. A last line without an end is taken at the
-    end."""
+def check_query(copy: str, path: str) -> None:
+    """Refuses a query that the program doesn't take, before a folder is begun with it. What it says is told of the path."""
+    try:
+        sessions.call(["explain", copy], os.devnull)
+    except TiltError as error:
+        place = None if error.place is None else dataclasses.replace(error.place, file=path)
+        raise TiltError(error.line, error.status, place) from error
+
+
+def chunks(number: int, due: Any, ended: bool) -> Iterator[list[bytes]]:
+    """The whole lines that are there, without their ends; none when it is time for a session. A last line without an end may be a part of
+    one: it is taken only where the input is ended."""
     rest = b""
     while True:
         ready, _, _ = select.select([number], [], [], max(0.0, due() - time.monotonic()))
@@ -441,22 +531,34 @@ def chunks(number: int, due: Any) -> Iterator[list[bytes]]:
             continue
         text = os.read(number, 65536)
         if not text:
-            if rest:
+            if rest and ended:
                 yield [rest.rstrip(b"\r")]
+            elif rest:
+                told(f"the last line has no end, and isn't taken without --end: {rest.decode('utf-8', 'replace')}")
             return
         *lines, rest = (rest + text).split(b"\n")
         yield [line.rstrip(b"\r") for line in lines]
 
 
 def main(words: argparse.Namespace) -> int:
-    if words.rows is not None and words.rows < 1:
-        raise Refused("--rows: 1 or more was expected")
+    for name in ("rows", "scale"):
+        if getattr(words, name) is not None and getattr(words, name) < 1:
+            raise Refused(f"--{name}: 1 or more was expected")
+    try:
+        follow(words)
+    except BrokenPipeError:
+        raise
+    except OSError as error:
+        raise Refused(f"{error.filename or words.state}: {error.strerror or error}") from error
+    return 0
+
+
+def follow(words: argparse.Namespace) -> None:
     follower = Follower(words)
     if not follower.begin():
         told(f"{words.state} was ended before: {follower.store.output} has all")
-        return 0
+        return
     follower.follow(sys.stdin.fileno())
     follower.session()
     if words.end:
         follower.end()
-    return 0
