@@ -129,7 +129,7 @@ def test_the_farthest_offsets():
     assert Moments().read("0001-01-01T00:00:00-01:00") == Moments().read("0001-01-01T01:00:00Z")
 
 
-@pytest.mark.parametrize("text", ["1e5000", "9" * 5000, "-1e60"])
+@pytest.mark.parametrize("text", ["1e5000", pytest.param("9" * 5000, id="5000 digits"), "-1e60"])
 def test_numbers_beyond_all_ticks_are_no_times(told, text):
     assert "is no time" in refused(told, f"time,temp\n{text},1\n", "--tick", "1s", "--unit", "s")
 

@@ -187,6 +187,8 @@ def test_an_output_that_has_no_room_is_told(told, tmp_path):
     put("x", "0,5,7\n", scale=1)
     done = call("tilt-data table x.csv > /dev/full", tmp_path)
     assert (done.returncode, done.stderr) == (1, "tilt-data: standard output: it can't be written: No space left on device\n")
+    done = call("tilt-data table x.csv >&-", tmp_path)
+    assert (done.returncode, done.stderr) == (1, "tilt-data: standard output: it can't be written: it is closed\n")
 
 
 def test_a_device_is_written_as_it_stands(told, tmp_path):

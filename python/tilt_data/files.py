@@ -223,6 +223,8 @@ def same_file(path: str, source: str) -> bool:
 @contextlib.contextmanager
 def writing(path: str | None) -> Iterator[IO[str]]:
     """A text that is written to standard output, or beside a file whose place it takes at the end."""
+    if path is None and sys.stdout is None:
+        raise Refused("standard output: it can't be written: it is closed")
     out: contextlib.AbstractContextManager[IO[str]] = contextlib.nullcontext(sys.stdout) if path is None else replaced(path)
     try:
         with out as file:
