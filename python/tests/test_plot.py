@@ -169,3 +169,13 @@ def test_what_is_refused(told, words, what):
     pathlib.Path("bad.csv").write_text("start,end,value\n0,5\n")
     status, out, err = told("plot", *words)
     assert (status, out) == (1, "") and err.startswith(f"tilt-data: {what}") and not os.path.exists("a.svg")
+
+
+def test_a_link_stays_and_the_picture_it_leads_to_is_replaced(told):
+    pytest.importorskip("matplotlib")
+    put("x", "0,5,7\n")
+    os.mkdir("far")
+    os.symlink("far/real.svg", "x.svg")
+    assert told("plot", "x.svg", "x=x.csv")[0] == 0
+    assert os.readlink("x.svg") == "far/real.svg" and pathlib.Path("far/real.svg").read_text().startswith("<?xml")
+    assert os.listdir("far") == ["real.svg"]

@@ -72,3 +72,12 @@ def test_what_is_refused(told, words, what):
     pathlib.Path("x.json").write_text(Notes(Clock(10**9, 0)).text())
     status, out, err = told("ticks", *words)
     assert (status, out) == (1, "") and what in err and not pathlib.Path("out.csv").exists()
+
+
+def test_the_series_of_like_is_not_written_over(told):
+    made(told, "each", "--from", "0", "--to", "5")
+    for out in ("x.csv", "./x.csv"):
+        status, shown, err = told("ticks", "each", out, "--like", "x.csv", "--from", "0", "--to", "5")
+        assert (status, shown) == (1, "")
+        assert err == f"tilt-data: {out}: it is the series of --like, and would be written over: name another file\n"
+    assert pathlib.Path("x.csv").read_text() == "start,end,value\n"

@@ -7,6 +7,7 @@ import dataclasses
 import io
 import json
 import os
+import re
 import shutil
 import sys
 import tempfile
@@ -20,6 +21,8 @@ Row = tuple[int, int, "int | None"]
 HEADER = ["start", "end", "value"]
 # How the name of a file ends that has no name of its own yet.
 PLACED = ".tilt-data-new"
+# The folders of the files that a process was handed open.
+HANDED = re.compile(r"/proc/[0-9]+(/task/[0-9]+)?/fd", re.ASCII)
 
 
 @contextlib.contextmanager
@@ -179,9 +182,8 @@ def followed(path: str) -> str:
 
 
 def is_handed(path: str) -> bool:
-    """Whether it is the path of a descriptor."""
-    folder = os.path.realpath(os.path.dirname(path) or ".")
-    return folder.startswith(("/proc/", "/dev/")) and os.path.basename(folder) == "fd"
+    """Whether it is the path of a descriptor: one of /dev/fd, which leads to the folder `fd` of a process in /proc, or of such a folder."""
+    return HANDED.fullmatch(os.path.realpath(os.path.dirname(path) or ".")) is not None
 
 
 def new_of(path: str) -> str:

@@ -10,7 +10,7 @@ from typing import Any, Iterable, Iterator
 
 from .clock import DAY, EPOCH, Clock, Moments, moment_text, zone_of
 from .errors import Refused
-from .files import Notes, Row, beside, notes_of, reading, rows_of
+from .files import Notes, Row, notes_of, reading, rows_of, taking
 from .progress import shown
 
 HELP = """Draws series and outputs. NAME=FILE has a panel of its own, and after it +NAME=FILE is drawn into the same panel,
@@ -318,13 +318,9 @@ def main(words: argparse.Namespace) -> int:
     except ImportError as error:
         raise Refused("matplotlib isn't there: apt-get install python3-matplotlib, or pip install matplotlib") from error
     figure = draw(words, panels_of(words))
-    new = beside(words.out)
     try:
-        figure.savefig(new, format=form, metadata={"Date": None} if form == "svg" else {})
-        os.replace(new, words.out)
+        with taking(words.out) as new:
+            figure.savefig(new, format=form, metadata={"Date": None} if form == "svg" else {})
     except OSError as error:
         raise Refused(f"{words.out}: it can't be written: {error.strerror}") from error
-    finally:
-        if os.path.exists(new):
-            os.unlink(new)
     return 0

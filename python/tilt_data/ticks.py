@@ -9,7 +9,7 @@ from typing import Any, Iterator
 from .clock import Clock, Moments, duration_of, moment_text, zone_of
 from .convert import row_text
 from .errors import Refused
-from .files import Notes, Outputs, Row, notes_of, notes_path
+from .files import Notes, Outputs, Row, notes_of, notes_path, same_file
 from .progress import shown
 
 HELP = """Writes a helper series, with its JSON file beside, on the clock of the series that --like names. KIND is one of these:
@@ -42,6 +42,8 @@ def main(words: argparse.Namespace) -> int:
     notes = notes_of(words.like)
     if notes is None:
         raise Refused(f"{words.like}: there is no {notes_path(words.like)} beside it; `tilt-data series` writes one")
+    if same_file(words.out, words.like) or same_file(notes_path(words.out), notes_path(words.like)):
+        raise Refused(f"{words.out}: it is the series of --like, and would be written over: name another file")
     clock = notes.clock
     lo, hi = (tick_of(text, clock, words.zone) for text in (words.begin, words.end))
     if lo >= hi:
