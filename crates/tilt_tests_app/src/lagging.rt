@@ -40,7 +40,7 @@ const AT_8_AND_5: &[u8] =
 const AT_5: &[u8] =
     b"tilt checkpoint 2\nquery 3\ninput x;\ninput y;\nemit x + y over (0, 10];\ncut 5\nopen 4\ncut 5 last 6 rows 1\n0,6,1\ncut 5 last 12 rows 1\n4,12,20\nend\n";
 
-const BEHIND: &[u8] =
+const LAGGING: &[u8] =
     b"tilt checkpoint 2\nquery 3\ninput x;\ninput y;\nemit x + y over (0, 10];\ncut -9\nopen none\ncut 100 last 9 rows 2\n0,6,1\n6,9,2\ncut -9 last none rows 0\nend\n";
 
 const CAUGHT_UP: &[u8] =
@@ -296,7 +296,7 @@ const CHAINS: &[Chain<'_>] = &[
                 0,
                 NONE,
                 b"",
-                BEHIND,
+                LAGGING,
             ),
             // A row of x before its own cut, though after that of y.
             (
@@ -306,7 +306,7 @@ const CHAINS: &[Chain<'_>] = &[
                 1,
                 b"",
                 b"tilt: 16 series x: before the cut in row 1\n",
-                BEHIND,
+                LAGGING,
             ),
             (
                 "resume\nc\nx=s\ny=t\n--upto\nx=100,y=9\n--save\nc",

@@ -253,8 +253,8 @@ fn cuts_outside_and_parts_that_are_none_are_refused(rt: HostRuntime) -> Result<(
 
 const FAULT: &[u8] = b"tilt: 5 write fault\n";
 
-// The numbers of calls of the output that fail, and the prefix that is put then. The calls are the header, five lines, `parts`, a blank and
-// a number for each part, LF, and the flush.
+// The numbers of calls of the output that fail, and the prefix that is put then. The calls are the header, five lines, `parts`, a blank
+// and a number for each part, LF, and the flush.
 const PREFIXES: &[(u64, &[u8])] = &[
     (1, b"start,en"),
     (

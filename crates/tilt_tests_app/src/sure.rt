@@ -45,8 +45,8 @@ fn runs(command: &Command) -> bool
     matches!(command, Command::Run { .. })
 }
 
-// Where the words are `run` and it is done over a shelf and a sink that may fail: what a sink got that has room for exactly that text, over
-// a shelf that holds the same, and never fails. `None` where a call isn't done.
+// Where the words are `run` and it is done over a shelf and a sink that may fail: what a sink got that has room for exactly that text,
+// over a shelf that holds the same, and never fails. `None` where a call isn't done.
 fn run_again(alloc: Global, words: &[String]) -> Result<Option<SureSink>, Fail> {
     let command = read_words(alloc, words)?;
     if !runs(&command) {

@@ -2,12 +2,13 @@
 use crate::table::{Shown, assert_shown};
 use std::alloc::Global;
 use std::test::Fail;
+use tilt_base::Span;
 use tilt_core::Core;
 use tilt_testing::{name_text, query_of};
 use tilt_types::check;
 
-// The names of the inputs, and then each definition: its expression, its period where that isn't 1, and its offset where
-// that isn't 0.
+// The names of the inputs, and then each definition: its expression, its span where it has one, its period where that isn't 1, and
+// its offset where that isn't 0.
 fn show(alloc: Global, core: &Core) -> Result<String, Fail> {
     let mut shown = String::new(alloc);
     for name in core.inputs() {
@@ -17,6 +18,10 @@ fn show(alloc: Global, core: &Core) -> Result<String, Fail> {
     for def in core.defs() {
         let body = format!(in alloc; "{:?}; ", def.body)?;
         shown.push_str(body.as_str())?;
+        if let Some(Span { start, end }) = def.over {
+            let over = format!(in alloc; "over {start} {end}; ")?;
+            shown.push_str(over.as_str())?;
+        }
         let (period, offset) = (def.grid.period, def.grid.offset);
         if period != 1 {
             let every = format!(in alloc; "every {period}; ")?;
@@ -45,73 +50,73 @@ impl Shown for Checked {
 
 const CORES: &[(&str, &str)] = &[
     // A constant alone.
-    ("emit 1 over (0, 5];", "Const(1); "),
+    ("emit 1 over (0, 5];", "Const(1); over 0 5; "),
     // Truth values become 1 and 0.
     (
         "emit if true and not false then 1 else 2 over (0, 5];",
-        "If(Two(And, Const(1), One(Not, Const(0))), Const(1), Const(2)); ",
+        "If(Two(And, Const(1), One(Not, Const(0))), Const(1), Const(2)); over 0 5; ",
     ),
     // An input after a definition still has a number below it.
     (
         "input x; let y = x[t-2]; input z; emit y - z over (0, 5];",
         "x; z; Read { source: 0, offset: -2 }; \
-         Two(Sub, Read { source: 2, offset: 0 }, Read { source: 1, offset: 0 }); ",
+         Two(Sub, Read { source: 2, offset: 0 }, Read { source: 1, offset: 0 }); over 0 5; ",
     ),
     // A definition that isn't used stays.
     (
         "input x; let a = x every 7; let b = 1; emit x over (-10, 10] every 5;",
         "x; Read { source: 0, offset: 0 }; every 7; Const(1); \
-         Read { source: 0, offset: 0 }; every 5; ",
+         Read { source: 0, offset: 0 }; over -10 10; every 5; ",
     ),
     // Windows, and types that fit.
     (
         "input x; let p = x > 3; emit if any(p[t-2:t]) then 1 else 0 over (0, 5];",
         "x; Two(Gt, Read { source: 0, offset: 0 }, Const(3)); \
-         If(Reduce { reducer: Any, source: 1, from: -2, to: 0 }, Const(1), Const(0)); ",
+         If(Reduce { reducer: Any, source: 1, from: -2, to: 0 }, Const(1), Const(0)); over 0 5; ",
     ),
     (
         "input x; let p = x > 3; emit count(p[t-2:t]) over (0, 5];",
         "x; Two(Gt, Read { source: 0, offset: 0 }, Const(3)); \
-         Reduce { reducer: Count, source: 1, from: -2, to: 0 }; ",
+         Reduce { reducer: Count, source: 1, from: -2, to: 0 }; over 0 5; ",
     ),
     (
         "input x; let p = x > 3; emit if p == first(p[t-1:t+1]) then 1 else 0 over (0, 5];",
         "x; Two(Gt, Read { source: 0, offset: 0 }, Const(3)); \
          If(Two(Eq, Read { source: 1, offset: 0 }, Reduce { reducer: First, source: 1, from: -1, to: 1 }), \
-         Const(1), Const(0)); ",
+         Const(1), Const(0)); over 0 5; ",
     ),
     (
         "input x; let p = ifnull(x > 3 when isnull(x), false); emit x when p over (0, 5];",
         "x; Two(IfNull, Two(When, Two(Gt, Read { source: 0, offset: 0 }, Const(3)), \
          One(IsNull, Read { source: 0, offset: 0 })), Const(0)); \
-         Two(When, Read { source: 0, offset: 0 }, Read { source: 1, offset: 0 }); ",
+         Two(When, Read { source: 0, offset: 0 }, Read { source: 1, offset: 0 }); over 0 5; ",
     ),
     // The greatest period, and the widest span.
     (
         "emit 1 over (0, 1000000000001] every 1000000000001;",
-        "Const(1); every 1000000000001; ",
+        "Const(1); over 0 1000000000001; every 1000000000001; ",
     ),
     (
         "emit 1 over (-4000000000000000000, 4000000000000000000];",
-        "Const(1); ",
+        "Const(1); over -4000000000000000000 4000000000000000000; ",
     ),
     // Grids with an offset, up to the greatest, and bounds on them at and below 0.
     (
         "let a = 1 every 2 from 1; emit 1 over (-3, 12] every 5 from 2;",
-        "Const(1); every 2; from 1; Const(1); every 5; from 2; ",
+        "Const(1); every 2; from 1; Const(1); over -3 12; every 5; from 2; ",
     ),
     (
         "let a = 1 every 5 from 0; emit 1 over (0, 5] every 1 from 0;",
-        "Const(1); every 5; Const(1); ",
+        "Const(1); every 5; Const(1); over 0 5; ",
     ),
     (
         "emit 1 over (-1, 1000000000000] every 1000000000001 from 1000000000000;",
-        "Const(1); every 1000000000001; from 1000000000000; ",
+        "Const(1); over -1 1000000000000; every 1000000000001; from 1000000000000; ",
     ),
     // Bounds that are grid points of one definition, and not of the one that reads it.
     (
         "let a = 1 over (1, 9] every 4 from 1; emit a over (3, 11] every 4 from 3;",
-        "Const(1); every 4; from 1; Read { source: 0, offset: 0 }; every 4; from 3; ",
+        "Const(1); over 1 9; every 4; from 1; Read { source: 0, offset: 0 }; over 3 11; every 4; from 3; ",
     ),
 ];
 

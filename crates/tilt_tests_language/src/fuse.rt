@@ -47,6 +47,7 @@ const MERGED: &[(&str, &str)] = &[
 // The loops of a query's text.
 fn loops_of(alloc: Global, text: &str, fuse: bool) -> Result<LoopList, Fail> {
     let core = core_of(alloc, text)?;
+    // A plan is asked only of a query that doesn't look too far.
     let _ = reach(alloc, &core)?;
     Ok(plan(alloc, &core, fuse)?)
 }

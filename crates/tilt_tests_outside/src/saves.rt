@@ -97,6 +97,9 @@ fn each_failing_call_leaves_the_old_or_the_new_bytes(rt: HostRuntime) -> Result<
         assert_eq!(rt; names_in(&rt, "saves_failing")?, 1, "call {call}");
     }
     assert!(rt; failed > 10, "{failed}");
+    // No save comes so far.
+    let is_failed = fails_whole(&rt, &rt, name, ErrorKind::StorageFull, CALLS, u32::MAX)?;
+    assert!(rt; !is_failed, "a save makes {CALLS} calls or more");
     fs::remove_dir_all(&rt, "saves_failing")?;
     Ok(())
 }

@@ -48,6 +48,27 @@ const REFUSED: &[(&str, SeriesFault)] = &[
         "start,end,value\n0,2,1\n2,4,1\n3,5,1\n3,3\n",
         SeriesFault::OutOfOrder { row: 3 },
     ),
+    // A time below all others, and the first of several faults of one row.
+    (
+        "start,end,value\n-4000000000000000001,0,1\n",
+        SeriesFault::TimeRange { row: 1 },
+    ),
+    (
+        "start,end,value\n4000000000000000001,0,x\n",
+        SeriesFault::BadField { row: 1, field: 3 },
+    ),
+    (
+        "start,end,value\n4000000000000000001,0,1\n",
+        SeriesFault::TimeRange { row: 1 },
+    ),
+    (
+        "start,end,value\n0,2,1\n1,4000000000000000001,1\n",
+        SeriesFault::TimeRange { row: 2 },
+    ),
+    (
+        "start,end,value\n0,2,1\n1,1,1\n",
+        SeriesFault::EmptyInterval { row: 2 },
+    ),
 ];
 
 #[test]
@@ -130,7 +151,7 @@ fn a_record_is_what_csv_takes_for_one(rt: HostRuntime) -> Result<(), Fail> {
 
 #[test]
 fn the_text_of_snapshots_is_put_line_by_line(rt: HostRuntime) -> Result<(), Fail> {
-    let text = "start,end,value\n-3,0,-1\n0,5,7\n5,6,7\n8,9,\n";
+    let text = "start,end,value\n-4000000000000000000,0,-1\n0,5,7\n5,6,7\n8,4000000000000000000,\n";
     let rows: Rows = read_rows(rt.alloc(), text.as_bytes(), None, None, None)?;
     let list = SnapList::from_rows(rt.alloc(), &rows)?;
     let mut sink = MemSink::new(rt.alloc(), 100)?;
@@ -138,7 +159,7 @@ fn the_text_of_snapshots_is_put_line_by_line(rt: HostRuntime) -> Result<(), Fail
     put_rows(&mut sink, &list)?;
     assert_eq!(rt;
         sink.written(),
-        b"start,end,value\n-3,0,-1\n0,5,7\n5,6,7\n".as_slice()
+        b"start,end,value\n-4000000000000000000,0,-1\n0,5,7\n5,6,7\n".as_slice()
     );
     Ok(())
 }

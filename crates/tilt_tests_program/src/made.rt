@@ -24,7 +24,7 @@ fn one_row_each_from_seed_1(rt: HostRuntime) -> Result<(), Fail> {
     Ok(())
 }
 
-// A run of one row each.
+// Snapshots as of a run of one row each, and a null one, which isn't counted.
 const RUN: &[Piece] = &[
     (0, 1, Some(0)),
     (1, 2, Some(625)),

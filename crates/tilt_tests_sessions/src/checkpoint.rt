@@ -137,7 +137,8 @@ const TWO_TAKEN: &[&str] = &[
     // The second input is the one ahead, and the same cut for both.
     "cut 5\nopen 4\ncut 5 last 6 rows 1\n0,6,1\ncut 7 last 12 rows 1\n6,12,20\nend\n",
     "cut 5\nopen 4\ncut 5 last 6 rows 1\n0,6,1\ncut 5 last none rows 0\nend\n",
-    // One input that ends long before the other: nothing is decided, and all rows of the other are kept that end at the first tick or later.
+    // One input that ends long before the other: nothing is decided, and all rows of the other are kept that end at the first tick or
+    // later.
     "cut -9\nopen none\ncut -9 last none rows 0\ncut 20 last 20 rows 2\n0,1,3\n1,20,4\nend\n",
     // Cuts at both ends of time.
     "cut -4000000000000000000\nopen none\ncut -4000000000000000000 last none rows 0\n\
@@ -184,9 +185,9 @@ const MIXED: &[&str] = &[
 // A text of the first version in the second: each input has the cut of all.
 fn in_second_version(alloc: Global, text: &str) -> Result<String, Fail> {
     let (_, rest) = text.split_once('\n').ok_or("no line")?;
-    let (front, moment) = rest.split_once("cut ").ok_or("no cut")?;
+    let (begin, moment) = rest.split_once("cut ").ok_or("no cut")?;
     let (cut, lines) = moment.split_once('\n').ok_or("no line of the cut")?;
-    let mut second = format!(in alloc; "tilt checkpoint 2\n{front}cut {cut}\n")?;
+    let mut second = format!(in alloc; "tilt checkpoint 2\n{begin}cut {cut}\n")?;
     for line in lines.lines() {
         let line = if line.starts_with("last ") {
             format!(in alloc; "cut {cut} {line}\n")?
@@ -200,8 +201,8 @@ fn in_second_version(alloc: Global, text: &str) -> Result<String, Fail> {
 
 // The text of `AMID` up to its query, and these lines.
 fn with_lines(alloc: Global, lines: &str) -> Result<String, Fail> {
-    let (front, _) = AMID.split_once("cut").ok_or("no cut")?;
-    Ok(format!(in alloc; "{front}{lines}")?)
+    let (begin, _) = AMID.split_once("cut").ok_or("no cut")?;
+    Ok(format!(in alloc; "{begin}{lines}")?)
 }
 
 // The text gives a checkpoint that is written so.
@@ -279,7 +280,7 @@ fn other_bytes_are_refused(rt: HostRuntime) -> Result<(), Fail> {
 }
 
 #[test]
-fn every_front_is_refused(rt: HostRuntime) -> Result<(), Fail> {
+fn every_prefix_is_refused(rt: HostRuntime) -> Result<(), Fail> {
     let alloc = rt.alloc();
     let two = TWO_TAKEN[0];
     let second = format!(in alloc; "{TWO}{two}")?;
