@@ -17,8 +17,8 @@ save_of (Some save) = Some (record { name = save.name.now; bytes = save.bytes.it
 abbrev pub comes_to : List Watch → Answered → Outcome
 comes_to watchers answer = outcome_of (printed_text watchers answer.printed) (save_of answer.save)
 
--- an answer of a command, by when that puts each snapshot before it makes the next one, shows snapshots to the watchers, and saves: it does
--- each exactly then, and a pipe has given out nothing so far
+-- an answer of a command, by when its text is that of a pipe, when it shows snapshots to the watchers, and when it saves: each is so exactly
+-- then, and a pipe has given out nothing so far
 pub record Fits (streams shows saves : Type 0) (answer : Answered) : Type 0 where
   pub fresh : IsFresh answer.printed
   pub streamed : IsStreamed answer.printed ↔ streams

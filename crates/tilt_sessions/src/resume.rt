@@ -37,7 +37,7 @@ use tilt_words::Bind;
 /// to be saved; where no cut is given, the session goes on to the last row, and nothing is saved. Each row of an input starts at its
 /// cut of the checkpoint or after it, not before the last row ended, and before its new cut. Whether the cuts are given to the inputs,
 /// and then whether one falls, is tested before the input names are. All memory is taken here. `beyond` says that sessions print
-/// together, and leave, what one session does on all rows, and `good` that what a session leaves is never refused.
+/// together, and leave, what one session does on all rows, and `good` that what a session leaves is never refused as none.
 pub fn resume_session<'a, S: Shelf>(
     alloc: Global,
     shelf: &mut S,
