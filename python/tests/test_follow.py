@@ -248,7 +248,7 @@ def test_a_folder_that_it_did_not_begin_is_left_as_it_is(tmp_path, names):
 def test_a_folder_that_is_empty_or_was_begun_is_taken(tilt, tmp_path):
     lines, wanted = lay_out(tmp_path)
     (tmp_path / "s").mkdir()
-    # So a call that is killed at its begin leaves it.
+    # So a call that is killed at its beginning leaves it.
     (tmp_path / "s" / "lock").write_text("")
     (tmp_path / "s" / "query.tilt.new").write_text("input")
     given = "".join(line + "\n" for line in lines).encode()

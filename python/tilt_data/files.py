@@ -105,7 +105,7 @@ def spooled(path: str, folder: str) -> str:
 
 
 def safe(text: str) -> str:
-    """A text as the name of a file or a folder: signs outside ASCII, those that no such name has, and a point at the begin, which would
+    """A text as the name of a file or a folder: signs outside ASCII, those that no such name has, and a point at the beginning, which would
     hide it, are written as %XX. `urllib.parse.unquote` gives the text back."""
     quoted = urllib.parse.quote(text, safe=" +,=@()")
     return "%2E" + quoted[1:] if quoted.startswith(".") else quoted

@@ -346,7 +346,7 @@ class Store:
 
 
 def is_ours(names: list[str]) -> bool:
-    """Whether a folder with these names is empty, or was begun here; a call that was killed at its begin leaves the lock alone."""
+    """Whether a folder with these names is empty, or was begun here; a call that was killed at its beginning leaves the lock alone."""
     begun = "query.tilt" in names and ("lock" in names or any(map(STATE.fullmatch, names)))
     return begun or set(names) <= {"lock", "query.tilt.new"}
 
