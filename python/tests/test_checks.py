@@ -135,3 +135,31 @@ def test_a_page_that_has_what_the_program_prints_is_held_to_its_meaning(check, t
     examples.check_page(tally, page)
     assert (tally.passed, tally.failed, tally.evaluated, tally.others) == (2 - failed, failed, 1, 0)
     assert ("by tools/evaluate" in capsys.readouterr().out) == bool(failed)
+
+
+NOT_RUN = "a command that isn't run: "
+
+
+@pytest.mark.parametrize(("page", "found"), [
+    ("Run:\n\n    tilt run q x=x.csv\n", [(3, NOT_RUN + "tilt run q x=x.csv")]),
+    ("Run:\n\n    TILT=/bin/tilt tilt-data follow q\n", [(3, NOT_RUN + "TILT=/bin/tilt tilt-data follow q")]),
+    ("Run:\n\n        ./make data\n", [(3, NOT_RUN + "./make data")]),
+    ("```text\nfirst\n$ tilt\n```\n", [(3, NOT_RUN + "$ tilt")]),
+    ("```rust\n/usr/bin/tilt\n```\n", [(2, NOT_RUN + "/usr/bin/tilt")]),
+    ("Run this:\n\n```sh\npip install .\n```\n", [(3, "the line before this block doesn't say `not run by the tests`")]),
+    ("Not run by the tests.\n\nNow:\n\n```sh\nls\n```\n", [(5, "the line before this block doesn't say `not run by the tests`")]),
+    ("```\nx\n```\n", [(1, "the fence isn't `console`, `file NAME`, `sh` or one of text, rust")]),
+    ("```bash\nx\n```\n", [(1, "the fence isn't `console`, `file NAME`, `sh` or one of text, rust")]),
+    ("Not run by the tests:\n\n```sh\npip install .\n```\n", []),
+    ("It is `s.sh`:\n\n```file s.sh\ntilt run q\n```\n\n```console\n$ sh s.sh\n    tilt run\n```\n", []),
+    ("A listing:\n\n    tilt 1\n    input x\n    tilt checkpoint 2\n    cut 5\n    from NAME ;\n", []),
+    ("Call `tilt run`; for a query:\n  tilt run\n", []),
+])
+def test_a_page_shows_no_command_that_is_neither_run_nor_marked(check, page, found):
+    assert list(check("check_examples").hidden_commands(page.split("\n"))) == found
+
+
+def test_a_page_that_isnt_there_is_no_check(check, monkeypatch, capsys):
+    monkeypatch.setattr(sys, "argv", ["check_examples", str(TOP / "docs" / "NONE.md")])
+    assert check("check_examples").main() == 2
+    assert capsys.readouterr().err == "check_examples: no such page: docs/NONE.md\n"

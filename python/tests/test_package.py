@@ -1,4 +1,5 @@
-"""The package of Debian: it is installed into a fresh root, and the first example is run with it, with no toolchain on the path."""
+"""The two ways to install: the Debian package in a fresh root, and tools/install in a fresh folder. The first example and the tutorial's last
+command run with what was installed, with no toolchain on the path."""
 from __future__ import annotations
 
 import os
@@ -107,3 +108,60 @@ def test_it_goes_away_again(root):
     done = subprocess.run(words, capture_output=True, text=True)
     assert done.returncode == 0, done.stderr
     assert not os.path.lexists(root / "usr/bin/tilt") and not (root / "usr/bin/tilt-stream").exists()
+
+
+@pytest.fixture(scope="module")
+def prefix(tmp_path_factory: pytest.TempPathFactory) -> pathlib.Path:
+    """A fresh folder that tools/install was called with."""
+    if not os.access(TOP / "crates" / "tilt" / "out" / "tilt", os.X_OK):
+        pytest.skip("the program isn't built")
+    folder = tmp_path_factory.mktemp("prefix")
+    done = install(folder)
+    assert done.returncode == 0, done.stderr
+    return folder
+
+
+def install(folder: pathlib.Path) -> subprocess.CompletedProcess[str]:
+    return subprocess.run([str(TOP / "tools" / "install"), str(folder)], capture_output=True, text=True)
+
+
+def call_installed(prefix: pathlib.Path, command: str, folder: pathlib.Path) -> str:
+    """What a command of the shell prints on both streams, with the folder's `bin` and the system's own programs alone on the path."""
+    environment = {"PATH": f"{prefix}/bin:/usr/bin:/bin", "PYTHONDONTWRITEBYTECODE": "1", "LC_ALL": "C.UTF-8"}
+    for name in ("tilt", "tilt-data"):
+        assert shutil.which(name, path=environment["PATH"]) == f"{prefix}/bin/{name}"
+    done = subprocess.run(["sh", "-c", command], cwd=folder, env=environment, capture_output=True, text=True)
+    return done.stdout + done.stderr
+
+
+def test_the_tutorials_last_command_runs_after_tools_install(prefix, tmp_path):
+    page = (TOP / "docs" / "TUTORIAL.md").read_text()
+    for name, content in re.findall(r"^```file (\S+)\n(.*?)^```$", page, re.M | re.S):
+        (tmp_path / name).write_text(content)
+    command, printed = re.findall(r"^\$ (.*)\n((?:(?!\$ |```|\[status ).*\n)*)", page, re.M)[-1]
+    assert command.startswith("tilt-data ") and printed.count("\n") > 3
+    assert call_installed(prefix, command, tmp_path) == printed
+
+
+def test_tools_install_brings_pages_and_completion(prefix):
+    for name in ("tilt", "tilt-data"):
+        assert (prefix / "share/man/man1" / f"{name}.1").read_bytes() == (TOP / "docs" / f"{name}.1").read_bytes()
+        completion = (prefix / "share/bash-completion/completions" / name).read_text()
+        assert re.search(rf"^complete .* {name}( |$)", completion, re.M)
+
+
+def test_tools_install_replaces_an_earlier_version_as_a_whole(prefix, tmp_path):
+    old = prefix / "lib" / "tilt-data" / "tilt_data" / "gone.py"
+    old.write_text("raise SystemExit(9)\n")
+    assert install(prefix).returncode == 0
+    assert not old.exists() and os.listdir(prefix / "lib") == ["tilt-data"]
+    assert call_installed(prefix, "tilt-data why /dev/null", tmp_path).startswith("tilt: ")
+
+
+def test_tools_install_says_what_it_cant_write(tmp_path):
+    if not os.access(TOP / "crates" / "tilt" / "out" / "tilt", os.X_OK):
+        pytest.skip("the program isn't built")
+    (tmp_path / "file").write_text("")
+    done = install(tmp_path / "file")
+    assert done.returncode == 1 and done.stdout == ""
+    assert done.stderr.splitlines()[-1] == f"install: {tmp_path}/file/bin/tilt can't be written: is {tmp_path}/file yours to write?"
