@@ -1,13 +1,15 @@
-"""The two ways to install: the Debian package in a fresh root, and tools/install in a fresh folder. The first example and the tutorial's last
-command run with what was installed, with no toolchain on the path."""
+"""The ways to install: the Debian package in a fresh root, tools/install in a fresh folder, and pip in a virtual environment. The first example
+and the tutorial's last command run with what was installed, with no toolchain on the path."""
 from __future__ import annotations
 
+import importlib.util
 import os
 import pathlib
 import re
 import shlex
 import shutil
 import subprocess
+import sys
 
 import pytest
 from conftest import TOP
@@ -165,3 +167,20 @@ def test_tools_install_says_what_it_cant_write(tmp_path):
     done = install(tmp_path / "file")
     assert done.returncode == 1 and done.stdout == ""
     assert done.stderr.splitlines()[-1] == f"install: {tmp_path}/file/bin/tilt can't be written: is {tmp_path}/file yours to write?"
+
+
+def test_the_way_of_the_page_installs_by_pip_without_a_network(tilt, tmp_path):
+    for module in ("ensurepip", "setuptools", "wheel", "pandas", "matplotlib"):
+        if importlib.util.find_spec(module) is None:
+            pytest.skip(f"{module} is missing")
+    page = (TOP / "docs" / "INSTALL.md").read_text()
+    make, arguments = re.findall(r"^(python3 -m venv --system-site-packages) .*\n\S+/pip (install --no-build-isolation .*)$", page, re.M)[0]
+    shutil.copytree(TOP / "python", tmp_path / "python", ignore=shutil.ignore_patterns("tests", "build", "*.egg-info", "__pycache__"))
+    environment = {"PATH": "/usr/bin:/bin", "HOME": str(tmp_path), "TILT": tilt, "PYTHONDONTWRITEBYTECODE": "1"}
+    first = TOP / "examples" / "first"
+    for words in ([sys.executable, *shlex.split(make)[1:], "venv"], ["venv/bin/pip", *shlex.split(arguments), "--no-index"],
+                  ["venv/bin/python", "-c", "import tilt_data, matplotlib; assert tilt_data.__file__.startswith(__import__('sys').prefix)"],
+                  ["venv/bin/tilt-data", "run", str(first / "query.tilt"), f"x={first}/x.csv"]):
+        done = subprocess.run(words, cwd=tmp_path, env=environment, capture_output=True, text=True)
+        assert done.returncode == 0, done.stdout + done.stderr
+    assert done.stdout == "start,end,value\n0,5,7\n6,8,9\n"
