@@ -13,6 +13,7 @@ pub mod Reading
 pub mod Spans
 pub mod StepLists
 pub mod Taken
+pub mod Trimmed
 pub mod Unique
 pub mod Worked
 pub mod Written

@@ -1,11 +1,10 @@
 -- How the steps of a pipeline are read, over plain tokens.
-use Rattle.std.proofs.Common.{◌≡◌, ◌≢◌, ℕ, ℤ, pos, ◌≤ℤ◌, true, false, List, [], ◌∷◌, ◌++◌, length, codes, Option, Some, None, MatchOption, refl, sym, ap, ◌∙◌, arith, length-append}
+use Rattle.std.proofs.Common.{◌≡◌, ◌≢◌, ℕ, ℤ, pos, ◌≤ℤ◌, true, false, List, [], ◌∷◌, ◌++◌, length, codes, Option, Some, None, MatchOption, refl, sym, ap, ◌∙◌, subst, arith, length-append}
 use Rattle.std.specs.Str.{bytes_eq}
 use Rattle.std.proofs.lemmas.Bool.{false≢true}
 use Rattle.tilt_base.proofs.Comparisons.{same_bytes}
 use Rattle.tilt_base.specs.declared.reducer.Reducer.{Reducer}
 use Rattle.tilt_base.specs.declared.span.Span.{Span}
-use Rattle.tilt_lexer.specs.Tokens.{AreTokens}
 use Rattle.tilt_lexer.specs.declared.key.Key.TheVariants as key
 use Rattle.tilt_lexer.specs.declared.mark.Mark.TheVariants as mark
 use Rattle.tilt_lexer.specs.declared.token.Tok.{Tok}
@@ -13,6 +12,7 @@ use Rattle.tilt_lexer.specs.declared.token.Tok.TheVariants.{Word, Number, Key as
 use Rattle.tilt_syntax.specs.Grammar.{IsBound, reducer_key}
 use Rattle.tilt_lexer.specs.declared.token.Token.{Token}
 use Rattle.tilt_syntax.specs.Query.{kinds}
+use Rattle.tilt_syntax.proofs.Texts.{Keeps}
 use Rattle.tilt_syntax.specs.Tree.{ExprTree}
 use Rattle.tilt_types.specs.WellFormed.{is_stretch}
 use Rattle.tilt_operators.specs.Flow.{FlowTree, StepTree, Select, Keep, Shift, Window, Join, step_tree}
@@ -23,6 +23,7 @@ use Rattle.tilt_operators.specs.declared.fault.FlowFault.TheVariants as fault
 use Rattle.tilt_operators.specs.declared.operands.Operands.TheVariants.{Value, Both}
 use Rattle.tilt_operators.specs.declared.step.Step.{Step}
 use Rattle.tilt_operators.proofs.Spans.{last_emits, last_inside, one_has, opened, parted}
+use Rattle.tilt_operators.proofs.Trimmed.{trimmed_flow, trimmed_rejected}
 use Rattle.tilt_operators.proofs.Unique.{ended-inj, one_reducer, word_number}
 
 pub one_inside : (ts : List Tok) (a b : Span) → IsInside ts a → IsInside ts b → a ≡ b
@@ -167,12 +168,17 @@ module _ (ts : List Tok) where
   others-none word a b c d e (Window r width) h = d h.0
   others-none word a b c d e (Join name x) h = e h.0
 
--- tokens of a text that are refused
-pub tokens_refuse : (bytes : List ℕ) (tokens : List Token) (f : FlowFault) → AreTokens 0 bytes tokens
-    → (f ≢ fault.OutOfMemory → IsRefused (kinds tokens) f) → f ≢ fault.OutOfMemory → IsRefusedText bytes f
-tokens_refuse bytes tokens f lexed known other = no_flow tokens lexed (known other)
+-- what is kept of the tokens of a text
+module _ (bytes : List ℕ) (kept : List Token) (keeps : Keeps bytes kept) where
+  -- is rejected if they are
+  pub tokens_refuse : (f : FlowFault) → (f ≢ fault.OutOfMemory → IsRefused (kinds kept) f) → f ≢ fault.OutOfMemory → IsRefusedText bytes f
+  tokens_refuse f known other =
+      no_flow keeps.0 keeps.1 (trimmed_rejected (kinds keeps.0) (kinds kept) f keeps.2 (known other))
 
--- tokens of a text that are a pipeline
-pub text_is : (bytes : List ℕ) (tokens : List Token) (flow : FlowTree) → AreTokens 0 bytes tokens → IsFlowOf (kinds tokens) flow
-    → IsFlowText bytes flow
-text_is bytes tokens flow lexed read = record { tokens = tokens; lexed = lexed; read = read }
+  -- and is a pipeline if they are
+  pub text_is : (flow : FlowTree) → IsFlowOf (kinds kept) flow → IsFlowText bytes flow
+  text_is flow read = record {
+    tokens = keeps.0;
+    lexed = keeps.1;
+    read = trimmed_flow (kinds keeps.0) flow (subst (λ (ts : List Tok). IsFlowOf ts flow) keeps.2 read);
+  }

@@ -10,11 +10,13 @@ use crate::flow::Flow;
 use crate::steps::read_parts;
 use crate::typed::first_untyped;
 use std::alloc::Global;
-use tilt_lexer::{Token, lex};
+use tilt_lexer::Token;
+use tilt_syntax::keep_tokens;
 
-/// The pipeline that the text is. Refused are, in this order: `BadByte` and `BigNumber`, as `lex` tells them; `BadStep` of the first
-/// step that breaks a rule, where there is one; `StepType` of the first step whose expression hasn't the type that the step asks for.
-/// Tokens are cut into steps after each `;`, and what stands after the last `;` is a step too. No tokens at all are a bad step 1.
+/// The pipeline that the text is. Errors come in this order: `BadByte` and `BigNumber`, as `lex` has them; `BadStep` of the first
+/// step that breaks a rule, if there is one; `StepType` of the first step whose expression hasn't the type that the step asks for.
+/// Tokens are cut into steps after each `;`, and what follows the last `;` is a step too. No tokens at all are a bad step 1. However long
+/// the text is, it takes memory for the tokens alone that `keep_tokens` keeps.
 pub fn read_flow(alloc: Global, bytes: &[u8]) -> Result<Flow, FlowFault>
     ensures flow { IfOk result (λ flow. IsFlowText bytes.now flow) }
     ensures faulty { IfErr result (λ fault. fault ≢ FlowFault.OutOfMemory → IsRefusedText bytes.now fault) }
@@ -25,7 +27,7 @@ pub fn read_flow(alloc: Global, bytes: &[u8]) -> Result<Flow, FlowFault>
     ensures first { (fault : FlowFault) → IsRefusedText bytes.now fault →
         MatchResult result (λ _. ⊥) (λ found. (found ≡ fault) ⊎ (found ≡ FlowFault.OutOfMemory)) }
 {
-    let tokens = lex(alloc, bytes)?;
+    let tokens = keep_tokens(alloc, bytes)?;
     let flow = flow_of(alloc, &tokens)?;
     Ok(flow)
 }

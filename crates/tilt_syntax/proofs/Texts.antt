@@ -1,6 +1,7 @@
 -- A text is one query at most, or is refused for one fault, and not both; and what is kept of its tokens tells which.
 use Rattle.std.proofs.Common.{◌≡◌, ◌≢◌, ◌⊎◌, inl, inr, ℕ, List, [], ◌∷◌, refl, sym, ap, subst}
-use Rattle.std.specs.Prelude.{All}
+use Rattle.std.proofs.Common.{Result, Ok, Err, MatchResult}
+use Rattle.std.specs.Prelude.{All, IfOk, IfErr}
 use Rattle.std.specs.List.{AllByRecursion}
 use Rattle.std.proofs.lemmas.List.Elements.{All-from_recursion}
 use Rattle.tilt_lexer.specs.Tokens.{AreTokens, IsFaultyAt, IsSound}
@@ -8,6 +9,7 @@ use Rattle.tilt_lexer.specs.declared.fault.LexFault.{LexFault}
 use Rattle.tilt_lexer.specs.declared.fault.LexFault.TheVariants as lexical
 use Rattle.tilt_lexer.specs.declared.token.Tok.{Tok}
 use Rattle.tilt_lexer.specs.declared.token.Token.{Token}
+use Rattle.tilt_lexer.proofs.Reading.{refused_first, refused_tokens}
 use Rattle.tilt_lexer.proofs.Sound.{sound}
 use Rattle.tilt_lexer.proofs.Unique.{same_tokens, same_fault, tokens_or_fault}
 use Rattle.tilt_syntax.specs.Query.{kinds, AreSound, IsQueryOf, IsRefused}
@@ -100,3 +102,28 @@ module _ (bytes : List ℕ) where
     kept_sound =
         let all : AreSound (kinds keeps.0) = sound-kinds keeps.0 (sound keeps.1) in
         sound_back kept (subst AreSound (sym keeps.2) (trimmed_sound 257 257 (kinds keeps.0) all))
+
+  -- the result of keeping the tokens of a text: no tokens but its own, and no fault but its own
+  module _ {X : Type 0} (items : X → List Token) (r : Result X LexFault) (keeps : IfOk r (λ x. Keeps (items x)))
+      (known : IfErr r (λ f. f ≢ lexical.OutOfMemory → IsFaultyAt 0 bytes f)) where
+    pub keeps-sound : IfOk r (λ x. All (λ token. IsSound token.kind) (items x))
+    keeps-sound = sound_of r keeps where
+      sound_of : (r : Result X LexFault) → IfOk r (λ x. Keeps (items x)) → IfOk r (λ x. All (λ token. IsSound token.kind) (items x))
+      sound_of (Ok x) h = kept_sound (items x) h
+      sound_of (Err f) h = tt
+
+    pub keeps-only : (tokens : List Token) → AreTokens 0 bytes tokens
+        → MatchResult r (λ x. kinds (items x) ≡ trimmed 257 257 (kinds tokens)) (λ f. f ≡ lexical.OutOfMemory)
+    keeps-only tokens are = only_of r keeps known where
+      only_of : (r : Result X LexFault) → IfOk r (λ x. Keeps (items x)) → IfErr r (λ f. f ≢ lexical.OutOfMemory → IsFaultyAt 0 bytes f)
+          → MatchResult r (λ x. kinds (items x) ≡ trimmed 257 257 (kinds tokens)) (λ f. f ≡ lexical.OutOfMemory)
+      only_of (Ok x) h k = of_all (λ ts. kinds (items x) ≡ trimmed 257 257 (kinds ts)) tokens h.0 are h.1 h.2
+      only_of (Err f) h k = refused_tokens bytes f k tokens are
+
+    pub keeps-first : (first : LexFault) → IsFaultyAt 0 bytes first
+        → MatchResult r (λ x. ⊥) (λ f. (f ≡ first) ⊎ (f ≡ lexical.OutOfMemory))
+    keeps-first first is = first_of r keeps known where
+      first_of : (r : Result X LexFault) → IfOk r (λ x. Keeps (items x)) → IfErr r (λ f. f ≢ lexical.OutOfMemory → IsFaultyAt 0 bytes f)
+          → MatchResult r (λ x. ⊥) (λ f. (f ≡ first) ⊎ (f ≡ lexical.OutOfMemory))
+      first_of (Ok x) h k = tokens_or_fault h.1 is refl
+      first_of (Err f) h k = refused_first bytes f k first is

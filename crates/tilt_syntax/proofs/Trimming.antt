@@ -20,7 +20,7 @@ token_kept n room t ts other = refl
 -- statement by statement
 
 -- the statement is kept as it is, or both have that many tokens
-abbrev IsAlike : ℕ → List Tok → List Tok → Type 0
+abbrev pub IsAlike : ℕ → List Tok → List Tok → Type 0
 IsAlike room ts us = (ts ≡ us) ⊎ ((room ≤ length ts) × (room ≤ length us))
 
 -- so many statements, of which the first has so many tokens, are kept of these
@@ -55,6 +55,28 @@ are_trimmed [] (suc n) room = ended
 are_trimmed (Sign mark.Semicolon ∷ ts) (suc n) room = next (inl refl) (are_trimmed ts n 257)
 are_trimmed (t ∷ ts) (suc n) zero = let_go n t _ _ (are_trimmed ts (suc n) zero)
 are_trimmed (t ∷ ts) (suc n) (suc room) = longer n room t _ _ (are_trimmed ts (suc n) room)
+
+-- so many statements, one by one, are alike
+abbrev pub AreAlike : ℕ → List (List Tok) → List (List Tok) → Type 0
+AreAlike zero ts us = ⊤
+AreAlike (suc n) [] [] = ⊤
+AreAlike (suc n) [] (u ∷ us) = ⊥
+AreAlike (suc n) (t ∷ ts) [] = ⊥
+AreAlike (suc n) (t ∷ ts) (u ∷ us) = IsAlike 257 t u × AreAlike n ts us
+
+alike_more : (room : ℕ) (ts us : List Tok) → 256 < room → IsAlike room ts us → IsAlike 257 ts us
+alike_more room ts us more (inl same) = inl same
+alike_more room ts us more (inr long) = inr (omega (arith, long.0), omega (arith, long.1))
+
+are_alike : {n room : ℕ} {ts us : List (List Tok)} → AreTrimmed n room ts us → 256 < room → AreAlike n ts us
+are_alike full more = tt
+are_alike ended more = tt
+are_alike rest_let_go more = absurd (omega arith)
+are_alike (next {room = room} {t = t} {u = u} alike others) more = (alike_more room t u more alike, are_alike others (omega arith))
+
+-- what is kept is alike, for readers that take fewer statements and shorter ones
+pub trimmed_alike : (ts : List Tok) → AreAlike 257 (statements (trimmed 257 257 ts)) (statements ts)
+trimmed_alike ts = are_alike (are_trimmed ts 257 257) (omega arith)
 
 -- the same, or both too long
 abbrev IsSame : List Tok → List Tok → Type 0

@@ -1,6 +1,6 @@
 // From a text to the query that it is.
-ghost use Rattle.std.specs.Prelude.{◌≡◌, ◌≢◌, ◌⊎◌, List, IfOk, IfErr, MatchResult};
-ghost use Rattle.tilt_lexer.specs.Tokens.{AreTokens, IsFaultyAt};
+ghost use Rattle.std.specs.Prelude.{◌≡◌, ◌≢◌, ◌⊎◌, All, List, IfOk, IfErr, MatchResult};
+ghost use Rattle.tilt_lexer.specs.Tokens.{AreTokens, IsFaultyAt, IsSound};
 ghost use Rattle.tilt_lexer.specs.declared.fault.LexFault.{LexFault};
 ghost use Rattle.tilt_lexer.specs.declared.token.Token.{Token};
 ghost use Rattle.tilt_syntax.specs.Query.{kinds};
@@ -29,13 +29,33 @@ pub fn read_text(alloc: Global, bytes: &[u8]) -> Result<Query, TextFault>
     ensures first { (fault : TextFault) → IsRefusedText bytes.now fault →
         MatchResult result (λ _. ⊥) (λ found. (found ≡ fault) ⊎ (found ≡ TextFault.OutOfMemory)) }
 {
-    let tokens = kept_tokens(alloc, bytes)?;
+    let tokens = keep_tokens(alloc, bytes)?;
     let query = parse(alloc, &tokens)?;
     Ok(query)
 }
 
+/// The tokens of a text, of which those that no text within the limits can have are let go: of each statement the first 257 and its `;`
+/// are kept, and so of the first 257 statements. So a text takes memory for no more than these, however long it is. The first faulty
+/// place of the whole text is rejected, as `lex` does it.
+pub fn keep_tokens(alloc: Global, bytes: &[u8]) -> Result<Vec<Token>, LexFault>
+    ensures kept { IfOk result (λ kept. (tokens : List Token) × AreTokens 0 bytes.now tokens
+        × (kinds kept.items ≡ trimmed 257 257 (kinds tokens))) }
+    ensures faulty { IfErr result (λ fault. fault ≢ LexFault.OutOfMemory → IsFaultyAt 0 bytes.now fault) }
+
+    // What a reader of tokens may rely on.
+    ensures sound { IfOk result (λ kept. All (λ token. IsSound token.kind) kept.items) }
+
+    // Nothing else is: no tokens of a faulty text, no other tokens, and no other fault.
+    ensures only { (tokens : List Token) → AreTokens 0 bytes.now tokens →
+        MatchResult result (λ kept. kinds kept.items ≡ trimmed 257 257 (kinds tokens)) (λ fault. fault ≡ LexFault.OutOfMemory) }
+    ensures first { (first : LexFault) → IsFaultyAt 0 bytes.now first →
+        MatchResult result (λ _. ⊥) (λ fault. (fault ≡ first) ⊎ (fault ≡ LexFault.OutOfMemory)) }
+{
+    trim_tokens(alloc, bytes)
+}
+
 // The tokens of a text that are kept, or its first faulty place.
-fn kept_tokens(alloc: Global, bytes: &[u8]) -> Result<Vec<Token>, LexFault>
+fn trim_tokens(alloc: Global, bytes: &[u8]) -> Result<Vec<Token>, LexFault>
     ensures kept { IfOk result (λ kept. (tokens : List Token) × AreTokens 0 bytes.now tokens
         × (kinds kept.items ≡ trimmed 257 257 (kinds tokens))) }
     ensures faulty { IfErr result (λ fault. fault ≢ LexFault.OutOfMemory → IsFaultyAt 0 bytes.now fault) }

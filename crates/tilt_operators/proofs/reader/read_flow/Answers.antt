@@ -26,33 +26,33 @@ pub returns-in_err-flow-clause-faulty : goal.returns-in_err-flow-clause-faulty
 returns-in_err-flow-clause-faulty c =
     let p = err_from_is_err_and c.from_residual-in_err-flow.result c.from_residual-in_err-flow.ensures.1 in
     let known = rw c.deref.ensures.value at c.in_err-flow.ensures.faulty in
-    rw (p.1, p.2) (tokens_refuse c.args.bytes.now c.in_ok-tokens.tokens.items _ c.in_ok-tokens.ensures.tokens known)
+    rw (p.1, p.2) (tokens_refuse c.args.bytes.now c.in_ok-tokens.tokens.items c.in_ok-tokens.ensures.kept _ known)
 
 pub returns-in_err-flow-clause-only : goal.returns-in_err-flow-clause-only
 returns-in_err-flow-clause-only c =
     let p = err_from_is_err_and c.from_residual-in_err-flow.result c.from_residual-in_err-flow.ensures.1 in
     let known = rw c.deref.ensures.value at c.in_err-flow.ensures.faulty in
-    rw (p.1, p.2) (only_memory c.args.bytes.now _ (tokens_refuse c.args.bytes.now c.in_ok-tokens.tokens.items _ c.in_ok-tokens.ensures.tokens known))
+    rw (p.1, p.2) (only_memory c.args.bytes.now _ (tokens_refuse c.args.bytes.now c.in_ok-tokens.tokens.items c.in_ok-tokens.ensures.kept _ known))
 
 pub returns-in_err-flow-clause-first : goal.returns-in_err-flow-clause-first
 returns-in_err-flow-clause-first c =
     let p = err_from_is_err_and c.from_residual-in_err-flow.result c.from_residual-in_err-flow.ensures.1 in
     let known = rw c.deref.ensures.value at c.in_err-flow.ensures.faulty in
-    rw (p.1, p.2) (only_fault c.args.bytes.now _ (tokens_refuse c.args.bytes.now c.in_ok-tokens.tokens.items _ c.in_ok-tokens.ensures.tokens known))
+    rw (p.1, p.2) (only_fault c.args.bytes.now _ (tokens_refuse c.args.bytes.now c.in_ok-tokens.tokens.items c.in_ok-tokens.ensures.kept _ known))
 
 pub returns-clause-flow : goal.returns-clause-flow
 returns-clause-flow c =
-    text_is c.args.bytes.now c.in_ok-tokens.tokens.items c.in_ok-flow.flow c.in_ok-tokens.ensures.tokens
+    text_is c.args.bytes.now c.in_ok-tokens.tokens.items c.in_ok-tokens.ensures.kept c.in_ok-flow.flow
     (rw c.deref.ensures.value at c.in_ok-flow.ensures.flow)
 
 pub returns-clause-only : goal.returns-clause-only
 returns-clause-only c = λ flow is.
     one_text c.args.bytes.now c.in_ok-flow.flow flow
-    (text_is c.args.bytes.now c.in_ok-tokens.tokens.items c.in_ok-flow.flow c.in_ok-tokens.ensures.tokens
+    (text_is c.args.bytes.now c.in_ok-tokens.tokens.items c.in_ok-tokens.ensures.kept c.in_ok-flow.flow
     (rw c.deref.ensures.value at c.in_ok-flow.ensures.flow)) is
 
 pub returns-clause-first : goal.returns-clause-first
 returns-clause-first c = λ fault is.
     text-or-refused c.args.bytes.now c.in_ok-flow.flow fault
-    (text_is c.args.bytes.now c.in_ok-tokens.tokens.items c.in_ok-flow.flow c.in_ok-tokens.ensures.tokens
+    (text_is c.args.bytes.now c.in_ok-tokens.tokens.items c.in_ok-tokens.ensures.kept c.in_ok-flow.flow
     (rw c.deref.ensures.value at c.in_ok-flow.ensures.flow)) is

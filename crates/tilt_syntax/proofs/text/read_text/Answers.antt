@@ -1,5 +1,5 @@
 use Rattle.std.proofs.lemmas.Result.{err_from_is_err_and}
-use Rattle.tilt_syntax.proofs.Texts.{one_text, query_or_refused, only_memory, only_fault, place_refuses, text_is, tokens_refuse, kept_sound}
+use Rattle.tilt_syntax.proofs.Texts.{one_text, query_or_refused, only_memory, only_fault, place_refuses, text_is, tokens_refuse}
 use Rattle.tilt_syntax.proofs.text.read_text.Goals as goal
 
 pub returns-in_err-tokens-clause-faulty : goal.returns-in_err-tokens-clause-faulty
@@ -18,7 +18,7 @@ returns-in_err-tokens-clause-first c =
     rw (p.1, p.2) (only_fault c.args.bytes.now _ (place_refuses c.args.bytes.now _ c.in_err-tokens.ensures.faulty))
 
 pub parse-requires : goal.parse-requires
-parse-requires c = record { sound = rw c.deref.ensures.value (kept_sound c.args.bytes.now c.in_ok-tokens.tokens.items c.in_ok-tokens.ensures.kept) }
+parse-requires c = record { sound = rw c.deref.ensures.value c.in_ok-tokens.ensures.sound }
 
 pub returns-in_err-query-clause-faulty : goal.returns-in_err-query-clause-faulty
 returns-in_err-query-clause-faulty c =

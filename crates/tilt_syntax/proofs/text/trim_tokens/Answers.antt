@@ -1,7 +1,7 @@
 use Rattle.std.proofs.lemmas.Result.{err_from_is_err_and}
 use Rattle.tilt_lexer.proofs.Next.{next_fault}
 use Rattle.tilt_syntax.proofs.Keeping.{kept_more, kept_all, falls}
-use Rattle.tilt_syntax.proofs.text.kept_tokens.Goals as goal
+use Rattle.tilt_syntax.proofs.text.trim_tokens.Goals as goal
 
 pub loop-kept-smaller : goal.loop-kept-smaller
 loop-kept-smaller c =
