@@ -46,7 +46,7 @@ fn apply_all(alloc: Global, live: &mut Live, edits: &[Edit]) -> Result<Vec<Optio
     ensures query { IfOk result (λ _. live.new.query ≡ live.old.query) }
     ensures refused { IfErr result (λ fault. (fault ≡ FixFault.OutOfMemory) ⊎ (after_edits (Ok live.old.rows) edits.now ≡ Err fault)) }
 {
-    let mut known = Vec::new(alloc);
+    let mut known = Vec::with_capacity(alloc, edits.len())?;
     for edit in edits {
         let span = live.apply(edit)?;
         keep(&mut known, span)?;

@@ -1,9 +1,9 @@
 -- Lines that are read one after another.
 use Rattle.std.proofs.Common.{◌≡◌, ◌≢◌, ℕ, ◌+◌, Bool, true, false, Option, Some, None, if◌then◌else◌, refl, sym, ap, ◌∙◌, arith}
-use Rattle.std.proofs.Common.{List, [], ◌∷◌, ◌++◌, append_assoc, append-nil, length-append}
+use Rattle.std.proofs.Common.{List, [], ◌∷◌, ◌++◌, length, ◌<◌, append_assoc, length-append}
 use Rattle.std.specs.Prelude.{◌==◌}
 use Rattle.std.proofs.lemmas.Option.{none-some, same_Some}
-use Rattle.tilt_fix.specs.Edits.{edit_of, text_of_lines, Say, AreEdits, BeginsBadly, IsBadLine}
+use Rattle.tilt_fix.specs.Edits.{edit_of, text_of_lines, Say, BeginsBadly}
 use Rattle.tilt_fix.specs.Reading.{next_edit, HasRead}
 use Rattle.tilt_fix.specs.declared.edit.Edit.{Edit}
 use Rattle.tilt_text.specs.Cut.{onto, until_at}
@@ -100,3 +100,14 @@ read_more inputs bytes left edits number edit rest so next =
       say = say-more inputs so.good edits n.line edit so.say n.lacks n.reads;
       number_is = omega (arith, so.number_is, length-append so.good (n.line ∷ []));
     }
+
+-- before the first line
+pub none_read : (inputs : List (List ℕ)) (bytes : List ℕ) → HasRead inputs bytes bytes [] 1
+none_read inputs bytes = record { good = []; is = refl; say = tt; number_is = refl }
+
+-- what follows a line is shorter than what it begins
+pub rest_shorter : (inputs : List (List ℕ)) (left : List ℕ) (edit : Edit) (rest : List ℕ) → next_edit inputs left ≡ Some (edit, rest)
+    → length rest < length left
+rest_shorter inputs left edit rest next =
+    let n = next_line inputs left edit rest next in
+    omega (arith, length-append n.line (10 ∷ rest), ap (λ (t : List ℕ). length t) n.is)

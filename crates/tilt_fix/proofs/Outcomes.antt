@@ -7,7 +7,7 @@ use Rattle.std.specs.Prelude.{IfOk}
 use Rattle.tilt_fix.proofs.EditsOf.{are-edits_of}
 use Rattle.tilt_fix.specs.Edited.{IsEditOf}
 use Rattle.tilt_fix.specs.Edits.{edit_of, text_of_lines, Say, AreEdits, BeginsBadly, IsBadLine}
-use Rattle.tilt_fix.specs.Reading.{next_edit, Outcome, Tells}
+use Rattle.tilt_fix.specs.Reading.{next_edit, HasRead, Outcome, Tells}
 use Rattle.tilt_fix.specs.declared.edit.Edit.{Edit}
 use Rattle.tilt_fix.specs.declared.fault.EditFault.{EditFault}
 use Rattle.tilt_fix.specs.declared.fault.EditFault.TheVariants.{BadEdit, OutOfMemory}
@@ -168,3 +168,19 @@ module _ {X : Type 0} (inputs : List (List ℕ)) (bytes : List ℕ) (items : X �
       → IfOk r (λ x. AllByRecursion (IsEditOf (length inputs)) (items x))
   given-each (Ok x) given = are-edits_of inputs bytes (items x) given
   given-each (Err fault) given = tt
+
+-- where no line is left that is an edit, and the text has edits, all of them were read
+pub read_all : (inputs : List (List ℕ)) (bytes left : List ℕ) (edits all : List Edit) (number : ℕ) → HasRead inputs bytes left edits number
+    → next_edit inputs left ≡ None → AreEdits inputs bytes all → AreEdits inputs bytes edits
+read_all inputs bytes [] edits all number so none are =
+    record { lines = so.good; is = so.is ∙ append-nil (text_of_lines so.good); say = so.say }
+read_all inputs bytes (b ∷ bs) edits all number so none are =
+    absurd (outcome-either inputs bytes all number are (record {
+      good = so.good;
+      edits = edits;
+      rest = b ∷ bs;
+      is = so.is;
+      say = so.say;
+      bad = no_line inputs (b ∷ bs) (λ e. omega (arith, ap (λ (t : List ℕ). length t) e)) none;
+      number_is = so.number_is;
+    }))

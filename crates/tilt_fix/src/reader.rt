@@ -35,25 +35,54 @@ pub fn read_edits(alloc: Global, bytes: &[u8], inputs: &[Name]) -> Result<Vec<Ed
     read_lines(alloc, bytes, inputs)
 }
 
-// The edits that the lines say, or the first bad line.
+// The edits that the lines say, or the first bad line. Room is made once all lines are known to be edits, and for no more than these.
 fn read_lines(alloc: Global, bytes: &[u8], inputs: &[Name]) -> Result<Vec<Edit>, EditFault>
     requires { length inputs.now < 2 ^ 32 }
     ensures { MatchResult result (λ edits. AreEdits inputs.now bytes.now edits.items) (Tells inputs.now bytes.now) }
 {
-    let mut edits = Vec::new(alloc);
+    let count = count_edits(bytes, inputs)?;
+    let edits = collect_edits(alloc, bytes, inputs, count)?;
+    Ok(edits)
+}
+
+// How many lines the text has, each of which is an edit; else the first bad line.
+fn count_edits(bytes: &[u8], inputs: &[Name]) -> Result<usize, EditFault>
+    requires { length inputs.now < 2 ^ 32 }
+    ensures { MatchResult result (λ count. (edits : List Edit) × AreEdits inputs.now bytes.now edits × (length edits ≡ count))
+        (Tells inputs.now bytes.now) }
+{
+    let mut count = 0;
     let mut left = bytes;
-    for number in 1..u64::MAX {
-        if left.is_empty() {
-            return Ok(edits);
-        }
-        let Some((edit, rest)) = next_edit(left, inputs) else {
-            return Err(EditFault::BadEdit { line: number });
+    while !left.is_empty() {
+        let Some((_, rest)) = next_edit(left, inputs) else {
+            return Err(EditFault::BadEdit {
+                line: count as u64 + 1,
+            });
         };
+        count += 1;
+        left = rest;
+    }
+    Ok(count)
+}
+
+// The edits of a text that has so many, and no bad line.
+fn collect_edits(
+    alloc: Global,
+    bytes: &[u8],
+    inputs: &[Name],
+    count: usize,
+) -> Result<Vec<Edit>, OutOfMemory>
+    requires few { length inputs.now < 2 ^ 32 }
+    requires some { (edits : List Edit) × AreEdits inputs.now bytes.now edits }
+    ensures { IfOk result (λ edits. AreEdits inputs.now bytes.now edits.items) }
+{
+    let mut edits = Vec::with_capacity(alloc, count)?;
+    let mut left = bytes;
+    while let Some((edit, rest)) = next_edit(left, inputs) {
         put_edit(&mut edits, edit)?;
         left = rest;
     }
-    // No memory holds so many lines.
-    Err(EditFault::OutOfMemory)
+    Ok(edits)
 }
 
 // Puts an edit after the others. Nothing is said of them where memory ran out.
