@@ -11,6 +11,7 @@ pub mod Outside
 pub mod Pieced
 pub mod Reaching
 pub mod Replaced
+pub mod Restricted
 pub mod Searched
 pub mod Stretch
 pub mod Windows

@@ -1,8 +1,11 @@
 -- Outside of the ticks that an edit reaches, what a query means stays.
 use Rattle.std.proofs.Common.{◌≡◌, ℕ, ℤ, pos, ◌+ℤ◌, ◌-ℤ◌, ◌<ℤ◌, ◌≤ℤ◌, List, [], length, Option, Some, None, ◌⊎◌, inl, inr, refl, sym, ◌∙◌, arith, subst}
-use Rattle.std.specs.Prelude.{Result, Ok, Err, slice_set, option_and_then}
+use Rattle.std.specs.Prelude.{Result, Ok, Err, IsSome, slice_set, option_and_then, true}
 use Rattle.std.specs.List.{slice_index_or}
+use Rattle.std.specs.Ordering.{int_eq}
+use Rattle.std.proofs.lemmas.Bool.{cases_Bool, false≢true}
 use Rattle.std.proofs.lemmas.Int.{ints}
+use Rattle.std.proofs.lemmas.List.{length-set}
 use Rattle.tilt_base.specs.declared.span.Span.{Span}
 use Rattle.tilt_bounds.specs.Margins.{need_at}
 use Rattle.tilt_compiler.specs.Accepted.{AcceptedParts, IsAccepted}
@@ -12,12 +15,14 @@ use Rattle.tilt_core.specs.Meaning.{meaning}
 use Rattle.tilt_core.specs.Needs.{Need}
 use Rattle.tilt_fix.proofs.Outside.{AreSameOutside, edited-same}
 use Rattle.tilt_fix.proofs.Reaching.{IsFar, far-agrees}
+use Rattle.tilt_fix.proofs.Restricted.{IsRestricted, cells-outside, emitted-restricted, marks-first, marks-outside}
 use Rattle.tilt_fix.proofs.Stretch.{IsStretchOf, looking-none, looking-some}
 use Rattle.tilt_fix.specs.Edited.{IsEditOf, after_edit, changed, edited, end_of, input_of, start_of}
 use Rattle.tilt_fix.specs.Reached.{IsOutside, StaysOutside, looking_at, reached}
 use Rattle.tilt_fix.specs.declared.edit.Edit.{Edit}
 use Rattle.tilt_fix.specs.declared.fault.FixFault.{FixFault}
 use Rattle.tilt_stream.specs.Agreement.{Agree}
+use Rattle.tilt_stream.specs.Domain.{lies_in}
 use Rattle.tilt_stream.specs.Snap.{Snapshot}
 use Rattle.tilt_stream.specs.Stream.{stream_of}
 
@@ -135,13 +140,60 @@ module _ (query : AcceptedParts) (rows : List (List Snapshot)) (edit : Edit) (ne
   mark-stays tick above within out =
       mark_by tick above (agree_by (pos 2) tick (reached query edit) refl (omega (arith, ints)) (omega (arith, ints)) (omega (arith, ints)) within out)
 
+module _ (query : AcceptedParts) (rows : List (List Snapshot)) (edit : Edit) (new : List Snapshot) (accepted : IsAccepted query)
+    (many : length rows ≡ length query.core.inputs) (some : start_of edit <ℤ end_of edit)
+    (same : AreSameOutside (start_of edit) (end_of edit) (stream_of new) (stream_of (slice_index_or rows (input_of edit) []))) (domain : Span)
+    (domain_is : domain_of query.core.defs ≡ Some domain) where
+  emitted-before : IsRestricted domain (meaning rows query.core.defs (emitted_number query.core))
+  emitted-before = emitted-restricted query.core rows domain accepted.valid many domain_is
+
+  emitted-after : IsRestricted domain (meaning (slice_set rows (input_of edit) new) query.core.defs (emitted_number query.core))
+  emitted-after =
+      emitted-restricted query.core (slice_set rows (input_of edit) new) domain accepted.valid (length-set rows (input_of edit) new ∙ many) domain_is
+
+  cell-anywhere : (tick : ℤ) → IsOutside (reached query edit) tick
+      → (meaning (slice_set rows (input_of edit) new) query.core.defs (emitted_number query.core)).cell tick
+      ≡ (meaning rows query.core.defs (emitted_number query.core)).cell tick
+  cell-anywhere tick out =
+      elim (cases_Bool (lies_in domain.start domain.end tick)) [
+        | inl inside ↦ cell-stays query rows edit new accepted many some same domain domain_is tick (grind (arith, ints)) (grind (arith, ints)) out
+        | inr none ↦ cells-outside domain _ _ emitted-after emitted-before tick none
+      ]
+
+  mark-inside : (tick : ℤ) → lies_in domain.start domain.end tick ≡ true → IsOutside (reached query edit) tick
+      → (meaning (slice_set rows (input_of edit) new) query.core.defs (emitted_number query.core)).mark tick
+      ≡ (meaning rows query.core.defs (emitted_number query.core)).mark tick
+  mark-inside tick inside out =
+      elim (cases_Bool (int_eq tick (domain.start +ℤ pos 1))) [
+        | inl first ↦ marks-first domain _ _ emitted-after emitted-before tick first
+        | inr later ↦ mark-stays query rows edit new accepted many some same domain domain_is tick (grind (arith, ints)) (grind (arith, ints)) out
+      ]
+
+  mark-anywhere : (tick : ℤ) → IsOutside (reached query edit) tick
+      → (meaning (slice_set rows (input_of edit) new) query.core.defs (emitted_number query.core)).mark tick
+      ≡ (meaning rows query.core.defs (emitted_number query.core)).mark tick
+  mark-anywhere tick out =
+      elim (cases_Bool (lies_in domain.start domain.end tick)) [
+        | inl inside ↦ mark-inside tick inside out
+        | inr none ↦ marks-outside domain _ _ emitted-after emitted-before tick none
+      ]
+
+  pub stays-over : StaysOutside query edit (meaning rows query.core.defs (emitted_number query.core))
+      (meaning (slice_set rows (input_of edit) new) query.core.defs (emitted_number query.core))
+  stays-over = record { cells = cell-anywhere; marks = mark-anywhere }
+
 pub stays-outside : (query : AcceptedParts) (rows after : List (List Snapshot)) (edit : Edit) → IsAccepted query
     → length rows ≡ length query.core.inputs → IsEditOf (length rows) edit → after_edit rows edit ≡ Ok after
     → StaysOutside query edit (meaning rows query.core.defs (emitted_number query.core)) (meaning after query.core.defs (emitted_number query.core))
 stays-outside query rows after edit accepted many of is =
     let made = changed-is rows (input_of edit) (edited edit (slice_index_or rows (input_of edit) [])) after is in
     let same = edited-same edit (slice_index_or rows (input_of edit) []) made.new of.some made.made_is in
-    rw (← made.after_is) (record {
-      cells = λ domain tick domain_is above within out. cell-stays query rows edit made.new accepted many of.some same domain domain_is tick above within out;
-      marks = λ domain tick domain_is above within out. mark-stays query rows edit made.new accepted many of.some same domain domain_is tick above within out;
-    })
+    by_domain (domain_of query.core.defs) refl accepted.valid.domain made same
+  where
+    by_domain : (found : Option Span) → domain_of query.core.defs ≡ found → IsSome found
+        → (made : IsChanged rows (input_of edit) (edited edit (slice_index_or rows (input_of edit) [])) after)
+        → AreSameOutside (start_of edit) (end_of edit) (stream_of made.new) (stream_of (slice_index_or rows (input_of edit) []))
+        → StaysOutside query edit (meaning rows query.core.defs (emitted_number query.core)) (meaning after query.core.defs (emitted_number query.core))
+    by_domain None is some made same = absurd (false≢true some)
+    by_domain (Some domain) is some made same =
+        rw (← made.after_is) (stays-over query rows edit made.new accepted many of.some same domain is)

@@ -31,10 +31,7 @@ abbrev pub IsOutside : Option Span → ℤ → Type 0
 IsOutside None tick = ⊤
 IsOutside (Some span) tick = (tick ≤ℤ span.start) ⊎ (span.end <ℤ tick)
 
--- two streams have the same cells and marks on the output domain where an edit doesn't reach; at the first tick of the domain a snapshot
--- begins in any case
+-- two streams have the same cells and marks at each tick that an edit doesn't reach
 pub record StaysOutside (query : AcceptedParts) (edit : Edit) (before after : Stream) : Type 0 where
-  pub cells : (domain : Span) (tick : ℤ) → domain_of query.core.defs ≡ Some domain → domain.start <ℤ tick → tick ≤ℤ domain.end
-      → IsOutside (reached query edit) tick → after.cell tick ≡ before.cell tick
-  pub marks : (domain : Span) (tick : ℤ) → domain_of query.core.defs ≡ Some domain → (domain.start +ℤ pos 1) <ℤ tick → tick ≤ℤ domain.end
-      → IsOutside (reached query edit) tick → after.mark tick ≡ before.mark tick
+  pub cells : (tick : ℤ) → IsOutside (reached query edit) tick → after.cell tick ≡ before.cell tick
+  pub marks : (tick : ℤ) → IsOutside (reached query edit) tick → after.mark tick ≡ before.mark tick

@@ -22,8 +22,8 @@ pub fn edits_have_one_outcome()
         → IsBadLine inputs bytes line → ⊥ }
 {}
 
-/// This does nothing. Its clause is a law of the definitions: outside of the ticks that an edit reaches, what the query means has the
-/// same cells and marks as before. At the first tick of the domain a snapshot begins in any case.
+/// This does nothing. Its clause is a law of the definitions: at every tick that an edit doesn't reach, inside of the output domain or
+/// outside of it, what the query means has the same cell and the same mark as before.
 pub fn edits_reach_no_further()
     ensures { (query : AcceptedParts) (rows after : List (List Snapshot)) (edit : Edit) → IsAccepted query
         → length rows ≡ length query.core.inputs → AllByRecursion AreRows rows → IsEditOf (length rows) edit
