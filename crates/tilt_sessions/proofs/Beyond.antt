@@ -34,7 +34,7 @@ use Rattle.tilt_load.specs.SeriesFiles.{RefusesSession, TakesSession, by_names, 
 use Rattle.tilt_report.specs.Report.{Outcome, Reason, Report, bad_checkpoint, printed_and_saved, refused, refusal, usage, read_fault, write_fault, save_fault, out_of_memory}
 use Rattle.tilt_sessions.proofs.Handed.{AreCounted, first_handed, later_handed}
 use Rattle.tilt_sessions.proofs.Resumed.{given_counted}
-use Rattle.tilt_sessions.specs.HandsOn.{AreHanded, HandsOn, IsBegun, IsBeyond, beyond_outcome, end_of}
+use Rattle.tilt_sessions.specs.HandsOn.{AreHanded, HandsOn, IsBegun, IsBeyond, IsHandedOn, beyond_outcome, end_of}
 use Rattle.tilt_sessions.specs.Resume.{GoesOn, RefusesToGoOn, no_checkpoint, no_cuts, back, end_after, inputs_of, later_bounds, resume_row, resumed}
 use Rattle.tilt_sessions.specs.SavedCut.{RefusesEnd, SavedCutValue, faulty_end}
 use Rattle.tilt_sessions.specs.Start.{StartsBy, StartsFrom, cuts_at, first_bounds, started}
@@ -45,38 +45,6 @@ use Rattle.tilt_stream.specs.Text.{lines_of}
 use Rattle.tilt_syntax.specs.Tree.{StatementTree}
 use Rattle.tilt_types.specs.Checked.{core_of}
 use Rattle.tilt_words.specs.Binding.{Binding}
-
--- a query file that is taken has an accepted query
-starts_accepted : (bytes : List ℕ) (q : List StatementTree) → StartsFrom bytes q → IsAccepted q
-starts_accepted bytes q starts =
-    record { parsed = starts.says.valid; well_formed = starts.says.accepted; margins = starts.margins; near = starts.near }
-
--- what a first session saves hands its rows on
-pub first_hands_on : (files : List ℕ → List ℕ) (file : List ℕ) (binds : List Binding) (cut : SavedCutValue) (q : List StatementTree)
-    (rows : List (List Snapshot)) (outcome : Outcome) → AreCuts (cuts_at cut q) → StartsBy cut.upto (files file) q
-    → TakesSession files binds (first_bounds (cuts_at cut q).each) (core_of q).inputs rows → outcome ≡ started cut q rows
-    → IsBegun files file binds cut outcome
-first_hands_on files file binds cut q rows outcome range starts read is =
-    let bounds = first_bounds (cuts_at cut q).each in
-    let good = inputs_good files binds bounds (core_of q).inputs rows read.read in
-    let many = read_many files binds bounds (core_of q).inputs rows read.read in
-    record {
-      query = q;
-      rows = rows;
-      says = starts;
-      read = read;
-      hands_on = record {
-        handed = record {
-          accepted = starts_accepted (files file) q starts.starts;
-          range = range;
-          in_order = good.in_order;
-          cells = good.cells;
-          first = first_handed (core_of q) (cuts_at cut q) rows many (by_counted cut.upto (core_of q).inputs ∙ sym many) good.within;
-        };
-        text = inl refl;
-      };
-      is = is;
-    }
 
 -- rows that are kept have numbers of 64 bits
 kept_numbers : (first : ℤ) (rows : List Snapshot) → AreNumbers rows → AreNumbers (kept first rows)
@@ -94,10 +62,50 @@ all_kept first (cut ∷ cuts) [] h = tt
 all_kept first (cut ∷ cuts) (r ∷ rows) h = (kept_numbers first r h.0, all_kept first cuts rows h.1)
 
 -- the checkpoint of rows is valid
-handed_valid : (q : List StatementTree) (rows : List (List Snapshot)) (cuts : CutsParts) → AreHanded q rows (Upto cuts) → IsCheckpoint (checkpoint_at q rows cuts)
+pub handed_valid : (q : List StatementTree) (rows : List (List Snapshot)) (cuts : CutsParts) → AreHanded q rows (Upto cuts) → IsCheckpoint (checkpoint_at q rows cuts)
 handed_valid q rows cuts handed =
     first-valid q rows cuts handed.accepted handed.range (accepted_frame q handed.accepted) handed.first handed.in_order
     (all_kept (first_kept (frame_of (core_of q)) cuts.least) cuts.each rows handed.cells)
+
+-- and its text hands them on
+hands_all_on : (q : List StatementTree) (rows : List (List Snapshot)) (cuts : CutsParts) → AreHanded q rows (Upto cuts)
+    → HandsOn (spelling (checkpoint_at q rows cuts)) q rows cuts
+hands_all_on q rows cuts handed = record { handed = handed; valid = handed_valid q rows cuts handed; text = inl refl }
+
+hands_on_after : (ending : Option SavedCutValue) (q : List StatementTree) (all : List (List Snapshot)) → AreHanded q all (end_of ending q)
+    → IsHandedOn ending q all
+hands_on_after None q all handed = tt
+hands_on_after (Some cut) q all handed = hands_all_on q all (cuts_at cut q) handed
+
+-- a query file that is taken has an accepted query
+starts_accepted : (bytes : List ℕ) (q : List StatementTree) → StartsFrom bytes q → IsAccepted q
+starts_accepted bytes q starts =
+    record { parsed = starts.says.valid; well_formed = starts.says.accepted; margins = starts.margins; near = starts.near }
+
+-- what a first session saves hands its rows on
+pub first_hands_on : (files : List ℕ → List ℕ) (file : List ℕ) (binds : List Binding) (cut : SavedCutValue) (q : List StatementTree)
+    (rows : List (List Snapshot)) (outcome : Outcome) → AreCuts (cuts_at cut q) → StartsBy cut.upto (files file) q
+    → TakesSession files binds (first_bounds (cuts_at cut q).each) (core_of q).inputs rows → outcome ≡ started cut q rows
+    → IsBegun files file binds cut outcome
+first_hands_on files file binds cut q rows outcome range starts read is =
+    let bounds = first_bounds (cuts_at cut q).each in
+    let good = inputs_good files binds bounds (core_of q).inputs rows read.read in
+    let many = read_many files binds bounds (core_of q).inputs rows read.read in
+    let handed : AreHanded q rows (Upto (cuts_at cut q)) = record {
+      accepted = starts_accepted (files file) q starts.starts;
+      range = range;
+      in_order = good.in_order;
+      cells = good.cells;
+      first = first_handed (core_of q) (cuts_at cut q) rows many (by_counted cut.upto (core_of q).inputs ∙ sym many) good.within;
+    } in
+    record {
+      query = q;
+      rows = rows;
+      says = starts;
+      read = read;
+      hands_on = hands_all_on q rows (cuts_at cut q) handed;
+      is = is;
+    }
 
 -- new rows start where others have ended, or after that
 new_after : (old : ℤ) (last : Option ℤ) (new : List Snapshot) → AllByRecursion (IsLate old last) new
@@ -191,7 +199,7 @@ module _ (files : List ℕ → List ℕ) (checkpoint : List ℕ) (binds : List B
   one_read : (c : CheckpointParts) → TakesCheckpoint (files checkpoint) c → c ≡ checkpoint_at q rows old
   one_read c taken =
       checkpoint_once checkpoint (files checkpoint) c is_of taken
-      (record { short = taken.short; valid = handed_valid q rows old hands.handed; spelled = hands.text })
+      (record { short = taken.short; valid = hands.valid; spelled = hands.text })
 
   beyond_of : (new : List (List Snapshot)) (outcome : Outcome) → IsInRange (end_of ending q) → faulty_end ending (core_of q).inputs ≡ None
       → IsOnward old (end_of ending q) → TakesSession files binds (later_bounds (end_of ending q) is_of) (core_of q).inputs new
@@ -203,13 +211,15 @@ module _ (files : List ℕ → List ℕ) (checkpoint : List ℕ) (binds : List B
       let counted = many ∙ sym hands.handed.first.counted ∙ sym (length-kept_each (first_kept (frame_of (core_of q)) old.least) old.each rows paired) in
       let for_each : AreCounted (end_of ending q) new = λ cuts same. given_counted ending (core_of q).inputs cuts same ∙ sym many in
       let are = later_handed (end_of ending q) is_of.series new counted for_each good.within in
+      let all = all_handed q rows new old (end_of ending q) hands.handed range on are good.in_order good.cells in
       record {
         more = new;
         beyond = newly is_of new (end_of ending q);
         named = named;
         onward = on;
         read = read;
-        handed = all_handed q rows new old (end_of ending q) hands.handed range on are good.in_order good.cells;
+        handed = all;
+        hands_on = hands_on_after ending q (added rows new) all;
         adds = law.printed rows is_that_of ∙ ap (λ (k : CutsParts). emitted (core_of q) rows (Upto k) ++ newly is_of new (end_of ending q)) cuts_are;
         is = is ∙ beyond_is ending q rows new old (λ upto same. law.left rows upto is_that_of same);
       }
@@ -234,7 +244,7 @@ module _ (files : List ℕ → List ℕ) (checkpoint : List ℕ) (binds : List B
 
   never_bad : (why : Reason) → RefusesToGoOn checkpoint ending (files checkpoint) why → why ≡ bad_checkpoint → ⊥
   never_bad why (no_checkpoint (long over)) same = cc same
-  never_bad why (no_checkpoint (of_none short none)) same = none is_of (handed_valid q rows old hands.handed) hands.text
+  never_bad why (no_checkpoint (of_none short none)) same = none is_of hands.valid hands.text
   never_bad why (no_cuts c taken is) same = no_bad_cuts (inputs_of c) why ending is same
   never_bad why (back c cuts before after taken none ends below) same = cc same
 

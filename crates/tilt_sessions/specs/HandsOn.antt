@@ -1,9 +1,9 @@
 -- What a session hands on to the next one, and how that one goes on beyond it.
-use Rattle.std.specs.Prelude.{◌≡◌, ◌++◌, ℕ, List, Option, Some, None}
+use Rattle.std.specs.Prelude.{◌≡◌, ◌++◌, ⊤, ℕ, List, Option, Some, None}
 use Rattle.std.specs.List.{AllByRecursion}
 use Rattle.tilt_checkpoint.specs.Cuts.{CutsParts}
 use Rattle.tilt_checkpoint.specs.Spelling.{Spells, spelling}
-use Rattle.tilt_checkpoint.specs.Valid.{IsAccepted, IsCell}
+use Rattle.tilt_checkpoint.specs.Valid.{IsAccepted, IsCell, IsCheckpoint}
 use Rattle.tilt_chunk.specs.Cuts.{IsInRange, IsOnward}
 use Rattle.tilt_chunk.specs.Emitted.{emitted}
 use Rattle.tilt_chunk.specs.Kept.{checkpoint_at}
@@ -30,9 +30,10 @@ pub record AreHanded (query : List StatementTree) (rows : List (List Snapshot)) 
   pub cells : AllByRecursion (AllByRecursion (λ row. IsCell row.value)) rows
   pub first : AreFirstRows (core_of query) cut rows
 
--- the bytes spell the checkpoint that one session leaves of a query and all rows up to cuts
+-- the bytes spell the checkpoint that one session leaves of a query and all rows up to cuts, and that checkpoint is valid
 pub record HandsOn (bytes : List ℕ) (query : List StatementTree) (rows : List (List Snapshot)) (cuts : CutsParts) : Type 0 where
   pub handed : AreHanded query rows (Upto cuts)
+  pub valid : IsCheckpoint (checkpoint_at query rows cuts)
   pub text : Spells bytes (checkpoint_at query rows cuts)
 
 -- what a first session comes to: the query and the rows are those that files give, and what is saved hands them on
@@ -54,8 +55,14 @@ beyond_outcome None query all beyond = printed (lines_of beyond)
 beyond_outcome (Some cut) query all beyond =
     printed_and_saved (lines_of beyond) cut.save (spelling (checkpoint_at query all (cuts_at cut query)))
 
--- what a session comes to that goes on after sessions on these rows, up to cuts: there are more rows, which files give, and what is
--- printed beyond is what one session prints on all rows after what one session prints on the earlier ones
+-- where a session ends by cuts, what it saves hands all rows on
+abbrev pub IsHandedOn : Option SavedCutValue → List StatementTree → List (List Snapshot) → Type 0
+IsHandedOn None query all = ⊤
+IsHandedOn (Some cut) query all = HandsOn (spelling (checkpoint_at query all (cuts_at cut query))) query all (cuts_at cut query)
+
+-- what a session comes to that goes on after sessions on these rows, up to cuts: there are more rows, which files give; what is
+-- printed beyond is what one session prints on all rows after what one session prints on the earlier ones; and what is saved hands all
+-- rows on
 pub record IsBeyond (files : List ℕ → List ℕ) (binds : List Binding) (query : List StatementTree) (rows : List (List Snapshot))
     (cuts : CutsParts) (ending : Option SavedCutValue) (outcome : Outcome) : Type 0 where
   pub more : List (List Snapshot)
@@ -64,5 +71,6 @@ pub record IsBeyond (files : List ℕ → List ℕ) (binds : List Binding) (quer
   pub onward : IsOnward cuts (end_of ending query)
   pub read : TakesSession files binds (later_bounds (end_of ending query) (checkpoint_at query rows cuts)) (core_of query).inputs more
   pub handed : AreHanded query (added rows more) (end_of ending query)
+  pub hands_on : IsHandedOn ending query (added rows more)
   pub adds : emitted (core_of query) (added rows more) (end_of ending query) ≡ emitted (core_of query) rows (Upto cuts) ++ beyond
   pub is : outcome ≡ beyond_outcome ending query (added rows more) beyond
