@@ -1,0 +1,138 @@
+"""Which program `./tilt` runs: the one built here, the released one, or one that is proved and built first. Tried on a small checkout whose
+programs are shell scripts, with a toolchain that builds nothing."""
+from __future__ import annotations
+
+import hashlib
+import os
+import pathlib
+import shutil
+import subprocess
+import time
+
+import pytest
+
+from conftest import TOP
+
+DESCRIPTION = 'version = "9.8.7"\nsources = "{sources}"\ntoolchain = "none"\nprogram = "{program}"\n'
+
+
+class Checkout:
+    """A checkout with two crates of the program, one of tests, and a release that was built from its sources."""
+
+    def __init__(self, folder: pathlib.Path) -> None:
+        self.folder = folder
+        (folder / "tools").mkdir(parents=True)
+        for name in ("tilt", "tools/program", "tools/sources", "tools/prove"):
+            shutil.copy(TOP / name, folder / name)
+        self.write("crates.txt", "# A comment: with a colon.\ntilt_base: itoa\ntilt: tilt_base\ntilt_tests: tilt\n")
+        for crate in ("tilt_base", "tilt", "tilt_tests"):
+            self.write(f"crates/{crate}/src/lib.rt", f"// {crate}\n")
+        self.write("crates/tilt_base/specs/Lib.antt", "")
+        self.release("released")
+
+    def write(self, name: str, text: str) -> pathlib.Path:
+        path = self.folder / name
+        path.parent.mkdir(parents=True, exist_ok=True)
+        path.write_text(text)
+        return path
+
+    def script(self, name: str, says: str) -> pathlib.Path:
+        path = self.write(name, f'#!/bin/sh\necho "{says} $*"\n')
+        path.chmod(0o755)
+        return path
+
+    def sources(self) -> str:
+        return subprocess.run([self.folder / "tools/sources"], check=True, capture_output=True, text=True).stdout.strip()
+
+    def release(self, says: str) -> None:
+        program = self.script("release/tilt", says)
+        digest = hashlib.sha256(program.read_bytes()).hexdigest()
+        self.write("release/release.toml", DESCRIPTION.format(sources=self.sources(), program=digest))
+
+    def run(self, *arguments: str, toolchain: bool = False) -> tuple[int, str, str]:
+        """A call of ./tilt: its status, its output and its messages. The path has no `rt`, or one that fails."""
+        folder = self.folder / "path"
+        folder.mkdir(exist_ok=True)
+        for name in ("sh", "env", "awk", "cat", "cut", "dirname", "find", "head", "mkdir", "python3", "readlink", "rm", "sed", "sha256sum", "sort",
+                     "touch", "xargs"):
+            found = shutil.which(name)
+            assert found is not None
+            if not (folder / name).exists():
+                (folder / name).symlink_to(found)
+        if toolchain:
+            (folder / "rt").write_text("#!/bin/sh\nexit 1\n")
+            (folder / "rt").chmod(0o755)
+        done = subprocess.run([self.folder / "tilt", *arguments], env={"PATH": str(folder)}, capture_output=True, text=True)
+        return done.returncode, done.stdout, done.stderr
+
+
+@pytest.fixture
+def checkout(tmp_path: pathlib.Path) -> Checkout:
+    return Checkout(tmp_path / "checkout")
+
+
+def test_release_of_these_sources_is_run_without_a_message(checkout: Checkout) -> None:
+    assert checkout.run("run", "a b") == (0, "released run a b\n", "")
+
+
+def test_release_is_run_through_a_link(checkout: Checkout, tmp_path: pathlib.Path) -> None:
+    (tmp_path / "link").symlink_to(checkout.folder / "tilt")
+    done = subprocess.run([tmp_path / "link", "x"], capture_output=True, text=True)
+    assert (done.returncode, done.stdout) == (0, "released x\n")
+
+
+@pytest.mark.parametrize("name", ["crates.txt", "crates/tilt/src/lib.rt", "crates/tilt_base/src/lib.rt", "crates/tilt_base/specs/Lib.antt"])
+def test_release_of_other_sources_is_not_run(checkout: Checkout, name: str) -> None:
+    with open(checkout.folder / name, "a") as file:
+        file.write("// changed\n")
+    status, out, err = checkout.run("run")
+    assert (status, out) == (125, "")
+    assert "no rt in PATH; release/tilt is the last release (9.8.7)" in err
+
+
+@pytest.mark.parametrize("name", ["crates/tilt_base/proofs/Lemma.antt", "crates/tilt/src/more.rt"])
+def test_release_is_not_run_if_a_source_is_new(checkout: Checkout, name: str) -> None:
+    checkout.write(name, "")
+    assert checkout.run("run")[:2] == (125, "")
+
+
+def test_sources_of_tests_do_not_count(checkout: Checkout) -> None:
+    checkout.write("crates/tilt_tests/src/lib.rt", "// changed\n")
+    assert checkout.run("run")[1] == "released run\n"
+
+
+def test_moved_source_counts(checkout: Checkout) -> None:
+    os.rename(checkout.folder / "crates/tilt/src/lib.rt", checkout.folder / "crates/tilt/src/other.rt")
+    assert checkout.run("run")[0] == 125
+
+
+def test_damaged_release_is_not_run(checkout: Checkout) -> None:
+    checkout.script("release/tilt", "damaged")
+    status, out, _ = checkout.run("run")
+    assert (status, out) == (125, "")
+
+
+def test_program_built_here_comes_first(checkout: Checkout) -> None:
+    checkout.script("crates/tilt/out/tilt", "built")
+    assert checkout.run("run")[1] == "built run\n"
+
+
+def test_program_older_than_a_source_is_not_run(checkout: Checkout) -> None:
+    program = checkout.script("crates/tilt/out/tilt", "built")
+    old = time.time() - 100
+    os.utime(program, (old, old))
+    assert checkout.run("run")[1] == "released run\n"
+
+
+def test_changed_source_is_proved_and_built(checkout: Checkout) -> None:
+    checkout.write("crates/tilt/src/lib.rt", "// changed\n")
+    status, out, err = checkout.run("run", toolchain=True)
+    assert (status, out) == (125, "")
+    assert "proving and building the program first" in err and "it could not be built" in err
+
+
+def test_release_of_this_checkout_is_described() -> None:
+    text = (TOP / "release" / "release.toml").read_text()
+    digest = hashlib.sha256((TOP / "release" / "tilt").read_bytes()).hexdigest()
+    assert f'program = "{digest}"\n' in text
+    assert os.access(TOP / "release" / "tilt", os.X_OK)
