@@ -3,6 +3,7 @@ from __future__ import annotations
 
 import datetime
 import io
+import hashlib
 import json
 import os
 import pathlib
@@ -220,7 +221,8 @@ def test_auto_is_one_scale_for_the_columns_that_have_none_of_their_own(told):
     assert status == 0, err
     assert [rows_in(name)[0][2] for name in ("temp.csv", "limit.csv", "volume.csv")] == [2050, 2375, 7000]
     assert json.loads(pathlib.Path("temp.json").read_text()) == {
-        "tilt-data": 1, "name": "temp", "tick": "1s", "origin": "2026-03-01T00:00:00Z", "closed": "left", "kind": "hold", "scale": 100}
+        "tilt-data": 1, "name": "temp", "tick": "1s", "origin": "2026-03-01T00:00:00Z", "closed": "left", "kind": "hold", "scale": 100,
+        "size": 34, "sha256": hashlib.sha256(b"start,end,value\n1,2,2050\n2,3,2000\n").hexdigest()}
 
 
 # Files

@@ -216,8 +216,13 @@ def test_notes_with_a_scale_that_is_none(told, scale):
 @pytest.mark.parametrize("text, what", [
     ("start,end,value\n0,5,7\n5,6,\"8", "x.csv:3: a record of CSV was expected: unexpected end of data"),
     ("a,b\n", "x.csv:1: the header start,end,value or key,start,end,value was expected"),
-    ("start,end,value\n0,5,7.5\n", "x.csv:2: a row of whole numbers as in the header was expected, not 0,5,7.5"),
-    ("start,end,value\n0,5\n", "x.csv:2: a row of whole numbers as in the header was expected, not 0,5"),
+    ("start,end,value\n0,5,7.5\n", "x.csv:2: a row start,end,value of whole numbers was expected, not 0,5,7.5"),
+    ("start,end,value\n0,5\n", "x.csv:2: 3 fields were expected as in the header, not 2"),
+    ("start,end,value\n0,5,7,8\n", "x.csv:2: 3 fields were expected as in the header, not 4"),
+    ("start,end,value\n9,5,1\n", "x.csv:2: rows in order were expected, each with its start below its end"),
+    ("start,end,value\n0,5,7\n4,9,1\n", "x.csv:3: rows in order were expected, each with its start below its end"),
+    ("key,start,end,value\na,0,5,7\nb,0,5,7\nb,4,9,1\n", "x.csv:4: rows in order were expected, each with its start below its end"),
+    ("key,start,end,value\n0,5,7\n", "x.csv:2: 4 fields were expected as in the header, not 3"),
 ])
 def test_bad_files(told, text, what):
     put("x", "")

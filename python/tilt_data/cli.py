@@ -2,11 +2,17 @@
 from __future__ import annotations
 
 import argparse
+import contextlib
+import io
 import os
+import signal
 import sys
+import threading
+import traceback
+from typing import Iterator
 
 from . import by, follow, plot, scaling, series, table, ticks, why
-from .errors import Refused
+from .errors import Refused, printable
 
 COMMANDS = [series, table, why, ticks, by, scaling, follow, plot]
 
@@ -22,6 +28,13 @@ def parser_of() -> argparse.ArgumentParser:
 
 def main(words: list[str] | None = None) -> int:
     words = sys.argv[1:] if words is None else words
+    prepare_streams()
+    with ending():
+        return called(words)
+
+
+def called(words: list[str]) -> int:
+    """Runs the command of these arguments: its status. Whatever goes wrong is one line on standard error."""
     try:
         # The words of `run` are the program's, whatever they are.
         if words[:1] == ["run"] and words[1:] not in (["--help"], ["-h"]):
@@ -30,19 +43,67 @@ def main(words: list[str] | None = None) -> int:
         status: int = parsed.main(parsed)
         return status
     except Refused as refused:
-        print(f"tilt-data: {refused}", file=sys.stderr)
-        give_up_output()
+        report("\n".join(map(printable, str(refused).split("\n"))))
         return refused.status
     except BrokenPipeError:
         # The reader of the output has gone: nothing more is written, also not at the end.
         os.dup2(os.open(os.devnull, os.O_WRONLY), 1)
         return 1
     except OSError as error:
-        print(f"tilt-data: {'' if error.filename is None else f'{error.filename}: '}{error.strerror or error}", file=sys.stderr)
-        give_up_output()
+        report(printable(f"{'' if error.filename is None else f'{error.filename}: '}{error.strerror or error}"))
         return 1
     except KeyboardInterrupt:
         return 130
+    except MemoryError:
+        report("out of memory")
+        return 1
+    except Exception as error:
+        if os.environ.get("TILT_DATA_DEBUG"):
+            traceback.print_exc()
+        report(printable(f"unexpected error: {type(error).__name__}: {error}; please report it"))
+        return 1
+
+
+def report(text: str) -> None:
+    print(f"tilt-data: {text}", file=sys.stderr)
+    give_up_output()
+
+
+def prepare_streams() -> None:
+    """Standard output and standard error take every text, as UTF-8. A stream that the caller closed keeps its number, so that no file is
+    opened under it, and fails when it is read or written; what goes to a closed standard error is dropped."""
+    for number, mode in ((0, os.O_WRONLY), (1, os.O_RDONLY), (2, os.O_RDONLY)):
+        try:
+            os.fstat(number)
+        except OSError:
+            # The lowest free number is the one that was closed.
+            os.set_inheritable(os.open(os.devnull, mode), True)
+    if sys.stderr is None:
+        sys.stderr = open(os.devnull, "w", encoding="utf-8")
+    for stream, errors in ((sys.stdout, "surrogateescape"), (sys.stderr, "backslashreplace")):
+        if isinstance(stream, io.TextIOWrapper):
+            stream.reconfigure(encoding="utf-8", errors=errors)
+
+
+@contextlib.contextmanager
+def ending() -> Iterator[None]:
+    """SIGTERM and SIGHUP end a command as an error does, so that it takes its temporary files away; the status is 128 and their number. A
+    signal that the caller ignores, as `nohup` does, stays ignored, and only the main thread can handle signals."""
+    numbers = [signal.SIGTERM, signal.SIGHUP] if threading.current_thread() is threading.main_thread() else []
+    taken = [number for number in numbers if signal.getsignal(number) is signal.SIG_DFL]
+
+    def end(number: int, _: object) -> None:
+        for one in taken:
+            signal.signal(one, signal.SIG_IGN)
+        raise SystemExit(128 + number)
+
+    for number in taken:
+        signal.signal(number, end)
+    try:
+        yield
+    finally:
+        for number in taken:
+            signal.signal(number, signal.SIG_DFL)
 
 
 def give_up_output() -> None:

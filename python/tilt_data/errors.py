@@ -1,6 +1,7 @@
 """What is told where a command can't go on."""
 from __future__ import annotations
 
+import unicodedata
 from typing import TYPE_CHECKING
 
 if TYPE_CHECKING:
@@ -11,6 +12,21 @@ class Refused(Exception):
     """Bad input. The text is one line that says the file, the line where there is one, and what was expected; the status is 1."""
 
     status = 1
+
+
+def printable(text: str) -> str:
+    """A text of data as it may be shown on a terminal: what would steer the terminal is written as an escape, as \\x1b for ESC. These are
+    control characters, also tabs and line ends, separators of lines, and marks that turn the direction of writing."""
+    return text if text.isascii() and text.isprintable() else "".join(escape(sign) if steers(sign) else sign for sign in text)
+
+
+def steers(sign: str) -> bool:
+    category = unicodedata.category(sign)
+    return category in ("Cc", "Zl", "Zp", "Cs") or category == "Cf" and unicodedata.bidirectional(sign) != "BN"
+
+
+def escape(sign: str) -> str:
+    return sign.encode("unicode_escape", "surrogatepass").decode("ascii")
 
 
 def refused_at(path: str, line: int, what: str) -> Refused:

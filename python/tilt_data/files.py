@@ -1,47 +1,108 @@
 """Files: they are read in a stream, and written beside their names, which they take at the end."""
 from __future__ import annotations
 
+import concurrent.futures
 import contextlib
 import csv
 import dataclasses
+import errno
+import hashlib
 import io
 import json
 import os
 import re
 import shutil
+import stat
 import sys
 import tempfile
 import urllib.parse
-from typing import IO, Iterator, cast
+from typing import IO, Any, Iterable, Iterator
 
-from .clock import Clock, Moments, duration_of, duration_text, moment_text
+from .clock import TIMES, Clock, Moments, duration_of, duration_text, moment_text
 from .errors import Refused, refused_at
 
 Row = tuple[int, int, "int | None"]
 HEADER = ["start", "end", "value"]
-# How the name of a file ends that has no name of its own yet.
+# How the program spells a number, and the numbers that it takes (`read_number` of crates/tilt_base).
+WHOLE = re.compile(r"[+-]?[0-9]+", re.ASCII)
+SMALLEST, LARGEST = -2**63, 2**63 - 1
+# How the name of a file ends that has no name of its own yet: in a folder that `scale` sweeps, and elsewhere.
 PLACED = ".tilt-data-new"
+BESIDE = ".tilt-data"
+# The longest name, in bytes, that a file beside it takes over whole: what is added has less than the other 55 of 255.
+LONGEST_NAME = 200
+# How many files are brought to the disk at the same time, so that the file system joins their commits.
+SYNCS = 16
+# The JSON file of a series that is being written.
+PENDING = b'{"tilt-data": 1, "pending": true}\n'
+# The conventions of a series.
+KINDS = ("hold", "event", "helper")
 # The folders of the files that a process was handed open.
 HANDED = re.compile(r"/proc/[0-9]+(/task/[0-9]+)?/fd", re.ASCII)
 
 
+class Digested(io.RawIOBase):
+    """The bytes of a file, with the digest of those that were read."""
+
+    def __init__(self, path: str) -> None:
+        self.raw = open(path, "rb", buffering=0)
+        self.digest = hashlib.sha256()
+        self.ended = False
+
+    def readable(self) -> bool:
+        return True
+
+    def readinto(self, buffer: Any) -> int:
+        count = self.raw.readinto(buffer) or 0
+        self.digest.update(memoryview(buffer)[:count])
+        self.ended = self.ended or not count
+        return count
+
+    def close(self) -> None:
+        self.raw.close()
+        super().close()
+
+
 @contextlib.contextmanager
-def reading(path: str) -> Iterator[IO[str]]:
-    """The text of a file, or of standard input where the path is `-`."""
+def reading(path: str, shown: str | None = None, sha256: str | None = None) -> Iterator[IO[str]]:
+    """The text of a file, or of standard input if the path is `-`. Errors name it as `shown`, or by its path. With the SHA-256 that its
+    notes have, a file that was read to its end and has another one is rejected there."""
+    shown = "standard input" if "-" in (path, shown) else shown or path
     try:
         if path == "-":
-            cast(io.TextIOWrapper, sys.stdin).reconfigure(encoding="utf-8-sig", newline="")
-            yield sys.stdin
-        else:
-            with open(path, encoding="utf-8-sig", newline="") as file:
-                yield file
+            stream = standard_input()
+            if isinstance(stream, io.TextIOWrapper):
+                stream.reconfigure(encoding="utf-8-sig", newline="")
+            yield stream
+            return
+        bytes_read = None if sha256 is None else Digested(path)
+        source: Any = path if bytes_read is None else io.BufferedReader(bytes_read, 1 << 16)
+        with opened_text(source) as file:
+            yield file
+        if bytes_read is not None and bytes_read.ended and bytes_read.digest.hexdigest() != sha256:
+            raise Stale(path, "it isn't the file that its JSON file describes")
     except BrokenPipeError:
         raise
     except OSError as error:
-        raise Refused(f"{path}: {error.strerror}") from error
+        raise Refused(f"{shown}: {error.strerror}") from error
     except UnicodeDecodeError as error:
         line = undecodable(path)
-        raise Refused(f"{path}{'' if line is None else f':{line}'}: a text in UTF-8 was expected") from error
+        raise Refused(f"{shown}{'' if line is None else f':{line}'}: a text in UTF-8 was expected") from error
+
+
+def opened_text(source: Any) -> IO[str]:
+    """The text of a path, or of a stream of bytes."""
+    if isinstance(source, str):
+        return open(source, encoding="utf-8-sig", newline="")
+    return io.TextIOWrapper(source, encoding="utf-8-sig", newline="")
+
+
+def standard_input() -> IO[str]:
+    """Standard input; if the caller closed it, it is rejected."""
+    stream: IO[str] | None = sys.stdin
+    if stream is None:
+        raise Refused("standard input: it can't be read: it is closed")
+    return stream
 
 
 def undecodable(path: str) -> int | None:
@@ -72,22 +133,42 @@ def records(path: str, file: IO[str], delimiter: str = ",") -> Iterator[tuple[in
 
 
 def rows_of(path: str, file: IO[str]) -> Iterator[Row]:
-    """The rows of a series or an output: start, end and value of each, in ticks and whole numbers; null is None."""
+    """The rows of a series or an output: start, end and value of each, in ticks and whole numbers; null is None. What the program rejects
+    is rejected here too, with its line."""
     found = records(path, file)
     line, header = next(found, (1, []))
     if header != HEADER:
         raise refused_at(path, line, "the header start,end,value was expected")
     before = None
     for line, record in found:
-        try:
-            start, end, value = record
-            row = int(start), int(end), int(value) if value else None
-        except ValueError as error:
-            raise refused_at(path, line, f"a row start,end,value of whole numbers was expected, not {','.join(record)}") from error
-        if row[0] >= row[1] or before is not None and row[0] < before:
-            raise refused_at(path, line, "rows in order were expected, each with its start below its end")
+        row = row_of(path, line, record, before)
         before = row[1]
         yield row
+
+
+def row_of(path: str, line: int, record: list[str], before: int | None = None) -> Row:
+    """The row of a record, after a row that ends at `before`. It is spelled as the program reads it: three fields of a sign and ASCII
+    digits, within 64 bits and the program's times, of which only the value may be empty."""
+    try:
+        start, end, value = record
+        row = whole(start), whole(end), whole(value) if value else None
+    except ValueError as error:
+        raise refused_at(path, line, f"a row start,end,value of whole numbers was expected, not {','.join(record)}") from error
+    if row[0] < -TIMES or row[1] > TIMES:
+        raise refused_at(path, line, f"times from -{TIMES} to {TIMES} were expected, not {start},{end}")
+    if row[0] >= row[1] or before is not None and row[0] < before:
+        raise refused_at(path, line, "rows in order were expected, each with its start below its end")
+    return row
+
+
+def whole(text: str) -> int:
+    """A number as the program reads it; a ValueError for another text."""
+    if text.isdigit() and text.isascii() and len(text) <= 18:
+        return int(text)
+    number = int(text) if WHOLE.fullmatch(text) else LARGEST + 1
+    if not SMALLEST <= number <= LARGEST:
+        raise ValueError(text)
+    return number
 
 
 def spooled(path: str, folder: str) -> str:
@@ -97,7 +178,7 @@ def spooled(path: str, folder: str) -> str:
     copy = os.path.join(folder, "spooled")
     with open(copy, "wb") as file:
         if path == "-":
-            shutil.copyfileobj(sys.stdin.buffer, file)
+            shutil.copyfileobj(standard_input().buffer, file)  # type: ignore[attr-defined]
         else:
             with open(path, "rb") as source:
                 shutil.copyfileobj(source, file)
@@ -111,16 +192,32 @@ def safe(text: str) -> str:
     return "%2E" + quoted[1:] if quoted.startswith(".") else quoted
 
 
+def unsafe(name: str) -> str:
+    """The text that a name was written for by `safe`; a name that `safe` doesn't write, as `%41`, is the text itself."""
+    text = urllib.parse.unquote(name)
+    return text if safe(text) == name else name
+
+
 class Outputs:
-    """Files that are written beside their names. All take their names at `commit`; without it they go away, and what stood under the
-    names stays. `write` appends to what is held, and brings it to the files from time to time, so that many files need few handles."""
+    """Files that are written beside their names. All take their names at `commit`; without it they go away, and what was there before
+    stays. `write` appends to what is held, and brings it to the files from time to time, so that many files need few handles.
+
+    A series and its JSON file are two files, and a file system renames one at a time. So `commit` has three steps, and folders are
+    brought to the disk after each: first each JSON file is replaced by one that says `pending`, then each CSV takes its name, and then each
+    JSON file takes its own, with the size and the SHA-256 of its CSV. Whenever the command is killed, a series has its old CSV and its old
+    JSON, or a JSON that is pending, which `notes_of` rejects, or its new CSV and its new JSON. New values never have the old scale, no
+    reader needs to read a CSV to notice it, and no set of series is a mix of old and new that all look right. An error or a signal in
+    `commit` brings each JSON file back that belongs to the CSV that is there."""
 
     def __init__(self, most: int = 100000) -> None:
         self.held: dict[str, list[str]] = {}
         self.count = 0
         self.most = most
         self.begun: dict[str, str] = {}
-        self.news: set[str] = set()
+        self.targets: set[str] = set()
+        self.folders: set[str] = set()
+        self.notes: dict[str, str] = {}
+        self.digests: dict[str, Digest] = {}
 
     def __enter__(self) -> Outputs:
         return self
@@ -130,6 +227,12 @@ class Outputs:
             drop(new, path)
 
     def write(self, path: str, text: str) -> None:
+        """Adds a text to a file. The text of a JSON file comes whole, and is that of `Notes`."""
+        if path.endswith(".json"):
+            if not text.startswith("{"):
+                raise Refused(f"{path}: a JSON file describes a series: give the series another name, as {path[:-5]}.csv")
+            self.notes[path] = text
+            return
         self.held.setdefault(path, []).append(text)
         self.count += 1
         if self.count >= self.most:
@@ -137,39 +240,157 @@ class Outputs:
 
     def flush(self) -> None:
         for path, texts in self.held.items():
-            try:
-                if path not in self.begun:
-                    self.begin(path)
-                with open(self.begun[path], "a", encoding="utf-8", newline="") as file:
-                    file.write("".join(texts))
-            except OSError as error:
-                raise Refused(f"{path}: it can't be written: {error.strerror}") from error
+            with failing_at(path):
+                self.append(path, "".join(texts).encode())
         self.held.clear()
         self.count = 0
 
+    def append(self, path: str, data: bytes) -> None:
+        if path not in self.begun:
+            self.begin(path)
+        with open(self.begun[path], "ab") as file:
+            file.write(data)
+        self.digests[path].update(data)
+
     def begin(self, path: str) -> None:
-        os.makedirs(os.path.dirname(path) or ".", exist_ok=True)
-        new = new_of(path)
-        if new in self.news:
+        self.folders |= made_folders(os.path.dirname(path))
+        folder, name = os.path.split(followed(path))
+        target = os.path.join(os.path.realpath(folder), name)
+        if target in self.targets:
             raise Refused(f"{path}: its links lead to the file of another output")
-        if new != path:
-            open(new, "w").close()
-        self.news.add(new)
-        self.begun[path] = new
+        self.begun[path] = new_of(path)
+        self.targets.add(target)
+        self.digests[path] = Digest()
+        if self.begun[path] != path:
+            self.folders.add(folder)
 
     def commit(self) -> None:
         self.flush()
-        for path, new in sorted(self.begun.items()):
-            try:
-                take_place(new, path)
-            except OSError as error:
-                raise Refused(f"{path}: it can't be written: {error.strerror}") from error
-            del self.begun[path]
+        series = {notes_path(path): path for path in self.begun}
+        for path, text in self.notes.items():
+            with failing_at(path):
+                self.append(path, (tied(text, self.digests[series[path]]) if path in series else text).encode())
+        with concurrent.futures.ThreadPoolExecutor(SYNCS) as pool:
+            list(pool.map(sync_new, self.begun.items()))
+        self.place(sorted(path for path in self.begun if path not in self.notes), sorted(self.notes), series)
+
+    def place(self, others: list[str], notes: list[str], series: dict[str, str]) -> None:
+        """Gives all files their names, in the three steps."""
+        folders = sorted(self.folders)
+        before: dict[str, bytes | None] = {}
+        try:
+            for path in notes:
+                if path in series and self.begun[path] != path:
+                    with failing_at(path):
+                        before[path] = bytes_in(path)
+                        put_back(path, PENDING)
+            sync_folders(folders if before else [])
+            for paths in (others, notes):
+                for path in paths:
+                    self.take(path)
+                sync_folders(folders)
+        except BaseException:
+            for path, text in before.items():
+                with contextlib.suppress(OSError, Refused):
+                    if series[path] in self.begun:
+                        put_back(path, text)
+                    elif path in self.begun:
+                        self.take(path)
+            raise
+
+    def take(self, path: str) -> None:
+        with failing_at(path):
+            take_place(self.begun[path], path)
+        del self.begun[path]
 
 
-def beside(path: str) -> str:
-    folder, name = os.path.split(path)
-    return os.path.join(folder, f".{name}.{os.getpid()}.tilt-data")
+class Digest:
+    """The size and the SHA-256 of the bytes of a file so far."""
+
+    def __init__(self) -> None:
+        self.size = 0
+        self.sha256 = hashlib.sha256()
+
+    def update(self, data: bytes) -> None:
+        self.size += len(data)
+        self.sha256.update(data)
+
+
+def tied(text: str, digest: Digest) -> str:
+    """The text of a JSON file with the size and the digest of its CSV."""
+    return json_text({**json.loads(text), "size": digest.size, "sha256": digest.sha256.hexdigest()})
+
+
+def bytes_in(path: str) -> bytes | None:
+    """The bytes of a small file, or None if there is none."""
+    try:
+        with open(path, "rb") as file:
+            return file.read()
+    except FileNotFoundError:
+        return None
+
+
+def put_back(path: str, text: bytes | None) -> None:
+    """Puts a JSON file in place, or takes it away if there is no text."""
+    if text is None:
+        os.unlink(followed(path))
+        return
+    new = new_of(path)
+    try:
+        with open(new, "wb") as file:
+            file.write(text)
+        take_place(new, path)
+    finally:
+        drop(new, path)
+
+
+@contextlib.contextmanager
+def failing_at(path: str) -> Iterator[None]:
+    """An error of the system is told of this output."""
+    try:
+        yield
+    except BrokenPipeError:
+        raise
+    except OSError as error:
+        raise Refused(f"{path}: it can't be written: {error.strerror}") from error
+
+
+def made_folders(folder: str) -> set[str]:
+    """Makes a folder, and those above it that aren't there; the folders whose names of folders are new."""
+    changed = set()
+    above = folder
+    while above and not os.path.exists(above):
+        above = os.path.dirname(above)
+        changed.add(above)
+    os.makedirs(folder or ".", exist_ok=True)
+    return changed
+
+
+def sync(path: str) -> None:
+    """Brings a file or a folder to the disk."""
+    number = os.open(path or ".", os.O_RDONLY)
+    try:
+        os.fsync(number)
+    finally:
+        os.close(number)
+
+
+def sync_new(begun: tuple[str, str]) -> None:
+    """Brings a new file to the disk; what is written as it stands isn't replaced, and has no need of it."""
+    path, new = begun
+    if new != path:
+        with failing_at(path):
+            sync(new)
+
+
+def sync_folders(folders: Iterable[str]) -> None:
+    """Brings the names in these folders to the disk, as far as the file system and the rights of the caller allow it."""
+    for folder in folders:
+        try:
+            sync(folder)
+        except OSError as error:
+            if error.errno not in (errno.EACCES, errno.EINVAL, errno.ENOTSUP):
+                raise Refused(f"{folder or '.'}: it can't be written: {error.strerror}") from error
 
 
 def followed(path: str) -> str:
@@ -187,12 +408,46 @@ def is_handed(path: str) -> bool:
 
 
 def new_of(path: str) -> str:
-    """Where an output is written before it takes its place, as the program saves: beside the file that its links lead to. A device, a pipe,
-    and a file that the caller handed open are written as they stand, after what is there."""
+    """Where an output is written before it takes its place, as the program saves: a new file that nobody else has, beside the file that its
+    links lead to. A device, a pipe, and a file that the caller handed open are written as they stand, after what is there. A file that the
+    caller may not write isn't replaced."""
     target = followed(path)
     if is_handed(target) or os.path.exists(target) and not os.path.isfile(target):
         return path
-    return beside(target)
+    if os.path.exists(target) and not os.access(target, os.W_OK, effective_ids=True):
+        raise PermissionError(errno.EACCES, os.strerror(errno.EACCES), path)
+    handle, new = new_beside(target, BESIDE)
+    os.close(handle)
+    return new
+
+
+def new_beside(target: str, end: str) -> tuple[int, str]:
+    """An open new file in the folder of another, with a name that nobody else has, and that name."""
+    folder, name = os.path.split(target)
+    name = os.fsdecode(os.fsencode(name)[:LONGEST_NAME])
+    try:
+        return tempfile.mkstemp(dir=folder or ".", prefix=f".{name}.", suffix=end)
+    except OSError as error:
+        raise OSError(error.errno, error.strerror, target) from error
+
+
+def mode_of(target: str) -> int:
+    """The mode of the file that is replaced, or that of an ordinary new file."""
+    try:
+        return stat.S_IMODE(os.stat(target).st_mode)
+    except FileNotFoundError:
+        return 0o666 & ~umask()
+
+
+def umask() -> int:
+    """The umask of the process. It is read from /proc, since `os.umask` would change it for other threads."""
+    try:
+        with open("/proc/self/status", encoding="ascii", errors="replace") as file:
+            return next(int(line.split()[1], 8) for line in file if line.startswith("Umask:"))
+    except (OSError, StopIteration):
+        found = os.umask(0o077)
+        os.umask(found)
+        return found
 
 
 def take_place(new: str, path: str) -> None:
@@ -200,9 +455,8 @@ def take_place(new: str, path: str) -> None:
     if new == path:
         return
     target = followed(path)
-    if os.path.exists(target):
-        with contextlib.suppress(OSError):
-            shutil.copymode(target, new)
+    with contextlib.suppress(PermissionError):
+        os.chmod(new, mode_of(target))
     os.replace(new, target)
 
 
@@ -216,9 +470,9 @@ def drop(new: str, path: str) -> None:
 def same_file(path: str, source: str) -> bool:
     """Whether a path leads to the file that is read, of which `-` is standard input."""
     try:
-        read = os.fstat(sys.stdin.fileno()) if source == "-" else os.stat(source)
+        read = os.fstat(standard_input().fileno()) if source == "-" else os.stat(source)
         return os.path.samestat(read, os.stat(path))
-    except (OSError, ValueError):
+    except (OSError, ValueError, Refused):
         return False
 
 
@@ -246,11 +500,15 @@ def replaced(path: str) -> Iterator[IO[str]]:
 
 @contextlib.contextmanager
 def taking(path: str) -> Iterator[str]:
-    """The path of a new file, which takes the place of another at the end, or goes away. Where that is written as it stands, it is its own."""
+    """The path of a new file, which is brought to the disk and takes the place of another at the end, or goes away. If the other is written
+    as it stands, the path is its own."""
     new = new_of(path)
     try:
         yield new
+        sync_new((path, new))
         take_place(new, path)
+        if new != path:
+            sync_folders([os.path.dirname(followed(path))])
     finally:
         drop(new, path)
 
@@ -258,17 +516,16 @@ def taking(path: str) -> Iterator[str]:
 @contextlib.contextmanager
 def placed(path: str, lasting: bool = True) -> Iterator[IO[bytes]]:
     """A file of bytes in a folder that several machines may share: it is written beside its name under one that nobody else has, brought
-    to the disk if it is to be `lasting`, and takes its name at the end. Where it doesn't come to the end, it goes away."""
-    folder, name = os.path.split(path)
-    os.makedirs(folder or ".", exist_ok=True)
-    handle, new = tempfile.mkstemp(dir=folder or ".", prefix=f".{name}.", suffix=PLACED)
+    to the disk if it is to be `lasting`, and takes its name at the end. If it doesn't come to the end, it goes away."""
+    os.makedirs(os.path.dirname(path) or ".", exist_ok=True)
+    handle, new = new_beside(path, PLACED)
     try:
         with open(handle, "wb") as file:
-            os.chmod(new, 0o644)
             yield file
             file.flush()
             if lasting:
                 os.fsync(file.fileno())
+        os.chmod(new, mode_of(path))
         os.replace(new, path)
     finally:
         with contextlib.suppress(OSError):
@@ -284,9 +541,17 @@ def sweep(folder: str) -> None:
                     os.unlink(os.path.join(where, name))
 
 
+class Stale(Refused):
+    """A JSON file that doesn't describe the series beside it."""
+
+    def __init__(self, series: str, why: str) -> None:
+        super().__init__(f"{series}: {why} ({notes_path(series)}), so its clock and scale aren't known: write the series again")
+
+
 @dataclasses.dataclass(frozen=True)
 class Notes:
-    """What stands in the JSON file beside a series: its clock, its scale, its convention (`hold` or `event`), and its name and key."""
+    """What the JSON file beside a series says: its clock, its scale, its convention (`hold`, `event`, or `helper` for what `ticks` writes),
+    its name and key, and the size and the SHA-256 of the CSV, which earlier versions didn't write."""
 
     clock: Clock
     scale: int = 1
@@ -294,14 +559,20 @@ class Notes:
     name: str = ""
     key: str | None = None
     zone: str | None = None
+    size: int | None = None
+    sha256: str | None = None
 
     def text(self) -> str:
         fields = {
             "tilt-data": 1, "name": self.name, "key": self.key, "tick": duration_text(self.clock.tick),
             "origin": moment_text(self.clock.origin, 9 if self.clock.origin % 10**9 else 0), "zone": self.zone,
-            "closed": self.clock.closed, "kind": self.kind, "scale": self.scale,
+            "closed": self.clock.closed, "kind": self.kind, "scale": self.scale, "size": self.size, "sha256": self.sha256,
         }
-        return json.dumps({name: value for name, value in fields.items() if value is not None}, indent=1, ensure_ascii=False) + "\n"
+        return json_text({name: value for name, value in fields.items() if value is not None})
+
+
+def json_text(fields: dict[str, Any]) -> str:
+    return json.dumps(fields, indent=1, ensure_ascii=False) + "\n"
 
 
 def notes_path(series: str) -> str:
@@ -310,19 +581,44 @@ def notes_path(series: str) -> str:
 
 
 def notes_of(series: str) -> Notes | None:
-    """What stands beside a series, or None where there is no such file."""
+    """What the JSON file beside a series says, or None if there is no such file. Notes that are pending, or of a CSV of another size, are
+    rejected as `Stale`; `reading` compares the digest when it reads the CSV to its end."""
     path = notes_path(series)
     if series == "-" or not os.path.exists(path):
         return None
     try:
         with open(path, encoding="utf-8") as file:
             found = json.load(file)
-        clock = Clock(duration_of(found["tick"]), Moments().read(found["origin"]), found.get("closed", "left"))
-        if int(found["scale"]) < 1:
-            raise ValueError("a scale above 0")
-        return Notes(clock, int(found["scale"]), found.get("kind", "hold"), found.get("name", ""), found.get("key"), found.get("zone"))
-    except (OSError, ValueError, KeyError, TypeError, AttributeError) as error:
+        if found.get("pending") is True:
+            raise Stale(series, "a command is writing this series, or was stopped while it did")
+        notes = notes_read(found)
+    except Stale:
+        raise
+    except (OSError, ValueError, KeyError, TypeError, AttributeError, RecursionError, Refused) as error:
         raise Refused(f"{path}: the JSON that `tilt-data series` writes was expected: {error}") from error
+    if notes.size is not None and os.path.isfile(series) and os.path.getsize(series) != notes.size:
+        raise Stale(series, f"it has {os.path.getsize(series)} bytes, and its JSON file describes one of {notes.size}")
+    return notes
+
+
+def notes_read(found: dict[str, Any]) -> Notes:
+    """The notes of the fields of a JSON file; a ValueError or a KeyError says what was expected."""
+    def field(name: str, kind: type, *default: Any) -> Any:
+        value = found.get(name, *default) if default else found[name]
+        if type(value) is not kind and not (default and value is default[0]):
+            raise ValueError(f"{name} {json.dumps(value)[:80]}: {'a whole number' if kind is int else 'a text'} was expected")
+        return value
+
+    clock = Clock(duration_of(field("tick", str)), Moments().read(field("origin", str)), field("closed", str, "left"))
+    if clock.closed not in ("left", "right"):
+        raise ValueError(f"closed {clock.closed!r}: left or right was expected")
+    notes = Notes(clock, field("scale", int), field("kind", str, "hold"), field("name", str, ""), field("key", str, None),
+                  field("zone", str, None), field("size", int, None), field("sha256", str, None))
+    if notes.scale < 1:
+        raise ValueError("a scale above 0")
+    if notes.kind not in KINDS:
+        raise ValueError(f"kind {notes.kind!r}: one of {', '.join(KINDS)} was expected")
+    return notes
 
 
 @contextlib.contextmanager

@@ -131,7 +131,7 @@ def readings_of(source: str, words: argparse.Namespace) -> Iterator[Reading]:
     """Each reading: its moment, its line, its key, the name of its series, and the text of its value. The source is the file of the words,
     or a copy of it."""
     path, moments, delimiter = words.file, Moments(words.unit, zone_of(words.zone)), delimiter_of(words.delimiter)
-    with reading(source) as file:
+    with reading(source, path) as file:
         found = records(path, file, delimiter)
         _, header = next(found, (1, [""]))
         columns = columns_of(header, words, path)

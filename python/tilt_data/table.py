@@ -9,14 +9,16 @@ import datetime
 import decimal
 import itertools
 import os
+import re
 from typing import IO, Any, Iterable, Iterator
 
 from .clock import Clock, duration_of, zone_of
 from .errors import Refused, refused_at
-from .files import HEADER, Notes, Row, notes_of, reading, records, rows_of, safe, writing
+from .files import HEADER, Notes, Row, notes_of, notes_path, reading, records, row_of, rows_of, safe, same_file, writing
 from .progress import shown
 from .scales import decimal_text
 
+SCALE = re.compile(r"[0-9]{1,30}", re.ASCII)
 HELP = """Prints outputs of tilt, or series, with dates and decimals. The clock and the scale are those of the JSON file beside the file,
 or of the series that --like names. A row start,end is the stretch of time from the first to the second; which of its ends belongs to it is
 the `closed` of the series. Where a file begins with key,start,end,value, as of `tilt-data by`, the key stays the first column."""
@@ -24,11 +26,13 @@ the `closed` of the series. Where a file begins with key,start,end,value, as of 
 
 @dataclasses.dataclass
 class Look:
-    """How times and values are written: the clock, the zone (None for UTC), and the scale."""
+    """How times and values are written: the clock, the zone (None for UTC), and the scale; and the SHA-256 that the file is to have, if its
+    own notes say one."""
 
     clock: Clock
     zone: datetime.tzinfo | None
     scale: int
+    sha256: str | None = None
     known: tuple[int, str] | None = None
 
     def time(self, tick: int) -> str:
@@ -69,14 +73,17 @@ class Looks:
     """How each file is written: by its own JSON file, or as the series that is named."""
 
     def __init__(self, words: argparse.Namespace) -> None:
+        self.out: str | None = words.out
         self.like = None if words.like is None else notes_of(words.like)
+        if words.like is not None:
+            self.keep(words.like)
         if words.like is not None and self.like is None:
             raise Refused(f"{words.like}: there is no JSON file beside it; `tilt-data series` writes one")
         self.zone = words.zone
         self.scales = dict(word.rpartition("=")[::2] for word in words.scale)
         for text in self.scales.values():
-            if not text.isdigit() or int(text) == 0:
-                raise Refused(f"--scale {text}: a whole number above 0 was expected")
+            if not SCALE.fullmatch(text) or int(text) == 0:
+                raise Refused(f"--scale {text[:40]}: a whole number above 0, of at most 30 digits, was expected")
 
     def check_names(self, words: list[str]) -> None:
         """Refuses a scale of a name that no file has: it would have changed nothing."""
@@ -85,12 +92,20 @@ class Looks:
             if name and name not in names:
                 raise Refused(f"--scale {name}=..: no file has this name; there are: {', '.join(names)}")
 
+    def keep(self, file: str) -> None:
+        """Rejects an output that would take the place of a file that is read, or of its notes."""
+        for one in (file, notes_path(file)):
+            if self.out is not None and os.path.isfile(self.out) and same_file(self.out, one):
+                raise Refused(f"{self.out}: it is a file that is read, and would be written over: name another file by --out")
+
     def of(self, name: str, file: str) -> Look:
-        notes: Notes | None = notes_of(file) or self.like
+        self.keep(file)
+        own = notes_of(file)
+        notes: Notes | None = own or self.like
         if notes is None:
             raise Refused(f"{file}: its ticks and scale aren't known: no JSON file is beside it; --like SERIES names a series that has one")
         scale = int(self.scales.get(name, self.scales.get("", notes.scale)))
-        return Look(notes.clock, zone_of(self.zone or notes.zone), scale)
+        return Look(notes.clock, zone_of(self.zone or notes.zone), scale, None if own is None else own.sha256)
 
 
 def merged(rows: Iterable[Row]) -> Iterator[Row]:
@@ -132,7 +147,7 @@ def plain(words: argparse.Namespace, looks: Looks) -> Iterator[list[str]]:
     """A row of text for each row, or for each stretch of equal neighbours; with the key as its first column where the file has one."""
     name, file = named(words.files[0])
     look = looks.of(name, file)
-    with reading(file) as opened:
+    with reading(file, sha256=look.sha256) as opened:
         keyed, groups = keyed_rows(file, opened)
         yield [*keyed, *HEADER]
         for key, rows in groups:
@@ -150,16 +165,17 @@ def keyed_rows(file: str, opened: IO[str]) -> tuple[list[str], Iterator[tuple[li
 
 
 def by_key(file: str, found: Iterable[tuple[int, list[str]]], width: int) -> Iterator[tuple[list[str], Iterator[Row]]]:
-    """The rows of each key that follow one another."""
+    """The rows of each key that follow one another. Those of one key are in order."""
     def parsed() -> Iterator[tuple[list[str], Row]]:
+        known: list[str] | None = None
+        before: int | None = None
         for line, record in found:
-            try:
-                start, end, value = record[-3:]
-                if len(record) != width:
-                    raise ValueError
-                yield record[:-3], (int(start), int(end), int(value) if value else None)
-            except ValueError as error:
-                raise refused_at(file, line, f"a row of whole numbers as in the header was expected, not {','.join(record)}") from error
+            if len(record) != width:
+                raise refused_at(file, line, f"{width} fields were expected as in the header, not {len(record)}")
+            key = record[:-3]
+            row = row_of(file, line, record[-3:], before if key == known else None)
+            known, before = key, row[1]
+            yield key, row
 
     for key, group in itertools.groupby(parsed(), lambda one: one[0]):
         yield key, (row for _, row in group)
@@ -201,7 +217,7 @@ def wide(files: list[tuple[str, str]], looks: Looks, merge: bool) -> Iterator[li
         raise Refused("these files have other ticks or origins: they have no common pieces")
     yield ["start", "end", *(name for name, _ in files)]
     with contextlib.ExitStack() as stack:
-        opened = [rows_of(file, stack.enter_context(reading(file))) for _, file in files]
+        opened = [rows_of(file, stack.enter_context(reading(file, sha256=shape.sha256))) for (_, file), shape in zip(files, shapes)]
         cursors = [Cursor(merged(rows) if merge else rows) for rows in opened]
         for start, end, values in shown(pieces(cursors), "rows"):
             yield [shapes[0].time(start), shapes[0].time(end), *(shape.value(value) for shape, value in zip(shapes, values))]
@@ -279,13 +295,20 @@ def episodes(words: argparse.Namespace, looks: Looks) -> Iterator[list[str]]:
     look = looks.of(name, file)
     others = [named(word) for word in words.of]
     gap = 0 if words.gap is None else look.clock.ticks(duration_of(words.gap), "--gap")
-    with reading(file) as opened:
+    with reading(file, sha256=look.sha256) as opened:
         keyed, groups = keyed_rows(file, opened)
         yield [*keyed, "start", "end", "seconds", *(f"{other}_{what}" for other, _ in others for what in ("min", "max", "mean"))]
         for key, rows in groups:
-            of_key = [(other, path.replace("{key}", safe(key[0])) if key else path) for other, path in others]
+            of_key = [(other, file_of(path, key[0]) if key else path) for other, path in others]
             for fields in episodes_of(rows, look, of_key, looks, gap):
                 yield [*key, *fields]
+
+
+def file_of(pattern: str, key: str) -> str:
+    """The file of a key: as `series` names it, or by the key itself if only that is there."""
+    path, plainly = (pattern.replace("{key}", text) for text in (safe(key), key))
+    is_name = "/" not in key and key not in (".", "..")
+    return plainly if is_name and not os.path.exists(path) and os.path.exists(plainly) else path
 
 
 def episodes_of(rows: Iterator[Row], look: Look, others: list[tuple[str, str]], looks: Looks, gap: int) -> Iterator[list[str]]:
@@ -293,7 +316,8 @@ def episodes_of(rows: Iterator[Row], look: Look, others: list[tuple[str, str]], 
     if any((shape.clock.tick, shape.clock.origin) != (look.clock.tick, look.clock.origin) for shape in shapes):
         raise Refused("the files of --of have other ticks or origins than the episodes")
     with contextlib.ExitStack() as stack:
-        within = [Within(rows_of(other, stack.enter_context(reading(other)))) for _, other in others]
+        opened = [stack.enter_context(reading(other, sha256=shape.sha256)) for (_, other), shape in zip(others, shapes)]
+        within = [Within(rows_of(other, file)) for (_, other), file in zip(others, opened)]
         for start, end in stretches(rows, gap):
             fields = [look.time(start), look.time(end), length_text(look.clock, end - start)]
             for one, shape in zip(within, shapes):

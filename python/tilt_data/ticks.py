@@ -52,7 +52,7 @@ def main(words: argparse.Namespace) -> int:
         outputs.write(words.out, "start,end,value\n")
         for row in shown(rows_of_kind(words, clock, lo, hi), "rows"):
             outputs.write(words.out, row_text(row))
-        outputs.write(notes_path(words.out), Notes(clock, 1, "hold", words.kind, None, words.zone).text())
+        outputs.write(notes_path(words.out), Notes(clock, 1, "helper", words.kind, None, words.zone).text())
         outputs.commit()
     return 0
 
