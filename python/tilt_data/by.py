@@ -6,18 +6,19 @@ import concurrent.futures
 import contextlib
 import dataclasses
 import glob
+import itertools
 import os
 import re
 import subprocess
 import sys
-import urllib.parse
 from typing import Any, Iterator
 
-from .errors import Refused
-from .files import scratch, writing
+from .clock import Clock
+from .errors import Refused, printable
+from .files import Notes, scratch, unsafe, writing
 from .program import program
 from .progress import shown
-from .why import refusal_of
+from .why import bound, clashes, known_notes, refusal_of
 
 HELP = """Runs a query for each key. A word NAME=FILE whose FILE has {key} in it is another file for each key, as
 temperature=data/{key}/temperature.csv for what `tilt-data series --key` writes, or data/{key}_temperature.csv for --prefix; the keys are
@@ -55,26 +56,67 @@ def keys_of(pattern: str) -> list[str]:
     return sorted(key for key in keys if os.path.exists(pattern.replace("{key}", key)))
 
 
-def run_key(words: list[str], key: str, file: str) -> Done:
-    bound = [word.replace("{key}", key) for word in words]
+def check_keys(names: list[str]) -> None:
+    """Rejects two names of one key, as Zürich and Z%C3%BCrich."""
+    known: dict[str, str] = {}
+    for name in names:
+        other = known.setdefault(unsafe(name), name)
+        if other != name:
+            raise Refused(f"{other} and {name} are names of one key, {unsafe(name)}: rename one of them")
+
+
+def run_key(words: list[str], key: str, file: str, running: set[subprocess.Popen[bytes]]) -> Done:
+    """Runs the program for a key. While it runs it is in the set."""
+    ours = [word.replace("{key}", key) for word in words]
     with open(file, "wb") as out:
         try:
-            done = subprocess.run([program(), "run", *bound], stdin=subprocess.DEVNULL, stdout=out, stderr=subprocess.PIPE)
+            process = subprocess.Popen([program(), "run", *ours], stdin=subprocess.DEVNULL, stdout=out, stderr=subprocess.PIPE)
         except OSError as error:
             raise Refused(f"the program can't be run: {error.strerror}") from error
-    return Done(urllib.parse.unquote(key), file, done.returncode, done.stderr.decode("utf-8", "replace"), bound)
+        running.add(process)
+        _, told = process.communicate()
+        running.discard(process)
+    return Done(unsafe(key), file, process.returncode, told.decode("utf-8", "replace"), ours)
 
 
 def runs(words: list[str], keys: list[str], jobs: int, folder: str) -> Iterator[Done]:
-    """What each key comes to, in the order of the keys; some more than `jobs` are begun at a time, and no more."""
+    """What each key comes to, in the order of the keys; some more than `jobs` are begun at a time, and no more. If the caller stops, the
+    programs that run are killed."""
+    running: set[subprocess.Popen[bytes]] = set()
     with concurrent.futures.ThreadPoolExecutor(jobs) as pool:
         begun: list[concurrent.futures.Future[Done]] = []
-        for at, key in enumerate(keys):
-            begun.append(pool.submit(run_key, words, key, os.path.join(folder, str(at))))
-            if len(begun) > 2 * jobs:
+        try:
+            for at, key in enumerate(keys):
+                begun.append(pool.submit(run_key, words, key, os.path.join(folder, str(at)), running))
+                if len(begun) > 2 * jobs:
+                    yield begun.pop(0).result()
+            while begun:
                 yield begun.pop(0).result()
-        while begun:
-            yield begun.pop(0).result()
+        except BaseException:
+            pool.shutdown(wait=False, cancel_futures=True)
+            for process in list(running):
+                process.kill()
+            raise
+
+
+def differences(binds: list[str], keys: list[str]) -> Iterator[str]:
+    """What the notes of the inputs differ in, for each key and from key to key: each difference once, with the first keys that have it."""
+    within: dict[str, list[str]] = {}
+    across: dict[str, dict[tuple[Clock, int], tuple[str, Notes]]] = {}
+    for key in keys:
+        texts: list[str] = []
+        known = known_notes(bound(["query", *(word.replace("{key}", key) for word in binds)]), texts)
+        for text in [*texts, clashes(known)]:
+            if text is not None:
+                within.setdefault(text, []).append(unsafe(key))
+        for name, notes in known.items():
+            across.setdefault(name, {}).setdefault((notes.clock, notes.scale), (unsafe(key), notes))
+    for text, some in within.items():
+        yield f"{', '.join(some[:3])}{', ..' if len(some) > 3 else ''}: {text}"
+    for name, found in across.items():
+        difference = clashes(dict(found.values()))
+        if difference is not None:
+            yield f"{name}, by key: {difference}"
 
 
 def main(words: argparse.Namespace) -> int:
@@ -84,6 +126,7 @@ def main(words: argparse.Namespace) -> int:
     keys = keys_of(patterns[0])
     if not keys:
         raise Refused(f"{patterns[0]}: no file has this name, for any key")
+    check_keys(keys)
     refused = []
     with scratch() as folder, writing(words.out) as out:
         out.write("key,start,end,value\n")
@@ -99,6 +142,8 @@ def main(words: argparse.Namespace) -> int:
             tell(refused)
             raise Refused(f"the key {refused[0].key} was refused: --keep-going prints the others")
     tell(refused)
+    for line in itertools.islice(differences(words.binds, keys), 10):
+        print(f"tilt-data: note: {printable(line)}", file=sys.stderr)
     if refused:
         print(f"tilt-data: {len(keys) - len(refused)} keys done, {len(refused)} refused", file=sys.stderr)
     return 1 if refused else 0
@@ -115,8 +160,9 @@ def keyed(done: Done) -> Iterator[str]:
 
 def tell(refused: list[Done]) -> None:
     for done in refused:
-        print(f"{done.key}: {done.told.rstrip()}", file=sys.stderr)
+        key = printable(done.key)
+        print(f"{key}: {done.told.rstrip()}", file=sys.stderr)
         refusal = refusal_of(done.told, done.words)
         with contextlib.suppress(BrokenPipeError):
             for line in refusal.lines() if refusal is not None else ():
-                print(f"{done.key}: {line}", file=sys.stderr)
+                print(f"{key}: {line}", file=sys.stderr)

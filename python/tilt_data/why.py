@@ -12,16 +12,20 @@ import os
 import re
 import subprocess
 import sys
-from typing import Any, Iterator
+from typing import Any, Collection, Iterable, Iterator, Literal, Mapping, Sequence, TypeVar, get_args
 
-from .errors import Refused
-from .files import notes_of
+from .errors import Refused, printable
+from .files import Notes, Stale, notes_of
 from .forms import fault_of
 from .program import program
 from .tokens import Fault, place_of
 
 SERIES_LINE = re.compile(r"(1[0-7]) series (\S+): (.*)")
 ROW = re.compile(r" in row (\d+)$")
+# What the notes of the inputs of a query have in common, or don't.
+Aspect = Literal["clock", "closed", "scale"]
+ASPECTS: tuple[Aspect, ...] = get_args(Aspect)
+Fact = TypeVar("Fact")
 CURES = {
     10: "the first line has to be start,end,value; a CSV of readings becomes a series by `tilt-data series`",
     11: "a row has three fields: start,end,value",
@@ -48,18 +52,21 @@ class Refusal:
     cure: str = ""
 
     def lines(self) -> Iterator[str]:
+        """What is shown: the place and what was expected, the text with a mark below it, and the cure. Signs that would steer a terminal are
+        escaped."""
         place = ":".join(str(part) for part in (self.file, self.line, self.column) if part is not None)
-        yield f"{place}: {self.expected}"
+        yield printable(f"{place}: {self.expected}")
+        # Only what is around the place of a long line is shown.
+        begin = max(0, (self.column or 1) - 60)
+        text = self.text.replace("\t", " ")
         if self.text:
-            # Only what lies around the place of a long line is shown.
-            begin = max(0, (self.column or 1) - 60)
-            yield "    " + self.text[begin:begin + 120].replace("\t", " ")
+            yield "    " + printable(text[begin:begin + 120])
         if self.column is not None:
-            begin = max(0, self.column - 60)
-            room = max(1, len(self.text) - self.column + 1)
-            yield "    " + " " * (self.column - 1 - begin) + "^" * max(1, min(self.width, room, 80))
+            at, room = self.column - 1, max(1, len(text) - self.column + 1)
+            marked = printable(text[at:at + min(self.width, room, 80)])
+            yield "    " + " " * len(printable(text[begin:at])) + "^" * max(1, len(marked))
         if self.cure:
-            yield f"    {self.cure}"
+            yield f"    {printable(self.cure)}"
 
 
 def placed(file: str, text: bytes, fault: Fault) -> Refusal:
@@ -178,21 +185,51 @@ def refusal_of(told: str, words: list[str]) -> Refusal | None:
     return fault_refusal(line[len("4 read fault: "):]) if line.startswith("4 read fault: ") else None
 
 
-def clashes(words: list[str]) -> str | None:
-    """Inputs whose JSON files tell another clock or another scale than the first one's."""
-    known = []
-    for name, file in bound(words).items():
+def clashes(inputs: Sequence[str] | Mapping[str, Notes], of: Collection[Aspect] = ASPECTS) -> str | None:
+    """What the notes of inputs differ in, in one line; None if they agree. The inputs are the arguments of `run` after it, or the notes by
+    the names of the inputs. `of` says what is compared. Scales aren't compared with those of helper series, which count and have no unit.
+    With arguments, files without notes are left out, and notes that don't describe their file are part of the line."""
+    texts: list[str] = []
+    known = inputs if isinstance(inputs, Mapping) else known_notes(bound(list(inputs)), texts)
+    clocks = distinct((name, (notes.clock.tick, notes.clock.origin)) for name, notes in known.items())
+    if "clock" in of and len(clocks) > 1:
+        first, other = (names[0] for names in list(clocks.values())[:2])
+        texts.append(f"the series {first} and {other} have other ticks or origins: write one --like the other")
+    closed = distinct((name, notes.clock.closed) for name, notes in known.items())
+    if "closed" in of and len(closed) > 1:
+        texts.append(f"the inputs differ in `closed` ({shown_by(closed)}): write one --like the other")
+    scales = distinct((name, notes.scale) for name, notes in known.items() if notes.kind != "helper")
+    if "scale" in of and len(scales) > 1:
+        texts.append(f"the inputs have different scales ({shown_by(scales)}): write one --like the other before you add or compare them")
+    return "; ".join(texts) or None
+
+
+def known_notes(files: Mapping[str, str], stale: list[str]) -> dict[str, Notes]:
+    """The notes of the files that have some; what is said of those that don't describe their file is added to `stale`."""
+    known: dict[str, Notes] = {}
+    for name, file in files.items():
         try:
             notes = notes_of(file)
+        except Stale as error:
+            stale.append(str(error))
         except Refused:
             continue
-        if notes is not None:
-            known.append((name, notes))
-    for name, notes in known[1:]:
-        first, other = known[0][1].clock, notes.clock
-        if (first.tick, first.origin) != (other.tick, other.origin):
-            return f"the series {known[0][0]} and {name} have other ticks or origins: write one --like the other"
-    return None
+        else:
+            known |= {} if notes is None else {name: notes}
+    return known
+
+
+def distinct(found: Iterable[tuple[str, Fact]]) -> dict[Fact, list[str]]:
+    """The names that have each value."""
+    names: dict[Fact, list[str]] = {}
+    for name, fact in found:
+        names.setdefault(fact, []).append(name)
+    return names
+
+
+def shown_by(names: Mapping[Fact, list[str]], most: int = 3) -> str:
+    """The names and their values, as `a, b: 10; c: 100`."""
+    return "; ".join(f"{', '.join(some[:most])}{', ..' if len(some) > most else ''}: {fact}" for fact, some in names.items())
 
 
 def call(words: list[str]) -> tuple[int, bytes]:
@@ -208,14 +245,15 @@ def call(words: list[str]) -> tuple[int, bytes]:
 def run(words: list[str]) -> int:
     """`tilt run` with these words: its status and its bytes."""
     status, told = call(["run", *words])
-    sys.stdout.flush()
+    if sys.stdout is not None:
+        sys.stdout.flush()
     sys.stderr.write(told.decode("utf-8", "replace"))
     if status:
         tell(refusal_of(told.decode("utf-8", "replace"), words))
     else:
         clash = clashes(words)
         if clash:
-            print(f"tilt-data: note: {clash}", file=sys.stderr)
+            print(f"tilt-data: note: {printable(clash)}", file=sys.stderr)
     return status
 
 
