@@ -10,6 +10,7 @@ import re
 import signal
 import subprocess
 import sys
+import tempfile
 import time
 
 import pytest
@@ -207,7 +208,8 @@ def test_notes_that_series_doesnt_write(told, change, what):
     assert status == 1 and err.startswith(f"tilt-data: x.json: the JSON that `tilt-data series` writes was expected: {what}")
 
 
-@pytest.mark.parametrize("text", ['{"scale": 1e999, "tick": "1s", "origin": "2026-03-01"}', "[" * 100000, "[]", "7", "", "\xff", '{"scale": ' + "9" * 5000 + "}"])
+@pytest.mark.parametrize("text", ['{"scale": 1e999, "tick": "1s", "origin": "2026-03-01"}', "[" * 100000, "[]", "7", "", "\xff", '{"scale": ' + "9" * 5000 + "}"],
+                         ids=["infinite", "deep", "list", "number", "empty", "encoding", "long"])
 def test_notes_that_are_no_notes(told, text):
     put("x", "0,5,7\n")
     pathlib.Path("x.json").write_bytes(text.encode("latin-1"))
@@ -272,7 +274,7 @@ def test_two_calls_never_have_one_temporary_file(tmp_path, monkeypatch):
     assert pathlib.Path("out").read_text() == "other\n" and os.listdir() == ["out"]
 
 
-@pytest.mark.parametrize("name", ["a" * 255, "é" * 127])
+@pytest.mark.parametrize("name", ["a" * 255, "é" * 127], ids=["ascii", "other"])
 def test_a_name_may_be_as_long_as_the_file_system_takes_it(told, name):
     put("x", "0,5,7\n")
     assert told("table", "x.csv", "-o", name) == (0, "", "")
@@ -294,21 +296,26 @@ def test_new_files_have_the_mode_of_ordinary_new_files(told, mask):
     assert {os.stat(path).st_mode & 0o777 for path in ("out", "p/x.csv", "p/x.json", "part")} == {0o666 & ~mask}
 
 
-def test_a_file_that_may_not_be_written_isnt_replaced(told, tmp_path):
-    put("x", "0,5,7\n")
-    pathlib.Path("out").write_text("old")
-    os.chmod("out", 0o444)
-    root = os.geteuid() == 0
-    if root:
-        os.chown(tmp_path, 65534, -1)
-        os.chown("out", 65534, -1)
-        os.seteuid(65534)
-    try:
-        assert told("table", "x.csv", "-o", "out") == (1, "", "tilt-data: out: it can't be written: Permission denied\n")
-    finally:
-        if root:
-            os.seteuid(0)
-    assert pathlib.Path("out").read_text() == "old" and sorted(os.listdir()) == ["out", "x.csv", "x.json"]
+@pytest.mark.parametrize("mode, status", [(0o444, 1), (0o644, 0)])
+def test_a_file_that_may_not_be_written_isnt_replaced(told, monkeypatch, mode, status):
+    # Root may write every file, so another user tries, in a folder of its own that it reaches by its whole path.
+    with tempfile.TemporaryDirectory(dir="/tmp") as folder:
+        monkeypatch.chdir(folder)
+        put("x", "0,5,7\n")
+        pathlib.Path("out").write_text("old")
+        os.chmod("out", mode)
+        other = 65534 if os.geteuid() == 0 else os.geteuid()
+        for path in (folder, "out"):
+            os.chown(path, other, -1)
+        before = os.geteuid()
+        os.seteuid(other)
+        try:
+            got = told("table", "x.csv", "-o", "out")
+        finally:
+            os.seteuid(before)
+        assert got == (status, "", "tilt-data: out: it can't be written: Permission denied\n" if status else "")
+        assert (pathlib.Path("out").read_text() == "old") == bool(status) and sorted(os.listdir()) == ["out", "x.csv", "x.json"]
+        monkeypatch.undo()
 
 
 def ended(number: int, tmp_path: pathlib.Path, **how: object) -> subprocess.Popen[bytes]:
@@ -321,6 +328,20 @@ def ended(number: int, tmp_path: pathlib.Path, **how: object) -> subprocess.Pope
     assert len(os.listdir(tmp_path)) == 4
     process.send_signal(number)
     return process
+
+
+@pytest.mark.parametrize("where", ["mkstemp", "close", "replace"])
+def test_a_signal_that_comes_while_a_file_is_made_leaves_none(told, tmp_path, where):
+    put("x", "0,5,7\n")
+    pathlib.Path("out").write_text("old")
+    module = {"mkstemp": "tempfile", "close": "os", "replace": "os"}[where]
+    code = (f"import os, signal, sys, tempfile\nfrom tilt_data.cli import main\nreal = {module}.{where}\n"
+            f"def one(*words, **named):\n    {module}.{where} = real\n    found = real(*words, **named)\n"
+            f"    os.kill(os.getpid(), signal.SIGTERM)\n    return found\n{module}.{where} = one\nsys.exit(main(sys.argv[1:]))\n")
+    done = subprocess.run([sys.executable, "-c", code, "table", "x.csv", "-o", "out"], env={**os.environ, "PYTHONPATH": str(PYTHON)}, capture_output=True)
+    assert (done.returncode, done.stderr) == (143, b"")
+    assert sorted(os.listdir()) == ["out", "x.csv", "x.json"]
+    assert (pathlib.Path("out").read_text() == "old") == (where != "replace")
 
 
 @pytest.mark.parametrize("number", [signal.SIGTERM, signal.SIGHUP])
@@ -341,9 +362,12 @@ def test_a_signal_that_the_caller_ignores_stays_ignored(told, tmp_path):
 
 
 def test_handlers_are_those_of_the_caller_again(told):
-    before = signal.getsignal(signal.SIGTERM), signal.getsignal(signal.SIGHUP)
-    told("table", "nothing.csv")
-    assert (signal.getsignal(signal.SIGTERM), signal.getsignal(signal.SIGHUP)) == before
+    before = signal.signal(signal.SIGTERM, signal.SIG_DFL)
+    try:
+        told("table", "nothing.csv")
+        assert signal.getsignal(signal.SIGTERM) is signal.SIG_DFL
+    finally:
+        signal.signal(signal.SIGTERM, before)
 
 
 # Streams and errors

@@ -12,6 +12,7 @@ import json
 import os
 import re
 import shutil
+import signal
 import stat
 import sys
 import tempfile
@@ -35,6 +36,8 @@ LONGEST_NAME = 200
 SYNCS = 16
 # The JSON file of a series that is being written.
 PENDING = b'{"tilt-data": 1, "pending": true}\n'
+# The signals that end a command.
+ENDING = (signal.SIGINT, signal.SIGTERM, signal.SIGHUP)
 # The conventions of a series.
 KINDS = ("hold", "event", "helper")
 # The folders of the files that a process was handed open.
@@ -258,7 +261,8 @@ class Outputs:
         target = os.path.join(os.path.realpath(folder), name)
         if target in self.targets:
             raise Refused(f"{path}: its links lead to the file of another output")
-        self.begun[path] = new_of(path)
+        with uninterrupted():
+            self.begun[path] = new_of(path)
         self.targets.add(target)
         self.digests[path] = Digest()
         if self.begun[path] != path:
@@ -335,8 +339,10 @@ def put_back(path: str, text: bytes | None) -> None:
     if text is None:
         os.unlink(followed(path))
         return
-    new = new_of(path)
+    new = path
     try:
+        with uninterrupted():
+            new = new_of(path)
         with open(new, "wb") as file:
             file.write(text)
         take_place(new, path)
@@ -405,6 +411,16 @@ def followed(path: str) -> str:
 def is_handed(path: str) -> bool:
     """Whether it is the path of a descriptor: one of /dev/fd, which leads to the folder `fd` of a process in /proc, or of such a folder."""
     return HANDED.fullmatch(os.path.realpath(os.path.dirname(path) or ".")) is not None
+
+
+@contextlib.contextmanager
+def uninterrupted() -> Iterator[None]:
+    """A signal that ends the command waits until the end of this block, so that a file is known to be taken away as soon as it is there."""
+    before = signal.pthread_sigmask(signal.SIG_BLOCK, ENDING)
+    try:
+        yield
+    finally:
+        signal.pthread_sigmask(signal.SIG_SETMASK, before)
 
 
 def new_of(path: str) -> str:
@@ -502,8 +518,10 @@ def replaced(path: str) -> Iterator[IO[str]]:
 def taking(path: str) -> Iterator[str]:
     """The path of a new file, which is brought to the disk and takes the place of another at the end, or goes away. If the other is written
     as it stands, the path is its own."""
-    new = new_of(path)
+    new = path
     try:
+        with uninterrupted():
+            new = new_of(path)
         yield new
         sync_new((path, new))
         take_place(new, path)
@@ -518,8 +536,10 @@ def placed(path: str, lasting: bool = True) -> Iterator[IO[bytes]]:
     """A file of bytes in a folder that several machines may share: it is written beside its name under one that nobody else has, brought
     to the disk if it is to be `lasting`, and takes its name at the end. If it doesn't come to the end, it goes away."""
     os.makedirs(os.path.dirname(path) or ".", exist_ok=True)
-    handle, new = new_beside(path, PLACED)
+    new = path
     try:
+        with uninterrupted():
+            handle, new = new_beside(path, PLACED)
         with open(handle, "wb") as file:
             yield file
             file.flush()
@@ -528,8 +548,7 @@ def placed(path: str, lasting: bool = True) -> Iterator[IO[bytes]]:
         os.chmod(new, mode_of(path))
         os.replace(new, path)
     finally:
-        with contextlib.suppress(OSError):
-            os.unlink(new)
+        drop(new, path)
 
 
 def sweep(folder: str) -> None:
