@@ -207,6 +207,29 @@ def test_a_scale_of_a_name_that_no_file_has(told):
     assert told("table", "x.csv", "--scale", "y=10") == (1, "", "tilt-data: --scale y=..: no file has this name; there are: x\n")
 
 
+@pytest.mark.parametrize("scale", ["0", "²", "٣", "1_0", "+5", " 5", "1.5", "", "9" * 5000, "x=²"])
+def test_a_scale_that_is_none(told, scale):
+    put("x", "0,5,7\n", scale=1)
+    text = scale.removeprefix("x=")[:40]
+    wanted = f"tilt-data: --scale {text}: a whole number above 0, of at most 30 digits, was expected\n"
+    assert told("table", "x.csv", f"--scale={scale}") == (1, "", wanted)
+
+
+@pytest.mark.parametrize("words, out", [
+    (["x.csv"], "x.csv"), (["x.csv"], "x.json"), (["x.csv"], "./x.csv"), (["x.csv"], "link"), (["y=y.csv", "x.csv", "--wide"], "x.csv"),
+    (["y.csv", "--like", "x.csv"], "x.csv"), (["y.csv", "--like", "x.csv"], "x.json"), (["y.csv", "--episodes", "--of", "x.csv"], "x.csv"),
+    (["all.csv", "--like", "y.csv", "--episodes", "--of", "x={key}.csv"], "x.csv"),
+])
+def test_what_is_read_is_never_written_over(told, words, out):
+    put("x", "0,5,7\n"), put("y", "0,9,1\n")
+    pathlib.Path("all.csv").write_text("key,start,end,value\nx,0,9,1\n")
+    os.symlink("x.csv", "link")
+    before = {name: pathlib.Path(name).read_bytes() for name in os.listdir()}
+    assert told("table", *words, "-o", out) == (
+        1, "", f"tilt-data: {out}: it is a file that is read, and would be written over: name another file by --out\n")
+    assert {name: pathlib.Path(name).read_bytes() for name in os.listdir()} == before
+
+
 @pytest.mark.parametrize("scale", [0, -1])
 def test_notes_with_a_scale_that_is_none(told, scale):
     put("x", "0,5,7\n", scale=scale)

@@ -11,10 +11,12 @@ import sys
 import pytest
 import queries
 from conftest import PYTHON, TOP, run_program
+from tilt_data.clock import Clock
+from tilt_data.files import Notes
 from tilt_data.forms import fault_of
 from tilt_data.grammar import statements_of
 from tilt_data.tokens import Faulty, place_of
-from tilt_data.why import placed
+from tilt_data.why import clashes, placed
 
 QUERY = "input x;\nemit x over (0, 10];\n"
 ROWS = "start,end,value\n0,5,7\n6,8,9\n"
@@ -202,6 +204,81 @@ def test_series_of_other_clocks_are_told(tilt, told):
     assert status == 0 and err == "tilt-data: note: the series x and y have other ticks or origins: write one --like the other\n"
     assert told("run", "q", "x=x.csv", "y=x.csv")[2] == ""
     assert run_program(tilt, "input x; emit x over (0, 10];", "x=x.csv") != ""
+
+
+def series_of(told, name: str, *words: str) -> None:
+    put(raw=f"time,{name}\n2026-03-01T00:00:01,20.5\n2026-03-01T00:00:03,3\n")
+    assert told("series", "raw", "--time", "time", "--tick", "1s", *words)[0] == 0
+
+
+SCALES = "tilt-data: note: the inputs have different scales (x: 10; y: 100): write one --like the other before you add or compare them\n"
+
+
+def test_series_of_other_scales_are_told(tilt, told):
+    put(q="input x; input y; emit x + y over (0, 10];")
+    series_of(told, "x", "--scale", "10"), series_of(told, "y", "--scale", "100")
+    status, _, err = told("run", "q", "x=x.csv", "y=y.csv")
+    # The query may be right, as a product is: the status stays that of the program.
+    assert (status, err) == (0, SCALES)
+    series_of(told, "y", "--scale", "10")
+    assert told("run", "q", "x=x.csv", "y=y.csv")[::2] == (0, "")
+    put(wrong="input x; input y; emit z over (0, 10];")
+    series_of(told, "y", "--scale", "100")
+    status, _, err = told("run", "wrong", "x=x.csv", "y=y.csv")
+    assert status == 1 and "note" not in err
+
+
+def test_series_that_differ_in_closed_are_told(tilt, told):
+    put(q="input x; input y; emit x + y over (0, 10];")
+    series_of(told, "x", "--scale", "10"), series_of(told, "y", "--scale", "10", "--closed", "right")
+    assert told("run", "q", "x=x.csv", "y=y.csv")[::2] == (
+        0, "tilt-data: note: the inputs differ in `closed` (x: left; y: right): write one --like the other\n")
+
+
+def test_helper_series_have_no_unit(tilt, told):
+    put(q="input x; input each; emit avg(x[t-2:t]) over (0, 10];", other="input x; input each; emit x + each over (0, 10];")
+    series_of(told, "x", "--scale", "10")
+    assert told("ticks", "each", "each.csv", "--like", "x.csv", "--from", "0", "--to", "9")[0] == 0
+    assert told("run", "other", "x=x.csv", "each=each.csv")[::2] == (0, "")
+
+
+def test_notes_that_dont_describe_their_file_are_told(tilt, told):
+    put(q="input x; emit x over (0, 10];")
+    series_of(told, "x", "--scale", "10")
+    pathlib.Path("x.csv").write_text("start,end,value\n")
+    status, _, err = told("run", "q", "x=x.csv")
+    assert status == 0 and err.startswith("tilt-data: note: x.csv: it has 16 bytes, and its JSON file describes one of ")
+    # A JSON file that isn't of tilt-data says nothing of the series.
+    pathlib.Path("x.json").write_text('{"name": "package"}')
+    assert told("run", "q", "x=x.csv")[::2] == (0, "")
+
+
+def test_what_is_compared():
+    left, right = Clock(10**9, 0), Clock(10**9, 0, "right")
+    known = {"a": Notes(left, 1), "b": Notes(left, 10), "c": Notes(right, 1), "d": Notes(Clock(10**6, 0), 1), "e": Notes(left, 7, "helper")}
+
+    def of(names: str, *aspects: str) -> str | None:
+        return clashes({name: known[name] for name in names}, **({"of": aspects} if aspects else {}))
+
+    assert of("a") is of("ae") is of("") is None
+    assert of("ab") == "the inputs have different scales (a: 1; b: 10): write one --like the other before you add or compare them"
+    assert of("ac") == "the inputs differ in `closed` (a: left; c: right): write one --like the other"
+    assert of("ad") == "the series a and d have other ticks or origins: write one --like the other"
+    assert of("ab", "clock", "closed") is of("ac", "clock", "scale") is of("ad", "scale", "closed") is None
+    assert of("abcd") == "; ".join([of("ad"), "the inputs differ in `closed` (a, b, d: left; c: right): write one --like the other",
+                                    "the inputs have different scales (a, c, d: 1; b: 10): write one --like the other before you add or compare them"])
+    assert "(a, b, c, ..: 1; e: 2)" in clashes({name: Notes(left, 2 if name == "e" else 1) for name in "abcde"})
+
+
+def test_what_would_steer_a_terminal_is_escaped_where_a_mistake_is(tilt, told):
+    put(q="input x; emit \x1b[31mx over (0, 10];")
+    status, _, err = told("why", "q")
+    lines = err.splitlines()
+    assert status == 1 and "\x1b" not in err and lines[2:4] == [r"    input x; emit \x1b[31mx over (0, 10];", "                  ^^^^"]
+    pathlib.Path("x\x1b").write_text("start,end,value\n0,5,\x1b[31m\n")
+    put(q=QUERY)
+    err = told("run", "q", "x=x\x1b")[2]
+    assert "\x1b" not in err.partition("\n")[2] and err.splitlines()[1:3] == [r"x\x1b:2: bad field 3 in row 1", r"    0,5,\x1b[31m"]
 
 
 def causes() -> list[tuple[str, list[str], list[str]]]:
