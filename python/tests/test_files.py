@@ -393,6 +393,16 @@ def test_streams_that_are_closed(told, tilt, tmp_path):
     assert (done.returncode, done.stdout) == (1, "")
 
 
+def test_no_file_is_opened_under_the_number_of_a_closed_stream(tmp_path):
+    code = ("import os; from tilt_data.cli import prepare_streams; prepare_streams(); number = os.open('f', os.O_CREAT | os.O_WRONLY)\n"
+            "for stream, use in ((0, lambda: os.read(0, 1)), (1, lambda: os.write(1, b'x')), (2, lambda: os.write(2, b'x'))):\n"
+            "    try:\n        use()\n    except OSError as error:\n        os.write(number, f'{stream} {error.errno}\\n'.encode())\n"
+            "os.write(number, b'above' if number > 2 else b'below')\n")
+    command = f"{sys.executable} -c \"$CODE\" <&- >&- 2>&-"
+    subprocess.run(["sh", "-c", command], cwd=tmp_path, env={**os.environ, "PYTHONPATH": str(PYTHON), "CODE": code})
+    assert (tmp_path / "f").read_text() == "".join(f"{stream} {errno.EBADF}\n" for stream in range(3)) + "above"
+
+
 @pytest.mark.parametrize("encoding", ["ascii", "latin-1", "utf-16"])
 def test_texts_are_utf_8_whatever_the_encoding_of_the_streams(told, tilt, tmp_path, encoding):
     pathlib.Path("q").write_text("input x; emit x over (0, 10];")

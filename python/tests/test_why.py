@@ -16,7 +16,7 @@ from tilt_data.files import Notes
 from tilt_data.forms import fault_of
 from tilt_data.grammar import statements_of
 from tilt_data.tokens import Faulty, place_of
-from tilt_data.why import clashes, placed
+from tilt_data.why import Refusal, clashes, placed
 
 QUERY = "input x;\nemit x over (0, 10];\n"
 ROWS = "start,end,value\n0,5,7\n6,8,9\n"
@@ -271,6 +271,7 @@ def test_what_is_compared():
 
 
 def test_what_would_steer_a_terminal_is_escaped_where_a_mistake_is(tilt, told):
+    assert list(Refusal("q", 1, 3, "\x1ba\x07b", 1, "expected").lines()) == ["q:1:3: expected", r"    \x1ba\x07b", "         ^^^^"]
     put(q="input x; emit \x1b[31mx over (0, 10];")
     status, _, err = told("why", "q")
     lines = err.splitlines()
