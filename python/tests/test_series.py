@@ -92,7 +92,58 @@ def test_nulls(told):
     assert rows == [(1, 2, 1), (2, 3, None), (3, 4, None), (4, 5, None)]
     rows, _ = series(told, text, "--tick", "1s", "--null", "NaN,-1", "--skip-empty")
     assert rows == [(1, 2, 1)]
-    assert refused(told, text, "--tick", "1s").startswith("raw.csv:4: temp: 'NaN' is no number; where it means")
+    assert refused(told, text, "--tick", "1s").startswith("raw.csv:4: temp: 'NaN' is no number; if it means")
+
+
+def test_a_gap_is_one_before_a_further_reading(told):
+    """What --until leaves open after the last reading is no gap."""
+    _, err = series(told, READINGS, "--tick", "1s", "--scale", "100", "--max-age", "1min", "--until", "2026-03-01T07:00")
+    assert "gaps after --max-age: 1" in err
+    _, err = series(told, "time,temp\n2026-03-01,1\n", "--tick", "1s", "--max-age", "1min", "--until", "2026-03-02")
+    assert "gaps" not in err
+
+
+# Options that are given several times
+
+
+TWO = "time,a,b\n0,1,2\n60,NaN,-1\n"
+
+
+def test_an_option_that_is_given_again_adds_to_the_first(told):
+    common = ("series", put(TWO), "--time", "time", "--unit", "s", "--tick", "1s", "--null", "NaN", "--null", "-1")
+    for words in (("--max-age", "10s", "--max-age", "b=30s"), ("--max-age", "10s", "b=30s"), ("--max-age", "b=30s", "--max-age", "10s")):
+        assert told(*common, *words)[0] == 0
+        assert rows_in("a.csv") == [(0, 10, 1), (60, 70, None)] and rows_in("b.csv") == [(0, 30, 2), (60, 90, None)]
+    assert told(*common, "--scale", "10", "--scale", "b=1000", "--out", "scaled")[0] == 0
+    assert rows_in("scaled/a.csv")[0][2] == 10 and rows_in("scaled/b.csv")[0][2] == 2000
+    assert told(*common, "--value", "a", "--value", "b", "--out", "both")[0] == 0
+    assert sorted(os.listdir("both")) == ["a.csv", "a.json", "b.csv", "b.json"]
+
+
+@pytest.mark.parametrize("words, what", [
+    (["--max-age", "10s", "--max-age", "20s"], "--max-age without a name: it is given twice, as 10s and 20s: give it once"),
+    (["--max-age", "b=10s", "9s", "b=20s"], "--max-age b=..: it is given twice, as 10s and 20s: give it once"),
+    (["--scale", "10", "--scale", "auto"], "--scale without a name: it is given twice, as 10 and auto: give it once"),
+    (["--scale", "a=10", "--scale", "a=10"], "--scale a=..: it is given twice, as 10 and 10: give it once"),
+    (["--value", "a", "--value", "a"], "--value a: it is given twice: name each column once"),
+])
+def test_a_name_that_is_given_twice_is_rejected(told, words, what):
+    assert refused(told, TWO, "--unit", "s", "--tick", "1s", "--null", "NaN", *words) == what
+
+
+@pytest.mark.parametrize("header, places, name", [("time,x,x", "2 and 3", "x"), ("time,x, x", "2 and 3", "x"), ("time,y ,x,\ty", "2 and 4", "y")])
+def test_two_columns_of_one_name_are_rejected(told, header, places, name):
+    """With --ties they would be one series of both."""
+    text = f"{header}\n0,1,100{',7' if header.count(',') == 3 else ''}\n"
+    what = refused(told, text, "--unit", "s", "--tick", "1s", "--ties", "last")
+    assert what.startswith(f"raw.csv:1: the columns {places} have one name, '{name}': rename one of them, or name the columns of values")
+    if "y" in header:
+        assert told("series", "raw.csv", "--time", "time", "--unit", "s", "--tick", "1s", "--value", "x")[0] == 0
+        assert rows_in("x.csv") == [(0, 1, 100)]
+
+
+def test_titles_have_no_blanks_around_them(told):
+    assert series(told, " time , temp\n0,5\n", "--unit", "s", "--tick", "1s", "--value", "temp")[0] == [(0, 1, 5)]
 
 
 # Times
@@ -128,6 +179,27 @@ def test_texts_of_no_moment(told, text):
 def test_the_farthest_offsets():
     assert Moments().read("2026-03-01T00:00+23:59") == Moments().read("2026-02-28T00:01Z")
     assert Moments().read("0001-01-01T00:00:00-01:00") == Moments().read("0001-01-01T01:00:00Z")
+
+
+@pytest.mark.parametrize("text", ["2_0", "\uff12\uff10", "\u0663", "\xa020", "2 0", "0x14", "\xb2", "1e1_0", "--5", "nan"])
+def test_numbers_of_other_signs_are_no_times(told, text):
+    with pytest.raises(ValueError, match="is no time: a number was expected"):
+        Moments("s").read(text)
+    assert refused(told, f"time,temp\n{text},1\n", "--tick", "1s", "--unit", "s").startswith(f"raw.csv:2: {text!r} is no time")
+
+
+@pytest.mark.parametrize("text", [
+    "\uff12026-03-01", "2026-03-0\u0661", "2026-03-01T0\uff16:00", "2026-03-01T06:00:0\u0665", "2026-03-01T06:00:05.\uff15", "2026-03-01T06:00+0\uff11",
+    "\xa02026-03-01"])
+def test_texts_of_other_digits_are_no_times(told, text):
+    with pytest.raises(ValueError, match="is no time: ISO 8601 was expected"):
+        Moments().read(text)
+    assert refused(told, f"time,temp\n{text},1\n", "--tick", "1s").startswith("raw.csv:2: ")
+
+
+def test_times_and_values_can_have_blanks_around_them(told):
+    assert series(told, "time,temp\n 2026-03-01T00:00:01\t, 5 \n", "--tick", "1s")[0] == [(1, 2, 5)]
+    assert series(told, "time,temp\n 1 ,\t-1.5e1\n", "--tick", "1s", "--unit", "s", "--scale", "auto")[0] == [(1, 2, -15)]
 
 
 @pytest.mark.parametrize("text", ["1e5000", pytest.param("9" * 5000, id="5000 digits"), "-1e60"])
@@ -170,7 +242,105 @@ def test_origins(told):
     assert series(told, "time,temp\n2026-03-01T23:30Z,7\n", "--like", "first.csv")[0] == [(88200, 88201, 7)]
 
 
+@pytest.mark.parametrize("zone, first", [
+    # The clocks go forward at midnight: that midnight isn't there.
+    ("America/Sao_Paulo", "2017-10-15T12:00"), ("America/Havana", "2026-03-08T12:00"), ("Asia/Beirut", "2026-03-29T12:00"),
+    # They go back over it: it is there twice.
+    ("America/Havana", "2026-11-01T12:00"),
+    # It isn't within the years 1 to 9999 of UTC.
+    ("Europe/Zurich", "0001-01-01T00:10"), ("America/New_York", "9999-12-31T23:00")])
+def test_an_origin_that_is_no_midnight(told, zone, first):
+    text = f"time,temp\n{first},1\n"
+    what = refused(told, text, "--tick", "1s", "--zone", zone)
+    assert what.startswith("raw.csv:2: the first reading, at ") and what.endswith("name the moment of the first tick by --origin")
+    assert f"has no midnight before it in {zone}, or it has two" in what
+    if first.startswith("20"):
+        rows, _ = series(told, text, "--tick", "1s", "--zone", zone, "--origin", first[:11] + "11:00")
+        assert rows == [(3600, 3601, 1)]
+
+
+def test_an_origin_beyond_the_calendar(told):
+    text = "time,temp\n0001-01-01T00:10,1\n"
+    what = refused(told, text, "--tick", "1s", "--zone", "Europe/Zurich", "--origin", "0001-01-01T00:00")
+    assert what == "--origin 0001-01-01T00:00: in UTC it lies outside of the years 1 to 9999: name another moment"
+
+
+@pytest.mark.parametrize("times, words, line, what", [
+    # A nanosecond before 4 10^18 of them there still is a tick after the reading, at 4 10^18 there is none.
+    ("1126-10-04T07:06:40", ["--event"], 3, "the reading at 1126-10-04T07:06:40Z has the tick 4000000000000000000"),
+    ("1126-10-04T07:06:39.999999999", ["--max-age", "2ns"], 3, "has a row to the tick 4000000000000000001"),
+    ("0873-03-30T16:53:19.999999999", ["--sort"], 3, "the reading at 0873-03-30T16:53:19.999999999Z has the tick -4000000000000000001"),
+])
+def test_ticks_beyond_those_of_the_program_are_rejected(told, times, words, line, what):
+    origin = datetime.datetime(1000, 1, 1)
+    end = origin + datetime.timedelta(seconds=4 * 10**9)
+    assert end.isoformat() == "1126-10-04T07:06:40" and (origin - (end - origin)).isoformat() == "0873-03-30T16:53:20"
+    found = refused(told, f"time,temp\n1000-01-01,1\n{times},2\n", "--tick", "1ns", "--origin", "1000-01-01", *words)
+    assert found.startswith(f"raw.csv:{line}: the reading at ") and what in found
+    assert found.endswith("ticks go from -4000000000000000000 to 4000000000000000000: name a nearer --origin, or take a longer --tick")
+
+
+def test_the_end_of_the_last_reading_is_a_tick_of_the_program_too(told):
+    text, common = "time,temp\n1000-01-01,1\n", ("--tick", "1ns", "--origin", "1000-01-01", "--until")
+    what = refused(told, text, *common, "1126-10-04T07:06:40.000000001")
+    assert what.startswith("--until 1126-10-04T07:06:40.000000001: its tick is 4000000000000000001, and ticks go from ")
+    assert series(told, text, *common, "1126-10-04T07:06:40")[0] == [(0, 4 * 10**18, 1)]
+
+
+@pytest.mark.parametrize("text", ["4e18", "-4000000000000000001"])
+def test_numbers_of_times_beyond_the_ticks(told, text):
+    what = refused(told, f"time,temp\n0,1\n{text},2\n", "--unit", "s", "--tick", "1s", "--origin", "1970-01-01", "--sort")
+    assert what.startswith("raw.csv:3: the reading at ") and " ns after 1970 has the tick " in what
+
+
+def test_a_system_without_time_zones(tmp_path, monkeypatch):
+    monkeypatch.setenv("PYTHONTZPATH", "")
+    (tmp_path / "raw.csv").write_text(READINGS)
+    # A package of Python can have them too.
+    code = "import sys; sys.modules['tzdata'] = None; from tilt_data.cli import main; sys.exit(main(sys.argv[1:]))"
+    words = ["series", "raw.csv", "--time", "time", "--tick", "1s", "--zone", "Europe/Zurich"]
+    done = subprocess.run([sys.executable, "-c", code, *words], cwd=tmp_path, env={**os.environ, "PYTHONPATH": str(PYTHON)}, text=True,
+                          capture_output=True)
+    wanted = "tilt-data: --zone Europe/Zurich: this system has no time zones: apt-get install tzdata, or pip install tzdata\n"
+    assert (done.returncode, done.stderr) == (1, wanted)
+
+
 # Values
+
+
+@pytest.mark.parametrize("text", ["1_000", "\uff11\uff12", "\u0663", "\xa05", "5\u3000", "1 0", "0x10", "1_0.5", "1.2_5", "1e1_0", "+-5", ".", "e5", "\xb2"])
+def test_numbers_of_other_signs_are_no_values(told, text):
+    with pytest.raises(ValueError, match="is no number"):
+        Scale(10).whole(text)
+    assert digits_after_point(text) == 0
+    for words in (("--scale", "10"), ("--scale", "auto")):
+        assert refused(told, f"time,temp\n2026-03-01,{text}\n", "--tick", "1s", *words).startswith(f"raw.csv:2: temp: {text!r} is no number")
+
+
+@pytest.mark.parametrize("text, value", [("+5", 50), ("-5.", -50), (".5", 5), ("-0.50", -5), ("05", 50), ("5E-1", 5), ("1.5e+1", 150), (" 5\t", 50)])
+def test_numbers_as_they_are_written(text, value):
+    assert Scale(10).whole(text) == value
+
+
+@pytest.mark.parametrize("text", ["1e999999", "-1.5e999999999999999999", "9" * 100])
+def test_numbers_beyond_64_bits(text):
+    with pytest.raises(ValueError, match="isn't within 64 bits"):
+        Scale(10).whole(text)
+
+
+@pytest.mark.parametrize("text", ["1e-299999", "1.5e-999999999", "0." + "1" * 100, "0." + "0" * 19 + "1", "-1.0e-20"])
+def test_more_digits_than_a_value_has(told, text):
+    """They are rejected at once: a scale of 299,999 digits takes many seconds."""
+    what = refused(told, f"time,temp\n2026-03-01,1\n2026-03-02,{text}\n", "--tick", "1s", "--scale", "auto")
+    assert what.startswith(f"raw.csv:3: temp: {text!r} needs ") and what.endswith("and a 64-bit value has 19: round it, or name a --scale")
+    assert " digits after its point, and " in refused(told, f"time,temp\n2026-03-01,{text}\n", "--tick", "1s")
+    assert digits_after_point("0." + "0" * 18 + "1") == digits_after_point("1e-19") == 19
+
+
+@pytest.mark.parametrize("scale", ["\xb2", "\uff11\uff10", "1_0", " 10", "-10", "0", "00", "1.5", "", pytest.param("1" * 5000, id="5000 digits"), "temp=\xb2"])
+def test_scales_that_are_none(told, scale):
+    what = refused(told, "time,temp\n2026-03-01,1\n", "--tick", "1s", f"--scale={scale}")
+    assert what == f"--scale {scale}: a whole number above 0, auto, or NAME=N was expected"
 
 
 def test_scales():
@@ -282,6 +452,56 @@ def test_nor_does_it_where_they_come_by_standard_input_or_have_the_name_of_its_n
     assert (tmp_path / "v.json").read_text() == raw and os.listdir(tmp_path) == ["v.json"]
 
 
+@pytest.mark.parametrize("name, other", [("temp.json", '{"name": "app"}'), ("temp.json", "no JSON"), ("temp.json", "[1]"), ("temp.csv", "a,b\n")])
+def test_files_of_others_are_replaced_only_by_force(told, name, other):
+    """A series of tilt-data has the JSON file of tilt-data beside it."""
+    put(other, name)
+    what = refused(told, READINGS, "--tick", "1s", "--scale", "100")
+    assert what.startswith(f"{name}: it is there") and what.endswith(
+        "the series temp would take its place: name a folder by --out, or replace it by --force")
+    assert pathlib.Path(name).read_text() == other
+    rows, _ = series(told, READINGS, "--tick", "1s", "--scale", "100", "--force")
+    assert len(rows) == 3 and json.loads(pathlib.Path("temp.json").read_text())["scale"] == 100
+    # Now it is a series of tilt-data, which a later call replaces.
+    assert series(told, READINGS, "--tick", "1s", "--scale", "1000")[0][0][2] == 20500
+
+
+def test_readings_from_a_pipe_are_not_replaced_by_their_series(told, monkeypatch):
+    raw = "time,v\n2026-03-01T00:00:01,2\n"
+    put(raw, "v.csv")
+    monkeypatch.setattr(sys, "stdin", io.TextIOWrapper(io.BytesIO(raw.encode())))
+    status, _, err = told("series", "-", "--time", "time", "--tick", "1s")
+    assert status == 1 and err.startswith("tilt-data: v.csv: it is there without a JSON file beside it, so `tilt-data` didn't write it; ")
+    assert pathlib.Path("v.csv").read_text() == raw and os.listdir() == ["v.csv"]
+
+
+@pytest.mark.parametrize("force", [[], ["--force"]])
+def test_neither_the_readings_nor_the_series_of_like_are_ever_replaced(told, force):
+    rows, _ = series(told, READINGS, "--tick", "1s", "--scale", "100")
+    what = refused(told, READINGS, "--like", "temp.csv", *force)
+    assert what == "temp.csv: it is the series of --like, and the series temp would take its place: name a folder by --out"
+    assert rows_in("temp.csv") == rows and len(rows) == 3
+    put("time,raw\n2026-03-01T00:00:01,2\n")
+    status, _, err = told("series", "raw.csv", "--time", "time", "--tick", "1s", *force)
+    assert status == 1 and err.startswith("tilt-data: raw.csv: it is the file that is read, and the series raw would take its place")
+    assert pathlib.Path("raw.csv").read_text() == "time,raw\n2026-03-01T00:00:01,2\n"
+
+
+def test_a_folder_is_the_one_that_its_links_lead_to(told, tmp_path):
+    os.makedirs("far/inner")
+    os.symlink("far/inner", "link")
+    put(READINGS)
+    status, _, err = told("series", "raw.csv", "--time", "time", "--tick", "1s", "--scale", "100", "--out", "link/../o")
+    assert status == 0 and "link/../o/temp.csv: 3 rows" in err
+    assert sorted(os.listdir("far/o")) == ["temp.csv", "temp.json"] and sorted(os.listdir()) == ["far", "link", "raw.csv"]
+
+
+def test_a_name_that_is_too_long_for_a_file(told):
+    name = "\u0434" * 47
+    what = refused(told, f"time,{name}\n2026-03-01,1\n", "--tick", "1s")
+    assert what.startswith("raw.csv:2: the name of a file has 255 bytes at most, and ") and f"take a shorter name than '{name}'" in what
+
+
 def test_the_links_of_outputs_stay(told):
     os.mkdir("far")
     os.symlink("far/real.csv", "temp.csv")
@@ -291,6 +511,8 @@ def test_the_links_of_outputs_stay(told):
     os.symlink("temp.csv", "power.csv")
     put("time,temp,power\n2026-03-01T00:00:01,1,2\n")
     status, _, err = told("series", "raw.csv", "--time", "time", "--tick", "1s")
+    assert status == 1 and err.startswith("tilt-data: power.csv: it is there without a JSON file beside it")
+    status, _, err = told("series", "raw.csv", "--time", "time", "--tick", "1s", "--force")
     assert status == 1 and err == "tilt-data: power.csv: its links lead to the file of another output\n"
     assert rows_in("far/real.csv") == rows
 

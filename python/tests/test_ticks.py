@@ -42,6 +42,22 @@ def test_hours_in_a_zone(told):
     assert wanted[0][0] % 1440 == 14 * 60 + 30 and wanted[1][0] % 1440 == 13 * 60 + 30
 
 
+def test_hours_of_a_day_that_the_zone_left_out(told, tilt):
+    """Samoa had no 30 December 2011: it went from UTC-10 to UTC+14."""
+    rows = made(told, "hours", "--from", "2011-12-28", "--to", "2012-01-01", "--open", "09:30", "--close", "16:00", "--zone", "Pacific/Apia",
+                "--days", "mon-fri", "--days", "sat", tick=60 * 10**9, origin="2011-12-28")
+    # In UTC: 19:30 of the same day on the 28th and the 29th, and 19:30 of the day before on the 31st.
+    days = [(0, 28), (1, 29), (2, 31)]
+    assert rows == [(day * 1440 + 1170, day * 1440 + 1560, 1) for day, _ in days]
+    assert run_program(tilt, "input x; emit x over (0, 10000];", "x=out.csv").count("\n") == 4
+
+
+def test_days_that_are_given_again_add_to_the_first(told):
+    words = ("hours", "--from", "2026-03-02", "--to", "2026-03-09", "--open", "00:00", "--close", "24:00")
+    of_day = {"mon": (0, 86400, 1), "wed": (2 * 86400, 3 * 86400, 1)}
+    assert made(told, *words, "--days", "mon", "--days", "wed", origin="2026-03-02") == list(of_day.values())
+
+
 def test_weekdays_in_a_zone(told):
     rows = made(told, "weekdays", "--from", "2026-03-28", "--to", "2026-03-31", "--zone", "Europe/Zurich", tick=3600 * 10**9, origin="2026-03-28")
     # Zurich's midnight is 23:00 in UTC and, after the clock went forward, 22:00; Sunday has 23 hours.
@@ -66,12 +82,43 @@ def test_an_average_weighted_by_time(told, tilt):
     (["hours", "out.csv", "--like", "x.csv", "--from", "0", "--to", "9", "--open", "9:30", "--close", "16:00"], "'9:30' is no time of day"),
     (["each", "out.csv", "--like", "x.csv", "--from", "9", "--to", "9"], "has no tick"),
     (["each", "out.csv", "--like", "y.csv", "--from", "0", "--to", "9"], "there is no y.json beside it"),
-    (["each", "out.csv", "--like", "x.csv", "--from", "morning", "--to", "9"], "'morning' is no time"),
+    (["each", "out.csv", "--like", "x.csv", "--from", "morning", "--to", "9"], "--from: 'morning' is no time"),
+    (["each", "out.csv", "--like", "x.csv", "--from", "0", "--to", "9" * 5000], ": a tick from -4000000000000000000 to 4000000000000000000 was"),
+    (["each", "out.csv", "--like", "x.csv", "--from", "0", "--to", "4000000000000000001"], "--to 4000000000000000001: a tick from -4000000000"),
+    (["each", "out.csv", "--like", "x.csv", "--from", "-4000000000000000001", "--to", "0"], "--from -4000000000000000001: a tick from -4000000"),
+    (["each", "out.csv", "--like", "x.csv", "--from", "\u0663", "--to", "9"], "--from: '\u0663' is no time"),
+    (["weekdays", "out.csv", "--like", "x.csv", "--from", "0001-01-01", "--to", "0001-01-10"],
+     "from 0001-01-01 to 0001-01-10: days from 0001-01-03 to 9999-12-28 were expected: take a nearer --from or --to"),
+    (["weekdays", "out.csv", "--like", "x.csv", "--from", "9999-12-20", "--to", "9999-12-31"],
+     "from 9999-12-20 to 9999-12-31: days from 0001-01-03 to 9999-12-28 were expected: take a nearer --from or --to"),
+    (["weekdays", "out.csv", "--like", "x.csv", "--from", "-99999999999", "--to", "0"],
+     "outside of the years 1 to 9999: take a nearer --from or --to"),
+    (["hours", "out.csv", "--like", "x.csv", "--from", "0", "--to", "9", "--open", "0\uff19:30", "--close", "16:00"], "is no time of day"),
 ])
 def test_what_is_refused(told, words, what):
     pathlib.Path("x.json").write_text(Notes(Clock(10**9, 0)).text())
     status, out, err = told("ticks", *words)
     assert (status, out) == (1, "") and what in err and not pathlib.Path("out.csv").exists()
+
+
+def test_the_last_days_of_the_calendar(told):
+    rows = made(told, "weekdays", "--from", "0001-01-03", "--to", "0001-01-05", tick=86400 * 10**9, origin="0001-01-01")
+    assert rows == [(at, at + 1, datetime.date(1, 1, at + 1).isoweekday()) for at in (2, 3)]
+    rows = made(told, "weekdays", "--from", "9999-12-26", "--to", "9999-12-28", tick=86400 * 10**9, origin="9999-12-01")
+    assert rows == [(at, at + 1, datetime.date(9999, 12, at + 1).isoweekday()) for at in (25, 26)]
+
+
+@pytest.mark.parametrize("name", ["out.csv", "out.json"])
+def test_files_of_others_are_replaced_only_by_force(told, name):
+    pathlib.Path(name).write_text("mine")
+    pathlib.Path("x.csv").write_text("start,end,value\n")
+    pathlib.Path("x.json").write_text(Notes(Clock(10**9, 0)).text())
+    words = ("ticks", "each", "out.csv", "--like", "x.csv", "--from", "0", "--to", "2")
+    status, out, err = told(*words)
+    assert (status, out) == (1, "") and err.startswith(f"tilt-data: {name}: it is there")
+    assert err.endswith("; name another file, or replace it by --force\n") and pathlib.Path(name).read_text() == "mine"
+    assert told(*words, "--force") == (0, "", "") and rows_in("out.csv") == [(0, 1, 0), (1, 2, 0)]
+    assert told(*words) == (0, "", "")
 
 
 def test_the_series_of_like_is_not_written_over(told):

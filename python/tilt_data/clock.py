@@ -16,9 +16,14 @@ from .errors import Refused
 UNITS = {
     "ns": 1, "us": 10**3, "ms": 10**6, "s": 10**9, "min": 60 * 10**9, "m": 60 * 10**9, "h": 3600 * 10**9, "d": 86400 * 10**9,
 }
+# Numbers are written in ASCII, as the program reads them: without underscores and without the digits of other scripts.
+WHOLE = re.compile(r"[+-]?[0-9]+")
+DECIMAL = re.compile(r"[+-]?(?:[0-9]+(?:\.[0-9]*)?|\.[0-9]+)(?:[eE][+-]?[0-9]{1,18})?")
+# What a field of a CSV can have around its number or its time.
+BLANKS = " \t"
 DURATION = re.compile(r"([0-9]{1,30})\s*(ns|us|ms|s|min|m|h|d)")
 ISO = re.compile(
-    r"(\d{4}-\d\d-\d\d)(?:[T ](\d\d:\d\d)(?::(\d\d)(?:[.,](\d+))?)?)?\s*(Z|z|[+-](?:[01]\d|2[0-3])(?::?[0-5]\d)?)?")
+    r"(\d{4}-\d\d-\d\d)(?:[T ](\d\d:\d\d)(?::(\d\d)(?:[.,](\d+))?)?)?\s*(Z|z|[+-](?:[01]\d|2[0-3])(?::?[0-5]\d)?)?", re.ASCII)
 EPOCH = datetime.datetime(1970, 1, 1)
 DAY = UNITS["d"]
 # The program takes times from -TIMES to TIMES, in ticks (`T` of crates/tilt_base/src/limits.rt).
@@ -51,6 +56,8 @@ def zone_of(name: str | None) -> zoneinfo.ZoneInfo | None:
     try:
         return zoneinfo.ZoneInfo(name)
     except (zoneinfo.ZoneInfoNotFoundError, ValueError, OSError) as error:
+        if not zoneinfo.available_timezones():
+            raise Refused(f"--zone {name}: this system has no time zones: apt-get install tzdata, or pip install tzdata") from error
         raise Refused(f"{name!r} is no time zone: a name as Europe/Zurich or America/New_York") from error
 
 
@@ -87,20 +94,24 @@ class Moments:
 
     def number(self, text: str) -> int:
         try:
-            return int(text) * self.unit if text.isdigit() and len(text) < 30 else int(self.exact(text))
+            if text.isascii() and text.isdigit() and len(text) < 30:
+                return int(text) * self.unit
+            return int(self.exact(text.strip(BLANKS)))
         except (decimal.DecimalException, ValueError) as error:
             raise ValueError(f"{text!r} is no time: a number was expected, no finer than a nanosecond") from error
 
     def exact(self, text: str) -> decimal.Decimal:
+        if DECIMAL.fullmatch(text) is None:
+            raise ValueError
         moment = EXACT.multiply(decimal.Decimal(text), decimal.Decimal(self.unit))
-        if not moment.is_finite() or moment != moment.to_integral_value() or moment.copy_abs() > FARTHEST:
+        if moment != moment.to_integral_value() or moment.copy_abs() > FARTHEST:
             raise ValueError
         return moment
 
     def iso(self, text: str) -> int:
-        found = ISO.fullmatch(text.strip())
+        found = ISO.fullmatch(text.strip(BLANKS))
         if found is None:
-            hint = "; for numbers since 1970 say --unit s, ms, us or ns" if re.fullmatch(r"-?\d+(\.\d+)?", text.strip()) else ""
+            hint = "; for numbers since 1970 say --unit s, ms, us or ns" if DECIMAL.fullmatch(text.strip(BLANKS)) else ""
             raise ValueError(f"{text!r} is no time: ISO 8601 was expected, as 2026-03-01T06:00:05 or 2026-03-01 06:00:05.250Z{hint}")
         date, minute, second, fraction, offset = found.groups()
         if second is not None and int(second) > 59 or fraction is not None and len(fraction.rstrip("0")) > 9:

@@ -57,6 +57,8 @@ class Converter:
             start = self.start + 1
             self.moved += 1
         row = self.row(start)
+        # Only a further reading shows that there was a gap: after the last one nothing is missing.
+        self.gaps += row[1] < start and self.rule.hold
         self.start, self.value = start, value
         return row
 
@@ -72,8 +74,6 @@ class Converter:
         end = self.start + 1
         if self.rule.hold and self.rule.max_age is not None:
             end = self.start + self.rule.max_age
-            if following is not None and following > end:
-                self.gaps += 1
         if self.rule.hold and following is not None:
             end = following if self.rule.max_age is None else min(end, following)
         return self.start, end, self.value

@@ -3,29 +3,51 @@ from __future__ import annotations
 
 import decimal
 import functools
+import re
 
-from .clock import EXACT
+from .clock import BLANKS, DECIMAL, EXACT
 
 LEAST, GREATEST = -2**63, 2**63 - 1
+# A 64-bit value has at most 19 digits: a scale that is found, and not given, is a power of ten of no more than these.
+MOST_DIGITS = 19
+# The numbers that can be scales: exact arithmetic (EXACT) has room for a value of 19 digits besides.
+SCALE = re.compile(r"0*([1-9][0-9]{0,59})")
+
+
+def scale_of(text: str) -> int:
+    """The scale that a text gives: a whole number above 0, of at most 60 digits. Anything else is a ValueError."""
+    found = SCALE.fullmatch(text)
+    if found is None:
+        raise ValueError("a whole number above 0 was expected")
+    return int(found[1])
 
 
 def digits_after_point(text: str) -> int:
-    """How many digits a decimal needs after its point; 0 for what is no finite number."""
+    """How many digits a decimal needs after its point; 0 for a text that is no number. More than 19 are a ValueError."""
+    count = digits_needed(text)
+    if count > MOST_DIGITS:
+        raise ValueError(f"{text!r} needs {count} digits after its point, and a 64-bit value has {MOST_DIGITS}: round it, or name a "
+                         "--scale")
+    return count
+
+
+def digits_needed(text: str) -> int:
+    text = text.strip(BLANKS)
+    if DECIMAL.fullmatch(text) is None:
+        return 0
     if "e" not in text and "E" not in text:
-        whole, point, part = text.strip().partition(".")
-        return len(part.rstrip("0")) if point and part.isdigit() else 0
+        return len(text.partition(".")[2].rstrip("0"))
     try:
-        sign, digits, exponent = decimal.Decimal(text).as_tuple()
+        _, digits, exponent = decimal.Decimal(text).as_tuple()
     except decimal.DecimalException:
         return 0
-    if not isinstance(exponent, int):
-        return 0
     shown = "".join(map(str, digits))
-    return max(0, -exponent - (len(shown) - len(shown.rstrip("0")))) if shown.strip("0") else 0
+    return max(0, -int(exponent) - (len(shown) - len(shown.rstrip("0")))) if shown.strip("0") else 0
 
 
 class Scale:
-    """Whole numbers of decimals, by one scale. What it can't take is a ValueError that says what was expected."""
+    """Whole numbers of decimals, by one scale. A decimal is written in ASCII, with or without a sign, a point and an exponent, and can have
+    blanks around it. What can't be taken is a ValueError that says what was expected."""
 
     def __init__(self, scale: int) -> None:
         self.scale = scale
@@ -42,13 +64,14 @@ class Scale:
         return value
 
     def exact(self, text: str) -> int:
+        if DECIMAL.fullmatch(text.strip(BLANKS)) is None:
+            raise ValueError(f"{text!r} is no number; if it means that there is no value, name it by --null")
         try:
-            read = decimal.Decimal(text)
-            scaled = EXACT.multiply(read, self.factor)
+            scaled = EXACT.multiply(decimal.Decimal(text.strip(BLANKS)), self.factor)
         except decimal.DecimalException as error:
-            raise ValueError(f"{text!r} is no number; where it means that there is no value, name it by --null") from error
-        if not scaled.is_finite():
-            raise ValueError(f"{text!r} is no number; where it means that there is no value, name it by --null")
+            # It has too many digits after its point, or before it.
+            digits_after_point(text)
+            raise ValueError(f"{text} times {self.scale} isn't within 64 bits: a smaller --scale") from error
         if scaled != scaled.to_integral_value():
             needed = 10**digits_after_point(text)
             raise ValueError(f"{text} times {self.scale} isn't whole, and digits would be lost: --scale {needed} or --scale auto")

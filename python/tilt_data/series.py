@@ -5,6 +5,7 @@ from __future__ import annotations
 import argparse
 import dataclasses
 import heapq
+import json
 import os
 import pickle
 import re
@@ -12,17 +13,19 @@ import shlex
 import sys
 from typing import Any, Iterable, Iterator
 
-from .clock import Clock, Moments, duration_of, duration_text, moment_text, zone_of
+from .clock import TIMES, Clock, Moments, duration_of, duration_text, moment_text, zone_of
 from .convert import TIES, Converter, Late, Rule, Tie, row_text
 from .errors import Refused, refused_at
-from .files import Notes, Outputs, notes_of, notes_path, reading, records, safe, same_file, scratch, spooled
+from .files import Notes, Outputs, followed, is_handed, notes_of, notes_path, reading, records, safe, same_file, scratch, spooled
 from .progress import shown
-from .scales import Scale, digits_after_point
+from .scales import Scale, digits_after_point, scale_of
 
 HELP = """Reads a CSV with a header: a column of times, and one column of values for each series (wide), or a column that names the series
 (tall, --name). It writes a series file NAME.csv for each, and beside it NAME.json with the length of a tick, the origin and the scale.
 Readings are in order of time, or --sort puts them in order. What was dropped, moved and scaled is told on standard error."""
-DECIMAL_COMMA = re.compile(r"-?\d+,\d+")
+DECIMAL_COMMA = re.compile(r"[+-]?[0-9]+,[0-9]+")
+# The most bytes that the name of a file can have.
+LONGEST_NAME = 255
 # How a tab is written in a word of the command.
 TAB = r"\t"
 Reading = tuple[int, int, str, str, str]
@@ -57,6 +60,7 @@ def add(commands: Any) -> None:
     parser.add_argument("--key", metavar="COL", help="the column of a key, as a station or a patient: a folder of series for each key")
     parser.add_argument("--prefix", action="store_true", help="KEY_NAME.csv in place of KEY/NAME.csv")
     parser.add_argument("--out", metavar="FOLDER", default=".", help="where the files are written (.)")
+    parser.add_argument("--force", action="store_true", help="replace files that `tilt-data` didn't write")
     parser.add_argument("--sort", action="store_true", help="put the readings in order of time first")
     parser.set_defaults(main=main)
 
@@ -64,7 +68,7 @@ def add(commands: Any) -> None:
 def add_source(parser: argparse.ArgumentParser) -> None:
     parser.add_argument("file", metavar="FILE", help="the CSV, or - for standard input")
     parser.add_argument("--time", metavar="COL", help="the column of times")
-    parser.add_argument("--value", metavar="COL", nargs="+", help="the columns of values; all others where it is left out")
+    parser.add_argument("--value", metavar="COL", nargs="+", action="extend", help="the columns of values; all others where it is left out")
     parser.add_argument("--name", metavar="COL", help="a tall file: the column that names the series; --value is then the one value column")
     parser.add_argument("--delimiter", default=",", help="the sign that parts the fields; \\t is a tab (,)")
     parser.add_argument("--decimal", default=".", help="what stands before the fraction of a value (.)")
@@ -76,21 +80,21 @@ def add_time(parser: argparse.ArgumentParser) -> None:
     parser.add_argument("--tick", help="the length of a tick, as 1s, 1ms, 1min")
     parser.add_argument("--origin", help="the moment at which the first tick begins (the midnight before the first reading)")
     parser.add_argument("--like", metavar="SERIES", help="take tick, origin and scale from the JSON file beside this series")
-    parser.add_argument("--scale", nargs="+", metavar="N", help="values times N are whole; auto for the least power of ten that makes them "
-                        "whole; NAME=N for one column")
+    parser.add_argument("--scale", nargs="+", action="extend", metavar="N", help="values times N are whole; auto for the smallest power of "
+                        "ten that makes them whole; NAME=N for one column")
 
 
 def add_convention(parser: argparse.ArgumentParser) -> None:
     parser.add_argument("--hold", choices=["next"], help="a reading holds until the next one (so it is where --event isn't given)")
-    parser.add_argument("--max-age", nargs="+", metavar="DURATION", default=[], help="it holds no longer than this, as 5min; "
-                        "NAME=5min for one series")
+    parser.add_argument("--max-age", nargs="+", action="extend", metavar="DURATION", default=[], help="it holds no longer than this, "
+                        "such as 5min; NAME=5min for one series")
     parser.add_argument("--until", metavar="TIME", help="until when the last reading holds (one tick, or --max-age)")
     parser.add_argument("--event", action="store_true", help="a reading is an event of one tick")
     parser.add_argument("--closed", choices=["left", "right"], help="which edge of a tick belongs to it, as in pandas (left)")
     parser.add_argument("--ties", choices=TIES, default="refuse", help="which of the readings in one tick stands: the last, the first, or "
                         "each, in ticks one after another (refuse)")
-    parser.add_argument("--null", metavar="TEXTS", default="", help="texts with commas between them that mean no value, as NaN,-1; empty "
-                        "fields always do")
+    parser.add_argument("--null", metavar="TEXTS", action="append", default=[], help="texts with commas between them that mean no value, "
+                        "such as NaN,-1; empty fields always do")
     parser.add_argument("--skip-empty", action="store_true", help="a field without a value is no reading at all")
 
 
@@ -101,7 +105,20 @@ def delimiter_of(text: str) -> str:
     return sign
 
 
+def named_once(option: str, words: list[str]) -> dict[str, str]:
+    """What an option gives to each series, by name; the name is empty for all others. Two for one name are an error."""
+    found: dict[str, str] = {}
+    for word in words:
+        name, _, text = word.rpartition("=")
+        if name in found:
+            what = f"{name}=.." if name else "without a name"
+            raise Refused(f"{option} {what}: it is given twice, as {found[name]} and {text}: give it once")
+        found[name] = text
+    return found
+
+
 def column(header: list[str], name: str, path: str) -> int:
+    name = name.strip()
     if header.count(name) != 1:
         many = "more than once" if name in header else "not"
         other = next((sign for sign in (";", "\t", "|") if len(header) == 1 and sign in header[0]), None)
@@ -121,10 +138,24 @@ def columns_of(header: list[str], words: argparse.Namespace, path: str) -> Colum
     name = None if words.name is None else column(header, words.name, path)
     taken = {time, key, name}
     values = [column(header, value, path) for value in words.value or []]
+    for at in values:
+        if values.count(at) > 1:
+            raise Refused(f"--value {header[at]}: it is given twice: name each column once")
     values = values or [at for at in range(len(header)) if at not in taken]
+    check_titles(header, values, path)
     if not values or name is not None and len(values) != 1:
         raise refused_at(path, 1, "one column of values was expected: name it by --value" if name is not None else "no column of values")
-    return Columns(len(header), time, key, name, [(at, header[at].strip()) for at in values])
+    return Columns(len(header), time, key, name, [(at, header[at]) for at in values])
+
+
+def check_titles(header: list[str], values: list[int], path: str) -> None:
+    """Rejects two columns of one name: they would become one series."""
+    places: dict[str, int] = {}
+    for at in values:
+        if header[at] in places:
+            raise refused_at(path, 1, f"the columns {places[header[at]] + 1} and {at + 1} have one name, {header[at]!r}: rename one of "
+                             "them, or name the columns of values by --value")
+        places[header[at]] = at
 
 
 def readings_of(source: str, words: argparse.Namespace) -> Iterator[Reading]:
@@ -134,7 +165,7 @@ def readings_of(source: str, words: argparse.Namespace) -> Iterator[Reading]:
     with reading(source, path) as file:
         found = records(path, file, delimiter)
         _, header = next(found, (1, [""]))
-        columns = columns_of(header, words, path)
+        columns = columns_of([title.strip() for title in header], words, path)
         for line, record in shown(found, "readings"):
             if len(record) != columns.width:
                 raise refused_at(path, line, f"{columns.width} fields were expected as in the header, not {len(record)}")
@@ -187,12 +218,13 @@ class Converting:
         self.words = words
         self.path = path
         self.outputs = outputs
-        self.nulls = Nulls({text for text in words.null.split(",") if text})
+        self.nulls = Nulls({text for texts in words.null for text in texts.split(",") if text})
         self.like = None if words.like is None else notes_of(words.like)
         if words.like is not None and self.like is None:
             raise Refused(f"{words.like}: there is no {notes_path(words.like)} beside it; `tilt-data series` writes one")
         self.clock = Clock(1, 0)
         self.begun = False
+        self.given_ages = named_once("--max-age", words.max_age)
         self.ages: dict[str, int | None] = {}
         self.scales = Scales({}, Scale(1))
         self.series: dict[tuple[str, str], Converter] = {}
@@ -201,12 +233,14 @@ class Converting:
         self.rows: dict[tuple[str, str], list[int]] = {}
         self.lines: dict[tuple[str, str], int] = {}
 
-    def begin(self, moment: int) -> None:
+    def begin(self, moment: int, line: int) -> None:
         """The clock, which may rest on the first reading, and how long readings hold."""
         self.begun = True
-        self.clock = clock_of(self.words, self.like, moment)
-        for word in self.words.max_age:
-            name, _, age = word.rpartition("=")
+        try:
+            self.clock = clock_of(self.words, self.like, moment)
+        except ValueError as error:
+            raise refused_at(self.path, line, str(error)) from error
+        for name, age in self.given_ages.items():
             self.ages[name] = self.clock.ticks(duration_of(age), "--max-age")
 
     def rule(self, name: str) -> Rule:
@@ -216,7 +250,7 @@ class Converting:
     def take(self, one: Reading) -> None:
         moment, line, key, name, text = one
         if not self.begun:
-            self.begin(moment)
+            self.begin(moment, line)
         place = key, name
         converter = self.series.get(place)
         if converter is None:
@@ -234,9 +268,11 @@ class Converting:
                              "spread, or a shorter --tick") from error
         except Late as error:
             raise refused_at(self.path, line, f"this reading of {name} lies before that of line {self.lines[place]}: --sort") from error
-        self.lines[place] = line
         if row is not None:
             self.put(place, row)
+        self.lines[place] = line
+        if not -TIMES <= converter.start < TIMES:
+            raise self.beyond(line, moment, f"the tick {converter.start}")
 
     def value(self, name: str, text: str, line: int) -> int:
         try:
@@ -252,10 +288,7 @@ class Converting:
         if self.words.key is not None and not key:
             raise refused_at(self.path, line, f"a key was expected in the column {self.words.key}")
         converter = self.series[place] = Converter(self.clock, self.rule(name))
-        path = os.path.normpath(os.path.join(self.words.out, file_of(key, name, self.words.prefix)))
-        for one in (path, notes_path(path)):
-            if same_file(one, self.path):
-                raise Refused(f"{one}: it is the file that is read, and the series {name} would take its place: name a folder by --out")
+        path = self.path_of(place, line)
         if path in self.paths:
             raise refused_at(self.path, line, f"the key {key} with {name} and another key have one file, {path}: leave --prefix out")
         self.paths.add(path)
@@ -264,7 +297,31 @@ class Converting:
         self.outputs.write(path, "start,end,value\n")
         return converter
 
+    def path_of(self, place: tuple[str, str], line: int) -> str:
+        """The file of a series. It never is one that this call reads, and it is an unknown one only by --force."""
+        key, name = place
+        file = file_of(key, name, self.words.prefix)
+        path = file if self.words.out == "." else os.path.join(self.words.out, file)
+        if max(len(part) for part in notes_path(file).split(os.sep)) > LONGEST_NAME:
+            raise refused_at(self.path, line, f"the name of a file has {LONGEST_NAME} bytes at most, and {notes_path(file)} is longer: "
+                             f"take a shorter name than {name!r}, or a shorter key; each byte outside of ASCII counts as three")
+        for one in (path, notes_path(path)):
+            if same_file(one, self.path):
+                raise Refused(f"{one}: it is the file that is read, and the series {name} would take its place: name a folder by --out")
+            if self.words.like is not None and (same_file(one, self.words.like) or same_file(one, notes_path(self.words.like))):
+                raise Refused(f"{one}: it is the series of --like, and the series {name} would take its place: name a folder by --out")
+        if not self.words.force:
+            check_replaceable(path, f"the series {name} would take its place: name a folder by --out, or replace it by --force")
+        return path
+
+    def beyond(self, line: int, moment: int, what: str) -> Refused:
+        """The error of a reading whose row the program doesn't take."""
+        cure = "name a nearer --origin, or take a longer --tick"
+        return refused_at(self.path, line, f"the reading at {time_text(moment)} has {what}, and ticks go from {-TIMES} to {TIMES}: {cure}")
+
     def put(self, place: tuple[str, str], row: tuple[int, int, int | None]) -> None:
+        if row[1] > TIMES:
+            raise self.beyond(self.lines[place], self.clock.moment(row[0]), f"a row to the tick {row[1]}")
         figures = self.rows[place]
         if not figures[0]:
             figures[1] = row[0]
@@ -277,6 +334,8 @@ class Converting:
         until = None
         if self.words.until is not None and self.begun:
             until = self.clock.start(moment_of(self.words.until, self.words))
+            if not -TIMES <= until <= TIMES:
+                raise Refused(f"--until {self.words.until}: its tick is {until}, and ticks go from {-TIMES} to {TIMES}: name a nearer time")
         for place, converter in self.series.items():
             row = converter.finish(until)
             if row is not None:
@@ -328,6 +387,26 @@ def pointed(text: str, sign: str) -> str:
     return text.replace(sign, ".")
 
 
+def check_replaceable(path: str, cure: str) -> None:
+    """Rejects a series that would replace a file of other origin. A series of ours has the JSON file of ours beside it."""
+    notes = notes_path(path)
+    if os.path.isfile(notes) and not is_ours(notes):
+        raise Refused(f"{notes}: it is there, and `tilt-data` didn't write it; {cure}")
+    # What the caller handed open, such as /dev/stdout, is never replaced.
+    if os.path.isfile(path) and not os.path.isfile(notes) and not is_handed(followed(path)):
+        raise Refused(f"{path}: it is there without a JSON file beside it, so `tilt-data` didn't write it; {cure}")
+
+
+def is_ours(notes: str) -> bool:
+    """Whether a JSON file is one that is written beside a series."""
+    try:
+        with open(notes, encoding="utf-8") as file:
+            found = json.load(file)
+    except (OSError, ValueError, RecursionError):
+        return False
+    return isinstance(found, dict) and "tilt-data" in found
+
+
 def file_of(key: str, name: str, prefix: bool) -> str:
     """The file of a series: signs that no file's name has are written as %XX."""
     name = safe(name) + ".csv"
@@ -342,7 +421,8 @@ def moment_of(text: str, words: argparse.Namespace) -> int:
 
 
 def clock_of(words: argparse.Namespace, like: Notes | None, first: int) -> Clock:
-    """The clock that the words tell, or the series that they name; else it begins with the midnight before the first reading."""
+    """The clock that the words tell, or the series that they name; else it begins with the midnight before the first reading, which is a
+    ValueError if there is no such moment."""
     if words.tick is not None:
         tick = duration_of(words.tick)
     elif like is not None:
@@ -352,12 +432,41 @@ def clock_of(words: argparse.Namespace, like: Notes | None, first: int) -> Clock
     closed = words.closed or (like.clock.closed if like is not None else "left")
     if words.origin is not None:
         origin = moment_of(words.origin, words)
+        if not is_shown(origin):
+            raise Refused(f"--origin {words.origin}: in UTC it lies outside of the years 1 to 9999: name another moment")
     elif like is not None:
         origin = like.clock.origin
     else:
-        day = moment_text(first, 0, zone_of(words.zone))[:10]
-        origin = moment_of(day, words)
+        origin = midnight_before(first, words.zone)
     return Clock(tick, origin, closed)
+
+
+def midnight_before(moment: int, zone: str | None) -> int:
+    """The midnight before a moment, or at it, in a zone. If there is none within the years 1 to 9999, or if there are two, it is a
+    ValueError that says so."""
+    local = zone_of(zone)
+    try:
+        midnight = Moments(None, local).iso(moment_text(moment, 0, local)[:10])
+        moment_text(midnight, 0)
+    except (Refused, ValueError) as error:
+        where = "" if zone is None else f" in {zone}"
+        raise ValueError(f"the first reading, at {time_text(moment)}, has no midnight before it{where}, or it has two: name the moment of "
+                         "the first tick by --origin") from error
+    return midnight
+
+
+def time_text(moment: int) -> str:
+    """A moment in UTC, or as a number if it lies outside of the years 1 to 9999."""
+    return moment_text(moment, 9 if moment % 10**9 else 0) if is_shown(moment) else f"{moment} ns after 1970"
+
+
+def is_shown(moment: int) -> bool:
+    """Whether a moment lies in the years 1 to 9999 of UTC."""
+    try:
+        moment_text(moment, 0)
+    except Refused:
+        return False
+    return True
 
 
 @dataclasses.dataclass
@@ -373,15 +482,17 @@ class Scales:
 
 def scales_of(words: argparse.Namespace, path: str, nulls: Nulls, like: Notes | None) -> Scales:
     """The scales that the words name. An `auto` without a name is one scale for all series that have none of their own."""
-    given: dict[str, str] = {}
-    for word in words.scale or []:
-        name, _, text = word.rpartition("=")
-        if text != "auto" and not (text.isdigit() and int(text)):
-            raise Refused(f"--scale {word}: a whole number above 0, auto, or NAME=N was expected")
-        given[name] = text
+    given = named_once("--scale", words.scale or [])
+    numbers: dict[str, int] = {}
+    for name, text in given.items():
+        try:
+            numbers[name] = 0 if text == "auto" else scale_of(text)
+        except ValueError as error:
+            shown_word = f"{name}={text}" if name else text
+            raise Refused(f"--scale {shown_word}: a whole number above 0, auto, or NAME=N was expected") from error
     digits = digits_of(path, words, nulls) if "auto" in given.values() else {}
     most = max((count for name, count in digits.items() if name not in given), default=0)
-    scales = {name: Scale(10**(digits.get(name, 0) if name else most) if text == "auto" else int(text)) for name, text in given.items()}
+    scales = {name: Scale(number or 10**(digits.get(name, 0) if name else most)) for name, number in numbers.items()}
     others = scales.pop("", None) or Scale(1 if like is None else like.scale)
     return Scales(scales, others)
 
@@ -390,13 +501,16 @@ def digits_of(path: str, words: argparse.Namespace, nulls: Nulls) -> dict[str, i
     """The most digits after the point in each series: the file is read once for it."""
     most: dict[str, int] = {}
     known: dict[str, int] = {}
-    for _, _, _, name, text in readings_of(path, words):
+    for _, line, _, name, text in readings_of(path, words):
         if nulls.has(text):
             continue
         if text not in known:
             if len(known) > 50000:
                 known.clear()
-            known[text] = digits_after_point(text.replace(words.decimal, "."))
+            try:
+                known[text] = digits_after_point(text.replace(words.decimal, "."))
+            except ValueError as error:
+                raise refused_at(words.file, line, f"{name}: {error}") from error
         if known[text] > most.get(name, -1):
             most[name] = known[text]
     return most

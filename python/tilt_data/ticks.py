@@ -6,11 +6,12 @@ import datetime
 import re
 from typing import Any, Iterator
 
-from .clock import Clock, Moments, duration_of, moment_text, zone_of
+from .clock import TIMES, WHOLE, Clock, Moments, duration_of, moment_text, zone_of
 from .convert import row_text
 from .errors import Refused
 from .files import Notes, Outputs, Row, notes_of, notes_path, same_file
 from .progress import shown
+from .series import check_replaceable
 
 HELP = """Writes a helper series, with its JSON file beside, on the clock of the series that --like names. KIND is one of these:
 each: a row of 0 for each tick, so that avg of x + each is weighted by time.
@@ -19,6 +20,8 @@ periods: a row for each period, its value the number of the period from 0.
 hours: 1 while trading is open, as by --open 09:30 --close 16:00 in a time zone, on --days, but for the days of --closed-on.
 weekdays: the day of the week in a time zone, from 1 (Monday) to 7."""
 DAYS = ("mon", "tue", "wed", "thu", "fri", "sat", "sun")
+# Days between these have a day before and two after them, in each zone.
+FIRST_DAY, LAST_DAY = datetime.date(1, 1, 3), datetime.date(9999, 12, 28)
 
 
 def add(commands: Any) -> None:
@@ -32,9 +35,10 @@ def add(commands: Any) -> None:
     parser.add_argument("--every", metavar="DURATION", help="periods: how long one is")
     parser.add_argument("--open", metavar="HH:MM", help="hours")
     parser.add_argument("--close", metavar="HH:MM", help="hours; 24:00 for midnight")
-    parser.add_argument("--days", default="mon-fri", help="hours: as mon-fri or mon,wed (mon-fri)")
+    parser.add_argument("--days", action="append", help="hours: as mon-fri or mon,wed (mon-fri)")
     parser.add_argument("--closed-on", metavar="DATE", nargs="+", action="extend", default=[], help="hours: days without trading")
     parser.add_argument("--zone", help="the time zone of hours and weekdays, as America/New_York (UTC)")
+    parser.add_argument("--force", action="store_true", help="replace OUT.csv and its JSON file also if `tilt-data` didn't write them")
     parser.set_defaults(main=main)
 
 
@@ -44,8 +48,10 @@ def main(words: argparse.Namespace) -> int:
         raise Refused(f"{words.like}: there is no {notes_path(words.like)} beside it; `tilt-data series` writes one")
     if same_file(words.out, words.like) or same_file(notes_path(words.out), notes_path(words.like)):
         raise Refused(f"{words.out}: it is the series of --like, and would be written over: name another file")
+    if not words.force:
+        check_replaceable(words.out, "name another file, or replace it by --force")
     clock = notes.clock
-    lo, hi = (tick_of(text, clock, words.zone) for text in (words.begin, words.end))
+    lo, hi = (tick_of(option, text, clock, words.zone) for option, text in (("--from", words.begin), ("--to", words.end)))
     if lo >= hi:
         raise Refused(f"the stretch from {words.begin} to {words.end} has no tick")
     with Outputs() as outputs:
@@ -57,13 +63,19 @@ def main(words: argparse.Namespace) -> int:
     return 0
 
 
-def tick_of(text: str, clock: Clock, zone: str | None) -> int:
-    if re.fullmatch(r"-?\d+", text):
-        return int(text)
+def tick_of(option: str, text: str, clock: Clock, zone: str | None) -> int:
+    """The tick of a time or of a number, which the program has to take."""
     try:
-        return clock.start(Moments(None, zone_of(zone)).iso(text)) + (clock.closed == "right")
+        if WHOLE.fullmatch(text):
+            # No tick has more than 30 digits, and Python doesn't read thousands of them.
+            tick = int(text) if len(text) <= 30 else TIMES + 1
+        else:
+            tick = clock.start(Moments(None, zone_of(zone)).iso(text)) + (clock.closed == "right")
     except ValueError as error:
-        raise Refused(str(error)) from error
+        raise Refused(f"{option}: {error}") from error
+    if not -TIMES <= tick <= TIMES:
+        raise Refused(f"{option} {text}: a tick from {-TIMES} to {TIMES} was expected: name a nearer time, or a series of longer ticks")
+    return tick
 
 
 def rows_of_kind(words: argparse.Namespace, clock: Clock, lo: int, hi: int) -> Iterator[Row]:
@@ -91,9 +103,19 @@ def cut(rows: Iterator[Row], lo: int, hi: int) -> Iterator[Row]:
 
 def days_of(clock: Clock, zone: str | None, lo: int, hi: int) -> Iterator[datetime.date]:
     """The days of a zone that have to do with a stretch of ticks, in order."""
-    first, last = (datetime.date.fromisoformat(moment_text(clock.moment(tick), 0, zone_of(zone))[:10]) for tick in (lo, hi))
+    first, last = (day_at(clock.moment(tick), zone) for tick in (lo, hi))
+    if first < FIRST_DAY or last > LAST_DAY:
+        raise Refused(f"from {first} to {last}: days from {FIRST_DAY} to {LAST_DAY} were expected: take a nearer --from or --to")
     for number in range(first.toordinal() - 1, last.toordinal() + 2):
         yield datetime.date.fromordinal(number)
+
+
+def day_at(moment: int, zone: str | None) -> datetime.date:
+    """The day that a zone has at a moment."""
+    try:
+        return datetime.date.fromisoformat(moment_text(moment, 0, zone_of(zone))[:10])
+    except Refused as error:
+        raise Refused(f"{error}: take a nearer --from or --to") from error
 
 
 def moment_on(day: datetime.date, minutes: int, zone: str | None) -> int:
@@ -119,14 +141,15 @@ def hours(words: argparse.Namespace, clock: Clock, lo: int, hi: int) -> Iterator
     begin, end = (minutes_of(text) for text in (words.open, words.close))
     if begin >= end:
         raise Refused(f"--close {words.close} isn't after --open {words.open}")
-    days, closed = days_named(words.days), {date_of(text) for text in words.closed_on}
+    days, closed = days_named(",".join(words.days or ["mon-fri"])), {date_of(text) for text in words.closed_on}
     for day in days_of(clock, words.zone, lo, hi):
-        if day.weekday() in days and day not in closed:
+        # A day that the zone left out has no hours: Samoa went from 29 to 31 December 2011.
+        if day.weekday() in days and day not in closed and day_at(moment_on(day, 720, words.zone), words.zone) == day:
             yield edge(clock, moment_on(day, begin, words.zone)), edge(clock, moment_on(day, end, words.zone)), 1
 
 
 def minutes_of(text: str) -> int:
-    found = re.fullmatch(r"(\d\d):(\d\d)", text)
+    found = re.fullmatch(r"([0-9]{2}):([0-9]{2})", text)
     if found is None or int(found[2]) > 59 or int(found[1]) * 60 + int(found[2]) > 1440:
         raise Refused(f"{text!r} is no time of day: HH:MM was expected, as 09:30")
     return int(found[1]) * 60 + int(found[2])
