@@ -191,8 +191,9 @@ def test_options_of_episodes_without_episodes(told, words):
 @pytest.mark.parametrize("scale", ["0", "x=0", "00"])
 def test_a_table_isn_t_divided_by_0(told, scale):
     put("x", "0,5,10\n")
-    status, out, err = told("table", "x.csv", "--scale", scale)
-    assert (status, out) == (1, "") and err.startswith("tilt-data: --scale") and "above 0" in err
+    done = subprocess.run([sys.executable, "-m", "tilt_data", "table", "x.csv", "--scale", scale], env={**os.environ, "PYTHONPATH": str(PYTHON)},
+                          text=True, capture_output=True, timeout=60)
+    assert (done.returncode, done.stdout) == (1, "") and done.stderr.startswith("tilt-data: --scale") and "above 0" in done.stderr
 
 
 # What `by` rejects
