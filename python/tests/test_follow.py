@@ -2,6 +2,7 @@
 from __future__ import annotations
 
 import os
+import json
 import pathlib
 import random
 import resource
@@ -14,6 +15,8 @@ import time
 
 import pytest
 from conftest import PROGRAM, PYTHON, run_program
+
+from tilt_data.follow import LONGEST, Lines
 
 QUERY = ("input temp; input limit; let a = avg(temp[t-20:t]) every 10; let above = ifnull(a > limit, false);\n"
          "emit a - limit when any(above[t-30:t]) over (0, 3000] every 10;\n")
@@ -161,6 +164,7 @@ def test_bad_lines(tilt, tmp_path, line, what):
 
 
 LIMIT, BIT = 4 * 10**18, 2**63
+OVER = "tilt-data: the query's `over` has ended at 20: no more rows come\n"
 
 
 @pytest.mark.parametrize("line, what", [
@@ -187,19 +191,18 @@ def test_a_line_that_the_program_would_not_take_is_passed_over(tilt, tmp_path, l
 
 def test_the_farthest_rows_are_taken(tilt, tmp_path):
     (tmp_path / "q").write_text("input x; input y; emit x + y over (0, 20];")
-    given = f"x,{-LIMIT},{LIMIT},{BIT - 1}\ny,{-LIMIT},5,{-BIT}\ny,5,{LIMIT},+0\n".encode()
+    given = f"x,{-LIMIT},{LIMIT},{BIT - 1}\ny,{-LIMIT},5,{-BIT}\n".encode()
     words = ["--state", "s", "--rows", "1"]
     assert done(follow(tmp_path, *words, stdin=subprocess.PIPE), given)[::2] == (0, "")
-    assert done(follow(tmp_path, *words, "--end", stdin=subprocess.DEVNULL))[::2] == (0, "")
+    assert done(follow(tmp_path, *words, stdin=subprocess.PIPE), f"y,5,{LIMIT},+0\n".encode())[::2] == (0, OVER)
     assert (tmp_path / "s" / "output.csv").read_text() == f"start,end,value\n0,5,-1\n5,20,{BIT - 1}\n"
 
 
 def test_the_farthest_reading_is_taken(tilt, tmp_path):
     (tmp_path / "q").write_text("input x; emit x over (0, 20];")
     words = ["--state", "s", "--rows", "1", "--tick", "1s", "--origin", "1970-01-01", "--unit", "s", "--max-age", "2s"]
-    given = f"x,{-LIMIT},1\nx,5,2\nx,{LIMIT - 2},3\n".encode()
-    assert done(follow(tmp_path, *words, stdin=subprocess.PIPE), given)[::2] == (0, "")
-    assert done(follow(tmp_path, *words, "--end", stdin=subprocess.DEVNULL))[::2] == (0, "")
+    assert done(follow(tmp_path, *words, stdin=subprocess.PIPE), f"x,{-LIMIT},1\nx,5,2\n".encode())[::2] == (0, "")
+    assert done(follow(tmp_path, *words, stdin=subprocess.PIPE), f"x,{LIMIT - 2},3\n".encode())[::2] == (0, OVER)
     assert (tmp_path / "s" / "output.csv").read_text() == "start,end,value\n5,7,2\n"
 
 
@@ -378,7 +381,7 @@ def test_what_is_refused(tilt, tmp_path):
     assert "has no input x" in done(follow(tmp_path, "x=limit.csv", "--state", "s", stdin=subprocess.DEVNULL))[2]
     assert done(follow(tmp_path, "--state", "s", stdin=subprocess.DEVNULL))[0] == 0
     (tmp_path / "q").write_text(QUERY + " ")
-    assert "isn't the query that s was begun with" in done(follow(tmp_path, "--state", "s", stdin=subprocess.DEVNULL))[2]
+    assert "isn't the query that s was started with" in done(follow(tmp_path, "--state", "s", stdin=subprocess.DEVNULL))[2]
     (tmp_path / "q").write_text(QUERY)
     held = follow(tmp_path, "--state", "s", stdin=subprocess.PIPE)
     time.sleep(1)
@@ -391,6 +394,366 @@ def test_other_names_are_passed_over(tilt, tmp_path):
     given = "".join(line + "\n" + "pressure" + line[line.index(","):] + "\n" for line in lines).encode()
     status, out, err = done(follow(tmp_path, "--state", "s", "--end", stdin=subprocess.PIPE), given)
     assert (status, out, err) == (0, wanted, "tilt-data: the query has no input pressure: its lines are passed over\n")
+
+
+# Calls that differ from the one before
+
+
+CLOCK = ["--tick", "1s", "--origin", "2026-03-01", "--scale", "10", "--max-age", "30s", "--ties", "last", "--null", "NA"]
+
+
+def changed(*words: str) -> list[str]:
+    """The options of CLOCK with some of them given otherwise, or taken out by a value `-`."""
+    options = {**dict(zip(CLOCK[::2], CLOCK[1::2])), **dict(zip(words[::2], words[1::2]))}
+    return [word for option, value in options.items() if value != "-" for word in (option, value)]
+
+
+CHANGES = [
+    (changed("--scale", "100"), "with --scale 10", "with --scale 100"), (changed("--scale", "-"), "with --scale 10", "with --scale 1"),
+    (changed("--tick", "100ms"), "with --tick 1s", "with --tick 100ms"),
+    (changed("--origin", "2026-02-28"), "with --origin 2026-03-01T00:00:00Z", "with --origin 2026-02-28T00:00:00Z"),
+    (changed("--origin", "-"), "with --origin 2026-03-01T00:00:00Z", "without --origin"),
+    (changed("--zone", "Europe/Berlin", "--origin", "2026-03-01T00:00Z"), "with --zone UTC", "with --zone Europe/Berlin"),
+    (changed("--unit", "s"), "without --unit", "with --unit s"), (changed("--closed", "right"), "with --closed left", "with --closed right"),
+    (changed("--max-age", "60s"), "with --max-age 30s", "with --max-age 1min"), (changed("--max-age", "-"), "with --max-age 30s", "without --max-age"),
+    (changed("--until", "2026-03-02"), "without --until", "with --until 2026-03-02T00:00:00Z"),
+    (changed("--ties", "first"), "with --ties last", "with --ties first"), (changed("--null", "NA,-9"), "with --null NA", "with --null -9,NA"),
+    ([*CLOCK, "--event"], "without --event", "with --event"),
+    (changed("--tick", "-", "--origin", "-", "--scale", "-", "--like", "hundred.csv"), "with --scale 10", "with --scale 100 (of --like hundred.csv)"),
+]
+
+
+def test_other_options_are_rejected_and_leave_the_folder_as_it_is(tilt, tmp_path):
+    (tmp_path / "q").write_text("input x; emit x over (0, 40];")
+    for name, scale in (("ten", 10), ("hundred", 100)):
+        (tmp_path / f"{name}.json").write_text(json.dumps({"tick": "1s", "origin": "2026-03-01T00:00:00Z", "scale": scale}))
+    first = b"x,2026-03-01T00:00:01,1.5\nx,2026-03-01T00:00:05,2.5\n"
+    assert done(follow(tmp_path, "--state", "s", *CLOCK, stdin=subprocess.PIPE), first)[::2] == (0, "")
+    before = tree(tmp_path / "s")
+    for words, old, new in CHANGES:
+        status, out, err = done(follow(tmp_path, "--state", "s", *words, stdin=subprocess.PIPE), b"x,2026-03-01T00:00:09,3.5\n")
+        wanted = f"tilt-data: s was started {old}, not {new}: call it again {old}, or name another --state\n"
+        assert (status, out, err) == (1, "", wanted)
+        assert tree(tmp_path / "s") == before, words
+    # The same options written otherwise are the same.
+    words = changed("--tick", "-", "--origin", "-", "--scale", "-", "--like", "ten.csv", "--max-age", "30000ms", "--closed", "left", "--zone", "UTC")
+    assert done(follow(tmp_path, "--state", "s", *words, "--end", stdin=subprocess.PIPE), b"x,2026-03-01T00:00:09,3.5\n")[::2] == (0, "")
+    assert (tmp_path / "s" / "output.csv").read_text() == "start,end,value\n1,5,15\n5,9,25\n9,39,35\n"
+
+
+def test_options_of_readings_are_free_until_a_session_has_readings(tilt, tmp_path):
+    (tmp_path / "q").write_text("input x; emit x over (0, 40];")
+    assert done(follow(tmp_path, "--state", "s", stdin=subprocess.PIPE), b"x,0,3,10\n")[::2] == (0, "")
+    status, _, err = done(follow(tmp_path, "--state", "s", stdin=subprocess.PIPE), b"x,2026-03-01T00:00:05,2.5\n")
+    assert status == 1 and "readings need a clock: --tick and --origin" in err
+    assert done(follow(tmp_path, "--state", "s", *CLOCK, "--end", stdin=subprocess.DEVNULL))[::2] == (0, "")
+    assert (tmp_path / "s" / "output.csv").read_text() == "start,end,value\n0,3,10\n5,35,25\n"
+
+
+def test_restarts_after_kills_with_other_options_change_nothing(tilt, tmp_path):
+    draws = random.Random(6)
+    readings = [f"{time.strftime('%Y-%m-%dT%H:%M:%S', time.gmtime(1772323200 + at))},{draws.randrange(100) / 10}" for at in range(1, 3000, 7)]
+    (tmp_path / "raw.csv").write_text("time,x\n" + "".join(f"{line}\n" for line in readings))
+    made = [sys.executable, "-m", "tilt_data", "series", "raw.csv", "--time", "time", *CLOCK]
+    assert subprocess.run(made, cwd=tmp_path, env=BEGUN).returncode == 0
+    query = "input x; emit avg(x[t-60:t]) over (0, 3100] every 20;"
+    wanted = run_program(tilt, query, "x=x.csv", folder=str(tmp_path))
+    (tmp_path / "q").write_text(query)
+    (tmp_path / "lines").write_text("".join(f"x,{line}\n" for line in readings))
+    quiet, rejected = {"stdout": subprocess.DEVNULL, "stderr": subprocess.DEVNULL}, 0
+    for _ in range(25):
+        with open(tmp_path / "lines", "rb") as given:
+            process = follow(tmp_path, "--state", "s", "--again", "--rows", "3", *CLOCK, stdin=given, **quiet)
+        time.sleep(draws.uniform(0.1, 0.5))
+        os.killpg(process.pid, signal.SIGKILL)
+        process.wait()
+        time.sleep(0.05)
+        if any((tmp_path / "s").glob("state.*")):
+            before = tree(tmp_path / "s")
+            with open(tmp_path / "lines", "rb") as given:
+                status, out, err = done(follow(tmp_path, "--state", "s", "--again", *changed("--scale", "100"), stdin=given))
+            assert (status, out) == (1, "") and "s was started with --scale 10, not with --scale 100" in err
+            assert tree(tmp_path / "s") == before
+            rejected += 1
+    with open(tmp_path / "lines", "rb") as given:
+        assert done(follow(tmp_path, "--state", "s", "--again", "--end", "--quiet", *CLOCK, stdin=given)) == (0, "", "")
+    assert (tmp_path / "s" / "output.csv").read_text() == wanted and rejected >= 5
+
+
+def test_a_file_of_an_input_that_was_changed_is_rejected(tilt, tmp_path):
+    (tmp_path / "q").write_text("input x; input limit; emit x - limit over (0, 50];")
+    limit = tmp_path / "limit.csv"
+    rows = "start,end,value\n0,5,1\n5,12,2\n"
+    limit.write_text(rows + "15,20,3\n")
+    words = ["limit=limit.csv", "--state", "s"]
+    assert done(follow(tmp_path, *words, stdin=subprocess.PIPE), b"x,0,10,50\n")[::2] == (0, "")
+    before = tree(tmp_path / "s")
+    other = "limit.csv: its first 2 rows aren't those that s was given before: give the file as it was, or name another --state"
+    for text, what in (
+            (rows.replace("12,2", "12,99"), other), (rows.replace("0,5,1\n", ""), other), ("start,end,value\n0,5,1\n", other),
+            (rows.replace("12,2", "7,2") + "7,15,3\n", other),
+            (rows.replace("12,2", "7,2") + "8,9,2\n", other)):
+        limit.write_text(text)
+        assert done(follow(tmp_path, *words, stdin=subprocess.PIPE), b"x,10,20,60\n") == (1, "", f"tilt-data: {what}\n")
+        assert tree(tmp_path / "s") == before
+    assert done(follow(tmp_path, "--state", "s", stdin=subprocess.PIPE), b"x,10,20,60\n") == (
+        1, "", "tilt-data: the input limit was given otherwise when s was begun: call it again with limit=FILE, or name another --state\n")
+    # What wasn't handed on yet may change, and rows may be added.
+    limit.write_text(rows + "12,30,4\n30,40,5\n")
+    assert done(follow(tmp_path, *words, "--end", stdin=subprocess.PIPE), b"x,10,40,60\n")[::2] == (0, "")
+    assert (tmp_path / "s" / "output.csv").read_text() == "start,end,value\n0,5,49\n5,10,48\n10,12,58\n12,30,56\n30,40,55\n"
+
+
+def test_a_row_that_is_added_to_a_file_where_all_is_decided_is_rejected(tilt, tmp_path):
+    (tmp_path / "q").write_text("input x; input limit; emit x - limit over (0, 40];")
+    (tmp_path / "limit.csv").write_text("start,end,value\n0,5,1\n")
+    words = ["limit=limit.csv", "--state", "s"]
+    assert done(follow(tmp_path, *words, stdin=subprocess.PIPE), b"x,0,10,50\n")[0] == 0
+    before = tree(tmp_path / "s")
+    (tmp_path / "limit.csv").write_text("start,end,value\n0,5,1\n5,20,2\n")
+    assert done(follow(tmp_path, *words, stdin=subprocess.PIPE), b"x,10,20,60\n") == (
+        1, "", "tilt-data: limit.csv: its row 5,20 is new and starts before 10, up to where s went: take out new rows that start before 10, "
+        "or name another --state\n")
+    assert tree(tmp_path / "s") == before
+
+
+TAKEN = [f"x,{at},{at + 1},{at}\n" for at in range(12)]
+AGAIN = ": with --again the input must start with the same first line; put rotated lines in front of it, or name another --state\n"
+
+
+@pytest.mark.parametrize("given, what", [
+    (["x,12,13,5\n", "x,13,14,6\n"], "the first line isn't what s took before"),
+    ([*TAKEN[:3], "x,3,4,9\n", *TAKEN[4:], "x,12,13,5\n"], "the first 4 lines aren't what s took before"),
+    ([*TAKEN[:11], "x,11,12,9\n", "x,12,13,5\n"], "the first 12 lines aren't what s took before"),
+    (TAKEN[:7], "the input ended after 7 lines, and s took 12 before"), ([], "the input ended after 0 lines, and s took 12 before"),
+])
+def test_lines_that_are_not_those_taken_before_are_rejected(tilt, tmp_path, given, what):
+    (tmp_path / "q").write_text("input x; emit x over (0, 40];")
+    words = ["--state", "s", "--again", "--rows", "5"]
+    # Some of the lines are in a session, and some in the log alone; a call without --again continues the digest.
+    assert done(follow(tmp_path, *words[:2], "--rows", "4", stdin=subprocess.PIPE), "".join(TAKEN[:3]).encode())[0] == 0
+    assert done(follow(tmp_path, *words[:2], "--rows", "4", stdin=subprocess.PIPE), "".join(TAKEN[3:10]).encode())[0] == 0
+    process = follow(tmp_path, *words, stdin=subprocess.PIPE, stdout=subprocess.DEVNULL)
+    process.stdin.write("".join(TAKEN).encode())
+    process.stdin.flush()
+    wait_for(lambda: any(log.read_text() == "".join(TAKEN[10:]) for log in (tmp_path / "s").glob("log.*")))
+    process.kill()
+    process.communicate()
+    before = tree(tmp_path / "s")
+    assert done(follow(tmp_path, *words, stdin=subprocess.PIPE), "".join(given).encode()) == (1, "", f"tilt-data: {what}{AGAIN}")
+    assert tree(tmp_path / "s") == before
+    more = "".join([*TAKEN, "x,12,13,5\n"]).encode()
+    assert done(follow(tmp_path, *words, "--end", stdin=subprocess.PIPE), more)[::2] == (0, "")
+    assert (tmp_path / "s" / "output.csv").read_text() == "start,end,value\n" + "".join(line[2:] for line in TAKEN) + "12,13,5\n"
+
+
+def test_a_rotated_log_is_noticed_at_its_first_line(tilt, tmp_path):
+    (tmp_path / "q").write_text("input x; emit x over (0, 40];")
+    words = ["--state", "s", "--again"]
+    assert done(follow(tmp_path, *words, stdin=subprocess.PIPE), "".join(TAKEN).encode())[0] == 0
+    # As with `tail -F`, the input doesn't end.
+    process = follow(tmp_path, *words, stdin=subprocess.PIPE)
+    process.stdin.write(b"x,12,13,5\n")
+    process.stdin.flush()
+    assert process.wait(60) == 1
+    assert done(process)[2] == f"tilt-data: the first line isn't what s took before{AGAIN}"
+
+
+def test_a_folder_of_an_earlier_version_is_continued_with_a_warning(tilt, tmp_path):
+    (tmp_path / "q").write_text("input x; input limit; emit x - limit over (0, 40];")
+    (tmp_path / "limit.csv").write_text("start,end,value\n0,40,1\n")
+    first, more = b"x,2026-03-01T00:00:01,1.5\nx,2026-03-01T00:00:05,2.5\n", b"x,2026-03-01T00:00:09,3.5\n"
+    words = ["limit=limit.csv", "--state", "s", *CLOCK]
+    assert done(follow(tmp_path, *words, stdin=subprocess.PIPE), first)[::2] == (0, "")
+    notes = tmp_path / "s" / "notes.5"
+    kept = json.loads(notes.read_text())
+    del kept["inputs"]["limit"]["digest"]
+    notes.write_text(json.dumps({name: kept[name] for name in ("lines", "inputs", "output")}))
+    assert done(follow(tmp_path, *words, "--again", stdin=subprocess.PIPE), first + more)[::2] == (
+        0, "tilt-data: s is of an earlier version, which kept no options and no digests: make sure that this call has the options, the files "
+        "and the first lines that it had before\n")
+    # From its next session on the folder has what is compared.
+    status, _, err = done(follow(tmp_path, *words, "--again", stdin=subprocess.PIPE), more)
+    assert (status, err) == (1, f"tilt-data: the first line isn't what s took before{AGAIN}")
+    status, _, err = done(follow(tmp_path, *words, "--event", stdin=subprocess.DEVNULL))
+    assert status == 1 and "s was started without --event, not with --event" in err
+    (tmp_path / "limit.csv").write_text("start,end,value\n0,40,2\n")
+    status, _, err = done(follow(tmp_path, *words, stdin=subprocess.DEVNULL))
+    assert status == 1 and "limit.csv: its first 1 rows aren't those that s was given before" in err
+    (tmp_path / "limit.csv").write_text("start,end,value\n0,40,1\n")
+    assert done(follow(tmp_path, *words, "--again", "--end", stdin=subprocess.PIPE), first + more)[::2] == (0, "")
+    assert (tmp_path / "s" / "output.csv").read_text() == "start,end,value\n1,5,14\n5,9,24\n9,39,34\n"
+
+
+# Lines that can't be taken
+
+
+def test_rejected_lines_are_in_a_file_once(tilt, tmp_path):
+    (tmp_path / "q").write_text("input x; emit x over (0, 40];")
+    words = ["--state", "s", "--skip-bad", "--rows", "4"]
+    process = follow(tmp_path, *words, stdin=subprocess.PIPE, stdout=subprocess.DEVNULL)
+    process.stdin.write(b"x,0,3,1\nx,5,5,1\nx,2,4,1\nx,3,4,2\nx,y\n")
+    process.stdin.flush()
+    rejected = tmp_path / "s" / "rejected.log"
+    first = "2\ta start below the end 5 was expected\tx,5,5,1\n3\tit starts before 3, up to where x was known: it came too late\tx,2,4,1\n"
+    wanted = first + "5\tNAME,start,end,value or NAME,time,value was expected\tx,y\n"
+    wait_for(lambda: rejected.exists() and rejected.read_text() == wanted)
+    process.kill()
+    process.communicate()
+    # The fifth line is read again from the log, and those before it aren't.
+    status, _, err = done(follow(tmp_path, *words, "--end", stdin=subprocess.PIPE), b"x,4,9,8\nx,9,8,7\n")
+    assert status == 0 and err.count("\n") == 2 and "(rejected so far: 3)" in err and "(rejected so far: 4)" in err
+    assert rejected.read_text() == wanted + "7\ta start below the end 8 was expected\tx,9,8,7\n"
+    assert (tmp_path / "s" / "output.csv").read_text() == "start,end,value\n0,3,1\n3,4,2\n4,9,8\n"
+
+
+def test_control_characters_do_not_reach_the_terminal(tilt, tmp_path):
+    (tmp_path / "q").write_text("input x; emit x over (0, 40];")
+    words = ["--state", "s", "--skip-bad", *CLOCK]
+    given = b"x,\x1b[31mALERT,5\n\x1b]0;title\x07,1,2,3\nx,1,\xff\x00\\\nx,2,\xc2\x9b7m"
+    status, out, err = done(follow(tmp_path, *words, stdin=subprocess.PIPE), given)
+    assert (status, out) == (0, "") and not any(sign < " " and sign != "\n" or "\x7f" <= sign <= "\x9f" for sign in err)
+    assert err.splitlines()[0].endswith(": x,\\x1b[31mALERT,5 (rejected so far: 1)")
+    assert err.splitlines()[1] == "tilt-data: the query has no input \\x1b]0;title\\x07: its lines are passed over"
+    assert err.splitlines()[2].endswith(": x,1,\\xff\\x00\\x5c (rejected so far: 2)")
+    assert err.splitlines()[3] == "tilt-data: the last line has no end, and isn't taken without --end: x,2,\\xc2\\x9b7m"
+    assert [line.split("\t")[2] for line in (tmp_path / "s" / "rejected.log").read_text().splitlines()] == [
+        "x,\\x1b[31mALERT,5", "x,1,\\xff\\x00\\x5c"]
+
+
+def test_a_line_without_an_end_is_rejected_while_it_comes(tilt, tmp_path):
+    (tmp_path / "q").write_text("input x; emit x over (0, 40];")
+    process = follow(tmp_path, "--state", "s", stdin=subprocess.PIPE)
+    process.stdin.write(b"x,0,3,1\n" + b"x" * (LONGEST + 1))
+    process.stdin.flush()
+    assert process.wait(60) == 1
+    err = process.stderr.read().decode()
+    process.communicate()
+    assert err.startswith(f"tilt-data: line 2: a line of at most {LONGEST} bytes was expected: xxx") and len(err) < 500
+    # It is one line, of which its beginning is kept, and what comes after its end is taken.
+    given = b"x,0,3,1\n" + b"x" * (LONGEST + 70000) + b"\r\nx,3,4,2\n"
+    for more in (b"", b"x,4,9,3\n"):
+        words = ["--state", "s", "--skip-bad", "--again", *(["--end"] if more else [])]
+        assert done(follow(tmp_path, *words, stdin=subprocess.PIPE), given + more)[0] == 0
+    assert (tmp_path / "s" / "output.csv").read_text() == "start,end,value\n0,3,1\n3,4,2\n4,9,3\n"
+    assert (tmp_path / "s" / "rejected.log").read_text() == f"2\ta line of at most {LONGEST} bytes was expected\t{'x' * (LONGEST + 1)}\n"
+
+
+def test_lines_are_the_same_however_they_are_read():
+    draws = random.Random(7)
+    sizes = [0, 1, LONGEST - 1, LONGEST, LONGEST + 1, 3 * LONGEST]
+    for _ in range(60):
+        lines = [bytes([draws.choice(b"ab\r")]) * draws.choice(sizes) for _ in range(6)]
+        wanted = [line.rstrip(b"\r") if len(line) <= LONGEST else line[:LONGEST + 1] for line in lines]
+        text, found, cut = b"\n".join(lines) + b"\nrest", [], Lines()
+        while text:
+            size = draws.choice([1, 1000, LONGEST, 2 * LONGEST])
+            found += cut.cut(text[:size])
+            text = text[size:]
+            assert len(cut.rest) <= LONGEST
+        assert (found, bytes(cut.rest)) == (wanted, b"rest")
+
+
+def test_a_query_is_taken_byte_for_byte(tilt, tmp_path):
+    (tmp_path / "q").write_bytes(b"\xef\xbb\xbfinput x; emit x over (0, 40];")
+    told = subprocess.run([tilt, "explain", "q"], cwd=tmp_path, capture_output=True, text=True)
+    status, out, err = done(follow(tmp_path, "--state", "s", stdin=subprocess.PIPE), b"x,0,3,1\n")
+    assert (told.returncode, status, out) == (1, 1, "") and err.startswith(f"tilt-data: {told.stderr}")
+
+
+def test_a_file_may_be_named_after_options(tilt, tmp_path):
+    (tmp_path / "q").write_text("input x; input limit; input more; emit x - limit + more over (0, 40];")
+    for name, value in (("limit", 1), ("more", 7)):
+        (tmp_path / f"{name}.csv").write_text(f"start,end,value\n0,40,{value}\n")
+    words = ["limit=limit.csv", "--state", "s", "--end", "more=more.csv"]
+    assert done(follow(tmp_path, *words, stdin=subprocess.PIPE), b"x,0,10,50\n") == (0, "start,end,value\n0,10,56\n", "")
+    status, out, err = done(follow(tmp_path, "--state", "t", "limit.csv", stdin=subprocess.DEVNULL))
+    assert (status, out) == (2, "") and "unrecognized arguments: limit.csv" in err
+
+
+# Silence is explained
+
+
+@pytest.mark.parametrize("query, last", [
+    ("input x; emit x over (3, 20];", 20), ("input x; emit x + ifnull(x[t+5], 0) over (3, 20];", 25),
+    # Each of two grids of 4 ticks counts as 3 ticks ahead.
+    ("input x; let a = sum(x[t-4:t]) every 4; emit a over (0, 20] every 4;", 26)])
+def test_it_ends_where_the_output_of_the_query_ends(tilt, tmp_path, query, last):
+    lines = [f"x,{at},{at + 1},{at}\n" for at in range(40)]
+    (tmp_path / "x.csv").write_text("start,end,value\n" + "".join(line[2:] for line in lines))
+    wanted = run_program(tilt, query, "x=x.csv", folder=str(tmp_path))
+    (tmp_path / "q").write_text(query)
+    process = follow(tmp_path, "--state", "s", "--rows", "1", stdin=subprocess.PIPE)
+    process.stdin.write("".join(lines[:19]).encode())
+    process.stdin.flush()
+    wait_for(lambda: (tmp_path / "s" / "log.19").exists())
+    assert process.poll() is None
+    process.stdin.write("".join(lines[19:last]).encode())
+    process.stdin.flush()
+    # The input goes on, and the command ends.
+    assert process.wait(60) == 0
+    assert (process.stdout.read().decode(), process.stderr.read().decode()) == (wanted, OVER)
+    process.communicate()
+    assert wanted == (tmp_path / "s" / "output.csv").read_text() and (tmp_path / "s" / "state.end").exists()
+
+
+LATE = "input temp; input valve; emit ifnull(temp + valve, temp) over (0, 9000];"
+
+
+def test_an_input_that_holds_the_output_back_is_named_once(tilt, tmp_path):
+    (tmp_path / "q").write_text(LATE)
+    temp = [f"temp,{at},{at + 1},{at}\n" for at in range(1000)]
+    given = ["valve,0,5,1\n", *temp[:400], "valve,5,200,1\n", *temp[400:800]]
+    status, out, err = done(follow(tmp_path, "--state", "s", "--rows", "50", stdin=subprocess.PIPE), "".join(given).encode())
+    assert status == 0 and err == (
+        "tilt-data: temp is known up to 149, waiting for valve, known up to 5\n"
+        "tilt-data: temp is known up to 548, waiting for valve, known up to 200\n")
+
+
+def test_an_input_without_a_line_is_named_with_the_time(tilt, tmp_path):
+    (tmp_path / "q").write_text(LATE)
+    given = "".join(f"temp,2026-03-01T00:{at // 60:02}:{at % 60:02},1.5\n" for at in range(300))
+    status, out, err = done(follow(tmp_path, "--state", "s", *CLOCK, stdin=subprocess.PIPE), given.encode())
+    assert (status, out, err) == (0, "", "tilt-data: temp is known up to 2026-03-01T00:04:59Z, waiting for valve, of which no line came yet\n")
+
+
+def test_an_input_that_is_silent_for_long_is_named(tilt, tmp_path):
+    (tmp_path / "q").write_text(LATE)
+    given = b"valve,0,5,1\ntemp,0,9,1\n"
+    for seconds, wanted in (("60.0", ""), ("0.0", "tilt-data: temp is known up to 9, waiting for valve, known up to 5\n")):
+        words = ["follow", "q", "--state", f"s{seconds}", "--every", "1us"]
+        code = f"from tilt_data import cli, follow; follow.QUIET_SECONDS = {seconds}; raise SystemExit(cli.main({words}))"
+        found = subprocess.run([sys.executable, "-c", code], cwd=tmp_path, env=BEGUN, input=given, capture_output=True)
+        assert (found.returncode, found.stderr.decode()) == (0, wanted)
+
+
+def test_a_file_whose_rows_end_is_named_once(tilt, tmp_path):
+    (tmp_path / "q").write_text("input x; input limit; input none; emit ifnull(x - limit, x) over (0, 40];")
+    (tmp_path / "limit.csv").write_text("start,end,value\n0,5,1\n")
+    (tmp_path / "none.csv").write_text("start,end,value\n")
+    words = ["limit=limit.csv", "none=none.csv", "--state", "s", "--rows", "1"]
+    status, out, err = done(follow(tmp_path, *words, stdin=subprocess.PIPE), b"x,0,5,9\nx,5,7,9\nx,7,9,9\n")
+    assert status == 0 and err == ("tilt-data: none.csv: it has no rows: none is null from there on\n"
+                                   "tilt-data: limit.csv: its rows end at 5: limit is null from there on\n")
+
+
+def test_warnings_never_go_to_standard_output(tilt, tmp_path):
+    (tmp_path / "q").write_text("input x; emit x over (0, 40];")
+    words = [sys.executable, "-m", "tilt_data", "follow", "q", "--state", "s", "--skip-bad", "--end"]
+    found = subprocess.run(["sh", "-c", '"$@" 2>&-', "sh", *words], cwd=tmp_path, env=BEGUN, input=b"x,0,3,1\nx,5,5,1\n", capture_output=True)
+    assert (found.returncode, found.stdout) == (0, b"start,end,value\n0,3,1\n")
+
+
+def test_a_program_that_is_killed_is_reported(tilt, tmp_path):
+    (tmp_path / "q").write_text("input x; emit x over (0, 40];")
+    assert done(follow(tmp_path, "--state", "s", stdin=subprocess.PIPE), b"x,0,3,1\n")[0] == 0
+    (tmp_path / "killed").write_text("#!/bin/sh\nkill -9 $$\n")
+    (tmp_path / "killed").chmod(0o755)
+    words = [sys.executable, "-m", "tilt_data", "follow", "q", "--state", "s"]
+    found = subprocess.run(words, cwd=tmp_path, env={**BEGUN, "TILT": str(tmp_path / "killed")}, input=b"x,3,4,1\n", capture_output=True)
+    assert (found.returncode, found.stderr) == (137, b"tilt-data: the program was ended by signal 9\n")
+    assert done(follow(tmp_path, "--state", "s", "--end", stdin=subprocess.DEVNULL))[::2] == (0, "")
+    assert (tmp_path / "s" / "output.csv").read_text() == "start,end,value\n0,3,1\n3,4,1\n"
 
 
 def program(name: str) -> str:

@@ -3,38 +3,54 @@
 What is kept is tied by the cut in its name. A session from one cut to the next writes `part.CUT`, the lines that it decided, `notes.CUT`,
 what was taken and not handed on yet and how long `output.csv` was before, and last `state.CUT`, the checkpoint of `tilt`: when that stands,
 the session counts. Then the part is put to the end of `output.csv`. Killed in between, it is put there when the command is called again; a
-part without its state is thrown away, and its session made anew. `log.CUT` has the lines that came since the cut. Only files of names that are
-written here are ever taken away, and only in a folder that was begun here."""
+part without its state is thrown away, and its session made again. `log.CUT` has the lines that came since the cut. Only files of names that are
+written here are ever taken away, and only in a folder that was begun here.
+
+The notes also keep what a later call is compared with: the options that make rows of readings, a digest of the lines that were taken, and one
+of the rows that each NAME=FILE handed on. A call that differs is rejected before it changes anything in the folder. Before the first session
+there are no notes, and nothing is printed or handed on: all lines are still in `log.begin`, and the next call reads them with its own options.
+
+The notes of an earlier version have none of this. Such a folder is continued, with a warning, and has it from its next session on. To reject it
+would lose what its checkpoint holds, since the lines before may be gone; to continue it is what that version would have done."""
 from __future__ import annotations
 
 import argparse
 import contextlib
 import dataclasses
 import fcntl
+import functools
+import hashlib
 import json
 import os
 import re
 import select
 import sys
 import time
-from typing import Any, Iterator
+from typing import Any, Iterator, NoReturn
 
 from . import sessions
-from .clock import TIMES, Clock, Moments, duration_of, zone_of
-from .convert import Converter, Late, Rule, TIES, Tie
+from .clock import TIMES, Clock, Moments, duration_of, duration_text, moment_text, zone_of
+from .convert import Converter, Late, Rule, TIES, Tie, row_text
 from .errors import Refused, TiltError
 from .files import Row, notes_of, notes_path, reading, rows_of, writing
+from .grammar import statements_of
 from .scales import GREATEST, LEAST, Scale
 from .series import Nulls, clock_of, moment_of
+from .tokens import Faulty
 from .why import inputs_of
 
 HELP = """Runs a query over lines that keep coming on standard input, as from `mosquitto_sub` or `tail -F`: NAME,start,end,value with
 ticks, or NAME,time,value with readings, which become rows as `tilt-data series` has it. A session is run every --every, or after --rows
 lines; it is cut at the last moment that all inputs have reached. The lines that it decides are printed, and put to the end of output.csv
-in the folder --state. Killed at any moment and called again with the same words it goes on, and no line of output.csv is lost or doubled.
-A word NAME=FILE gives an input whole, from a series file."""
+in the folder --state. Killed at any moment and called again with the same options it goes on, and no line of output.csv is lost or doubled.
+Other options that would change rows are rejected. An argument NAME=FILE gives an input whole, from a series file."""
 Taken = dict[str, Any]
 WHOLE = re.compile(r"[+-]?[0-9]+")
+BINDING = re.compile(r"[A-Za-z_]\w*=.+", re.ASCII | re.DOTALL)
+# A line of more bytes than this is bad; no more of it than one byte above is ever held.
+LONGEST = 65536
+# An input is said to hold the output back if none of this many lines was its own, or if none came for it in as many seconds.
+QUIET_LINES, QUIET_SECONDS = 100, 60.0
 # The names of the files that are written here and aren't needed any more after the session that they are of.
 PASSING = re.compile(r"(part|notes|state|log)\.(begin|end|-?[0-9]+)|new\.(part|notes|state)\.[0-9]+|rows\.[A-Za-z_]\w*\.csv", re.ASCII)
 STATE = re.compile(r"state\.(end|-?[0-9]+)")
@@ -47,10 +63,10 @@ def add(commands: Any) -> None:
     parser.add_argument("--state", metavar="FOLDER", required=True, help="where all is kept")
     parser.add_argument("--every", metavar="DURATION", default="60s", help="how often a session is run (60s)")
     parser.add_argument("--rows", type=int, metavar="N", help="run one after so many lines too")
-    parser.add_argument("--again", action="store_true", help="the source begins with its first line whenever this is called again, as "
-                        "`tail -n +1 -F`: the lines that were taken before are passed over")
+    parser.add_argument("--again", action="store_true", help="the source starts with the same first line whenever this is called again, as "
+                        "`tail -n +1 -F` of a file that isn't rotated: the lines taken before are passed over, and rejected if they differ")
     parser.add_argument("--end", action="store_true", help="where standard input ends, print all that is left: no more lines will come")
-    parser.add_argument("--skip-bad", action="store_true", help="a line that can't be taken is told and passed over")
+    parser.add_argument("--skip-bad", action="store_true", help="a line that can't be taken is reported, written to rejected.log in the folder, and skipped")
     parser.add_argument("--quiet", action="store_true", help="print nothing: output.csv has it")
     parser.add_argument("--unit", choices=["s", "ms", "us", "ns"], help="readings: as in `tilt-data series`, and so the options after it")
     for option in ("--zone", "--tick", "--origin", "--like", "--max-age", "--until"):
@@ -61,6 +77,14 @@ def add(commands: Any) -> None:
     parser.add_argument("--ties", choices=TIES, default="refuse")
     parser.add_argument("--null", default="")
     parser.set_defaults(main=main)
+    parser.parse_known_args = functools.partial(with_later_files, parser.parse_known_args)
+
+
+def with_later_files(parse: Any, *given: Any) -> tuple[argparse.Namespace, list[str]]:
+    """Parses as `parse` does, and takes NAME=FILE after options too: argparse takes only those that come right after QUERY."""
+    words, rest = parse(*given)
+    words.fixed = [*words.fixed, *filter(BINDING.fullmatch, rest)]
+    return words, [word for word in rest if not BINDING.fullmatch(word)]
 
 
 class BadLine(ValueError):
@@ -72,18 +96,52 @@ class BadLine(ValueError):
 
 @dataclasses.dataclass
 class Source:
-    """An input: the rows that no session was handed yet, up to where it is known, and the reading that is held back."""
+    """An input: the rows that no session was handed yet, up to where it is known, and the reading that is held back; the number and the
+    time of its last line. Of one that is given whole by a file, its path, and a digest of its rows that were handed on."""
 
     rows: list[Row]
     reached: int | None = None
     converter: Converter | None = None
-    fixed: bool = False
+    path: str | None = None
     handed: int = 0
+    digest: hashlib._Hash = dataclasses.field(default_factory=hashlib.sha256)
+    line: int = 0
+    time: float = dataclasses.field(default_factory=time.monotonic)
+
+    @property
+    def fixed(self) -> bool:
+        return self.path is not None
+
+    def hand(self, cut: int) -> list[Row]:
+        """The rows that start below a cut, for a session; the others stay."""
+        handed, self.rows = sessions.below(self.rows, cut)
+        self.count(handed)
+        return handed
+
+    def count(self, handed: list[Row]) -> None:
+        self.handed += len(handed)
+        if self.fixed:
+            for row in handed:
+                self.digest.update(row_text(row).encode())
+
+    def check(self, state: str, kept: Taken, cut: int) -> None:
+        """Rejects a file whose rows that were handed on have changed, or that has a new row below the cut, where all is decided."""
+        digest = hashlib.sha256()
+        for row in self.rows[:kept["handed"]]:
+            digest.update(row_text(row).encode())
+        changed = "digest" in kept and digest.hexdigest() != kept["digest"]
+        rest = self.rows[kept["handed"]:]
+        if changed or len(self.rows) < kept["handed"]:
+            raise Refused(f"{self.path}: its first {kept['handed']} rows aren't those that {state} was given before: give the file as it was, "
+                          "or name another --state")
+        if rest and rest[0][0] < cut:
+            raise Refused(f"{self.path}: its row {rest[0][0]},{rest[0][1]} is new and starts before {cut}, up to where {state} went: take "
+                          f"out new rows that start before {cut}, or name another --state")
 
     def dump(self) -> Taken:
-        """What is written of it: of one that is given whole how many of its rows were handed on."""
+        """What is written of it: of one that is given whole how many of its rows were handed on, and their digest."""
         if self.fixed:
-            return {"handed": self.handed}
+            return {"handed": self.handed, "digest": self.digest.hexdigest()}
         return {"rows": self.rows, "reached": self.reached, "converter": None if self.converter is None else self.converter.dump()}
 
 
@@ -115,7 +173,7 @@ class Reader:
             raise Refused(f"--until {words.until}: its tick {tick} isn't within {-TIMES} to {TIMES}")
         return tick
 
-    def take(self, line: str) -> None:
+    def take(self, line: str, line_number: int) -> None:
         """One line, without its end. What it can't be is a BadLine."""
         fields = [field.strip() for field in line.split(",")]
         if fields == [""]:
@@ -126,13 +184,15 @@ class Reader:
         if source is None:
             if fields[0] not in self.unknown:
                 self.unknown.add(fields[0])
-                told(f"the query has no input {fields[0]}: its lines are passed over")
+                told(f"the query has no input {shortened(shown(fields[0].encode()))}: its lines are passed over")
         elif source.fixed:
             raise BadLine(f"{fields[0]} is given by a file")
         elif len(fields) == 4:
             self.row(source, fields)
         else:
             self.reading(source, fields)
+        if source is not None:
+            source.line, source.time = line_number, time.monotonic()
 
     def row(self, source: Source, fields: list[str]) -> None:
         if not all(map(WHOLE.fullmatch, fields[1:3])) or not WHOLE.fullmatch(fields[3] or "0"):
@@ -158,11 +218,12 @@ class Reader:
             self.within(source, converter, self.clock.start(moment))
             row = converter.push(moment, value)
         except Tie as error:
-            raise BadLine("a second reading in one tick: --ties last, first or spread, or a shorter --tick") from error
+            raise BadLine("a second reading in one tick: --ties last, first or spread, or a shorter --tick, in a new --state") from error
         except Late as error:
             raise BadLine(f"it lies before the reading of {fields[0]} before it: it came too late") from error
         except ValueError as error:
-            raise BadLine(str(error)) from error
+            # There is no `--scale auto` here, and a folder that has readings keeps its scale.
+            raise BadLine(str(error).replace(" or --scale auto", " in a new --state")) from error
         source.converter = converter
         if row is not None:
             source.rows.append(row)
@@ -188,18 +249,83 @@ class Reader:
             if row is not None:
                 source.rows.append(row)
 
+    def options(self) -> Taken:
+        """All that makes rows of readings, by the option that gives it: the clock and the scale as they come out of --tick, --origin,
+        --closed, --scale and --like, and the conventions. Each value has one spelling, which the option takes."""
+        words, clock = self.words, self.clock
+        tick = words.tick and duration_of(words.tick) if clock is None else clock.tick
+        origin = words.origin and moment_of(words.origin, words) if clock is None else clock.origin
+        return {
+            "--tick": None if tick is None else duration_text(tick), "--origin": None if origin is None else spelled(origin),
+            "--closed": (words.closed or "left") if clock is None else clock.closed, "--scale": self.scale.scale,
+            "--zone": words.zone or "UTC", "--unit": words.unit,
+            "--max-age": None if words.max_age is None else duration_text(duration_of(words.max_age)),
+            "--until": None if words.until is None else spelled(moment_of(words.until, words)), "--ties": words.ties,
+            "--null": ",".join(sorted(self.nulls.texts)) or None, "--event": words.event,
+        }
+
+    def shape(self) -> Taken | None:
+        """The options, to be kept; None while no reading was taken, since they don't change rows that come as ticks."""
+        return self.options() if any(source.converter is not None for source in self.sources.values()) else None
+
+    def check(self, state: str, kept: Taken) -> None:
+        """Rejects options that differ from those kept."""
+        words, options = self.words, self.options()
+        of_like = {"--tick": words.tick, "--origin": words.origin, "--closed": words.closed, "--scale": words.scale}
+        for option, before in kept.items():
+            now = options.get(option)
+            if now != before:
+                place = f" (of --like {words.like})" if words.like is not None and of_like.get(option, "") is None else ""
+                raise Refused(f"{state} was started {option_text(option, before)}, not {option_text(option, now)}{place}: call it again "
+                              f"{option_text(option, before)}, or name another --state")
+
     def load(self, name: str, kept: Taken) -> None:
         source = self.sources[name]
         if "handed" in kept:
-            source.rows, source.handed = source.rows[kept["handed"]:], kept["handed"]
+            source.count(source.rows[:kept["handed"]])
+            source.rows = source.rows[kept["handed"]:]
             return
         source.rows = [(start, end, value) for start, end, value in kept["rows"]]
         source.reached = kept["reached"]
-        if kept["converter"] is not None:
-            if self.clock is None:
-                raise Refused("readings were taken before: --tick and --origin, or --like, are needed again")
+        if kept["converter"] is not None and self.clock is not None:
             source.converter = Converter(self.clock, self.rule(self.clock))
             source.converter.load(kept["converter"])
+
+    def text(self, tick: int) -> str:
+        """A tick as a time, or as its number if no reading has a clock or there is no such year."""
+        if self.clock is None or self.shape() is None:
+            return str(tick)
+        try:
+            return self.clock.text(tick)
+        except Refused:
+            return str(tick)
+
+
+def spelled(moment: int) -> str:
+    """A moment as a text, of which it has one."""
+    try:
+        return moment_text(moment, 9 if moment % 10**9 else 0)
+    except Refused:
+        return f"{moment} ns after 1970"
+
+
+def option_text(option: str, value: Any) -> str:
+    """How an option with this value is given: `with --scale 10`, `with --event`, `without --unit`."""
+    if value is None or value is False:
+        return f"without {option}"
+    return f"with {option}" if value is True else f"with {option} {value}"
+
+
+def shown(line: bytes) -> str:
+    """A line as a text that a terminal can take: each byte of what isn't printable or isn't UTF-8, and of a backslash, is written \\xNN."""
+    text = line.decode("utf-8", "surrogateescape")
+    return "".join(
+        sign if sign.isprintable() and sign != "\\" else "".join(f"\\x{byte:02x}" for byte in sign.encode("utf-8", "surrogateescape"))
+        for sign in text)
+
+
+def shortened(text: str) -> str:
+    return text if len(text) <= 200 else f"{text[:200]}.."
 
 
 def number(text: str, least: int, greatest: int, what: str) -> int:
@@ -212,6 +338,75 @@ def number(text: str, least: int, greatest: int, what: str) -> int:
     if not least <= found <= greatest:
         raise BadLine(f"{what} within {least} to {greatest} was expected")
     return found
+
+
+# What was taken before
+
+
+@dataclasses.dataclass
+class Chain:
+    """How many lines were taken, and a digest of all of them in order. Each line continues it as SHA-256(digest + line), since a digest that
+    is under way can't be kept in a file. `marks` has it after 1, 2, 4, 8, .. lines, so that other lines are noticed early. In a folder of
+    an earlier version it isn't `known`."""
+
+    count: int = 0
+    digest: bytes = b""
+    marks: dict[int, str] = dataclasses.field(default_factory=dict)
+    known: bool = True
+
+    def add(self, line: bytes) -> None:
+        self.digest = hashlib.sha256(self.digest + line).digest()
+        self.count += 1
+        if self.count & (self.count - 1) == 0:
+            self.marks[self.count] = self.digest.hex()
+
+    def dump(self) -> Taken:
+        return {"lines": self.count, "chain": {"digest": self.digest.hex(), "marks": self.marks} if self.known else None}
+
+    def load(self, kept: Taken) -> None:
+        self.count = kept["lines"]
+        chain = kept.get("chain")
+        self.known = chain is not None or self.count == 0
+        if chain is not None:
+            self.digest = bytes.fromhex(chain["digest"])
+            self.marks = {int(count): digest for count, digest in chain["marks"].items()}
+
+
+class Passing:
+    """Passes over the lines that were taken before, of an input that starts with its first line again, and compares them."""
+
+    def __init__(self, taken: Chain, state: str) -> None:
+        self.taken = taken
+        self.state = state
+        self.left = taken.count
+        self.seen = Chain()
+
+    def rest(self, lines: list[bytes]) -> list[bytes]:
+        """The lines that come after those taken before."""
+        passed = lines[:self.left]
+        self.left -= len(passed)
+        for line in passed:
+            self.seen.add(line)
+            if self.taken.known and self.seen.count in self.taken.marks:
+                self.compare(self.taken.marks[self.seen.count])
+        if passed and not self.left:
+            self.compare(self.taken.digest.hex() if self.taken.known else self.seen.digest.hex())
+            self.taken.digest, self.taken.marks, self.taken.known = self.seen.digest, self.seen.marks, True
+        return lines[len(passed):]
+
+    def compare(self, digest: str) -> None:
+        if self.seen.digest.hex() != digest:
+            what = "the first line isn't" if self.seen.count == 1 else f"the first {self.seen.count} lines aren't"
+            self.reject(f"{what} what {self.state} took before")
+
+    def finish(self) -> None:
+        """Rejects an input that has ended before the last line that was taken before."""
+        if self.left:
+            self.reject(f"the input ended after {self.seen.count} lines, and {self.state} took {self.taken.count} before")
+
+    def reject(self, what: str) -> NoReturn:
+        raise Refused(f"{what}: with --again the input must start with the same first line; put rotated lines in front of it, or name "
+                      "another --state")
 
 
 # The folder
@@ -231,6 +426,7 @@ class Store:
         self.lock()
         self.cut: str = self.found()
         self.output = os.path.join(folder, "output.csv")
+        self.rejected = os.path.join(folder, "rejected.log")
         self.placed = 0
         self.log: Any = None
 
@@ -244,7 +440,7 @@ class Store:
 
     def notes(self) -> Taken:
         if self.cut == "begin":
-            return {"output": 0, "lines": 0, "inputs": {}}
+            return {"output": 0, "lines": 0, "rejected_size": 0, "inputs": {}}
         try:
             with open(self.path("notes"), encoding="utf-8") as file:
                 found: Taken = json.load(file)
@@ -285,7 +481,7 @@ class Store:
             raise Refused(f"{self.output}: it has {size} bytes, not {least if least == most else f'{least} to {most}'}: it was moved away or "
                           "changed; put it back as it was")
 
-    def logged(self) -> tuple[list[str], int]:
+    def logged(self) -> tuple[list[bytes], int]:
         """The whole lines that came since the last session, and how many bytes they are."""
         try:
             with open(self.path("log"), "rb") as file:
@@ -293,7 +489,7 @@ class Store:
         except FileNotFoundError:
             return [], 0
         end = text.rfind(b"\n") + 1
-        return [line.decode("utf-8", "replace") for line in text[:end].split(b"\n")[:-1]], end
+        return text[:end].split(b"\n")[:-1], end
 
     def open_log(self, size: int) -> None:
         """Opens the log to put lines to its end, which is cut after its last whole line."""
@@ -310,6 +506,26 @@ class Store:
                 rest = rest[self.log.write(rest):]
         except OSError as error:
             raise Refused(f"{self.path('log')}: it can't be written: {error.strerror}") from error
+
+    def reject(self, text: str) -> None:
+        """Puts a line to the end of the rejected ones."""
+        try:
+            with open(self.rejected, "a", encoding="utf-8", newline="") as file:
+                file.write(text)
+        except OSError as error:
+            raise Refused(f"{self.rejected}: it can't be written: {error.strerror}") from error
+
+    def cut_rejected(self, size: int) -> None:
+        """Takes away the lines that were rejected since the last session: they are read again from the log."""
+        if os.path.exists(self.rejected) and os.path.getsize(self.rejected) > size:
+            os.truncate(self.rejected, size)
+
+    def rejected_size(self) -> int:
+        """How many bytes of rejected lines there are, after they have come to the disk."""
+        if not os.path.exists(self.rejected):
+            return 0
+        sync(self.rejected)
+        return os.path.getsize(self.rejected)
 
     def new(self, kind: str) -> str:
         """A name that no other call has: the program may still be writing for one that was killed."""
@@ -328,7 +544,7 @@ class Store:
         self.check_size(self.placed, self.placed)
         new = self.new("notes")
         with open(new, "w", encoding="utf-8") as file:
-            json.dump({**notes, "output": self.placed}, file)
+            json.dump({**notes, "output": self.placed, "rejected_size": self.rejected_size()}, file)
         for path in (new, self.new("part")):
             sync(path)
         os.replace(self.new("part"), self.path("part", cut))
@@ -361,7 +577,9 @@ def sync(path: str) -> None:
 
 
 def told(text: str) -> None:
-    print(f"tilt-data: {text}", file=sys.stderr, flush=True)
+    # Where standard error is closed, `print` would take standard output.
+    if sys.stderr is not None:
+        print(f"tilt-data: {text}", file=sys.stderr, flush=True)
 
 
 # Following
@@ -376,22 +594,29 @@ class Follower:
         self.query = self.same_query()
         self.sources = self.sources_of()
         self.reader = Reader(words, self.sources)
-        self.lines = 0
+        self.chain = Chain()
+        self.rejected = 0
         self.fresh = 0
+        self.every = duration_of(words.every) / 10**9
+        self.over = over_of(self.query)
+        self.ahead: int | None = None
+        self.ended = False
+        self.warned: dict[str, int | None] = {}
 
     def same_query(self) -> str:
-        """A copy of the query in the folder: a state goes on with its own query alone."""
-        with reading(self.words.query) as file:
+        """A copy of the query in the folder, byte for byte: a state goes on with its own query alone."""
+        with open(self.words.query, "rb") as file:
             text = file.read()
         copy = os.path.join(self.words.state, "query.tilt")
         if os.path.exists(copy):
-            with open(copy, encoding="utf-8", newline="") as file:
+            with open(copy, "rb") as file:
                 if file.read() != text:
-                    raise Refused(f"{self.words.query}: it isn't the query that {self.words.state} was begun with: take another folder")
+                    raise Refused(f"{self.words.query}: it isn't the query that {self.words.state} was started with: take {copy}, which is, "
+                                  "or name another --state")
             return copy
         new = copy + ".new"
         try:
-            with open(new, "w", encoding="utf-8", newline="") as file:
+            with open(new, "wb") as file:
                 file.write(text)
             check_query(new, self.words.query)
             sync(new)
@@ -402,45 +627,73 @@ class Follower:
         return copy
 
     def sources_of(self) -> dict[str, Source]:
-        """Each input of the query; those of the words whole."""
+        """Each input of the query; those given by a file whole."""
         sources = {name: Source([]) for name in inputs_of(self.query)}
         for word in self.words.fixed:
             name, _, path = word.partition("=")
             if name not in sources:
                 raise Refused(f"{word}: the query has no input {name}; its inputs are {', '.join(sources)}")
             with reading(path) as file:
-                sources[name] = Source(list(rows_of(path, file)), fixed=True)
+                rows = list(rows_of(path, file))
+            sources[name] = Source(rows, rows[-1][1] if rows else None, path=path)
         if not any(not source.fixed for source in sources.values()):
             raise Refused("no input is left that lines could come for")
         return sources
 
     def begin(self) -> bool:
         """Takes up what a call before left. False where that was ended already."""
-        self.store.bring_up()
         notes = self.store.notes()
-        self.lines = notes["lines"]
-        for name, kept in notes["inputs"].items():
-            if self.sources[name].fixed != ("handed" in kept):
-                raise Refused(f"the input {name} was given otherwise when {self.words.state} was begun")
-            self.reader.load(name, kept)
+        if self.store.cut != "end":
+            self.check(notes)
+        self.store.bring_up()
         if self.store.cut == "end":
             return False
+        for name, kept in notes["inputs"].items():
+            self.reader.load(name, kept)
+        self.chain.load(notes)
+        self.rejected = notes.get("rejected", 0)
+        if "rejected_size" in notes:
+            self.store.cut_rejected(notes["rejected_size"])
+        for source in self.sources.values():
+            source.line = self.chain.count
         lines, size = self.store.logged()
         self.store.open_log(size)
         for line in lines:
             self.take(line)
         return True
 
-    def take(self, line: str) -> None:
-        self.lines += 1
+    def check(self, notes: Taken) -> None:
+        """Rejects options and files other than those that the last session was run with, before anything in the folder is changed."""
+        state = self.words.state
+        for name, kept in notes["inputs"].items():
+            if self.sources[name].fixed != ("handed" in kept):
+                how = f"with {name}=FILE" if "handed" in kept else f"without {name}=FILE"
+                raise Refused(f"the input {name} was given otherwise when {state} was begun: call it again {how}, or name another --state")
+        if notes.get("shape") is not None:
+            self.reader.check(state, notes["shape"])
+        for name, kept in notes["inputs"].items():
+            if "handed" in kept:
+                self.sources[name].check(state, kept, int(self.store.cut))
+            elif kept["converter"] is not None and self.reader.clock is None:
+                raise Refused("readings were taken before: --tick and --origin, or --like, are needed again")
+        if self.store.cut != "begin" and "shape" not in notes:
+            told(f"{state} is of an earlier version, which kept no options and no digests: make sure that this call has the options, the "
+                 "files and the first lines that it had before")
+
+    def take(self, line: bytes) -> None:
+        self.chain.add(line)
         self.fresh += 1
         try:
-            self.reader.take(line)
+            if len(line) > LONGEST:
+                raise BadLine(f"a line of at most {LONGEST} bytes was expected")
+            self.reader.take(line.decode("utf-8", "replace"), self.chain.count)
         except BadLine as error:
-            what = f"line {self.lines}: {error}: {line}"
+            what = f"line {self.chain.count}: {error}: {shortened(shown(line))}"
             if not self.words.skip_bad:
-                raise Refused(f"{what}; --skip-bad passes such lines over") from error
-            told(what)
+                raise Refused(f"{what}; --skip-bad writes such lines to rejected.log and goes on") from error
+            self.rejected += 1
+            self.store.reject(f"{self.chain.count}\t{error}\t{shown(line)}\n")
+            told(f"{what} (rejected so far: {self.rejected})")
 
     def cut(self) -> int | None:
         """The last tick that all inputs have reached, or None."""
@@ -448,16 +701,28 @@ class Follower:
         return None if None in reached else min(tick for tick in reached if tick is not None)
 
     def session(self) -> None:
-        """A session up to the cut, where that has gone on."""
+        """A session up to the cut, where that has gone on; the last one if the query's output ends there."""
         self.fresh = 0
         cut = self.cut()
-        if cut is None or self.store.cut != "begin" and cut <= int(self.store.cut):
+        if cut is not None and self.is_over(cut):
+            self.end()
+            told(f"the query's `over` has ended at {self.over}: no more rows come")
             return
-        handed = {}
-        for name, source in self.sources.items():
-            handed[name], source.rows = sessions.below(source.rows, cut)
-            source.handed += len(handed[name])
-        binds = sessions.put_rows(self.store.folder, handed)
+        if cut is not None and (self.store.cut == "begin" or cut > int(self.store.cut)):
+            self.hand_on(cut)
+            self.warn_of_files(cut)
+        self.warn(cut)
+
+    def is_over(self, cut: int) -> bool:
+        """Whether all rows of the query's output are decided at this cut."""
+        if self.over is None or cut < self.over:
+            return False
+        if self.ahead is None:
+            self.ahead = sessions.look_ahead(self.query)
+        return cut >= self.over + self.ahead
+
+    def hand_on(self, cut: int) -> None:
+        binds = sessions.put_rows(self.store.folder, {name: source.hand(cut) for name, source in self.sources.items()})
         part, state = self.store.new("part"), self.store.new("state")
         if self.store.cut == "begin":
             sessions.first(self.query, binds, cut, state, part)
@@ -475,11 +740,12 @@ class Follower:
         else:
             sessions.last(self.store.path("state"), binds, part)
         self.counts("end")
+        self.ended = True
 
     def counts(self, cut: str) -> None:
         """The session that was run counts from here on, and what it decided is printed."""
         inputs = {name: source.dump() for name, source in self.sources.items()}
-        self.store.commit(cut, {"lines": self.lines, "inputs": inputs})
+        self.store.commit(cut, {**self.chain.dump(), "inputs": inputs, "shape": self.reader.shape(), "rejected": self.rejected})
         part = self.store.bring_up()
         if cut != "end":
             self.store.open_log(0)
@@ -487,28 +753,67 @@ class Follower:
             with writing(None) as out:
                 out.write(part.decode("ascii"))
 
+    def warn(self, cut: int | None) -> None:
+        """Says, so that silence is explained, which inputs hold the output back; of each once until it goes on."""
+        known = {name: source.reached for name, source in self.sources.items() if not source.fixed and source.reached is not None}
+        if not known:
+            return
+        first = max(known, key=lambda name: known[name])
+        late = [name for name, source in self.sources.items() if not source.fixed and source.reached == cut != known[first]
+                and self.is_quiet(source) and not (name in self.warned and self.warned[name] == cut)]
+        if late:
+            self.warned.update((name, cut) for name in late)
+            place = "of which no line came yet" if cut is None else f"known up to {self.reader.text(cut)}"
+            told(f"{first} is known up to {self.reader.text(known[first])}, waiting for {', '.join(late)}, {place}")
+
+    def warn_of_files(self, cut: int) -> None:
+        """Says once which inputs given by a file have no more rows."""
+        for name, source in self.sources.items():
+            last = source.reached
+            if source.fixed and name not in self.warned and (last is None or last < cut and (self.over is None or last < self.over)):
+                self.warned[name] = last
+                what = "it has no rows" if last is None else f"its rows end at {self.reader.text(last)}"
+                told(f"{source.path}: {what}: {name} is null from there on")
+
+    def is_quiet(self, source: Source) -> bool:
+        """Whether lines of others came, or time passed, and no line of this input."""
+        passed = time.monotonic() - source.time
+        return self.chain.count - source.line >= QUIET_LINES or passed >= max(QUIET_SECONDS, self.every)
+
     def follow(self, number: int) -> None:
-        """Takes what comes on a descriptor until its end."""
-        passed = self.lines if self.words.again else 0
-        every = duration_of(self.words.every) / 10**9
-        due = time.monotonic() + every
+        """Takes what comes on a descriptor until its end, or that of the query's output."""
+        passing = Passing(self.chain, self.words.state) if self.words.again else None
+        due = time.monotonic() + self.every
         for chunk in chunks(number, lambda: due, self.words.end):
-            lines, passed = chunk[passed:], max(0, passed - len(chunk))
-            while True:
+            lines = chunk if passing is None else passing.rest(chunk)
+            while not self.ended:
                 most = len(lines) if self.words.rows is None else max(1, self.words.rows - self.fresh)
                 some, lines = lines[:most], lines[most:]
                 self.take_all(some)
                 if self.words.rows is not None and self.fresh >= self.words.rows or time.monotonic() >= due:
                     self.session()
-                    due = time.monotonic() + every
+                    due = time.monotonic() + self.every
                 if not lines:
                     break
+            if self.ended:
+                return
+        if passing is not None:
+            passing.finish()
 
     def take_all(self, lines: list[bytes]) -> None:
         """Takes lines, which are written to the log first."""
         self.store.put_log(b"".join(line + b"\n" for line in lines))
         for line in lines:
-            self.take(line.decode("utf-8", "replace"))
+            self.take(line)
+
+
+def over_of(query: str) -> int | None:
+    """The end of the query's `over`."""
+    with open(query, "rb") as file:
+        try:
+            return statements_of(file.read())[-1].bounds[1][0]
+        except (Faulty, RecursionError):
+            return None
 
 
 def check_query(copy: str, path: str) -> None:
@@ -520,10 +825,38 @@ def check_query(copy: str, path: str) -> None:
         raise TiltError(error.line, error.status, place) from error
 
 
+class Lines:
+    """Cuts what is read into lines without their ends. Of one that is too long its first LONGEST + 1 bytes are given at once, as a line that
+    `take` rejects, and the others up to its end are dropped: so it counts as one line however it was read."""
+
+    def __init__(self) -> None:
+        self.rest = bytearray()
+        self.dropping = False
+
+    def cut(self, text: bytes) -> Iterator[bytes]:
+        *pieces, last = text.split(b"\n")
+        for piece in pieces:
+            yield from self.grow(piece)
+            if not self.dropping:
+                yield bytes(self.rest).rstrip(b"\r")
+            self.rest.clear()
+            self.dropping = False
+        yield from self.grow(last)
+
+    def grow(self, piece: bytes) -> Iterator[bytes]:
+        if self.dropping:
+            return
+        self.rest += piece
+        if len(self.rest) > LONGEST:
+            yield bytes(self.rest[:LONGEST + 1])
+            self.rest.clear()
+            self.dropping = True
+
+
 def chunks(number: int, due: Any, ended: bool) -> Iterator[list[bytes]]:
     """The whole lines that are there, without their ends; none when it is time for a session. A last line without an end may be a part of
     one: it is taken only where the input is ended."""
-    rest = b""
+    lines = Lines()
     while True:
         ready, _, _ = select.select([number], [], [], max(0.0, due() - time.monotonic()))
         if not ready:
@@ -531,13 +864,13 @@ def chunks(number: int, due: Any, ended: bool) -> Iterator[list[bytes]]:
             continue
         text = os.read(number, 65536)
         if not text:
+            rest = bytes(lines.rest)
             if rest and ended:
                 yield [rest.rstrip(b"\r")]
             elif rest:
-                told(f"the last line has no end, and isn't taken without --end: {rest.decode('utf-8', 'replace')}")
+                told(f"the last line has no end, and isn't taken without --end: {shortened(shown(rest))}")
             return
-        *lines, rest = (rest + text).split(b"\n")
-        yield [line.rstrip(b"\r") for line in lines]
+        yield list(lines.cut(text))
 
 
 def main(words: argparse.Namespace) -> int:
@@ -558,7 +891,10 @@ def follow(words: argparse.Namespace) -> None:
     if not follower.begin():
         told(f"{words.state} was ended before: {follower.store.output} has all")
         return
+    if sys.stdin is None:
+        raise Refused("standard input: it is closed")
     follower.follow(sys.stdin.fileno())
-    follower.session()
-    if words.end:
+    if not follower.ended:
+        follower.session()
+    if words.end and not follower.ended:
         follower.end()

@@ -26,13 +26,26 @@ def opened(path: str) -> Iterator[IO[bytes]]:
 def call(words: list[str], out: str) -> None:
     """Calls the program, with its output in a file. What it refuses is an error that carries its line, its status and the place."""
     with opened(out) as file:
-        try:
-            done = subprocess.run([program(), *words], stdin=subprocess.DEVNULL, stdout=file, stderr=subprocess.PIPE)
-        except OSError as error:
-            raise Refused(f"the program can't be run: {error.strerror}") from error
+        run(words, file)
+
+
+def run(words: list[str], out: IO[bytes] | int) -> bytes:
+    """Calls the program as `call` does. What it prints, if `out` is a pipe."""
+    try:
+        done = subprocess.run([program(), *words], stdin=subprocess.DEVNULL, stdout=out, stderr=subprocess.PIPE)
+    except OSError as error:
+        raise Refused(f"the program can't be run: {error.strerror}") from error
+    if done.returncode < 0:
+        raise TiltError(f"the program was ended by signal {-done.returncode}", 128 - done.returncode)
     if done.returncode:
         told = done.stderr.decode("utf-8", "replace").rstrip("\n")
         raise TiltError(told, done.returncode, refusal_of(told, words[1:]))
+    return done.stdout or b""
+
+
+def look_ahead(query: str) -> int:
+    """How many ticks a query looks ahead: A of the line `reach B A`, which `tilt explain` prints first."""
+    return int(run(["explain", query], subprocess.PIPE).split(maxsplit=3)[2])
 
 
 def put_rows(folder: str, rows: Mapping[str, Iterable[Row]]) -> list[str]:
