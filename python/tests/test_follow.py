@@ -366,6 +366,7 @@ def test_a_query_that_is_refused_begins_no_state(tilt, tmp_path):
 @pytest.mark.parametrize("words, what", [
     (["--until", "tomorrow"], "'tomorrow' is no time: ISO 8601 was expected"),
     (["--until", "9999-01-01", "--tick", "1ns", "--origin", "1677-01-01"], "--until 9999-01-01: its tick "),
+    (["--event", "--max-age", "5s"], "--event is a reading of one tick: --max-age and --until are for readings that hold"),
     (["--scale", "0"], "--scale: 1 or more was expected"), (["--rows", "0"], "--rows: 1 or more was expected"),
 ])
 def test_words_are_read_before_any_line(tilt, tmp_path, words, what):
@@ -414,12 +415,15 @@ CHANGES = [
     (changed("--origin", "2026-02-28"), "with --origin 2026-03-01T00:00:00Z", "with --origin 2026-02-28T00:00:00Z"),
     (changed("--origin", "-"), "with --origin 2026-03-01T00:00:00Z", "without --origin"),
     (changed("--zone", "Europe/Berlin", "--origin", "2026-03-01T00:00Z"), "with --zone UTC", "with --zone Europe/Berlin"),
-    (changed("--unit", "s"), "without --unit", "with --unit s"), (changed("--closed", "right"), "with --closed left", "with --closed right"),
-    (changed("--max-age", "60s"), "with --max-age 30s", "with --max-age 1min"), (changed("--max-age", "-"), "with --max-age 30s", "without --max-age"),
+    (changed("--unit", "s"), "without --unit", "with --unit s"),
+    (changed("--closed", "right"), "with --closed left", "with --closed right"),
+    (changed("--max-age", "60s"), "with --max-age 30s", "with --max-age 1min"),
+    (changed("--max-age", "-"), "with --max-age 30s", "without --max-age"),
     (changed("--until", "2026-03-02"), "without --until", "with --until 2026-03-02T00:00:00Z"),
-    (changed("--ties", "first"), "with --ties last", "with --ties first"), (changed("--null", "NA,-9"), "with --null NA", "with --null -9,NA"),
-    ([*CLOCK, "--event"], "without --event", "with --event"),
-    (changed("--tick", "-", "--origin", "-", "--scale", "-", "--like", "hundred.csv"), "with --scale 10", "with --scale 100 (of --like hundred.csv)"),
+    (changed("--ties", "first"), "with --ties last", "with --ties first"),
+    (changed("--null", "NA,-9"), "with --null NA", "with --null -9,NA"),
+    (changed("--tick", "-", "--origin", "-", "--scale", "-", "--like", "hundred.csv"),
+     "with --scale 10", "with --scale 100 (of --like hundred.csv)"),
 ]
 
 
@@ -435,8 +439,13 @@ def test_other_options_are_rejected_and_leave_the_folder_as_it_is(tilt, tmp_path
         wanted = f"tilt-data: s was started {old}, not {new}: call it again {old}, or name another --state\n"
         assert (status, out, err) == (1, "", wanted)
         assert tree(tmp_path / "s") == before, words
+    first = changed("--max-age", "-")
+    assert done(follow(tmp_path, "--state", "t", *first, stdin=subprocess.PIPE), b"x,2026-03-01T00:00:01,1.5\n")[::2] == (0, "")
+    assert done(follow(tmp_path, "--state", "t", *first, "--event", stdin=subprocess.DEVNULL)) == (
+        1, "", "tilt-data: t was started without --event, not with --event: call it again without --event, or name another --state\n")
     # The same options written otherwise are the same.
-    words = changed("--tick", "-", "--origin", "-", "--scale", "-", "--like", "ten.csv", "--max-age", "30000ms", "--closed", "left", "--zone", "UTC")
+    words = changed("--tick", "-", "--origin", "-", "--scale", "-", "--like", "ten.csv", "--max-age", "30000ms", "--closed", "left",
+                    "--zone", "UTC")
     assert done(follow(tmp_path, "--state", "s", *words, "--end", stdin=subprocess.PIPE), b"x,2026-03-01T00:00:09,3.5\n")[::2] == (0, "")
     assert (tmp_path / "s" / "output.csv").read_text() == "start,end,value\n1,5,15\n5,9,25\n9,39,35\n"
 
@@ -452,7 +461,8 @@ def test_options_of_readings_are_free_until_a_session_has_readings(tilt, tmp_pat
 
 def test_restarts_after_kills_with_other_options_change_nothing(tilt, tmp_path):
     draws = random.Random(6)
-    readings = [f"{time.strftime('%Y-%m-%dT%H:%M:%S', time.gmtime(1772323200 + at))},{draws.randrange(100) / 10}" for at in range(1, 3000, 7)]
+    readings = [f"{time.strftime('%Y-%m-%dT%H:%M:%S', time.gmtime(1772323200 + at))},{draws.randrange(100) / 10}"
+                for at in range(1, 3000, 7)]
     (tmp_path / "raw.csv").write_text("time,x\n" + "".join(f"{line}\n" for line in readings))
     made = [sys.executable, "-m", "tilt_data", "series", "raw.csv", "--time", "time", *CLOCK]
     assert subprocess.run(made, cwd=tmp_path, env=BEGUN).returncode == 0
@@ -512,8 +522,8 @@ def test_a_row_that_is_added_to_a_file_where_all_is_decided_is_rejected(tilt, tm
     before = tree(tmp_path / "s")
     (tmp_path / "limit.csv").write_text("start,end,value\n0,5,1\n5,20,2\n")
     assert done(follow(tmp_path, *words, stdin=subprocess.PIPE), b"x,10,20,60\n") == (
-        1, "", "tilt-data: limit.csv: its row 5,20 is new and starts before 10, up to where s went: take out new rows that start before 10, "
-        "or name another --state\n")
+        1, "", "tilt-data: limit.csv: its row 5,20 is new and starts before 10, up to where s went: take out new rows that start before "
+        "10, or name another --state\n")
     assert tree(tmp_path / "s") == before
 
 
@@ -570,13 +580,14 @@ def test_a_folder_of_an_earlier_version_is_continued_with_a_warning(tilt, tmp_pa
     del kept["inputs"]["limit"]["digest"]
     notes.write_text(json.dumps({name: kept[name] for name in ("lines", "inputs", "output")}))
     assert done(follow(tmp_path, *words, "--again", stdin=subprocess.PIPE), first + more)[::2] == (
-        0, "tilt-data: s is of an earlier version, which kept no options and no digests: make sure that this call has the options, the files "
-        "and the first lines that it had before\n")
+        0, "tilt-data: s is of an earlier version, which kept neither options nor digests of files: make sure that this call has those "
+        "of the call before\ntilt-data: s is of an earlier version, which kept no digest of the lines that it took: make sure that the "
+        "input starts with the same first line\n")
     # From its next session on the folder has what is compared.
     status, _, err = done(follow(tmp_path, *words, "--again", stdin=subprocess.PIPE), more)
     assert (status, err) == (1, f"tilt-data: the first line isn't what s took before{AGAIN}")
-    status, _, err = done(follow(tmp_path, *words, "--event", stdin=subprocess.DEVNULL))
-    assert status == 1 and "s was started without --event, not with --event" in err
+    status, _, err = done(follow(tmp_path, *words, "--closed", "right", stdin=subprocess.DEVNULL))
+    assert status == 1 and "s was started with --closed left, not with --closed right" in err
     (tmp_path / "limit.csv").write_text("start,end,value\n0,40,2\n")
     status, _, err = done(follow(tmp_path, *words, stdin=subprocess.DEVNULL))
     assert status == 1 and "limit.csv: its first 1 rows aren't those that s was given before" in err
@@ -667,6 +678,8 @@ def test_a_file_may_be_named_after_options(tilt, tmp_path):
         (tmp_path / f"{name}.csv").write_text(f"start,end,value\n0,40,{value}\n")
     words = ["limit=limit.csv", "--state", "s", "--end", "more=more.csv"]
     assert done(follow(tmp_path, *words, stdin=subprocess.PIPE), b"x,0,10,50\n") == (0, "start,end,value\n0,10,56\n", "")
+    assert done(follow(tmp_path, "more=more.csv", "--state", "t", "limit=limit.csv", "more=limit.csv", stdin=subprocess.DEVNULL)) == (
+        1, "", "tilt-data: more=limit.csv: more is given by more.csv already: name one file for each input\n")
     status, out, err = done(follow(tmp_path, "--state", "t", "limit.csv", stdin=subprocess.DEVNULL))
     assert (status, out) == (2, "") and "unrecognized arguments: limit.csv" in err
 
@@ -714,7 +727,8 @@ def test_an_input_without_a_line_is_named_with_the_time(tilt, tmp_path):
     (tmp_path / "q").write_text(LATE)
     given = "".join(f"temp,2026-03-01T00:{at // 60:02}:{at % 60:02},1.5\n" for at in range(300))
     status, out, err = done(follow(tmp_path, "--state", "s", *CLOCK, stdin=subprocess.PIPE), given.encode())
-    assert (status, out, err) == (0, "", "tilt-data: temp is known up to 2026-03-01T00:04:59Z, waiting for valve, of which no line came yet\n")
+    assert (status, out) == (0, "")
+    assert err == "tilt-data: temp is known up to 2026-03-01T00:04:59Z, waiting for valve, of which no line came yet\n"
 
 
 def test_an_input_that_is_silent_for_long_is_named(tilt, tmp_path):
@@ -740,8 +754,23 @@ def test_a_file_whose_rows_end_is_named_once(tilt, tmp_path):
 def test_warnings_never_go_to_standard_output(tilt, tmp_path):
     (tmp_path / "q").write_text("input x; emit x over (0, 40];")
     words = [sys.executable, "-m", "tilt_data", "follow", "q", "--state", "s", "--skip-bad", "--end"]
-    found = subprocess.run(["sh", "-c", '"$@" 2>&-', "sh", *words], cwd=tmp_path, env=BEGUN, input=b"x,0,3,1\nx,5,5,1\n", capture_output=True)
+    closed = ["sh", "-c", '"$@" 2>&-', "sh", *words]
+    found = subprocess.run(closed, cwd=tmp_path, env=BEGUN, input=b"x,0,3,1\nx,5,5,1\n", capture_output=True)
     assert (found.returncode, found.stdout) == (0, b"start,end,value\n0,3,1\n")
+
+
+def test_an_interrupt_has_its_status(tilt, tmp_path):
+    (tmp_path / "q").write_text("input x; emit x over (0, 40];")
+    heard = {"preexec_fn": lambda: signal.signal(signal.SIGINT, signal.SIG_DFL)}
+    process = follow(tmp_path, "--state", "s", "--rows", "1", stdin=subprocess.PIPE, **heard)
+    process.stdin.write(b"x,0,3,1\n")
+    process.stdin.flush()
+    wait_for(lambda: (tmp_path / "s" / "log.3").exists())
+    process.send_signal(signal.SIGINT)
+    assert process.wait(60) == 130 and process.stderr.read() == b""
+    process.communicate()
+    assert done(follow(tmp_path, "--state", "s", "--end", stdin=subprocess.DEVNULL))[::2] == (0, "")
+    assert (tmp_path / "s" / "output.csv").read_text() == "start,end,value\n0,3,1\n"
 
 
 def test_a_program_that_is_killed_is_reported(tilt, tmp_path):

@@ -6,12 +6,15 @@ the session counts. Then the part is put to the end of `output.csv`. Killed in b
 part without its state is thrown away, and its session made again. `log.CUT` has the lines that came since the cut. Only files of names that are
 written here are ever taken away, and only in a folder that was begun here.
 
-The notes also keep what a later call is compared with: the options that make rows of readings, a digest of the lines that were taken, and one
-of the rows that each NAME=FILE handed on. A call that differs is rejected before it changes anything in the folder. Before the first session
-there are no notes, and nothing is printed or handed on: all lines are still in `log.begin`, and the next call reads them with its own options.
+The notes also keep what a later call is compared with: the options that make rows of readings, a digest of the lines that were
+taken, and one of the rows that each NAME=FILE handed on. A call that differs is rejected before it changes anything in the folder.
+Before the first session there are no notes. Nothing was handed on then, all lines are in `log.begin`, and the next call reads them
+with its own options.
 
-The notes of an earlier version have none of this. Such a folder is continued, with a warning, and has it from its next session on. To reject it
-would lose what its checkpoint holds, since the lines before may be gone; to continue it is what that version would have done."""
+The notes of an earlier version have none of this. Such a folder is continued with a warning, as that version would have done, and has
+it from its next session on. To reject it would lose what its checkpoint holds, since the lines before may be gone.
+
+`rejected.log` has the lines that --skip-bad skipped. It is cut to its size at the last session, and filled again from the log."""
 from __future__ import annotations
 
 import argparse
@@ -66,7 +69,8 @@ def add(commands: Any) -> None:
     parser.add_argument("--again", action="store_true", help="the source starts with the same first line whenever this is called again, as "
                         "`tail -n +1 -F` of a file that isn't rotated: the lines taken before are passed over, and rejected if they differ")
     parser.add_argument("--end", action="store_true", help="where standard input ends, print all that is left: no more lines will come")
-    parser.add_argument("--skip-bad", action="store_true", help="a line that can't be taken is reported, written to rejected.log in the folder, and skipped")
+    parser.add_argument("--skip-bad", action="store_true",
+                        help="a line that can't be taken is reported, written to rejected.log in the folder, and skipped")
     parser.add_argument("--quiet", action="store_true", help="print nothing: output.csv has it")
     parser.add_argument("--unit", choices=["s", "ms", "us", "ns"], help="readings: as in `tilt-data series`, and so the options after it")
     for option in ("--zone", "--tick", "--origin", "--like", "--max-age", "--until"):
@@ -106,7 +110,7 @@ class Source:
     handed: int = 0
     digest: hashlib._Hash = dataclasses.field(default_factory=hashlib.sha256)
     line: int = 0
-    time: float = dataclasses.field(default_factory=time.monotonic)
+    came: float = dataclasses.field(default_factory=time.monotonic)
 
     @property
     def fixed(self) -> bool:
@@ -132,8 +136,8 @@ class Source:
         changed = "digest" in kept and digest.hexdigest() != kept["digest"]
         rest = self.rows[kept["handed"]:]
         if changed or len(self.rows) < kept["handed"]:
-            raise Refused(f"{self.path}: its first {kept['handed']} rows aren't those that {state} was given before: give the file as it was, "
-                          "or name another --state")
+            raise Refused(f"{self.path}: its first {kept['handed']} rows aren't those that {state} was given before: give the file as it "
+                          "was, or name another --state")
         if rest and rest[0][0] < cut:
             raise Refused(f"{self.path}: its row {rest[0][0]},{rest[0][1]} is new and starts before {cut}, up to where {state} went: take "
                           f"out new rows that start before {cut}, or name another --state")
@@ -192,7 +196,7 @@ class Reader:
         else:
             self.reading(source, fields)
         if source is not None:
-            source.line, source.time = line_number, time.monotonic()
+            source.line, source.came = line_number, time.monotonic()
 
     def row(self, source: Source, fields: list[str]) -> None:
         if not all(map(WHOLE.fullmatch, fields[1:3])) or not WHOLE.fullmatch(fields[3] or "0"):
@@ -345,9 +349,9 @@ def number(text: str, least: int, greatest: int, what: str) -> int:
 
 @dataclasses.dataclass
 class Chain:
-    """How many lines were taken, and a digest of all of them in order. Each line continues it as SHA-256(digest + line), since a digest that
-    is under way can't be kept in a file. `marks` has it after 1, 2, 4, 8, .. lines, so that other lines are noticed early. In a folder of
-    an earlier version it isn't `known`."""
+    """How many lines were taken, and a digest of all of them in order. Each line continues it as SHA-256(digest + line), since a digest
+    that is under way can't be kept in a file. `marks` has it after 1, 2, 4, 8, .. lines, so that other lines are noticed early. In a
+    folder of an earlier version it isn't `known`."""
 
     count: int = 0
     digest: bytes = b""
@@ -611,8 +615,8 @@ class Follower:
         if os.path.exists(copy):
             with open(copy, "rb") as file:
                 if file.read() != text:
-                    raise Refused(f"{self.words.query}: it isn't the query that {self.words.state} was started with: take {copy}, which is, "
-                                  "or name another --state")
+                    raise Refused(f"{self.words.query}: it isn't the query that {self.words.state} was started with: take {copy}, which "
+                                  "is, or name another --state")
             return copy
         new = copy + ".new"
         try:
@@ -633,6 +637,8 @@ class Follower:
             name, _, path = word.partition("=")
             if name not in sources:
                 raise Refused(f"{word}: the query has no input {name}; its inputs are {', '.join(sources)}")
+            if sources[name].fixed:
+                raise Refused(f"{word}: {name} is given by {sources[name].path} already: name one file for each input")
             with reading(path) as file:
                 rows = list(rows_of(path, file))
             sources[name] = Source(rows, rows[-1][1] if rows else None, path=path)
@@ -677,8 +683,8 @@ class Follower:
             elif kept["converter"] is not None and self.reader.clock is None:
                 raise Refused("readings were taken before: --tick and --origin, or --like, are needed again")
         if self.store.cut != "begin" and "shape" not in notes:
-            told(f"{state} is of an earlier version, which kept no options and no digests: make sure that this call has the options, the "
-                 "files and the first lines that it had before")
+            told(f"{state} is of an earlier version, which kept neither options nor digests of files: make sure that this call has those "
+                 "of the call before")
 
     def take(self, line: bytes) -> None:
         self.chain.add(line)
@@ -777,12 +783,15 @@ class Follower:
 
     def is_quiet(self, source: Source) -> bool:
         """Whether lines of others came, or time passed, and no line of this input."""
-        passed = time.monotonic() - source.time
+        passed = time.monotonic() - source.came
         return self.chain.count - source.line >= QUIET_LINES or passed >= max(QUIET_SECONDS, self.every)
 
     def follow(self, number: int) -> None:
         """Takes what comes on a descriptor until its end, or that of the query's output."""
         passing = Passing(self.chain, self.words.state) if self.words.again else None
+        if passing is not None and not self.chain.known:
+            told(f"{self.words.state} is of an earlier version, which kept no digest of the lines that it took: make sure that the input "
+                 "starts with the same first line")
         due = time.monotonic() + self.every
         for chunk in chunks(number, lambda: due, self.words.end):
             lines = chunk if passing is None else passing.rest(chunk)
@@ -826,8 +835,8 @@ def check_query(copy: str, path: str) -> None:
 
 
 class Lines:
-    """Cuts what is read into lines without their ends. Of one that is too long its first LONGEST + 1 bytes are given at once, as a line that
-    `take` rejects, and the others up to its end are dropped: so it counts as one line however it was read."""
+    """Cuts what is read into lines without their ends. Of one that is too long the first LONGEST + 1 bytes are given at once, as a line
+    that `take` rejects. The bytes after them up to its end are dropped, so that it counts as one line however it was read."""
 
     def __init__(self) -> None:
         self.rest = bytearray()
@@ -877,6 +886,8 @@ def main(words: argparse.Namespace) -> int:
     for name in ("rows", "scale"):
         if getattr(words, name) is not None and getattr(words, name) < 1:
             raise Refused(f"--{name}: 1 or more was expected")
+    if words.event and (words.max_age or words.until):
+        raise Refused("--event is a reading of one tick: --max-age and --until are for readings that hold")
     try:
         follow(words)
     except BrokenPipeError:
