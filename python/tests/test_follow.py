@@ -462,32 +462,38 @@ def test_options_of_readings_are_free_until_a_session_has_readings(tilt, tmp_pat
 def test_restarts_after_kills_with_other_options_change_nothing(tilt, tmp_path):
     draws = random.Random(6)
     readings = [f"{time.strftime('%Y-%m-%dT%H:%M:%S', time.gmtime(1772323200 + at))},{draws.randrange(100) / 10}"
-                for at in range(1, 3000, 7)]
+                for at in range(1, 3000, 4)]
     (tmp_path / "raw.csv").write_text("time,x\n" + "".join(f"{line}\n" for line in readings))
     made = [sys.executable, "-m", "tilt_data", "series", "raw.csv", "--time", "time", *CLOCK]
     assert subprocess.run(made, cwd=tmp_path, env=BEGUN).returncode == 0
     query = "input x; emit avg(x[t-60:t]) over (0, 3100] every 20;"
     wanted = run_program(tilt, query, "x=x.csv", folder=str(tmp_path))
     (tmp_path / "q").write_text(query)
-    (tmp_path / "lines").write_text("".join(f"x,{line}\n" for line in readings))
-    quiet, rejected = {"stdout": subprocess.DEVNULL, "stderr": subprocess.DEVNULL}, 0
-    for _ in range(25):
+    # Each eighth line is bad: it is rejected once, however often it is read.
+    lines = [f"x,{line}" if at % 7 else f"x,{line}\nx,bad" for at, line in enumerate(readings, 1)]
+    (tmp_path / "lines").write_text("\n".join(lines) + "\n")
+    again = ["--state", "s", "--again", "--skip-bad"]
+    quiet = {"stdout": subprocess.DEVNULL, "stderr": subprocess.DEVNULL}
+    for _ in range(12):
+        states = set((tmp_path / "s").glob("state.*"))
         with open(tmp_path / "lines", "rb") as given:
-            process = follow(tmp_path, "--state", "s", "--again", "--rows", "3", *CLOCK, stdin=given, **quiet)
-        time.sleep(draws.uniform(0.1, 0.5))
+            process = follow(tmp_path, *again, "--rows", "1", *CLOCK, stdin=given, **quiet)
+        wait_for(lambda: set((tmp_path / "s").glob("state.*")) - states)
+        time.sleep(draws.uniform(0, 0.2))
+        assert process.poll() is None
         os.killpg(process.pid, signal.SIGKILL)
         process.wait()
         time.sleep(0.05)
-        if any((tmp_path / "s").glob("state.*")):
-            before = tree(tmp_path / "s")
-            with open(tmp_path / "lines", "rb") as given:
-                status, out, err = done(follow(tmp_path, "--state", "s", "--again", *changed("--scale", "100"), stdin=given))
-            assert (status, out) == (1, "") and "s was started with --scale 10, not with --scale 100" in err
-            assert tree(tmp_path / "s") == before
-            rejected += 1
+        before = tree(tmp_path / "s")
+        with open(tmp_path / "lines", "rb") as given:
+            status, out, err = done(follow(tmp_path, *again, *changed("--scale", "100"), stdin=given))
+        assert (status, out) == (1, "") and "s was started with --scale 10, not with --scale 100" in err
+        assert tree(tmp_path / "s") == before
     with open(tmp_path / "lines", "rb") as given:
-        assert done(follow(tmp_path, "--state", "s", "--again", "--end", "--quiet", *CLOCK, stdin=given)) == (0, "", "")
-    assert (tmp_path / "s" / "output.csv").read_text() == wanted and rejected >= 5
+        assert done(follow(tmp_path, *again, "--end", "--quiet", *CLOCK, stdin=given))[:2] == (0, "")
+    assert (tmp_path / "s" / "output.csv").read_text() == wanted
+    assert (tmp_path / "s" / "rejected.log").read_text() == "".join(
+        f"{at}\tNAME,start,end,value or NAME,time,value was expected\tx,bad\n" for at in range(8, len(lines) // 7 * 8 + 1, 8))
 
 
 def test_a_file_of_an_input_that_was_changed_is_rejected(tilt, tmp_path):
@@ -757,6 +763,20 @@ def test_warnings_never_go_to_standard_output(tilt, tmp_path):
     closed = ["sh", "-c", '"$@" 2>&-', "sh", *words]
     found = subprocess.run(closed, cwd=tmp_path, env=BEGUN, input=b"x,0,3,1\nx,5,5,1\n", capture_output=True)
     assert (found.returncode, found.stdout) == (0, b"start,end,value\n0,3,1\n")
+
+
+def test_a_closed_input_is_reported(tilt, tmp_path):
+    (tmp_path / "q").write_text("input x; emit x over (0, 40];")
+    words = ["sh", "-c", '"$@" <&-', "sh", sys.executable, "-m", "tilt_data", "follow", "q", "--state", "s"]
+    found = subprocess.run(words, cwd=tmp_path, env=BEGUN, capture_output=True)
+    assert (found.returncode, found.stdout, found.stderr) == (1, b"", b"tilt-data: standard input: it is closed\n")
+
+
+def test_no_input_is_waited_for_at_the_end(tilt, tmp_path):
+    (tmp_path / "q").write_text(LATE)
+    given = "valve,0,5,1\n" + "".join(f"temp,{at},{at + 1},{at}\n" for at in range(300))
+    status, out, err = done(follow(tmp_path, "--state", "s", "--end", stdin=subprocess.PIPE), given.encode())
+    assert (status, err) == (0, "") and out.endswith("\n298,299,298\n299,300,299\n")
 
 
 def test_an_interrupt_has_its_status(tilt, tmp_path):

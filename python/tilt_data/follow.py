@@ -717,7 +717,6 @@ class Follower:
         if cut is not None and (self.store.cut == "begin" or cut > int(self.store.cut)):
             self.hand_on(cut)
             self.warn_of_files(cut)
-        self.warn(cut)
 
     def is_over(self, cut: int) -> bool:
         """Whether all rows of the query's output are decided at this cut."""
@@ -759,8 +758,9 @@ class Follower:
             with writing(None) as out:
                 out.write(part.decode("ascii"))
 
-    def warn(self, cut: int | None) -> None:
+    def warn(self) -> None:
         """Says, so that silence is explained, which inputs hold the output back; of each once until it goes on."""
+        cut = self.cut()
         known = {name: source.reached for name, source in self.sources.items() if not source.fixed and source.reached is not None}
         if not known:
             return
@@ -801,6 +801,8 @@ class Follower:
                 self.take_all(some)
                 if self.words.rows is not None and self.fresh >= self.words.rows or time.monotonic() >= due:
                     self.session()
+                    if not self.ended:
+                        self.warn()
                     due = time.monotonic() + self.every
                 if not lines:
                     break
@@ -909,3 +911,5 @@ def follow(words: argparse.Namespace) -> None:
         follower.session()
     if words.end and not follower.ended:
         follower.end()
+    elif not follower.ended:
+        follower.warn()
