@@ -2,9 +2,9 @@
 
 What is kept is tied by the cut in its name. A session from one cut to the next writes `part.CUT`, the lines that it decided, `notes.CUT`,
 what was taken and not handed on yet and how long `output.csv` was before, and last `state.CUT`, the checkpoint of `tilt`: when that stands,
-the session counts. Then the part is put to the end of `output.csv`. Killed in between, it is put there when the command is called again; a
-part without its state is thrown away, and its session made again. `log.CUT` has the lines that came since the cut. Only files of names that are
-written here are ever taken away, and only in a folder that was begun here.
+the session counts. Then the part is put to the end of `output.csv`. Killed in between, it is put there when the command is called again;
+a part without its state is thrown away, and its session made again. `log.CUT` has the lines that came since the cut. Only files of names
+that are written here are ever taken away, and only in a folder that was begun here.
 
 The notes also keep what a later call is compared with: the options that make rows of readings, a digest of the lines that were
 taken, and one of the rows that each NAME=FILE handed on. A call that differs is rejected before it changes anything in the folder.
@@ -662,6 +662,7 @@ class Follower:
             self.store.cut_rejected(notes["rejected_size"])
         for source in self.sources.values():
             source.line = self.chain.count
+        self.compare_files()
         lines, size = self.store.logged()
         self.store.open_log(size)
         for line in lines:
@@ -685,6 +686,18 @@ class Follower:
         if self.store.cut != "begin" and "shape" not in notes:
             told(f"{state} is of an earlier version, which kept neither options nor digests of files: make sure that this call has those "
                  "of the call before")
+
+    def compare_files(self) -> None:
+        """Notes which files are on another clock than the readings, or have another scale."""
+        for source in self.sources.values():
+            notes = None if source.path is None else notes_of(source.path)
+            clock = self.reader.clock
+            if notes is None or clock is None:
+                continue
+            if (notes.clock.tick, notes.clock.origin) != (clock.tick, clock.origin):
+                told(f"note: {source.path} has another tick or origin than the readings: write it by `tilt-data series` with those")
+            elif notes.scale != self.reader.scale.scale:
+                told(f"note: {source.path} has the scale {notes.scale}, and the readings have {self.reader.scale.scale}")
 
     def take(self, line: bytes) -> None:
         self.chain.add(line)
