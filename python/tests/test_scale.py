@@ -1,8 +1,9 @@
-"""`tilt-data scale`: parts and keys joined are what one run prints, also where workers are killed, files grow and disks fail."""
+"""`tilt-data scale`: parts and keys joined are what one run prints, even if calls stop, workers are killed, files grow and disks fail."""
 from __future__ import annotations
 
 import concurrent.futures
 import contextlib
+import dataclasses
 import errno
 import fcntl
 import json
@@ -14,9 +15,10 @@ import shutil
 import signal
 import subprocess
 import sys
+import textwrap
 import threading
 import time
-from typing import Any, Iterator
+from typing import Any, Callable, Iterator
 
 import pytest
 from conftest import PROGRAM, PYTHON, TOP, run_program
@@ -251,6 +253,69 @@ def test_an_index_is_made_once_and_anew_where_the_file_has_changed(tmp_path):
         blocks.bytes_of(next(blocks.stretch_of([indexed], 0, 100))[0])
 
 
+def write_over(path: pathlib.Path, text: str, times: tuple[int, int]) -> None:
+    """Writes a text over a file as `cp -p` does, with these times, in a later tick of the file system's clock."""
+    before = path.stat().st_ctime_ns
+    while path.stat().st_ctime_ns == before:
+        path.write_text(text)
+        os.utime(path, ns=times)
+
+
+@pytest.mark.parametrize("replace", [False, True])
+def test_a_file_of_the_same_size_and_time_is_noticed(tmp_path, replace):
+    path, times = tmp_path / "x.csv", (10**18, 10**18)
+    path.write_text(HEADER + "0,5,3\n")
+    os.utime(path, ns=times)
+    blocks.make_index(str(path), str(tmp_path))
+    if replace:
+        other = tmp_path / "other"
+        write_over(path, HEADER + "0,5,3\n", times)
+        other.write_text(HEADER + "0,5,9\n")
+        os.utime(other, ns=times)
+        os.replace(other, path)
+    else:
+        write_over(path, HEADER + "0,5,9\n", times)
+    assert (path.stat().st_size, path.stat().st_mtime_ns) == (len(HEADER) + 6, 10**18)
+    assert blocks.found_index(str(path), str(tmp_path)) is None
+
+
+@pytest.mark.parametrize("wrong", ["0,5,7\n\n\n6,8,8\n", "0,5,7\n\n1,\n,8,9\n", "0,5,6\n\n\n6,8,9\n", "0,5,7\n\n\n6,8,9"])
+def test_bytes_that_the_index_was_not_made_of(tmp_path, wrong):
+    """A stamp can't show all changes: the bytes do."""
+    path = tmp_path / "x.csv"
+    path.write_text(HEADER + "0,5,7\n\n\n6,8,9\n")
+    indexed = blocks.make_index(str(path), str(tmp_path))
+    segment = next(blocks.stretch_of([indexed], 0, 10))[0]
+    assert blocks.bytes_of(segment) == b"0,5,7\n\n\n6,8,9\n"
+    path.write_text(HEADER + wrong)
+    with pytest.raises(Refused, match="changed after its index was made"):
+        blocks.bytes_of(dataclasses.replace(segment, stamp=blocks.stamp_of(str(path))))
+
+
+def test_what_lies_between_blocks_is_read_too(tmp_path):
+    """Empty lines that are longer than a block belong to none."""
+    path = tmp_path / "x.csv"
+    empty = "\n" * 3000
+    path.write_text(HEADER + "0,5,7\n" + empty + "6,8,9\n")
+    indexed = blocks.make_index(str(path), str(tmp_path))
+    segment = next(blocks.stretch_of([indexed], 0, 10))[0]
+    assert len(segment.spans) == 2 and sum(length for _, length in segment.spans) < 1500 < segment.length
+    assert blocks.bytes_of(segment).decode() == "0,5,7\n" + empty + "6,8,9\n"
+    path.write_text(HEADER + "0,5,7\n" + empty[:1500] + "5,6,1\n" + empty[1506:] + "6,8,9\n")
+    with pytest.raises(Refused, match="changed after its index was made"):
+        blocks.bytes_of(dataclasses.replace(segment, stamp=blocks.stamp_of(str(path))))
+
+
+@pytest.mark.parametrize("line, times", [
+    (b"0,5,7", (0, 5)), (b"+0,005,-7\n", (0, 5)), (b"-3,5,\r\n", (-3, 5)), (b"-4000000000000000000,4000000000000000000,", (-FAR, FAR)),
+    (b"1_0,20,7", None), (b" 0,5,7", None), (b"0,5 ,7", None), (b"0,5,7 \n", None), (b"0,5,1_0", None), ("0,\uff15,7".encode(), None),
+    ("\u0660,5,7".encode(), None), (b"0,5", None), (b"0,5,7,", None), (b",5,7", None), (b"0,5,+", None), (b"0,5,--7", None),
+    (b"0,5,7.0", None),
+    (b"0,5,7\r\r\n", None), (b"0,5,7\n\n", None), (b"0,4000000000000000001,7", None), (b"-4000000000000000001,0,7", None), (b"", None)])
+def test_rows_are_parsed_as_the_program_does(line, times):
+    assert blocks.times_of(line) == times
+
+
 QUOTED = '"start","end","value"\n'
 
 
@@ -313,23 +378,47 @@ def test_files_by_key_by_day_and_by_both(tmp_path, monkeypatch):
         files_of({"x": ["{key}/*.csv"], "y": ["{key}_n.csv"]})
 
 
-# What is told where Dask isn't there
+# Without Dask
 
 
 @pytest.mark.parametrize("package", ["dask", "distributed"])
-def test_without_dask_the_package_is_told(told, tilt, monkeypatch, package):
+def test_a_scheduler_without_dask(told, tilt, monkeypatch, package):
     monkeypatch.setitem(sys.modules, package, None)
     pathlib.Path("q").write_text("emit 1 over (0, 10];")
-    status, out, err = told("scale", "q", "--out", "out")
-    assert (status, out) == (1, "") and err.startswith(f"tilt-data: python3-{package} isn't installed")
+    status, out, err = told("scale", "q", "--out", "out", "--scheduler", "tcp://127.0.0.1:1")
+    assert (status, out) == (1, "") and err.startswith(f"tilt-data: python3-{package} isn't installed, which --scheduler needs")
     assert "apt-get install python3-dask python3-distributed" in err and not os.path.exists("out")
 
 
-def test_without_bokeh_the_dashboard_is_refused(told, here, dask, monkeypatch):
-    monkeypatch.setitem(sys.modules, "bokeh", None)
-    pathlib.Path("q").write_text("emit 1 over (0, 10];")
-    status, _, err = told("scale", "q", "--out", "out", "--dashboard")
-    assert status == 1 and err.startswith("tilt-data: the dashboard needs bokeh, which isn't installed")
+# Ends a Python process with status 99 when it makes a socket, however it does so. The parent sees what was loaded at the end.
+NO_SOCKETS = """
+import atexit, os, sys
+sys.addaudithook(lambda event, _: os._exit(99) if event == "socket.__new__" else None)
+atexit.register(lambda: print(*sorted({"dask", "distributed"} & set(sys.modules))))
+"""
+
+
+def without_sockets(folder: pathlib.Path, *words: str) -> subprocess.CompletedProcess[str]:
+    """Runs Python so that it can open no socket."""
+    (folder / "site").mkdir(exist_ok=True)
+    (folder / "site" / "sitecustomize.py").write_text(NO_SOCKETS)
+    environment = {**os.environ, "PYTHONPATH": f"{folder / 'site'}{os.pathsep}{PYTHON}"}
+    return subprocess.run([sys.executable, *words], env=environment, capture_output=True, text=True)
+
+
+def test_on_this_machine_there_is_no_socket_and_no_dask(here):
+    """A socket could let other users of the machine run code as the caller."""
+    wanted = fleet(here, keys=2)
+    done = without_sockets(here, "-m", "tilt_data", "scale", "q", *BINDS, "--out", "out", "--workers", "3", "--part-rows", "700")
+    assert (done.returncode, done.stdout) == (0, "\n"), done.stderr
+    assert {path.stem.replace("%2F", "/"): path.read_text() for path in pathlib.Path("out").glob("*.csv")} == wanted
+    # What is watched for would be seen.
+    assert without_sockets(here, "-c", "import socket; socket.socket()").returncode == 99
+    assert without_sockets(here, "-c", "import socket; socket.socketpair()").returncode == 99
+
+
+def test_with_a_scheduler_dask_is_loaded(here, dask):
+    assert without_sockets(here, "-c", "from tilt_data import engine; engine.imported()").stdout == "dask distributed\n"
 
 
 def test_the_core_needs_no_dask():
@@ -549,38 +638,52 @@ def test_what_breaks_off_leaves_no_file(tmp_path):
     assert os.listdir(tmp_path / "a") == []
 
 
-# On a cluster of two workers on loopback
+# On threads, and on a cluster of two workers on loopback
+
+
+def wrapped(program: pathlib.Path) -> pathlib.Path:
+    """A script that calls the program, after what the text `before` says."""
+    program.write_text(f'#!/bin/sh\n[ -e "$0.before" ] && . "$0.before"\nexec {PROGRAM} "$@"\n')
+    program.chmod(0o755)
+    return program
+
+
+def before(program: pathlib.Path, text: str) -> None:
+    program.with_name(f"{program.name}.before").write_text(text)
 
 
 class Cluster:
-    """A scheduler and two workers, as other machines would have them, which are begun again where they are killed; and the program that
-    they call, which does first what the text `before` says."""
+    """A scheduler and two workers, as other machines would have them, which are started again if they are killed; and the program that they
+    call, which does first what the text `before` says. A folder with Dask's configuration makes it a cluster with TLS."""
 
-    def __init__(self, folder: pathlib.Path) -> None:
+    def __init__(self, folder: pathlib.Path, configuration: pathlib.Path | None = None) -> None:
         import distributed
         self.folder = folder
-        self.program = folder / "program"
-        self.program.write_text(f'#!/bin/sh\n[ -e "$0.before" ] && . "$0.before"\nexec {PROGRAM} "$@"\n')
-        self.program.chmod(0o755)
+        self.environment = {} if configuration is None else {"DASK_CONFIG": str(configuration)}
+        security = None if configuration is None else distributed.Security(
+            require_encryption=True, **{f"tls_{name}": str(configuration / file) for name, file in
+                                        (("ca_file", "ca.pem"), ("client_cert", "cert.pem"), ("client_key", "key.pem"))})
+        self.program = wrapped(folder / "program")
         self.begun: list[subprocess.Popen[bytes]] = []
         file = folder / "scheduler.json"
-        self.begin("dask_scheduler", "--port", "0", "--scheduler-file", str(file))
+        protocol = [] if configuration is None else ["--protocol", "tls"]
+        self.begin("dask_scheduler", "--port", "0", "--scheduler-file", str(file), *protocol)
         self.begin("dask_worker", "--nworkers", "2", "--nthreads", "1", "--scheduler-file", str(file), "--local-directory", str(folder))
         deadline = time.monotonic() + 60
         while not (file.exists() and file.read_text().endswith("}")) and time.monotonic() < deadline:
             time.sleep(0.05)
         self.address = json.loads(file.read_text())["address"]
-        with distributed.Client(self.address, timeout="60s") as client:
+        with distributed.Client(self.address, timeout="60s", security=security) as client:
             client.wait_for_workers(2, timeout=60)
 
     def begin(self, module: str, *words: str) -> None:
-        environment = {**os.environ, "PYTHONPATH": str(PYTHON), "TILT": str(self.program)}
+        environment = {**os.environ, "PYTHONPATH": str(PYTHON), "TILT": str(self.program), **self.environment}
         words = "-m", f"distributed.cli.{module}", "--host", "127.0.0.1", "--no-dashboard", "--dashboard-address", "127.0.0.1:0", *words
         self.begun.append(subprocess.Popen([sys.executable, *words], cwd=self.folder, env=environment, stdout=subprocess.DEVNULL,
                                            stderr=subprocess.DEVNULL, start_new_session=True))
 
     def before(self, text: str) -> None:
-        (self.folder / "program.before").write_text(text)
+        before(self.program, text)
 
     def workers(self) -> list[Any]:
         import psutil
@@ -617,6 +720,27 @@ def cluster(of_module, here, monkeypatch) -> Cluster:
     return of_module
 
 
+class Engine:
+    """What the parts of a test run on: two threads or the cluster, as options of the API and of the command, and the program there."""
+
+    def __init__(self, program: pathlib.Path, **options: Any) -> None:
+        self.program, self.options = program, options
+        self.words = [word for name, value in options.items() for word in (f"--{name}", str(value))]
+
+    def before(self, text: str) -> None:
+        before(self.program, text)
+
+
+@pytest.fixture(params=["threads", "cluster"])
+def either(request, here, monkeypatch) -> Engine:
+    if request.param == "cluster":
+        cluster = request.getfixturevalue("cluster")
+        return Engine(cluster.program, scheduler=cluster.address)
+    (here / "bin").mkdir()
+    monkeypatch.setenv("TILT", str(wrapped(here / "bin" / "program")))
+    return Engine(here / "bin" / "program", workers=2)
+
+
 FLEET = ("input x; input limit; let a = avg(x[t-20:t]); let above = ifnull(a > limit, false);\n"
          "emit a - limit when any(above[t-30:t+3]) over (0, {end}];\n")
 INPUTS = {"x": "data/{key}/day-*.csv", "limit": "limit.csv"}
@@ -648,21 +772,21 @@ def hidden(folder: str) -> list[str]:
     return [name for _, _, names in os.walk(folder) for name in names if name.startswith(".")]
 
 
-def test_keys_and_days(cluster, here):
+def test_keys_and_days(either, here):
     wanted = fleet(here)
-    found = scale(pathlib.Path("q"), INPUTS, "out", scheduler=cluster.address, part_rows=300)
+    found = scale(pathlib.Path("q"), INPUTS, "out", **either.options, part_rows=300)
     assert outputs(found) == wanted and found.parts == found.made > 15 and (found.again, found.workers) == (0, 2)
-    assert sorted(os.listdir("out")) == ["index", "k 1.csv", "k 2.csv", "k%2F0.csv", "lock", "parts"]
-    again = scale(pathlib.Path("q"), INPUTS, "out", scheduler=cluster.address, part_rows=300)
+    assert sorted(os.listdir("out")) == ["index", "k 1.csv", "k 2.csv", "k%2F0.csv", "lock", "outputs.json", "parts"]
+    again = scale(pathlib.Path("q"), INPUTS, "out", **either.options, part_rows=300)
     assert outputs(again) == wanted and (again.parts, again.made) == (found.parts, 0)
-    assert next(again.told()) == f"{again.parts} parts, of which {again.parts} were there; 0 rows read in {again.seconds:.1f} s"
+    assert next(again.told()) == f"{again.parts} parts, of which {again.parts} were there; 0 rows read; the call took {again.seconds:.1f} s"
 
 
 BINDS = [f"{name}={files}" for name, files in INPUTS.items()]
 COMMAND = [sys.executable, str(TOP / "tools" / "tilt-data"), "scale", "q", *BINDS, "--out", "out"]
 
 
-def test_the_command_on_workers_of_this_machine(here, dask):
+def test_the_command_on_this_machine(here):
     wanted = fleet(here, keys=2)
     done = subprocess.run([*COMMAND, "--workers", "2", "--part-rows", "700"], capture_output=True, text=True)
     assert (done.returncode, done.stdout) == (0, ""), done.stderr
@@ -704,10 +828,10 @@ def test_workers_that_are_killed_at_random(cluster, here):
     assert not hidden("out")
 
 
-def test_a_call_that_is_killed_goes_on(cluster, here):
+def test_a_call_that_is_killed_goes_on(either, here):
     wanted = fleet(here, keys=2)
-    cluster.before('[ "$1" = run ] && sleep 0.1')
-    words = [*COMMAND, "--scheduler", cluster.address, "--part-rows", "200"]
+    either.before('[ "$1" = run ] && sleep 0.1')
+    words = [*COMMAND, *either.words, "--part-rows", "200"]
     begun = subprocess.Popen(words, start_new_session=True, stderr=subprocess.PIPE)
     while len(list(pathlib.Path("out").glob("parts/*/0*.csv"))) < 5 and begun.poll() is None:
         time.sleep(0.02)
@@ -730,17 +854,17 @@ echo start,end,value; echo 'tilt: 5 write fault' >&2; exit 4
 """
 
 
-def test_tasks_that_fail_are_begun_again(cluster, here):
+def test_tasks_that_fail_are_started_again(either, here):
     """The program is on a disk that is full for some calls, and then for all."""
     pathlib.Path("x.csv").write_text(text_of(series(1, 300, 5)))
     query = "input x; emit x over (0, 300];"
     wanted = run_program(str(PROGRAM), query, "x=x.csv")
-    cluster.before(FULL.format(program=PROGRAM, times=3))
-    found = scale(query, {"x": "x.csv"}, "out", scheduler=cluster.address)
+    either.before(FULL.format(program=PROGRAM, times=3))
+    found = scale(query, {"x": "x.csv"}, "out", **either.options)
     assert outputs(found) == {"output": wanted} and found.again == 3
-    cluster.before(FULL.format(program=PROGRAM, times=1000))
-    with pytest.raises(Refused, match=r"^part 1 over \(0, 300\] was begun 3 times and never ended: tilt: 5 write fault$"):
-        scale(query, {"x": "x.csv"}, "more", scheduler=cluster.address, retries=2)
+    either.before(FULL.format(program=PROGRAM, times=1000))
+    with pytest.raises(Refused, match=r"^part 1 over \(0, 300\] failed 3 times: tilt: 5 write fault$"):
+        scale(query, {"x": "x.csv"}, "more", **either.options, retries=2)
     assert not list(pathlib.Path("more").glob("*.csv")) and not list(pathlib.Path("more").glob("parts/**/*.csv")) and not hidden("more")
 
 
@@ -756,42 +880,42 @@ def small_disk(tmp_path) -> Iterator[pathlib.Path]:
     subprocess.run(["umount", "--lazy", str(disk)], check=True)
 
 
-def test_a_disk_that_is_full(cluster, here, small_disk):
+def test_a_disk_that_is_full(either, here, small_disk):
     pathlib.Path("x.csv").write_text(text_of([(at, at + 1, at * 7919 % 10**6) for at in range(60000)]))
     query = "input x; emit x over (0, 60000];"
     wanted = run_program(str(PROGRAM), query, "x=x.csv")
     out = small_disk / "out"
-    with pytest.raises(Refused, match=r"^part \d+ over .* was begun 2 times and never ended: tilt: 5 write fault$"):
-        scale(query, {"x": "x.csv"}, out, scheduler=cluster.address, part_rows=5000, retries=1)
+    with pytest.raises(Refused, match=r"^part \d+ over .* failed 2 times: (tilt: 5 write fault|\[Errno 28\] No space left .*)$"):
+        scale(query, {"x": "x.csv"}, out, **either.options, part_rows=5000, retries=1)
     there = len(list(out.glob("parts/0*.csv")))
     assert there and not list(out.glob("*.csv"))
     subprocess.run(["mount", "-o", "remount,size=8m", str(small_disk)], check=True)
-    found = scale(query, {"x": "x.csv"}, out, scheduler=cluster.address, part_rows=5000)
+    found = scale(query, {"x": "x.csv"}, out, **either.options, part_rows=5000)
     # What another worker had begun may have ended after the first call.
     assert outputs(found) == {"output": wanted} and found.parts == 12 and 12 - there - 1 <= found.made <= 12 - there
     assert not hidden(str(out))
 
 
-def test_a_disk_that_is_full_for_an_index(cluster, here, small_disk):
+def test_a_disk_that_is_full_for_an_index(either, here, small_disk):
     """A series with quotes is written plainly beside its index, for which there is no room at first."""
     rows = [(at, at + 1, at * 7919 % 10**6) for at in range(60000)]
     pathlib.Path("x.csv").write_text(text_of(rows).replace(HEADER, QUOTED))
     query = "input x; emit x over (0, 60000];"
-    words = {"scheduler": cluster.address, "index": str(small_disk / "index")}
-    with pytest.raises(Refused, match=r"^the index 1 was begun 2 times and never ended: \[Errno 28\] No space left on device"):
+    words = {**either.options, "index": str(small_disk / "index")}
+    with pytest.raises(Refused, match=r"^the index 1 failed 2 times: \[Errno 28\] No space left on device"):
         scale(query, {"x": "x.csv"}, "out", retries=1, **words)
     subprocess.run(["mount", "-o", "remount,size=8m", str(small_disk)], check=True)
     assert outputs(scale(query, {"x": "x.csv"}, "out", **words)) == {"output": run_program(str(PROGRAM), query, "x=x.csv")}
     assert not hidden(str(small_disk))
 
 
-def test_a_refusal_is_told_once_with_its_part(cluster, here, capfd):
+def test_a_refusal_is_told_once_with_its_part(either, here, capfd):
     from tilt_data.cli import main
     rows = [(at, at + 1, at) for at in range(3000)]
     pathlib.Path("a.csv").write_text(text_of(rows[:1000]))
     pathlib.Path("b.csv").write_text(text_of(rows[1000:]).replace("\n2345,2346,2345\n", "\n2345,2345,2345\n"))
     pathlib.Path("q").write_text("input x; emit x over (0, 3000];")
-    assert main(["scale", "q", "x=a.csv", "x=b.csv", "--out", "out", "--scheduler", cluster.address, "--part-rows", "100"]) == 1
+    assert main(["scale", "q", "x=a.csv", "x=b.csv", "--out", "out", *either.words, "--part-rows", "100"]) == 1
     err = capfd.readouterr().err
     assert re.match(r"tilt-data: part 24 over \(2\d\d\d, 2\d\d\d\]: tilt: 14 series x: empty interval in row \d+\n", err), err
     assert err.count("tilt: 14") == 1 and f"\n{here}/b.csv:1347: empty interval" in err and "\n    2345,2345,2345\n" in err
@@ -804,9 +928,8 @@ def test_a_refusal_is_told_once_with_its_part(cluster, here, capfd):
     (["q"], "x isn't bound: x=FILES: the query reads x"),
     (["q", "x=x.csv", "y=x.csv"], "not y: the query reads x"), (["q", "x=none*.csv"], "x=none*.csv: no file has this name"),
     (["no", "x=x.csv"], "no: No such file"), (["wrong", "x=x.csv"], "tilt: 27 statement 2: unknown name\nwrong:1:15: "),
-    (["q", "x=x.csv", "--scheduler", "tcp://127.0.0.1:1", "--workers", "2"], "--workers are those that are begun here"),
-    (["q", "x=x.csv", "--scheduler", "nonsense:"], "nonsense:: no scheduler answers there")])
-def test_what_is_refused(told, here, dask, words, what):
+    (["q", "x=x.csv", "--scheduler", "tcp://127.0.0.1:1", "--workers", "2"], "--workers is for this machine")])
+def test_what_is_rejected(told, here, words, what):
     pathlib.Path("q").write_text("input x; emit x over (0, 10];")
     pathlib.Path("wrong").write_text("input x; emit y over (0, 10];")
     pathlib.Path("x.csv").write_text(HEADER + "0,5,7\n")
@@ -814,10 +937,18 @@ def test_what_is_refused(told, here, dask, words, what):
     assert (status, out) == (1, "") and err.startswith(f"tilt-data: {what}"), err
 
 
-def test_what_is_told_of_cuts(cluster, here):
+@pytest.mark.parametrize("address, cure", [("nonsense:", "an address such as tcp://127.0.0.1:8786"), ("tls://127.0.0.1:1", "certificates")])
+def test_a_scheduler_that_is_not_there(told, here, dask, address, cure):
+    pathlib.Path("q").write_text("input x; emit x over (0, 10];")
+    pathlib.Path("x.csv").write_text(HEADER + "0,5,7\n")
+    status, out, err = told("scale", "q", "x=x.csv", "--out", "out", "--scheduler", address)
+    assert (status, out) == (1, "") and err.startswith(f"tilt-data: {address}: no scheduler answers there: ") and cure in err, err
+
+
+def test_what_is_told_of_cuts(here):
     pathlib.Path("x.csv").write_text(text_of([(at, at + 1, at) for at in range(1000)]))
     query = "input x; emit sum(x[t-50:t]) over (0, 1000] every 50;"
-    found = scale(query, {"x": "x.csv"}, "out", scheduler=cluster.address, part_rows=30)
+    found = scale(query, {"x": "x.csv"}, "out", workers=2, part_rows=30)
     # Each part reads 49 rows before its stretch of 100, and 49 after it; the first has 50, and the ends have nothing beyond them.
     assert found.parts == 20 and found.rows == 99 + 149 + 17 * 198 + 149 and found.notes == [
         "cuts that were moved to the grid of every 50 ticks, or into the domain: 32",
@@ -826,21 +957,238 @@ def test_what_is_told_of_cuts(cluster, here):
     assert outputs(found)["output"] == run_program(str(PROGRAM), query, "x=x.csv")
 
 
-def test_rows_that_are_read_many_times_are_told(cluster, here):
+def test_rows_that_are_read_many_times_are_told(here):
     pathlib.Path("x.csv").write_text(text_of([(at, at + 1, at) for at in range(10000)]))
     query = "input x; emit max(x[t-4000:t]) over (0, 10000];"
-    found = scale(query, {"x": "x.csv"}, "out", scheduler=cluster.address, part_rows=1000)
+    found = scale(query, {"x": "x.csv"}, "out", workers=2, part_rows=1000)
     # Parts of 1,000 rows, of which the first four have fewer before them, and all others 4,000.
     assert found.parts == 10 and abs(found.rows - (10000 + 1000 + 2000 + 3000 + 6 * 4000)) < 50
     assert found.notes == ["each row was read 4.0 times, since the query looks far: larger parts by --part-rows read fewer"]
     assert outputs(found)["output"] == run_program(str(PROGRAM), query, "x=x.csv")
 
 
-def test_two_calls_never_work_in_one_folder(here, dask):
+def test_two_calls_never_work_in_one_folder(here):
     pathlib.Path("x.csv").write_text(HEADER + "0,5,7\n")
     os.makedirs("out")
     with open("out/lock", "a") as lock:
         fcntl.flock(lock, fcntl.LOCK_EX)
         with pytest.raises(Refused, match="another `tilt-data scale` works in this folder"):
             scale("input x; emit x over (0, 10];", {"x": "x.csv"}, "out", workers=1)
-    assert engine.told(ValueError()) == "ValueError"
+    assert engine.cause_of(ValueError()) == "ValueError"
+
+
+def waited(condition: Callable[[], Any], process: subprocess.Popen[Any]) -> Any:
+    """Waits until a condition holds, while a process runs: what it came to."""
+    deadline = time.monotonic() + 60
+    while not (found := condition()) and process.poll() is None and time.monotonic() < deadline:
+        time.sleep(0.02)
+    return found
+
+
+def is_running(pid: int) -> bool:
+    try:
+        return "State:\tZ" not in pathlib.Path(f"/proc/{pid}/status").read_text()
+    except OSError:
+        return False
+
+
+@pytest.mark.parametrize("number, status", [(signal.SIGINT, 130), (signal.SIGTERM, 143), (signal.SIGHUP, 129)])
+def test_a_call_that_is_stopped_leaves_no_process_and_goes_on(here, monkeypatch, number, status):
+    """Some parts are made; then the program hangs, and the call gets a signal, which the program doesn't get."""
+    wanted = fleet(here, keys=2)
+    (here / "temporary").mkdir()
+    monkeypatch.setenv("TMPDIR", str(here / "temporary"))
+    program = wrapped(here / "program")
+    monkeypatch.setenv("TILT", str(program))
+    before(program, '[ "$1" = run ] || exec ' + str(PROGRAM) + ' "$@"\n[ $(ls out/parts/*/0* | wc -l) -lt 3 ] || { echo $$ >> pids; '
+           'echo start,end,value; exec sleep 300; }')
+    words = [*COMMAND, "--workers", "2", "--part-rows", "200"]
+    begun = subprocess.Popen(words, stdout=subprocess.PIPE, stderr=subprocess.PIPE)
+    pids = here / "pids"
+    assert waited(lambda: pids.exists() and pids.read_text().count("\n") == 2, begun)
+    hanging = [int(pid) for pid in pids.read_text().split()]
+    assert all(is_running(pid) for pid in hanging) and len(hidden("out")) == 2 and len(os.listdir("temporary")) == 2
+    begun.send_signal(number)
+    assert begun.communicate(timeout=20) == (b"", b"") and begun.returncode == status
+    assert not any(is_running(pid) for pid in hanging) and not hidden("out") and not os.listdir("temporary")
+    assert not list(pathlib.Path("out").glob("*.csv"))
+    there = len(list(pathlib.Path("out").glob("parts/*/0*.csv")))
+    before(program, "")
+    done = subprocess.run(words, capture_output=True, text=True)
+    found = re.search(r"(\d+) parts, of which (\d+) were there", done.stderr)
+    assert done.returncode == 0 and found and 3 <= there == int(found[2]) < int(found[1]), done.stderr
+    assert {path.stem.replace("%2F", "/"): path.read_text() for path in pathlib.Path("out").glob("*.csv")} == wanted
+    assert not hidden("out")
+
+
+def test_a_signal_that_is_ignored_stays_so(here):
+    """As under nohup."""
+    pathlib.Path("q").write_text("input x; emit x over (0, 10];")
+    pathlib.Path("x.csv").write_text(HEADER + "0,5,7\n")
+    program = wrapped(here / "program")
+    before(program, '[ "$1" = run ] && { touch running; while [ ! -e go ]; do sleep 0.05; done; }')
+    begun = subprocess.Popen(["sh", "-c", "trap '' HUP; exec \"$@\"", "sh", *COMMAND[:3], "q", "x=x.csv", "--out", "out"],
+                             env={**os.environ, "TILT": str(program)}, stderr=subprocess.PIPE)
+    assert waited(lambda: os.path.exists("running"), begun) is True
+    begun.send_signal(signal.SIGHUP)
+    time.sleep(0.2)
+    pathlib.Path("go").touch()
+    begun.communicate(timeout=60)
+    assert begun.returncode == 0 and pathlib.Path("out/output.csv").read_text() == HEADER + "0,5,7\n"
+
+
+def test_long_loops_over_files_can_be_stopped(tmp_path):
+    rows = series(1, 100000, 3)
+    (tmp_path / "x.csv").write_text(text_of(rows))
+    (tmp_path / "quoted.csv").write_text(QUOTED + text_of(rows).removeprefix(HEADER))
+    (tmp_path / "1").write_text(text_of(rows))
+    processes = tasks.Processes()
+    processes.stop()
+    for name in ("x.csv", "quoted.csv"):
+        with pytest.raises(tasks.Cancelled):
+            tasks.make_indexes(tasks.Indexing((str(tmp_path / name),), str(tmp_path / "index")), processes)
+    with pytest.raises(tasks.Cancelled):
+        tasks.make_whole(tasks.Joining("", ((Part(1, 0, 9), str(tmp_path / "1")),), str(tmp_path / "whole")), processes)
+    with pytest.raises(tasks.Cancelled):
+        processes.run(["/bin/true"], 1)
+    assert sorted(os.listdir(tmp_path)) == ["1", "index", "quoted.csv", "x.csv"] and not os.listdir(tmp_path / "index")
+
+
+def test_the_seconds_are_those_of_the_whole_call(here, monkeypatch):
+    """What comes before the parts and after them counts too."""
+    pathlib.Path("x.csv").write_text(HEADER + "0,5,7\n")
+    program = wrapped(here / "program")
+    monkeypatch.setenv("TILT", str(program))
+    before(program, '[ "$1" = explain ] && sleep 0.5')
+    begun = time.monotonic()
+    found = scale("input x; emit x over (0, 10];", {"x": "x.csv"}, "out", workers=1)
+    assert 0.5 <= found.seconds <= time.monotonic() - begun
+
+
+def test_with_nothing_to_do_no_scheduler_is_needed(here, dask):
+    pathlib.Path("x.csv").write_text(HEADER + "0,5,7\n")
+    query = "input x; emit x over (0, 10];"
+    wanted = outputs(scale(query, {"x": "x.csv"}, "out", workers=1))
+    shutil.rmtree("out/parts")
+    stamp = os.stat("out/output.csv")
+    found = scale(query, {"x": "x.csv"}, "out", scheduler="tcp://127.0.0.1:1")
+    assert outputs(found) == wanted and (found.parts, found.made, found.workers) == (1, 0, 0) and os.stat("out/output.csv") == stamp
+    # An output that somebody wrote to is joined again.
+    pathlib.Path("out/output.csv").write_text("start,end,value\n0,5,8\n")
+    assert outputs(scale(query, {"x": "x.csv"}, "out", workers=1)) == wanted
+
+
+def test_outputs_of_keys_that_are_gone(here):
+    for key in ("a", "b"):
+        pathlib.Path(f"{key}.csv").write_text(HEADER + "0,5,7\n")
+    pathlib.Path("out").mkdir()
+    pathlib.Path("out/c.csv").write_text("of the user")
+    query = "input x; emit x over (0, 10];"
+    scale(query, {"x": "{key}.csv"}, "out", workers=1)
+    assert sorted(path.name for path in pathlib.Path("out").glob("*.csv")) == ["a.csv", "b.csv", "c.csv"]
+    os.unlink("b.csv")
+    found = scale(query, {"x": "{key}.csv"}, "out", workers=1)
+    assert list(found.outputs) == ["a"] and sorted(path.name for path in pathlib.Path("out").glob("*.csv")) == ["a.csv", "c.csv"]
+    assert pathlib.Path("out/earlier/b.csv").read_text() == HEADER + "0,5,7\n" and pathlib.Path("out/c.csv").read_text() == "of the user"
+    assert found.notes == [f"outputs of earlier calls that aren't of this one, moved to {here}/out/earlier: 1"]
+    # Neither are they outputs of a call that has no keys.
+    assert list(scale(query, {"x": "a.csv"}, "out", workers=1).outputs) == ["output"]
+    assert sorted(os.listdir("out/earlier")) == ["a.csv", "b.csv"]
+
+
+def test_an_old_output_is_not_given_for_new_rows(here):
+    """The rows have the size and the time of the old ones, as after `cp -p`."""
+    path, times = here / "x.csv", (10**18, 10**18)
+    path.write_text(HEADER + "0,5,3\n")
+    os.utime(path, ns=times)
+    query = "input x; emit x over (0, 10];"
+    assert outputs(scale(query, {"x": "x.csv"}, "out", workers=1)) == {"output": HEADER + "0,5,3\n"}
+    write_over(path, HEADER + "0,5,9\n", times)
+    assert outputs(scale(query, {"x": "x.csv"}, "out", workers=1)) == {"output": HEADER + "0,5,9\n"}
+
+
+def test_only_what_is_of_this_call_is_swept(here):
+    """Calls in folders below, other commands that write to the folder, and calls that share the index go on."""
+    half = ".half.csv.abc.tilt-data-new"
+    other = [pathlib.Path("out") / name / half for name in ("", "index", "below", "below/parts", "below/index", "parts/k/below")]
+    own = [pathlib.Path("out") / name / half for name in ("parts", "parts/k")]
+    old = pathlib.Path("out/index/.old.json.abc.tilt-data-new")
+    for path in [*other, *own, old]:
+        path.parent.mkdir(parents=True, exist_ok=True)
+        path.write_text("half")
+    os.utime(old, (time.time() - 7200, time.time() - 7200))
+    pathlib.Path("x.csv").write_text(HEADER + "0,5,7\n")
+    scale("input x; emit x over (0, 10];", {"x": "x.csv"}, "out", workers=1)
+    assert [path for path in [*other, *own, old] if path.exists()] == other
+
+
+def beside(path: str, **fields: Any) -> None:
+    """Writes a series of one row, and its JSON."""
+    pathlib.Path(path).write_text(HEADER + "0,5,7\n")
+    notes = {"tilt-data": 1, "name": "x", "tick": "1s", "origin": "2026-03-01T00:00:00", "closed": "left", "kind": "hold", "scale": 1}
+    pathlib.Path(path).with_suffix(".json").write_text(json.dumps({**notes, **fields}))
+
+
+def test_clocks_that_differ(here):
+    """Between inputs it is a note, for each key; between the files of one input an error."""
+    query = "input x; input y; emit x + y over (0, 10];"
+    for key in ("a", "b", "c"):
+        beside(f"x.{key}.csv", tick="1s")
+        beside(f"y.{key}.csv", tick="1s" if key == "a" else "1m")
+    found = scale(query, {"x": "x.{key}.csv", "y": "y.{key}.csv"}, "out", workers=1)
+    note, = found.notes
+    assert note.startswith("note: the series x and y have other ") and note.endswith(" (the key b and 1 more)")
+    pathlib.Path("y.a=1.csv").write_text(HEADER + "6,8,1\n")
+    shutil.copy("y.b.json", "y.a=1.json")
+    with pytest.raises(Refused, match=f"^y: the series {here}/y.a.csv and {here}/y.a%3D1.csv have other "):
+        scale(query, {"x": "x.a.csv", "y": ["y.a.csv", "y.a=1.csv"]}, "more", workers=1)
+    assert not os.path.exists("more")
+
+
+@pytest.mark.parametrize("mark, rows", [
+    ("\ufeff", "0,5,7\n"), ("", "0,5,--7\n"), ("", "+-0,5,7\n"), ("", "0,5,+\n"), ("", "0,5,7,\n"), ("", "0,5,9223372036854775808\n"),
+    ("", "0,4000000000000000001,7\n")])
+def test_what_the_program_rejects_is_rejected(told, here, mark, rows):
+    pathlib.Path("q").write_bytes(f"{mark}input x; emit x over (0, 10];".encode())
+    pathlib.Path("x.csv").write_text(HEADER + rows)
+    assert subprocess.run([PROGRAM, "run", "q", "x=x.csv"], capture_output=True).returncode == 1
+    status, out, err = told("scale", "q", "x=x.csv", "--out", "out")
+    assert (status, out) == (1, "") and err and not os.path.exists("out/output.csv"), err
+    assert not mark or err.startswith("tilt-data: tilt: 20 bad byte at 0"), err
+
+
+@pytest.fixture
+def with_tls(here, dask) -> Iterator[Cluster]:
+    """A cluster with the configuration that docs/SCALE.md shows, and certificates of its own."""
+    if shutil.which("openssl") is None:
+        pytest.skip("openssl is missing")
+    folder = here / "tls"
+    folder.mkdir()
+    shown = re.search(r"(?m)^    distributed:\n(?:    .*\n)+", (TOP / "docs" / "SCALE.md").read_text())
+    assert shown is not None
+    (folder / "tls.yaml").write_text(textwrap.dedent(shown[0]).replace("/home/me/tls", str(folder)))
+    words = ["openssl", "req", "-x509", "-newkey", "rsa:2048", "-nodes", "-days", "2", "-subj", "/CN=localhost"]
+    subprocess.run([*words, "-keyout", folder / "key.pem", "-out", folder / "cert.pem"], check=True, capture_output=True)
+    shutil.copy(folder / "cert.pem", folder / "ca.pem")
+    cluster = Cluster(here, folder)
+    yield cluster
+    cluster.end()
+
+
+def test_a_cluster_with_certificates(with_tls, here):
+    """Who has none can't connect, and a plain address doesn't either."""
+    pathlib.Path("x.csv").write_text(HEADER + "0,5,7\n")
+    pathlib.Path("q").write_text("input x; emit x over (0, 10];")
+    environment = {**os.environ, "TILT": str(with_tls.program)}
+    assert with_tls.address.startswith("tls://127.0.0.1:")
+
+    def call(address: str, **more: str) -> subprocess.CompletedProcess[str]:
+        words = [*COMMAND[:3], "q", "x=x.csv", "--out", "out", "--scheduler", address]
+        return subprocess.run(words, env={**environment, **more}, capture_output=True, text=True)
+
+    for address in (with_tls.address, with_tls.address.replace("tls:", "tcp:")):
+        done = call(address)
+        assert done.returncode == 1 and done.stderr.startswith(f"tilt-data: {address}: no scheduler answers there: "), done.stderr
+    assert not os.path.exists("out/output.csv")
+    done = call(with_tls.address, **with_tls.environment)
+    assert done.returncode == 0 and pathlib.Path("out/output.csv").read_text() == HEADER + "0,5,7\n", done.stderr

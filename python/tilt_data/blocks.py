@@ -1,7 +1,7 @@
-"""Blocks of series files: where in a file stand which ticks, so that a part of a run reads only the rows that it needs.
+"""Blocks of series files: which bytes of a file have the rows of which ticks, so that a part of a run reads only the rows that it needs.
 
-The index of a file is a JSON file in a folder of its own, made once, and made anew where the file has another size or time. A file that
-isn't plain, as with quotes or line ends of CR alone, is written plainly beside its index, and read there."""
+The index of a file is a JSON file in a folder of its own, made once, and made again when the stamp of the file changes (`stamp_of`). A file
+that isn't plain, for example with quotes or with CR alone at the end of its lines, is written plainly beside its index, and read there."""
 from __future__ import annotations
 
 import bisect
@@ -10,8 +10,10 @@ import dataclasses
 import hashlib
 import json
 import os
-from typing import IO, Iterable, Iterator
+import re
+from typing import IO, Callable, Iterable, Iterator
 
+from .clock import TIMES
 from .convert import row_text
 from .errors import Refused, refused_at
 from .files import HEADER, Row, placed, reading, rows_of
@@ -20,8 +22,11 @@ LONGEST, SHORTEST, FEWEST = 1 << 18, 1 << 9, 64
 # What a plain file has besides the ends of its lines.
 PLAIN = b"0123456789+-,\r"
 MARK = b"\xef\xbb\xbf"
-VERSION = 1
-Stamp = tuple[int, int]
+# A row as the program takes it: numbers are an optional sign and ASCII digits, and only the value may be empty.
+ROW = re.compile(rb"([+-]?[0-9]+),([+-]?[0-9]+),(?:[+-]?[0-9]+)?\r?\n?")
+WANTED = f"a row start,end,value of whole numbers was expected, with its start below its end and both within {TIMES} of 0"
+VERSION = 2
+Stamp = tuple[int, int, int, int]
 
 
 @dataclasses.dataclass(frozen=True)
@@ -43,8 +48,8 @@ class Block:
 
 @dataclasses.dataclass(frozen=True)
 class Indexed:
-    """A series file and its blocks in order. `file` is the one that is read, which is the series itself where that is plain; a stamp is a
-    size and a time of change."""
+    """A series file and its blocks in order. `file` is the one that is read, which is the series itself if that is plain; the stamps are
+    those of both files."""
 
     path: str
     stamp: Stamp
@@ -60,7 +65,8 @@ class Indexed:
 @dataclasses.dataclass(frozen=True)
 class Segment:
     """Bytes of a file that hold all its rows with a tick in some stretch, and at most a block more at each end; and how many rows they
-    hold. `path` is the series, and `file` what is read."""
+    hold. `path` is the series, and `file` the file that is read. `spans` has the first byte of each block, from the start of the segment,
+    and its length; `digest` is the digest of all of them (`joint_digest`)."""
 
     path: str
     file: str
@@ -68,14 +74,23 @@ class Segment:
     offset: int
     length: int
     rows: int
+    spans: tuple[tuple[int, int], ...]
+    digest: str
 
 
 def stamp_of(path: str) -> Stamp:
+    """What changes when the content of a file does: its size, the times of its last change in nanoseconds (mtime and ctime), and its inode.
+    `cp -p`, `rsync -t` and `touch` set the mtime, but no program sets the ctime, so that a file of the same size with its old mtime is
+    noticed. The device isn't in it, since machines number the device of a shared disk differently.
+
+    Not noticed: content of the same size that is written to a file within the same tick of the file system's clock (on Linux some
+    milliseconds) in which the stamp was taken; and changes on a file system that keeps no ctime, or after the clock was set back to the
+    same nanosecond. `bytes_of` notices these too, if it reads the bytes."""
     try:
         found = os.stat(path)
     except OSError as error:
         raise Refused(f"{path}: {error.strerror}") from error
-    return found.st_size, found.st_mtime_ns
+    return found.st_size, found.st_mtime_ns, found.st_ctime_ns, found.st_ino
 
 
 # The index of a file
@@ -86,29 +101,34 @@ def index_path(path: str, folder: str) -> str:
 
 
 def found_index(path: str, folder: str) -> Indexed | None:
-    """The index of a series as it stands now, or None where none was made of it yet."""
+    """The index of a series as it is now, or None if none was made of it yet."""
     with contextlib.suppress(OSError, ValueError, KeyError, TypeError):
         with open(index_path(path, folder), encoding="utf-8") as file:
             found = json.load(file)
         blocks = [Block(*fields) for fields in found["blocks"]]
-        (size, changed), (file_size, file_changed) = found["stamp"], found["file-stamp"]
-        indexed = Indexed(found["path"], (size, changed), found["file"], (file_size, file_changed), blocks)
+        indexed = Indexed(found["path"], stamp_in(found["stamp"]), found["file"], stamp_in(found["file-stamp"]), blocks)
         if found["tilt-data"] == VERSION and indexed.path == path and indexed.stamp == stamp_of(path):
             return indexed if indexed.file_stamp == stamp_of(indexed.file) else None
     return None
 
 
-def make_index(path: str, folder: str) -> Indexed:
-    """Makes the index of a series and puts it in the folder. What can't be a series is refused with its line; of a plain file only the
-    first and the last row of each block are looked at here."""
+def stamp_in(fields: list[int]) -> Stamp:
+    size, changed, status_changed, inode = fields
+    return size, changed, status_changed, inode
+
+
+def make_index(path: str, folder: str, check: Callable[[], None] = lambda: None) -> Indexed:
+    """Makes the index of a series and writes it to the folder. A file that can't be a series raises a Refused with the line; of a plain
+    file only the first and the last row of each block are parsed here. `check` is called for each block, and can raise an exception to
+    stop."""
     stamp = stamp_of(path)
-    blocks = blocks_of(path, path)
+    blocks = blocks_of(path, path, check)
     file, file_stamp = path, stamp
     if blocks is None:
         file = index_path(path, folder).removesuffix(".json") + ".csv"
-        write_plainly(path, file)
+        write_plainly(path, file, check)
         file_stamp = stamp_of(file)
-        blocks = blocks_of(path, file) or []
+        blocks = blocks_of(path, file, check) or []
     if stamp_of(path) != stamp:
         raise Refused(f"{path}: it was changed while it was read: call again")
     indexed = Indexed(path, stamp, file, file_stamp, blocks)
@@ -120,36 +140,38 @@ def make_index(path: str, folder: str) -> Indexed:
     return indexed
 
 
-def write_plainly(path: str, target: str) -> None:
+def write_plainly(path: str, target: str, check: Callable[[], None]) -> None:
     with placed(target) as new:
         new.write((",".join(HEADER) + "\n").encode())
         for row in rows_in(path):
+            check()
             new.write(row_text(row).encode())
 
 
 def rows_in(path: str) -> Iterator[Row]:
-    """The rows of a series. What fails while they are written elsewhere isn't told as a fault of this file."""
+    """The rows of a series. An error while they are written elsewhere isn't reported as a fault of this file."""
     with reading(path) as file:
         yield from rows_of(path, file)
 
 
-def blocks_of(path: str, file: str) -> list[Block] | None:
-    """The blocks of a file, or None where it isn't plain. It is told by the name of the series."""
+def blocks_of(path: str, file: str, check: Callable[[], None]) -> list[Block] | None:
+    """The blocks of a file, or None if it isn't plain. Errors have the name of the series."""
     try:
         with open(file, "rb") as opened:
             length = max(SHORTEST, min(LONGEST, os.fstat(opened.fileno()).st_size // FEWEST))
             header = opened.readline().removeprefix(MARK).rstrip(b"\r\n")
             if header != ",".join(HEADER).encode():
                 return None
-            return read_blocks(path, opened, length)
+            return read_blocks(path, opened, length, check)
     except OSError as error:
         raise Refused(f"{path}: {error.strerror}") from error
 
 
-def read_blocks(path: str, file: IO[bytes], length: int) -> list[Block] | None:
+def read_blocks(path: str, file: IO[bytes], length: int, check: Callable[[], None]) -> list[Block] | None:
     blocks: list[Block] = []
     line = 2
     while True:
+        check()
         offset = file.tell()
         data = file.read(length)
         data += b"" if data.endswith(b"\n") else file.readline()
@@ -183,7 +205,7 @@ def fault_in(path: str, rows: bytes, line: int, end: int | None) -> Refused:
     for number, text in enumerate(rows.split(b"\n"), line):
         times = times_of(text)
         if text.strip() and (times is None or times[0] >= times[1]):
-            return refused_at(path, number, "a row start,end,value of whole numbers was expected, with its start below its end")
+            return refused_at(path, number, WANTED)
         if times is not None and end is not None and times[0] < end:
             return refused_at(path, number, f"a row that starts at {end}, where the one before it ends, or later was expected")
         end = times[1] if times is not None else end
@@ -191,12 +213,14 @@ def fault_in(path: str, rows: bytes, line: int, end: int | None) -> Refused:
 
 
 def times_of(line: bytes) -> tuple[int, int] | None:
-    """The start and the end in a line; None where it is no row."""
-    fields = line.split(b",")
+    """The start and the end in a line; None if it is no row that the program can take."""
+    row = ROW.fullmatch(line)
     try:
-        return (int(fields[0]), int(fields[1])) if len(fields) == 3 else None
+        times = (int(row[1]), int(row[2])) if row is not None else None
     except ValueError:
+        # More digits than Python takes.
         return None
+    return times if times is not None and max(abs(times[0]), abs(times[1])) <= TIMES else None
 
 
 # The rows of a stretch
@@ -225,22 +249,41 @@ def stretch_of(files: list[Indexed], low: int, high: int) -> Iterator[tuple[Segm
         blocks = met(one.blocks, low, high)
         if blocks:
             begin, end = blocks[0].offset, blocks[-1].offset + blocks[-1].length
-            yield Segment(one.path, one.file, one.file_stamp, begin, end - begin, sum(block.rows for block in blocks)), blocks
+            spans = tuple((block.offset - begin, block.length) for block in blocks)
+            yield Segment(one.path, one.file, one.file_stamp, begin, end - begin, sum(block.rows for block in blocks), spans,
+                          joint_digest(block.digest for block in blocks)), blocks
+
+
+def joint_digest(digests: Iterable[str]) -> str:
+    """The digest of some blocks, by the digest of each."""
+    return hashlib.sha1("".join(digests).encode(), usedforsecurity=False).hexdigest()
 
 
 def bytes_of(segment: Segment) -> bytes:
-    """The bytes of a segment, of a file that is as it was when its index was made."""
+    """The bytes of a segment, which are those that the index was made of. Raises a Refused if the file was changed since, and also if only
+    the bytes show that."""
     with open(segment.file, "rb") as file:
         file.seek(segment.offset)
         data = file.read(segment.length)
-    if stamp_of(segment.file) != segment.stamp or len(data) != segment.length:
+    if stamp_of(segment.file) != segment.stamp or not is_as_indexed(data, segment):
         raise Refused(f"{segment.path}: it was changed after its index was made: call again")
     return data
 
 
+def is_as_indexed(data: bytes, segment: Segment) -> bool:
+    """Whether bytes have the blocks of a segment, and nothing but ends of lines between them."""
+    digests, at, view = [], 0, memoryview(data)
+    for begin, length in segment.spans:
+        if data[at:begin].strip(b"\r\n"):
+            return False
+        at = begin + length
+        digests.append(hashlib.sha1(view[begin:at], usedforsecurity=False).hexdigest())
+    return len(data) == segment.length and joint_digest(digests) == segment.digest
+
+
 def trimmed(data: bytes, low: int, high: int) -> tuple[int, int, int]:
-    """Where in some lines those rows begin and end that have a tick in (low, high], and how many lines stand before and after them. A line
-    that is no row stays, and what comes after it: the program is to refuse it."""
+    """Where in some lines those rows start and end that have a tick in (low, high], and how many lines are before and after them. A line
+    that is no row is kept, with all after it, so that the program rejects it."""
     begin, end, left = 0, len(data), 0
     while begin < end:
         following = data.find(b"\n", begin, end) + 1 or end

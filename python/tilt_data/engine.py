@@ -1,26 +1,175 @@
-"""The engine: tasks are carried out by `dask.distributed`, on the workers of a scheduler or on those of this machine. What fails is begun
-again.
+"""Engines: they carry out tasks on threads of this process, or on the workers of a Dask cluster, and start again what fails.
 
-Dask is imported when an engine is asked for, and not before."""
+Threads need neither Dask nor a network: each calls the program as a process of its own. Dask is imported only for a cluster."""
 from __future__ import annotations
 
+import abc
 import collections
+import concurrent.futures
 import contextlib
 import importlib
-import logging
 import os
+import sys
 import time
 from typing import Any, Callable, Iterator
 
 from .errors import Refused
-from .files import scratch
+from .tasks import Made, Processes
 
-MISSING = ("{0} isn't installed, which carries out the parts: `apt-get install python3-dask python3-distributed`, or "
+Function = Callable[..., Made]
+MISSING = ("{0} isn't installed, which --scheduler needs: `apt-get install python3-dask python3-distributed`, or "
            "`pip install 'dask[distributed]'`")
 
 
+@contextlib.contextmanager
+def opened(scheduler: str | None, workers: int | None, retries: int) -> Iterator[Engine]:
+    """An engine over the workers of a scheduler, or over this number of threads, by default one for each processor. At the end nothing
+    runs any more: an exception stops the tasks that are under way."""
+    engine = Cluster(scheduler, retries) if scheduler is not None else Threads(workers or os.cpu_count() or 1, retries)
+    try:
+        yield engine
+    except BaseException:
+        engine.stop()
+        raise
+    finally:
+        engine.close()
+
+
+class Engine(abc.ABC):
+    """Calls that are under way. Each is started again if its worker is lost or it ends by an error, up to `retries` times; after that the
+    error is raised as a Refused."""
+
+    def __init__(self, retries: int) -> None:
+        self.retries = retries
+        self.begun: dict[Any, tuple[str, Function, Any]] = {}
+        self.failures: collections.Counter[str] = collections.Counter()
+        self.most = 0
+
+    @abc.abstractmethod
+    def submit(self, function: Function, argument: Any) -> Any:
+        """The future of a call that is started now."""
+
+    @abc.abstractmethod
+    def wait(self) -> Any:
+        """A future that has ended; waits for the first one."""
+
+    @abc.abstractmethod
+    def has_room(self) -> bool:
+        """Whether to start another call: the workers have too little at hand to stay busy."""
+
+    @abc.abstractmethod
+    def stop(self) -> None:
+        """Gives up what is under way."""
+
+    @abc.abstractmethod
+    def close(self) -> None:
+        """Lets the workers go, once nothing is under way."""
+
+    def check_alive(self) -> None:
+        """Raises a Refused if no worker can be reached any more."""
+
+    def begin(self, name: str, function: Function, argument: Any) -> None:
+        """Starts a call. A name belongs to one call, and says in an error which one it was."""
+        self.begun[self.submit(function, argument)] = name, function, argument
+
+    def ended(self) -> tuple[Any, Made]:
+        """The argument and the result of the next call that ends."""
+        while True:
+            future = self.wait()
+            name, function, argument = self.begun.pop(future)
+            try:
+                made: Made = future.result()
+                return argument, made
+            except Exception as error:
+                self.count_failure(name, error)
+            self.begin(name, function, argument)
+
+    def count_failure(self, name: str, error: Exception) -> None:
+        self.failures[name] += 1
+        self.check_alive()
+        if self.failures[name] > self.retries:
+            raise Refused(f"{name} failed {self.failures[name]} times: {cause_of(error)}") from error
+
+
+class Threads(Engine):
+    """Threads of this process."""
+
+    def __init__(self, workers: int, retries: int) -> None:
+        super().__init__(retries)
+        self.pool = concurrent.futures.ThreadPoolExecutor(workers)
+        self.processes = Processes()
+        self.most = workers
+
+    def submit(self, function: Function, argument: Any) -> Any:
+        return self.pool.submit(function, argument, self.processes)
+
+    def wait(self) -> Any:
+        return concurrent.futures.wait(self.begun, return_when=concurrent.futures.FIRST_COMPLETED).done.pop()
+
+    def has_room(self) -> bool:
+        return len(self.begun) < 2 * self.most + 8
+
+    def stop(self) -> None:
+        self.processes.stop()
+
+    def close(self) -> None:
+        self.pool.shutdown(wait=True, cancel_futures=True)
+
+
+class Cluster(Engine):
+    """The workers of a Dask scheduler, which the user started and secured. The first call connects to it."""
+
+    def __init__(self, scheduler: str, retries: int) -> None:
+        super().__init__(retries)
+        self.scheduler = scheduler
+        self.distributed = imported()
+        self.client: Any = None
+        self.waiting: Any = None
+        self.room, self.asked = 0, 0.0
+
+    def threads(self) -> int:
+        """How many threads all workers have now. The largest number that was seen is kept."""
+        count: int = sum(self.client.nthreads().values())
+        self.most = max(self.most, count)
+        return count
+
+    def submit(self, function: Function, argument: Any) -> Any:
+        if self.client is None:
+            self.client = client_of(self.distributed, self.scheduler)
+            self.waiting = self.distributed.as_completed()
+            if not self.threads():
+                print(f"tilt-data: {self.scheduler} has no workers yet: waiting", file=sys.stderr, flush=True)
+        future = self.client.submit(function, argument, pure=False)
+        self.waiting.add(future)
+        return future
+
+    def wait(self) -> Any:
+        return next(self.waiting)
+
+    def has_room(self) -> bool:
+        """More calls than the workers have at hand would only weigh on the scheduler."""
+        if self.client is None:
+            return True
+        now = time.monotonic()
+        if now - self.asked > 2:
+            self.room, self.asked = 3 * self.threads() + 8, now
+        return len(self.begun) < self.room
+
+    def check_alive(self) -> None:
+        if self.client.status != "running":
+            raise Refused("the scheduler is gone: call again, and what is finished is kept")
+
+    def stop(self) -> None:
+        with contextlib.suppress(Exception):
+            self.client.cancel(list(self.begun))
+
+    def close(self) -> None:
+        if self.client is not None:
+            self.client.close()
+
+
 def imported() -> Any:
-    """The module of the engine; where it or what it stands on is missing, the package is told."""
+    """The module `distributed`. A Refused names the package that is missing."""
     for name in ("dask", "distributed"):
         try:
             module = importlib.import_module(name)
@@ -30,108 +179,22 @@ def imported() -> Any:
     return module
 
 
-@contextlib.contextmanager
-def opened(scheduler: str | None, workers: int | None, dashboard: str | None, retries: int) -> Iterator[Engine]:
-    """An engine over the workers of a scheduler, or over so many of this machine, which go away at the end."""
-    distributed = imported()
-    if dashboard is not None and scheduler is None:
-        with_dashboard()
-    if scheduler is not None:
-        with contextlib.closing(client_of(distributed, scheduler)) as client:
-            yield Engine(distributed, client, retries)
-        return
-    # Workers that are killed leave their files in this folder, and it goes away.
-    with scratch() as folder, cluster_of(distributed, workers or os.cpu_count() or 1, dashboard, folder) as cluster:
-        with contextlib.closing(distributed.Client(cluster)) as client:
-            yield Engine(distributed, client, retries)
-
-
-def with_dashboard() -> None:
-    try:
-        importlib.import_module("bokeh")
-    except ImportError as error:
-        raise Refused("the dashboard needs bokeh, which isn't installed: `pip install bokeh`, of a version that Dask takes") from error
-
-
-def cluster_of(distributed: Any, workers: int, dashboard: str | None, folder: str) -> Any:
-    """Workers of this machine, of one thread each. A server of pages stands on loopback alone, without --dashboard at any free port."""
-    pages = {"dashboard": dashboard is not None, "dashboard_address": dashboard or "127.0.0.1:0"}
-    return distributed.LocalCluster(
-        n_workers=workers, threads_per_worker=1, processes=True, host="127.0.0.1", scheduler_kwargs=pages, memory_limit=0,
-        silence_logs=logging.CRITICAL, local_directory=folder, env={"TMPDIR": folder})
-
-
 def client_of(distributed: Any, scheduler: str) -> Any:
+    """A connection to a scheduler. The certificates for a tls:// address are those of Dask's configuration."""
     try:
         return distributed.Client(scheduler, timeout="10s")
-    except (OSError, ValueError, TimeoutError) as error:
-        raise Refused(f"{scheduler}: no scheduler answers there; an address as tcp://127.0.0.1:8786 was expected") from error
+    except (OSError, ValueError, TypeError, TimeoutError) as error:
+        if scheduler.startswith("tls:"):
+            cure = "the scheduler has to be there, and Dask's configuration has to name the certificates (distributed.comm.tls)"
+        else:
+            cure = "an address such as tcp://127.0.0.1:8786 was expected"
+        raise Refused(f"{scheduler}: no scheduler answers there: {cure}") from error
 
 
-class Engine:
-    """Calls that are under way. Each is begun again where its worker is lost or it ends by an error, up to `retries` times; after that the
-    error is told as a refusal."""
-
-    def __init__(self, distributed: Any, client: Any, retries: int) -> None:
-        self.client = client
-        self.retries = retries
-        self.waiting = distributed.as_completed()
-        self.begun: dict[Any, tuple[str, Callable[[Any], Any], Any]] = {}
-        self.failures: collections.Counter[str] = collections.Counter()
-        self.most, self.room, self.asked = 0, 0, 0.0
-
-    @property
-    def link(self) -> str:
-        """The address of the dashboard."""
-        return str(self.client.dashboard_link)
-
-    def threads(self) -> int:
-        """How many threads all workers have now. The most that they had at any such look is kept."""
-        count: int = sum(self.client.nthreads().values())
-        self.most = max(self.most, count)
-        return count
-
-    def has_room(self) -> bool:
-        """Whether another call may be begun: more than the workers have at hand would only weigh on the scheduler."""
-        now = time.monotonic()
-        if now - self.asked > 2:
-            self.room, self.asked = 3 * self.threads() + 8, now
-        return len(self.begun) < self.room
-
-    def begin(self, name: str, function: Callable[[Any], Any], argument: Any) -> None:
-        """Begins a call. Names are of one call each; they say in an error which one it was."""
-        future = self.client.submit(function, argument, pure=False)
-        self.begun[future] = name, function, argument
-        self.waiting.add(future)
-
-    def ended(self) -> tuple[Any, Any]:
-        """The argument and the result of the next call that ends."""
-        while True:
-            future = next(self.waiting)
-            name, function, argument = self.begun.pop(future)
-            try:
-                return argument, future.result()
-            except Exception as error:
-                self.failed(name, error)
-            self.begin(name, function, argument)
-
-    def failed(self, name: str, error: Exception) -> None:
-        self.failures[name] += 1
-        if self.client.status != "running":
-            raise Refused("the scheduler is gone: call again, and what was finished stands") from error
-        if self.failures[name] > self.retries:
-            raise Refused(f"{name} was begun {self.failures[name]} times and never ended: {told(error)}") from error
-
-    def stop(self) -> None:
-        """Gives up what is under way."""
-        with contextlib.suppress(Exception):
-            self.client.cancel(list(self.begun))
-
-
-def told(error: Exception) -> str:
+def cause_of(error: Exception) -> str:
     kind = type(error).__name__
     if kind == "KilledWorker":
         return "its workers were killed"
     if isinstance(error, ModuleNotFoundError):
-        return f"{error}: it has to be there on each worker"
+        return f"{error}: each worker needs it"
     return str(error) or kind

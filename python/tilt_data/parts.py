@@ -7,7 +7,7 @@ from __future__ import annotations
 
 import dataclasses
 import os
-from typing import IO, Iterable
+from typing import IO, Callable, Iterable
 
 from .errors import Refused
 from .files import HEADER
@@ -79,8 +79,9 @@ class Domain:
         return [Part(number, start, end) for number, (start, end) in enumerate(zip(starts, [*cuts, self.end]), 1)]
 
 
-def join(parts: list[tuple[Part, str]], out: IO[bytes]) -> None:
-    """Writes the output of the whole, given the parts in order and the file of what the program printed for each.
+def join(parts: list[tuple[Part, str]], out: IO[bytes], check: Callable[[], None] = lambda: None) -> None:
+    """Writes the output of the whole, given the parts in order and the file of what the program printed for each. `check` is called for
+    each piece, and can raise an exception to stop.
 
     The last piece of a part ends at the cut, and the first piece of the next one begins where its stretch does. Null pieces aren't
     printed: so the last line of a part is its last piece where it ends at the cut, and else that was null; the first likewise. Both hold
@@ -92,7 +93,7 @@ def join(parts: list[tuple[Part, str]], out: IO[bytes]) -> None:
             first = opened(file, path)
             if part.number > 1:
                 first = crossed(held, first, part, path)
-            held = copied(first, file, out, part.end if part is not parts[-1][0] else None)
+            held = copied(first, file, out, part.end if part is not parts[-1][0] else None, check)
 
 
 def opened(file: IO[bytes], path: str) -> bytes:
@@ -112,8 +113,8 @@ def crossed(held: bytes | None, first: bytes, part: Part, path: str) -> bytes:
     return held.partition(b",")[0] + b"," + first.partition(b",")[2]
 
 
-def copied(first: bytes, file: IO[bytes], out: IO[bytes], cut: int | None) -> bytes | None:
-    """Writes the first line and the rest of a file, but for the last line where that ends at the cut: it is given back."""
+def copied(first: bytes, file: IO[bytes], out: IO[bytes], cut: int | None, check: Callable[[], None]) -> bytes | None:
+    """Writes the first line and the rest of a file, except the last line if that ends at the cut: it is returned."""
     begin, end = file.tell(), os.fstat(file.fileno()).st_size
     last = first
     if begin < end:
@@ -122,16 +123,17 @@ def copied(first: bytes, file: IO[bytes], out: IO[bytes], cut: int | None) -> by
         text = file.read(end - tail)
         last = text[text.rfind(b"\n", 0, len(text) - 1) + 1:]
         out.write(first)
-        copy(file, out, begin, end - len(last))
+        copy(file, out, begin, end - len(last), check)
     if last and cut is not None and int(last.split(b",")[1]) == cut:
         return last
     out.write(last)
     return None
 
 
-def copy(file: IO[bytes], out: IO[bytes], begin: int, end: int, most: int = 1 << 20) -> None:
+def copy(file: IO[bytes], out: IO[bytes], begin: int, end: int, check: Callable[[], None], most: int = 1 << 20) -> None:
     file.seek(begin)
     while begin < end:
+        check()
         data = file.read(min(most, end - begin))
         out.write(data)
         begin += len(data)

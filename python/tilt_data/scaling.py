@@ -1,4 +1,4 @@
-"""`tilt-data scale`: a query by keys and parts of its domain, on many workers, joined to what one run prints."""
+"""`tilt-data scale`: a query by keys and parts of its domain, several at a time, joined to what one run prints."""
 from __future__ import annotations
 
 import argparse
@@ -8,19 +8,22 @@ import dataclasses
 import fcntl
 import glob
 import hashlib
+import json
 import logging
 import os
 import pathlib
 import re
+import signal
 import sys
 import time
+import types
 import urllib.parse
-from typing import TYPE_CHECKING, Any, Iterator, Mapping, Sequence, Union
+from typing import TYPE_CHECKING, Any, Iterable, Iterator, Mapping, Sequence, Union
 
 from . import blocks, engine, tasks
 from .blocks import Block, Indexed
 from .errors import Refused, TiltError
-from .files import sweep
+from .files import PLACED, placed
 from .frames import Query
 from .grammar import statements_of
 from .parts import Domain, Part
@@ -32,10 +35,11 @@ from .why import clashes
 if TYPE_CHECKING:
     Files = Union[str, os.PathLike[str], Sequence[Union[str, os.PathLike[str]]]]
 
-HELP = """Runs a query over files that are too many or too long for one run: for each key, and for parts of the output domain, on the
-workers of a Dask scheduler or of this machine. A word NAME=FILES has {key} where the key stands, and * and ? for other signs, as
-temperature=data/{key}/day-*.csv; a NAME may stand in several words. The folder of --out gets KEY.csv for each key, or output.csv without
-keys: the bytes that one run over all rows prints. It keeps what is finished, so that the same call goes on where it ended."""
+HELP = """Runs a query over files that are too many or too long for one run: for each key, and for parts of the output domain. The parts
+run on this machine, several at a time (--workers), or on the workers of a Dask scheduler (--scheduler). An argument NAME=FILES has {key} in
+the place of the key, and * and ? for other characters, as in temperature=data/{key}/day-*.csv; several arguments can have one NAME. The
+folder of --out gets KEY.csv for each key, or output.csv without keys: the bytes that one run over all rows prints. What is finished is
+kept, so that the same call continues after it was stopped."""
 WILD = re.compile(r"\{key\}|\*|\?")
 ALONE = "output"
 PART_ROWS = 1_000_000
@@ -44,25 +48,24 @@ AT_ONCE = 1 << 26
 
 
 def add(commands: Any) -> None:
-    parser = commands.add_parser("scale", help="a query by keys and parts, on many workers", description=HELP)
+    parser = commands.add_parser("scale", help="a query by keys and parts, several at a time", description=HELP)
     parser.add_argument("query", metavar="QUERY")
-    parser.add_argument("binds", nargs="*", metavar="NAME=FILES", help="with {key} where the key stands, and * and ? for other signs")
+    parser.add_argument("binds", nargs="*", metavar="NAME=FILES", help="the series files of an input, with {key}, * and ?")
     parser.add_argument("--out", metavar="FOLDER", required=True, help="where the outputs are written, and what is kept of a call")
-    parser.add_argument("--scheduler", metavar="ADDRESS", help="the scheduler of the workers, as tcp://host:8786; they see the same files")
-    parser.add_argument("--workers", type=int, metavar="N", help="without --scheduler: how many are begun here (one for each processor)")
+    parser.add_argument("--workers", type=int, metavar="N", help="how many parts run at a time on this machine (one for each processor)")
+    parser.add_argument("--scheduler", metavar="ADDRESS", help="run the parts on the workers of this Dask scheduler, such as "
+                        "tls://host:8786; anyone who reaches a tcp:// address can run code on its workers")
     parser.add_argument("--part-rows", type=int, metavar="N", default=PART_ROWS, help=f"about how many rows a part has ({PART_ROWS})")
-    parser.add_argument("--retries", type=int, metavar="N", default=3, help="how often a task is begun again that didn't end (3)")
-    parser.add_argument("--index", metavar="FOLDER", help="where the index of the files is kept, which other calls may share (OUT/index)")
-    parser.add_argument("--dashboard", metavar="ADDRESS", nargs="?", const="127.0.0.1:8787", help="show Dask's dashboard (127.0.0.1:8787)")
+    parser.add_argument("--retries", type=int, metavar="N", default=3, help="how often a task that fails is started again (3)")
+    parser.add_argument("--index", metavar="FOLDER", help="where the index of the files is kept, which other calls can share (OUT/index)")
     parser.set_defaults(main=main)
 
 
 @dataclasses.dataclass
 class Scaled:
-    """What a call came to: the output of each key, `output` where there are none; how many parts there are, how many of them were made
-    now, and of how many rows; how many workers there were at most, each with a thread; the seconds of the call without the beginning and
-    the end of workers, of all its tasks, and of the program in them; how often a task was begun again; and what is to be told of the cuts
-    and the rows."""
+    """What a call did: the output of each key, `output` if there are none; how many parts there are, how many of them were made now, and
+    from how many rows; the largest number of workers; the seconds of the whole call, of all its tasks, and of the program in them; how
+    often a task was started again; and notes on the cuts, the rows and the files."""
 
     outputs: dict[str, str] = dataclasses.field(default_factory=dict)
     parts: int = 0
@@ -78,21 +81,21 @@ class Scaled:
     def told(self, most: int = 10) -> Iterator[str]:
         yield from self.notes
         kept = f", of which {self.parts - self.made} were there" if self.made < self.parts else ""
-        yield f"{self.parts} parts{kept}; {self.rows} rows read in {self.seconds:.1f} s"
+        yield f"{self.parts} parts{kept}; {self.rows} rows read; the call took {self.seconds:.1f} s"
         if self.made and self.workers:
             yield self.shares()
         if self.again:
-            yield f"tasks that failed and were begun again: {self.again}"
+            yield f"tasks that failed and were started again: {self.again}"
         yield from list(self.outputs.values())[:most]
         if len(self.outputs) > most:
             yield f"and {len(self.outputs) - most} more"
 
     def shares(self) -> str:
-        """Of what the workers' time was made up."""
+        """How the workers spent the time of the call."""
         time = self.workers * self.seconds
         program, files = self.program_seconds / time, (self.task_seconds - self.program_seconds) / time
         rest = max(0, 1 - program - files)
-        return f"of the workers' time: the program {program:.0%}, reading and writing {files:.0%}, the engine {rest:.0%}"
+        return f"of the workers' time: the program {program:.0%}, reading and writing {files:.0%}, waiting {rest:.0%}"
 
 
 # The files
@@ -151,8 +154,19 @@ def bound(binds: Sequence[str]) -> dict[str, list[str]]:
 # The plan
 
 
+def query_of(query: str | os.PathLike[str] | Query) -> Query:
+    """A query whose text has the bytes of its file, so that the program rejects what it rejects otherwise, as a byte order mark."""
+    if isinstance(query, Query):
+        return query
+    found = Query(query)
+    if found.text != os.fspath(query):
+        # It was the name of a file.
+        found.text = pathlib.Path(found.name).read_bytes().decode("utf-8")
+    return found
+
+
 class Plan:
-    """What is to be made: the query, how far it looks, the files of each key, and where all is put."""
+    """What to make: the query, how far it looks, the files of each key, and where everything is written."""
 
     def __init__(self, query: Query, inputs: Mapping[str, Sequence[str]], out: str, index: str | None) -> None:
         try:
@@ -163,6 +177,7 @@ class Plan:
         self.domain = Domain.of(query.text)
         self.check_names(query, inputs)
         self.files = files_of(inputs)
+        self.check_files()
         self.out = os.path.abspath(out)
         self.index = os.path.abspath(index) if index is not None else os.path.join(self.out, "index")
         self.cuts: dict[str, list[int]] = {}
@@ -179,6 +194,15 @@ class Plan:
         if missing is not None or other is not None:
             what = f"{missing} isn't bound: {missing}=FILES" if missing is not None else f"not {other}"
             raise Refused(f"{what}: the query reads {', '.join(names) or 'no inputs'}")
+
+    def check_files(self) -> None:
+        """Raises a Refused if files of one input have different clocks or scales, since all their rows go to the program as one series."""
+        several = {tuple(paths): name for its in self.files.values() for name, paths in its.items() if len(paths) > 1}
+        for paths, name in several.items():
+            # In an argument the name ends at the first sign of equality.
+            clash = clashes(["query", *(f"{path.replace('=', '%3D')}={path}" for path in paths)])
+            if clash:
+                raise Refused(f"{name}: {clash}")
 
     def paths(self) -> list[str]:
         """All series, each once."""
@@ -248,21 +272,82 @@ class Plan:
     def part_file(self, key: str, part: Part, digest: str) -> str:
         return os.path.join(self.out, "parts", key, f"{part.number:06d}-{digest}.csv")
 
+    @staticmethod
+    def whole_name(key: str) -> str:
+        return f"{key or ALONE}.csv"
+
     def whole_file(self, key: str) -> str:
-        return os.path.join(self.out, f"{key or ALONE}.csv")
+        return os.path.join(self.out, self.whole_name(key))
 
     def notes(self) -> Iterator[str]:
-        """What is to be told of the cuts, and of series whose clocks differ."""
+        """Notes on the cuts, and on inputs whose clocks or scales differ."""
         if self.moved and self.domain.period > 1:
             yield f"cuts that were moved to the grid of every {self.domain.period} ticks, or into the domain: {self.moved}"
         elif self.moved:
             yield f"cuts that were moved into the domain: {self.moved}"
         if self.fewer:
             yield f"cuts that had no place of their own in the domain, so that there are fewer parts: {self.fewer}"
-        some: dict[str, list[str]] = next(iter(self.files.values()), {})
-        clash = clashes(["query", *(f"{name}={paths[0]}" for name, paths in some.items())])
-        if clash:
-            yield f"note: {clash}"
+        found: dict[str, list[str]] = {}
+        for key, its in self.files.items():
+            clash = clashes(["query", *(f"{name}={paths[0]}" for name, paths in its.items())])
+            if clash:
+                found.setdefault(clash, []).append(urllib.parse.unquote(key))
+        for clash, keys in found.items():
+            more = f" and {len(keys) - 1} more" if len(keys) > 1 else ""
+            yield f"note: {clash}" + (f" (the key {keys[0]}{more})" if keys[0] else "")
+
+
+class Listing:
+    """The outputs in the folder of a call, as its file `outputs.json` lists them: for each file the digest of the parts that it was joined
+    from, and its stamp then; null for an output that a call meant to write and didn't."""
+
+    def __init__(self, folder: str) -> None:
+        self.folder = folder
+        self.outputs: dict[str, Any] = {}
+        with contextlib.suppress(OSError, ValueError, KeyError, TypeError, AttributeError):
+            with open(os.path.join(folder, "outputs.json"), encoding="utf-8") as file:
+                found = json.load(file)["outputs"]
+            self.outputs = {name: entry for name, entry in found.items() if os.path.basename(name) == name}
+
+    def write(self) -> None:
+        # All files that are half written are in `parts`, which only a call with the lock writes to.
+        new = os.path.join(self.folder, "parts", "outputs.json")
+        with placed(new) as file:
+            file.write(json.dumps({"tilt-data": 1, "outputs": self.outputs}, indent=1).encode() + b"\n")
+        os.replace(new, os.path.join(self.folder, "outputs.json"))
+
+    def add(self, names: list[str]) -> None:
+        """Lists the outputs that a call is going to write."""
+        if any(name not in self.outputs for name in names):
+            self.outputs = {**dict.fromkeys(names), **self.outputs}
+            self.write()
+
+    def digest(self, name: str) -> str | None:
+        """The digest of the parts of an output; None if the file isn't there as it was joined."""
+        with contextlib.suppress(Refused, ValueError, TypeError):
+            digest, stamp = self.outputs[name]
+            if blocks.stamp_in(stamp) == blocks.stamp_of(os.path.join(self.folder, name)):
+                return str(digest)
+        return None
+
+    def note(self, name: str, digest: str) -> None:
+        """Notes an output that was joined now. One that this machine can't see yet, on a shared disk, is joined again by the next call."""
+        self.outputs[name] = None
+        with contextlib.suppress(Refused):
+            self.outputs[name] = digest, blocks.stamp_of(os.path.join(self.folder, name))
+
+    def set_aside(self, names: list[str]) -> int:
+        """Moves the outputs of earlier calls that aren't among these to the folder `earlier`, so that nobody takes them for outputs of this
+        call; how many they are."""
+        kept, moved = set(names), 0
+        for name in [name for name in self.outputs if name not in kept]:
+            del self.outputs[name]
+            with contextlib.suppress(FileNotFoundError):
+                os.makedirs(os.path.join(self.folder, "earlier"), exist_ok=True)
+                os.replace(os.path.join(self.folder, name), os.path.join(self.folder, "earlier", name))
+                moved += 1
+        self.write()
+        return moved
 
 
 # The run
@@ -270,7 +355,7 @@ class Plan:
 
 @contextlib.contextmanager
 def locked(folder: str) -> Iterator[None]:
-    """Two calls never work in one folder. What killed workers left in it goes away before and after."""
+    """Lets only one call work in a folder."""
     try:
         os.makedirs(folder, exist_ok=True)
         lock = open(os.path.join(folder, "lock"), "a")
@@ -281,43 +366,59 @@ def locked(folder: str) -> Iterator[None]:
             fcntl.flock(lock, fcntl.LOCK_EX | fcntl.LOCK_NB)
         except OSError as error:
             raise Refused(f"{folder}: another `tilt-data scale` works in this folder") from error
-        sweep(folder)
-        try:
-            yield
-        finally:
-            sweep(folder)
+        yield
+
+
+def sweep_parts(folder: str) -> None:
+    """Removes what killed processes left half written in the parts of a call. Only a call with the lock writes there."""
+    parts = os.path.join(folder, "parts")
+    sweep(parts)
+    with contextlib.suppress(OSError), os.scandir(parts) as found:
+        for one in found:
+            if one.is_dir(follow_symlinks=False):
+                sweep(one.path)
+
+
+def sweep(folder: str, age: float = 0) -> None:
+    """Removes half-written files from a folder, but not from folders in it, if nobody has written to them for `age` seconds."""
+    with contextlib.suppress(OSError), os.scandir(folder) as found:
+        for one in found:
+            if one.name.startswith(".") and one.name.endswith(PLACED):
+                with contextlib.suppress(OSError):
+                    if one.stat(follow_symlinks=False).st_mtime <= time.time() - age:
+                        os.unlink(one.path)
 
 
 class Run:
     """A plan that is carried out on an engine."""
 
-    def __init__(self, plan: Plan, its: engine.Engine, progress: bool) -> None:
+    def __init__(self, plan: Plan, its: engine.Engine, listing: Listing, progress: bool) -> None:
         self.plan = plan
         self.engine = its
+        self.listing = listing
         self.progress = progress
         self.scaled = Scaled()
         self.left: dict[str, int] = {}
         self.files: dict[str, list[tuple[Part, str]]] = {}
 
     def carry_out(self, part_rows: int) -> Scaled:
-        begun = time.monotonic()
-        try:
-            self.make_indexes()
-            for key in self.plan.files:
-                self.plan.cut(key, part_rows)
-            self.make_parts()
-        except BaseException:
-            self.engine.stop()
-            raise
+        self.make_indexes()
+        for key in self.plan.files:
+            self.plan.cut(key, part_rows)
+        names = [self.plan.whole_name(key) for key in self.plan.files]
+        self.listing.add(names)
+        self.make_parts()
         self.scaled.outputs = dict(sorted(self.scaled.outputs.items()))
         self.scaled.notes = list(self.plan.notes())
         if self.scaled.made == self.scaled.parts and self.scaled.rows > 2 * self.plan.rows:
             times = self.scaled.rows / self.plan.rows
             cure = "larger parts by --part-rows read fewer"
             self.scaled.notes.append(f"each row was read {times:.1f} times, since the query looks far: {cure}")
+        moved = self.listing.set_aside(names)
+        if moved:
+            self.scaled.notes.append(f"outputs of earlier calls that aren't of this one, moved to {self.plan.out}/earlier: {moved}")
         self.scaled.again = sum(self.engine.failures.values())
         self.scaled.workers = self.engine.most
-        self.scaled.seconds = time.monotonic() - begun
         return self.scaled
 
     def make_indexes(self) -> None:
@@ -334,24 +435,26 @@ class Run:
                 bar.step(len(indexing.paths))
 
     def make_parts(self) -> None:
-        """Makes all parts that aren't there, and the whole of each key as soon as its last part is there."""
+        """Makes all parts that are missing, and the whole of each key as soon as its last part is there."""
         self.scaled.parts = sum(len(cuts) + 1 for cuts in self.plan.cuts.values())
         waiting = self.missing()
         with self.bar(self.scaled.parts, "parts") as bar:
             self.counted = bar
-            more = True
-            while more or self.engine.begun:
-                while more and self.engine.has_room():
+            task = next(waiting, None)
+            while task is not None or self.engine.begun:
+                while task is not None and self.engine.has_room():
+                    self.engine.begin(name_of(task), tasks.make_part, task)
                     task = next(waiting, None)
-                    more = task is not None
-                    if task is not None:
-                        self.engine.begin(name_of(task), tasks.make_part, task)
                 if self.engine.begun:
                     self.take(*self.ended())
 
     def missing(self) -> Iterator[Task]:
-        """The tasks of all parts whose files aren't there."""
+        """The tasks of all parts whose files aren't there. A key whose output is there has none."""
         for key in self.plan.files:
+            if self.is_done(key):
+                self.counted.step(len(self.plan.cuts[key]) + 1)
+                self.scaled.outputs[urllib.parse.unquote(key) or ALONE] = self.plan.whole_file(key)
+                continue
             self.left[key], self.files[key] = len(self.plan.cuts[key]) + 1, []
             for task in self.plan.tasks(key):
                 self.files[key].append((task.part, task.file))
@@ -359,6 +462,11 @@ class Run:
                     self.finish(key)
                 else:
                     yield task
+
+    def is_done(self, key: str) -> bool:
+        """Whether the output of a key is there, joined from the parts that this call would make."""
+        digest = self.listing.digest(self.plan.whole_name(key))
+        return digest is not None and digest == parts_digest(task.file for task in self.plan.tasks(key))
 
     def finish(self, key: str) -> None:
         self.counted.step()
@@ -372,6 +480,7 @@ class Run:
         if isinstance(argument, Joining):
             if made.status:
                 raise Refused(made.line)
+            self.listing.note(self.plan.whole_name(argument.key), parts_digest(file for _, file in argument.parts))
             self.scaled.outputs[urllib.parse.unquote(argument.key) or ALONE] = argument.file
             return
         if made.status:
@@ -400,35 +509,63 @@ def name_of(task: Task) -> str:
     return f"{key}part {task.part.number} over ({task.part.start}, {task.part.end}]"
 
 
+def parts_digest(files: Iterable[str]) -> str:
+    """A digest of the names of parts, which have digests of all that the parts are made from."""
+    return blocks.joint_digest(os.path.basename(file) for file in files)
+
+
 def scale(query: str | os.PathLike[str] | Query, inputs: Mapping[str, Files], out: str | os.PathLike[str], *, scheduler: str | None = None,
-          workers: int | None = None, part_rows: int = PART_ROWS, retries: int = 3, index: str | None = None, dashboard: str | None = None,
+          workers: int | None = None, part_rows: int = PART_ROWS, retries: int = 3, index: str | None = None,
           progress: bool = False) -> Scaled:
-    """Runs a query over many files on many workers, as `tilt-data scale` does: its words are the arguments. The files of an input are a
-    name or several, with {key}, * and ? as there. A script that calls it without a scheduler does so below `if __name__ == "__main__":`,
-    since workers of this machine read the script again."""
+    """Runs a query over many files, several parts at a time, as `tilt-data scale` does with the same options. The files of an input are a
+    name or several, with {key}, * and ? as there. Without a scheduler the parts run on threads of this process, which call the program."""
+    begun = time.monotonic()
     for name, least, value in (("part_rows", 1, part_rows), ("retries", 0, retries), ("workers", 1, 1 if workers is None else workers)):
         if value < least:
             raise Refused(f"{name.replace('_', '-')}: {least} or more was expected")
-    engine.imported()
+    if scheduler is not None:
+        engine.imported()
     named = {name: [os.fspath(files)] if isinstance(files, (str, os.PathLike)) else [os.fspath(one) for one in files]
              for name, files in inputs.items()}
-    plan = Plan(query if isinstance(query, Query) else Query(query), named, os.fspath(out), index)
-    with locked(plan.out), engine.opened(scheduler, workers, dashboard, retries) as its:
-        if dashboard is not None:
-            print(f"tilt-data: the dashboard: {its.link}", file=sys.stderr, flush=True)
-        if not its.threads():
-            print(f"tilt-data: {scheduler} has no workers yet: waiting", file=sys.stderr, flush=True)
-        return Run(plan, its, progress).carry_out(part_rows)
+    plan = Plan(query_of(query), named, os.fspath(out), index)
+    with locked(plan.out), contextlib.ExitStack() as stack:
+        sweep_parts(plan.out)
+        # Other calls can write to the index at the same time.
+        sweep(plan.index, 3600)
+        if scheduler is not None:
+            # Workers that were killed can't remove what they had half written.
+            stack.callback(sweep_parts, plan.out)
+        with engine.opened(scheduler, workers, retries) as its:
+            scaled = Run(plan, its, Listing(plan.out), progress).carry_out(part_rows)
+    scaled.seconds = time.monotonic() - begun
+    return scaled
+
+
+@contextlib.contextmanager
+def ended_by_signals() -> Iterator[None]:
+    """Lets SIGTERM and SIGHUP end a call as SIGINT does, by an exception, so that its programs stop and nothing stays half written. A
+    signal that is ignored, as by nohup, stays so."""
+    def end(number: int, _: types.FrameType | None) -> None:
+        raise SystemExit(128 + number)
+
+    taken = [number for number in (signal.SIGTERM, signal.SIGHUP) if signal.getsignal(number) == signal.SIG_DFL]
+    for number in taken:
+        signal.signal(number, end)
+    try:
+        yield
+    finally:
+        for number in taken:
+            signal.signal(number, signal.SIG_DFL)
 
 
 def main(words: argparse.Namespace) -> int:
     if words.scheduler is not None and words.workers is not None:
-        raise Refused("--workers are those that are begun here: the scheduler has its own")
-    # What Dask leaves open as its workers go isn't for the reader of a command.
+        raise Refused("--workers is for this machine: the scheduler has its own workers")
+    # What Dask leaves open as its client goes isn't for the reader of a command.
     logging.getLogger("asyncio").setLevel(logging.CRITICAL)
-    scaled = scale(pathlib.Path(words.query), bound(words.binds), words.out, scheduler=words.scheduler, workers=words.workers,
-                   part_rows=words.part_rows, retries=words.retries, index=words.index, dashboard=words.dashboard, progress=True)
+    with ended_by_signals():
+        scaled = scale(pathlib.Path(words.query), bound(words.binds), words.out, scheduler=words.scheduler, workers=words.workers,
+                       part_rows=words.part_rows, retries=words.retries, index=words.index, progress=True)
     for line in scaled.told():
         print(f"tilt-data: {line}", file=sys.stderr)
     return 0
-

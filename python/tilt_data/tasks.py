@@ -1,5 +1,5 @@
-"""What a worker does: the index of files, the output of a part, and the whole of a key's parts. A task is handed names and numbers alone,
-and puts one file in its place; it may be begun again at any time, and gives the same bytes."""
+"""What a worker does: make the index of files, make the output of a part, and join the parts of a key. A task gets only names and numbers
+and writes one file. It can be started again at any time, and gives the same bytes."""
 from __future__ import annotations
 
 import dataclasses
@@ -8,10 +8,12 @@ import hashlib
 import os
 import socket
 import subprocess
+import tempfile
+import threading
 import time
 
 from . import blocks, parts
-from .blocks import Segment
+from .blocks import Segment, Stamp, stamp_of
 from .errors import Refused
 from .files import placed, scratch
 from .parts import Part
@@ -20,7 +22,66 @@ from .why import Refusal, refusal_of
 
 
 class Failed(Exception):
-    """A task that didn't come to its end, by a fault of the machine: it may be begun again."""
+    """A task that didn't end, by a fault of the machine: it can be started again."""
+
+
+class Cancelled(Exception):
+    """A task that its call stopped."""
+
+
+class Rejected(Exception):
+    """The program rejected a query or a series: the line that it printed, and its status."""
+
+    def __init__(self, line: str, status: int) -> None:
+        super().__init__(line)
+        self.line = line
+        self.status = status
+
+
+class Processes:
+    """The runs of the program that one call has under way on its threads, so that it can stop them all."""
+
+    def __init__(self) -> None:
+        self.lock = threading.Lock()
+        self.running: set[subprocess.Popen[bytes]] = set()
+        self.stopped = False
+
+    def check(self) -> None:
+        """Raises Cancelled after `stop`. Loops over a file call it for each piece."""
+        if self.stopped:
+            raise Cancelled
+
+    def run(self, words: list[str], out: int) -> None:
+        """Runs the program with its output to a descriptor. Raises Rejected or Failed for a status that isn't 0."""
+        # Standard error is a file: a pipe would stay open as long as a child of a program that was stopped.
+        with tempfile.TemporaryFile() as errors:
+            with self.lock:
+                self.check()
+                process = subprocess.Popen(words, stdin=subprocess.DEVNULL, stdout=out, stderr=errors)
+                self.running.add(process)
+            try:
+                status = process.wait()
+            finally:
+                with self.lock:
+                    self.running.discard(process)
+            self.check()
+            errors.seek(0)
+            line = errors.read().decode("utf-8", "replace").rstrip("\n")
+        if status in REFUSALS:
+            raise Rejected(line, status)
+        if status:
+            raise Failed(line or f"the program exited with status {status}")
+
+    def stop(self) -> None:
+        """Kills the runs that are under way. Later ones raise Cancelled."""
+        with self.lock:
+            self.stopped = True
+            for process in self.running:
+                process.kill()
+
+
+# On a cluster, a worker's tasks run until they end or the worker is killed.
+UNSTOPPED = Processes()
 
 
 @dataclasses.dataclass(frozen=True)
@@ -48,8 +109,8 @@ class Task:
 
 @dataclasses.dataclass(frozen=True)
 class Made:
-    """How a part was made: the seconds of the task and of the program in it, the rows and bytes that it was handed. Where the program
-    refused, its line, its status and the place."""
+    """How a task went: its seconds and those of the program in it, the rows and bytes that the program got. If something was rejected: the
+    line, the status and the place."""
 
     seconds: float = 0.0
     program_seconds: float = 0.0
@@ -79,29 +140,28 @@ class Joining:
 
 def program_digest(path: str) -> str:
     """A digest of the program's bytes."""
-    found = os.stat(path)
-    return digest_of(path, found.st_size, found.st_mtime_ns)
+    return digest_of(path, stamp_of(path))
 
 
 @functools.lru_cache(maxsize=8)
-def digest_of(path: str, size: int, changed: int) -> str:
+def digest_of(path: str, stamp: Stamp) -> str:
     with open(path, "rb") as file:
         return hashlib.file_digest(file, "sha256").hexdigest()
 
 
-def make_indexes(indexing: Indexing) -> Made:
+def make_indexes(indexing: Indexing, processes: Processes = UNSTOPPED) -> Made:
     begun = time.perf_counter()
     rows = size = 0
     for path in indexing.paths:
         try:
-            made = blocks.found_index(path, indexing.folder) or blocks.make_index(path, indexing.folder)
+            made = blocks.found_index(path, indexing.folder) or blocks.make_index(path, indexing.folder, processes.check)
         except Refused as refused:
             return Made(line=str(refused), status=1)
         rows, size = rows + made.rows, size + made.stamp[0]
     return Made(time.perf_counter() - begun, 0.0, rows, size)
 
 
-def make_part(task: Task) -> Made:
+def make_part(task: Task, processes: Processes = UNSTOPPED) -> Made:
     """Runs the program on the rows that the part needs. A part that is there isn't made again."""
     begun = time.perf_counter()
     if os.path.exists(task.file):
@@ -115,9 +175,9 @@ def make_part(task: Task) -> Made:
         started = time.perf_counter()
         try:
             with placed(task.file) as out:
-                call([path, "run", *words], out.fileno())
-        except Stopped as stopped:
-            return refused_part(task, words, stopped)
+                processes.run([path, "run", *words], out.fileno())
+        except Rejected as rejected:
+            return rejected_part(task, words, rejected)
         spent = time.perf_counter() - started
     return Made(time.perf_counter() - begun, spent, rows, size)
 
@@ -130,26 +190,8 @@ def program_of(task: Task) -> str:
     return path
 
 
-class Stopped(Exception):
-    """The program refused: what it told, and its status."""
-
-    def __init__(self, told: str, status: int) -> None:
-        super().__init__(told)
-        self.told = told
-        self.status = status
-
-
-def call(words: list[str], out: int) -> None:
-    done = subprocess.run(words, stdin=subprocess.DEVNULL, stdout=out, stderr=subprocess.PIPE)
-    told = done.stderr.decode("utf-8", "replace").rstrip("\n")
-    if done.returncode in REFUSALS:
-        raise Stopped(told, done.returncode)
-    if done.returncode:
-        raise Failed(told or f"the program ended with status {done.returncode}")
-
-
 def laid_out(task: Task, folder: str) -> tuple[list[str], int, int]:
-    """Writes the query and the rows of each input to a folder: the words of `run`, and how many rows and bytes they are."""
+    """Writes the query and the rows of each input to a folder: the arguments of `run`, and how many rows and bytes they are."""
     query = os.path.join(folder, "query.tilt")
     with open(query, "w", encoding="utf-8", newline="") as file:
         file.write(task.query)
@@ -172,16 +214,16 @@ def rows_path(folder: str, name: str) -> str:
     return os.path.join(folder, f"rows.{name}.csv")
 
 
-def refused_part(task: Task, words: list[str], stopped: Stopped) -> Made:
-    """The refusal of a part, with its place in the series that the row is from."""
-    place = refusal_of(stopped.told, words)
-    if stopped.told.startswith("tilt: 3 file too long: "):
-        return Made(line=f"{stopped.told}, which are the rows of this part: fewer by --part-rows", status=stopped.status)
+def rejected_part(task: Task, words: list[str], rejected: Rejected) -> Made:
+    """What the program rejected in a part, with its place in the series that the row is from."""
+    place = refusal_of(rejected.line, words)
+    if rejected.line.startswith("tilt: 3 file too long: "):
+        return Made(line=f"{rejected.line}, which are the rows of this part: fewer by --part-rows", status=rejected.status)
     for stretch in task.inputs:
         if place is not None and place.line is not None and place.file == rows_path(os.path.dirname(words[0]), stretch.name):
             file, line = place_in(stretch, place.line)
             place = dataclasses.replace(place, file=file, line=line)
-    return Made(line=stopped.told, status=stopped.status, place=place)
+    return Made(line=rejected.line, status=rejected.status, place=place)
 
 
 def place_in(stretch: Stretch, line: int) -> tuple[str, int]:
@@ -199,11 +241,14 @@ def place_in(stretch: Stretch, line: int) -> tuple[str, int]:
     return stretch.name, line
 
 
-def make_whole(joining: Joining) -> Made:
+def make_whole(joining: Joining, processes: Processes = UNSTOPPED) -> Made:
     begun = time.perf_counter()
+    # It is written among the parts, where only its call writes, and moved to its place.
+    beside = os.path.join(os.path.dirname(joining.parts[0][1]), "whole.csv")
     try:
-        with placed(joining.file) as out:
-            parts.join(list(joining.parts), out)
+        with placed(beside) as out:
+            parts.join(list(joining.parts), out, processes.check)
+        os.replace(beside, joining.file)
     except Refused as refused:
         return Made(line=str(refused), status=1)
     return Made(time.perf_counter() - begun)
