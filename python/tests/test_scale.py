@@ -1145,9 +1145,22 @@ def test_clocks_that_differ(here):
     assert not os.path.exists("more")
 
 
+@pytest.mark.parametrize("other, what", [({"scale": 100}, "scales"), ({"closed": "right"}, "`closed`")])
+def test_scales_and_conventions_that_differ(here, other, what):
+    """20.5 and 3.25 aren't 53 because each has a scale of its own."""
+    beside("x.csv", scale=10)
+    beside("y.csv", **{"scale": 10, **other})
+    found = scale("input x; input y; emit x + y over (0, 10];", {"x": "x.csv", "y": "y.csv"}, "out", workers=1)
+    assert len(found.notes) == 1 and found.notes[0].startswith("note: ") and what in found.notes[0], found.notes
+    pathlib.Path("y.csv").write_text(HEADER + "6,8,1\n")
+    with pytest.raises(Refused, match=f"^x: .*{what}"):
+        scale("input x; emit x over (0, 10];", {"x": ["x.csv", "y.csv"]}, "more", workers=1)
+
+
 @pytest.mark.parametrize("mark, rows", [
     ("\ufeff", "0,5,7\n"), ("", "0,5,--7\n"), ("", "+-0,5,7\n"), ("", "0,5,+\n"), ("", "0,5,7,\n"), ("", "0,5,9223372036854775808\n"),
-    ("", "0,4000000000000000001,7\n")])
+    ("", "0,4000000000000000001,7\n"), ("", "0,1_0,7\n"), ("", "0,5,1_0\n"), ("", "0, 5,7\n"), ("", "0,5 ,7\n"), ("", "0,\uff15,7\n"),
+    ("", "0,5,\u0663\n"), ("", '"0 ",5,7\n'), ("", '0,5,"7\n"\n')])
 def test_what_the_program_rejects_is_rejected(told, here, mark, rows):
     pathlib.Path("q").write_bytes(f"{mark}input x; emit x over (0, 10];".encode())
     pathlib.Path("x.csv").write_text(HEADER + rows)
