@@ -24,7 +24,7 @@ import pytest
 from conftest import PROGRAM, PYTHON, TOP, run_program
 from queries import Draw
 
-from tilt_data import Query, Refused, TiltError, blocks, engine, parts, scale, tasks
+from tilt_data import Query, Refused, blocks, engine, parts, scale, tasks
 from tilt_data.files import placed
 from tilt_data.forms import fault_of
 from tilt_data.parts import Domain, Part
