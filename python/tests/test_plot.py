@@ -2,16 +2,19 @@
 from __future__ import annotations
 
 import datetime
+import io
 import os
 import pathlib
 import random
+import sys
+import xml.etree.ElementTree
 import zoneinfo
 
 import pytest
 from tilt_data.clock import Clock
 from tilt_data.errors import Refused
 from tilt_data.files import Notes
-from tilt_data.plot import axis_of, clipped, joined, steps, thinned
+from tilt_data.plot import axis_of, bands, clipped, joined, steps, thinned
 
 MINUTE = 60 * 10**9
 
@@ -42,6 +45,54 @@ def test_thinning_keeps_the_extremes_of_each_pixel():
         assert (min(whole), max(whole)) == (min(part), max(part))
     few = rows[:150]
     assert list(thinned(few, 0, 150, 1800)) == few
+
+
+def test_thinned_rows_are_one_line_and_a_gap_stays_one():
+    draws = random.Random(13)
+    hour, day = 3600, 12 * 86400
+    rows = [(at, at + 1, draws.randrange(80, 100)) for at in range(0, day, 6)]
+    rows = [(start, start + 6, value) for start, _, value in rows if not day // 2 <= start < day // 2 + 2 * hour]
+    kept = list(thinned(rows, 0, day))
+    assert len(kept) < len(rows) / 10
+    times, values = steps(kept, 1, 0, day / 750)
+    breaks = [at for at, value in enumerate(values) if value != value]
+    # The one break is the gap of two hours, from its start on.
+    assert [times[at] for at in breaks] == [day // 2] and times[breaks[0] + 1] == day // 2 + 2 * hour
+    # Rows that don't touch are a gap whatever its length, if a tick is wider than a pixel.
+    assert [value != value for value in steps([(0, 1, 5), (2, 3, 5)], 1, 0, 10 / 750)[1]] == [False, False, True, False, False]
+
+
+def test_a_short_stretch_is_as_wide_as_a_pixel():
+    assert steps([(0, 1, 5), (5000, 5002, 7)], 1, 0, 100.0)[0] == [0, 100, 100, 5000, 5100]
+    far = 4 * 10**18 - 10
+    assert steps([(far, far + 1, 5), (far + 1, far + 3, 6)], 1, far - 5)[0] == [5, 6, 6, 8]
+
+
+def test_no_band_is_narrower_than_a_pixel():
+    rows = [(at, at + 1, 1) for at in (0, 5000, 5001, 5900, 749999)]
+    assert list(bands(rows, 0, 750000)) == [(0, 1000), (5000, 6000), (749000, 750000)]
+    assert list(bands([(12, 14, 1)], 10, 20)) == [(2, 4)]
+
+
+def marks_in(path: str, sign: int) -> int:
+    """How many marks that are orange (1) or blue (-1) stand side by side in the middle of a PNG, that is, below the legend."""
+    from matplotlib import pyplot
+    pixels = pyplot.imread(path)
+    middle = pixels[len(pixels) * 2 // 5:len(pixels) * 3 // 5]
+    found = (sign * (middle[:, :, 0] - middle[:, :, 2]) > 0.1).any(axis=0).tolist()
+    return sum(now and not before for now, before in zip(found, [False, *found]))
+
+
+def test_each_short_alarm_of_a_long_recording_is_seen(told):
+    pytest.importorskip("matplotlib")
+    # 110 alarms of 40 seconds in 12 days, far enough from each other that each has pixels of its own.
+    begins = [4000 + at * 9400 for at in range(110)]
+    put("temp", "0,1036800,205\n")
+    pathlib.Path("alarm.csv").write_text("start,end,value\n" + "".join(f"{at},{at + 40},90\n" for at in begins))
+    assert told("plot", "band.png", "temp=temp.csv", "+band:alarm=alarm.csv", "--like", "temp.csv") == (0, "", "")
+    assert marks_in("band.png", 1) == 110
+    assert told("plot", "step.png", "alarm=alarm.csv", "--from", "0", "--to", "1036800", "--like", "temp.csv") == (0, "", "")
+    assert marks_in("step.png", -1) == 110
 
 
 def test_bands():
@@ -154,6 +205,48 @@ def test_a_picture_without_a_clock_has_ticks(told):
     assert ">ticks<" in pathlib.Path("a.svg").read_text()
 
 
+NAMES = ["$a_{$", "\\$", "_x", "a & <b>"]
+
+
+def test_names_and_titles_are_drawn_as_they_are(told):
+    pytest.importorskip("matplotlib")
+    put("x", "0,600,205\n")
+    words = [f"{'+' if at else ''}{name}=x.csv" for at, name in enumerate(NAMES)]
+    assert told("plot", "a.svg", *words, "--title", r"$\frac$ of $x$", "--unit", "$a_{$=$") == (0, "", "")
+    shown = ["".join(text.itertext()).strip() for text in xml.etree.ElementTree.parse("a.svg").iter("{http://www.w3.org/2000/svg}text")]
+    # Each name has its entry in the legend; the first is also at the axis.
+    assert [shown.count(name) for name in NAMES] == [2, 1, 1, 1] and shown.count(r"$\frac$ of $x$") == 1 and "($)" in shown
+
+
+@pytest.mark.parametrize("closed, first", [("left", 11), ("right", 12)])
+def test_a_stretch_starts_where_that_of_ticks_does(told, closed, first):
+    pytest.importorskip("matplotlib")
+    put("x", "0,60,205\n")
+    text = pathlib.Path("x.json").read_text()
+    pathlib.Path("x.json").write_text(text.replace('"left"', f'"{closed}"'))
+    stretch = ["--from", "1970-01-01T00:00:11.5", "--to", "1970-01-01T00:00:40"]
+    assert told("ticks", "each", "each.csv", "--like", "x.csv", *stretch)[0] == 0
+    assert pathlib.Path("each.csv").read_text().splitlines()[1] == f"{first},{first + 1},0"
+    assert told("plot", "time.svg", "x=x.csv", *stretch) == told("plot", "tick.svg", "x=x.csv", "--from", str(first), "--to", "40") == (0, "", "")
+    assert pathlib.Path("time.svg").read_text() == pathlib.Path("tick.svg").read_text()
+
+
+def test_standard_input_and_pipes_are_drawn(told, monkeypatch):
+    pytest.importorskip("matplotlib")
+    rows = "start,end,value\n0,600,205\n900,1200,210\n"
+    pathlib.Path("x.csv").write_text(rows)
+    assert told("plot", "file.svg", "x=x.csv", "+y=x.csv") == (0, "", "")
+    monkeypatch.setattr(sys, "stdin", io.TextIOWrapper(io.BytesIO(rows.encode())))
+    assert told("plot", "input.svg", "x=-", "+y=-") == (0, "", "")
+    receive, send = os.pipe()
+    os.write(send, rows.encode())
+    os.close(send)
+    assert told("plot", "pipe.svg", f"x=/dev/fd/{receive}", f"+y=/dev/fd/{receive}") == (0, "", "")
+    os.close(receive)
+    pictures = [pathlib.Path(f"{name}.svg").read_text() for name in ("file", "input", "pipe")]
+    assert ">1,000<" in pictures[0] and pictures[1] == pictures[2] == pictures[0]
+
+
 @pytest.mark.parametrize("words, what", [
     (["a.pdf", "x=x.csv"], "a.pdf: a name that ends in .svg or .png was expected"),
     (["a.svg", "+x=x.csv"], "'+x=x.csv': NAME=FILE was expected, and + only after a panel"),
@@ -161,14 +254,28 @@ def test_a_picture_without_a_clock_has_ticks(told):
     (["a.svg", "x=x.csv", "y=y.csv"], "these files have other ticks or origins"),
     (["a.svg", "x=x.csv", "--from", "5", "--to", "5"], "there is nothing between --from and --to"),
     (["a.svg", "x=bad.csv"], "bad.csv:2: a row start,end,value of whole numbers was expected, not 0,5"),
+    (["a.svg", "x=x.csv", "--scale", "²"], "--scale ²: a whole number above 0 was expected"),
+    (["a.svg", "x=x.csv", "--scale", "0"], "--scale 0: a whole number above 0 was expected"),
+    (["a.svg", "x=x.csv", "--scale", "9" * 5000], "--scale 9999"),
+    (["a.svg", "x=x.csv", "--scale", "y=10"], "--scale y=..: nothing that is drawn has this name; there are: x"),
+    (["a.svg", "x=x.csv", "--unit", "y=s"], "--unit y=..: nothing that is drawn has this name; there are: x"),
+    (["a.svg", "x=x.csv", "--unit", "s"], "--unit s: NAME=TEXT was expected"),
+    (["a.svg", "x\x1b=x.csv"], r"'x\x1b': a text without control characters was expected"),
+    (["a.svg", "x=x.csv", "--title", "a\x00b"], r"'a\x00b': a text without control characters was expected"),
+    (["a.svg", "x=x.csv", "--from", "9" * 400], "9999"), (["a.svg", "x=x.csv", "--to", "9" * 5000], "9999"),
+    (["a.svg", "x=large.csv"], "large.csv: row 2: ticks from -4000000000000000000 to 4000000000000000000 and a 64-bit value were expected"),
+    (["a.svg", "x=late.csv"], "late.csv: row 1: ticks from -4000000000000000000 to 4000000000000000000 and a 64-bit value were expected"),
 ])
 def test_what_is_refused(told, words, what):
     pytest.importorskip("matplotlib")
     put("x", "0,5,1\n")
     put("y", "0,5,1\n", origin=10**9)
     pathlib.Path("bad.csv").write_text("start,end,value\n0,5\n")
+    pathlib.Path("large.csv").write_text(f"start,end,value\n0,5,1\n5,6,{'9' * 400}\n")
+    pathlib.Path("late.csv").write_text(f"start,end,value\n0,{'9' * 400},1\n")
     status, out, err = told("plot", *words)
     assert (status, out) == (1, "") and err.startswith(f"tilt-data: {what}") and not os.path.exists("a.svg")
+    assert err.count("\n") == 1
 
 
 def test_a_link_stays_and_the_picture_it_leads_to_is_replaced(told):

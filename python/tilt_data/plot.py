@@ -6,21 +6,26 @@ import dataclasses
 import datetime
 import os
 import re
-from typing import Any, Iterable, Iterator
+from typing import Any, Iterable, Iterator, Mapping
 
-from .clock import DAY, EPOCH, Clock, Moments, moment_text, zone_of
+from .clock import DAY, EPOCH, TIMES, Clock, Moments, moment_text, zone_of
 from .errors import Refused
-from .files import Notes, Row, notes_of, reading, rows_of, taking
+from .files import Notes, Row, notes_of, reading, rows_of, scratch, spooled, taking
 from .progress import shown
+from .scales import GREATEST, LEAST
 
 HELP = """Draws series and outputs. NAME=FILE has a panel of its own, and after it +NAME=FILE is drawn into the same panel,
 +limit:NAME=FILE as a dashed line, and +band:NAME=FILE as a shaded band where FILE has a value other than 0. A value that holds is a step,
-events are dots, and null is a gap. One name has one colour in all panels. The clock and the scale are those of the JSON file beside each
-file, or of the series that --like names; where neither is there, the axis has ticks."""
+events are dots, and null is a gap. What is shorter than a pixel is drawn one pixel wide, and a gap that is shorter isn't drawn. One name has
+one colour in all panels. The clock and the scale are those of the JSON file beside each file, or of the series that --like names; if there
+is neither, the axis has ticks. One FILE can be - for standard input."""
 COLOURS = ["#1f5fa8", "#2a7f4f", "#7a3e9d", "#8a6d1d", "#137c86", "#5b5b5b"]
 LIMIT, BAND = "#b3261e", "#f2a33a"
 WORD = re.compile(r"(\+?)(?:(band|limit|dots):)?([^=]+)=(.+)")
-WIDTH = 900
+# The width of the picture in pixels, and how many of them the axes have at least.
+WIDTH, COLUMNS = 900, 750
+# What no XML file can have, and what no font shows; a line end is allowed.
+UNPRINTABLE = re.compile("[\x00-\x09\x0b-\x1f\x7f-\x9f\ud800-\udfff\ufffe\uffff]")
 # Steps of the axis in nanoseconds, by unit.
 STEPS = [step * unit for unit, steps in (
     (1, (1, 2, 5, 10, 20, 50, 100, 200, 500)), (10**3, (1, 2, 5, 10, 20, 50, 100, 200, 500)), (10**6, (1, 2, 5, 10, 20, 50, 100, 200, 500)),
@@ -30,7 +35,8 @@ STEPS = [step * unit for unit, steps in (
 
 @dataclasses.dataclass
 class Drawn:
-    """What is drawn: a name, its file, how (`step`, `dots`, `limit`, `band`), its clock and scale, and its unit."""
+    """What is drawn: a name, its file, how (`step`, `dots`, `limit`, `band`), its clock and scale, its unit, and the copy of the file if it
+    is a pipe."""
 
     name: str
     file: str
@@ -38,6 +44,15 @@ class Drawn:
     notes: Notes | None
     scale: int
     unit: str = ""
+    copy: str | None = None
+
+    def rows(self) -> Iterator[Row]:
+        """The rows of the file, all of them within the limits of the program."""
+        with reading(self.copy or self.file) as opened:
+            for number, (start, end, value) in enumerate(rows_of(self.file, opened), 1):
+                if not (-TIMES <= start and end <= TIMES and (value is None or LEAST <= value <= GREATEST)):
+                    raise Refused(f"{self.file}: row {number}: ticks from {-TIMES} to {TIMES} and a 64-bit value were expected")
+                yield start, end, value
 
 
 def add(commands: Any) -> None:
@@ -56,34 +71,82 @@ def add(commands: Any) -> None:
 
 def panels_of(words: argparse.Namespace) -> list[list[Drawn]]:
     like = None if words.like is None else notes_of(words.like)
-    units = dict(word.partition("=")[::2] for word in words.unit)
-    scales = dict(word.rpartition("=")[::2] for word in words.scale)
-    if not all(text.isdigit() and int(text) for text in scales.values()):
-        raise Refused("--scale: a whole number above 0 was expected")
+    units, scales = units_of(words.unit), scales_of(words.scale)
     panels: list[list[Drawn]] = []
     for word in words.words:
         found = WORD.fullmatch(word)
         if found is None or found[1] and not panels:
             raise Refused(f"{word!r}: NAME=FILE was expected, and + only after a panel")
         notes = notes_of(found[4]) or like
-        scale = int(scales.get(found[3], scales.get("", notes.scale if notes is not None else 1)))
+        scale = scales.get(found[3], scales.get("", notes.scale if notes is not None else 1))
         # What isn't the series itself has its clock alone, and holds.
         event = notes is not like and notes is not None and notes.kind == "event"
         form = found[2] or ("dots" if event else "step")
-        drawn = Drawn(found[3], found[4], form, notes, scale, units.get(found[3], ""))
+        drawn = Drawn(printable(found[3]), found[4], form, notes, scale, units.get(found[3], ""))
         if found[1]:
             panels[-1].append(drawn)
         else:
             panels.append([drawn])
+    check_names(panels, {"--scale": scales, "--unit": units})
     return panels
+
+
+def units_of(words: list[str]) -> dict[str, str]:
+    wrong = next((word for word in words if "=" not in word), None)
+    if wrong is not None:
+        raise Refused(f"--unit {wrong}: NAME=TEXT was expected, as temperature=°C")
+    return {name: printable(text) for name, text in (word.split("=", 1) for word in words)}
+
+
+def scales_of(words: list[str]) -> dict[str, int]:
+    """The scale of each name; that of all others has the empty name."""
+    scales = {}
+    for word in words:
+        name, _, text = word.rpartition("=")
+        if not re.fullmatch("0*[1-9][0-9]{0,18}", text, re.ASCII):
+            raise Refused(f"--scale {printable(word)}: a whole number above 0 was expected, or NAME=N")
+        scales[name] = int(text)
+    return scales
+
+
+def check_names(panels: list[list[Drawn]], given: Mapping[str, Iterable[str]]) -> None:
+    """Rejects options for a name that isn't drawn: they would change nothing."""
+    names = {one.name for panel in panels for one in panel}
+    for option, named in given.items():
+        for name in named:
+            if name and name not in names:
+                raise Refused(f"{option} {name}=..: nothing that is drawn has this name; there are: {', '.join(sorted(names))}")
+
+
+def printable(text: str) -> str:
+    """A text that a picture can have."""
+    if UNPRINTABLE.search(text):
+        raise Refused(f"{text!r}: a text without control characters was expected")
+    return text
+
+
+def escaped(text: str) -> str:
+    """A text for matplotlib, which reads what is between two dollar signs as a formula."""
+    return text.replace("$", r"\$")
+
+
+def copy_pipes(panels: list[list[Drawn]], folder: str) -> None:
+    """Copies standard input and other pipes to the folder: a file can be read more than once."""
+    copies: dict[str, str] = {}
+    for one in (one for panel in panels for one in panel):
+        if one.file not in copies:
+            place = os.path.join(folder, str(len(copies)))
+            os.mkdir(place)
+            copies[one.file] = spooled(one.file, place)
+        one.copy = copies[one.file]
 
 
 def clock_of(panels: list[list[Drawn]]) -> Clock | None:
     """The one clock of all files, or None where none is known."""
-    clocks = {(one.notes.clock.tick, one.notes.clock.origin) for panel in panels for one in panel if one.notes is not None}
-    if len(clocks) > 1:
+    clocks = [one.notes.clock for panel in panels for one in panel if one.notes is not None]
+    if len({(clock.tick, clock.origin) for clock in clocks}) > 1:
         raise Refused("these files have other ticks or origins: they have no common axis")
-    return Clock(*clocks.pop()) if clocks else None
+    return clocks[0] if clocks else None
 
 
 def bounds_of(words: argparse.Namespace, panels: list[list[Drawn]], clock: Clock | None) -> tuple[int, int]:
@@ -92,11 +155,10 @@ def bounds_of(words: argparse.Namespace, panels: list[list[Drawn]], clock: Clock
     if lo is None or hi is None:
         first: int | None = None
         last: int | None = None
-        for file in {one.file for panel in panels for one in panel}:
-            with reading(file) as opened:
-                for start, end, _ in rows_of(file, opened):
-                    first = start if first is None else min(first, start)
-                    last = end if last is None else max(last, end)
+        for one in {one.file: one for panel in panels for one in panel}.values():
+            for start, end, _ in one.rows():
+                first = start if first is None else min(first, start)
+                last = end if last is None else max(last, end)
         lo = (first or 0) if lo is None else lo
         hi = (lo + 1 if last is None else last) if hi is None else hi
     if lo >= hi:
@@ -105,13 +167,14 @@ def bounds_of(words: argparse.Namespace, panels: list[list[Drawn]], clock: Clock
 
 
 def tick_of(text: str, clock: Clock | None, zone: str | None) -> int:
-    if re.fullmatch(r"-?\d+", text) or clock is None:
-        try:
-            return int(text)
-        except ValueError as error:
-            raise Refused(f"{text!r} is no tick, and no file tells a clock: --like SERIES names one") from error
+    if re.fullmatch("-?[0-9]+", text):
+        if len(text) > 20 or not -TIMES <= int(text) <= TIMES:
+            raise Refused(f"{text[:40]}: a tick from {-TIMES} to {TIMES} was expected")
+        return int(text)
+    if clock is None:
+        raise Refused(f"{text!r} is no tick, and no file has a clock: --like SERIES names one")
     try:
-        return clock.start(Moments(None, zone_of(zone)).iso(text))
+        return clock.start(Moments(None, zone_of(zone)).iso(text)) + (clock.closed == "right")
     except ValueError as error:
         raise Refused(str(error)) from error
 
@@ -148,7 +211,7 @@ def outline(rows: list[tuple[int, int, int]]) -> list[tuple[int, int, int]]:
     return sorted({rows[0], least, greatest, rows[-1]})
 
 
-def joined(rows: Iterable[tuple[int, int, int]], near: int) -> Iterator[tuple[int, int]]:
+def joined(rows: Iterable[tuple[int, int, int]], near: float) -> Iterator[tuple[int, int]]:
     """Stretches with a value other than 0, as bands; those that lie nearer than so many ticks are one."""
     held: tuple[int, int] | None = None
     for start, end, value in rows:
@@ -164,18 +227,39 @@ def joined(rows: Iterable[tuple[int, int, int]], near: int) -> Iterator[tuple[in
         yield held
 
 
-def steps(rows: Iterable[tuple[int, int, int]], scale: int) -> tuple[list[float], list[float]]:
-    """The corners of the steps, with a break where there is a gap."""
+def bands(rows: Iterable[tuple[int, int, int]], lo: int, hi: int) -> Iterator[tuple[float, float]]:
+    """The bands in ticks after `lo`. None is narrower than a column of pixels, since it would leave no trace; those within one are joined."""
+    column = (hi - lo) / COLUMNS
+    for start, end in joined(rows, column):
+        begin = min(float(start - lo), hi - lo - column)
+        yield begin, max(float(end - lo), begin + column)
+
+
+def stretches(rows: Iterable[tuple[int, int, int]], near: float) -> Iterator[list[tuple[int, int, int]]]:
+    """The rows, parted at each gap of more than so many ticks."""
+    held: list[tuple[int, int, int]] = []
+    for row in rows:
+        if held and row[0] - held[-1][1] > near:
+            yield held
+            held = []
+        held.append(row)
+    if held:
+        yield held
+
+
+def steps(rows: Iterable[tuple[int, int, int]], scale: int, lo: int = 0, column: float = 0.0) -> tuple[list[float], list[float]]:
+    """The corners of the steps, in ticks after `lo`, with a break at each gap that is wider than a column of pixels. What `thinned` left out
+    is narrower, so that it breaks no line. A stretch that is narrower than a column is drawn as wide as one."""
     times: list[float] = []
     values: list[float] = []
-    before = None
-    for start, end, value in rows:
-        if before is not None and before != start:
-            times.append(float(before))
+    for stretch in stretches(rows, column):
+        if times:
+            times.append(times[-1])
             values.append(float("nan"))
-        times += [float(start), float(end)]
-        values += [value / scale] * 2
-        before = end
+        for start, end, value in stretch:
+            times += [float(start - lo), float(end - lo)]
+            values += [value / scale] * 2
+        times[-1] = max(times[-1], stretch[0][0] - lo + column)
     return times, values
 
 
@@ -189,21 +273,29 @@ def colours_of(panels: list[list[Drawn]]) -> dict[tuple[str, bool], str]:
     return colours
 
 
-def draw_one(axes: Any, one: Drawn, lo: int, hi: int, colour: str) -> None:
-    with reading(one.file) as opened:
-        rows = clipped(shown(rows_of(one.file, opened), "rows"), lo, hi)
-        if one.form == "band":
-            for at, (start, end) in enumerate(joined(rows, (hi - lo) // WIDTH)):
-                axes.axvspan(start - lo, end - lo, color=BAND, alpha=0.35, linewidth=0, label=None if at else one.name)
-            return
-        kept = list(thinned(rows, lo, hi))
+def draw_one(axes: Any, one: Drawn, lo: int, hi: int, colour: str) -> Any:
+    """Draws a file, and returns what the legend shows of it; None if there is nothing in the stretch."""
+    rows = clipped(shown(one.rows(), "rows"), lo, hi)
+    if one.form == "band":
+        # Above the grid, whose lines are as wide as a short band, and below the values.
+        style = {"color": BAND, "alpha": 0.35, "linewidth": 0, "zorder": 1.75}
+        drawn = [axes.axvspan(begin, end, **style) for begin, end in bands(rows, lo, hi)]
+        return drawn[0] if drawn else None
+    kept = list(thinned(rows, lo, hi))
     if one.form == "dots":
         times, values = [start - lo for start, _, _ in kept], [value / one.scale for _, _, value in kept]
-        axes.plot(times, values, ".", markersize=4, color=colour, label=one.name)
-        return
-    corners, heights = steps(kept, one.scale)
+        return axes.plot(times, values, ".", markersize=4, color=colour)[0]
+    corners, heights = steps(kept, one.scale, lo, (hi - lo) / COLUMNS)
     style = {"color": LIMIT, "linestyle": "--", "linewidth": 1.2} if one.form == "limit" else {"color": colour, "linewidth": 1.2}
-    axes.plot([time - lo for time in corners], heights, label=one.name, **style)
+    return axes.plot(corners, heights, **style)[0]
+
+
+def draw_legend(axes: Any, entries: list[tuple[Any, str]]) -> None:
+    legend = axes.legend([drawn for drawn, _ in entries], [""] * len(entries), loc="lower left", bbox_to_anchor=(0, 1), ncol=5, frameon=False,
+                         borderaxespad=0.1, handlelength=1.6)
+    # A label that starts with `_` would have no entry.
+    for text, (_, name) in zip(legend.get_texts(), entries):
+        text.set_text(escaped(name))
 
 
 def shift_at(moment: int, zone: datetime.tzinfo | None) -> int:
@@ -291,12 +383,12 @@ def draw(words: argparse.Namespace, panels: list[list[Drawn]]) -> Any:
     colours = colours_of(panels)
     figure, rows = pyplot.subplots(len(panels), 1, sharex=True, squeeze=False, figsize=(WIDTH / 100, 0.6 + 1.7 * len(panels)), dpi=100)
     for axes, panel in zip(rows[:, 0], panels):
-        for one in panel:
-            draw_one(axes, one, lo, hi, colours.get((one.name, True), LIMIT))
+        drawn = [(draw_one(axes, one, lo, hi, colours.get((one.name, True), LIMIT)), one.name) for one in panel]
         axes.grid(color="#e0e0e0", linewidth=0.6)
-        axes.set_ylabel(panel[0].name + (f"\n({panel[0].unit})" if panel[0].unit else ""))
-        if axes.get_legend_handles_labels()[0]:
-            axes.legend(loc="lower left", bbox_to_anchor=(0, 1), ncol=5, frameon=False, borderaxespad=0.1, handlelength=1.6)
+        axes.set_ylabel(escaped(panel[0].name + (f"\n({panel[0].unit})" if panel[0].unit else "")))
+        entries = [entry for entry in drawn if entry[0] is not None]
+        if entries:
+            draw_legend(axes, entries)
         axes.spines[["top", "right"]].set_visible(False)
     marks, texts, label = axis_of(clock, lo, hi, zone_of(name), name or "UTC")
     last = rows[-1, 0]
@@ -304,7 +396,7 @@ def draw(words: argparse.Namespace, panels: list[list[Drawn]]) -> Any:
     last.set_xticks(marks, texts)
     last.set_xlabel(label)
     if words.title:
-        figure.suptitle(words.title)
+        figure.suptitle(escaped(printable(words.title)))
     figure.tight_layout()
     return figure
 
@@ -317,7 +409,10 @@ def main(words: argparse.Namespace) -> int:
         import matplotlib  # noqa: F401
     except ImportError as error:
         raise Refused("matplotlib isn't there: apt-get install python3-matplotlib, or pip install matplotlib") from error
-    figure = draw(words, panels_of(words))
+    panels = panels_of(words)
+    with scratch() as folder:
+        copy_pipes(panels, folder)
+        figure = draw(words, panels)
     try:
         with taking(words.out) as new:
             figure.savefig(new, format=form, metadata={"Date": None} if form == "svg" else {})
