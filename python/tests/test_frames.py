@@ -12,7 +12,7 @@ import pytest
 pandas = pytest.importorskip("pandas")
 
 from conftest import PROGRAM  # noqa: E402
-from tilt_data import Query, Refused, TiltError, run, sessions  # noqa: E402
+from tilt_data import Convention, Query, Refused, TiltError, run, sessions, span  # noqa: E402
 
 AVERAGE = "input temp; emit avg(temp[t-600:t]) over (0, 3600] every 600;"
 
@@ -49,6 +49,21 @@ def test_decimals_are_exact():
     temp = pandas.Series([decimal.Decimal("0.1"), decimal.Decimal("1234567890123.12345")], pandas.to_datetime(["2026-03-01 00:01", "2026-03-01 00:02"]))
     got = run("input temp; emit temp over (0, 600];", temp, exact=True)
     assert list(got["value"]) == [decimal.Decimal("0.1"), decimal.Decimal("1234567890123.12345")]
+
+
+def test_decimals_are_exact_in_any_context_of_the_caller():
+    temp = pandas.Series([123456.789, -0.001], pandas.to_datetime(["2026-03-01 00:01", "2026-03-01 00:02"]))
+    with decimal.localcontext() as context:
+        context.prec = 5
+        got = run("input temp; emit temp over (0, 600];", temp, exact=True)
+    assert [str(value) for value in got["value"]] == ["123456.789", "-0.001"]
+
+
+@pytest.mark.parametrize("kind", ["float32", "Float32", "float16"])
+def test_short_floats_have_the_text_of_their_own_type(kind):
+    temp = pandas.Series([96.1, 0.3], pandas.date_range("2026-03-01", periods=2, freq="1s"), dtype=kind)
+    got = run("input temp; emit temp over (0, 600];", temp, exact=True)
+    assert list(got["value"]) == [decimal.Decimal("96.1"), decimal.Decimal("0.3")]
 
 
 def test_missing_values_and_zones():
@@ -104,6 +119,57 @@ def test_files_of_other_clocks_are_refused(tmp_path, monkeypatch, tick, origin):
     assert list(got["value"]) == [14] and got.index[0].left == pandas.Timestamp("2026-03-01")
 
 
+def scaled(name: str, scale: int, closed: str = "left") -> str:
+    """A file of a series with the value 205 as it stands in the file, and its JSON file."""
+    pathlib.Path(f"{name}.csv").write_text("start,end,value\n0,600,205\n")
+    notes = {"tilt-data": 1, "tick": "1s", "origin": "2026-03-01", "scale": scale, "closed": closed}
+    pathlib.Path(f"{name}.json").write_text(json.dumps(notes))
+    return f"{name}.csv"
+
+
+def test_inputs_of_other_scales_are_rejected_unless_that_is_meant(tmp_path, monkeypatch):
+    monkeypatch.chdir(tmp_path)
+    query = "input x; input y; emit x * y over (0, 600];"
+    inputs = {"x": scaled("x", 10), "y": scaled("y", 100)}
+    with pytest.raises(Refused, match="^the scales differ: x has 10, y has 100; write the series --like each other, or say scales='differ'"):
+        run(query, inputs=inputs)
+    with pytest.raises(Refused, match="output_scale=N is needed"):
+        run(query, inputs=inputs, scales="differ")
+    # 20.5 * 2.05
+    assert run(query, inputs=inputs, scales="differ", output_scale=1000)["value"].tolist() == [pytest.approx(42.025)]
+    series = pandas.Series([20.5], pandas.to_datetime(["2026-03-01"]))
+    with pytest.raises(Refused, match="the scales differ: x has 10, scale=100"):
+        run(query, inputs={"x": "x.csv", "y": series}, scale=100)
+    with pytest.raises(Refused, match="scale=N for the Series is needed"):
+        run("input x; input y; input z; emit x over (0, 600];", inputs={**inputs, "z": series}, scales="differ", output_scale=1)
+    # A Series has the scale of the file: 20.5 * 20.5
+    assert run(query, inputs={"x": "x.csv", "y": series}, output_scale=100)["value"].tolist() == [pytest.approx(420.25)]
+
+
+@pytest.mark.parametrize("options, what", [
+    ({}, "the inputs don't have the same closed edge: x is closed 'left', y is closed 'right'"),
+    ({"tick": "1min"}, "closed edge"), ({"closed": "right", "tick": "1min"}, "tick='1min': the file of the input x has the tick 1s"),
+    ({"closed": "right", "origin": "2026-03-02"}, "origin='2026-03-02': the file of the input x has the origin 2026-03-01T00:00:00"),
+])
+def test_files_that_say_something_else_than_the_caller_or_each_other(tmp_path, monkeypatch, options, what):
+    monkeypatch.chdir(tmp_path)
+    query = "input x; input y; emit x + y over (0, 600];"
+    inputs = {"x": scaled("x", 10), "y": scaled("y", 10, "right")}
+    with pytest.raises(Refused, match=what):
+        run(query, inputs=inputs, **options)
+    assert run(query, inputs=inputs, closed="right").index.closed == "right"
+    with pytest.raises(Refused, match="closed='left': the input y is closed 'right'; omit closed="):
+        run("input y; emit y over (0, 600];", inputs={"y": "y.csv"}, closed="left")
+
+
+def test_all_inputs_of_a_call_have_one_scale_for_all_keys():
+    data = readings(20).to_frame().assign(station=["a", "b"] * 10)
+    limit = pandas.Series([20.125], pandas.to_datetime(["2026-03-01"]))
+    got = run("input temp; input limit; emit limit when temp > 0 over (0, 3600];", data, by="station", inputs={"limit": limit},
+              until="2026-03-01 01:00")
+    assert set(got["value"]) == {20.125} and list(got.index.get_level_values(0).unique()) == ["a", "b"]
+
+
 @pytest.mark.parametrize("kind", ["Int64", "Float64", "object"])
 def test_missing_values_of_extension_types(kind):
     index = pandas.date_range("2026-03-01", periods=3, freq="1s")
@@ -112,6 +178,83 @@ def test_missing_values_of_extension_types(kind):
     with Query("input x; emit x over (0, 3];").live(origin="2026-03-01", scale=1) as live:
         parts = [live.push(pandas.Series([7, pandas.NA, 9], index, dtype=kind)), live.end()]
     assert [value for part in parts for value in part["value"]] == [7, 9]
+
+
+def test_a_missing_value_ends_the_reading_before_it_unless_it_is_skipped():
+    rate = pandas.Series(120, pandas.date_range("2026-03-01", periods=3600, freq="1s"))
+    temp = pandas.Series(39, pandas.date_range("2026-03-01", periods=60, freq="1min"))
+    wide = pandas.concat([rate, temp], axis=1, keys=["rate", "temp"])
+    query = "input rate; input temp; emit 1 when rate > 110 and temp > 38 over (0, 3600];"
+    seconds = [got.index.length.total_seconds().values.sum() for got in (run(query, wide), run(query, wide, skip_empty=True))]
+    # The temperature is there in one second of each minute; and up to the second of its last reading.
+    assert seconds == [60, 3541]
+    with Query(query).live(origin="2026-03-01", scale=1, skip_empty=True) as live:
+        parts = [live.push(wide.iloc[:100]), live.push(wide.iloc[100:]), live.end()]
+    assert sum(part.index.length.total_seconds().values.sum() for part in parts if len(part)) == 3541
+
+
+def test_inputs_have_conventions_of_their_own():
+    trades = pandas.Series([10, 11, 12], pandas.to_datetime(["2026-03-01 00:00:05", "2026-03-01 00:00:07", "2026-03-01 00:00:29"]))
+    quotes = pandas.Series([9, 8], pandas.to_datetime(["2026-03-01 00:00:00", "2026-03-01 00:00:20"]))
+    query, inputs = "input trade; input quote; emit trade - quote over (0, 60];", {"trade": trades, "quote": quotes}
+    # Each trade with the last quote before it, as by merge_asof: 10 - 9, 11 - 9, 12 - 8.
+    got = run(query, inputs=inputs, event={"trade": True}, until="2026-03-01 00:00:30", index="start")
+    assert list(got.index) == list(trades.index) and list(got["value"]) == [1, 2, 4]
+    # A quote that holds for five seconds is there for no trade.
+    assert not len(run(query, inputs=inputs, event={"trade": True}, max_age={"quote": "5s"}))
+    with Query(query).live(event={"trade": True}, until="2026-03-01 00:00:30", origin="2026-03-01", scale=1) as live:
+        parts = [live.push(**inputs), live.end()]
+    assert [value for part in parts for value in part["value"]] == [1, 2, 4]
+
+
+def test_the_default_origin_is_the_midnight_of_the_zone(told):
+    temp = readings(3, zone="Europe/Zurich")
+    got = run("input temp; emit temp over (0, 180];", temp)
+    assert list(got.index.left) == list(temp.index) and str(got.index.left.tz) == "Europe/Zurich"
+    pandas.DataFrame({"time": [time.isoformat() for time in temp.index], "temp": temp.values}).to_csv("raw.csv", index=False)
+    assert told("series", "raw.csv", "--time", "time", "--tick", "1s", "--zone", "Europe/Zurich", "--scale", "auto")[0] == 0
+    assert run("input temp; emit temp over (0, 180];", inputs={"temp": "temp.csv"})["value"].tolist() == got["value"].tolist()
+    assert json.loads(pathlib.Path("temp.json").read_text())["origin"] == "2026-02-28T23:00:00Z"
+
+
+def test_a_day_without_a_midnight_starts_at_its_first_moment():
+    # At midnight the clocks go to 01:00.
+    temp = pandas.Series([7], pandas.DatetimeIndex(["2018-11-04 02:00"], tz="America/Sao_Paulo"))
+    assert span(temp) == (3600, 3601)
+    # At 01:00 the clocks go back to midnight, so that 02:00 comes three hours after the first one.
+    assert span(pandas.Series([7], pandas.DatetimeIndex(["2026-11-01 02:00"], tz="America/Havana"))) == (3 * 3600, 3 * 3600 + 1)
+
+
+def test_the_span_of_the_inputs():
+    temp = readings(60)
+    assert span(temp, max_age="1min") == (0, 3600) and span(temp) == (0, 59 * 60 + 1)
+    assert span(temp.to_frame().assign(key="a"), origin="2026-02-28", closed="right", event=True) == (86399, 86400 + 59 * 60)
+    whole = run(f"input temp; emit temp over ({span(temp)[0]}, {span(temp)[1]}];", temp)
+    assert list(whole.index.left) == list(temp.index)
+    with pytest.raises(Refused, match="no readings, and no span"):
+        span(temp.iloc[:0])
+
+
+@pytest.mark.parametrize("closed", ["left", "right"])
+def test_intervals_say_which_edge_is_closed(closed):
+    ends = pandas.date_range("2026-03-01", periods=3, freq="10min")
+    rows = pandas.Series([7, 8], pandas.IntervalIndex.from_breaks(ends, closed=closed))
+    got = run("input x; emit x over (0, 1200];", rows)
+    assert list(got.index) == list(rows.index) and got.index.closed == closed
+    # Readings go by it too: that of midnight lies in the tick that ends there, with `right`, and is before the span.
+    query = "input x; input y; emit x when not isnull(y) over (0, 1200];"
+    event = pandas.Series([1, 1], pandas.to_datetime(["2026-03-01 00:00", "2026-03-01 00:10"]))
+    both = run(query, inputs={"x": rows, "y": event}, event={"y": True}, tick="1min")
+    assert list(both["value"]) == ([7, 8] if closed == "left" else [7])
+
+
+def test_a_name_with_blanks_is_a_file(tmp_path, monkeypatch):
+    monkeypatch.chdir(tmp_path)
+    pathlib.Path("my query.tilt").write_text(AVERAGE)
+    pathlib.Path("no end").write_text(AVERAGE)
+    assert Query("my query.tilt").text == Query("no end").text == AVERAGE and Query(AVERAGE).text == AVERAGE
+    with pytest.raises(Refused, match="^my quary.tilt: No such file or directory$"):
+        Query("my quary.tilt")
 
 
 @pytest.mark.parametrize("missing", [None, float("nan"), pandas.NA])
@@ -147,6 +290,75 @@ def test_errors_carry_line_status_and_place():
 def test_what_is_refused(call, what):
     with pytest.raises(Refused, match=what):
         call()
+
+
+def two_columns():
+    data = readings(4).to_frame()
+    return pandas.concat([data, data], axis=1)
+
+
+WRONG = [
+    ({"closed": "both"}, "closed='both': one of 'left', 'right', None was expected"),
+    ({"closed": "neither"}, "closed='neither': one of"), ({"closed": 1}, "closed=1: one of"),
+    ({"ties": "nope"}, "ties='nope': one of 'last', 'first', 'spread', 'refuse' was expected"),
+    ({"scales": "other"}, "scales='other': one of 'same', 'differ' was expected"),
+    ({"index": "left"}, "index='left': one of 'interval', 'start', 'end' was expected"),
+    *[({"output_scale": wrong}, f"output_scale={wrong}: a whole number above 0 was expected") for wrong in (0, -5, True, 2.5)],
+    *[({"scale": wrong}, f"scale={wrong}: a whole number above 0 or 'auto' was expected") for wrong in (0, -10, True, 2.5)],
+    ({"scale": "10"}, "scale='10': a whole number above 0 or 'auto' was expected"),
+    ({"event": True, "max_age": "5s"}, "event=True: a reading is an event of one tick"),
+    ({"event": True, "until": "2026-03-02"}, "event=True: a reading is an event of one tick"),
+    ({"event": {"temp": True}, "max_age": {"temp": "5s"}}, r"max_age\['temp'\]: the input is an event"),
+    ({"event": {"tmep": True}}, r"event\['tmep'\]: no input has this name; there are: temp"),
+    ({"max_age": {"tmep": "5s"}}, r"max_age\['tmep'\]: no input has this name; there are: temp"),
+    ({"event": "no"}, "event='no': True or False was expected"), ({"skip_empty": 1}, "skip_empty=1: True or False was expected"),
+    ({"merge": "no"}, "merge='no': True or False was expected"), ({"exact": 0}, "exact=0: True or False was expected"),
+    ({"tick": "1D"}, "tick='1D': a whole number above 0 and one of ns us ms s min h d"), ({"tick": 5}, "tick=5: a whole number"),
+    ({"max_age": "soon"}, "max_age='soon': a whole number"), ({"max_age": {"temp": 5}}, "max_age=5: a whole number"),
+    ({"origin": "yesterday"}, "origin='yesterday': a time was expected"), ({"until": 5}, "until=5: a time was expected"),
+    ({"unit": "s"}, "unit='s': there is no such option; the options are tick, .* by, merge, index, exact, inputs, convention"),
+    ({"convention": {"tick": "1s"}}, "a Convention was expected"),
+    ({"by": ["a", "b"]}, r"by=\['a', 'b'\]: a DataFrame with this column was expected"),
+    ({"tick": "1ns", "origin": "1000-01-01"}, "the input temp: a time is more than 4000000000000000000 ticks from the origin"),
+]
+
+
+@pytest.mark.parametrize("options, what", WRONG)
+def test_a_wrong_argument_is_rejected_in_one_line(options, what):
+    with pytest.raises(Refused, match=what) as caught:
+        run(AVERAGE, readings(), **options)
+    assert "\n" not in str(caught.value)
+
+
+@pytest.mark.parametrize("options", [{"closed": "both"}, {"ties": "nope"}, {"output_scale": 0}, {"event": True, "until": "2026-03-02"}])
+def test_wrong_arguments_of_live_span_and_convention(options):
+    for call in (lambda: Query(AVERAGE).live(**{**COMMON, **options}), lambda: span(readings(), **options), lambda: Convention(**options)):
+        with pytest.raises(Refused, match=f"^{next(iter(options))}="):
+            call()
+
+
+@pytest.mark.parametrize("call, what", [
+    (lambda: run("input x; emit x over (0, 10];", inputs={"x": intervals((0, 10)).set_axis(intervals((0, 10)).index.set_closed("both"))}),
+     "the input x: intervals that are closed 'left' or 'right' were expected, not 'both'"),
+    (lambda: run("input x; emit x over (0, 10];", inputs={"x": intervals((0, 10))}, closed="right"),
+     "closed='right': the input x is closed 'left'; index.set_closed"),
+    (lambda: run(AVERAGE, pandas.Series([True, False], readings(2).index)), "True is no number: astype"),
+    (lambda: run(AVERAGE, two_columns()), "the input temp: the DataFrame has 2 columns of this name"),
+    (lambda: run(AVERAGE, pandas.concat([readings(2), readings(2)], axis=1, keys=["k", "k"]), by="k"), "not with 2 of this name"),
+    (lambda: run(AVERAGE, readings(2).to_frame().assign(k=[(1, 2), (3, 4)]), by="k"), r"by='k': a text, a number or a time .* not \(1, 2\)"),
+    (lambda: run("input temp; emit ifnull(temp, 0) over (0, 10000000000];", readings(2)), "1677-09-21 to 2262-04-11"),
+    (lambda: Query(AVERAGE).live(**COMMON).push(temp=[1]), "the input temp: a Series was expected, not list"),
+    (lambda: Query(AVERAGE).live(**COMMON).push(temp=intervals((0, 10)).set_axis(intervals((0, 10)).index.set_closed("right"))),
+     "the input temp: its intervals are closed 'right', not 'left'"),
+    # What is said of values has the arguments of Python.
+    (lambda: run(AVERAGE, readings().iloc[1:].pct_change().dropna(), scale=10), "scale=10+, scale='auto', or round"),
+    (lambda: run(AVERAGE, pandas.Series([1e12, 1e-9], readings(2).index)), "a smaller scale=, or round"),
+    (lambda: run(AVERAGE, pandas.Series([float("inf")], readings(1).index)), "'inf' is no number; a missing value is NaN or None"),
+])
+def test_what_else_is_rejected_in_one_line(call, what):
+    with pytest.raises(Refused, match=what) as caught:
+        call()
+    assert "\n" not in str(caught.value) and "--" not in str(caught.value)
 
 
 def test_sessions_print_together_what_one_run_prints():

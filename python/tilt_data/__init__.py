@@ -1,8 +1,9 @@
 """From a file of readings to series of tilt, and from its output to tables and pictures.
 
 `run` and `Query` are for programs; they need pandas when they are called, and not before. `scale` needs `dask.distributed` so."""
+from .convention import Convention
 from .errors import Refused, TiltError
-from .frames import Convention, Explained, Live, Query, run
+from .frames import Explained, Live, Query, run, span
 from .scaling import Scaled, scale
 
-__all__ = ["Convention", "Explained", "Live", "Query", "Refused", "Scaled", "TiltError", "run", "scale"]
+__all__ = ["Convention", "Explained", "Live", "Query", "Refused", "Scaled", "TiltError", "run", "scale", "span"]

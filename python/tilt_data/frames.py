@@ -1,7 +1,7 @@
 """Queries from Python: pandas' Series and DataFrames, or files, in; a DataFrame with an IntervalIndex, or with timestamps, out.
 
-Values are whole numbers for the program: a float is taken by its shortest decimal text, as pandas shows it, times the scale. Times are
-those of pandas, in nanoseconds; without a zone they are UTC."""
+Values are whole numbers for the program: a float is taken by the shortest decimal text that its type reads back, times the scale. Times
+are those of pandas, in nanoseconds; without a zone they are UTC."""
 from __future__ import annotations
 
 import dataclasses
@@ -14,43 +14,31 @@ import tempfile
 from typing import TYPE_CHECKING, Any, Iterator, Mapping, Union
 
 from . import sessions
-from .clock import Clock, Moments, duration_of, moment_text
-from .convert import Converter, Rule
+from .clock import TIMES, Clock, duration_of, duration_text, moment_text
+from .convention import Convention, check_flag, check_one_of, convention_of, moment_read
+from .convert import Converter, Late, Tie
 from .errors import Refused, TiltError
-from .files import Row, notes_of, reading, rows_of
+from .files import Notes, Row, notes_of, reading, rows_of
 from .program import REFUSALS, program
-from .scales import Scale, digits_after_point
-from .why import clashes, refusal_of
+from .scales import Scale, decimal_text, digits_after_point
+from .why import refusal_of
 
 if TYPE_CHECKING:
     import pandas
 
     Input = Union[pandas.Series, str, os.PathLike[str]]
 
-
-@dataclasses.dataclass(frozen=True)
-class Convention:
-    """How readings become rows, as the options of `tilt-data series` have it. `tick` and `max_age` are durations as `1s`; `origin` a time,
-    by default the midnight before the first reading; `scale` a number, or `auto`. `output_scale` divides the values of the output, by
-    default the scale; a count has 1."""
-
-    tick: str = "1s"
-    origin: str | None = None
-    closed: str = "left"
-    event: bool = False
-    max_age: str | None = None
-    until: str | None = None
-    ties: str = "refuse"
-    scale: int | str = "auto"
-    output_scale: int | None = None
-
+# The arguments of `run` besides those of a convention.
+ARGUMENTS = ("by", "merge", "index", "exact", "inputs", "convention")
+# The moments that pandas has.
+FIRST, LAST = -2**63 + 1, 2**63 - 1
 
 class Query:
     """A query: its text, or the path of a file that has it."""
 
     def __init__(self, query: str | os.PathLike[str]) -> None:
         text = os.fspath(query)
-        if not re.search(r"[;\s]", text) or isinstance(query, os.PathLike):
+        if isinstance(query, os.PathLike) or names_file(text):
             with reading(text) as file:
                 self.text, self.name = file.read(), text
         else:
@@ -80,12 +68,15 @@ class Query:
     def run(self, data: Any = None, *, by: str | None = None, merge: bool = False, index: str = "interval", exact: bool = False,
             convention: Convention | None = None, inputs: Mapping[str, Any] | None = None, **options: Any) -> pandas.DataFrame:
         """What `tilt run` prints, as a DataFrame with the column `value`; see `run`."""
-        convention = convention_of(convention, options)
+        convention = convention_of(convention, options, ARGUMENTS)
+        check_one_of("index", index, ("interval", "start", "end"))
+        check_flag("merge", merge)
+        check_flag("exact", exact)
         named = dict(inputs or {})
         if by is not None:
             return self.by_key(data, by, merge, index, exact, convention, named)
         named = {**frame_inputs(data, self.inputs), **named}
-        bound, shape = bind(self, named, convention)
+        bound, shape = bind(self.inputs, named, convention)
         with tempfile.TemporaryDirectory(prefix="tilt-data-") as folder:
             words = [word for name, one in bound.items() for word in one.put(folder, name)]
             out = os.path.join(folder, "out.csv")
@@ -101,20 +92,15 @@ class Query:
                named: dict[str, Any]) -> pandas.DataFrame:
         """One run for each key of a column, one after another; the keys are the first level of the index."""
         import pandas
-        if not isinstance(data, pandas.DataFrame) or by not in data.columns:
-            raise Refused(f"by={by!r}: a DataFrame with this column was expected")
-        keyless = int(data[by].isna().sum())
-        if keyless:
-            raise Refused(f"by={by!r}: a key was expected in each row, and {keyless} of {len(data)} have none: dropna(subset=[{by!r}])")
-        if convention.origin is None and len(data):
-            first = min(moments_of(data.index, "the DataFrame"))
-            convention = dataclasses.replace(convention, origin=moment_text(first, 0)[:10])
-        if convention.scale == "auto":
-            columns = [column for column in data.columns if column in self.inputs]
-            digits = max((digits_of(value) for column in columns for value in data[column]), default=0)
-            convention = dataclasses.replace(convention, scale=10**digits)
+        check_keys(data, by)
+        parts = {name: data[name] for name in self.inputs if name in data.columns and name != by}
+        files, series = parted({**parts, **named})
+        clock, scale = shape_of(files, series, convention)
+        # All keys have the clock and the scale of the whole.
+        convention = dataclasses.replace(convention, tick=duration_text(clock.tick), origin=moment_text(clock.origin, 9), closed=clock.closed,
+                                         scale=scale)
         found = {key: self.run(part.drop(columns=by), merge=merge, index=index, exact=exact, convention=convention, inputs=named)
-                 for key, part in data.groupby(by, sort=True)}
+                 for key, part in data.groupby(by, sort=True, observed=True)}
         return pandas.concat(found, names=[by]) if found else pandas.DataFrame({"value": []})
 
     def live(self, convention: Convention | None = None, **options: Any) -> Live:
@@ -123,20 +109,14 @@ class Query:
 
 
 def run(query: str | os.PathLike[str] | Query, data: Any = None, **options: Any) -> pandas.DataFrame:
-    """Runs a query. The inputs are the columns of `data`, a DataFrame with a DatetimeIndex, or stand in `inputs={name: Series or file}`.
+    """Runs a query. The inputs are the columns of `data`, a DataFrame with a DatetimeIndex, or are in `inputs={name: Series or file}`.
 
-    A Series with a DatetimeIndex has readings, which become rows as `tilt-data series` makes them (`tick`, `origin`, `closed`, `event`,
-    `max_age`, `until`, `ties`, `scale`); one with an IntervalIndex has rows; a file is a series with its JSON file beside. `by` is a
-    column of keys, `merge` joins equal neighbours, `index` is `interval`, `start` or `end`, and `exact` gives Decimals in place of
-    floats."""
+    A Series with a DatetimeIndex has readings, which become rows by the options of a `Convention`: `tick`, `origin`, `closed`, `event`,
+    `max_age`, `until`, `ties`, `skip_empty`, `scale`, `scales` and `output_scale`. One with an IntervalIndex has rows, and a file is a series
+    with its JSON file beside it. `by` is a column of keys, `merge` (False) joins equal neighbours, `index` is `interval` (the default),
+    `start` or `end`, and `exact` (False) gives Decimals in place of floats. A wrong argument raises `Refused`, and what the program
+    rejects a `TiltError`."""
     return (query if isinstance(query, Query) else Query(query)).run(data, **options)
-
-
-def convention_of(convention: Convention | None, options: dict[str, Any]) -> Convention:
-    try:
-        return dataclasses.replace(convention or Convention(), **options)
-    except TypeError as error:
-        raise Refused(f"{error}; the options are {', '.join(field.name for field in dataclasses.fields(Convention))}") from error
 
 
 def renamed(place: Any, name: str) -> Any:
@@ -166,7 +146,44 @@ class Explained:
         return Explained(int(reach[1]), int(reach[2]), inputs, lets, (int(loops[1]), int(loops[2])))
 
 
+def span(data: Any = None, *, inputs: Mapping[str, Any] | None = None, convention: Convention | None = None,
+         **options: Any) -> tuple[int, int]:
+    """The ticks `(start, end]` over which the inputs have rows, by the arguments that `run` takes: a query has them in its `over`."""
+    import pandas
+    convention = convention_of(convention, options, ("inputs", "convention"))
+    convention = dataclasses.replace(convention, output_scale=convention.output_scale or 1)
+    frame = data.to_frame("the Series") if isinstance(data, pandas.Series) else data
+    named = {**frame_inputs(frame, [] if frame is None else list(frame.columns)), **(inputs or {})}
+    # Of a value counts only whether it is there.
+    there = {name: one.notna().map({True: 1}) if isinstance(one, pandas.Series) else one for name, one in named.items()}
+    bound, _ = bind(list(there), there, convention)
+    edges = [edge for rows in bound.values() for start, end, _ in rows.read() for edge in (start, end)]
+    if not edges:
+        raise Refused("the inputs have no readings, and no span")
+    return min(edges), max(edges)
+
+
 # Inputs
+
+
+def names_file(text: str) -> bool:
+    """Whether a text is the name of a file rather than a query, which has a `;` at its end."""
+    return not re.search(r"[;\s]", text) or text.endswith(".tilt") or os.path.isfile(text)
+
+
+def check_keys(data: Any, by: Any) -> None:
+    """Rejects a column of keys that isn't one column, or doesn't have one key in each row."""
+    import pandas
+    count = list(data.columns).count(by) if isinstance(data, pandas.DataFrame) else 0
+    if count != 1:
+        what = f"a DataFrame with this column was expected{f', not with {count} of this name' if count else ''}"
+        raise Refused(f"by={by!r}: {what}")
+    keyless = int(data[by].isna().sum())
+    if keyless:
+        raise Refused(f"by={by!r}: a key was expected in each row, and {keyless} of {len(data)} have none: dropna(subset=[{by!r}])")
+    strange = next((key for key in data[by] if not pandas.api.types.is_scalar(key)), None)
+    if strange is not None:
+        raise Refused(f"by={by!r}: a text, a number or a time was expected as a key, not {strange!r}: astype(str)")
 
 
 def frame_inputs(data: Any, names: list[str]) -> dict[str, Any]:
@@ -180,6 +197,9 @@ def frame_inputs(data: Any, names: list[str]) -> dict[str, Any]:
         return {names[0]: data}
     if not isinstance(data, pandas.DataFrame):
         raise Refused("a Series or a DataFrame was expected, or inputs={name: file}")
+    twice = next((name for name in names if list(data.columns).count(name) > 1), None)
+    if twice is not None:
+        raise Refused(f"the input {twice}: the DataFrame has {list(data.columns).count(twice)} columns of this name")
     return {name: data[name] for name in names if name in data.columns}
 
 
@@ -195,23 +215,53 @@ def moments_of(index: Any, what: str) -> list[int]:
     return [int(moment) for moment in index.asi8]
 
 
+def texts_of(series: Any) -> list[str | None]:
+    """The decimal texts of the values of a Series."""
+    # A Series gives its values of 32 bits as floats of 64, whose shortest text is another one.
+    values = series.to_numpy() if str(series.dtype) in ("float16", "float32") else series
+    return [text_of(value) for value in values]
+
+
 def text_of(value: Any) -> str | None:
     """The decimal text of a value of pandas; None for a missing one."""
     import pandas
     # What NA is compared to is NA, which is neither true nor false.
     if value is None or value is pandas.NA or value != value:
         return None
-    if isinstance(value, (decimal.Decimal, int)):
-        return str(value)
-    kind = type(value).__name__
-    if kind.startswith("float"):
-        return repr(float(value)) if kind in ("float", "float64") else str(value)
+    if isinstance(value, float):
+        return repr(float(value))
+    if type(value).__name__ in ("bool", "bool_"):
+        raise ValueError(f"{value} is no number: astype(int) makes 1 and 0 of True and False")
     return str(value)
 
 
-def digits_of(value: Any) -> int:
-    text = text_of(value)
-    return 0 if text is None else digits_after_point(text)
+def whole_values(name: str, series: Any, scale: int) -> list[int | None]:
+    """The values of a Series times the scale."""
+    read = Scale(scale)
+    try:
+        return [None if text is None else read.whole(text) for text in texts_of(series)]
+    except ValueError as error:
+        raise Refused(f"the input {name}: {in_python(str(error))}") from error
+
+
+def in_python(text: str) -> str:
+    """A message about a value, with the arguments of Python in place of options."""
+    text = re.sub(r"--scale 1(0*)( or --scale auto)?", lambda found: f"scale=1{found[1]}, scale='auto', or round({len(found[1])})", text)
+    text = text.replace("a smaller --scale", "a smaller scale=, or round()")
+    return text.replace("; where it means that there is no value, name it by --null", "; a missing value is NaN or None")
+
+
+def auto_scale(series: Mapping[str, Any]) -> int:
+    """The smallest power of ten that makes all values whole."""
+    return int(10**max((digits_in(name, one) for name, one in series.items()), default=0))
+
+
+def digits_in(name: str, series: Any) -> int:
+    """The most digits that a value of a Series has after its point."""
+    try:
+        return max((digits_after_point(text) for text in texts_of(series) if text is not None), default=0)
+    except ValueError as error:
+        raise Refused(f"the input {name}: {in_python(str(error))}") from error
 
 
 @dataclasses.dataclass
@@ -223,6 +273,12 @@ class Rows:
 
     def put(self, folder: str, name: str) -> list[str]:
         return [f"{name}={self.file}"] if self.file is not None else sessions.put_rows(folder, {name: self.rows})
+
+    def read(self) -> list[Row]:
+        if self.file is None:
+            return self.rows
+        with reading(self.file) as opened:
+            return list(rows_of(self.file, opened))
 
 
 @dataclasses.dataclass(frozen=True)
@@ -238,47 +294,52 @@ class Shape:
         from .table import merged
         kept = list(merged(rows) if merge else rows)
         starts, ends = self.times([row[0] for row in kept]), self.times([row[1] for row in kept])
+        shown: Any = starts if index == "start" else ends
         if index == "interval":
-            shown: Any = pandas.IntervalIndex.from_arrays(starts, ends, closed=self.clock.closed)
-        elif index in ("start", "end"):
-            shown = starts if index == "start" else ends
-        else:
-            raise Refused(f"index={index!r}: interval, start or end was expected")
-        values = [row[2] for row in kept]
-        frame = pandas.DataFrame({"value": self.values(values, exact)}, index=shown)
-        return frame
+            shown = pandas.IntervalIndex.from_arrays(starts, ends, closed=self.clock.closed)
+        return pandas.DataFrame({"value": self.values([row[2] for row in kept], exact)}, index=shown)
 
     def times(self, ticks: list[int]) -> pandas.DatetimeIndex:
         import pandas
-        times = pandas.to_datetime([self.clock.moment(tick) for tick in ticks], unit="ns", utc=True)
+        moments = [self.clock.moment(tick) for tick in ticks]
+        if moments and not FIRST <= min(moments) <= max(moments) <= LAST:
+            raise Refused("the output goes beyond 1677-09-21 to 2262-04-11, the times that pandas has: give the query a shorter `over`")
+        times = pandas.to_datetime(moments, unit="ns", utc=True)
         return times.tz_localize(None) if self.zone is None else times.tz_convert(self.zone)
 
     def values(self, values: list[int | None], exact: bool) -> list[Any]:
         if exact:
-            return [None if value is None else decimal.Decimal(value) / self.scale for value in values]
+            return [None if value is None else decimal.Decimal(decimal_text(value, self.scale)) for value in values]
         if self.scale == 1:
             return list(values)
         return [None if value is None else value / self.scale for value in values]
 
 
-def bind(query: Query, named: dict[str, Any], convention: Convention) -> tuple[dict[str, Rows], Shape]:
+def bind(names: list[str], named: dict[str, Any], convention: Convention) -> tuple[dict[str, Rows], Shape]:
     """Each input as rows on one clock, and how the output is shown."""
-    import pandas
-    missing = [name for name in query.inputs if name not in named]
-    other = [name for name in named if name not in query.inputs]
+    missing = [name for name in names if name not in named]
+    other = [name for name in named if name not in names]
     if missing or other:
         what = f"{missing[0]} isn't given" if missing else f"not {other[0]}"
-        raise Refused(f"the query reads {', '.join(query.inputs) or 'no inputs'}: {what}")
+        raise Refused(f"the query reads {', '.join(names) or 'no inputs'}: {what}")
+    convention.check_names(names)
+    files, series = parted(named)
+    clock, scale = shape_of(files, series, convention)
+    bound = {name: Rows([], file) for name, file in files.items()}
+    bound |= {name: Rows(list(rows_from(name, one, clock, convention, scale))) for name, one in series.items()}
+    zone = next((zone_in(one.index) for one in series.values()), None)
+    return {name: bound[name] for name in names}, Shape(clock, zone, int(convention.output_scale or scale))
+
+
+def parted(named: Mapping[str, Any]) -> tuple[dict[str, str], dict[str, Any]]:
+    """The inputs that are files, and those that are Series."""
+    import pandas
     files = {name: os.fspath(one) for name, one in named.items() if isinstance(one, (str, os.PathLike))}
     series = {name: one for name, one in named.items() if isinstance(one, pandas.Series)}
     for name in named:
         if name not in files and name not in series:
             raise Refused(f"the input {name}: a Series or the name of a file was expected, not {type(named[name]).__name__}")
-    clock, scale = shape_of(files, series, convention)
-    bound = {name: Rows([], file) for name, file in files.items()}
-    bound |= {name: Rows(list(rows_from(name, one, clock, convention, scale))) for name, one in series.items()}
-    zone = next((zone_in(one.index) for one in series.values()), None)
-    return {name: bound[name] for name in query.inputs}, Shape(clock, zone, convention.output_scale or scale)
+    return files, series
 
 
 def zone_in(index: Any) -> Any:
@@ -287,31 +348,92 @@ def zone_in(index: Any) -> Any:
 
 
 def shape_of(files: dict[str, str], series: dict[str, Any], convention: Convention) -> tuple[Clock, int]:
-    """The clock and the scale: of the files, where there are some with JSON files, else of the convention and the readings."""
-    known = [notes for notes in map(notes_of, files.values()) if notes is not None]
-    clash = clashes(["query", *(f"{name}={file}" for name, file in files.items())])
-    if clash is not None:
-        raise Refused(clash)
+    """The clock and the scale: of the files, if some have JSON files, else of the convention and the readings."""
+    found = {name: notes_of(file) for name, file in files.items()}
+    known = {name: notes for name, notes in found.items() if notes is not None}
+    closed = closed_of(known, series, convention)
+    clock = Clock(duration_of(convention.tick or "1s"), 0, closed)
     if known:
-        return known[0].clock, known[0].scale
-    starts = [min(starts_of(name, one.index)) for name, one in series.items() if len(one)]
-    if convention.origin is not None:
-        origin = moment_read(convention.origin)
+        clock = dataclasses.replace(shared_clock(known, convention), closed=closed)
+    elif convention.origin is not None:
+        clock = dataclasses.replace(clock, origin=moment_read("origin", convention.origin))
     else:
-        origin = moment_read(moment_text(min(starts), 0)[:10]) if starts else 0
-    scale = convention.scale
-    if scale == "auto":
-        scale = 10**max((digits_of(value) for one in series.values() for value in one), default=0)
-    if not isinstance(scale, int) or scale < 1:
-        raise Refused(f"scale={scale!r}: a whole number above 0 or 'auto' was expected")
-    return Clock(duration_of(convention.tick), origin, convention.closed), scale
+        clock = dataclasses.replace(clock, origin=first_midnight(series))
+    return clock, scale_of(known, series, convention)
 
 
-def moment_read(text: str) -> int:
+def shared_clock(known: dict[str, Notes], convention: Convention) -> Clock:
+    """The clock of the files. They have the same tick and origin, and the caller gives no others."""
+    (first, notes), *others = known.items()
+    clock = notes.clock
+    for name, other in others:
+        if (other.clock.tick, other.clock.origin) != (clock.tick, clock.origin):
+            raise Refused(f"the series {first} and {name} have other ticks or origins: write one --like the other")
+    if convention.tick is not None and duration_of(convention.tick) != clock.tick:
+        raise Refused(f"tick={convention.tick!r}: the file of the input {first} has the tick {duration_text(clock.tick)}")
+    if convention.origin is not None and moment_read("origin", convention.origin) != clock.origin:
+        raise Refused(f"origin={convention.origin!r}: the file of the input {first} has the origin {moment_text(clock.origin, 9)}")
+    return clock
+
+
+def closed_of(known: dict[str, Notes], series: dict[str, Any], convention: Convention) -> str:
+    """Which edge of a tick belongs to it: by the files and the intervals, which agree, or by the caller."""
+    files = {name: notes.clock.closed for name, notes in known.items()}
+    intervals = {name: closed_in(name, one.index) for name, one in series.items()}
+    has = {**files, **{name: closed for name, closed in intervals.items() if closed is not None}}
+    closed = convention.closed
+    if closed is None:
+        if len(set(has.values())) > 1:
+            told = ", ".join(f"{name} is closed {closed!r}" for name, closed in has.items())
+            raise Refused(f"the inputs don't have the same closed edge: {told}; closed= says which one the files have")
+        return next(iter(has.values()), "left")
+    # Files that differ from each other are read as the caller says; what all of them, or intervals, say isn't overridden.
+    own = {name: its for name, its in has.items() if name not in files or len(set(files.values())) == 1}
+    other = next((name for name, its in own.items() if its != closed), None)
+    if other is not None:
+        cure = "index.set_closed() changes it" if other in series else "omit closed="
+        raise Refused(f"closed={closed!r}: the input {other} is closed {own[other]!r}; {cure}")
+    return closed
+
+
+def closed_in(name: str, index: Any) -> str | None:
+    """The closed edge of intervals; None for readings."""
+    import pandas
+    if not isinstance(index, pandas.IntervalIndex):
+        return None
+    if index.closed not in ("left", "right"):
+        raise Refused(f"the input {name}: intervals that are closed 'left' or 'right' were expected, not {index.closed!r}: index.set_closed()")
+    return str(index.closed)
+
+
+def first_midnight(series: dict[str, Any]) -> int:
+    """The midnight before the first reading, in the zone of the first Series. A day that has no midnight starts at its first moment."""
+    import pandas
+    starts = [min(starts_of(name, one.index)) for name, one in series.items() if len(one)]
+    if not starts:
+        return 0
+    zone = next(zone_in(one.index) for one in series.values())
     try:
-        return Moments().iso(str(text))
-    except ValueError as error:
-        raise Refused(str(error)) from error
+        local = pandas.Timestamp(min(starts), tz="UTC").tz_convert(zone or "UTC").tz_localize(None).normalize()
+        return int(local.tz_localize(zone or "UTC", ambiguous=True, nonexistent="shift_forward").value)
+    except (ValueError, OverflowError) as error:
+        raise Refused(f"the midnight before the first reading, {moment_text(min(starts), 9)}, is no time of pandas: give origin=") from error
+
+
+def scale_of(known: dict[str, Notes], series: dict[str, Any], convention: Convention) -> int:
+    """The scale of the Series and of the output: one for all inputs, unless the caller says that they differ."""
+    scales = {name: notes.scale for name, notes in known.items()}
+    given = None if convention.scale == "auto" else int(convention.scale)
+    distinct = {*scales.values()} | ({given} if given is not None else set())
+    if len(distinct) <= 1:
+        return distinct.pop() if distinct else auto_scale(series)
+    told = ", ".join([f"{name} has {scale}" for name, scale in scales.items()] + ([] if given is None else [f"scale={given}"]))
+    if convention.scales == "same":
+        raise Refused(f"the scales differ: {told}; write the series --like each other, or say scales='differ' and output_scale=N")
+    if convention.output_scale is None or given is None and series:
+        what = "output_scale=N" if convention.output_scale is None else "scale=N for the Series"
+        raise Refused(f"scales='differ': {what} is needed; {told}")
+    return given or next(iter(scales.values()))
 
 
 def starts_of(name: str, index: Any) -> list[int]:
@@ -322,41 +444,48 @@ def starts_of(name: str, index: Any) -> list[int]:
 def rows_from(name: str, series: Any, clock: Clock, convention: Convention, scale: int) -> Iterator[Row]:
     """The rows of a Series: of its intervals, or of its readings by the convention."""
     import pandas
-    read = Scale(scale)
-    texts = [text_of(value) for value in series]
-    try:
-        values = [None if text is None else read.whole(text) for text in texts]
-    except ValueError as error:
-        raise Refused(f"the input {name}: {error}") from error
+    values = whole_values(name, series, scale)
+    starts = starts_of(name, series.index)
     if isinstance(series.index, pandas.IntervalIndex):
-        ends = moments_of(series.index.right, f"the input {name}")
-        for start, end, value in zip(starts_of(name, series.index), ends, values):
-            yield on_ticks(name, clock, start), on_ticks(name, clock, end), value
+        check_closed(name, series.index, clock)
+        for start, end, value in zip(starts, moments_of(series.index.right, f"the input {name}"), values):
+            yield within(name, (on_ticks(name, clock, start), on_ticks(name, clock, end), value))
         return
-    converter = Converter(clock, rule_of(clock, convention))
-    for moment, value in zip(starts_of(name, series.index), values):
-        row = pushed(name, converter, moment, value)
+    converter = Converter(clock, convention.rule(name, clock))
+    for moment, value in zip(starts, values):
+        row = None if value is None and convention.skip_empty else pushed(name, converter, moment, value)
         if row is not None:
             yield row
-    final = converter.finish(None if convention.until is None else clock.start(moment_read(convention.until)))
+    final = converter.finish(until_of(clock, convention))
     if final is not None:
-        yield final
+        yield within(name, final)
 
 
-def rule_of(clock: Clock, convention: Convention) -> Rule:
-    age = None if convention.max_age is None else clock.ticks(duration_of(convention.max_age), "max_age")
-    return Rule(not convention.event, age, convention.ties)
+def until_of(clock: Clock, convention: Convention) -> int | None:
+    return None if convention.until is None else clock.start(moment_read("until", convention.until))
+
+
+def check_closed(name: str, index: Any, clock: Clock) -> None:
+    if index.closed != clock.closed:
+        raise Refused(f"the input {name}: its intervals are closed {index.closed!r}, not {clock.closed!r}: closed= or index.set_closed()")
+
+
+def within(name: str, row: Row) -> Row:
+    """A row with ticks that the program takes."""
+    if not (-TIMES <= row[0] and row[1] <= TIMES):
+        raise Refused(f"the input {name}: a time is more than {TIMES} ticks from the origin: a longer tick=, or a nearer origin=")
+    return row
 
 
 def pushed(name: str, converter: Converter, moment: int, value: int | None) -> Row | None:
-    from .convert import Late, Tie
     try:
-        return converter.push(moment, value)
+        row = converter.push(moment, value)
     except Tie as error:
         what = f"two readings in one tick at {moment_text(moment, 9)}: ties='last', 'first' or 'spread', or a shorter tick"
         raise Refused(f"the input {name}: {what}") from error
     except Late as error:
         raise Refused(f"the input {name}: the reading at {moment_text(moment, 9)} lies before the one before it: sort_index()") from error
+    return None if row is None else within(name, row)
 
 
 def on_ticks(name: str, clock: Clock, moment: int) -> int:
@@ -380,8 +509,9 @@ class Taken:
     zoned: bool = False
 
     @staticmethod
-    def nothing(names: list[str], clock: Clock, rule: Rule) -> Taken:
-        return Taken({name: Converter(clock, rule) for name in names}, {name: [] for name in names}, {name: None for name in names})
+    def nothing(names: list[str], clock: Clock, convention: Convention) -> Taken:
+        converters = {name: Converter(clock, convention.rule(name, clock)) for name in names}
+        return Taken(converters, {name: [] for name in names}, {name: None for name in names})
 
     def copy(self) -> Taken:
         converters = {name: dataclasses.replace(converter) for name, converter in self.converters.items()}
@@ -405,11 +535,12 @@ class Live:
 
     def __init__(self, query: Query, convention: Convention) -> None:
         if convention.origin is None or convention.scale == "auto":
-            raise Refused("a run by sessions has to be told its origin and its scale beforehand")
+            raise Refused("a run by sessions needs its origin and its scale beforehand: origin='2026-03-01', scale=10")
+        convention.check_names(query.inputs)
         self.query = query
         self.convention = convention
         self.clock, self.scale = shape_of({}, {}, convention)
-        self.taken = Taken.nothing(query.inputs, self.clock, rule_of(self.clock, convention))
+        self.taken = Taken.nothing(query.inputs, self.clock, convention)
         self.done: int | None = None
         self.folder = tempfile.TemporaryDirectory(prefix="tilt-data-")
 
@@ -446,20 +577,19 @@ class Live:
 
     def take(self, taken: Taken, name: str, series: Any) -> None:
         import pandas
+        if not isinstance(series, pandas.Series):
+            raise Refused(f"the input {name}: a Series was expected, not {type(series).__name__}")
         taken.note_zone(series.index)
         if isinstance(series.index, pandas.IntervalIndex):
             for whole in rows_from(name, series, self.clock, self.convention, self.scale):
                 taken.held[name].append(self.checked(name, whole, taken.reached[name]))
                 taken.reached[name] = whole[1]
             return
-        read = Scale(self.scale)
         converter = taken.converters[name]
-        for moment, value in zip(starts_of(name, series.index), series):
-            text = text_of(value)
-            try:
-                row = pushed(name, converter, moment, None if text is None else read.whole(text))
-            except ValueError as error:
-                raise Refused(f"the input {name}: {error}") from error
+        for moment, value in zip(starts_of(name, series.index), whole_values(name, series, self.scale)):
+            if value is None and self.convention.skip_empty:
+                continue
+            row = pushed(name, converter, moment, value)
             if row is not None:
                 taken.held[name].append(row)
             taken.reached[name] = converter.start
@@ -472,7 +602,7 @@ class Live:
         return row
 
     def frame(self, rows: list[Row]) -> pandas.DataFrame:
-        return Shape(self.clock, self.taken.zone, self.convention.output_scale or self.scale).frame(rows)
+        return Shape(self.clock, self.taken.zone, int(self.convention.output_scale or self.scale)).frame(rows)
 
     def path(self, name: str) -> str:
         return os.path.join(self.folder.name, name)
@@ -501,11 +631,11 @@ class Live:
     def end(self) -> pandas.DataFrame:
         """The last session, over what is left. Where it fails nothing is changed, and it may be called again."""
         taken = self.going().copy()
-        until = self.convention.until
+        until = until_of(self.clock, self.convention)
         for name, converter in taken.converters.items():
-            row = converter.finish(None if until is None else self.clock.start(moment_read(until)))
+            row = converter.finish(until)
             if row is not None:
-                taken.held[name].append(row)
+                taken.held[name].append(within(name, row))
         frame = self.frame(self.session(taken, None))
         self.folder.cleanup()
         return frame
