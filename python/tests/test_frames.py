@@ -6,6 +6,7 @@ import json
 import os
 import pathlib
 import random
+import warnings
 
 import pytest
 
@@ -144,6 +145,42 @@ def test_inputs_of_other_scales_are_rejected_unless_that_is_meant(tmp_path, monk
         run("input x; input y; input z; emit x over (0, 600];", inputs={**inputs, "z": series}, scales="differ", output_scale=1)
     # A Series has the scale of the file: 20.5 * 20.5
     assert run(query, inputs={"x": "x.csv", "y": series}, output_scale=100)["value"].tolist() == [pytest.approx(420.25)]
+
+
+LOW = "input x; let low = ifnull(x < 90, false); emit x when low over (0, 600];"
+ONE_DECIMAL = pandas.Series([85, 96.5], pandas.date_range("2026-03-01", periods=2, freq="1s"))
+
+
+@pytest.mark.parametrize("query, note", [
+    (LOW, "90 in the query is 9.0"), ("input x; let limit = -90; emit x when x < limit over (0, 9];", "90 in the query is 9.0"),
+    ("input x; emit count(x[t-9:t]) over (0, 9];", "the output needs output_scale=1"),
+    ("input x; emit 1 when x > 0 over (0, 9];", "1 in the query is 0.1"), ("input x; emit x + 1 over (0, 9];", "1 in the query is 0.1"),
+    ("input x; emit x * x over (0, 9];", "the output needs output_scale=100"),
+    ("input x; emit x when x * x > 8000 over (0, 9];", "8000 in the query is 80.00"),
+    ("input x; emit 100 * x / x over (0, 9];", "the output needs output_scale=1"),
+    ("input x; emit if x > 0 then 7 else x over (0, 9];", "7 in the query is 0.7"),
+])
+def test_a_scale_by_the_data_that_changes_a_query_is_a_warning(query, note):
+    with pytest.warns(UserWarning) as caught:
+        run(query, ONE_DECIMAL)
+    assert [str(one.message) for one in caught] == [f"values times 10: {note}; scale=10 says that this is meant"]
+    # It is at the line of the caller, here and of a method.
+    assert [one.filename for one in caught] == [__file__]
+    with pytest.warns(UserWarning) as caught:
+        Query(query).run(ONE_DECIMAL.to_frame("x").assign(key=["a", "b"]), by="key")
+    assert [one.filename for one in caught] == [__file__]
+
+
+@pytest.mark.parametrize("query, data, options", [
+    (LOW, ONE_DECIMAL, {"scale": 10}), (LOW, ONE_DECIMAL.round(), {}), ("input x; emit x when x > 0 over (0, 9];", ONE_DECIMAL, {}),
+    ("input x; emit avg(x[t-60:t]) / 2 over (0, 9] every 3;", ONE_DECIMAL, {}),
+    ("input x; emit x when count(x[t-60:t]) > 30 over (0, 9];", ONE_DECIMAL, {}),
+    ("input x; emit count(x[t-60:t]) over (0, 9];", ONE_DECIMAL, {"output_scale": 1}),
+])
+def test_a_scale_that_changes_nothing_is_no_warning(query, data, options):
+    with warnings.catch_warnings():
+        warnings.simplefilter("error")
+        run(query, data, **options)
 
 
 @pytest.mark.parametrize("options, what", [

@@ -10,13 +10,16 @@ import os
 import pathlib
 import re
 import subprocess
+import sys
 import tempfile
+import warnings
 from typing import TYPE_CHECKING, Any, Iterator, Mapping, Union
 
 from . import sessions
 from .clock import TIMES, Clock, duration_of, duration_text, moment_text
 from .convention import Convention, check_flag, check_one_of, convention_of, moment_read
 from .convert import Converter, Late, Tie
+from .degrees import scale_notes
 from .errors import Refused, TiltError
 from .files import Notes, Row, notes_of, reading, rows_of
 from .program import REFUSALS, program
@@ -76,7 +79,9 @@ class Query:
         if by is not None:
             return self.by_key(data, by, merge, index, exact, convention, named)
         named = {**frame_inputs(data, self.inputs), **named}
-        bound, shape = bind(self.inputs, named, convention)
+        bound, shape, scale = bind(self.inputs, named, convention)
+        if all(rows.file is None for rows in bound.values()):
+            self.warn_of_scale(convention, scale)
         with tempfile.TemporaryDirectory(prefix="tilt-data-") as folder:
             words = [word for name, one in bound.items() for word in one.put(folder, name)]
             out = os.path.join(folder, "out.csv")
@@ -96,12 +101,20 @@ class Query:
         parts = {name: data[name] for name in self.inputs if name in data.columns and name != by}
         files, series = parted({**parts, **named})
         clock, scale = shape_of(files, series, convention)
+        if not files:
+            self.warn_of_scale(convention, scale)
         # All keys have the clock and the scale of the whole.
-        convention = dataclasses.replace(convention, tick=duration_text(clock.tick), origin=moment_text(clock.origin, 9), closed=clock.closed,
-                                         scale=scale)
+        shared = {"tick": duration_text(clock.tick), "origin": moment_text(clock.origin, 9), "closed": clock.closed, "scale": scale}
+        convention = convention_of(convention, shared)
         found = {key: self.run(part.drop(columns=by), merge=merge, index=index, exact=exact, convention=convention, inputs=named)
                  for key, part in data.groupby(by, sort=True, observed=True)}
         return pandas.concat(found, names=[by]) if found else pandas.DataFrame({"value": []})
+
+    def warn_of_scale(self, convention: Convention, scale: int) -> None:
+        """Warns if the data have a scale that the caller didn't give, and it changes what the query means."""
+        notes = scale_notes(self.text, scale, convention.output_scale) if convention.scale == "auto" and scale != 1 else []
+        if notes:
+            warnings.warn(f"values times {scale}: {'; '.join(notes)}; scale={scale} says that this is meant", stacklevel=level_of_caller())
 
     def live(self, convention: Convention | None = None, **options: Any) -> Live:
         """A run by sessions, which takes rows as they come."""
@@ -112,10 +125,11 @@ def run(query: str | os.PathLike[str] | Query, data: Any = None, **options: Any)
     """Runs a query. The inputs are the columns of `data`, a DataFrame with a DatetimeIndex, or are in `inputs={name: Series or file}`.
 
     A Series with a DatetimeIndex has readings, which become rows by the options of a `Convention`: `tick`, `origin`, `closed`, `event`,
-    `max_age`, `until`, `ties`, `skip_empty`, `scale`, `scales` and `output_scale`. One with an IntervalIndex has rows, and a file is a series
-    with its JSON file beside it. `by` is a column of keys, `merge` (False) joins equal neighbours, `index` is `interval` (the default),
-    `start` or `end`, and `exact` (False) gives Decimals in place of floats. A wrong argument raises `Refused`, and what the program
-    rejects a `TiltError`."""
+    `max_age`, `until`, `ties`, `scale`, `output_scale`, `scales` and `skip_empty`. One with an IntervalIndex has rows, and a file is a
+    series with its JSON file beside it. `by` is a column of keys, `merge` (False) joins equal neighbours, `index` is `interval` (the
+    default), `start` or `end`, and `exact` (False) gives Decimals in place of floats. A wrong argument raises `Refused`, and what the
+    program rejects a `TiltError`. If the data have a scale that the caller doesn't give, and it changes what a number of the query or the
+    output means, that is a warning."""
     return (query if isinstance(query, Query) else Query(query)).run(data, **options)
 
 
@@ -156,7 +170,7 @@ def span(data: Any = None, *, inputs: Mapping[str, Any] | None = None, conventio
     named = {**frame_inputs(frame, [] if frame is None else list(frame.columns)), **(inputs or {})}
     # Of a value counts only whether it is there.
     there = {name: one.notna().map({True: 1}) if isinstance(one, pandas.Series) else one for name, one in named.items()}
-    bound, _ = bind(list(there), there, convention)
+    bound, _, _ = bind(list(there), there, convention)
     edges = [edge for rows in bound.values() for start, end, _ in rows.read() for edge in (start, end)]
     if not edges:
         raise Refused("the inputs have no readings, and no span")
@@ -164,6 +178,14 @@ def span(data: Any = None, *, inputs: Mapping[str, Any] | None = None, conventio
 
 
 # Inputs
+
+
+def level_of_caller() -> int:
+    """Which of the callers of a method that warns, counted from itself as 1, is the first outside of this package."""
+    level, frame = 1, sys._getframe(1)
+    while frame.f_back is not None and frame.f_globals["__name__"].startswith("tilt_data."):
+        level, frame = level + 1, frame.f_back
+    return level
 
 
 def names_file(text: str) -> bool:
@@ -315,8 +337,8 @@ class Shape:
         return [None if value is None else value / self.scale for value in values]
 
 
-def bind(names: list[str], named: dict[str, Any], convention: Convention) -> tuple[dict[str, Rows], Shape]:
-    """Each input as rows on one clock, and how the output is shown."""
+def bind(names: list[str], named: dict[str, Any], convention: Convention) -> tuple[dict[str, Rows], Shape, int]:
+    """Each input as rows on one clock, how the output is shown, and the scale of the Series."""
     missing = [name for name in names if name not in named]
     other = [name for name in named if name not in names]
     if missing or other:
@@ -328,7 +350,7 @@ def bind(names: list[str], named: dict[str, Any], convention: Convention) -> tup
     bound = {name: Rows([], file) for name, file in files.items()}
     bound |= {name: Rows(list(rows_from(name, one, clock, convention, scale))) for name, one in series.items()}
     zone = next((zone_in(one.index) for one in series.values()), None)
-    return {name: bound[name] for name in names}, Shape(clock, zone, int(convention.output_scale or scale))
+    return {name: bound[name] for name in names}, Shape(clock, zone, int(convention.output_scale or scale)), scale
 
 
 def parted(named: Mapping[str, Any]) -> tuple[dict[str, str], dict[str, Any]]:
@@ -402,7 +424,8 @@ def closed_in(name: str, index: Any) -> str | None:
     if not isinstance(index, pandas.IntervalIndex):
         return None
     if index.closed not in ("left", "right"):
-        raise Refused(f"the input {name}: intervals that are closed 'left' or 'right' were expected, not {index.closed!r}: index.set_closed()")
+        what = f"intervals that are closed 'left' or 'right' were expected, not {index.closed!r}: index.set_closed()"
+        raise Refused(f"the input {name}: {what}")
     return str(index.closed)
 
 
@@ -417,7 +440,8 @@ def first_midnight(series: dict[str, Any]) -> int:
         local = pandas.Timestamp(min(starts), tz="UTC").tz_convert(zone or "UTC").tz_localize(None).normalize()
         return int(local.tz_localize(zone or "UTC", ambiguous=True, nonexistent="shift_forward").value)
     except (ValueError, OverflowError) as error:
-        raise Refused(f"the midnight before the first reading, {moment_text(min(starts), 9)}, is no time of pandas: give origin=") from error
+        what = f"the midnight before the first reading, {moment_text(min(starts), 9)}"
+        raise Refused(f"{what}, is no time that pandas has: give origin=") from error
 
 
 def scale_of(known: dict[str, Notes], series: dict[str, Any], convention: Convention) -> int:

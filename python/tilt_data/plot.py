@@ -16,8 +16,8 @@ from .scales import GREATEST, LEAST
 
 HELP = """Draws series and outputs. NAME=FILE has a panel of its own, and after it +NAME=FILE is drawn into the same panel,
 +limit:NAME=FILE as a dashed line, and +band:NAME=FILE as a shaded band where FILE has a value other than 0. A value that holds is a step,
-events are dots, and null is a gap. What is shorter than a pixel is drawn one pixel wide, and a gap that is shorter isn't drawn. One name has
-one colour in all panels. The clock and the scale are those of the JSON file beside each file, or of the series that --like names; if there
+events are dots, and null is a gap. What is shorter than a pixel is drawn one pixel wide, and a gap that is shorter isn't drawn. One name
+has one colour in all panels. The clock and the scale are those of the JSON file beside each file, or of the series that --like names; if there
 is neither, the axis has ticks. One FILE can be - for standard input."""
 COLOURS = ["#1f5fa8", "#2a7f4f", "#7a3e9d", "#8a6d1d", "#137c86", "#5b5b5b"]
 LIMIT, BAND = "#b3261e", "#f2a33a"
@@ -35,8 +35,8 @@ STEPS = [step * unit for unit, steps in (
 
 @dataclasses.dataclass
 class Drawn:
-    """What is drawn: a name, its file, how (`step`, `dots`, `limit`, `band`), its clock and scale, its unit, and the copy of the file if it
-    is a pipe."""
+    """What is drawn: a name, its file, how (`step`, `dots`, `limit`, `band`), its clock and scale, its unit, and the copy of the file if
+    it is a pipe."""
 
     name: str
     file: str
@@ -228,7 +228,7 @@ def joined(rows: Iterable[tuple[int, int, int]], near: float) -> Iterator[tuple[
 
 
 def bands(rows: Iterable[tuple[int, int, int]], lo: int, hi: int) -> Iterator[tuple[float, float]]:
-    """The bands in ticks after `lo`. None is narrower than a column of pixels, since it would leave no trace; those within one are joined."""
+    """The bands in ticks after `lo`. None is narrower than a column of pixels, which would leave no trace; those within one are joined."""
     column = (hi - lo) / COLUMNS
     for start, end in joined(rows, column):
         begin = min(float(start - lo), hi - lo - column)
@@ -248,8 +248,8 @@ def stretches(rows: Iterable[tuple[int, int, int]], near: float) -> Iterator[lis
 
 
 def steps(rows: Iterable[tuple[int, int, int]], scale: int, lo: int = 0, column: float = 0.0) -> tuple[list[float], list[float]]:
-    """The corners of the steps, in ticks after `lo`, with a break at each gap that is wider than a column of pixels. What `thinned` left out
-    is narrower, so that it breaks no line. A stretch that is narrower than a column is drawn as wide as one."""
+    """The corners of the steps, in ticks after `lo`, with a break at each gap that is wider than a column of pixels. What `thinned` left
+    out is narrower, so that it breaks no line. A stretch that is narrower than a column is drawn as wide as one."""
     times: list[float] = []
     values: list[float] = []
     for stretch in stretches(rows, column):
@@ -291,8 +291,8 @@ def draw_one(axes: Any, one: Drawn, lo: int, hi: int, colour: str) -> Any:
 
 
 def draw_legend(axes: Any, entries: list[tuple[Any, str]]) -> None:
-    legend = axes.legend([drawn for drawn, _ in entries], [""] * len(entries), loc="lower left", bbox_to_anchor=(0, 1), ncol=5, frameon=False,
-                         borderaxespad=0.1, handlelength=1.6)
+    legend = axes.legend([drawn for drawn, _ in entries], [""] * len(entries), loc="lower left", bbox_to_anchor=(0, 1), ncol=5,
+                         frameon=False, borderaxespad=0.1, handlelength=1.6)
     # A label that starts with `_` would have no entry.
     for text, (_, name) in zip(legend.get_texts(), entries):
         text.set_text(escaped(name))
