@@ -269,8 +269,8 @@ def whole_values(name: str, series: Any, scale: int) -> list[int | None]:
 def in_python(text: str) -> str:
     """A message about a value, with the arguments of Python in place of options."""
     text = re.sub(r"--scale 1(0*)( or --scale auto)?", lambda found: f"scale=1{found[1]}, scale='auto', or round({len(found[1])})", text)
-    text = text.replace("a smaller --scale", "a smaller scale=, or round()")
-    return text.replace("; where it means that there is no value, name it by --null", "; a missing value is NaN or None")
+    text = re.sub("; (if|where) it means that there is no value, name it by --null", "; a missing value is NaN or None", text)
+    return text.replace("a smaller --scale", "a smaller scale=, or round()").replace("--scale", "scale=")
 
 
 def auto_scale(series: Mapping[str, Any]) -> int:
@@ -446,7 +446,8 @@ def first_midnight(series: dict[str, Any]) -> int:
 
 def scale_of(known: dict[str, Notes], series: dict[str, Any], convention: Convention) -> int:
     """The scale of the Series and of the output: one for all inputs, unless the caller says that they differ."""
-    scales = {name: notes.scale for name, notes in known.items()}
+    # A helper series, as of weekdays, counts: it has no scale that another one could have.
+    scales = {name: notes.scale for name, notes in known.items() if notes.kind != "helper"}
     given = None if convention.scale == "auto" else int(convention.scale)
     distinct = {*scales.values()} | ({given} if given is not None else set())
     if len(distinct) <= 1:
