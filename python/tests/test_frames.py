@@ -52,6 +52,12 @@ def test_decimals_are_exact():
     assert list(got["value"]) == [decimal.Decimal("0.1"), decimal.Decimal("1234567890123.12345")]
 
 
+@pytest.mark.parametrize("missing", ["NaN", "sNaN"])
+def test_a_decimal_that_is_no_number_is_missing(missing):
+    temp = pandas.Series([decimal.Decimal(missing), decimal.Decimal("1.5")], pandas.date_range("2026-03-01", periods=2, freq="1s"))
+    assert list(run("input temp; emit temp over (0, 600];", temp, exact=True)["value"]) == [decimal.Decimal("1.5")]
+
+
 def test_decimals_are_exact_in_any_context_of_the_caller():
     temp = pandas.Series([123456.789, -0.001], pandas.to_datetime(["2026-03-01 00:01", "2026-03-01 00:02"]))
     with decimal.localcontext() as context:
@@ -380,6 +386,9 @@ def test_wrong_arguments_of_live_span_and_convention(options):
     (lambda: run("input x; emit x over (0, 10];", inputs={"x": intervals((0, 10))}, closed="right"),
      "closed='right': the input x is closed 'left'; index.set_closed"),
     (lambda: run(AVERAGE, pandas.Series([True, False], readings(2).index)), "True is no number: astype"),
+    (lambda: run(AVERAGE, pandas.Series([1, 2], pandas.DatetimeIndex(["2026-03-01", pandas.NaT]))), "a time is missing in its index"),
+    (lambda: run("input x; emit x over (0, 10];", inputs={"x": intervals((0, 10), (15, 20))}, tick="10min"),
+     "the input x: the interval end 2026-03-01T00:15:00.000000000Z isn't on a tick: a shorter tick"),
     (lambda: run(AVERAGE, two_columns()), "the input temp: the DataFrame has 2 columns of this name"),
     (lambda: run(AVERAGE, pandas.concat([readings(2), readings(2)], axis=1, keys=["k", "k"]), by="k"), "not with 2 of this name"),
     (lambda: run(AVERAGE, readings(2).to_frame().assign(k=[(1, 2), (3, 4)]), by="k"), r"by='k': a text, a number or a time .* not \(1, 2\)"),

@@ -14,7 +14,7 @@ import pytest
 from tilt_data.clock import Clock
 from tilt_data.errors import Refused
 from tilt_data.files import Notes
-from tilt_data.plot import axis_of, bands, clipped, joined, steps, thinned
+from tilt_data.plot import BAND, LIMIT, Drawn, axis_of, bands, clipped, colours_of, joined, steps, thinned
 
 MINUTE = 60 * 10**9
 
@@ -196,6 +196,15 @@ def test_a_picture(told):
     # The same words draw the same picture, and nothing is left beside it.
     assert text == pathlib.Path("b.svg").read_text() and pathlib.Path("c.png").read_bytes().startswith(b"\x89PNG")
     assert not [name for name in os.listdir() if name.startswith(".")]
+
+
+def test_one_name_has_one_colour_in_all_panels():
+    def drawn(name: str, form: str = "step") -> Drawn:
+        return Drawn(name, f"{name}.csv", form, None, 1)
+
+    panels = [[drawn("band", "band"), drawn("x"), drawn("limit", "limit")], [drawn("y", "dots"), drawn("x")], [drawn("z"), drawn("y")]]
+    colours = colours_of(panels)
+    assert sorted(colours) == [("x", True), ("y", True), ("z", True)] and len({*colours.values(), LIMIT, BAND}) == 5
 
 
 def test_a_picture_without_a_clock_has_ticks(told):

@@ -247,6 +247,8 @@ def texts_of(series: Any) -> list[str | None]:
 def text_of(value: Any) -> str | None:
     """The decimal text of a value of pandas; None for a missing one."""
     import pandas
+    if isinstance(value, decimal.Decimal):
+        return None if value.is_nan() else str(value)
     # What NA is compared to is NA, which is neither true nor false.
     if value is None or value is pandas.NA or value != value:
         return None
