@@ -6,6 +6,7 @@ import json
 import os
 import pathlib
 import random
+import subprocess
 import warnings
 
 import pytest
@@ -321,6 +322,27 @@ def test_errors_carry_line_status_and_place():
     assert (error.place.file, error.place.line, error.place.column) == ("query", 2, 6) and "did you mean `temp`?" in str(error)
     with pytest.raises(TiltError):
         Query("emit 1;").explain()
+
+
+def test_a_byte_order_mark_in_a_query_is_rejected_as_by_the_program(tmp_path):
+    path = tmp_path / "query.tilt"
+    path.write_bytes(b"\xef\xbb\xbf" + AVERAGE.encode())
+    with pytest.raises(TiltError) as caught:
+        run(path, readings())
+    assert caught.value.line == subprocess.run([PROGRAM, "explain", path], capture_output=True, text=True).stderr.rstrip("\n")
+    assert caught.value.line == "tilt: 20 bad byte at 0"
+
+
+@pytest.mark.parametrize("text, what", [
+    ("1_5", "'1_5' is no number; a missing value is NaN or None"), ("١", "is no number; a missing value is NaN or None"),
+    (f"0.{'0' * 19}1", "needs 20 digits after its point, and a 64-bit value has 19: round it, or name a scale="),
+])
+def test_a_text_that_the_command_rejects_is_rejected_in_a_series_too(text, what):
+    values = readings(count=3).astype(object)
+    values.iloc[1] = text
+    with pytest.raises(Refused) as caught:
+        run(AVERAGE, values)
+    assert str(caught.value).startswith("the input temp: ") and what in str(caught.value) and len(str(caught.value).splitlines()) == 1
 
 
 @pytest.mark.parametrize("call, what", [

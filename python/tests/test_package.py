@@ -15,11 +15,16 @@ import pytest
 from conftest import TOP
 
 
+def need_program() -> None:
+    """Leaves a test out if no program was built or released from the sources of this checkout: tools/package and tools/install take one."""
+    if subprocess.run([str(TOP / "tools" / "program"), "--found"], capture_output=True).returncode:
+        pytest.skip("the program isn't built")
+
+
 @pytest.fixture(scope="module")
 def root(tmp_path_factory: pytest.TempPathFactory) -> pathlib.Path:
     """A fresh root with the package in it."""
-    if not os.access(TOP / "crates" / "tilt" / "out" / "tilt", os.X_OK):
-        pytest.skip("the program isn't built")
+    need_program()
     if shutil.which("dpkg-deb") is None:
         pytest.skip("dpkg-deb is missing")
     folder = tmp_path_factory.mktemp("package")
@@ -115,8 +120,7 @@ def test_it_goes_away_again(root):
 @pytest.fixture(scope="module")
 def prefix(tmp_path_factory: pytest.TempPathFactory) -> pathlib.Path:
     """A fresh folder that tools/install was called with."""
-    if not os.access(TOP / "crates" / "tilt" / "out" / "tilt", os.X_OK):
-        pytest.skip("the program isn't built")
+    need_program()
     folder = tmp_path_factory.mktemp("prefix")
     done = install(folder)
     assert done.returncode == 0, done.stderr
@@ -161,8 +165,7 @@ def test_tools_install_replaces_an_earlier_version_as_a_whole(prefix, tmp_path):
 
 
 def test_tools_install_says_what_it_cant_write(tmp_path):
-    if not os.access(TOP / "crates" / "tilt" / "out" / "tilt", os.X_OK):
-        pytest.skip("the program isn't built")
+    need_program()
     (tmp_path / "file").write_text("")
     done = install(tmp_path / "file")
     assert done.returncode == 1 and done.stdout == ""

@@ -2,6 +2,7 @@
 from __future__ import annotations
 
 import datetime
+import hashlib
 import io
 import os
 import pathlib
@@ -285,6 +286,20 @@ def test_what_is_refused(told, words, what):
     status, out, err = told("plot", *words)
     assert (status, out) == (1, "") and err.startswith(f"tilt-data: {what}") and not os.path.exists("a.svg")
     assert err.count("\n") == 1
+
+
+def test_a_series_that_its_json_file_doesnt_describe_is_rejected(told):
+    pytest.importorskip("matplotlib")
+    rows = "start,end,value\n0,60,201\n"
+    pathlib.Path("x.csv").write_text(rows)
+    notes = Notes(Clock(10**9, 0), 10, "hold", "x", size=len(rows), sha256=hashlib.sha256(rows.encode()).hexdigest())
+    pathlib.Path("x.json").write_text(notes.text())
+    assert told("plot", "p.svg", "x=x.csv")[0] == 0
+    os.remove("p.svg")
+    pathlib.Path("x.csv").write_text(rows.replace("201", "999"))
+    status, _, err = told("plot", "p.svg", "x=x.csv")
+    assert status == 1 and len(err.splitlines()) == 1 and "x.csv: it isn't the file that its JSON file describes" in err
+    assert not os.path.exists("p.svg")
 
 
 def test_a_link_stays_and_the_picture_it_leads_to_is_replaced(told):

@@ -7,6 +7,7 @@ import os
 import pathlib
 import shutil
 import subprocess
+import sys
 import time
 
 import pytest
@@ -129,6 +130,35 @@ def test_changed_source_is_proved_and_built(checkout: Checkout) -> None:
     status, out, err = checkout.run("run", toolchain=True)
     assert (status, out) == (125, "")
     assert "proving and building the program first" in err and "it could not be built" in err
+
+
+def found_in_python(checkout: Checkout, **environment: str) -> str:
+    """The program that tilt_data of a checkout calls, or the error. The path has the usual commands, and a `tilt-stream`."""
+    shutil.copytree(TOP / "python" / "tilt_data", checkout.folder / "python" / "tilt_data", ignore=shutil.ignore_patterns("__pycache__"))
+    checkout.run()
+    checkout.script("path/tilt-stream", "installed")
+    environment = {"PATH": str(checkout.folder / "path"), "PYTHONPATH": str(checkout.folder / "python"), "PYTHONDONTWRITEBYTECODE": "1",
+                   **environment}
+    words = [sys.executable, "-c", "from tilt_data.program import program; print(program())"]
+    return subprocess.run(words, env=environment, check=True, capture_output=True, text=True).stdout.rstrip("\n")
+
+
+def test_python_finds_the_release_of_these_sources(checkout: Checkout) -> None:
+    assert found_in_python(checkout) == str(checkout.folder / "release/tilt")
+
+
+def test_python_takes_the_program_built_here_before_the_release(checkout: Checkout) -> None:
+    program = checkout.script("crates/tilt/out/tilt", "built")
+    assert found_in_python(checkout) == str(program)
+
+
+def test_python_takes_no_release_of_other_sources(checkout: Checkout) -> None:
+    checkout.write("crates/tilt/src/lib.rt", "// changed\n")
+    assert found_in_python(checkout) == str(checkout.folder / "path/tilt-stream")
+
+
+def test_python_takes_the_program_that_the_caller_names(checkout: Checkout) -> None:
+    assert found_in_python(checkout, TILT="/some/program") == "/some/program"
 
 
 def test_release_of_this_checkout_is_described() -> None:

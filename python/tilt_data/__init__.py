@@ -1,6 +1,7 @@
 """From a file of readings to series of tilt, and from its output to tables and pictures.
 
-`run` and `Query` are for programs; they need pandas when they are called, and not before. `scale` needs `dask.distributed` so."""
+`run` and `Query` are for programs; they need pandas when they are called, and not before. `scale`
+needs `dask.distributed` only with a scheduler."""
 from .convention import Convention
 from .errors import Refused, TiltError
 from .frames import Explained, Live, Query, run, span

@@ -67,20 +67,21 @@ class Digested(io.RawIOBase):
 
 
 @contextlib.contextmanager
-def reading(path: str, shown: str | None = None, sha256: str | None = None) -> Iterator[IO[str]]:
+def reading(path: str, shown: str | None = None, sha256: str | None = None, encoding: str = "utf-8-sig") -> Iterator[IO[str]]:
     """The text of a file, or of standard input if the path is `-`. Errors name it as `shown`, or by its path. With the SHA-256 that its
-    notes have, a file that was read to its end and has another one is rejected there."""
+    notes have, a file that was read to its end and has another one is rejected there. A byte order mark is left out, but not with the
+    encoding `utf-8`."""
     shown = "standard input" if "-" in (path, shown) else shown or path
     try:
         if path == "-":
             stream = standard_input()
             if isinstance(stream, io.TextIOWrapper):
-                stream.reconfigure(encoding="utf-8-sig", newline="")
+                stream.reconfigure(encoding=encoding, newline="")
             yield stream
             return
         bytes_read = None if sha256 is None else Digested(path)
         source: Any = path if bytes_read is None else io.BufferedReader(bytes_read, 1 << 16)
-        with opened_text(source) as file:
+        with opened_text(source, encoding) as file:
             yield file
         if bytes_read is not None and bytes_read.ended and bytes_read.digest.hexdigest() != sha256:
             raise Stale(path, "it isn't the file that its JSON file describes")
@@ -93,11 +94,11 @@ def reading(path: str, shown: str | None = None, sha256: str | None = None) -> I
         raise Refused(f"{shown}{'' if line is None else f':{line}'}: a text in UTF-8 was expected") from error
 
 
-def opened_text(source: Any) -> IO[str]:
+def opened_text(source: Any, encoding: str) -> IO[str]:
     """The text of a path, or of a stream of bytes."""
     if isinstance(source, str):
-        return open(source, encoding="utf-8-sig", newline="")
-    return io.TextIOWrapper(source, encoding="utf-8-sig", newline="")
+        return open(source, encoding=encoding, newline="")
+    return io.TextIOWrapper(source, encoding=encoding, newline="")
 
 
 def standard_input() -> IO[str]:
@@ -549,15 +550,6 @@ def placed(path: str, lasting: bool = True) -> Iterator[IO[bytes]]:
         os.replace(new, path)
     finally:
         drop(new, path)
-
-
-def sweep(folder: str) -> None:
-    """Takes away what processes that were killed left beside the names of files, in the folder and all below it."""
-    for where, _, names in os.walk(folder):
-        for name in names:
-            if name.startswith(".") and name.endswith(PLACED):
-                with contextlib.suppress(OSError):
-                    os.unlink(os.path.join(where, name))
 
 
 class Stale(Refused):

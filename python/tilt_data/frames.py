@@ -42,7 +42,8 @@ class Query:
     def __init__(self, query: str | os.PathLike[str]) -> None:
         text = os.fspath(query)
         if isinstance(query, os.PathLike) or names_file(text):
-            with reading(text) as file:
+            # The program rejects a byte order mark, and sees it here too.
+            with reading(text, encoding="utf-8") as file:
                 self.text, self.name = file.read(), text
         else:
             self.text, self.name = text, "query"

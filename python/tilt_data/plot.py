@@ -12,7 +12,6 @@ from .clock import DAY, EPOCH, TIMES, Clock, Moments, moment_text, zone_of
 from .errors import Refused
 from .files import Notes, Row, notes_of, reading, rows_of, scratch, spooled, taking
 from .progress import shown
-from .scales import GREATEST, LEAST
 
 HELP = """Draws series and outputs. NAME=FILE has a panel of its own, and after it +NAME=FILE is drawn into the same panel,
 +limit:NAME=FILE as a dashed line, and +band:NAME=FILE as a shaded band where FILE has a value other than 0. A value that holds is a step,
@@ -35,8 +34,8 @@ STEPS = [step * unit for unit, steps in (
 
 @dataclasses.dataclass
 class Drawn:
-    """What is drawn: a name, its file, how (`step`, `dots`, `limit`, `band`), its clock and scale, its unit, and the copy of the file if
-    it is a pipe."""
+    """What is drawn: a name, its file, how (`step`, `dots`, `limit`, `band`), its clock and scale, its unit, the SHA-256 that its JSON file
+    has, and the copy of the file if it is a pipe."""
 
     name: str
     file: str
@@ -44,15 +43,13 @@ class Drawn:
     notes: Notes | None
     scale: int
     unit: str = ""
+    sha256: str | None = None
     copy: str | None = None
 
     def rows(self) -> Iterator[Row]:
-        """The rows of the file, all of them within the limits of the program."""
-        with reading(self.copy or self.file) as opened:
-            for number, (start, end, value) in enumerate(rows_of(self.file, opened), 1):
-                if not (-TIMES <= start and end <= TIMES and (value is None or LEAST <= value <= GREATEST)):
-                    raise Refused(f"{self.file}: row {number}: ticks from {-TIMES} to {TIMES} and a 64-bit value were expected")
-                yield start, end, value
+        """The rows of the file. One that the program rejects, and a file that isn't the one of its JSON file, is a Refused."""
+        with reading(self.copy or self.file, self.file, self.sha256) as opened:
+            yield from rows_of(self.file, opened)
 
 
 def add(commands: Any) -> None:
@@ -77,12 +74,13 @@ def panels_of(words: argparse.Namespace) -> list[list[Drawn]]:
         found = WORD.fullmatch(word)
         if found is None or found[1] and not panels:
             raise Refused(f"{word!r}: NAME=FILE was expected, and + only after a panel")
-        notes = notes_of(found[4]) or like
+        own = notes_of(found[4])
+        notes = own or like
         scale = scales.get(found[3], scales.get("", notes.scale if notes is not None else 1))
         # What isn't the series itself has its clock alone, and holds.
-        event = notes is not like and notes is not None and notes.kind == "event"
-        form = found[2] or ("dots" if event else "step")
-        drawn = Drawn(printable(found[3]), found[4], form, notes, scale, units.get(found[3], ""))
+        form = found[2] or ("dots" if own is not None and own.kind == "event" else "step")
+        sha256 = None if own is None else own.sha256
+        drawn = Drawn(printable(found[3]), found[4], form, notes, scale, units.get(found[3], ""), sha256)
         if found[1]:
             panels[-1].append(drawn)
         else:

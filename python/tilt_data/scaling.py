@@ -13,10 +13,8 @@ import logging
 import os
 import pathlib
 import re
-import signal
 import sys
 import time
-import types
 import urllib.parse
 from typing import TYPE_CHECKING, Any, Iterable, Iterator, Mapping, Sequence, Union
 
@@ -152,17 +150,6 @@ def bound(binds: Sequence[str]) -> dict[str, list[str]]:
 
 
 # The plan
-
-
-def query_of(query: str | os.PathLike[str] | Query) -> Query:
-    """A query whose text has the bytes of its file, so that the program rejects what it rejects otherwise, as a byte order mark."""
-    if isinstance(query, Query):
-        return query
-    found = Query(query)
-    if found.text != os.fspath(query):
-        # It was the name of a file.
-        found.text = pathlib.Path(found.name).read_bytes().decode("utf-8")
-    return found
 
 
 class Plan:
@@ -527,7 +514,7 @@ def scale(query: str | os.PathLike[str] | Query, inputs: Mapping[str, Files], ou
         engine.imported()
     named = {name: [os.fspath(files)] if isinstance(files, (str, os.PathLike)) else [os.fspath(one) for one in files]
              for name, files in inputs.items()}
-    plan = Plan(query_of(query), named, os.fspath(out), index)
+    plan = Plan(query if isinstance(query, Query) else Query(query), named, os.fspath(out), index)
     with locked(plan.out), contextlib.ExitStack() as stack:
         sweep_parts(plan.out)
         # Other calls can write to the index at the same time.
@@ -541,31 +528,13 @@ def scale(query: str | os.PathLike[str] | Query, inputs: Mapping[str, Files], ou
     return scaled
 
 
-@contextlib.contextmanager
-def ended_by_signals() -> Iterator[None]:
-    """Lets SIGTERM and SIGHUP end a call as SIGINT does, by an exception, so that its programs stop and nothing stays half written. A
-    signal that is ignored, as by nohup, stays so."""
-    def end(number: int, _: types.FrameType | None) -> None:
-        raise SystemExit(128 + number)
-
-    taken = [number for number in (signal.SIGTERM, signal.SIGHUP) if signal.getsignal(number) == signal.SIG_DFL]
-    for number in taken:
-        signal.signal(number, end)
-    try:
-        yield
-    finally:
-        for number in taken:
-            signal.signal(number, signal.SIG_DFL)
-
-
 def main(words: argparse.Namespace) -> int:
     if words.scheduler is not None and words.workers is not None:
         raise Refused("--workers is for this machine: the scheduler has its own workers")
     # What Dask leaves open as its client goes isn't for the reader of a command.
     logging.getLogger("asyncio").setLevel(logging.CRITICAL)
-    with ended_by_signals():
-        scaled = scale(pathlib.Path(words.query), bound(words.binds), words.out, scheduler=words.scheduler, workers=words.workers,
-                       part_rows=words.part_rows, retries=words.retries, index=words.index, progress=True)
+    scaled = scale(pathlib.Path(words.query), bound(words.binds), words.out, scheduler=words.scheduler, workers=words.workers,
+                   part_rows=words.part_rows, retries=words.retries, index=words.index, progress=True)
     for line in scaled.told():
         print(f"tilt-data: {line}", file=sys.stderr)
     return 0
