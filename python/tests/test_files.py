@@ -348,7 +348,8 @@ def test_a_signal_that_comes_while_a_file_is_made_leaves_none(told, tmp_path, wh
 def test_a_signal_leaves_no_temporary_file(told, tmp_path, number):
     put("x", "0,5,7\n")
     pathlib.Path("out").write_text("old")
-    process = ended(number, tmp_path)
+    # Under nohup the tests ignore SIGHUP, and so would the command.
+    process = ended(number, tmp_path, preexec_fn=lambda: signal.signal(number, signal.SIG_DFL))
     assert process.wait(30) == 128 + number and process.stderr.read() == b""
     assert sorted(os.listdir()) == ["out", "x.csv", "x.json"] and pathlib.Path("out").read_text() == "old"
 

@@ -1003,7 +1003,8 @@ def test_a_call_that_is_stopped_leaves_no_process_and_goes_on(here, monkeypatch,
     before(program, '[ "$1" = run ] || exec ' + str(PROGRAM) + ' "$@"\n[ $(ls out/parts/*/0* | wc -l) -lt 3 ] || { echo $$ >> pids; '
            'echo start,end,value; exec sleep 300; }')
     words = [*COMMAND, "--workers", "2", "--part-rows", "200"]
-    begun = subprocess.Popen(words, stdout=subprocess.PIPE, stderr=subprocess.PIPE)
+    # A shell starts a job in the background with SIGINT ignored, and nohup with SIGHUP: so would the command, begun by these tests.
+    begun = subprocess.Popen(words, stdout=subprocess.PIPE, stderr=subprocess.PIPE, preexec_fn=lambda: signal.signal(number, signal.SIG_DFL))
     pids = here / "pids"
     assert waited(lambda: pids.exists() and pids.read_text().count("\n") == 2, begun)
     hanging = [int(pid) for pid in pids.read_text().split()]

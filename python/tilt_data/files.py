@@ -443,7 +443,8 @@ def new_beside(target: str, end: str) -> tuple[int, str]:
     folder, name = os.path.split(target)
     name = os.fsdecode(os.fsencode(name)[:LONGEST_NAME])
     try:
-        return tempfile.mkstemp(dir=folder or ".", prefix=f".{name}.", suffix=end)
+        # `mkstemp` takes `..` away by the name, and after a link that is another folder.
+        return tempfile.mkstemp(dir=os.path.realpath(folder), prefix=f".{name}.", suffix=end)
     except OSError as error:
         raise OSError(error.errno, error.strerror, target) from error
 
