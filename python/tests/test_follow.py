@@ -757,16 +757,20 @@ def test_a_file_whose_rows_end_is_named_once(tilt, tmp_path):
                                    "tilt-data: limit.csv: its rows end at 5: limit is null from there on\n")
 
 
-@pytest.mark.parametrize("tick, scale, note", [
-    ("1s", 10, ""), ("1s", 100, "tilt-data: note: limit.csv has the scale 100, and the readings have 10\n"),
-    ("1min", 10, "tilt-data: note: limit.csv has another tick or origin than the readings: write it by `tilt-data series` with those\n")])
-def test_a_file_on_another_clock_or_scale_is_noted(tilt, tmp_path, tick, scale, note):
+@pytest.mark.parametrize("notes, note", [
+    ({}, ""), ({"scale": 1, "kind": "helper"}, ""),
+    ({"scale": 100}, "the inputs have different scales (limit: 100; the readings: 10): write one --like the other before you add or compare them"),
+    ({"tick": "1min"}, "the series limit and the readings have other ticks or origins: write one --like the other"),
+    ({"closed": "right"}, "the inputs differ in `closed` (limit: right; the readings: left): write one --like the other"),
+])
+def test_a_file_on_another_clock_or_scale_is_noted(tilt, tmp_path, notes, note):
     (tmp_path / "q").write_text("input x; input limit; emit x - limit over (0, 40];")
     (tmp_path / "limit.csv").write_text("start,end,value\n0,40,1\n")
-    (tmp_path / "limit.json").write_text(json.dumps({"tick": tick, "origin": "2026-03-01T00:00:00Z", "scale": scale}))
+    (tmp_path / "limit.json").write_text(json.dumps({"tick": "1s", "origin": "2026-03-01T00:00:00Z", "scale": 10, **notes}))
     words = ["limit=limit.csv", "--state", "s", "--end", *CLOCK]
     given = b"x,2026-03-01T00:00:01,1.5\n"
-    assert done(follow(tmp_path, *words, stdin=subprocess.PIPE), given) == (0, "start,end,value\n1,31,14\n", note)
+    told = f"tilt-data: note: {note}\n" if note else ""
+    assert done(follow(tmp_path, *words, stdin=subprocess.PIPE), given) == (0, "start,end,value\n1,31,14\n", told)
 
 
 def test_warnings_never_go_to_standard_output(tilt, tmp_path):

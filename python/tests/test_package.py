@@ -2,6 +2,7 @@
 and the tutorial's last command run with what was installed, with no toolchain on the path."""
 from __future__ import annotations
 
+import argparse
 import importlib.util
 import os
 import pathlib
@@ -13,6 +14,7 @@ import sys
 
 import pytest
 from conftest import TOP
+from tilt_data.cli import parser_of
 
 
 def need_program() -> None:
@@ -154,6 +156,18 @@ def test_tools_install_brings_pages_and_completion(prefix):
         assert (prefix / "share/man/man1" / f"{name}.1").read_bytes() == (TOP / "docs" / f"{name}.1").read_bytes()
         completion = (prefix / "share/bash-completion/completions" / name).read_text()
         assert re.search(rf"^complete .* {name}( |$)", completion, re.M)
+
+
+def test_the_completion_has_the_options_of_each_command_of_tilt_data(prefix):
+    commands = next(action for action in parser_of()._actions if isinstance(action, argparse._SubParsersAction)).choices
+    environment = {"PATH": f"{prefix}/bin:/usr/bin:/bin", "PYTHONDONTWRITEBYTECODE": "1", "COLUMNS": "60"}
+    script = f". {prefix}/share/bash-completion/completions/tilt-data\n" + "".join(
+        f"COMP_WORDS=(tilt-data {command} --) COMP_CWORD=2; _tilt_data; echo {command} ${{COMPREPLY[*]}}\n" for command in commands)
+    done = subprocess.run(["bash", "-c", script], env=environment, capture_output=True, text=True, check=True)
+    offers = {command: set(options) for command, *options in map(str.split, done.stdout.splitlines())}
+    assert len(offers) > 8 and "--force" in offers["series"] and "--force" in offers["ticks"]
+    assert offers == {command: {option for action in parser._actions for option in action.option_strings if option.startswith("--")}
+                      for command, parser in commands.items()}
 
 
 def test_tools_install_replaces_an_earlier_version_as_a_whole(prefix, tmp_path):

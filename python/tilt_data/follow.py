@@ -34,13 +34,13 @@ from typing import Any, Iterator, NoReturn
 from . import sessions
 from .clock import TIMES, Clock, Moments, duration_of, duration_text, moment_text, zone_of
 from .convert import Converter, Late, Rule, TIES, Tie, row_text
-from .errors import Refused, TiltError
-from .files import Row, notes_of, notes_path, reading, rows_of, writing
+from .errors import Refused, TiltError, printable
+from .files import Notes, Row, notes_of, notes_path, reading, rows_of, writing
 from .grammar import statements_of
 from .scales import GREATEST, LEAST, Scale
 from .series import Nulls, clock_of, moment_of
 from .tokens import Faulty
-from .why import inputs_of
+from .why import clashes, inputs_of
 
 HELP = """Runs a query over lines that keep coming on standard input, as from `mosquitto_sub` or `tail -F`: NAME,start,end,value with
 ticks, or NAME,time,value with readings, which become rows as `tilt-data series` has it. A session is run every --every, or after --rows
@@ -688,16 +688,15 @@ class Follower:
                  "of the call before")
 
     def compare_files(self) -> None:
-        """Notes which files are on another clock than the readings, or have another scale."""
-        for source in self.sources.values():
-            notes = None if source.path is None else notes_of(source.path)
-            clock = self.reader.clock
-            if notes is None or clock is None:
-                continue
-            if (notes.clock.tick, notes.clock.origin) != (clock.tick, clock.origin):
-                told(f"note: {source.path} has another tick or origin than the readings: write it by `tilt-data series` with those")
-            elif notes.scale != self.reader.scale.scale:
-                told(f"note: {source.path} has the scale {notes.scale}, and the readings have {self.reader.scale.scale}")
+        """Notes in what the files differ from the readings, or from each other."""
+        found = {name: notes_of(source.path) for name, source in self.sources.items() if source.path is not None}
+        known = {name: notes for name, notes in found.items() if notes is not None}
+        if self.reader.clock is not None:
+            # No input has this name.
+            known["the readings"] = Notes(self.reader.clock, self.reader.scale.scale)
+        clash = clashes(known)
+        if clash is not None:
+            told(f"note: {printable(clash)}")
 
     def take(self, line: bytes) -> None:
         self.chain.add(line)
