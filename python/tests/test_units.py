@@ -156,7 +156,7 @@ def test_a_byte_that_is_no_text_in_a_pipe(tmp_path, scale):
     assert done.returncode == 1 and err.count("\n") == 1 and "a text in UTF-8 was expected" in err and os.listdir(tmp_path) == []
     assert "spooled" not in err and "/tmp" not in err
     if scale == ["--scale", "auto"]:
-        assert err == "tilt-data: -:3: a text in UTF-8 was expected\n"
+        assert err == "tilt-data: standard input:3: a text in UTF-8 was expected\n"
 
 
 # What `table` rejects

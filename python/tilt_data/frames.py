@@ -449,8 +449,8 @@ def first_midnight(series: dict[str, Any]) -> int:
 
 def scale_of(known: dict[str, Notes], series: dict[str, Any], convention: Convention) -> int:
     """The scale of the Series and of the output: one for all inputs, unless the caller says that they differ."""
-    # As `why.clashes` has it: a helper series counts, and has no scale that another one could have. It isn't used here, since the caller can
-    # give the scale, and can say that the scales differ.
+    # As `why.clashes` has it: a helper series counts, and has no scale that another one could have. It isn't used here, since the caller
+    # can give the scale, and can say that the scales differ.
     scales = {name: notes.scale for name, notes in known.items() if notes.kind != "helper"}
     given = None if convention.scale == "auto" else int(convention.scale)
     distinct = {*scales.values()} | ({given} if given is not None else set())
