@@ -86,7 +86,7 @@ def test_cases_that_could_have_been_run_are_a_failure(check, apt, monkeypatch, c
 def test_tests_that_could_have_been_run_are_a_failure(check, apt, monkeypatch, capsys, user, status):
     data = check("check_data")
     # No call of this test builds the program or runs the tests.
-    monkeypatch.setattr(data, "PROGRAM", "/bin/true")
+    monkeypatch.setattr(data, "BUILD", ["/bin/true"])
     monkeypatch.setattr(data, "BUILT", "/bin/true")
     monkeypatch.setattr(data, "is_there", lambda package: package == "m4")
     monkeypatch.setattr(os, "geteuid", lambda: user)
