@@ -353,7 +353,7 @@ def put_back(path: str, text: bytes | None) -> None:
 
 @contextlib.contextmanager
 def failing_at(path: str) -> Iterator[None]:
-    """An error of the system is told of this output."""
+    """An error of the system is reported for this output."""
     try:
         yield
     except BrokenPipeError:
@@ -416,7 +416,7 @@ def is_handed(path: str) -> bool:
 
 @contextlib.contextmanager
 def uninterrupted() -> Iterator[None]:
-    """A signal that ends the command waits until the end of this block, so that a file is known to be taken away as soon as it is there."""
+    """A signal that ends the command waits until the end of this block, so that a file is noted for removal as soon as it is there."""
     before = signal.pthread_sigmask(signal.SIG_BLOCK, ENDING)
     try:
         yield

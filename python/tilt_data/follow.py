@@ -4,7 +4,7 @@ What is kept is tied by the cut in its name. A session from one cut to the next 
 what was taken and not handed on yet and how long `output.csv` was before, and last `state.CUT`, the checkpoint of `tilt`: when that stands,
 the session counts. Then the part is put to the end of `output.csv`. Killed in between, it is put there when the command is called again;
 a part without its state is thrown away, and its session made again. `log.CUT` has the lines that came since the cut. Only files of names
-that are written here are ever taken away, and only in a folder that was begun here.
+that are written here are ever deleted, and only in a folder that was started here.
 
 The notes also keep what a later call is compared with: the options that make rows of readings, a digest of the lines that were
 taken, and one of the rows that each NAME=FILE handed on. A call that differs is rejected before it changes anything in the folder.

@@ -421,7 +421,7 @@ def moment_of(text: str, words: argparse.Namespace) -> int:
 
 
 def clock_of(words: argparse.Namespace, like: Notes | None, first: int) -> Clock:
-    """The clock that the words tell, or the series that they name; else it begins with the midnight before the first reading, which is a
+    """The clock of the options, or of the series that they name; otherwise it starts at the midnight before the first reading, which is a
     ValueError if there is no such moment."""
     if words.tick is not None:
         tick = duration_of(words.tick)
