@@ -1,8 +1,8 @@
 #!/usr/bin/env python3
 """Runs random pipelines and random corrections on the built program, with fusion and without, from a fixed seed.
 
-What `tilt flow` prints is compared with the definition by lists, which `tools/evaluate --flow` works out. What `tilt fix` prints is compared
-with what `tilt run` and `tools/evaluate` give on the rows that are corrected here, and its lines `reached ..` with how far the query
+What `tilt flow` prints is compared with the definition by lists, which `tools/check/evaluate.py --flow` works out. What `tilt fix` prints is compared
+with what `tilt run` and `tools/check/evaluate.py` give on the rows that are corrected here, and its lines `reached ..` with how far the query
 looks by `tilt explain`; where a correction is refused, with the line that has to be told. The last line is 'N passed, M failed', and the
 status is 1 where one failed."""
 from __future__ import annotations
@@ -14,10 +14,10 @@ import sys
 import tempfile
 from typing import Iterable, Sequence
 
-TOOLS = os.path.dirname(os.path.realpath(__file__))
-TOP = os.path.dirname(TOOLS)
-BUILT = os.path.join(TOP, "crates", "tilt", "out", "tilt")
-EVALUATE = os.path.join(TOOLS, "evaluate")
+sys.path.insert(0, os.path.dirname(os.path.dirname(os.path.realpath(__file__))))
+
+from shared.paths import BUILT, EVALUATE
+from shared.program import build_program
 
 SEED = 20
 PIPELINES = 300
@@ -267,8 +267,7 @@ def correction_differs(draw: random.Random, folder: str) -> str | None:
 
 
 def main() -> int:
-    # The program is built from these sources, if it isn't yet: a released one isn't what is checked.
-    subprocess.run([os.path.join(TOOLS, "program"), "--built"], stdin=subprocess.DEVNULL, capture_output=True)
+    build_program()
     draw = random.Random(SEED)
     passed = failed = 0
     for check, count in ((pipeline_differs, PIPELINES), (correction_differs, CORRECTIONS)):

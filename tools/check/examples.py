@@ -1,6 +1,6 @@
 #!/usr/bin/env python3
 """Runs the commands on the pages of the repository with the built program, and compares what they print, byte for byte:
-`tools/check_examples [PAGE ..]`. Without pages it checks all of them, and the files of the examples.
+`tools/check/examples.py [PAGE ..]`. Without pages it checks all of them, and the files of the examples.
 
 In README.md, docs/*.md and examples/*/README.md, a fenced block ```console has lines `$ COMMAND`, each followed by exactly what it prints:
 its standard output, then its standard error, and a last line `[status N]` where its status isn't 0. A block ```file NAME has the content of
@@ -14,7 +14,7 @@ has the phrase "not run by the tests". A block fails if it is fenced ```sh and t
 those named here, ```text and ```rust, or if it shows a command, fenced or indented by four blanks. A command is a line that starts with `$ `
 or with the name of a program that the pages use (`COMMAND` below).
 
-What `tilt run` and `tilt flow` print is also compared with what tools/evaluate prints with the same words, but for --plain and --cut, which
+What `tilt run` and `tilt flow` print is also compared with what tools/check/evaluate.py prints with the same words, but for --plain and --cut, which
 change nothing of it. That is so for each such call of a line that ends with status 0, whose commands have `;` or `&&` between them:
 
 - a call that is the line's last command, by itself or into `| head -n N`, where each command before it has its output put into a file;
@@ -22,7 +22,7 @@ change nothing of it. That is so for each such call of a line that ends with sta
 
 The other calls, as those into other pipes or within loops, aren't worked out again; the line before the last one says how many they are.
 
-Besides, the series of the examples and what is expected of their queries are made again by tools/make_examples, and compared. The
+Besides, the series of the examples and what is expected of their queries are made again by tools/dev/make_examples.py, and compared. The
 program is built first where it has to be. The last line is 'N passed, M failed', and the status is 1 where one failed, or 2 for a page that
 doesn't exist."""
 from __future__ import annotations
@@ -40,9 +40,11 @@ import sys
 import tempfile
 from typing import Iterable, Iterator, Sequence
 
-TOOLS = os.path.dirname(os.path.realpath(__file__))
-TOP = os.path.dirname(TOOLS)
-BUILT = os.path.join(TOP, "crates", "tilt", "out")
+sys.path.insert(0, os.path.dirname(os.path.dirname(os.path.realpath(__file__))))
+
+from shared.paths import BUILT, EVALUATE, TOOLS, TOP
+from shared.program import build_program
+
 EXAMPLES = ["sensors", "trading", "clinical", "fleet"]
 # These pages have commands; if one has none any more, that is a failure.
 WITH_COMMANDS = ["README.md"] + [f"docs/{name}.md" for name in ("TUTORIAL", "LANGUAGE", "COMMANDS", "PARTS", "DATA", "IDIOMS")]
@@ -120,7 +122,7 @@ def commands(first: int, lines: Iterable[str]) -> list[tuple[int, str, str]]:
 def said(words: Sequence[str], folder: str) -> str:
     """What a command prints, as a page has it."""
     # The system's Python comes before others, since it has the packages. The tools come last: one may have the name of another program.
-    path = os.pathsep.join([BUILT, "/usr/bin", os.environ.get("PATH", ""), TOOLS])
+    path = os.pathsep.join([os.path.dirname(BUILT), "/usr/bin", os.environ.get("PATH", ""), os.path.join(TOOLS, "package")])
     environment = {**os.environ, "PATH": path, "LC_ALL": "C", "PYTHONPATH": os.path.join(TOP, "python"), "PYTHONDONTWRITEBYTECODE": "1"}
     try:
         done = subprocess.run(words, cwd=folder, env=environment, stdin=subprocess.DEVNULL, capture_output=True, timeout=300)
@@ -174,13 +176,13 @@ def calls_of(command: str) -> list[Call]:
 
 
 def evaluated(call: Call, folder: str) -> str:
-    """What tools/evaluate prints for a call of `run` or `flow`, whose options change nothing of it."""
+    """What tools/check/evaluate.py prints for a call of `run` or `flow`, whose options change nothing of it."""
     name, *words = call.words
     if "--cut" in words:
         at = words.index("--cut")
         del words[at:at + 2]
     option = ["--flow"] if name == "flow" else []
-    text = said([os.path.join(TOOLS, "evaluate"), *option, *(word for word in words if word != "--plain")], folder)
+    text = said([EVALUATE, *option, *(word for word in words if word != "--plain")], folder)
     return text if call.most is None else "".join(text.splitlines(keepends=True)[:call.most])
 
 
@@ -195,7 +197,7 @@ def check_calls(tally: Tally, place: str, command: str, wanted: str, folder: str
             with open(os.path.join(folder, call.file), encoding="utf-8", newline="") as file:
                 printed = file.read()
         plainly = evaluated(call, folder)
-        tally.note(plainly == printed, f"{place}: by tools/evaluate: {command}\n{difference(printed, plainly)}")
+        tally.note(plainly == printed, f"{place}: by tools/check/evaluate.py: {command}\n{difference(printed, plainly)}")
 
 
 def missing(command: str, folder: str) -> str | None:
@@ -290,8 +292,8 @@ def check_page(tally: Tally, page: str) -> None:
 def check_made(tally: Tally) -> None:
     """The series and what is expected are those that are made again."""
     with tempfile.TemporaryDirectory() as folder:
-        made = subprocess.run([os.path.join(TOOLS, "make_examples"), folder], stdin=subprocess.DEVNULL)
-        tally.note(made.returncode == 0, "tools/make_examples fails")
+        made = subprocess.run([os.path.join(TOOLS, "dev", "make_examples.py"), folder], stdin=subprocess.DEVNULL)
+        tally.note(made.returncode == 0, "tools/dev/make_examples.py fails")
         for path in sorted(glob.glob(os.path.join(folder, "**", "*.csv"), recursive=True)):
             name = os.path.join("examples", os.path.relpath(path, folder))
             there = os.path.join(TOP, name)
@@ -311,12 +313,11 @@ def main() -> int:
     chosen = [os.path.relpath(page, TOP) for page in sys.argv[1:]]
     unknown = [page for page in chosen if page not in pages()]
     if unknown:
-        print(f"check_examples: no such page: {unknown[0]}", file=sys.stderr)
+        print(f"examples: no such page: {unknown[0]}", file=sys.stderr)
         return 2
-    # The program is built from these sources, if it isn't yet: a released one isn't what is checked.
-    subprocess.run([os.path.join(TOOLS, "program"), "--built"], stdin=subprocess.DEVNULL, capture_output=True)
+    build_program()
     tally = Tally()
-    tally.note(os.access(os.path.join(BUILT, "tilt"), os.X_OK), "the program isn't built")
+    tally.note(os.access(BUILT, os.X_OK), "the program isn't built")
     if not chosen:
         check_made(tally)
     for page in chosen or pages():
@@ -324,7 +325,7 @@ def main() -> int:
             check_page(tally, page)
         else:
             tally.note(False, f"{page}: it is missing")
-    print(f"calls of `run` and `flow` that tools/evaluate worked out too: {tally.evaluated}; others: {tally.others}")
+    print(f"calls of `run` and `flow` that tools/check/evaluate.py worked out too: {tally.evaluated}; others: {tally.others}")
     print(f"{tally.passed} passed, {tally.failed} failed")
     return 1 if tally.failed else 0
 

@@ -16,8 +16,12 @@ from typing import Any, BinaryIO, Callable
 # A call as the table has it.
 Row = dict[str, Any]
 
-TOOLS = os.path.dirname(os.path.realpath(__file__))
-PROGRAM = os.path.join(os.path.dirname(TOOLS), "tilt")
+sys.path.insert(0, os.path.dirname(os.path.dirname(os.path.realpath(__file__))))
+
+from shared.paths import TOOLS, TOP
+from shared.program import build_program
+
+PROGRAM = os.path.join(TOP, "tilt")
 
 
 def contents(value: str | Row) -> bytes:
@@ -93,10 +97,10 @@ def run(program: str, call: Row, folder: str) -> list[str]:
 
 
 def main() -> int:
-    with open(os.path.join(TOOLS, "calls.toml"), "rb") as file:
+    with open(os.path.join(TOOLS, "check", "calls.toml"), "rb") as file:
         calls = [one for call in tomllib.load(file)["call"] for one in each(call)]
-    # The program is built from these sources, if it isn't yet: a released one isn't what is checked. A link to the script serves as well.
-    subprocess.run([os.path.join(TOOLS, "program"), "--built"], stdin=subprocess.DEVNULL, capture_output=True)
+    # A link to the script serves as well.
+    build_program()
     failed = 0
     for call in calls:
         with tempfile.TemporaryDirectory() as folder:

@@ -12,9 +12,10 @@ import sys
 import tempfile
 from typing import Sequence
 
-TOOLS = os.path.dirname(os.path.realpath(__file__))
-TOP = os.path.dirname(TOOLS)
-BUILT = os.path.join(TOP, "crates", "tilt", "out", "tilt")
+sys.path.insert(0, os.path.dirname(os.path.dirname(os.path.realpath(__file__))))
+
+from shared.paths import BUILT
+from shared.program import build_program
 
 DAY = 86400
 HOUR = 3600
@@ -112,8 +113,7 @@ def check_apart() -> tuple[int, int]:
 
 
 def main() -> int:
-    # The program is built from these sources, if it isn't yet: a released one isn't what is checked.
-    subprocess.run([os.path.join(TOOLS, "program"), "--built"], stdin=subprocess.DEVNULL, capture_output=True)
+    build_program()
     passed, failed = check_apart()
     for query, rows, all_cuts in CASES:
         for cuts in all_cuts:

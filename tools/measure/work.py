@@ -23,13 +23,13 @@ import tempfile
 import time
 from typing import Callable, Iterator
 
-TOOLS = os.path.dirname(os.path.realpath(__file__))
-TOP = os.path.dirname(TOOLS)
+sys.path.insert(0, os.path.dirname(os.path.dirname(os.path.realpath(__file__))))
+
+from shared.paths import BUILT, SYSTEM_PYTHON, TOP
+from shared.program import build_program
+
 BENCH = os.path.join(TOP, "bench")
-BUILT = os.path.join(TOP, "crates", "tilt", "out", "tilt")
 PAGE = os.path.join(TOP, "docs", "PERFORMANCE.md")
-# The system's Python has the system's pandas.
-SYSTEM = "/usr/bin/python3" if os.path.exists("/usr/bin/python3") else sys.executable
 # The program of that name, and not a word of the shell.
 TIME = shutil.which("time")
 SMALL, LARGE = 25_000, 400_000
@@ -203,7 +203,7 @@ def machine(peers: list[str]) -> str:
     versions = {
         "awk": ["awk", "-W", "version"],
         "sqlite3": ["sqlite3", "-batch", ":memory:", "select 'SQLite ' || sqlite_version();"],
-        "pandas": [SYSTEM, "-c", "import pandas; print('pandas', pandas.__version__)"],
+        "pandas": [SYSTEM_PYTHON, "-c", "import pandas; print('pandas', pandas.__version__)"],
     }
     told = [first_line(["rustc", "--version"]), first_line(["valgrind", "--version"]), *(first_line(versions[peer]) for peer in peers)]
     loads = " ".join(f"{load:.1f}" for load in os.getloadavg())
@@ -221,7 +221,7 @@ def build(folder: str) -> str:
 
 def is_there(peer: str) -> bool:
     if peer == "pandas":
-        return subprocess.run([SYSTEM, "-c", "import pandas"], capture_output=True).returncode == 0
+        return subprocess.run([SYSTEM_PYTHON, "-c", "import pandas"], capture_output=True).returncode == 0
     return shutil.which(peer) is not None
 
 
@@ -238,7 +238,7 @@ def by_peer(peer: str, laid: Laid) -> tuple[list[str], str] | None:
     """The words and the input by which a peer does a work, where bench/ has them."""
     files = list(laid.files.values())
     if peer == "pandas":
-        return [SYSTEM, os.path.join(BENCH, "peers.py"), laid.work.name, *files], ""
+        return [SYSTEM_PYTHON, os.path.join(BENCH, "peers.py"), laid.work.name, *files], ""
     program = os.path.join(BENCH, laid.work.name + {"awk": ".awk", "sqlite3": ".sql"}[peer])
     if not os.path.exists(program):
         return None
@@ -381,20 +381,20 @@ def all_tables(tables: Measured, given: argparse.Namespace, program: str, tally:
     counted_heads = [f"{who}, {size}" for size in sizes[:1 + given.large] for who in ("Rust", "tilt", "ratio")]
     held_heads = [f"{who}, {size}" for size in sizes for who in ("files", "Rust", "tilt")]
     grown_heads = ["`run`", "`exec`", "ratio", "`run --plain`", "`exec` of its listing", "ratio"]
-    made = {"measure_work machine": machine(given.peers)}
+    made = {"work machine": machine(given.peers)}
     if tables.counted:
-        made["measure_work instructions"] = markdown(["work", *counted_heads], tables.counted)
-        made["measure_work time"] = markdown(["work", "rows", "Rust", "tilt", "ratio", *given.peers], tables.timed)
-        made["measure_work memory"] = markdown(["work", *held_heads], tables.held)
+        made["work instructions"] = markdown(["work", *counted_heads], tables.counted)
+        made["work time"] = markdown(["work", "rows", "Rust", "tilt", "ratio", *given.peers], tables.timed)
+        made["work memory"] = markdown(["work", *held_heads], tables.held)
     if given.only in "readings":
         lines = grown(readings, 200, [12, 25, 50, 100], program, tally)
-        made["measure_work readings"] = markdown(["readings", *grown_heads], lines)
+        made["work readings"] = markdown(["readings", *grown_heads], lines)
     if given.only in "loops":
         lines = grown(loops, 200, [12, 25, 50, 100], program, tally)
-        made["measure_work loops"] = markdown(["definitions", *grown_heads], lines)
+        made["work loops"] = markdown(["definitions", *grown_heads], lines)
     if given.only in "definitions":
         lines = grown(definitions, 1300, [12, 25, 50], program, tally)
-        made["measure_work definitions"] = markdown(["definitions", *grown_heads], lines)
+        made["work definitions"] = markdown(["definitions", *grown_heads], lines)
     return made
 
 
@@ -415,8 +415,7 @@ def main() -> int:
     if missing:
         raise SystemExit(f"not installed: {', '.join(missing)} (valgrind is a package of Debian)")
     if given.program is None:
-        # The program is built from these sources, if it isn't yet: a released one isn't what is checked.
-        subprocess.run([os.path.join(TOOLS, "program"), "--built"], stdin=subprocess.DEVNULL, capture_output=True)
+        build_program()
     program = os.path.abspath(given.program or BUILT)
     given.peers = [] if given.no_peers else [peer for peer in PEERS if is_there(peer)]
     tally, tables = Tally(), Measured([], [], [])

@@ -21,7 +21,10 @@ import sys
 import tempfile
 from typing import Any, BinaryIO
 
-TOP = os.path.dirname(os.path.dirname(os.path.realpath(__file__)))
+sys.path.insert(0, os.path.dirname(os.path.dirname(os.path.realpath(__file__))))
+
+from shared.paths import TOP
+
 PROGRAM = "tilt"
 SOURCES = ["src", "specs", "proofs"]
 SIGNALS = [signal.SIGHUP, signal.SIGINT, signal.SIGTERM]

@@ -36,11 +36,12 @@ import tempfile
 import threading
 from typing import Callable, Iterable, Iterator
 
-from packages import install, may_install
+sys.path.insert(0, os.path.dirname(os.path.dirname(os.path.realpath(__file__))))
 
-TOOLS = os.path.dirname(os.path.realpath(__file__))
-TOP = os.path.dirname(TOOLS)
-BUILT = os.path.join(TOP, "crates", "tilt", "out", "tilt")
+from shared.packages import install, may_install
+from shared.paths import BUILT, TOP
+from shared.program import build_program
+
 PAGE = os.path.join(TOP, "docs", "RELIABILITY.md")
 
 SECONDS = 10
@@ -1059,8 +1060,7 @@ def main() -> int:
     words.add_argument("--table", action="store_true", help="write the table in docs/RELIABILITY.md")
     given = words.parse_args()
     if given.program is None:
-        # The program is built from these sources, if it isn't yet: a released one isn't what is checked.
-        subprocess.run([os.path.join(TOOLS, "program"), "--built"], stdin=subprocess.DEVNULL, capture_output=True)
+        build_program()
     program = os.path.abspath(given.program or BUILT)
     os.umask(0o022)
     tally = Tally()
@@ -1073,7 +1073,7 @@ def main() -> int:
     for what in tally.left_out:
         print(f"left out: {what}")
     if given.table:
-        write_table("check_faults", table(cleans, tally))
+        write_table("faults", table(cleans, tally))
     print(f"{tally.passed} passed, {tally.failed} failed")
     return 1 if tally.failed else 0
 

@@ -1,5 +1,5 @@
 #!/usr/bin/env python3
-"""Makes a package of Debian: `tools/package [FOLDER]` puts tilt-stream_VERSION_ARCH.deb into the folder, `.` where none is given, and
+"""Makes a package of Debian: `tools/package/debian.py [FOLDER]` puts tilt-stream_VERSION_ARCH.deb into the folder, `.` where none is given, and
 prints its path. It has the program as `tilt-stream`, and as `tilt` by update-alternatives; `tilt-data`; manual pages, pages,
 examples, completion for bash, and the licence. It exits with 1 if there is no program of these sources, built or released, or if dpkg-deb is missing."""
 from __future__ import annotations
@@ -12,9 +12,10 @@ import subprocess
 import sys
 import tempfile
 
-TOOLS = os.path.dirname(os.path.realpath(__file__))
-TOP = os.path.dirname(TOOLS)
-PARTS = os.path.join(TOOLS, "packaging")
+sys.path.insert(0, os.path.dirname(os.path.dirname(os.path.realpath(__file__))))
+
+from shared.paths import FIND_PROGRAM, TOP
+
 DOC = "usr/share/doc/tilt-stream"
 STARTER = "#!/usr/bin/python3\nimport sys\n\nfrom tilt_data.cli import main\n\nif __name__ == \"__main__\":\n    sys.exit(main())\n"
 
@@ -84,7 +85,7 @@ def lay_out(root: str, program: str) -> None:
         if page.endswith(".md"):
             put(root, f"{DOC}/docs/{page}", text_of("docs", page))
     for name in ("tilt", "tilt-stream", "tilt-data"):
-        put(root, f"usr/share/bash-completion/completions/{name}", text_of("tools", "packaging", "completion"))
+        put(root, f"usr/share/bash-completion/completions/{name}", text_of("tools", "package", "completion"))
 
 
 def finish(root: str, time: int) -> None:
@@ -92,7 +93,7 @@ def finish(root: str, time: int) -> None:
     sizes = [os.path.getsize(os.path.join(folder, name)) for folder, _, names in os.walk(root) for name in names]
     put(root, "DEBIAN/control", control(sum(sizes) // 1024 + 1))
     for script in ("postinst", "prerm"):
-        put(root, f"DEBIAN/{script}", text_of("tools", "packaging", script), 0o755)
+        put(root, f"DEBIAN/{script}", text_of("tools", "package", script), 0o755)
     for folder, _, names in os.walk(root):
         os.chmod(folder, 0o755)
         for name in names:
@@ -104,13 +105,13 @@ def finish(root: str, time: int) -> None:
 
 def main() -> int:
     if len(sys.argv) > 2 or sys.argv[1:2] and sys.argv[1].startswith("-"):
-        print("usage: tools/package [FOLDER]", file=sys.stderr)
+        print("usage: tools/package/debian.py [FOLDER]", file=sys.stderr)
         return 2
-    found = subprocess.run([os.path.join(TOOLS, "program"), "--found"], stdout=subprocess.PIPE, text=True)
+    found = subprocess.run([FIND_PROGRAM, "--found"], stdout=subprocess.PIPE, text=True)
     if found.returncode:
         return 1
     if shutil.which("dpkg-deb") is None:
-        print("package: dpkg-deb is missing", file=sys.stderr)
+        print("debian: dpkg-deb is missing", file=sys.stderr)
         return 1
     target = os.path.abspath(sys.argv[1] if sys.argv[1:] else ".")
     package = os.path.join(target, f"tilt-stream_{version()}_{architecture()}.deb")

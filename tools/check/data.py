@@ -15,13 +15,12 @@ import sys
 import tempfile
 import xml.etree.ElementTree
 
-from packages import install, may_install
+sys.path.insert(0, os.path.dirname(os.path.dirname(os.path.realpath(__file__))))
 
-TOOLS = os.path.dirname(os.path.realpath(__file__))
-TOP = os.path.dirname(TOOLS)
-BUILT = os.path.join(TOP, "crates", "tilt", "out", "tilt")
-BUILD = [os.path.join(TOOLS, "program"), "--built"]
-SYSTEM = "/usr/bin/python3" if os.path.exists("/usr/bin/python3") else sys.executable
+from shared.packages import install, may_install
+from shared.paths import BUILT, SYSTEM_PYTHON, TOP
+from shared.program import build_program
+
 # Packages, and the module or the program that tells that one is there.
 MODULES = {"python3-pytest": "pytest", "python3-pandas": "pandas", "python3-matplotlib": "matplotlib", "python3-dask": "dask",
            "python3-distributed": "distributed"}
@@ -30,7 +29,7 @@ PROGRAMS = {"mosquitto": "mosquitto", "mosquitto-clients": "mosquitto_pub", "m4"
 
 def is_there(package: str) -> bool:
     if package in MODULES:
-        return subprocess.run([SYSTEM, "-c", f"import {MODULES[package]}"], capture_output=True).returncode == 0
+        return subprocess.run([SYSTEM_PYTHON, "-c", f"import {MODULES[package]}"], capture_output=True).returncode == 0
     return shutil.which(PROGRAMS[package]) is not None or os.path.exists(os.path.join("/usr/sbin", PROGRAMS[package]))
 
 
@@ -60,8 +59,7 @@ def written() -> list[str]:
 
 
 def main() -> int:
-    # The program is built from these sources, if it isn't yet: a released one isn't what is checked.
-    subprocess.run(BUILD, stdin=subprocess.DEVNULL, capture_output=True)
+    build_program()
     failed = 0
     if not os.access(BUILT, os.X_OK):
         print("the program isn't built")
@@ -76,7 +74,7 @@ def main() -> int:
         return 1 if failed else 0
     with tempfile.TemporaryDirectory() as folder:
         report = os.path.join(folder, "report.xml")
-        words = [SYSTEM, "-m", "pytest", "-q", "-p", "no:cacheprovider", f"--junitxml={report}", os.path.join(TOP, "python")]
+        words = [SYSTEM_PYTHON, "-m", "pytest", "-q", "-p", "no:cacheprovider", f"--junitxml={report}", os.path.join(TOP, "python")]
         done = subprocess.run(words, cwd=TOP, stdin=subprocess.DEVNULL, env={**os.environ, "PYTHONDONTWRITEBYTECODE": "1"})
         passed, wrong, left_out = tests(report) if os.path.exists(report) else (0, 1, [])
     # A status without a failed test is a fault of the run itself.

@@ -1,6 +1,6 @@
 #!/usr/bin/env python3
 """Makes the series of examples/sensors, examples/trading and examples/clinical, from draws that are the same on every machine, and
-what their queries give on them, by tools/evaluate; and the raw files as one has them, with dates and decimals, from which `tilt-data
+what their queries give on them, by tools/check/evaluate.py; and the raw files as one has them, with dates and decimals, from which `tilt-data
 series` makes these series. The word FOLDER names the folder whose `sensors`, `trading` and `clinical` get the
 files; without a word it is `examples` of the repository. The queries are those of the repository in any case."""
 from __future__ import annotations
@@ -11,8 +11,11 @@ import subprocess
 import sys
 from typing import Iterable, Sequence, TextIO
 
-TOOLS = os.path.dirname(os.path.realpath(__file__))
-EXAMPLES = os.path.join(os.path.dirname(TOOLS), "examples")
+sys.path.insert(0, os.path.dirname(os.path.dirname(os.path.realpath(__file__))))
+
+from shared.paths import EVALUATE, TOP
+
+EXAMPLES = os.path.join(TOP, "examples")
 Row = tuple[int, int, "int | None"]
 # A row of a series whose rows all have a value.
 Whole = tuple[int, int, int]
@@ -248,7 +251,7 @@ def put_expected(example: str, folder: str) -> None:
         path = os.path.join(queries, query)
         binds = [f"{name}={os.path.join(folder, name)}.csv" for name in inputs_of(path)]
         with open(os.path.join(folder, "expected", query.replace(".tilt", ".csv")), "wb") as file:
-            subprocess.run([os.path.join(TOOLS, "evaluate"), path, *binds], stdout=file, check=True)
+            subprocess.run([EVALUATE, path, *binds], stdout=file, check=True)
 
 
 def main() -> int:

@@ -11,8 +11,10 @@ import subprocess
 import sys
 import tomllib
 
-TOOLS = os.path.dirname(os.path.realpath(__file__))
-TOP = os.path.dirname(TOOLS)
+sys.path.insert(0, os.path.dirname(os.path.dirname(os.path.realpath(__file__))))
+
+from shared.paths import FIND_PROGRAM, TOOLS, TOP
+
 RELEASED = os.path.join(TOP, "release", "tilt")
 
 
@@ -30,11 +32,11 @@ def differences(description: dict[str, str]) -> list[str | None]:
     released = content(RELEASED)
     digest = hashlib.sha256(released).hexdigest()
     found: list[str | None] = [None if digest == description["program"] else f"release/tilt has the SHA-256 {digest}"]
-    sources = printed(os.path.join(TOOLS, "sources"))
+    sources = printed(os.path.join(TOOLS, "package", "sources"))
     if sources != description["sources"]:
         print(f"release/tilt ({description['version']}) was built from other sources: not compared")
         return found
-    built = content(printed(os.path.join(TOOLS, "program"), "--built"))
+    built = content(printed(FIND_PROGRAM, "--built"))
     found.append(None if built == released else "release/tilt isn't the program that was built from these sources")
     toolchain = printed("rt", "version")
     found.append(None if toolchain == description["toolchain"] else f"the toolchain is {toolchain}")

@@ -23,9 +23,11 @@ import tempfile
 import threading
 from typing import BinaryIO, Callable, Iterator
 
-TOOLS = os.path.dirname(os.path.realpath(__file__))
-TOP = os.path.dirname(TOOLS)
-BUILT = os.path.join(TOP, "crates", "tilt", "out", "tilt")
+sys.path.insert(0, os.path.dirname(os.path.dirname(os.path.realpath(__file__))))
+
+from shared.paths import BUILT, TOP
+from shared.program import build_program
+
 PAGE = os.path.join(TOP, "docs", "RELIABILITY.md")
 
 # The program of that name, and not a word of the shell.
@@ -479,8 +481,7 @@ def main() -> int:
     words.add_argument("--table", action="store_true", help="write the tables in docs/RELIABILITY.md")
     given = words.parse_args()
     if given.program is None:
-        # The program is built from these sources, if it isn't yet: a released one isn't what is checked.
-        subprocess.run([os.path.join(TOOLS, "program"), "--built"], stdin=subprocess.DEVNULL, capture_output=True)
+        build_program()
     program = os.path.abspath(given.program or BUILT)
     limits = Limits(int(given.memory * 10**9), given.seconds)
     sizes = [int(size) for size in given.sizes.split(",")]
@@ -489,9 +490,9 @@ def main() -> int:
     many = try_words(program, limits, tally) if given.only in "words" else []
     bad = [try_bad(each, program, sizes, limits, tally) for each in bad_inputs() if given.only in each.what]
     tables = {
-        "check_sizes words": markdown(["words", "told", "time and memory"], many),
-        "check_sizes good": markdown(["input", "its file", "command", "time and memory"], good),
-        "check_sizes bad": markdown(["input", "told", *(f"{size} MB" for size in sizes), "growth"], bad),
+        "sizes words": markdown(["words", "told", "time and memory"], many),
+        "sizes good": markdown(["input", "its file", "command", "time and memory"], good),
+        "sizes bad": markdown(["input", "told", *(f"{size} MB" for size in sizes), "growth"], bad),
     }
     for name, table in tables.items():
         print(table)
