@@ -70,7 +70,7 @@ def test_tests_that_could_have_been_run_are_a_failure(apt, monkeypatch, capsys, 
     monkeypatch.setattr(os, "geteuid", lambda: user)
     assert data.main() == status
     out = capsys.readouterr().out
-    assert out.endswith(f"0 passed, {status} failed\n") and "tests left out; not installed: python3-pytest" in out
+    assert out.endswith(f"0 passed, {status} failed\n") and "tests; not installed: python3-pytest" in out
 
 
 ECHO = "echo 'input x; emit x | y && z > 3 over (0, 10];' > q; "
@@ -108,7 +108,7 @@ def test_a_page_that_has_what_the_program_prints_is_held_to_its_meaning(tmp_path
     monkeypatch.setattr(examples, "TOP", str(tmp_path))
     monkeypatch.setattr(examples, "BUILT", str(tmp_path / "tilt"))
     monkeypatch.setattr(examples, "lay_out", lambda folder, lines: (pathlib.Path(folder) / "x.csv").write_bytes((tmp_path / "x.csv").read_bytes()))
-    tally = examples.Tally()
+    tally = examples.PageTally()
     examples.check_page(tally, page)
     assert (tally.passed, tally.failed, tally.evaluated, tally.others) == (2 - failed, failed, 1, 0)
     assert ("by tools/check/evaluate.py" in capsys.readouterr().out) == bool(failed)

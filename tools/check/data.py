@@ -9,7 +9,6 @@ from __future__ import annotations
 
 import os
 import re
-import shutil
 import subprocess
 import sys
 import tempfile
@@ -17,9 +16,10 @@ import xml.etree.ElementTree
 
 sys.path.insert(0, os.path.dirname(os.path.dirname(os.path.realpath(__file__))))
 
-from shared.packages import install, may_install
+from shared.packages import has_module, has_program, install, may_install
 from shared.paths import BUILT, SYSTEM_PYTHON, TOP
 from shared.program import build_program
+from shared.tally import Tally
 
 # Packages, and the module or the program that tells that one is there.
 MODULES = {"python3-pytest": "pytest", "python3-pandas": "pandas", "python3-matplotlib": "matplotlib", "python3-dask": "dask",
@@ -28,9 +28,7 @@ PROGRAMS = {"mosquitto": "mosquitto", "mosquitto-clients": "mosquitto_pub", "m4"
 
 
 def is_there(package: str) -> bool:
-    if package in MODULES:
-        return subprocess.run([SYSTEM_PYTHON, "-c", f"import {MODULES[package]}"], capture_output=True).returncode == 0
-    return shutil.which(PROGRAMS[package]) is not None or os.path.exists(os.path.join("/usr/sbin", PROGRAMS[package]))
+    return has_module(MODULES[package]) if package in MODULES else has_program(PROGRAMS[package])
 
 
 def missing() -> list[str]:
@@ -60,31 +58,26 @@ def written() -> list[str]:
 
 def main() -> int:
     build_program()
-    failed = 0
+    tally = Tally()
     if not os.access(BUILT, os.X_OK):
-        print("the program isn't built")
-        failed += 1
+        tally.expect(False, "the program isn't built")
     install(missing())
     if missing() and may_install():
-        print(f"it couldn't be installed: {', '.join(missing())}")
-        failed += 1
+        tally.expect(False, f"it couldn't be installed: {', '.join(missing())}")
     if not is_there("python3-pytest"):
-        print(f"{len(written())} tests left out; not installed: {', '.join(missing())}")
-        print(f"0 passed, {failed} failed")
-        return 1 if failed else 0
+        tally.left_out.append(f"{len(written())} tests; not installed: {', '.join(missing())}")
+        return tally.end()
     with tempfile.TemporaryDirectory() as folder:
         report = os.path.join(folder, "report.xml")
         words = [SYSTEM_PYTHON, "-m", "pytest", "-q", "-p", "no:cacheprovider", f"--junitxml={report}", os.path.join(TOP, "python")]
         done = subprocess.run(words, cwd=TOP, stdin=subprocess.DEVNULL, env={**os.environ, "PYTHONDONTWRITEBYTECODE": "1"})
-        passed, wrong, left_out = tests(report) if os.path.exists(report) else (0, 1, [])
+        passed, failed, tally.left_out = tests(report) if os.path.exists(report) else (0, 1, [])
+    tally.passed += passed
     # A status without a failed test is a fault of the run itself.
-    failed += max(wrong, int(done.returncode != 0))
-    for what in left_out:
-        print(f"left out: {what}")
-    if left_out:
-        print(f"{len(left_out)} left out; not installed: {', '.join(missing()) or 'nothing'}")
-    print(f"{passed} passed, {failed} failed")
-    return 1 if failed else 0
+    tally.failed += max(failed, int(done.returncode != 0))
+    if tally.left_out:
+        tally.left_out.append(f"{len(tally.left_out)} in all; not installed: {', '.join(missing()) or 'nothing'}")
+    return tally.end()
 
 
 if __name__ == "__main__":

@@ -44,6 +44,7 @@ sys.path.insert(0, os.path.dirname(os.path.dirname(os.path.realpath(__file__))))
 
 from shared.paths import BUILT, EVALUATE, TOOLS, TOP
 from shared.program import build_program
+from shared.tally import Tally
 
 EXAMPLES = ["sensors", "trading", "clinical", "fleet"]
 # These pages have commands; if one has none any more, that is a failure.
@@ -77,19 +78,13 @@ class Call:
     most: int | None = None
 
 
-class Tally:
+class PageTally(Tally):
+    """What passed and failed, and how many calls of `run` and `flow` were worked out again, and how many weren't."""
+
     def __init__(self) -> None:
-        self.passed = 0
-        self.failed = 0
+        super().__init__()
         self.evaluated = 0
         self.others = 0
-
-    def note(self, good: bool, what: str) -> None:
-        if good:
-            self.passed += 1
-        else:
-            self.failed += 1
-            print(what)
 
 
 def blocks(lines: Iterable[str]) -> Iterator[tuple[list[str], int, list[str]]]:
@@ -186,7 +181,7 @@ def evaluated(call: Call, folder: str) -> str:
     return text if call.most is None else "".join(text.splitlines(keepends=True)[:call.most])
 
 
-def check_calls(tally: Tally, place: str, command: str, wanted: str, folder: str) -> None:
+def check_calls(tally: PageTally, place: str, command: str, wanted: str, folder: str) -> None:
     """Works out again what a line prints that came to its end."""
     calls = calls_of(command)
     tally.evaluated += len(calls)
@@ -197,7 +192,7 @@ def check_calls(tally: Tally, place: str, command: str, wanted: str, folder: str
             with open(os.path.join(folder, call.file), encoding="utf-8", newline="") as file:
                 printed = file.read()
         plainly = evaluated(call, folder)
-        tally.note(plainly == printed, f"{place}: by tools/check/evaluate.py: {command}\n{difference(printed, plainly)}")
+        tally.expect(plainly == printed, f"{place}: by tools/check/evaluate.py: {command}\n{difference(printed, plainly)}")
 
 
 def missing(command: str, folder: str) -> str | None:
@@ -209,13 +204,13 @@ def missing(command: str, folder: str) -> str | None:
     return program if program is not None and shutil.which(program) is None else None
 
 
-def check_command(tally: Tally, place: str, command: str, wanted: str, folder: str) -> None:
+def check_command(tally: PageTally, place: str, command: str, wanted: str, folder: str) -> None:
     needed = missing(command, folder)
     if needed:
         print(f"{place}: skipped, {needed} is missing: {command}")
         return
     got = said(["sh", "-c", command], folder)
-    tally.note(got == wanted, f"{place}: {command}\n{difference(wanted, got)}")
+    tally.expect(got == wanted, f"{place}: {command}\n{difference(wanted, got)}")
     if RUN.search(command) and not re.search(r"^\[status \d+\]\n\Z", wanted, re.MULTILINE):
         check_calls(tally, place, command, wanted, folder)
 
@@ -268,17 +263,17 @@ def lay_out(folder: str, lines: Sequence[str]) -> None:
         shutil.copytree(os.path.join(TOP, named.group(1)), folder, dirs_exist_ok=True)
 
 
-def check_page(tally: Tally, page: str) -> None:
+def check_page(tally: PageTally, page: str) -> None:
     with open(os.path.join(TOP, page), encoding="utf-8", newline="") as file:
         lines = file.read().split("\n")
     for number, what in hidden_commands(lines):
-        tally.note(False, f"{page}:{number}: {what}")
+        tally.expect(False, f"{page}:{number}: {what}")
     count = 0
     with tempfile.TemporaryDirectory() as folder:
         lay_out(folder, lines)
         for words, first, inside in blocks(lines):
             if words[:1] == ["file"]:
-                tally.note(is_named(words[1], lines, first - 1), f"{page}:{first - 1}: the line before it doesn't name `{words[1]}`")
+                tally.expect(is_named(words[1], lines, first - 1), f"{page}:{first - 1}: the line before it doesn't name `{words[1]}`")
                 write_file(folder, words[1], inside)
             elif words == ["console"]:
                 found = commands(first, inside)
@@ -286,19 +281,19 @@ def check_page(tally: Tally, page: str) -> None:
                 for number, command, wanted in found:
                     check_command(tally, f"{page}:{number}", command, wanted, folder)
     if page in WITH_COMMANDS:
-        tally.note(count > 0, f"{page}: it has no commands")
+        tally.expect(count > 0, f"{page}: it has no commands")
 
 
-def check_made(tally: Tally) -> None:
+def check_made(tally: PageTally) -> None:
     """The series and what is expected are those that are made again."""
     with tempfile.TemporaryDirectory() as folder:
         made = subprocess.run([os.path.join(TOOLS, "dev", "make_examples.py"), folder], stdin=subprocess.DEVNULL)
-        tally.note(made.returncode == 0, "tools/dev/make_examples.py fails")
+        tally.expect(made.returncode == 0, "tools/dev/make_examples.py fails")
         for path in sorted(glob.glob(os.path.join(folder, "**", "*.csv"), recursive=True)):
             name = os.path.join("examples", os.path.relpath(path, folder))
             there = os.path.join(TOP, name)
             same = os.path.exists(there) and filecmp.cmp(path, there, shallow=False)
-            tally.note(same, f"{name}: it isn't what is made again")
+            tally.expect(same, f"{name}: it isn't what is made again")
 
 
 def pages() -> list[str]:
@@ -316,18 +311,17 @@ def main() -> int:
         print(f"examples: no such page: {unknown[0]}", file=sys.stderr)
         return 2
     build_program()
-    tally = Tally()
-    tally.note(os.access(BUILT, os.X_OK), "the program isn't built")
+    tally = PageTally()
+    tally.expect(os.access(BUILT, os.X_OK), "the program isn't built")
     if not chosen:
         check_made(tally)
     for page in chosen or pages():
         if os.path.exists(os.path.join(TOP, page)):
             check_page(tally, page)
         else:
-            tally.note(False, f"{page}: it is missing")
+            tally.expect(False, f"{page}: it is missing")
     print(f"calls of `run` and `flow` that tools/check/evaluate.py worked out too: {tally.evaluated}; others: {tally.others}")
-    print(f"{tally.passed} passed, {tally.failed} failed")
-    return 1 if tally.failed else 0
+    return tally.end()
 
 
 if __name__ == "__main__":

@@ -20,6 +20,7 @@ sys.path.insert(0, os.path.dirname(os.path.dirname(os.path.realpath(__file__))))
 
 from shared.paths import TOOLS, TOP
 from shared.program import build_program
+from shared.tally import Tally
 
 PROGRAM = os.path.join(TOP, "tilt")
 
@@ -101,7 +102,7 @@ def main() -> int:
         calls = [one for call in tomllib.load(file)["call"] for one in each(call)]
     # A link to the script serves as well.
     build_program()
-    failed = 0
+    tally = Tally()
     for call in calls:
         with tempfile.TemporaryDirectory() as folder:
             program = PROGRAM
@@ -109,11 +110,8 @@ def main() -> int:
                 program = os.path.join(folder, "link")
                 os.symlink(PROGRAM, program)
             wrong = run(program, call, folder)
-        if wrong:
-            failed += 1
-            print(f"{call['name']}: " + "; ".join(wrong))
-    print(f"{len(calls) - failed} passed, {failed} failed")
-    return 1 if failed else 0
+        tally.note(call["name"], wrong)
+    return tally.end()
 
 
 if __name__ == "__main__":

@@ -18,12 +18,13 @@ sys.path.insert(0, os.path.dirname(os.path.dirname(os.path.realpath(__file__))))
 
 from shared.paths import BUILT, EVALUATE
 from shared.program import build_program
+from shared.series import Row, field, put_rows
+from shared.tally import Tally
 
 SEED = 20
 PIPELINES = 300
 CORRECTIONS = 300
 
-Row = tuple[int, int, "int | None"]
 Inputs = dict[str, list[Row]]
 Edit = tuple[str, str, Row]
 Needs = dict[str, "tuple[int, int] | None"]
@@ -44,14 +45,6 @@ def tilt(folder: str, *words: str) -> End:
 def put(folder: str, name: str, text: str) -> None:
     with open(os.path.join(folder, name), "w", encoding="utf-8") as file:
         file.write(text)
-
-
-def field(value: int | None) -> str:
-    return "" if value is None else str(value)
-
-
-def put_rows(folder: str, name: str, rows: Iterable[Row]) -> None:
-    put(folder, name, "start,end,value\n" + "".join(f"{start},{end},{field(value)}\n" for start, end, value in rows))
 
 
 # What is drawn
@@ -214,7 +207,7 @@ def pipeline_differs(draw: random.Random, folder: str) -> str | None:
     pipeline = random_pipeline(draw)
     put(folder, "p", pipeline)
     for name in ("x", "y"):
-        put_rows(folder, name, random_rows(draw, 12))
+        put_rows(os.path.join(folder, name), random_rows(draw, 12))
     binds = ["x=x", "y=y"] if "join y" in pipeline else ["x=x"]
     wanted = called(folder, EVALUATE, "--flow", "p", *binds)
     for plain in ((), ("--plain",)):
@@ -234,7 +227,7 @@ def wanted_of(folder: str, query: str, edits: Iterable[Edit], inputs: Inputs) ->
         inputs = done(edit, inputs)
         lines += reached_line(edit, needs, domain_of(query))
     for name, rows in inputs.items():
-        put_rows(folder, f"{name}2", rows)
+        put_rows(os.path.join(folder, f"{name}2"), rows)
     status, out, told = tilt(folder, "run", "q", "x=x2", "y=y2")
     if called(folder, EVALUATE, "q", "x=x2", "y=y2")[:2] != (0, out):
         return 1, b"", b"run and evaluate differ"
@@ -256,7 +249,7 @@ def correction_differs(draw: random.Random, folder: str) -> str | None:
         now = done(edit, now)
     put(folder, "q", query)
     for name, rows in inputs.items():
-        put_rows(folder, name, rows)
+        put_rows(os.path.join(folder, name), rows)
     put(folder, "e", "".join(map(line_of, edits)))
     wanted = wanted_of(folder, query, edits, inputs)
     for plain in ((), ("--plain",)):
@@ -269,18 +262,13 @@ def correction_differs(draw: random.Random, folder: str) -> str | None:
 def main() -> int:
     build_program()
     draw = random.Random(SEED)
-    passed = failed = 0
+    tally = Tally()
     for check, count in ((pipeline_differs, PIPELINES), (correction_differs, CORRECTIONS)):
         for _ in range(count):
             with tempfile.TemporaryDirectory() as folder:
                 wrong = check(draw, folder)
-            if wrong is None:
-                passed += 1
-            else:
-                failed += 1
-                print(wrong[:1000])
-    print(f"{passed} passed, {failed} failed")
-    return 1 if failed else 0
+            tally.expect(wrong is None, (wrong or "")[:1000])
+    return tally.end()
 
 
 if __name__ == "__main__":

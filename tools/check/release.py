@@ -14,6 +14,7 @@ import tomllib
 sys.path.insert(0, os.path.dirname(os.path.dirname(os.path.realpath(__file__))))
 
 from shared.paths import FIND_PROGRAM, TOOLS, TOP
+from shared.tally import Tally
 
 RELEASED = os.path.join(TOP, "release", "tilt")
 
@@ -27,30 +28,25 @@ def printed(*command: str) -> str:
     return subprocess.run(command, check=True, stdin=subprocess.DEVNULL, capture_output=True, text=True).stdout.strip()
 
 
-def differences(description: dict[str, str]) -> list[str | None]:
-    """The outcome of each comparison: what differs, or None."""
+def compare(description: dict[str, str], tally: Tally) -> None:
     released = content(RELEASED)
     digest = hashlib.sha256(released).hexdigest()
-    found: list[str | None] = [None if digest == description["program"] else f"release/tilt has the SHA-256 {digest}"]
+    tally.expect(digest == description["program"], f"release/tilt has the SHA-256 {digest}")
     sources = printed(os.path.join(TOOLS, "package", "sources"))
     if sources != description["sources"]:
         print(f"release/tilt ({description['version']}) was built from other sources: not compared")
-        return found
+        return
     built = content(printed(FIND_PROGRAM, "--built"))
-    found.append(None if built == released else "release/tilt isn't the program that was built from these sources")
+    tally.expect(built == released, "release/tilt isn't the program that was built from these sources")
     toolchain = printed("rt", "version")
-    found.append(None if toolchain == description["toolchain"] else f"the toolchain is {toolchain}")
-    return found
+    tally.expect(toolchain == description["toolchain"], f"the toolchain is {toolchain}")
 
 
 def main() -> int:
+    tally = Tally()
     with open(os.path.join(TOP, "release", "release.toml"), "rb") as file:
-        found = differences(tomllib.load(file))
-    wrong = [difference for difference in found if difference is not None]
-    for difference in wrong:
-        print(difference)
-    print(f"{len(found) - len(wrong)} passed, {len(wrong)} failed")
-    return 1 if wrong else 0
+        compare(tomllib.load(file), tally)
+    return tally.end()
 
 
 if __name__ == "__main__":

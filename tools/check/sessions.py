@@ -16,10 +16,11 @@ sys.path.insert(0, os.path.dirname(os.path.dirname(os.path.realpath(__file__))))
 
 from shared.paths import BUILT
 from shared.program import build_program
+from shared.series import Row, put_rows
+from shared.tally import Tally
 
 DAY = 86400
 HOUR = 3600
-Row = tuple[int, int, int]
 
 
 def readings() -> list[Row]:
@@ -50,9 +51,9 @@ def tilt(folder: str, *words: str) -> tuple[int, bytes, bytes]:
     return done.returncode, done.stdout, done.stderr
 
 
-def put_rows(folder: str, rows: Sequence[Row], name: str = "x") -> None:
-    with open(os.path.join(folder, name), "w", encoding="utf-8") as file:
-        file.write("start,end,value\n" + "".join(f"{start},{end},{value}\n" for start, end, value in rows))
+def between(rows: Sequence[Row], old: int | None, new: int | None) -> list[Row]:
+    """The rows of a session from one cut to the next."""
+    return [row for row in rows if (old is None or old <= row[0]) and (new is None or row[0] < new)]
 
 
 def by_sessions(folder: str, rows: Sequence[Row], cuts: Sequence[int]) -> bytes:
@@ -60,7 +61,7 @@ def by_sessions(folder: str, rows: Sequence[Row], cuts: Sequence[int]) -> bytes:
     joined = b""
     before = None
     for cut in (*cuts, None):
-        put_rows(folder, [row for row in rows if (before is None or before <= row[0]) and (cut is None or row[0] < cut)])
+        put_rows(os.path.join(folder, "x"), between(rows, before, cut))
         first = ("start", "q") if before is None else ("resume", "state")
         last = ("--end",) if cut is None else ("--upto", str(cut), "--save", "state")
         status, written, told = tilt(folder, *first, "x=x", *last)
@@ -71,17 +72,13 @@ def by_sessions(folder: str, rows: Sequence[Row], cuts: Sequence[int]) -> bytes:
     return joined
 
 
-def between(rows: Sequence[Row], old: int | None, new: int | None) -> list[Row]:
-    return [row for row in rows if (old is None or old <= row[0]) and (new is None or row[0] < new)]
-
-
 def apart(folder: str, of_x: Sequence[Row], of_y: Sequence[Row], cuts: Sequence[tuple[int, int]]) -> bytes:
     """What sessions print, joined, each with a cut for x and one for y, or what the first one says that ends with another status than 0."""
     joined = b""
     before = None
     for cut in (*cuts, None):
         for place, name, rows in ((0, "x", of_x), (1, "y", of_y)):
-            put_rows(folder, between(rows, before and before[place], cut and cut[place]), name)
+            put_rows(os.path.join(folder, name), between(rows, before and before[place], cut and cut[place]))
         first = ("start", "q") if before is None else ("resume", "state")
         last = ("--end",) if cut is None else ("--upto", f"y={cut[1]},x={cut[0]}", "--save", "state")
         status, written, told = tilt(folder, *first, "x=x", "y=y", *last)
@@ -92,45 +89,37 @@ def apart(folder: str, of_x: Sequence[Row], of_y: Sequence[Row], cuts: Sequence[
     return joined
 
 
-def check_apart() -> tuple[int, int]:
-    """How many sessions with cuts of their own for each input print what one run prints, and how many don't."""
-    passed = failed = 0
+def check_apart(tally: Tally) -> None:
+    """Sessions with cuts of their own for each input print what one run prints."""
     for query, of_x, of_y in APART:
         with tempfile.TemporaryDirectory() as folder:
             with open(os.path.join(folder, "q"), "w", encoding="utf-8") as file:
                 file.write(query)
-            put_rows(folder, of_x)
-            put_rows(folder, of_y, "y")
+            put_rows(os.path.join(folder, "x"), of_x)
+            put_rows(os.path.join(folder, "y"), of_y)
             whole = tilt(folder, "run", "q", "x=x", "y=y")
             for at_x, at_y in itertools.product(PAIRS, PAIRS):
                 joined = apart(folder, of_x, of_y, tuple(zip(at_x, at_y)))
-                if whole[0] == 0 and len(whole[1].splitlines()) > 2 and joined == whole[1]:
-                    passed += 1
-                else:
-                    failed += 1
-                    print(f"{query} cut at {at_x} and {at_y}: {joined[:200]!r}, wanted {whole!r}"[:600])
-    return passed, failed
+                good = whole[0] == 0 and len(whole[1].splitlines()) > 2 and joined == whole[1]
+                tally.expect(good, f"{query} cut at {at_x} and {at_y}: {joined[:200]!r}, wanted {whole!r}"[:600])
 
 
 def main() -> int:
     build_program()
-    passed, failed = check_apart()
+    tally = Tally()
+    check_apart(tally)
     for query, rows, all_cuts in CASES:
         for cuts in all_cuts:
             with tempfile.TemporaryDirectory() as folder:
                 with open(os.path.join(folder, "q"), "w", encoding="utf-8") as file:
                     file.write(query)
-                put_rows(folder, rows)
+                put_rows(os.path.join(folder, "x"), rows)
                 whole = tilt(folder, "run", "q", "x=x")
                 cut = tilt(folder, "run", "q", "x=x", "--cut", ",".join(map(str, cuts)))
                 joined = by_sessions(folder, rows, cuts)
-            if whole[0] == 0 and len(whole[1].splitlines()) > 2 and joined == whole[1] and cut == whole:
-                passed += 1
-            else:
-                failed += 1
-                print(f"{query} cut at {cuts}: {joined[:200]!r}, {cut[1:]!r}, wanted {whole!r}"[:600])
-    print(f"{passed} passed, {failed} failed")
-    return 1 if failed else 0
+            good = whole[0] == 0 and len(whole[1].splitlines()) > 2 and joined == whole[1] and cut == whole
+            tally.expect(good, f"{query} cut at {cuts}: {joined[:200]!r}, {cut[1:]!r}, wanted {whole!r}"[:600])
+    return tally.end()
 
 
 if __name__ == "__main__":

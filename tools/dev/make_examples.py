@@ -14,9 +14,9 @@ from typing import Iterable, Sequence, TextIO
 sys.path.insert(0, os.path.dirname(os.path.dirname(os.path.realpath(__file__))))
 
 from shared.paths import EVALUATE, TOP
+from shared.series import Row, put_rows
 
 EXAMPLES = os.path.join(TOP, "examples")
-Row = tuple[int, int, "int | None"]
 # A row of a series whose rows all have a value.
 Whole = tuple[int, int, int]
 
@@ -232,12 +232,6 @@ def put_raw(top: str, traded: Sequence[Whole]) -> None:
 # The files
 
 
-def put_rows(folder: str, name: str, rows: Iterable[Row]) -> None:
-    with open(os.path.join(folder, name + ".csv"), "w", encoding="ascii") as file:
-        file.write("start,end,value\n")
-        file.writelines(f"{start},{end},{'' if value is None else value}\n" for start, end, value in rows)
-
-
 def inputs_of(query: str) -> list[str]:
     with open(query, encoding="ascii") as file:
         return [line.split()[1].strip(";") for line in file if line.startswith("input ")]
@@ -267,7 +261,7 @@ def main() -> int:
         folder = os.path.join(top, example)
         os.makedirs(folder, exist_ok=True)
         for name, rows in named.items():
-            put_rows(folder, name, rows)
+            put_rows(os.path.join(folder, f"{name}.csv"), rows)
         put_expected(example, folder)
     put_raw(top, traded)
     return 0

@@ -16,19 +16,12 @@ import tempfile
 
 sys.path.insert(0, os.path.dirname(os.path.dirname(os.path.realpath(__file__))))
 
+from shared.crates import crates_below
 from shared.paths import TOP
 
 
 def tell(text: str) -> None:
     print(f"try_wrong_bodies: {text}", file=sys.stderr, flush=True)
-
-
-def dependencies() -> dict[str, list[str]]:
-    """What each crate of crates.txt uses of the others."""
-    with open(os.path.join(TOP, "crates.txt"), encoding="utf-8") as file:
-        lines = [line.partition("#")[0].partition(":") for line in file]
-    uses = {name.strip(): libraries.split() for name, _, libraries in lines if name.strip()}
-    return {name: [library for library in libraries if library in uses] for name, libraries in uses.items()}
 
 
 def below(name: str, uses: dict[str, list[str]]) -> set[str]:
@@ -70,7 +63,7 @@ def are_refused(copy: str, name: str) -> bool:
 
 
 def main() -> int:
-    names, uses = list(dict.fromkeys(sys.argv[1:])), dependencies()
+    names, uses = list(dict.fromkeys(sys.argv[1:])), crates_below()
     unknown = [name for name in names if name not in uses]
     if unknown or not names:
         tell(f"no crate: {' '.join(unknown)}" if unknown else "the words are NAME [NAME ..]")

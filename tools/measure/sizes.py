@@ -27,6 +27,8 @@ sys.path.insert(0, os.path.dirname(os.path.dirname(os.path.realpath(__file__))))
 
 from shared.paths import BUILT, TOP
 from shared.program import build_program
+from shared.tables import markdown, write_table
+from shared.tally import Tally
 
 PAGE = os.path.join(TOP, "docs", "RELIABILITY.md")
 
@@ -71,19 +73,6 @@ class Good:
     files: dict[str, Callable[[], Iterator[bytes]]]
     commands: list[list[str]]
     wanted: Callable[[], Iterator[bytes]]
-
-
-class Tally:
-    def __init__(self) -> None:
-        self.passed = 0
-        self.failed = 0
-
-    def note(self, what: str, wrong: list[str]) -> None:
-        if wrong:
-            self.failed += 1
-            print(f"{what}: " + "; ".join(wrong), flush=True)
-        else:
-            self.passed += 1
 
 
 # Running.
@@ -454,23 +443,6 @@ def try_good(good: Good, program: str, limits: Limits, tally: Tally) -> list[str
     return [good.what, f"{size / MB:.2f} MB", f"`{good.commands[-1][0]}`", cell_of(done, limits, wrong)]
 
 
-# The tables.
-
-def markdown(heads: list[str], lines: list[list[str]]) -> str:
-    return "\n".join("| " + " | ".join(cells) + " |" for cells in [heads, ["---"] * len(heads), *lines]) + "\n"
-
-
-def write_table(name: str, table: str) -> None:
-    """Puts the table between the two marks of that name in the page."""
-    with open(PAGE, encoding="utf-8") as file:
-        page = file.read()
-    first, last = f"<!-- {name} -->\n", f"<!-- end of {name} -->\n"
-    before, rest = page.split(first)
-    after = rest.split(last)[1]
-    with open(PAGE, "w", encoding="utf-8") as file:
-        file.write(before + first + table + last + after)
-
-
 def main() -> int:
     words = argparse.ArgumentParser(description="Runs the built program on inputs by size.")
     words.add_argument("--program", help="another program than the built one")
@@ -497,9 +469,8 @@ def main() -> int:
     for name, table in tables.items():
         print(table)
         if given.table:
-            write_table(name, table)
-    print(f"{tally.passed} passed, {tally.failed} failed")
-    return 1 if tally.failed else 0
+            write_table(PAGE, name, table)
+    return tally.end()
 
 
 if __name__ == "__main__":

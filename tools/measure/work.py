@@ -25,8 +25,11 @@ from typing import Callable, Iterator
 
 sys.path.insert(0, os.path.dirname(os.path.dirname(os.path.realpath(__file__))))
 
+from shared.packages import has_module
 from shared.paths import BUILT, SYSTEM_PYTHON, TOP
 from shared.program import build_program
+from shared.tables import markdown, write_table
+from shared.tally import Tally
 
 BENCH = os.path.join(TOP, "bench")
 PAGE = os.path.join(TOP, "docs", "PERFORMANCE.md")
@@ -134,18 +137,6 @@ class Run:
     memory: int
 
 
-class Tally:
-    def __init__(self) -> None:
-        self.passed = 0
-        self.failed = 0
-
-    def note(self, what: str, good: bool) -> None:
-        self.passed += good
-        self.failed += not good
-        if not good:
-            print(what, flush=True)
-
-
 def run(words: list[str], out: str, text: str = "") -> Run:
     """Runs words with a text as their input; they have to end with status 0."""
     figures = out + ".time"
@@ -221,7 +212,7 @@ def build(folder: str) -> str:
 
 def is_there(peer: str) -> bool:
     if peer == "pandas":
-        return subprocess.run([SYSTEM_PYTHON, "-c", "import pandas"], capture_output=True).returncode == 0
+        return has_module("pandas")
     return shutil.which(peer) is not None
 
 
@@ -257,7 +248,7 @@ class Measured:
 
 def same(laid: Laid, what: str, one: str, other: str, tally: Tally) -> None:
     good = filecmp.cmp(one, other, shallow=False)
-    tally.note(f"{laid.work.name}, {laid.rows} rows: {what} prints other bytes than the program", good)
+    tally.expect(good, f"{laid.work.name}, {laid.rows} rows: {what} prints other bytes than the program")
 
 
 def measure(work: Work, program: str, hand: str, given: argparse.Namespace, tally: Tally, tables: Measured) -> None:
@@ -355,26 +346,11 @@ def run_and_exec(program: str, query: str, series: str, plain: list[str], folder
     taken = [instructions(words, folder) for words in ways]
     for words, name in zip(ways, (out, out + ".exec")):
         run(words, name)
-    tally.note(f"`exec` of {query} prints other bytes than `run`", filecmp.cmp(out, out + ".exec", shallow=False))
+    tally.expect(filecmp.cmp(out, out + ".exec", shallow=False), f"`exec` of {query} prints other bytes than `run`")
     return [*(f"{number / 10**6:,.1f}" for number in taken), f"{taken[0] / taken[1]:.1f}"]
 
 
 # The tables.
-
-def markdown(heads: list[str], lines: list[list[str]]) -> str:
-    return "\n".join("| " + " | ".join(cells) + " |" for cells in [heads, ["---"] * len(heads), *lines]) + "\n"
-
-
-def write_table(name: str, table: str) -> None:
-    """Puts the table between the two marks of that name in the page."""
-    with open(PAGE, encoding="utf-8") as file:
-        page = file.read()
-    first, last = f"<!-- {name} -->\n", f"<!-- end of {name} -->\n"
-    before, rest = page.split(first)
-    after = rest.split(last)[1]
-    with open(PAGE, "w", encoding="utf-8") as file:
-        file.write(before + first + table + last + after)
-
 
 def all_tables(tables: Measured, given: argparse.Namespace, program: str, tally: Tally) -> dict[str, str]:
     sizes = [f"{rows:,}" for rows in (SMALL, LARGE)]
@@ -427,12 +403,11 @@ def main() -> int:
     for name, table in all_tables(tables, given, program, tally).items():
         print(f"{name}\n{table}", flush=True)
         if given.table:
-            write_table(name, table)
+            write_table(PAGE, name, table)
     left_out = [peer for peer in PEERS if peer not in given.peers]
     if left_out:
         print(f"left out: {', '.join(left_out)}")
-    print(f"{tally.passed} passed, {tally.failed} failed")
-    return 1 if tally.failed else 0
+    return tally.end()
 
 
 if __name__ == "__main__":

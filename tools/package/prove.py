@@ -23,18 +23,12 @@ from typing import Any, BinaryIO
 
 sys.path.insert(0, os.path.dirname(os.path.dirname(os.path.realpath(__file__))))
 
+from shared.crates import lines_of_crates
 from shared.paths import TOP
 
 PROGRAM = "tilt"
 SOURCES = ["src", "specs", "proofs"]
 SIGNALS = [signal.SIGHUP, signal.SIGINT, signal.SIGTERM]
-
-
-def read_crates() -> dict[str, str]:
-    """The line of each crate in crates.txt."""
-    with open(f"{TOP}/crates.txt", encoding="utf-8") as file:
-        lines = [line.partition("#")[0].strip() for line in file]
-    return {line.partition(":")[0].strip(): line for line in lines if line}
 
 
 def lowest_first(name: str, lines: dict[str, str], order: list[str]) -> list[str]:
@@ -163,7 +157,7 @@ def leave(*_: object) -> None:
 
 
 def main() -> int:
-    lines = read_crates()
+    lines = lines_of_crates()
     order = lowest_first(PROGRAM, lines, [])
     with open(sys.argv[1], "ab", buffering=0) as log:
         for number in SIGNALS:

@@ -1,10 +1,22 @@
-"""Installs the packages of Debian that a check needs, where this user may."""
+"""The packages of Debian that a check needs: whether they are there, and how they are installed, if this user may."""
 from __future__ import annotations
 
 import os
 import shutil
 import subprocess
 from typing import Sequence
+
+from shared.paths import SYSTEM_PYTHON
+
+
+def has_module(module: str) -> bool:
+    """Whether the Python of the system has a module."""
+    return subprocess.run([SYSTEM_PYTHON, "-c", f"import {module}"], capture_output=True).returncode == 0
+
+
+def has_program(program: str) -> bool:
+    """Whether a program is there, which may be one for the system alone."""
+    return shutil.which(program) is not None or os.path.exists(os.path.join("/usr/sbin", program))
 
 
 def may_install() -> bool:
