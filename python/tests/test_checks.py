@@ -10,7 +10,8 @@ from conftest import TOP
 
 sys.path.insert(0, str(TOP / "tools"))
 
-from check import data, examples, faults
+from check import data, examples
+from check.faults import run as faults
 
 
 @pytest.fixture
@@ -55,7 +56,7 @@ def test_cases_that_could_have_been_run_are_a_failure(apt, monkeypatch, capsys, 
     monkeypatch.setattr(os, "geteuid", lambda: user)
     if not apt_there:
         os.unlink(apt / "apt-get")
-    tally = faults.Tally()
+    tally = faults.FaultTally()
     faults.note_missing(tally)
     assert (tally.passed, tally.failed) == (0, failures)
     assert ("strace, gcc, libc6-dev" in capsys.readouterr().out) == bool(failures)

@@ -38,6 +38,8 @@ TIME = shutil.which("time")
 SMALL, LARGE = 25_000, 400_000
 SEED = 1
 PEERS = ["awk", "sqlite3", "pandas"]
+# The options with fusion, and without.
+PLAIN: list[list[str]] = [[], ["--plain"]]
 
 
 # The works and their series.
@@ -334,7 +336,7 @@ def grown(what: Callable[[int], str], rows: int, counts: list[int], program: str
                 with open(path, "w", encoding="ascii") as file:
                     file.write(text)
             lines.append([str(count)])
-            for plain in ([], ["--plain"]):
+            for plain in PLAIN:
                 lines[-1] += run_and_exec(program, query, series, plain, folder, tally)
     return lines
 
