@@ -13,8 +13,8 @@ import pytest
 
 pandas = pytest.importorskip("pandas")
 
-from conftest import PROGRAM  # noqa: E402
-from tilt_data import Convention, Query, Refused, TiltError, run, sessions, span  # noqa: E402
+from conftest import PROGRAM
+from tilt_data import Convention, Query, Refused, TiltError, run, sessions, span
 
 AVERAGE = "input temp; emit avg(temp[t-600:t]) over (0, 3600] every 600;"
 

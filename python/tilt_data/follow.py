@@ -482,8 +482,8 @@ class Store:
         """Refuses an output that isn't as it was left: what was taken from it would be filled up, and what was added cut off."""
         size = self.size()
         if not least <= size <= most:
-            raise Refused(f"{self.output}: it has {size} bytes, not {least if least == most else f'{least} to {most}'}: it was moved away or "
-                          "changed; put it back as it was")
+            sizes = f"{least}" if least == most else f"{least} to {most}"
+            raise Refused(f"{self.output}: it has {size} bytes, not {sizes}: it was moved away or changed; put it back as it was")
 
     def logged(self) -> tuple[list[bytes], int]:
         """The whole lines that came since the last session, and how many bytes they are."""

@@ -4,6 +4,7 @@ from __future__ import annotations
 import argparse
 import dataclasses
 import datetime
+import importlib
 import os
 import re
 from typing import Any, Iterable, Iterator, Mapping
@@ -16,8 +17,8 @@ from .progress import shown
 HELP = """Draws series and outputs. NAME=FILE has a panel of its own, and after it +NAME=FILE is drawn into the same panel,
 +limit:NAME=FILE as a dashed line, and +band:NAME=FILE as a shaded band where FILE has a value other than 0. A value that holds is a step,
 events are dots, and null is a gap. What is shorter than a pixel is drawn one pixel wide, and a gap that is shorter isn't drawn. One name
-has one colour in all panels. The clock and the scale are those of the JSON file beside each file, or of the series that --like names; if there
-is neither, the axis has ticks. One FILE can be - for standard input."""
+has one colour in all panels. The clock and the scale are those of the JSON file beside each file, or of the series that --like names; if
+there is neither, the axis has ticks. One FILE can be - for standard input."""
 COLOURS = ["#1f5fa8", "#2a7f4f", "#7a3e9d", "#8a6d1d", "#137c86", "#5b5b5b"]
 LIMIT, BAND = "#b3261e", "#f2a33a"
 WORD = re.compile(r"(\+?)(?:(band|limit|dots):)?([^=]+)=(.+)")
@@ -404,7 +405,7 @@ def main(words: argparse.Namespace) -> int:
     if form not in ("svg", "png"):
         raise Refused(f"{words.out}: a name that ends in .svg or .png was expected")
     try:
-        import matplotlib  # noqa: F401
+        importlib.import_module("matplotlib")
     except ImportError as error:
         raise Refused("matplotlib isn't there: apt-get install python3-matplotlib, or pip install matplotlib") from error
     panels = panels_of(words)

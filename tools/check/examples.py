@@ -9,13 +9,14 @@ fence. Commands are run by `sh` in one folder for each page, which
 begins with a copy of `examples`, and of what is in the folder that a first line `<!-- check: FOLDER -->` names; `tilt` and the tools are on
 the path. A command whose own package is missing is skipped, and told.
 
-No other block may show a command unless the reader sees that it isn't run. Such a block is fenced ```sh, and the last line of text before it
-has the phrase "not run by the tests". A block fails if it is fenced ```sh and that phrase is missing, if it has another fence than
-those named here, ```text and ```rust, or if it shows a command, fenced or indented by four blanks. A command is a line that starts with `$ `
-or with the name of a program that the pages use (`COMMAND` below).
+No other block may show a command unless the reader sees that it isn't run. Such a block is fenced ```sh, and the last line of text before
+it has the phrase "not run by the tests". A block fails if it is fenced ```sh and that phrase is missing, if it has another fence than those
+named here, ```text and ```rust, or if it shows a command, fenced or indented by four blanks. A command is a line that starts with `$ ` or
+with the name of a program that the pages use (`COMMAND` below).
 
-What `tilt run` and `tilt flow` print is also compared with what tools/check/evaluate.py prints with the same words, but for --plain and --cut, which
-change nothing of it. That is so for each such call of a line that ends with status 0, whose commands have `;` or `&&` between them:
+What `tilt run` and `tilt flow` print is also compared with what tools/check/evaluate.py prints with the same words, but for --plain and
+--cut, which change nothing of it. That is so for each such call of a line that ends with status 0, whose commands have `;` or `&&` between
+them:
 
 - a call that is the line's last command, by itself or into `| head -n N`, where each command before it has its output put into a file;
 - a call whose output is put into a file by `> FILE`.
@@ -62,8 +63,8 @@ SIGNS = "();<>|&"
 NOT_RUN = "sh"
 TEXTS = ("text", "rust")
 MARK = "not run by the tests"
-# A line that shows a command: after settings such as `TILT=..`, a path or the name of a program. The first lines of a listing (`tilt 1`) and
-# of a checkpoint (`tilt checkpoint 2`) are none.
+# A line that shows a command: after settings such as `TILT=..`, a path or the name of a program. The first lines of a listing (`tilt 1`)
+# and of a checkpoint (`tilt checkpoint 2`) are none.
 PROGRAM_NAMES = ("tilt-data|rt|sudo|apt|apt-get|dpkg|pip|pip3|python3?|git|sh|bash|cd|cp|mv|rm|mkdir|cat|head|tail|grep|sed|awk|printf|echo|export|for|"
                  "while|man|sync|mosquitto_sub|kcat|duckdb|sqlite3|dask|dask-scheduler|dask-worker")
 COMMAND = re.compile(rf"\$ |(?:\w+=\S* +)*(?:(?:\.{{0,2}}/|~/|\.ci/|tools/)\w|(?:{PROGRAM_NAMES}) \S|tilt [a-z]+ (?!\d+$)\S)|PATH=")
@@ -71,8 +72,8 @@ COMMAND = re.compile(rf"\$ |(?:\w+=\S* +)*(?:(?:\.{{0,2}}/|~/|\.ci/|tools/)\w|(?
 
 @dataclasses.dataclass(frozen=True)
 class Call:
-    """A call of `run` or `flow` that is worked out again: its words after `tilt`, and where what it prints stands: in a file, or on the page,
-    of which it may be so many lines alone."""
+    """A call of `run` or `flow` that is worked out again: its words after `tilt`, and where what it prints stands: in a file, or on the
+    page, of which it may be so many lines alone."""
     words: list[str]
     file: str | None = None
     most: int | None = None

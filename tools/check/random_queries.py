@@ -1,10 +1,10 @@
 #!/usr/bin/env python3
 """Runs random pipelines and random corrections on the built program, with fusion and without, from a fixed seed.
 
-What `tilt flow` prints is compared with the definition by lists, which `tools/check/evaluate.py --flow` works out. What `tilt fix` prints is compared
-with what `tilt run` and `tools/check/evaluate.py` give on the rows that are corrected here, and its lines `reached ..` with how far the query
-looks by `tilt explain`; where a correction is refused, with the line that has to be told. The last line is 'N passed, M failed', and the
-status is 1 where one failed."""
+What `tilt flow` prints is compared with the definition by lists, which `tools/check/evaluate.py --flow` works out. What `tilt fix` prints
+is compared with what `tilt run` and `tools/check/evaluate.py` give on the rows that are corrected here, and its lines `reached ..` with how
+far the query looks by `tilt explain`; where a correction is refused, with the line that has to be told. The last line is 'N passed, M
+failed', and the status is 1 where one failed."""
 from __future__ import annotations
 
 import os

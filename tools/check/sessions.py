@@ -1,8 +1,9 @@
 #!/usr/bin/env python3
 """Runs the built program by sessions, each of which gets the rows that start from the cut before it on and below its own, and compares what
 they print, joined, with what one run over all rows prints: small queries by every pair of cuts around their output domain, and a day of
-readings that is cut each hour; and queries of two inputs by three sessions, of which the first two end by every pair of cuts for each input.
-Each session after the first saves to the file that it reads. The last line is 'N passed, M failed', and the status is 1 where one failed."""
+readings that is cut each hour; and queries of two inputs by three sessions, of which the first two end by every pair of cuts for each
+input. Each session after the first saves to the file that it reads. The last line is 'N passed, M failed', and the status is 1 where one
+failed."""
 from __future__ import annotations
 
 import itertools

@@ -1,8 +1,8 @@
 #!/usr/bin/env python3
-"""Makes the series of examples/sensors, examples/trading and examples/clinical, from draws that are the same on every machine, and
-what their queries give on them, by tools/check/evaluate.py; and the raw files as one has them, with dates and decimals, from which `tilt-data
-series` makes these series. The word FOLDER names the folder whose `sensors`, `trading` and `clinical` get the
-files; without a word it is `examples` of the repository. The queries are those of the repository in any case."""
+"""Makes the series of examples/sensors, examples/trading and examples/clinical, from draws that are the same on every machine, and what
+their queries give on them, by tools/check/evaluate.py; and the raw files as one has them, with dates and decimals, from which `tilt-data
+series` makes these series. The word FOLDER names the folder whose `sensors`, `trading` and `clinical` get the files; without a word it is
+`examples` of the repository. The queries are those of the repository in any case."""
 from __future__ import annotations
 
 import datetime

@@ -3,12 +3,12 @@
 
 Bad inputs come in three sizes, 16, 64 and 256 MB: texts of one byte again and again as a query, a pipeline, a series, corrections, a
 listing and a checkpoint, and long texts of good lines that aren't whole. Each has to end with the status and the line of docs/COMMANDS.md,
-its time has to grow no faster than its size, and its memory has to keep to what docs/RELIABILITY.md promises. Good inputs have the sizes that
-users have, and each has to end with status 0 and print the right bytes, which are worked out here.
+its time has to grow no faster than its size, and its memory has to keep to what docs/RELIABILITY.md promises. Good inputs have the sizes
+that users have, and each has to end with status 0 and print the right bytes, which are worked out here.
 
-It isn't part of the gate: it takes some minutes, and it measures. Time is that of the processor; a run that is too slow is made three times,
-and the fastest counts. The last line is 'N passed, M failed', and the status is 1 where one failed. With --table its tables are put between
-the marks in docs/RELIABILITY.md."""
+It isn't part of the gate: it takes some minutes, and it measures. Time is that of the processor; a run that is too slow is made three
+times, and the fastest counts. The last line is 'N passed, M failed', and the status is 1 where one failed. With --table its tables are put
+between the marks in docs/RELIABILITY.md."""
 from __future__ import annotations
 
 import argparse

@@ -1,7 +1,8 @@
 #!/usr/bin/env python3
-"""Makes a package of Debian: `tools/package/debian.py [FOLDER]` puts tilt-stream_VERSION_ARCH.deb into the folder, `.` where none is given, and
-prints its path. It has the program as `tilt-stream`, and as `tilt` by update-alternatives; `tilt-data`; manual pages, pages,
-examples, completion for bash, and the licence. It exits with 1 if there is no program of these sources, built or released, or if dpkg-deb is missing."""
+"""Makes a package of Debian: `tools/package/debian.py [FOLDER]` puts tilt-stream_VERSION_ARCH.deb into the folder, `.` where none is given,
+and prints its path. It has the program as `tilt-stream`, and as `tilt` by update-alternatives; `tilt-data`; manual pages, pages, examples,
+completion for bash, and the licence. It exits with 1 if there is no program of these sources, built or released, or if dpkg-deb is
+missing."""
 from __future__ import annotations
 
 import gzip

@@ -103,9 +103,9 @@ class Proof:
 
 
 def prove(order: list[str], lines: dict[str, str], room: str, log: BinaryIO) -> bool:
-    """Proves all but the last, and tells whether they are proved. The first are those that the longest chain of others stands on, and a proof
-    that isn't on the longest yields to the others. A proof has long stretches in which one of its jobs alone has work, so there are more
-    jobs than processors."""
+    """Proves all but the last, and tells whether they are proved. The first are those that the longest chain of others stands on, and a
+    proof that isn't on the longest yields to the others. A proof has long stretches in which one of its jobs alone has work, so there are
+    more jobs than processors."""
     below = {name: lowest_first(name, lines, [])[:-1] for name in order[:-1]}
     chain: dict[str, int] = {}
     running: dict[str, Proof] = {}

@@ -7,6 +7,6 @@ from shared.paths import FIND_PROGRAM
 
 
 def build_program() -> None:
-    """Builds the program if it isn't built from these sources yet: a released one isn't what is checked. Whether it is there then shows when
-    it is called."""
+    """Builds the program if it isn't built from these sources yet: a released one isn't what is checked. Whether it is there then shows
+    when it is called."""
     subprocess.run([FIND_PROGRAM, "--built"], stdin=subprocess.DEVNULL, capture_output=True)

@@ -20,8 +20,8 @@ NAMES = "saves under links, pipes, devices and other names"
 SHARED = "/dev/shm"
 # A user and a group that nobody else here is or is in.
 OTHER, GROUP = 65533, 65532
-# Whether the program may give files away, whether its user is in GROUP, the mode of a file of OTHER and GROUP, and the owner, group and mode
-# after a save.
+# Whether the program may give files away, whether its user is in GROUP, the mode of a file of OTHER and GROUP, and the owner, group and
+# mode after a save.
 OWNERS = [
     (True, False, 0o640, (OTHER, GROUP, 0o640)),
     (False, True, 0o660, (NOBODY, GROUP, 0o660)),
@@ -164,8 +164,8 @@ def try_names(clean: Clean, program: str, tally: FaultTally) -> None:
 
 
 def try_streams(clean: Clean, program: str, tally: FaultTally) -> None:
-    """`start` that saves to its own standard output, and to a pipe. A link in the folder leads where /dev/stdout leads, and stands for it: so
-    a program that is wrong can do no harm to that of the machine."""
+    """`start` that saves to its own standard output, and to a pipe. A link in the folder leads where /dev/stdout leads, and stands for it:
+    so a program that is wrong can do no harm to that of the machine."""
     saved = clean.saved or b""
     words = [program, *START, "stdout"]
     with Place(Case("", [], {"q": QUERY, "x": FIRST})) as folder:

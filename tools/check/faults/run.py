@@ -16,9 +16,9 @@ each call that asks for memory on, all memory is refused. Besides:
 - A device of 64 KiB that is full, where one can be mounted.
 
 What can't be tried here, for want of strace, of a C compiler or of rights, is told as left out, and never counted as passed. Where strace
-and the compiler are missing they are installed by `apt-get`, if this user may; where the user is root and `apt-get` is there, a kind of cases
-that is left out for want of them all the same is a failure. The last line is 'N passed, M failed', and the status is 1 where one failed. With
---table its table is put between the two marks in docs/RELIABILITY.md."""
+and the compiler are missing they are installed by `apt-get`, if this user may; where the user is root and `apt-get` is there, a kind of
+cases that is left out for want of them all the same is a failure. The last line is 'N passed, M failed', and the status is 1 where one
+failed. With --table its table is put between the two marks in docs/RELIABILITY.md."""
 from __future__ import annotations
 
 import argparse

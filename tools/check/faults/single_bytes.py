@@ -63,7 +63,9 @@ def try_packets(case: Case, clean: Clean, program: str, tally: FaultTally) -> No
 def compiles(text: str, *words: str) -> bool:
     """Whether there is a C compiler that takes a text with these words."""
     compiler = shutil.which("cc")
-    return compiler is not None and subprocess.run([compiler, *words, "-x", "c", "-"], input=text.encode(), capture_output=True).returncode == 0
+    if compiler is None:
+        return False
+    return subprocess.run([compiler, *words, "-x", "c", "-"], input=text.encode(), capture_output=True).returncode == 0
 
 
 def one_byte_library(folder: str) -> str | None:

@@ -7,7 +7,18 @@ from check.faults.calls import FAILING, Clean
 from shared.tables import markdown
 from shared.tally import Tally
 
-HEADS = ["command", "calls", "faults", "done all the same", "told", "memory refused", "kills", "old bytes after", "new bytes after", "wrong"]
+HEADS = [
+    "command",
+    "calls",
+    "faults",
+    "done all the same",
+    "told",
+    "memory refused",
+    "kills",
+    "old bytes after",
+    "new bytes after",
+    "wrong",
+]
 SEEN = ["faults", "survived", "told", "refusals", "wanting", "kills", "old", "new", "wrong"]
 
 
@@ -34,7 +45,8 @@ def row_of(name: str, clean: Clean, tally: FaultTally) -> list[str]:
     files = sum(1 for call in clean.calls if call.name in FAILING)
     faults, survived, told, refusals, wanting, kills, old, new, wrong = (str(tally.seen.get((name, what), 0)) for what in SEEN)
     held_after = [old, new] if any(call.part == "save" for call in clean.calls) else ["", ""]
-    return [f"`{name}`", f"{len(clean.calls)}, {files} of files", faults, survived, told, f"{refusals}, {wanting} told", kills, *held_after, wrong]
+    calls = f"{len(clean.calls)}, {files} of files"
+    return [f"`{name}`", calls, faults, survived, told, f"{refusals}, {wanting} told", kills, *held_after, wrong]
 
 
 def table(cleans: dict[str, Clean], tally: FaultTally) -> str:
