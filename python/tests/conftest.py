@@ -13,12 +13,19 @@ import pytest
 PYTHON = pathlib.Path(__file__).resolve().parent.parent
 TOP = PYTHON.parent
 PROGRAM = pathlib.Path(os.environ.get("TILT", TOP / "crates" / "tilt" / "out" / "tilt"))
-sys.path.insert(0, str(PYTHON))
+sys.path[:0] = [str(PYTHON), str(TOP / "tools")]
 
-from tilt_data.cli import main  # noqa: E402
+from tilt_data.cli import main
 
 
-@pytest.fixture
+def pytest_collection_modifyitems(items: list[pytest.Item]) -> None:
+    """A test that is handed the program has the mark `program`."""
+    for item in items:
+        if "tilt" in getattr(item, "fixturenames", ()):
+            item.add_marker("program")
+
+
+@pytest.fixture(scope="session")
 def tilt() -> str:
     """The program; a test that needs it is left out where it isn't built."""
     if not os.access(PROGRAM, os.X_OK):

@@ -8,8 +8,6 @@ import sys
 import pytest
 from conftest import TOP
 
-sys.path.insert(0, str(TOP / "tools"))
-
 from check import data, examples
 from check.faults import run as faults
 
@@ -69,7 +67,7 @@ def test_tests_that_could_have_been_run_are_a_failure(apt, monkeypatch, capsys, 
     monkeypatch.setattr(data, "BUILT", "/bin/true")
     monkeypatch.setattr(data, "is_there", lambda package: package == "m4")
     monkeypatch.setattr(os, "geteuid", lambda: user)
-    assert data.main() == status
+    assert data.main([]) == status
     out = capsys.readouterr().out
     assert out.endswith(f"0 passed, {status} failed\n") and "tests; not installed: python3-pytest" in out
 

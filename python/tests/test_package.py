@@ -17,6 +17,9 @@ from conftest import TOP
 from tilt_data.cli import parser_of
 
 
+pytestmark = pytest.mark.program
+
+
 def need_program() -> None:
     """Leaves a test out if no program was built or released from the sources of this checkout: tools/package/debian.py and tools/package/install take one."""
     if subprocess.run([str(TOP / "tools" / "package" / "program"), "--found"], capture_output=True).returncode:

@@ -703,10 +703,8 @@ class Cluster:
 
 
 @pytest.fixture(scope="module")
-def of_module(tmp_path_factory) -> Iterator[Cluster]:
+def of_module(tilt, tmp_path_factory) -> Iterator[Cluster]:
     pytest.importorskip("distributed", reason=f"{DASK} is missing")
-    if not os.access(PROGRAM, os.X_OK):
-        pytest.skip("the program isn't built")
     cluster = Cluster(tmp_path_factory.mktemp("cluster"))
     yield cluster
     cluster.end()

@@ -1,12 +1,16 @@
 #!/usr/bin/env python3
-"""Runs the tests of python/ on the built program, with the Python of the system and its packages.
+"""Runs the tests of python/, with the Python of the system and its packages: `tools/check/data.py [without-program | with-program]`.
 
-Where packages of Debian that the tests and the pages need are missing, they are installed by `apt-get`, if this user may. Tests whose own
-package can't be had, and all of them where pytest can't be, are told as left out, and never counted as passed; where the user is root and
-`apt-get` is there, a package that is missing all the same is a failure. The program is built first where it has to be; that it isn't there is
-a failure. The last line is 'N passed, M failed', and the status is 1 where one failed."""
+The program is built first if it has to be, and if it isn't there then, that is a failure. `without-program` runs the tests alone that need
+no program, and builds none; `with-program` runs the others. Which these are, python/tests/conftest.py knows.
+
+Packages of Debian that the tests and the pages need are installed by `apt-get` if they are missing, if this user may. Tests whose own
+package can't be had, and all of them if pytest can't be, are printed as left out, and never counted as passed. If the user is root and
+`apt-get` is there, a package that is missing all the same is a failure. The last line is 'N passed, M failed', and the status is 1 if one
+failed."""
 from __future__ import annotations
 
+import argparse
 import os
 import re
 import subprocess
@@ -22,8 +26,16 @@ from shared.program import build_program
 from shared.tally import Tally
 
 # Packages, and the module or the program that tells that one is there.
-MODULES = {"python3-pytest": "pytest", "python3-pandas": "pandas", "python3-matplotlib": "matplotlib", "python3-dask": "dask",
-           "python3-distributed": "distributed"}
+MODULES = {
+    "python3-pytest": "pytest",
+    "python3-pandas": "pandas",
+    "python3-matplotlib": "matplotlib",
+    "python3-dask": "dask",
+    "python3-distributed": "distributed",
+}
+# The tests that a word chooses, as pytest's option -m says it.
+CHOSEN = {"without-program": "not program", "with-program": "program"}
+NO_PROGRAM = os.path.join(os.sep, "there", "is", "no", "program")
 PROGRAMS = {"mosquitto": "mosquitto", "mosquitto-clients": "mosquitto_pub", "m4": "m4"}
 
 
@@ -56,29 +68,42 @@ def written() -> list[str]:
     return re.findall(r"^def test_\w+", "\n".join(texts), re.MULTILINE)
 
 
-def main() -> int:
-    build_program()
+def run_tests(which: str | None, tally: Tally) -> None:
+    with tempfile.TemporaryDirectory() as folder:
+        report = os.path.join(folder, "report.xml")
+        words = [SYSTEM_PYTHON, "-m", "pytest", "-q", "-p", "no:cacheprovider", f"--junitxml={report}", os.path.join(TOP, "python")]
+        environment = {**os.environ, "PYTHONDONTWRITEBYTECODE": "1"}
+        if which is not None:
+            words += ["-m", CHOSEN[which]]
+        if which == "without-program":
+            environment["TILT"] = NO_PROGRAM
+        done = subprocess.run(words, cwd=TOP, stdin=subprocess.DEVNULL, env=environment)
+        passed, failed, tally.left_out = tests(report) if os.path.exists(report) else (0, 1, [])
+    tally.passed += passed
+    # A status without a failed test is a fault of the run itself.
+    tally.failed += max(failed, int(done.returncode != 0))
+
+
+def main(arguments: list[str]) -> int:
+    words = argparse.ArgumentParser(description="Runs the tests of python/.")
+    words.add_argument("which", nargs="?", choices=sorted(CHOSEN), help="which tests; all, if none is given")
+    which = words.parse_args(arguments).which
     tally = Tally()
-    if not os.access(BUILT, os.X_OK):
-        tally.expect(False, "the program isn't built")
+    if which != "without-program":
+        build_program()
+        if not os.access(BUILT, os.X_OK):
+            tally.expect(False, "the program isn't built")
     install(missing())
     if missing() and may_install():
         tally.expect(False, f"it couldn't be installed: {', '.join(missing())}")
     if not is_there("python3-pytest"):
         tally.left_out.append(f"{len(written())} tests; not installed: {', '.join(missing())}")
         return tally.end()
-    with tempfile.TemporaryDirectory() as folder:
-        report = os.path.join(folder, "report.xml")
-        words = [SYSTEM_PYTHON, "-m", "pytest", "-q", "-p", "no:cacheprovider", f"--junitxml={report}", os.path.join(TOP, "python")]
-        done = subprocess.run(words, cwd=TOP, stdin=subprocess.DEVNULL, env={**os.environ, "PYTHONDONTWRITEBYTECODE": "1"})
-        passed, failed, tally.left_out = tests(report) if os.path.exists(report) else (0, 1, [])
-    tally.passed += passed
-    # A status without a failed test is a fault of the run itself.
-    tally.failed += max(failed, int(done.returncode != 0))
+    run_tests(which, tally)
     if tally.left_out:
         tally.left_out.append(f"{len(tally.left_out)} in all; not installed: {', '.join(missing()) or 'nothing'}")
     return tally.end()
 
 
 if __name__ == "__main__":
-    sys.exit(main())
+    sys.exit(main(sys.argv[1:]))
