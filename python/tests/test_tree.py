@@ -1,0 +1,339 @@
+"""The check of the tree of files (tools/check/tree) finds each fault that is planted in a small tree, and none in that tree itself."""
+from __future__ import annotations
+
+import pathlib
+from typing import Callable
+
+import pytest
+from check.tree import architecture, edits, lines, listed, python_files
+from conftest import TOP
+from shared import crates
+from shared.packages import has_module
+from shared.tally import Tally
+
+PAGE = """# The map
+
+## The crates
+
+| crate | the one contract it gives upward | stands on |
+|---|---|---|
+| `tilt_base` | numbers | `itoa` |
+| `tilt_core` | cores | base, `thiserror` |
+| `tilt_app` | all | what core stands on, but `thiserror`; core, |
+| | and more | `itoa` |
+
+**tilt_base**: bytes come in.
+
+| file | does |
+|---|---|
+| `cell`, `span` | cells, by `specs/Cell` |
+| specs `Number` | numbers |
+| proofs `Laws` | laws |
+
+**tilt_core** is one file: `core`.
+
+**tilt_app**: words come in.
+
+| file | does |
+|---|---|
+| `NAME_command` | a command |
+
+## Where tests lie
+
+| crate | tests | stands on |
+|---|---|---|
+| `tilt_tests` | all of it | app |
+
+## A new command
+
+| crate | file | what is added |
+|---|---|---|
+| `tilt_app` | `src/NAME_command.rt` | itself |
+| | `src/run_command.rt` | nothing, but for `specs/Cell.antt` of `tilt_base` |
+
+## The tools
+
+| file of `tools` | what it does |
+|---|---|
+| `one.py` | one thing |
+"""
+CRATES = """# The crates.
+tilt_base: itoa
+tilt_core: tilt_base thiserror  # A comment.
+tilt_app: tilt_base tilt_core itoa
+tilt_tests: tilt_app
+"""
+FILES = {
+    "crates.txt": CRATES,
+    "docs/ARCHITECTURE.md": PAGE,
+    "crates/tilt_base/src/lib.rt": "mod cell;\nmod span;\n",
+    "crates/tilt_base/src/cell.rt": "use itoa::Buffer;\npub fn cell(a: i64) -> i64 {\n    a + 1\n}\n",
+    "crates/tilt_base/src/span.rt": "pub struct Span;\n",
+    "crates/tilt_base/src/fault.rt": "pub enum Fault {}\n",
+    "crates/tilt_base/specs/Cell.antt": "-- Rattle.tilt_core. is only spoken of.\n",
+    "crates/tilt_base/specs/Number.antt": "",
+    "crates/tilt_base/proofs/Laws.antt": "",
+    "crates/tilt_core/src/core.rt": "// tilt_app::x is only spoken of.\n#[derive(thiserror::Error)]\npub enum Core {}\n",
+    "crates/tilt_core/proofs/Core.antt": "use Rattle.tilt_base.specs.Cell.{cell}\n",
+    "crates/tilt_app/src/run_command.rt": "use tilt_core::core;\nuse tilt_base::Span;\nuse itoa;\n",
+    "crates/tilt_tests/src/lib.rt": "use tilt_app::run;\n",
+    "crates/tilt_base/must-fail/less.edit": "file: src/cell.rt\nold:     a + 1\nnew:     a\n",
+    "tools/one.py": '"""One."""\n',
+}
+
+
+class Tree:
+    def __init__(self, top: pathlib.Path, capsys: pytest.CaptureFixture[str]) -> None:
+        self.top, self.capsys = top, capsys
+        for name, text in FILES.items():
+            self.write(name, text)
+
+    def write(self, name: str, text: str) -> None:
+        (self.top / name).parent.mkdir(parents=True, exist_ok=True)
+        (self.top / name).write_text(text)
+
+    def replace(self, name: str, old: str, new: str) -> None:
+        text = (self.top / name).read_text()
+        assert text.count(old) == 1
+        self.write(name, text.replace(old, new))
+
+    def faults(self, check: Callable[[str, Tally], None]) -> list[str]:
+        """The lines that a check prints; as many as it counts."""
+        tally = Tally()
+        check(str(self.top), tally)
+        found = self.capsys.readouterr().out.splitlines()
+        assert len(found) == tally.failed and tally.passed > 0
+        return found
+
+
+@pytest.fixture
+def tree(tmp_path: pathlib.Path, capsys: pytest.CaptureFixture[str]) -> Tree:
+    return Tree(tmp_path, capsys)
+
+
+def check_listed(top: str, tally: Tally) -> None:
+    listed.check_listed(top, tally, cited={})
+
+
+@pytest.mark.parametrize("check", [architecture.check_map, edits.check_edits, check_listed, lines.check_lines])
+def test_the_small_tree_has_no_fault(tree, check):
+    assert tree.faults(check) == []
+
+
+def line_of(text: str) -> int:
+    """The line of the page that begins with a text."""
+    return 1 + next(at for at, line in enumerate(PAGE.splitlines()) if line.startswith(text))
+
+
+@pytest.mark.parametrize(
+    "name, text, line, fault",
+    [
+        ("crates/tilt_base/src/more.rt", "", "**tilt_base**", "the part of tilt_base doesn't name its file src/more.rt"),
+        ("crates/tilt_base/src/cell/part.rt", "", "**tilt_base**", "the part of tilt_base doesn't name its file src/part.rt"),
+        ("crates/tilt_app/src/run.rt", "", "**tilt_app**", "the part of tilt_app doesn't name its file src/run.rt"),
+        ("tools/two.py", "x = 1\n", "| file of", "the table doesn't name tools/two.py"),
+    ],
+)
+def test_a_file_that_the_map_leaves_out(tree, name, text, line, fault):
+    tree.write(name, text)
+    assert tree.faults(architecture.check_map) == [f"docs/ARCHITECTURE.md:{line_of(line)}: {fault}"]
+
+
+@pytest.mark.parametrize(
+    "name, line, fault",
+    [
+        ("crates/tilt_base/src/span.rt", "| `cell`", "tilt_base has no src/span.rt"),
+        ("crates/tilt_base/specs/Number.antt", "| specs", "tilt_base has no specs/Number.antt"),
+        ("crates/tilt_base/proofs/Laws.antt", "| proofs", "tilt_base has no proofs/Laws.antt"),
+        ("tools/one.py", "| `one.py`", "there is no tools/one.py"),
+    ],
+)
+def test_a_file_of_the_map_that_is_gone(tree, name, line, fault):
+    (tree.top / name).unlink()
+    assert tree.faults(architecture.check_map) == [f"docs/ARCHITECTURE.md:{line_of(line)}: {fault}"]
+
+
+def test_files_that_are_named_in_other_places_of_the_map(tree):
+    (tree.top / "crates/tilt_base/specs/Cell.antt").unlink()
+    (tree.top / "crates/tilt_app/src/run_command.rt").unlink()
+    assert tree.faults(architecture.check_map) == [
+        f"docs/ARCHITECTURE.md:{line_of('| `cell`')}: tilt_base has no specs/Cell.antt",
+        f"docs/ARCHITECTURE.md:{line_of('| `NAME_command`')}: tilt_app has no src/NAME_command.rt",
+        f"docs/ARCHITECTURE.md:{line_of('| | `src/run')}: tilt_app has no src/run_command.rt",
+        f"docs/ARCHITECTURE.md:{line_of('| | `src/run')}: tilt_base has no specs/Cell.antt",
+    ]
+
+
+@pytest.mark.parametrize(
+    "old, new, line, fault",
+    [
+        ("tilt_base: itoa\n", "tilt_base: itoa csv\n", "| `tilt_base`", "tilt_base: the last column and crates.txt differ by ['csv']"),
+        ("tilt_core itoa\n", "tilt_core\n", "| `tilt_app`", "tilt_app: the last column and crates.txt differ by ['itoa']"),
+        (
+            "tilt_tests: tilt_app\n",
+            "tilt_tests: tilt_base\n",
+            "| `tilt_tests`",
+            "tilt_tests: the last column and crates.txt differ by ['tilt_app', 'tilt_base']",
+        ),
+        ("tilt_tests: tilt_app\n", "", "| `tilt_tests`", "tilt_tests isn't in crates.txt"),
+        ("tilt_base: itoa\n", "tilt_base: itoa\ntilt_new: tilt_base\n", "# The map", "tilt_new has no row in the tables of crates"),
+    ],
+)
+def test_a_list_of_crates_that_the_map_contradicts(tree, old, new, line, fault):
+    tree.replace("crates.txt", old, new)
+    assert tree.faults(architecture.check_map) == [f"docs/ARCHITECTURE.md:{line_of(line)}: {fault}"]
+
+
+def test_a_crate_without_its_part_in_the_map(tree):
+    tree.replace("docs/ARCHITECTURE.md", "**tilt_core** is", "`tilt_core` is")
+    place = f"docs/ARCHITECTURE.md:{line_of('| `tilt_core`')}"
+    assert tree.faults(architecture.check_map) == [f"{place}: tilt_core has no part that begins with its name in bold"]
+
+
+@pytest.mark.parametrize(
+    "edit, fault",
+    [
+        ("file: src/cell.rt\nold: a + 2\nnew: a\n", "2: it is in src/cell.rt 0 times, and not once"),
+        ("file: src/cell.rt\nold: i64\nnew: i32\n", "2: it is in src/cell.rt 2 times, and not once"),
+        ("file: src/cells.rt\nold: a\nnew: b\n", "1: there is no file of code src/cells.rt"),
+        ("file: specs/Cell.antt\nold: a\nnew: b\n", "1: there is no file of code specs/Cell.antt"),
+        ("old: a + 1\nnew: a\n", "1: no `file:` stands before it"),
+        ("file: src/cell.rt\nnew: a\n", "2: no `old:` stands before it"),
+        ("file: src/cell.rt\nold: a + 1\nnew: a + 1\n", "3: it changes nothing"),
+        ("file: src/cell.rt\nold: a + 1\n", "3: a `new:` is missing"),
+        ("file: src/cell.rt\n", "2: a `new:` is missing"),
+        ("file: src/cell.rt\nold : a + 1\nnew: a\n", "2: no line `file:`, `old:` or `new:`"),
+        # The second pair applies to what the first one made: there its text is gone, or there twice.
+        ("file: src/cell.rt\nold: a + 1\nnew: a\nold: a + 1\nnew: b\n", "4: it is in src/cell.rt 0 times, and not once"),
+        (
+            "file: src/cell.rt\nold: a + 1\nnew: Span\nfile: src/span.rt\nold: Span\nnew: S\nold: Span\nnew: T\n",
+            "7: it is in src/span.rt 0 times, and not once",
+        ),
+    ],
+)
+@pytest.mark.parametrize("folder", ["must-fail", "wrong-bodies"])
+def test_an_edit_that_doesnt_apply_once(tree, folder, edit, fault):
+    tree.write(f"crates/tilt_base/{folder}/bad.edit", edit)
+    assert tree.faults(edits.check_edits) == [f"crates/tilt_base/{folder}/bad.edit:{fault}"]
+
+
+@pytest.mark.parametrize(
+    "edit", ["file: src/cell.rt\nold: a + 1\nnew:\n", "file: src/cell.rt\nold: a + 1\nnew: b + 2\nold: b + 2\nnew: a\n"]
+)
+def test_an_edit_that_removes_and_one_of_two_pairs(tree, edit):
+    tree.write("crates/tilt_base/must-fail/other.edit", edit)
+    assert tree.faults(edits.check_edits) == []
+
+
+@pytest.mark.parametrize(
+    "name, old, new, faults",
+    [
+        (
+            "crates/tilt_core/proofs/Core.antt",
+            "use Rattle.tilt_base.specs.Cell.{cell}\n",
+            "",
+            ["crates.txt:3: tilt_core is listed with tilt_base, and names nothing of it"],
+        ),
+        ("crates/tilt_app/src/run_command.rt", "use itoa;\n", "", ["crates.txt:4: tilt_app is listed with itoa, and names nothing of it"]),
+        (
+            "crates.txt",
+            "tilt_core: tilt_base ",
+            "tilt_core: ",
+            ["crates/tilt_core/proofs/Core.antt:1: tilt_core names tilt_base, and isn't listed with it in crates.txt"],
+        ),
+        (
+            "crates/tilt_base/src/cell.rt",
+            "a + 1",
+            "tilt_core::core(a)",
+            ["crates/tilt_base/src/cell.rt:3: tilt_base names tilt_core, and isn't listed with it in crates.txt"],
+        ),
+        ("crates.txt", "tilt_tests: tilt_app\n", "", ["crates/tilt_tests:1: it isn't listed in crates.txt"]),
+        ("crates.txt", "tilt_tests: tilt_app\n", "tilt_tests: tilt_app\ntilt_none:\n", ["crates.txt:6: tilt_none has no folder"]),
+    ],
+)
+def test_a_list_of_crates_that_isnt_what_they_name(tree, name, old, new, faults):
+    tree.replace(name, old, new)
+    assert tree.faults(check_listed) == faults
+
+
+def test_an_exception_of_the_list_is_taken_while_it_is_needed(tree):
+    def check(top: str, tally: Tally) -> None:
+        listed.check_listed(top, tally, cited={"tilt_core": {"tilt_base": "another"}})
+
+    place = "crates.txt:3: tilt_core"
+    assert tree.faults(check) == [f"{place} needs no exception for tilt_base (CITED in tools/check/tree/listed.py)"]
+    tree.write("crates/tilt_core/proofs/Core.antt", "")
+    assert tree.faults(check) == []
+    tree.replace("crates.txt", "tilt_core: tilt_base ", "tilt_core: ")
+    assert tree.faults(check) == [f"{place} needs no exception for tilt_base (CITED in tools/check/tree/listed.py)"]
+
+
+@pytest.mark.parametrize(
+    "line, good",
+    [
+        ("x" * 140, True),
+        ("x" * 141, False),
+        ("pub use a::{" + "b, " * 60 + "};", True),
+        ('    b"' + "x" * 200 + '",', True),
+        ('    f(b"' + "x" * 200 + '");', False),
+    ],
+)
+def test_a_line_that_is_too_long(tree, line, good):
+    tree.write("crates/tilt_base/src/span.rt", f"// A line.\n{line}\n")
+    assert tree.faults(lines.check_lines) == ([] if good else ["crates/tilt_base/src/span.rt:2: more than 140 characters"])
+
+
+CONFIGURATION = '[tool.black]\nline-length = 140\n[tool.mypy]\nstrict = true\nfiles = ["tools"]\n'
+
+
+@pytest.mark.parametrize(
+    "module, check, text, fault",
+    [
+        (
+            "black",
+            python_files.check_layout,
+            "x = 1\ny = 'a'\n",
+            "tools/two.py:1: black lays it out in another way: call `black tools/two.py`",
+        ),
+        ("pyflakes", python_files.check_names, "x = 1\nimport os\n", "tools/two.py:2:1: 'os' imported but unused"),
+        (
+            "mypy",
+            python_files.check_types,
+            "def two(x: int) -> str:\n    return x\n",
+            "tools/two.py:2: error: Incompatible return value type",
+        ),
+    ],
+)
+def test_a_fault_of_python(tree, module, check, text, fault):
+    if not has_module(module):
+        pytest.skip(f"{module} is missing")
+    tree.write("pyproject.toml", CONFIGURATION)
+    assert tree.faults(check) == []
+    tree.write("tools/two.py", text)
+    tally = Tally()
+    check(str(tree.top), tally)
+    assert tally.failed == 1 and tree.capsys.readouterr().out.startswith(fault)
+
+
+def test_a_file_of_tests_that_cant_be_read(tree):
+    if not has_module("pytest"):
+        pytest.skip("pytest is missing")
+    tree.write("python/tests/test_one.py", "def test_one():\n    pass\n")
+    assert tree.faults(python_files.check_collected) == []
+    tree.write("python/tests/test_two.py", "import nothing_of_this_name\n")
+    tally = Tally()
+    python_files.check_collected(str(tree.top), tally)
+    assert tally.failed == 1 and "nothing_of_this_name" in tree.capsys.readouterr().out
+
+
+def test_scripts_without_a_suffix_are_python_by_their_first_line(tree):
+    tree.write("tools/script", "#!/usr/bin/env python3\n")
+    tree.write("tools/other", "#!/bin/sh\n")
+    tree.write("python/build/lib/left.py", "")
+    assert python_files.python_files(str(tree.top)) == ["tools/one.py", "tools/script"]
+
+
+def test_crates_are_read_without_comments():
+    found = crates.libraries_of_crates(str(TOP))
+    assert found["tilt_base"] == ["itoa"] and "tilt_app" in found["tilt"] and "#" not in "".join(found)
+    assert crates.crates_below(str(TOP))["tilt_base"] == []
