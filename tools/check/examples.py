@@ -65,8 +65,10 @@ TEXTS = ("text", "rust")
 MARK = "not run by the tests"
 # A line that shows a command: after settings such as `TILT=..`, a path or the name of a program. The first lines of a listing (`tilt 1`)
 # and of a checkpoint (`tilt checkpoint 2`) are none.
-PROGRAM_NAMES = ("tilt-data|rt|sudo|apt|apt-get|dpkg|pip|pip3|python3?|git|sh|bash|cd|cp|mv|rm|mkdir|cat|head|tail|grep|sed|awk|printf|echo|export|for|"
-                 "while|man|sync|mosquitto_sub|kcat|duckdb|sqlite3|dask|dask-scheduler|dask-worker")
+PROGRAM_NAMES = (
+    "tilt-data|rt|sudo|apt|apt-get|dpkg|pip|pip3|python3?|git|sh|bash|cd|cp|mv|rm|mkdir|cat|head|tail|grep|sed|awk|printf|echo|export|for|"
+    "while|man|sync|mosquitto_sub|kcat|duckdb|sqlite3|dask|dask-scheduler|dask-worker"
+)
 COMMAND = re.compile(rf"\$ |(?:\w+=\S* +)*(?:(?:\.{{0,2}}/|~/|\.ci/|tools/)\w|(?:{PROGRAM_NAMES}) \S|tilt [a-z]+ (?!\d+$)\S)|PATH=")
 
 

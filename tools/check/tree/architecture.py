@@ -5,7 +5,8 @@
   of its table names files that exist: of `src/`, or after the word `specs` or `proofs` of that folder. So do words such as `specs/Cut` and
   `src/cut.rt`.
 - In "A new command" such words are of the crate that was named last before them, or by `of` right after.
-- A table whose first head is "file of `FOLDER`" names each file of Python in that folder, and each file that it names exists."""
+- A table whose first head is "file of `FOLDER`" names each file below that folder, except `__init__.py`, and each file that it names
+  exists."""
 from __future__ import annotations
 
 import glob
@@ -39,7 +40,7 @@ def cells_of(line: str) -> list[str]:
 
 
 def rows_below(lines: list[Line], heads: list[str]) -> Iterator[tuple[int, list[str]]]:
-    """The rows of each table with these heads, with the number of the line. A row with an empty first cell goes on with the row before it."""
+    """The rows of each table with these heads, and their lines' numbers. A row whose first cell is empty goes on with the row before it."""
     inside, number = False, 0
     row: list[str] = []
     for at, line in [*lines, (0, "")]:
@@ -92,7 +93,7 @@ def words_of(text: str) -> list[str]:
 
 
 def stands_on(text: str, libraries: dict[str, list[str]]) -> set[str]:
-    """The libraries that the last column says: words with commas between, or `what NAME stands on, but WORDS`; several such with `;` between."""
+    """The libraries of the last column: words with commas between, or `what NAME stands on, but WORDS`; several such with `;` between."""
     found: set[str] = set()
     for piece in text.split(";"):
         like = re.fullmatch(r"what (\w+) stands on(?:, but (.*))?", piece.strip())
@@ -190,9 +191,10 @@ def check_folder(top: str, folder: str, rows: list[tuple[int, list[str]]], numbe
     named = {name: at for at, row in rows for name in QUOTED.findall(row[0])}
     for name, at in named.items():
         tally.expect(os.path.exists(os.path.join(top, folder, name)), f"{PAGE}:{at}: there is no {folder}/{name}")
-    for path in sorted(glob.glob(os.path.join(top, folder, "**", "*.py"), recursive=True)):
+    for path in sorted(glob.glob(os.path.join(top, folder, "**", "*"), recursive=True)):
         name = os.path.relpath(path, os.path.join(top, folder))
-        tally.expect(name in named or os.path.getsize(path) == 0, f"{PAGE}:{number}: the table doesn't name {folder}/{name}")
+        if os.path.isfile(path) and not path.endswith((".pyc", "__init__.py")):
+            tally.expect(name in named, f"{PAGE}:{number}: the table doesn't name {folder}/{name}")
 
 
 def check_map(top: str, tally: Tally) -> None:
