@@ -6,7 +6,6 @@ from typing import Callable
 
 import pytest
 from check.tree import architecture, edits, lines, listed, python_files
-from conftest import TOP
 from shared import crates
 from shared.packages import has_module
 from shared.tally import Tally
@@ -333,7 +332,13 @@ def test_scripts_without_a_suffix_are_python_by_their_first_line(tree):
     assert python_files.python_files(str(tree.top)) == ["tools/one.py", "tools/script"]
 
 
-def test_crates_are_read_without_comments():
-    found = crates.libraries_of_crates(str(TOP))
-    assert found["tilt_base"] == ["itoa"] and "tilt_app" in found["tilt"] and "#" not in "".join(found)
-    assert crates.crates_below(str(TOP))["tilt_base"] == []
+def test_crates_are_read_without_comments(tree):
+    top = str(tree.top)
+    assert crates.lines_of_crates(top)["tilt_core"] == "tilt_core: tilt_base thiserror"
+    assert crates.libraries_of_crates(top)["tilt_app"] == ["tilt_base", "tilt_core", "itoa"]
+    assert crates.crates_below(top) == {
+        "tilt_base": [],
+        "tilt_core": ["tilt_base"],
+        "tilt_app": ["tilt_base", "tilt_core"],
+        "tilt_tests": ["tilt_app"],
+    }

@@ -33,10 +33,10 @@ MODULES = {
     "python3-dask": "dask",
     "python3-distributed": "distributed",
 }
+PROGRAMS = {"mosquitto": "mosquitto", "mosquitto-clients": "mosquitto_pub", "m4": "m4"}
 # The tests that a word chooses, as pytest's option -m says it.
 CHOSEN = {"without-program": "not program", "with-program": "program"}
 NO_PROGRAM = os.path.join(os.sep, "there", "is", "no", "program")
-PROGRAMS = {"mosquitto": "mosquitto", "mosquitto-clients": "mosquitto_pub", "m4": "m4"}
 
 
 def is_there(package: str) -> bool:
