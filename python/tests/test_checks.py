@@ -7,6 +7,7 @@ import sys
 
 import pytest
 from conftest import TOP
+from shared.tally import Tally
 
 from check import data, examples
 from check.faults import run as faults
@@ -70,6 +71,31 @@ def test_tests_that_could_have_been_run_are_a_failure(apt, monkeypatch, capsys, 
     assert data.main([]) == status
     out = capsys.readouterr().out
     assert out.endswith(f"0 passed, {status} failed\n") and "tests; not installed: python3-pytest" in out
+
+
+REPORT = """<testsuites><testsuite>
+<testcase classname="a" name="good"/>
+<testcase classname="a" name="bad"><failure message="no"/></testcase>
+<testcase classname="a" name="lacking"><skipped message="m4 is missing"/></testcase>
+<testcase classname="a" name="unmarked"><skipped message="the program isn't built"/></testcase>
+</testsuite></testsuites>"""
+
+
+@pytest.mark.parametrize("which, failed", [("without-program", 2), ("with-program", 1), (None, 1)])
+def test_a_test_that_needs_the_program_without_the_mark_fails(tmp_path, capsys, which, failed):
+    (tmp_path / "report.xml").write_text(REPORT)
+    tally = Tally()
+    data.note_tests(str(tmp_path / "report.xml"), 1, which, tally)
+    assert (tally.passed, tally.failed, len(tally.left_out)) == (1, failed, 3 - failed)
+    assert ("a.unmarked: the program isn't built, and this test hasn't the mark `program`" in capsys.readouterr().out) == (failed == 2)
+
+
+def test_a_report_that_is_missing_and_a_status_without_a_fault_are_failures(tmp_path):
+    tally = Tally()
+    data.note_tests(str(tmp_path / "none.xml"), 0, None, tally)
+    (tmp_path / "report.xml").write_text("<testsuite><testcase classname='a' name='b'/></testsuite>")
+    data.note_tests(str(tmp_path / "report.xml"), 3, None, tally)
+    assert (tally.passed, tally.failed) == (1, 2)
 
 
 ECHO = "echo 'input x; emit x | y && z > 3 over (0, 10];' > q; "

@@ -16,8 +16,9 @@ def test_a_tally_prints_what_failed_and_ends_with_its_status(capsys):
     tally.note("two", ["this", "that"])
     tally.expect(False, "three")
     tally.left_out.append("four")
+    tally.add(10, 1)
     assert tally.end() == 1
-    assert capsys.readouterr().out == "two: this; that\nthree\nleft out: four\n2 passed, 2 failed\n"
+    assert capsys.readouterr().out == "two: this; that\nthree\nleft out: four\n12 passed, 3 failed\n"
 
 
 def test_a_tally_counts_from_many_threads():

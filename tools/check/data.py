@@ -37,6 +37,7 @@ PROGRAMS = {"mosquitto": "mosquitto", "mosquitto-clients": "mosquitto_pub", "m4"
 # The tests that a word chooses, as pytest's option -m says it.
 CHOSEN = {"without-program": "not program", "with-program": "program"}
 NO_PROGRAM = os.path.join(os.sep, "there", "is", "no", "program")
+NOT_BUILT = "the program isn't built"
 
 
 def is_there(package: str) -> bool:
@@ -68,6 +69,18 @@ def written() -> list[str]:
     return re.findall(r"^def test_\w+", "\n".join(texts), re.MULTILINE)
 
 
+def note_tests(report: str, status: int, which: str | None, tally: Tally) -> None:
+    """Counts the tests of a report. One that was left out for want of the program, where only those without it are run, lacks its mark: it
+    would be run nowhere."""
+    passed, failed, left_out = tests(report) if os.path.exists(report) else (0, 1, [])
+    unmarked = [what for what in left_out if which == "without-program" and what.endswith(NOT_BUILT)]
+    for what in unmarked:
+        tally.expect(False, f"{what}, and this test hasn't the mark `program`")
+    tally.left_out += [what for what in left_out if what not in unmarked]
+    # A status without a failed test is a fault of the run itself.
+    tally.add(passed, max(failed, int(status != 0)))
+
+
 def run_tests(which: str | None, tally: Tally) -> None:
     with tempfile.TemporaryDirectory() as folder:
         report = os.path.join(folder, "report.xml")
@@ -78,10 +91,7 @@ def run_tests(which: str | None, tally: Tally) -> None:
         if which == "without-program":
             environment["TILT"] = NO_PROGRAM
         done = subprocess.run(words, cwd=TOP, stdin=subprocess.DEVNULL, env=environment)
-        passed, failed, tally.left_out = tests(report) if os.path.exists(report) else (0, 1, [])
-    tally.passed += passed
-    # A status without a failed test is a fault of the run itself.
-    tally.failed += max(failed, int(done.returncode != 0))
+        note_tests(report, done.returncode, which, tally)
 
 
 def main(arguments: list[str]) -> int:
@@ -92,7 +102,7 @@ def main(arguments: list[str]) -> int:
     if which != "without-program":
         build_program()
         if not os.access(BUILT, os.X_OK):
-            tally.expect(False, "the program isn't built")
+            tally.expect(False, NOT_BUILT)
     install(missing())
     if missing() and may_install():
         tally.expect(False, f"it couldn't be installed: {', '.join(missing())}")

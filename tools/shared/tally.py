@@ -27,6 +27,12 @@ class Tally:
                 self.failed += 1
                 print(otherwise, flush=True)
 
+    def add(self, passed: int, failed: int = 0) -> None:
+        """So many passed and failed, of which what is wrong was printed elsewhere."""
+        with self.lock:
+            self.passed += passed
+            self.failed += failed
+
     def end(self) -> int:
         """Prints the last line of a check, and gives its status."""
         for what in self.left_out:

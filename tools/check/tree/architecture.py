@@ -161,7 +161,7 @@ def check_part(top: str, crate: str, lines: list[Line], tally: Tally) -> None:
         good = stem in UNNAMED or any(fits(name, stem) for name in named)
         tally.expect(good, f"{PAGE}:{lines[0][0]}: the part of {crate} doesn't name its file src/{stem}.rt")
     missing = list(missing_files(top, crate, lines))
-    tally.passed += not missing
+    tally.add(0 if missing else 1)
     for number, wrong in missing:
         tally.expect(False, f"{PAGE}:{number}: {wrong}")
 

@@ -2,6 +2,7 @@
 hold to from pyproject.toml."""
 from __future__ import annotations
 
+import concurrent.futures
 import glob
 import os
 import re
@@ -64,7 +65,7 @@ def note_files(files: Iterable[str], wrong: list[str], status: int, lines: list[
         wrong = ["\n".join(lines[-20:])]
     for line in wrong:
         tally.expect(False, line)
-    tally.passed += len(set(files) - {line.partition(":")[0] for line in wrong})
+    tally.add(len(set(files) - {line.partition(":")[0] for line in wrong}))
 
 
 def check_layout(top: str, tally: Tally) -> None:
@@ -107,13 +108,13 @@ def check_collected(top: str, tally: Tally) -> None:
     """Each file of tests can be read, so that no test is lost."""
     status, lines = printed(top, "pytest", "--collect-only", "-q", "-p", "no:cacheprovider", "python/tests")
     found = [int(match[1]) for match in map(re.compile(r"(\d+) tests? collected").match, lines) if match]
-    tally.passed += sum(found)
+    tally.add(sum(found))
     tally.expect(status == 0 and bool(found), "\n".join(lines[-20:]))
 
 
 def check_python(top: str, tally: Tally) -> None:
     lacking = note_missing(tally)
     checks = {"black": check_layout, "pyflakes3": check_names, "mypy": check_types, "python3-pytest": check_collected}
-    for package, check in checks.items():
-        if package not in lacking:
-            check(top, tally)
+    with concurrent.futures.ThreadPoolExecutor() as pool:
+        for done in [pool.submit(check, top, tally) for package, check in checks.items() if package not in lacking]:
+            done.result()
