@@ -83,6 +83,7 @@ def test_tilt_is_an_alternative(root):
 
 def test_what_is_in_it(root):
     for name in ("man/man1/tilt-stream.1.gz", "man/man1/tilt-data.1.gz", "doc/tilt-stream/copyright", "doc/tilt-stream/docs/DATA.md",
+                 "doc/tilt-stream/CHANGELOG.md",
                  "bash-completion/completions/tilt-data", "doc/tilt-stream/examples/sensors/raw/readings.csv"):
         assert (root / "usr/share" / name).stat().st_size > 0, name
 
