@@ -1,4 +1,4 @@
-//! The works of tools/measure_work, each as one would write it by hand for this work alone. The words are the work and its files.
+//! The works of tools/measure/work.py, each as one would write it by hand for this work alone. The words are the work and its files.
 
 mod grid;
 mod pointwise;

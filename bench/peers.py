@@ -1,4 +1,4 @@
-"""The works of tools/measure_work by pandas. The words are the work and its files. Numbers are exact up to 2**53."""
+"""The works of tools/measure/work.py by pandas. The words are the work and its files. Numbers are exact up to 2**53."""
 from __future__ import annotations
 
 import sys

@@ -15,7 +15,7 @@ BLOCK = re.compile(r"```file \S+\n(.*?)```", re.S)
 def of_repository() -> list[bytes]:
     """Each text that stands in a table of calls, in a page, an example or a test, and has to do with a query."""
     found = set()
-    with open(TOP / "tools" / "calls.toml", "rb") as file:
+    with open(TOP / "tools" / "check" / "calls.toml", "rb") as file:
         for call in tomllib.load(file)["call"]:
             found |= {text for text in call.get("files", {}).values() if isinstance(text, str)}
     for page in [*TOP.glob("docs/*.md"), *TOP.glob("examples/*/README.md"), TOP / "README.md"]:

@@ -1,35 +1,17 @@
 """The checks of tools/: what they install, when a missing package is a failure, and which calls of the pages are worked out again."""
 from __future__ import annotations
 
-import importlib.machinery
-import importlib.util
 import os
 import pathlib
 import sys
-from types import ModuleType
 
 import pytest
 from conftest import TOP
 
-TOOLS = TOP / "tools"
+sys.path.insert(0, str(TOP / "tools"))
 
-
-@pytest.fixture
-def check(monkeypatch: pytest.MonkeyPatch):
-    """Loads a script of tools/ as a module."""
-    monkeypatch.syspath_prepend(str(TOOLS))
-    monkeypatch.setattr(sys, "dont_write_bytecode", True)
-
-    def load(name: str) -> ModuleType:
-        loader = importlib.machinery.SourceFileLoader(f"tools_{name}", str(TOOLS / name))
-        spec = importlib.util.spec_from_loader(loader.name, loader)
-        assert spec is not None
-        module = importlib.util.module_from_spec(spec)
-        monkeypatch.setitem(sys.modules, loader.name, module)
-        loader.exec_module(module)
-        return module
-
-    return load
+from check import data, examples
+from check.faults import run as faults
 
 
 @pytest.fixture
@@ -43,23 +25,22 @@ def apt(tmp_path: pathlib.Path, monkeypatch: pytest.MonkeyPatch) -> pathlib.Path
     return tmp_path
 
 
-def test_lists_are_brought_before_packages(check, apt):
-    check("check_faults").install(["strace", "gcc"])
+def test_lists_are_brought_before_packages(apt):
+    faults.install(["strace", "gcc"])
     told = "noninteractive: update\nnoninteractive: install -y --no-install-recommends strace gcc\n"
     assert (apt / "calls").read_text() == told
-    check("check_data").install(["m4"])
+    data.install(["m4"])
     assert (apt / "calls").read_text().splitlines()[2:] == [
         "noninteractive: update", "noninteractive: install -y --no-install-recommends m4"]
 
 
-def test_who_may_not_install_doesnt_try(check, apt, monkeypatch):
+def test_who_may_not_install_doesnt_try(apt, monkeypatch):
     monkeypatch.setattr(os, "geteuid", lambda: 1000)
-    check("check_faults").install(["strace"])
+    faults.install(["strace"])
     assert not (apt / "calls").exists()
 
 
-def test_what_the_faults_need(check, apt):
-    faults = check("check_faults")
+def test_what_the_faults_need(apt):
     assert faults.missing() == ["strace", "gcc", "libc6-dev"]
     os.symlink("/bin/true", apt / "strace")
     # A compiler without the headers of the system.
@@ -71,28 +52,26 @@ def test_what_the_faults_need(check, apt):
 
 
 @pytest.mark.parametrize("user, apt_there, failures", [(0, True, 1), (0, False, 0), (1000, True, 0)])
-def test_cases_that_could_have_been_run_are_a_failure(check, apt, monkeypatch, capsys, user, apt_there, failures):
+def test_cases_that_could_have_been_run_are_a_failure(apt, monkeypatch, capsys, user, apt_there, failures):
     monkeypatch.setattr(os, "geteuid", lambda: user)
     if not apt_there:
         os.unlink(apt / "apt-get")
-    faults = check("check_faults")
-    tally = faults.Tally()
+    tally = faults.FaultTally()
     faults.note_missing(tally)
     assert (tally.passed, tally.failed) == (0, failures)
     assert ("strace, gcc, libc6-dev" in capsys.readouterr().out) == bool(failures)
 
 
 @pytest.mark.parametrize("user, status", [(0, 1), (1000, 0)])
-def test_tests_that_could_have_been_run_are_a_failure(check, apt, monkeypatch, capsys, user, status):
-    data = check("check_data")
+def test_tests_that_could_have_been_run_are_a_failure(apt, monkeypatch, capsys, user, status):
     # No call of this test builds the program or runs the tests.
-    monkeypatch.setattr(data, "BUILD", ["/bin/true"])
+    monkeypatch.setattr(data, "build_program", lambda: None)
     monkeypatch.setattr(data, "BUILT", "/bin/true")
     monkeypatch.setattr(data, "is_there", lambda package: package == "m4")
     monkeypatch.setattr(os, "geteuid", lambda: user)
     assert data.main() == status
     out = capsys.readouterr().out
-    assert out.endswith(f"0 passed, {status} failed\n") and "tests left out; not installed: python3-pytest" in out
+    assert out.endswith(f"0 passed, {status} failed\n") and "tests; not installed: python3-pytest" in out
 
 
 ECHO = "echo 'input x; emit x | y && z > 3 over (0, 10];' > q; "
@@ -111,8 +90,8 @@ ECHO = "echo 'input x; emit x | y && z > 3 over (0, 10];' > q; "
     ("cat q; tilt run q x=x.csv", []), ("tilt run q x=x.csv; cat q", []), ("tilt run q x=x.csv | wc -l", []), ("tilt run q x=x.csv 2>&1", []),
     ("for n in 1 2; do tilt run q x=x.csv; done", []), ("tilt run q x=$FILE", []), ("tilt explain q", []), ("tilt-data run q x=x.csv", []),
 ])
-def test_which_calls_of_a_line_are_worked_out_again(check, command, calls):
-    assert [(call.words, call.file, call.most) for call in check("check_examples").calls_of(command)] == calls
+def test_which_calls_of_a_line_are_worked_out_again(command, calls):
+    assert [(call.words, call.file, call.most) for call in examples.calls_of(command)] == calls
 
 
 def page_of(folder: pathlib.Path, output: str) -> str:
@@ -125,16 +104,15 @@ def page_of(folder: pathlib.Path, output: str) -> str:
 
 
 @pytest.mark.parametrize("row, failed", [("0,5,7", 0), ("0,5,8", 1)])
-def test_a_page_that_has_what_the_program_prints_is_held_to_its_meaning(check, tmp_path, monkeypatch, capsys, row, failed):
-    examples = check("check_examples")
+def test_a_page_that_has_what_the_program_prints_is_held_to_its_meaning(tmp_path, monkeypatch, capsys, row, failed):
     page = page_of(tmp_path, f"start,end,value\n{row}\n")
     monkeypatch.setattr(examples, "TOP", str(tmp_path))
-    monkeypatch.setattr(examples, "BUILT", str(tmp_path))
+    monkeypatch.setattr(examples, "BUILT", str(tmp_path / "tilt"))
     monkeypatch.setattr(examples, "lay_out", lambda folder, lines: (pathlib.Path(folder) / "x.csv").write_bytes((tmp_path / "x.csv").read_bytes()))
-    tally = examples.Tally()
+    tally = examples.PageTally()
     examples.check_page(tally, page)
     assert (tally.passed, tally.failed, tally.evaluated, tally.others) == (2 - failed, failed, 1, 0)
-    assert ("by tools/evaluate" in capsys.readouterr().out) == bool(failed)
+    assert ("by tools/check/evaluate.py" in capsys.readouterr().out) == bool(failed)
 
 
 NOT_RUN = "a command that isn't run: "
@@ -155,11 +133,11 @@ NOT_RUN = "a command that isn't run: "
     ("A listing:\n\n    tilt 1\n    input x\n    tilt checkpoint 2\n    cut 5\n    from NAME ;\n", []),
     ("Call `tilt run`; for a query:\n  tilt run\n", []),
 ])
-def test_a_page_shows_no_command_that_is_neither_run_nor_marked(check, page, found):
-    assert list(check("check_examples").hidden_commands(page.split("\n"))) == found
+def test_a_page_shows_no_command_that_is_neither_run_nor_marked(page, found):
+    assert list(examples.hidden_commands(page.split("\n"))) == found
 
 
-def test_a_page_that_isnt_there_is_no_check(check, monkeypatch, capsys):
-    monkeypatch.setattr(sys, "argv", ["check_examples", str(TOP / "docs" / "NONE.md")])
-    assert check("check_examples").main() == 2
-    assert capsys.readouterr().err == "check_examples: no such page: docs/NONE.md\n"
+def test_a_page_that_isnt_there_is_no_check(monkeypatch, capsys):
+    monkeypatch.setattr(sys, "argv", ["examples", str(TOP / "docs" / "NONE.md")])
+    assert examples.main() == 2
+    assert capsys.readouterr().err == "examples: no such page: docs/NONE.md\n"

@@ -1,4 +1,4 @@
-"""The ways to install: the Debian package in a fresh root, tools/install in a fresh folder, and pip in a virtual environment. The first example
+"""The ways to install: the Debian package in a fresh root, tools/package/install in a fresh folder, and pip in a virtual environment. The first example
 and the tutorial's last command run with what was installed, with no toolchain on the path."""
 from __future__ import annotations
 
@@ -21,8 +21,8 @@ from tilt_data.version import VERSION
 
 
 def need_program() -> None:
-    """Leaves a test out if no program was built or released from the sources of this checkout: tools/package and tools/install take one."""
-    if subprocess.run([str(TOP / "tools" / "program"), "--found"], capture_output=True).returncode:
+    """Leaves a test out if no program was built or released from the sources of this checkout: tools/package/debian.py and tools/package/install take one."""
+    if subprocess.run([str(TOP / "tools" / "package" / "program"), "--found"], capture_output=True).returncode:
         pytest.skip("the program isn't built")
 
 
@@ -33,7 +33,7 @@ def root(tmp_path_factory: pytest.TempPathFactory) -> pathlib.Path:
     if shutil.which("dpkg-deb") is None:
         pytest.skip("dpkg-deb is missing")
     folder = tmp_path_factory.mktemp("package")
-    made = subprocess.run([str(TOP / "tools" / "package"), str(folder)], capture_output=True, text=True)
+    made = subprocess.run([str(TOP / "tools" / "package" / "debian.py"), str(folder)], capture_output=True, text=True)
     assert made.returncode == 0, made.stderr
     package = made.stdout.strip()
     assert os.path.basename(package).startswith("tilt-stream_") and package.endswith(".deb")
@@ -92,15 +92,15 @@ def versions(program: pathlib.Path, of: pathlib.Path) -> str:
     """What `tilt-data --version` has to print of an installed program, which is the program `of` of the checkout."""
     commit = subprocess.run(["git", "-C", TOP, "rev-parse", "HEAD"], check=True, capture_output=True, text=True).stdout.strip()
     dirty = subprocess.run(["git", "-C", TOP, "status", "--porcelain"], check=True, capture_output=True, text=True).stdout
-    described = subprocess.run([TOP / "tools" / "describe", of], check=True, capture_output=True, text=True).stdout
+    described = subprocess.run([TOP / "tools" / "package" / "describe", of], check=True, capture_output=True, text=True).stdout
     toolchain = tomllib.loads(described).get("toolchain", "unknown")
     return (f"tilt-data {VERSION}\ncommit: {commit}{'-dirty' if dirty else ''}\ntoolchain: {toolchain}\nprogram: {program}\n"
             f"sha256: {hashlib.sha256(of.read_bytes()).hexdigest()}\n")
 
 
 def found_here() -> pathlib.Path:
-    """The program of the checkout that tools/package and tools/install take."""
-    done = subprocess.run([TOP / "tools" / "program", "--found"], check=True, capture_output=True, text=True)
+    """The program of the checkout that tools/package/debian.py and tools/package/install take."""
+    done = subprocess.run([TOP / "tools" / "package" / "program", "--found"], check=True, capture_output=True, text=True)
     return pathlib.Path(done.stdout.rstrip("\n"))
 
 
@@ -153,7 +153,7 @@ def test_it_goes_away_again(root):
 
 @pytest.fixture(scope="module")
 def prefix(tmp_path_factory: pytest.TempPathFactory) -> pathlib.Path:
-    """A fresh folder that tools/install was called with."""
+    """A fresh folder that tools/package/install was called with."""
     need_program()
     folder = tmp_path_factory.mktemp("prefix")
     done = install(folder)
@@ -162,7 +162,7 @@ def prefix(tmp_path_factory: pytest.TempPathFactory) -> pathlib.Path:
 
 
 def install(folder: pathlib.Path) -> subprocess.CompletedProcess[str]:
-    return subprocess.run([str(TOP / "tools" / "install"), str(folder)], capture_output=True, text=True)
+    return subprocess.run([str(TOP / "tools" / "package" / "install"), str(folder)], capture_output=True, text=True)
 
 
 def call_installed(prefix: pathlib.Path, command: str, folder: pathlib.Path) -> str:

@@ -22,8 +22,9 @@ class Checkout:
 
     def __init__(self, folder: pathlib.Path) -> None:
         self.folder = folder
-        (folder / "tools").mkdir(parents=True)
-        for name in ("tilt", "tools/program", "tools/sources", "tools/prove"):
+        shutil.copytree(TOP / "tools" / "shared", folder / "tools" / "shared", ignore=shutil.ignore_patterns("__pycache__"))
+        (folder / "tools" / "package").mkdir()
+        for name in ("tilt", "tools/package/program", "tools/package/sources", "tools/package/prove.py"):
             shutil.copy(TOP / name, folder / name)
         self.write("crates.txt", "# A comment: with a colon.\ntilt_base: itoa\ntilt: tilt_base\ntilt_tests: tilt\n")
         for crate in ("tilt_base", "tilt", "tilt_tests"):
@@ -43,7 +44,7 @@ class Checkout:
         return path
 
     def sources(self) -> str:
-        return subprocess.run([self.folder / "tools/sources"], check=True, capture_output=True, text=True).stdout.strip()
+        return subprocess.run([self.folder / "tools/package/sources"], check=True, capture_output=True, text=True).stdout.strip()
 
     def release(self, says: str) -> None:
         program = self.script("release/tilt", says)

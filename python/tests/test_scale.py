@@ -783,7 +783,7 @@ def test_keys_and_days(either, here):
 
 
 BINDS = [f"{name}={files}" for name, files in INPUTS.items()]
-COMMAND = [sys.executable, str(TOP / "tools" / "tilt-data"), "scale", "q", *BINDS, "--out", "out"]
+COMMAND = [sys.executable, str(TOP / "tools" / "package" / "tilt-data"), "scale", "q", *BINDS, "--out", "out"]
 
 
 def test_the_command_on_this_machine(here):

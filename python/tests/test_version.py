@@ -31,7 +31,7 @@ class Versioned(Checkout):
 
     def __init__(self, folder: pathlib.Path) -> None:
         super().__init__(folder)
-        shutil.copy(TOP / "tools" / "describe", folder / "tools" / "describe")
+        shutil.copy(TOP / "tools/package/describe", folder / "tools/package/describe")
         shutil.copytree(TOP / "python" / "tilt_data", folder / "python" / "tilt_data", ignore=shutil.ignore_patterns("__pycache__"))
         described = (folder / "release/release.toml").read_text()
         self.write("release/release.toml", described.replace('toolchain = "none"', f'toolchain = "{TOOLCHAIN}"'))
@@ -90,13 +90,13 @@ def test_pages_show_the_version() -> None:
 
 
 def test_a_release_has_the_version(checkout: Versioned) -> None:
-    shutil.copy(TOP / "tools" / "release", checkout.folder / "tools" / "release")
+    shutil.copy(TOP / "tools/package/release", checkout.folder / "tools/package/release")
     checkout.script("crates/tilt/out/tilt", "built")
     (checkout.folder / "path" / "rt").write_text(f"#!/bin/sh\necho {TOOLCHAIN}\n")
     (checkout.folder / "path" / "rt").chmod(0o755)
     for name in ("chmod", "cp", "mv"):
         (checkout.folder / "path" / name).symlink_to(f"/bin/{name}")
-    subprocess.run([checkout.folder / "tools/release"], env={"PATH": str(checkout.folder / "path")}, check=True, capture_output=True)
+    subprocess.run([checkout.folder / "tools/package/release"], env={"PATH": str(checkout.folder / "path")}, check=True, capture_output=True)
     release = tomllib.loads((checkout.folder / "release/release.toml").read_text())
     assert release["version"] == VERSION and release["program"] == sha256(checkout.folder / "release/tilt")
 

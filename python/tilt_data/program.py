@@ -13,7 +13,7 @@ from .errors import Refused
 REFUSALS = (1, 2)
 TOP = pathlib.Path(__file__).resolve().parent.parent.parent
 CHECKOUT = TOP / "crates" / "tilt" / "out" / "tilt"
-FINDER = TOP / "tools" / "program"
+FINDER = TOP / "tools" / "package" / "program"
 
 
 def program() -> str:

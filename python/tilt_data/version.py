@@ -15,9 +15,9 @@ from .errors import Refused, printable
 from .program import TOP, program
 
 VERSION = "0.1.0"
-# What tools/install and tools/package write beside the modules, and the tool that prints the same in a checkout.
+# What tools/package/install and tools/package/debian.py write beside the modules, and the tool that prints it in a checkout.
 RECORD = pathlib.Path(__file__).with_name("described.toml")
-DESCRIBER = TOP / "tools" / "describe"
+DESCRIBER = TOP / "tools" / "package" / "describe"
 
 
 class ShowVersion(argparse.Action):

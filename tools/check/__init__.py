@@ -1,0 +1,1 @@
+"""The checks of the gate, and the second program for the meaning of queries."""

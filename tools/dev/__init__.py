@@ -1,0 +1,1 @@
+"""For whoever changes the repository."""

@@ -1,0 +1,1 @@
+"""What measures the program, called by hand."""

@@ -1,0 +1,1 @@
+"""From the sources to a program that is built, released and installed."""
