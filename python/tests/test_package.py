@@ -3,6 +3,7 @@ and the tutorial's last command run with what was installed, with no toolchain o
 from __future__ import annotations
 
 import argparse
+import hashlib
 import importlib.util
 import os
 import pathlib
@@ -11,10 +12,12 @@ import shlex
 import shutil
 import subprocess
 import sys
+import tomllib
 
 import pytest
 from conftest import TOP
 from tilt_data.cli import parser_of
+from tilt_data.version import VERSION
 
 
 pytestmark = pytest.mark.program
@@ -83,8 +86,37 @@ def test_tilt_is_an_alternative(root):
 
 def test_what_is_in_it(root):
     for name in ("man/man1/tilt-stream.1.gz", "man/man1/tilt-data.1.gz", "doc/tilt-stream/copyright", "doc/tilt-stream/docs/DATA.md",
+                 "doc/tilt-stream/CHANGELOG.md",
                  "bash-completion/completions/tilt-data", "doc/tilt-stream/examples/sensors/raw/readings.csv"):
         assert (root / "usr/share" / name).stat().st_size > 0, name
+
+
+def versions(program: pathlib.Path, of: pathlib.Path) -> str:
+    """What `tilt-data --version` has to print of an installed program, which is the program `of` of the checkout."""
+    commit = subprocess.run(["git", "-C", TOP, "rev-parse", "HEAD"], check=True, capture_output=True, text=True).stdout.strip()
+    dirty = subprocess.run(["git", "-C", TOP, "status", "--porcelain"], check=True, capture_output=True, text=True).stdout
+    described = subprocess.run([TOP / "tools" / "package" / "describe", of], check=True, capture_output=True, text=True).stdout
+    toolchain = tomllib.loads(described).get("toolchain", "unknown")
+    return (f"tilt-data {VERSION}\ncommit: {commit}{'-dirty' if dirty else ''}\ntoolchain: {toolchain}\nprogram: {program}\n"
+            f"sha256: {hashlib.sha256(of.read_bytes()).hexdigest()}\n")
+
+
+def found_here() -> pathlib.Path:
+    """The program of the checkout that tools/package/debian.py and tools/package/install take."""
+    done = subprocess.run([TOP / "tools" / "package" / "program", "--found"], check=True, capture_output=True, text=True)
+    return pathlib.Path(done.stdout.rstrip("\n"))
+
+
+def need_git() -> None:
+    if subprocess.run(["git", "-C", TOP, "rev-parse", "HEAD"], capture_output=True).returncode:
+        pytest.skip("this is no git repository")
+
+
+def test_the_package_has_its_version(root):
+    need_git()
+    status = root / "var/lib/dpkg/status"
+    assert os.geteuid() != 0 or f"\nVersion: {VERSION}\n" in status.read_text()
+    assert called(root, "tilt-data", "--version") == versions(root / "usr/bin/tilt-stream", found_here())
 
 
 def offered(root: pathlib.Path, *words: str) -> list[str]:
@@ -173,6 +205,21 @@ def test_the_completion_has_the_options_of_each_command_of_tilt_data(prefix):
                       for command, parser in commands.items()}
 
 
+def test_what_is_installed_has_its_version(prefix, tmp_path):
+    need_git()
+    wanted = versions(prefix / "bin/tilt", found_here())
+    assert call_installed(prefix, "tilt-data --version", tmp_path) == wanted
+    # The toolchain is that of the program that was installed, and of no other.
+    other = call_installed(prefix, "TILT=/bin/true tilt-data --version", tmp_path).splitlines()
+    assert other[2:4] == ["toolchain: unknown", "program: /bin/true"] and other[:2] == wanted.splitlines()[:2]
+
+
+def test_the_completion_has_the_version(prefix):
+    completion = prefix / "share/bash-completion/completions/tilt-data"
+    script = f". {completion}; COMP_WORDS=(tilt-data --v) COMP_CWORD=1; _tilt_data; echo ${{COMPREPLY[*]}}"
+    assert subprocess.run(["bash", "-c", script], capture_output=True, text=True, check=True).stdout == "--version\n"
+
+
 def test_tools_install_replaces_an_earlier_version_as_a_whole(prefix, tmp_path):
     old = prefix / "lib" / "tilt-data" / "tilt_data" / "gone.py"
     old.write_text("raise SystemExit(9)\n")
@@ -198,7 +245,9 @@ def test_the_way_of_the_page_installs_by_pip_without_a_network(tilt, tmp_path):
     shutil.copytree(TOP / "python", tmp_path / "python", ignore=shutil.ignore_patterns("tests", "build", "*.egg-info", "__pycache__"))
     environment = {"PATH": "/usr/bin:/bin", "HOME": str(tmp_path), "TILT": tilt, "PYTHONDONTWRITEBYTECODE": "1"}
     first = TOP / "examples" / "first"
+    asked = "import importlib.metadata, tilt_data; assert importlib.metadata.version('tilt-data') == tilt_data.__version__"
     for words in ([sys.executable, *shlex.split(make)[1:], "venv"], ["venv/bin/pip", *shlex.split(arguments), "--no-index"],
+                  ["venv/bin/python", "-c", asked],
                   ["venv/bin/python", "-c", "import tilt_data, matplotlib; assert tilt_data.__file__.startswith(__import__('sys').prefix)"],
                   ["venv/bin/tilt-data", "run", str(first / "query.tilt"), f"x={first}/x.csv"]):
         done = subprocess.run(words, cwd=tmp_path, env=environment, capture_output=True, text=True)

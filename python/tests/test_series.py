@@ -18,6 +18,7 @@ from conftest import PYTHON, rows_in, run_program
 from tilt_data.clock import Clock, Moments, moment_text, zone_of
 from tilt_data.files import safe
 from tilt_data.scales import Scale, decimal_text, digits_after_point
+from tilt_data.version import VERSION
 
 READINGS = "time,temp\n2026-03-01T06:00:05,20.5\n2026-03-01T06:01:05,20.25\n2026-03-01T06:03:05,21\n"
 SIX = 6 * 3600
@@ -391,8 +392,8 @@ def test_auto_is_one_scale_for_the_columns_that_have_none_of_their_own(told):
     assert status == 0, err
     assert [rows_in(name)[0][2] for name in ("temp.csv", "limit.csv", "volume.csv")] == [2050, 2375, 7000]
     assert json.loads(pathlib.Path("temp.json").read_text()) == {
-        "tilt-data": 1, "name": "temp", "tick": "1s", "origin": "2026-03-01T00:00:00Z", "closed": "left", "kind": "hold", "scale": 100,
-        "size": 34, "sha256": hashlib.sha256(b"start,end,value\n1,2,2050\n2,3,2000\n").hexdigest()}
+        "tilt-data": 1, "version": VERSION, "name": "temp", "tick": "1s", "origin": "2026-03-01T00:00:00Z", "closed": "left", "kind": "hold",
+        "scale": 100, "size": 34, "sha256": hashlib.sha256(b"start,end,value\n1,2,2050\n2,3,2000\n").hexdigest()}
 
 
 # Files

@@ -6,5 +6,6 @@ from .convention import Convention
 from .errors import Refused, TiltError
 from .frames import Explained, Live, Query, run, span
 from .scaling import Scaled, scale
+from .version import VERSION as __version__
 
-__all__ = ["Convention", "Explained", "Live", "Query", "Refused", "Scaled", "TiltError", "run", "scale", "span"]
+__all__ = ["Convention", "Explained", "Live", "Query", "Refused", "Scaled", "TiltError", "__version__", "run", "scale", "span"]

@@ -13,6 +13,7 @@ from typing import Iterator
 
 from . import by, follow, plot, scaling, series, table, ticks, why
 from .errors import Refused, printable
+from .version import ShowVersion
 
 COMMANDS = [series, table, why, ticks, by, scaling, follow, plot]
 
@@ -20,6 +21,8 @@ COMMANDS = [series, table, why, ticks, by, scaling, follow, plot]
 def parser_of() -> argparse.ArgumentParser:
     parser = argparse.ArgumentParser(
         prog="tilt-data", description="From a file of readings to series of tilt, and from its output to tables and pictures.")
+    parser.add_argument("--version", action=ShowVersion, nargs=0,
+                        help="print the version, the commit, the toolchain, and the program with its SHA-256")
     commands = parser.add_subparsers(metavar="COMMAND", required=True)
     for command in COMMANDS:
         command.add(commands)

@@ -21,6 +21,7 @@ from typing import IO, Any, Iterable, Iterator
 
 from .clock import TIMES, Clock, Moments, duration_of, duration_text, moment_text
 from .errors import Refused, refused_at
+from .version import VERSION
 
 Row = tuple[int, int, "int | None"]
 HEADER = ["start", "end", "value"]
@@ -563,7 +564,8 @@ class Stale(Refused):
 @dataclasses.dataclass(frozen=True)
 class Notes:
     """What the JSON file beside a series says: its clock, its scale, its convention (`hold`, `event`, or `helper` for what `ticks` writes),
-    its name and key, and the size and the SHA-256 of the CSV, which earlier versions didn't write."""
+    its name and key, and the size and the SHA-256 of the CSV, which earlier versions didn't write. The file
+    also has the version that wrote it, which no command reads."""
 
     clock: Clock
     scale: int = 1
@@ -576,7 +578,7 @@ class Notes:
 
     def text(self) -> str:
         fields = {
-            "tilt-data": 1, "name": self.name, "key": self.key, "tick": duration_text(self.clock.tick),
+            "tilt-data": 1, "version": VERSION, "name": self.name, "key": self.key, "tick": duration_text(self.clock.tick),
             "origin": moment_text(self.clock.origin, 9 if self.clock.origin % 10**9 else 0), "zone": self.zone,
             "closed": self.clock.closed, "kind": self.kind, "scale": self.scale, "size": self.size, "sha256": self.sha256,
         }

@@ -40,6 +40,7 @@ from .grammar import statements_of
 from .scales import GREATEST, LEAST, Scale
 from .series import Nulls, clock_of, moment_of
 from .tokens import Faulty
+from .version import VERSION
 from .why import clashes, inputs_of
 
 HELP = """Runs a query over lines that keep coming on standard input, as from `mosquitto_sub` or `tail -F`: NAME,start,end,value with
@@ -548,7 +549,7 @@ class Store:
         self.check_size(self.placed, self.placed)
         new = self.new("notes")
         with open(new, "w", encoding="utf-8") as file:
-            json.dump({**notes, "output": self.placed, "rejected_size": self.rejected_size()}, file)
+            json.dump({"version": VERSION, **notes, "output": self.placed, "rejected_size": self.rejected_size()}, file)
         for path in (new, self.new("part")):
             sync(path)
         os.replace(self.new("part"), self.path("part", cut))

@@ -13,6 +13,7 @@ from .clock import DAY, EPOCH, TIMES, Clock, Moments, moment_text, zone_of
 from .errors import Refused
 from .files import Notes, Row, notes_of, reading, rows_of, scratch, spooled, taking
 from .progress import shown
+from .version import VERSION
 
 HELP = """Draws series and outputs. NAME=FILE has a panel of its own, and after it +NAME=FILE is drawn into the same panel,
 +limit:NAME=FILE as a dashed line, and +band:NAME=FILE as a shaded band where FILE has a value other than 0. A value that holds is a step,
@@ -400,6 +401,12 @@ def draw(words: argparse.Namespace, panels: list[list[Drawn]]) -> Any:
     return figure
 
 
+def metadata_of(form: str, matplotlib: str) -> dict[str, Any]:
+    """What a picture says of itself: the versions that drew it, and no date, so that the same rows make the same bytes."""
+    drawers = [f"tilt-data {VERSION}", f"Matplotlib v{matplotlib}, https://matplotlib.org/"]
+    return {"Date": None, "Creator": drawers} if form == "svg" else {"Software": ", ".join(drawers)}
+
+
 def main(words: argparse.Namespace) -> int:
     form = os.path.splitext(words.out)[1].lower().lstrip(".")
     if form not in ("svg", "png"):
@@ -414,7 +421,7 @@ def main(words: argparse.Namespace) -> int:
         figure = draw(words, panels)
     try:
         with taking(words.out) as new:
-            figure.savefig(new, format=form, metadata={"Date": None} if form == "svg" else {})
+            figure.savefig(new, format=form, metadata=metadata_of(form, matplotlib.__version__))
     except OSError as error:
         raise Refused(f"{words.out}: it can't be written: {error.strerror}") from error
     return 0

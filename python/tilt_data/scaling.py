@@ -28,6 +28,7 @@ from .parts import Domain, Part
 from .program import program
 from .progress import Bar
 from .tasks import Indexing, Joining, Made, Stretch, Task
+from .version import VERSION
 from .why import clashes
 
 if TYPE_CHECKING:
@@ -300,7 +301,7 @@ class Listing:
         # All files that are half written are in `parts`, which only a call with the lock writes to.
         new = os.path.join(self.folder, "parts", "outputs.json")
         with placed(new) as file:
-            file.write(json.dumps({"tilt-data": 1, "outputs": self.outputs}, indent=1).encode() + b"\n")
+            file.write(json.dumps({"tilt-data": 1, "version": VERSION, "outputs": self.outputs}, indent=1).encode() + b"\n")
         os.replace(new, os.path.join(self.folder, "outputs.json"))
 
     def add(self, names: list[str]) -> None:

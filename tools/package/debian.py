@@ -18,6 +18,8 @@ sys.path.insert(0, os.path.dirname(os.path.dirname(os.path.realpath(__file__))))
 from shared.paths import FIND_PROGRAM, TOP
 
 DOC = "usr/share/doc/tilt-stream"
+DESCRIBE = os.path.join(TOP, "tools", "package", "describe")
+MODULES = "usr/lib/python3/dist-packages/tilt_data"
 STARTER = "#!/usr/bin/python3\nimport sys\n\nfrom tilt_data.cli import main\n\nif __name__ == \"__main__\":\n    sys.exit(main())\n"
 
 
@@ -27,7 +29,7 @@ def text_of(*parts: str) -> str:
 
 
 def version() -> str:
-    return str(re.findall(r'^version = "(.*)"$', text_of("python", "pyproject.toml"), re.M)[0])
+    return str(re.findall(r'^VERSION = "(.*)"$', text_of("python", "tilt_data", "version.py"), re.M)[0])
 
 
 def moment() -> int:
@@ -72,16 +74,19 @@ Description: queries over interval data, proved to print what they mean
 
 
 def lay_out(root: str, program: str) -> None:
-    shutil.copytree(os.path.join(TOP, "python", "tilt_data"), os.path.join(root, "usr/lib/python3/dist-packages/tilt_data"),
+    shutil.copytree(os.path.join(TOP, "python", "tilt_data"), os.path.join(root, MODULES),
                     ignore=shutil.ignore_patterns("__pycache__"))
     shutil.copytree(os.path.join(TOP, "examples"), os.path.join(root, DOC, "examples"))
+    described = subprocess.run([DESCRIBE, program], capture_output=True, check=True)
+    put(root, f"{MODULES}/described.toml", described.stdout)
     with open(program, "rb") as file:
         put(root, "usr/bin/tilt-stream", file.read(), 0o755)
     put(root, "usr/bin/tilt-data", STARTER, 0o755)
     put(root, "usr/share/man/man1/tilt-stream.1.gz", manual("tilt.1"))
     put(root, "usr/share/man/man1/tilt-data.1.gz", manual("tilt-data.1"))
     put(root, f"{DOC}/copyright", text_of("LICENSE"))
-    put(root, f"{DOC}/README.md", text_of("README.md"))
+    for page in ("README.md", "CHANGELOG.md"):
+        put(root, f"{DOC}/{page}", text_of(page))
     for page in sorted(os.listdir(os.path.join(TOP, "docs"))):
         if page.endswith(".md"):
             put(root, f"{DOC}/docs/{page}", text_of("docs", page))
