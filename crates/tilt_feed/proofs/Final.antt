@@ -167,6 +167,9 @@ module _ (core : CoreParts) (events more : List Event) (is : IsCore core) where
   pub fed-final : IsFinal core (fed core events) (after_all more (fed core events))
   fed-final = final core is (fed core events) (after_all more (fed core events)) (after_all-follows more (fed core events))
 
+  pub fed-rises : horizon core (fed core events) ≤ℤ horizon core (after_all more (fed core events))
+  fed-rises = horizon-rises core is (fed core events) (after_all more (fed core events)) (after_all-follows more (fed core events))
+
   pub fed-printed : ListGoesOn (printed core (fed core events)) (printed core (after_all more (fed core events)))
   fed-printed = final-printed core is (fed core events) (after_all more (fed core events)) (after_all-follows more (fed core events))
 

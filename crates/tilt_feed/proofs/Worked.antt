@@ -164,6 +164,16 @@ window_without = refl
 window_with : cell_after window (up_to 5 ∷ []) (row 5 6 1 ∷ []) 5 ≡ Some (pos 1)
 window_with = refl
 
+-- its sure marks beyond the horizon: where the row that ends at the watermark leaves its last tick, and where it leaves its first
+window_last : is_sure window (fed window (row 4 5 1 ∷ [])) 1 (pos 5) ≡ true
+window_last = refl
+
+window_first : is_sure window (fed window (row 4 5 1 ∷ [])) 1 (pos 7) ≡ true
+window_first = refl
+
+window_unsure : is_sure window (fed window (row 4 5 1 ∷ [])) 1 (pos 8) ≡ false
+window_unsure = refl
+
 -- `emit ifnull(x, y) over (0, 10]`: the earliest of what is read
 abbrev both : CoreParts
 both = query_of_two (defined (Two IfNull (read (pos 0)) (Leaf (Read 1 (pos 0)))) 1 (between 0 10))
@@ -232,6 +242,10 @@ span_without = refl
 
 span_with : cell_after (spanned 0 3) (up_to 2 ∷ []) (row 2 3 1 ∷ []) 3 ≡ Some (pos 1)
 span_with = refl
+
+-- the mark after its end is sure
+span_sure : is_sure (spanned 0 3) (fed (spanned 0 3) (up_to 2 ∷ [])) 1 (pos 4) ≡ true
+span_sure = refl
 
 -- `let y = x over (4, 8]; emit y over (0, 10]`: at least up to its start, and the mark after it is sure
 span_started : horizon (spanned 4 8) (fed (spanned 4 8) []) ≡ pos 4

@@ -19,7 +19,7 @@ use Rattle.tilt_stream.specs.Snap.{Snapshot}
 abbrev pub is_time : ℤ → Bool
 is_time tick = int_le (neg_ℤ T) tick && int_le tick T
 
--- whether all times of an update are
+-- whether all times of an update are within it
 abbrev pub in_range : Update → Bool
 in_range (Row start end value) = is_time start && is_time end
 in_range (Value start value) = is_time start
@@ -32,7 +32,7 @@ continues None start value = false
 continues (Some row) start None = false
 continues (Some row) start (Some value) = int_eq row.start start && int_eq row.value value
 
--- the tick that mustn't lie below the watermark: where an update starts, or where it ends the open row
+-- the tick that isn't below the watermark unless an update is late: where it starts, or where it ends the open row
 abbrev pub comes_at : Edge → Update → ℤ
 comes_at edge (Row start end value) = if continues edge.open_row start value then end else start
 comes_at edge (Value start value) = start
@@ -46,7 +46,7 @@ has_ticks (Value start value) = int_lt start T
 has_ticks (NoValue start) = true
 has_ticks (KnownUpTo watermark) = true
 
--- the first rule that an update breaks, where a feed is finished or not, and its input has this edge
+-- the first rule that an update breaks, of an input with this edge
 abbrev pub update_fault : Bool → Edge → Update → Option EventFault
 update_fault finished edge update =
     if finished then Some Finished
@@ -90,7 +90,7 @@ updated update input = record {
 abbrev pub finished_input : InputFeed → InputFeed
 finished_input input = record { rows = rows_now input; edge = record { open_row = None; watermark = input.edge.watermark } }
 
--- the edge of the input with a number
+-- the edge of the input with a number, and that of an unknown input if there is none
 abbrev pub edge_of : List InputFeed → ℕ → Edge
 edge_of [] number = unknown_input.edge
 edge_of (input ∷ inputs) zero = input.edge

@@ -7,8 +7,8 @@ use crate::fault::EventFault;
 use crate::update::Update;
 use tilt_base::{Cell, T};
 
-/// The first rule that an update of an input breaks, or `None` if it is allowed. The edge is that of the input, and `finished` says whether
-/// the feed is finished.
+/// The first rule that an update breaks, or `None` if it is allowed. The edge is that of the input which it is of, and `finished` says
+/// whether the feed is finished.
 pub fn update_fault(finished: bool, edge: Edge, update: Update) -> Option<EventFault>
     ensures { result ≡ update_fault finished edge update }
 {
@@ -27,7 +27,7 @@ pub fn update_fault(finished: bool, edge: Edge, update: Update) -> Option<EventF
     None
 }
 
-// Whether all times are.
+// Whether all its times are in `-T..=T`.
 fn in_range(update: Update) -> bool
     ensures { result ≡ in_range update }
 {

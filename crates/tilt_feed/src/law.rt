@@ -14,12 +14,14 @@ ghost use Rattle.tilt_feed.specs.declared.event.Event.{Event};
 ghost use Rattle.tilt_feed.specs.declared.event.Event.TheVariants.{Finish};
 
 /// This does nothing. Its clauses are laws of the definitions, for every list of events and every list of further ones: what is known stays
-/// as it is, each sure mark stays, and up to the horizon all marks are sure. So what is printed is a prefix of what is printed later and of
-/// the output on the rows of each later feed, in which what had begun comes next.
+/// as it is, each sure mark stays, up to the horizon all marks are sure, and the horizon doesn't fall. So what is printed is a prefix of what
+/// is printed later and of the output on the rows of each later feed, in which what had begun comes next.
 pub fn known_is_final()
     ensures sources { (core : CoreParts) (events more : List Event) → IsCore core
         → IsFinal core (fed core events) (after_all more (fed core events)) }
     ensures sure { (core : CoreParts) (events : List Event) → IsCore core → AreSureWhereKnown core (fed core events) }
+    ensures rises { (core : CoreParts) (events more : List Event) → IsCore core
+        → horizon core (fed core events) ≤ℤ horizon core (after_all more (fed core events)) }
     ensures printed { (core : CoreParts) (events more : List Event) → IsCore core
         → ListGoesOn (printed core (fed core events)) (printed core (after_all more (fed core events))) }
     ensures output { (core : CoreParts) (events more : List Event) → IsCore core

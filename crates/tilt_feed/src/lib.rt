@@ -3,8 +3,8 @@
 //! What comes in is the events of a feed, one after another: rows, values whose end isn't known yet, and watermarks. `specs/` says what
 //! a feed is after them (`Feed`, `Events`), up to which tick each source of the query is known (`Horizon`), which marks are sure beyond it
 //! (`Sure`), and which snapshots may be printed (`Printed`). These are definitions, and the functions of `law` have their laws as clauses:
-//! what is printed is final, it is the whole output in the end, and it isn't later than what sessions print. `update_fault` reports the
-//! first rule that an update breaks. Nothing here takes memory.
+//! what is printed is final, it is the whole output in the end, and the horizon isn't below the tick up to which sessions decide the
+//! output. `update_fault` returns the first rule that an update breaks. Nothing here takes memory.
 #![tactic(auto)]
 
 mod allowed;
