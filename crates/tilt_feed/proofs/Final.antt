@@ -1,6 +1,7 @@
 -- What is known is final.
 use Rattle.std.proofs.Common.{◌≡◌, ◌==◌, ℕ, ℤ, pos, ◌+ℤ◌, ◌≤ℤ◌, ◌<ℤ◌, Bool, true, false, ◌||◌, List, length, Option, Some, None, option_map, option_and_then, IsSome}
 use Rattle.std.proofs.Common.{if◌then◌else◌, refl, ap, sym, subst, ◌∙◌, inl, inr, unwrap_or, int_eq, arith}
+use Rattle.std.proofs.Math.Bool.{or-true}
 use Rattle.std.proofs.lemmas.Bool.{or_cases}
 use Rattle.std.proofs.lemmas.Bool.Decides.{Decides-int_eq}
 use Rattle.std.proofs.lemmas.Int.{ints}
@@ -48,10 +49,6 @@ output-is core rows is many =
 
 past-end : (at hi end : ℤ) → at ≡ end → hi ≤ℤ end → at <ℤ hi → ⊥
 past-end at hi end is high before = omega (arith, ints)
-
-either_last : (b : Bool) → (b || true) ≡ true
-either_last true = refl
-either_last false = refl
 
 module _ (core : CoreParts) (is : IsCore core) (feed : Feed) where
   grids : AreGrids core.defs
@@ -135,7 +132,7 @@ module _ (core : CoreParts) (is : IsCore core) (feed : Feed) where
               rw test refl)
           | inr sure ↦ (let there : is_sure core later (emitted_number core) (horizon core later +ℤ pos 1) ≡ true =
               subst (λ (t : ℤ). is_sure core later (emitted_number core) (t +ℤ pos 1) ≡ true) same (sure-stays (emitted_number core) (at +ℤ pos 1) sure) in
-              rw there (either_last (int_eq (horizon core later) (output_domain core).end)))
+              rw there (or-true (int_eq (horizon core later) (output_domain core).end)))
         ]
 
     pub final-printed : ListGoesOn (printed core feed) (printed core later)

@@ -2,6 +2,7 @@
 use Rattle.std.proofs.Common.{◌≡◌, ℤ, pos, ◌+ℤ◌, ◌≤ℤ◌, ◌<ℤ◌, Bool, true, false, ◌&&◌, ◌||◌, not, List, [], ◌∷◌, ◌++◌, Option, Some, None, int_lt, int_le}
 use Rattle.std.proofs.Common.{if◌then◌else◌, refl, ap, sym, subst, ◌∙◌, inl, inr, append_assoc, append-nil, arith}
 use Rattle.std.specs.Ordering.{int_eq}
+use Rattle.std.proofs.Math.Bool.{or-true}
 use Rattle.std.proofs.lemmas.Bool.{or_cases, and_parts}
 use Rattle.std.proofs.lemmas.Bool.Decides.{Decides-int_eq}
 use Rattle.std.proofs.lemmas.Int.{ints, clamps, by_lt_z}
@@ -22,11 +23,6 @@ use Rattle.tilt_feed.specs.declared.update.Update.{Update}
 use Rattle.tilt_feed.specs.declared.update.Update.TheVariants.{Row, Value, NoValue, KnownUpTo}
 use Rattle.tilt_stream.specs.Snap.{Snapshot}
 use Rattle.tilt_stream.specs.Stream.{cell_at, covers, mark_at, stream_of}
-
--- one of two tests holds
-or-last : (b : Bool) → (b || true) ≡ true
-or-last true = refl
-or-last false = refl
 
 -- an update that breaks no rule
 pub record IsAllowed (edge : Edge) (update : Update) : Type 0 where
@@ -254,7 +250,7 @@ ends-front w [] more is = absurd (cc is)
 ends-front w (s ∷ rows) more is =
     elim (or_cases (int_eq s.end w) (ends_at w rows) is) [
       | inl here ↦ rw here refl
-      | inr there ↦ rw (ends-front w rows more there) (or-last (int_eq s.end w))
+      | inr there ↦ rw (ends-front w rows more there) (or-true (int_eq s.end w))
     ]
 
 -- each tick up to the watermark is known
@@ -336,7 +332,7 @@ module _ (finished later : Bool) (a b : InputFeed) (added : List Snapshot) (rows
       let kept : a.edge.watermark ≡ b.edge.watermark = omega (arith, ints) in
       let test = (Decides-int_eq tick (b.edge.watermark +ℤ pos 1)).1 (at ∙ ap (λ (w : ℤ). w +ℤ pos 1) kept) in
       let here : ends_at b.edge.watermark b.rows ≡ true = subst (λ (w : ℤ). ends_at w b.rows ≡ true) kept there in
-      rw (test, here) (or-last (is_known_at (input_horizon later b.edge) tick && mark_at (rows_now b) tick)))
+      rw (test, here) (or-true (is_known_at (input_horizon later b.edge) tick && mark_at (rows_now b) tick)))
 
   sure-stays : has_sure_mark finished a tick ≡ true → has_sure_mark later b tick ≡ true
   sure-stays is =
