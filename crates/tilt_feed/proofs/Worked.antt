@@ -89,6 +89,10 @@ open_unsure = refl
 open_begun : begun itself (fed itself (Input 0 (Value (pos 0) (pos 7)) ∷ up_to 5 ∷ [])) ≡ Some (record { start = pos 0; value = Some (pos 7) })
 open_begun = refl
 
+-- until a row says where it ends
+open_closed : printed itself (fed itself (Input 0 (Value (pos 0) (pos 7)) ∷ up_to 5 ∷ row 0 5 7 ∷ [])) ≡ snap 0 5 (Some (pos 7)) ∷ []
+open_closed = refl
+
 -- nor is a gap, until it ends
 gap_known : printed itself (fed itself (row 0 3 7 ∷ up_to 5 ∷ [])) ≡ snap 0 3 (Some (pos 7)) ∷ []
 gap_known = refl
