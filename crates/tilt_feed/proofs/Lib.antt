@@ -1,0 +1,12 @@
+pub mod Final
+pub mod Following
+pub mod Known
+pub mod Ordered
+pub mod Rising
+pub mod Same
+pub mod Starts
+pub mod SureMarks
+pub mod Timely
+pub mod Updates
+pub mod Whole
+pub mod Worked

@@ -1,0 +1,6 @@
+pub mod Events
+pub mod Feed
+pub mod Horizon
+pub mod Laws
+pub mod Printed
+pub mod Sure
