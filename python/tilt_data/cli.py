@@ -19,7 +19,8 @@ COMMANDS = [series, table, why, ticks, by, scaling, follow, plot]
 
 def parser_of() -> argparse.ArgumentParser:
     parser = argparse.ArgumentParser(
-        prog="tilt-data", description="From a file of readings to series of tilt, and from its output to tables and pictures.")
+        prog="tilt-data", description="From a file of readings to series of tilt, and from its output to tables and pictures."
+    )
     commands = parser.add_subparsers(metavar="COMMAND", required=True)
     for command in COMMANDS:
         command.add(commands)

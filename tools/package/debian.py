@@ -18,7 +18,7 @@ sys.path.insert(0, os.path.dirname(os.path.dirname(os.path.realpath(__file__))))
 from shared.paths import FIND_PROGRAM, TOP
 
 DOC = "usr/share/doc/tilt-stream"
-STARTER = "#!/usr/bin/python3\nimport sys\n\nfrom tilt_data.cli import main\n\nif __name__ == \"__main__\":\n    sys.exit(main())\n"
+STARTER = '#!/usr/bin/python3\nimport sys\n\nfrom tilt_data.cli import main\n\nif __name__ == "__main__":\n    sys.exit(main())\n'
 
 
 def text_of(*parts: str) -> str:
@@ -72,8 +72,11 @@ Description: queries over interval data, proved to print what they mean
 
 
 def lay_out(root: str, program: str) -> None:
-    shutil.copytree(os.path.join(TOP, "python", "tilt_data"), os.path.join(root, "usr/lib/python3/dist-packages/tilt_data"),
-                    ignore=shutil.ignore_patterns("__pycache__"))
+    shutil.copytree(
+        os.path.join(TOP, "python", "tilt_data"),
+        os.path.join(root, "usr/lib/python3/dist-packages/tilt_data"),
+        ignore=shutil.ignore_patterns("__pycache__"),
+    )
     shutil.copytree(os.path.join(TOP, "examples"), os.path.join(root, DOC, "examples"))
     with open(program, "rb") as file:
         put(root, "usr/bin/tilt-stream", file.read(), 0o755)
@@ -121,8 +124,11 @@ def main() -> int:
         lay_out(root, found.stdout.strip())
         finish(root, time)
         new = package + ".new"
-        done = subprocess.run(["dpkg-deb", "--root-owner-group", "-Zxz", "--build", root, new], stdout=subprocess.DEVNULL,
-                              env={**os.environ, "SOURCE_DATE_EPOCH": str(time)})
+        done = subprocess.run(
+            ["dpkg-deb", "--root-owner-group", "-Zxz", "--build", root, new],
+            stdout=subprocess.DEVNULL,
+            env={**os.environ, "SOURCE_DATE_EPOCH": str(time)},
+        )
         if done.returncode:
             return 1
     os.replace(new, package)
