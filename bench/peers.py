@@ -57,8 +57,14 @@ def every(period: int, snaps: Snaps) -> Snaps:
 class Between(BaseIndexer):
     """Windows from one place to another, which are given."""
 
-    def get_window_bounds(self, num_values: int = 0, min_periods: int | None = None, center: bool | None = None,
-                          closed: str | None = None, step: int | None = None) -> tuple[numpy.ndarray, numpy.ndarray]:
+    def get_window_bounds(
+        self,
+        num_values: int = 0,
+        min_periods: int | None = None,
+        center: bool | None = None,
+        closed: str | None = None,
+        step: int | None = None,
+    ) -> tuple[numpy.ndarray, numpy.ndarray]:
         return self.first, self.after
 
 
@@ -81,7 +87,7 @@ class Window:
 
     def rolling(self) -> pandas.core.window.Rolling:
         padded = numpy.full(len(self.ends), numpy.nan)
-        padded[:len(self.values)] = self.values
+        padded[: len(self.values)] = self.values
         return pandas.Series(padded).rolling(Between(first=self.first, after=self.after), min_periods=1)
 
     def sum(self) -> Snaps:
@@ -141,8 +147,9 @@ def grid(x: str, limit: str) -> None:
     table.astype({"value": "int64"}).to_csv(sys.stdout, index=False)
 
 
-def choice(change: numpy.ndarray, level: numpy.ndarray, swing_before: numpy.ndarray, level_before: numpy.ndarray,
-           swing: numpy.ndarray) -> numpy.ndarray:
+def choice(
+    change: numpy.ndarray, level: numpy.ndarray, swing_before: numpy.ndarray, level_before: numpy.ndarray, swing: numpy.ndarray
+) -> numpy.ndarray:
     chosen = numpy.where(change > 0, level + swing_before, swing - level_before)
     return numpy.where(numpy.isnan(change), numpy.nan, chosen)
 

@@ -34,7 +34,9 @@ def tilt() -> str:
 
 
 @pytest.fixture
-def told(tmp_path: pathlib.Path, monkeypatch: pytest.MonkeyPatch, capsys: pytest.CaptureFixture[str]) -> Callable[..., tuple[int, str, str]]:
+def told(
+    tmp_path: pathlib.Path, monkeypatch: pytest.MonkeyPatch, capsys: pytest.CaptureFixture[str]
+) -> Callable[..., tuple[int, str, str]]:
     """Calls a command in an empty folder: its status, its output and what it tells."""
     monkeypatch.chdir(tmp_path)
 

@@ -39,7 +39,9 @@ class Draw:
         return self.draws.choice(choices)
 
     def offset(self) -> str:
-        return self.one("t", "t", f"t-{self.draws.randrange(9)}", f"t+{self.draws.randrange(4)}", f"t-{self.one(10**11, 10**12, 10**12 + 1)}")
+        return self.one(
+            "t", "t", f"t-{self.draws.randrange(9)}", f"t+{self.draws.randrange(4)}", f"t-{self.one(10**11, 10**12, 10**12 + 1)}"
+        )
 
     def name(self, kind: str) -> str:
         known = [name for name, its in self.names.items() if its == kind]
@@ -51,13 +53,22 @@ class Draw:
         if depth > 2 or self.draws.random() < 0.3:
             return self.leaf(kind)
         a, b, c = (lambda kind=kind: self.expression(kind, depth + 1) for _ in range(3))
-        shared = [lambda: f"{a()} when {b('bool')}", lambda: f"if {a('bool')} then {b()} else {c()}", lambda: f"ifnull({a()}, {b()})",
-                  lambda: f"({a()})"]
+        shared = [
+            lambda: f"{a()} when {b('bool')}",
+            lambda: f"if {a('bool')} then {b()} else {c()}",
+            lambda: f"ifnull({a()}, {b()})",
+            lambda: f"({a()})",
+        ]
         if kind == "int":
             own = [lambda: f"{a()} {self.one('+', '-', '*', '/', '%')} {b()}", lambda: f"-{a()}", lambda: f"{a()} + {b()} * {c()}"]
         else:
-            own = [lambda: f"{a('int')} {self.one('<', '<=', '>', '>=', '==', '!=')} {b('int')}", lambda: f"{a()} {self.one('and', 'or')} {b()}",
-                   lambda: f"not {a()}", lambda: f"isnull({a('int')})", lambda: f"{a()} {self.one('==', '!=')} {b()}"]
+            own = [
+                lambda: f"{a('int')} {self.one('<', '<=', '>', '>=', '==', '!=')} {b('int')}",
+                lambda: f"{a()} {self.one('and', 'or')} {b()}",
+                lambda: f"not {a()}",
+                lambda: f"isnull({a('int')})",
+                lambda: f"{a()} {self.one('==', '!=')} {b()}",
+            ]
         return self.draws.choice(shared + own)()
 
     def leaf(self, kind: str) -> str:
@@ -82,10 +93,10 @@ class Draw:
     def query(self) -> str:
         self.names = {}
         lines = []
-        for name in ("x", "y", "z")[:self.draws.randrange(4)]:
+        for name in ("x", "y", "z")[: self.draws.randrange(4)]:
             lines.append(f"input {name};")
             self.names[name] = "int"
-        for name in ("a", "b", "x", "c")[:self.draws.randrange(4)] if self.draws.random() < 0.7 else ():
+        for name in ("a", "b", "x", "c")[: self.draws.randrange(4)] if self.draws.random() < 0.7 else ():
             kind = self.one("int", "int", "bool")
             lines.append(f"let {name} = {self.expression(kind)}{self.domain(False)};")
             self.names.setdefault(name, kind)
@@ -108,11 +119,62 @@ class Draw:
                 other = self.draws.randrange(len(parts))
                 parts[at], parts[other] = parts[other], parts[at]
             else:
-                parts = parts[:at + 1]
+                parts = parts[: at + 1]
             parts = parts or [" "]
         return "".join(parts).encode()
 
 
-SPARE = ["x", "y", "unknown", "emit", "let", "input", "over", "every", "from", "if", "then", "else", "when", "or", "and", "not", "true", "isnull",
-         "ifnull", "t", "sum", "avg", "any", "all", "count", "(", ")", "[", "]", ",", ":", ";", "=", "==", "<", "+", "-", "*", "/", "%", "!", "&",
-         ".", "#", "é", "\t", "\n", "0", "12", "9223372036854775807", "9223372036854775808", "00000000000000000000000000001"]
+SPARE = [
+    "x",
+    "y",
+    "unknown",
+    "emit",
+    "let",
+    "input",
+    "over",
+    "every",
+    "from",
+    "if",
+    "then",
+    "else",
+    "when",
+    "or",
+    "and",
+    "not",
+    "true",
+    "isnull",
+    "ifnull",
+    "t",
+    "sum",
+    "avg",
+    "any",
+    "all",
+    "count",
+    "(",
+    ")",
+    "[",
+    "]",
+    ",",
+    ":",
+    ";",
+    "=",
+    "==",
+    "<",
+    "+",
+    "-",
+    "*",
+    "/",
+    "%",
+    "!",
+    "&",
+    ".",
+    "#",
+    "é",
+    "\t",
+    "\n",
+    "0",
+    "12",
+    "9223372036854775807",
+    "9223372036854775808",
+    "00000000000000000000000000001",
+]

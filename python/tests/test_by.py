@@ -88,16 +88,21 @@ def test_inputs_of_other_scales_are_told_once(told, tilt):
     lay_out_scales(told, a=("10", "100"), b=("10", "100"))
     status, out, err = told("by", *BINDS)
     assert (status, out) == (0, "key,start,end,value\na,1,2,220\nb,1,2,220\n")
-    assert err == ("tilt-data: note: a, b: the inputs have different scales (x: 10; y: 100): write one --like the other before you add or "
-                   "compare them\n")
+    assert err == (
+        "tilt-data: note: a, b: the inputs have different scales (x: 10; y: 100): write one --like the other before you add or "
+        "compare them\n"
+    )
 
 
 def test_keys_of_other_scales_are_told(told, tilt):
     lay_out_scales(told, a=("10", "10"), b=("100", "100"), c=("10", "10"))
     status, out, err = told("by", *BINDS)
     assert status == 0 and out == "key,start,end,value\na,1,2,40\nb,1,2,400\nc,1,2,40\n"
-    assert err.splitlines() == [f"tilt-data: note: {name}, by key: the inputs have different scales (a: 10; b: 100): write one --like the other "
-                                "before you add or compare them" for name in "xy"]
+    assert err.splitlines() == [
+        f"tilt-data: note: {name}, by key: the inputs have different scales (a: 10; b: 100): write one --like the other "
+        "before you add or compare them"
+        for name in "xy"
+    ]
 
 
 def test_a_folder_that_no_key_is_written_as_is_its_own_key(told, tilt):
@@ -109,7 +114,11 @@ def test_a_folder_that_no_key_is_written_as_is_its_own_key(told, tilt):
     status, out, _ = told("by", "q", "x=d/{key}/x.csv", "-o", "all.csv")
     assert status == 0 and pathlib.Path("all.csv").read_text() == "key,start,end,value\n%41,0,5,0\nA,0,5,1\nZürich,0,5,2\n"
     status, out, err = told("table", "all.csv", "--like", "d/A/x.csv", "--episodes", "--of", "x=d/{key}/x.csv")
-    assert (status, err) == (0, "") and [line.split(",")[0::4] for line in out.splitlines()[1:]] == [["%41", "0"], ["A", "1"], ["Zürich", "2"]]
+    assert (status, err) == (0, "") and [line.split(",")[0::4] for line in out.splitlines()[1:]] == [
+        ["%41", "0"],
+        ["A", "1"],
+        ["Zürich", "2"],
+    ]
 
 
 def test_two_folders_of_one_key_are_refused(told):
@@ -118,7 +127,10 @@ def test_two_folders_of_one_key_are_refused(told):
         os.makedirs(f"d/{name}")
         pathlib.Path(f"d/{name}/x.csv").write_text("start,end,value\n")
     assert told("by", "q", "x=d/{key}/x.csv") == (
-        1, "", "tilt-data: Z%C3%BCrich and Zürich are names of one key, Zürich: rename one of them\n")
+        1,
+        "",
+        "tilt-data: Z%C3%BCrich and Zürich are names of one key, Zürich: rename one of them\n",
+    )
 
 
 def test_a_signal_ends_the_programs_that_run(tmp_path):
@@ -130,8 +142,12 @@ def test_a_signal_ends_the_programs_that_run(tmp_path):
         (tmp_path / key).write_text("")
     temporary = tmp_path / "tmp"
     temporary.mkdir()
-    process = subprocess.Popen([sys.executable, "-m", "tilt_data", "by", "q", "x={key}", "--jobs", "2", "-o", "out"], cwd=tmp_path,
-                               env={**os.environ, "PYTHONPATH": str(PYTHON), "TILT": str(script), "TMPDIR": str(temporary)}, stderr=subprocess.PIPE)
+    process = subprocess.Popen(
+        [sys.executable, "-m", "tilt_data", "by", "q", "x={key}", "--jobs", "2", "-o", "out"],
+        cwd=tmp_path,
+        env={**os.environ, "PYTHONPATH": str(PYTHON), "TILT": str(script), "TMPDIR": str(temporary)},
+        stderr=subprocess.PIPE,
+    )
     pids = tmp_path / "pids"
     until = time.monotonic() + 30
     while not (pids.exists() and pids.read_text().count("\n") == 2) and time.monotonic() < until:

@@ -30,7 +30,9 @@ def test_lists_are_brought_before_packages(apt):
     assert (apt / "calls").read_text() == told
     data.install(["m4"])
     assert (apt / "calls").read_text().splitlines()[2:] == [
-        "noninteractive: update", "noninteractive: install -y --no-install-recommends m4"]
+        "noninteractive: update",
+        "noninteractive: install -y --no-install-recommends m4",
+    ]
 
 
 def test_who_may_not_install_doesnt_try(apt, monkeypatch):
@@ -101,19 +103,28 @@ def test_a_report_that_is_missing_and_a_status_without_a_fault_are_failures(tmp_
 ECHO = "echo 'input x; emit x | y && z > 3 over (0, 10];' > q; "
 
 
-@pytest.mark.parametrize("command, calls", [
-    ("tilt run q x=x.csv", [(["run", "q", "x=x.csv"], None, None)]),
-    ("tilt flow p x=x.csv --plain", [(["flow", "p", "x=x.csv", "--plain"], None, None)]),
-    (ECHO + "tilt run q x=x.csv", [(["run", "q", "x=x.csv"], None, None)]),
-    ("m4 q.m4 > q && tilt run q", [(["run", "q"], None, None)]),
-    (ECHO + "tilt run q x=x.csv | head -n 5", [(["run", "q", "x=x.csv"], None, 5)]),
-    ("tilt run q x=x.csv > out", [(["run", "q", "x=x.csv"], "out", None)]),
-    ("tilt run q x=x.csv > out; tilt flow p x=x.csv | cmp - out", [(["run", "q", "x=x.csv"], "out", None)]),
-    ("tilt run q x=x.csv > a; tilt run q x=y.csv", [(["run", "q", "x=x.csv"], "a", None), (["run", "q", "x=y.csv"], None, None)]),
-    # What the line prints isn't the output of the call alone, or the words aren't those of the call.
-    ("cat q; tilt run q x=x.csv", []), ("tilt run q x=x.csv; cat q", []), ("tilt run q x=x.csv | wc -l", []), ("tilt run q x=x.csv 2>&1", []),
-    ("for n in 1 2; do tilt run q x=x.csv; done", []), ("tilt run q x=$FILE", []), ("tilt explain q", []), ("tilt-data run q x=x.csv", []),
-])
+@pytest.mark.parametrize(
+    "command, calls",
+    [
+        ("tilt run q x=x.csv", [(["run", "q", "x=x.csv"], None, None)]),
+        ("tilt flow p x=x.csv --plain", [(["flow", "p", "x=x.csv", "--plain"], None, None)]),
+        (ECHO + "tilt run q x=x.csv", [(["run", "q", "x=x.csv"], None, None)]),
+        ("m4 q.m4 > q && tilt run q", [(["run", "q"], None, None)]),
+        (ECHO + "tilt run q x=x.csv | head -n 5", [(["run", "q", "x=x.csv"], None, 5)]),
+        ("tilt run q x=x.csv > out", [(["run", "q", "x=x.csv"], "out", None)]),
+        ("tilt run q x=x.csv > out; tilt flow p x=x.csv | cmp - out", [(["run", "q", "x=x.csv"], "out", None)]),
+        ("tilt run q x=x.csv > a; tilt run q x=y.csv", [(["run", "q", "x=x.csv"], "a", None), (["run", "q", "x=y.csv"], None, None)]),
+        # What the line prints isn't the output of the call alone, or the words aren't those of the call.
+        ("cat q; tilt run q x=x.csv", []),
+        ("tilt run q x=x.csv; cat q", []),
+        ("tilt run q x=x.csv | wc -l", []),
+        ("tilt run q x=x.csv 2>&1", []),
+        ("for n in 1 2; do tilt run q x=x.csv; done", []),
+        ("tilt run q x=$FILE", []),
+        ("tilt explain q", []),
+        ("tilt-data run q x=x.csv", []),
+    ],
+)
 def test_which_calls_of_a_line_are_worked_out_again(command, calls):
     assert [(call.words, call.file, call.most) for call in examples.calls_of(command)] == calls
 
@@ -132,7 +143,9 @@ def test_a_page_that_has_what_the_program_prints_is_held_to_its_meaning(tmp_path
     page = page_of(tmp_path, f"start,end,value\n{row}\n")
     monkeypatch.setattr(examples, "TOP", str(tmp_path))
     monkeypatch.setattr(examples, "BUILT", str(tmp_path / "tilt"))
-    monkeypatch.setattr(examples, "lay_out", lambda folder, lines: (pathlib.Path(folder) / "x.csv").write_bytes((tmp_path / "x.csv").read_bytes()))
+    monkeypatch.setattr(
+        examples, "lay_out", lambda folder, lines: (pathlib.Path(folder) / "x.csv").write_bytes((tmp_path / "x.csv").read_bytes())
+    )
     tally = examples.PageTally()
     examples.check_page(tally, page)
     assert (tally.passed, tally.failed, tally.evaluated, tally.others) == (2 - failed, failed, 1, 0)
@@ -142,21 +155,24 @@ def test_a_page_that_has_what_the_program_prints_is_held_to_its_meaning(tmp_path
 NOT_RUN = "a command that isn't run: "
 
 
-@pytest.mark.parametrize(("page", "found"), [
-    ("Run:\n\n    tilt run q x=x.csv\n", [(3, NOT_RUN + "tilt run q x=x.csv")]),
-    ("Run:\n\n    TILT=/bin/tilt tilt-data follow q\n", [(3, NOT_RUN + "TILT=/bin/tilt tilt-data follow q")]),
-    ("Run:\n\n        ./make data\n", [(3, NOT_RUN + "./make data")]),
-    ("```text\nfirst\n$ tilt\n```\n", [(3, NOT_RUN + "$ tilt")]),
-    ("```rust\n/usr/bin/tilt\n```\n", [(2, NOT_RUN + "/usr/bin/tilt")]),
-    ("Run this:\n\n```sh\npip install .\n```\n", [(3, "the line before this block doesn't say `not run by the tests`")]),
-    ("Not run by the tests.\n\nNow:\n\n```sh\nls\n```\n", [(5, "the line before this block doesn't say `not run by the tests`")]),
-    ("```\nx\n```\n", [(1, "the fence isn't `console`, `file NAME`, `sh` or one of text, rust")]),
-    ("```bash\nx\n```\n", [(1, "the fence isn't `console`, `file NAME`, `sh` or one of text, rust")]),
-    ("Not run by the tests:\n\n```sh\npip install .\n```\n", []),
-    ("It is `s.sh`:\n\n```file s.sh\ntilt run q\n```\n\n```console\n$ sh s.sh\n    tilt run\n```\n", []),
-    ("A listing:\n\n    tilt 1\n    input x\n    tilt checkpoint 2\n    cut 5\n    from NAME ;\n", []),
-    ("Call `tilt run`; for a query:\n  tilt run\n", []),
-])
+@pytest.mark.parametrize(
+    ("page", "found"),
+    [
+        ("Run:\n\n    tilt run q x=x.csv\n", [(3, NOT_RUN + "tilt run q x=x.csv")]),
+        ("Run:\n\n    TILT=/bin/tilt tilt-data follow q\n", [(3, NOT_RUN + "TILT=/bin/tilt tilt-data follow q")]),
+        ("Run:\n\n        ./make data\n", [(3, NOT_RUN + "./make data")]),
+        ("```text\nfirst\n$ tilt\n```\n", [(3, NOT_RUN + "$ tilt")]),
+        ("```rust\n/usr/bin/tilt\n```\n", [(2, NOT_RUN + "/usr/bin/tilt")]),
+        ("Run this:\n\n```sh\npip install .\n```\n", [(3, "the line before this block doesn't say `not run by the tests`")]),
+        ("Not run by the tests.\n\nNow:\n\n```sh\nls\n```\n", [(5, "the line before this block doesn't say `not run by the tests`")]),
+        ("```\nx\n```\n", [(1, "the fence isn't `console`, `file NAME`, `sh` or one of text, rust")]),
+        ("```bash\nx\n```\n", [(1, "the fence isn't `console`, `file NAME`, `sh` or one of text, rust")]),
+        ("Not run by the tests:\n\n```sh\npip install .\n```\n", []),
+        ("It is `s.sh`:\n\n```file s.sh\ntilt run q\n```\n\n```console\n$ sh s.sh\n    tilt run\n```\n", []),
+        ("A listing:\n\n    tilt 1\n    input x\n    tilt checkpoint 2\n    cut 5\n    from NAME ;\n", []),
+        ("Call `tilt run`; for a query:\n  tilt run\n", []),
+    ],
+)
 def test_a_page_shows_no_command_that_is_neither_run_nor_marked(page, found):
     assert list(examples.hidden_commands(page.split("\n"))) == found
 

@@ -40,8 +40,13 @@ def tie(name: str) -> None:
 
 
 def call(command: str, folder: pathlib.Path, **environment: str) -> subprocess.CompletedProcess[str]:
-    return subprocess.run(["sh", "-c", command.replace("tilt-data", f"{sys.executable} -m tilt_data")], cwd=folder, capture_output=True,
-                          text=True, env={**os.environ, "PYTHONPATH": str(PYTHON), **environment})
+    return subprocess.run(
+        ["sh", "-c", command.replace("tilt-data", f"{sys.executable} -m tilt_data")],
+        cwd=folder,
+        capture_output=True,
+        text=True,
+        env={**os.environ, "PYTHONPATH": str(PYTHON), **environment},
+    )
 
 
 # A series and its JSON file
@@ -53,9 +58,15 @@ def test_notes_of_another_csv_are_rejected(told):
     tie("x")
     assert told("table", "x.csv")[:2] == (0, f"{HEAD}{DAY}0Z,{DAY}5Z,0.7\n")
     pathlib.Path("x.csv").write_text(HEAD + "0,5,77\n")
-    wanted = ("tilt-data: x.csv: it has 23 bytes, and its JSON file describes one of 22 (x.json), so its clock and scale aren't known: "
-              "write the series again\n")
-    for words in (["table", "x.csv"], ["table", "out", "--like", "x.csv"], ["ticks", "each", "o.csv", "--like", "x.csv", "--from", "0", "--to", "9"]):
+    wanted = (
+        "tilt-data: x.csv: it has 23 bytes, and its JSON file describes one of 22 (x.json), so its clock and scale aren't known: "
+        "write the series again\n"
+    )
+    for words in (
+        ["table", "x.csv"],
+        ["table", "out", "--like", "x.csv"],
+        ["ticks", "each", "o.csv", "--like", "x.csv", "--from", "0", "--to", "9"],
+    ):
         assert told(*words) == (1, "", wanted)
 
 
@@ -128,7 +139,9 @@ def test_a_kill_at_each_rename_never_gives_new_values_with_the_old_scale(told, t
             pathlib.Path("i").write_text(f"time,x,y\n5,{OLD[0]},{OLD[0]}\n")
             assert told(*SERIES, "--scale", OLD[1])[0] == 0
         pathlib.Path("i").write_text(f"time,x,y\n5,{NEW[0]},{NEW[0]}\n")
-        done = subprocess.run([sys.executable, "-c", KILLED, str(count), *SERIES, "--scale", NEW[1]], env={**os.environ, "PYTHONPATH": str(PYTHON)})
+        done = subprocess.run(
+            [sys.executable, "-c", KILLED, str(count), *SERIES, "--scale", NEW[1]], env={**os.environ, "PYTHONPATH": str(PYTHON)}
+        )
         seen.append((state_of("x"), state_of("y")))
         # Series that all look right are never some old and some new.
         assert not {"old", "new"} <= set(seen[-1])
@@ -192,14 +205,23 @@ def test_a_json_file_is_no_series(told):
     assert sorted(os.listdir()) == ["x.csv", "x.json"]
 
 
-@pytest.mark.parametrize("change, what", [
-    ({"scale": 2.9}, "scale 2.9: a whole number was expected"), ({"scale": True}, "scale true: a whole number was expected"),
-    ({"scale": "10"}, 'scale "10": a whole number was expected'), ({"scale": 0}, "a scale above 0"),
-    ({"closed": "both"}, "closed 'both': left or right was expected"), ({"closed": None}, "closed null: a text was expected"),
-    ({"kind": "none"}, "kind 'none': one of hold, event, helper was expected"), ({"zone": 5}, "zone 5: a text was expected"),
-    ({"tick": 1}, "tick 1: a text was expected"), ({"tick": "1 year"}, "'1 year' is no duration: "), ({"size": "7"}, 'size "7": a whole number was expected'),
-    ({"key": []}, "key []: a text was expected"),
-])
+@pytest.mark.parametrize(
+    "change, what",
+    [
+        ({"scale": 2.9}, "scale 2.9: a whole number was expected"),
+        ({"scale": True}, "scale true: a whole number was expected"),
+        ({"scale": "10"}, 'scale "10": a whole number was expected'),
+        ({"scale": 0}, "a scale above 0"),
+        ({"closed": "both"}, "closed 'both': left or right was expected"),
+        ({"closed": None}, "closed null: a text was expected"),
+        ({"kind": "none"}, "kind 'none': one of hold, event, helper was expected"),
+        ({"zone": 5}, "zone 5: a text was expected"),
+        ({"tick": 1}, "tick 1: a text was expected"),
+        ({"tick": "1 year"}, "'1 year' is no duration: "),
+        ({"size": "7"}, 'size "7": a whole number was expected'),
+        ({"key": []}, "key []: a text was expected"),
+    ],
+)
 def test_notes_that_series_doesnt_write(told, change, what):
     put("x", "0,5,7\n")
     fields = json.loads(pathlib.Path("x.json").read_text())
@@ -208,8 +230,11 @@ def test_notes_that_series_doesnt_write(told, change, what):
     assert status == 1 and err.startswith(f"tilt-data: x.json: the JSON that `tilt-data series` writes was expected: {what}")
 
 
-@pytest.mark.parametrize("text", ['{"scale": 1e999, "tick": "1s", "origin": "2026-03-01"}', "[" * 100000, "[]", "7", "", "\xff", '{"scale": ' + "9" * 5000 + "}"],
-                         ids=["infinite", "deep", "list", "number", "empty", "encoding", "long"])
+@pytest.mark.parametrize(
+    "text",
+    ['{"scale": 1e999, "tick": "1s", "origin": "2026-03-01"}', "[" * 100000, "[]", "7", "", "\xff", '{"scale": ' + "9" * 5000 + "}"],
+    ids=["infinite", "deep", "list", "number", "empty", "encoding", "long"],
+)
 def test_notes_that_are_no_notes(told, text):
     put("x", "0,5,7\n")
     pathlib.Path("x.json").write_bytes(text.encode("latin-1"))
@@ -220,13 +245,45 @@ def test_notes_that_are_no_notes(told, text):
 # Rows as the program reads them
 
 ROWS: list[tuple[str, bool]] = [
-    ("0,5,7\n", True), ("+0,+5,+7\n", True), ("-5,-0,-7\n", True), ("000,0005,007\n", True), ("0,5,\n", True), ("0,5,7", True), ('"0","5","7"\n', True),
-    ("0,5,7\r\n5,6,8\r\n", True), ("0,5,7\r5,6,8\r", True), ("\n\n0,5,7\n\n", True), ("0,5,9223372036854775807\n", True),
-    ("0,5,-9223372036854775808\n", True), ("-4000000000000000000,4000000000000000000,1\n", True), ("0,5,7\n5,9,8\n20,21,7\n", True),
-    ("0,5,1_0\n", False), ("0,5, 7\n", False), ("0,5,7 \n", False), ("0,5,٣\n", False), ("0,5,５\n", False), ("0,5,²\n", False), ("0,5,--7\n", False),
-    ("0,5,+\n", False), ("0,5,7.0\n", False), ("0,5,1e3\n", False), ("0,5,0x7\n", False), ("0,5,9223372036854775808\n", False), ("0,,7\n", False),
-    (",5,7\n", False), ("0,5\n", False), ("0,5,7,\n", False), ("0,5,7,8\n", False), ("5,5,7\n", False), ("9,5,7\n", False), ("0,5,7\n4,9,8\n", False),
-    ("0,4000000000000000001,1\n", False), ("-4000000000000000001,0,1\n", False), ('""\n', False), (" \n", False), ("0,5,\x00\n", False),
+    ("0,5,7\n", True),
+    ("+0,+5,+7\n", True),
+    ("-5,-0,-7\n", True),
+    ("000,0005,007\n", True),
+    ("0,5,\n", True),
+    ("0,5,7", True),
+    ('"0","5","7"\n', True),
+    ("0,5,7\r\n5,6,8\r\n", True),
+    ("0,5,7\r5,6,8\r", True),
+    ("\n\n0,5,7\n\n", True),
+    ("0,5,9223372036854775807\n", True),
+    ("0,5,-9223372036854775808\n", True),
+    ("-4000000000000000000,4000000000000000000,1\n", True),
+    ("0,5,7\n5,9,8\n20,21,7\n", True),
+    ("0,5,1_0\n", False),
+    ("0,5, 7\n", False),
+    ("0,5,7 \n", False),
+    ("0,5,٣\n", False),
+    ("0,5,５\n", False),
+    ("0,5,²\n", False),
+    ("0,5,--7\n", False),
+    ("0,5,+\n", False),
+    ("0,5,7.0\n", False),
+    ("0,5,1e3\n", False),
+    ("0,5,0x7\n", False),
+    ("0,5,9223372036854775808\n", False),
+    ("0,,7\n", False),
+    (",5,7\n", False),
+    ("0,5\n", False),
+    ("0,5,7,\n", False),
+    ("0,5,7,8\n", False),
+    ("5,5,7\n", False),
+    ("9,5,7\n", False),
+    ("0,5,7\n4,9,8\n", False),
+    ("0,4000000000000000001,1\n", False),
+    ("-4000000000000000001,0,1\n", False),
+    ('""\n', False),
+    (" \n", False),
+    ("0,5,\x00\n", False),
 ]
 
 
@@ -320,8 +377,14 @@ def test_a_file_that_may_not_be_written_isnt_replaced(told, monkeypatch, mode, s
 
 def ended(number: int, tmp_path: pathlib.Path, **how: object) -> subprocess.Popen[bytes]:
     """A `table` that was writing its output when the signal came."""
-    process = subprocess.Popen([sys.executable, "-m", "tilt_data", "table", "-", "--like", "x.csv", "-o", "out"], cwd=tmp_path, stdin=subprocess.PIPE,
-                               stderr=subprocess.PIPE, env={**os.environ, "PYTHONPATH": str(PYTHON)}, **how)
+    process = subprocess.Popen(
+        [sys.executable, "-m", "tilt_data", "table", "-", "--like", "x.csv", "-o", "out"],
+        cwd=tmp_path,
+        stdin=subprocess.PIPE,
+        stderr=subprocess.PIPE,
+        env={**os.environ, "PYTHONPATH": str(PYTHON)},
+        **how,
+    )
     until = time.monotonic() + 30
     while len(os.listdir(tmp_path)) < 4 and time.monotonic() < until:
         time.sleep(0.02)
@@ -335,10 +398,14 @@ def test_a_signal_that_comes_while_a_file_is_made_leaves_none(told, tmp_path, wh
     put("x", "0,5,7\n")
     pathlib.Path("out").write_text("old")
     module = {"mkstemp": "tempfile", "close": "os", "replace": "os"}[where]
-    code = (f"import os, signal, sys, tempfile\nfrom tilt_data.cli import main\nreal = {module}.{where}\n"
-            f"def one(*words, **named):\n    {module}.{where} = real\n    found = real(*words, **named)\n"
-            f"    os.kill(os.getpid(), signal.SIGTERM)\n    return found\n{module}.{where} = one\nsys.exit(main(sys.argv[1:]))\n")
-    done = subprocess.run([sys.executable, "-c", code, "table", "x.csv", "-o", "out"], env={**os.environ, "PYTHONPATH": str(PYTHON)}, capture_output=True)
+    code = (
+        f"import os, signal, sys, tempfile\nfrom tilt_data.cli import main\nreal = {module}.{where}\n"
+        f"def one(*words, **named):\n    {module}.{where} = real\n    found = real(*words, **named)\n"
+        f"    os.kill(os.getpid(), signal.SIGTERM)\n    return found\n{module}.{where} = one\nsys.exit(main(sys.argv[1:]))\n"
+    )
+    done = subprocess.run(
+        [sys.executable, "-c", code, "table", "x.csv", "-o", "out"], env={**os.environ, "PYTHONPATH": str(PYTHON)}, capture_output=True
+    )
     assert (done.returncode, done.stderr) == (143, b"")
     assert sorted(os.listdir()) == ["out", "x.csv", "x.json"]
     assert (pathlib.Path("out").read_text() == "old") == (where != "replace")
@@ -395,11 +462,13 @@ def test_streams_that_are_closed(told, tilt, tmp_path):
 
 
 def test_no_file_is_opened_under_the_number_of_a_closed_stream(tmp_path):
-    code = ("import os; from tilt_data.cli import prepare_streams; prepare_streams(); number = os.open('f', os.O_CREAT | os.O_WRONLY)\n"
-            "for stream, use in ((0, lambda: os.read(0, 1)), (1, lambda: os.write(1, b'x')), (2, lambda: os.write(2, b'x'))):\n"
-            "    try:\n        use()\n    except OSError as error:\n        os.write(number, f'{stream} {error.errno}\\n'.encode())\n"
-            "os.write(number, b'above' if number > 2 else b'below')\n")
-    command = f"{sys.executable} -c \"$CODE\" <&- >&- 2>&-"
+    code = (
+        "import os; from tilt_data.cli import prepare_streams; prepare_streams(); number = os.open('f', os.O_CREAT | os.O_WRONLY)\n"
+        "for stream, use in ((0, lambda: os.read(0, 1)), (1, lambda: os.write(1, b'x')), (2, lambda: os.write(2, b'x'))):\n"
+        "    try:\n        use()\n    except OSError as error:\n        os.write(number, f'{stream} {error.errno}\\n'.encode())\n"
+        "os.write(number, b'above' if number > 2 else b'below')\n"
+    )
+    command = f'{sys.executable} -c "$CODE" <&- >&- 2>&-'
     subprocess.run(["sh", "-c", command], cwd=tmp_path, env={**os.environ, "PYTHONPATH": str(PYTHON), "CODE": code})
     assert (tmp_path / "f").read_text() == "".join(f"{stream} {errno.EBADF}\n" for stream in range(3)) + "above"
 
@@ -435,17 +504,30 @@ def test_a_bad_byte_of_a_pipe_is_told_of_standard_input(told, tmp_path):
     assert os.listdir(tmp_path) == ["i"]
 
 
-@pytest.mark.parametrize("text, shown", [
-    ("x.csv", "x.csv"), ("Zürich 水 \U0001f600", "Zürich 水 \U0001f600"), ("\x1b[31m", r"\x1b[31m"), ("a\tb\nc\r", r"a\tb\nc\r"), ("\x7f\x9b1m", r"\x7f\x9b1m"),
-    ("\u202eabc\u2066", r"\u202eabc\u2066"), ("\u2028", r"\u2028"), ("\udcff", r"\udcff"), ("👩\u200d🚀", "👩\u200d🚀"),
-])
+@pytest.mark.parametrize(
+    "text, shown",
+    [
+        ("x.csv", "x.csv"),
+        ("Zürich 水 \U0001f600", "Zürich 水 \U0001f600"),
+        ("\x1b[31m", r"\x1b[31m"),
+        ("a\tb\nc\r", r"a\tb\nc\r"),
+        ("\x7f\x9b1m", r"\x7f\x9b1m"),
+        ("\u202eabc\u2066", r"\u202eabc\u2066"),
+        ("\u2028", r"\u2028"),
+        ("\udcff", r"\udcff"),
+        ("👩\u200d🚀", "👩\u200d🚀"),
+    ],
+)
 def test_what_would_steer_a_terminal_is_escaped(text, shown):
     assert printable(text) == shown
 
 
 def test_a_name_that_would_steer_a_terminal(told):
-    assert told("table", "\x1b[31m") == (1, "", "tilt-data: \\x1b[31m: its ticks and scale aren't known: no JSON file is beside it; --like SERIES names "
-                                         "a series that has one\n")
+    assert told("table", "\x1b[31m") == (
+        1,
+        "",
+        "tilt-data: \\x1b[31m: its ticks and scale aren't known: no JSON file is beside it; --like SERIES names " "a series that has one\n",
+    )
 
 
 @pytest.mark.parametrize("text", ["A", "Zürich", ".", "..", "a/b", "%41", "100%", "a+b c,d=e@(f)", "%2E", "é%C3"])

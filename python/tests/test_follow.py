@@ -18,8 +18,10 @@ from conftest import PROGRAM, PYTHON, run_program
 
 from tilt_data.follow import LONGEST, Lines
 
-QUERY = ("input temp; input limit; let a = avg(temp[t-20:t]) every 10; let above = ifnull(a > limit, false);\n"
-         "emit a - limit when any(above[t-30:t]) over (0, 3000] every 10;\n")
+QUERY = (
+    "input temp; input limit; let a = avg(temp[t-20:t]) every 10; let above = ifnull(a > limit, false);\n"
+    "emit a - limit when any(above[t-30:t]) over (0, 3000] every 10;\n"
+)
 BEGUN = {"PYTHONPATH": str(PYTHON), "TILT": str(PROGRAM), "PATH": os.environ["PATH"]}
 
 
@@ -46,8 +48,13 @@ def lay_out(folder: pathlib.Path) -> tuple[list[str], str]:
 
 
 def follow(folder: pathlib.Path, *words: str, **streams) -> subprocess.Popen[bytes]:
-    return subprocess.Popen([sys.executable, "-m", "tilt_data", "follow", "q", *words], cwd=folder, env=BEGUN, start_new_session=True,
-                            **{"stdout": subprocess.PIPE, "stderr": subprocess.PIPE, **streams})
+    return subprocess.Popen(
+        [sys.executable, "-m", "tilt_data", "follow", "q", *words],
+        cwd=folder,
+        env=BEGUN,
+        start_new_session=True,
+        **{"stdout": subprocess.PIPE, "stderr": subprocess.PIPE, **streams},
+    )
 
 
 def done(process: subprocess.Popen[bytes], given: bytes = b"") -> tuple[int, str, str]:
@@ -121,7 +128,13 @@ def test_killed_a_hundred_times(tilt, tmp_path):
         rounds += 1
         assert (tmp_path / state / "output.csv").read_text() == wanted
         assert sorted(name.partition(".")[0] for name in os.listdir(tmp_path / state) if not name.startswith(".")) == [
-            "lock", "notes", "output", "part", "query", "state"]
+            "lock",
+            "notes",
+            "output",
+            "part",
+            "query",
+            "state",
+        ]
     # It has to be killed while it works, or the test tells nothing.
     assert kills >= 100, kills
 
@@ -145,13 +158,17 @@ def test_readings_become_rows_as_in_series(tilt, tmp_path):
     assert (tmp_path / "s" / "output.csv").read_text() == wanted
 
 
-@pytest.mark.parametrize("line, what", [
-    ("temp,5", "line 2: NAME,start,end,value or NAME,time,value was expected"),
-    ("temp,5,5,1", "line 2: a start below the end 5 was expected"),
-    ("temp,0,5,1", "line 2: it starts before 3, up to where temp was known: it came too late"),
-    ("temp,5,6,1.5", "with whole numbers was expected"),
-    ("temp,2026-03-01,5", "readings need a clock"), ("limit,5,6,1", "limit is given by a file"),
-])
+@pytest.mark.parametrize(
+    "line, what",
+    [
+        ("temp,5", "line 2: NAME,start,end,value or NAME,time,value was expected"),
+        ("temp,5,5,1", "line 2: a start below the end 5 was expected"),
+        ("temp,0,5,1", "line 2: it starts before 3, up to where temp was known: it came too late"),
+        ("temp,5,6,1.5", "with whole numbers was expected"),
+        ("temp,2026-03-01,5", "readings need a clock"),
+        ("limit,5,6,1", "limit is given by a file"),
+    ],
+)
 def test_bad_lines(tilt, tmp_path, line, what):
     lay_out(tmp_path)
     given = f"temp,0,3,1\n{line}\ntemp,7,9,1\n".encode()
@@ -167,14 +184,17 @@ LIMIT, BIT = 4 * 10**18, 2**63
 OVER = "tilt-data: the query's `over` has ended at 20: no more rows come\n"
 
 
-@pytest.mark.parametrize("line, what", [
-    (f"temp,5,{LIMIT + 1},1", f"a time within {-LIMIT} to {LIMIT} was expected"),
-    (f"temp,{-LIMIT - 1},5,1", f"a time within {-LIMIT} to {LIMIT} was expected"),
-    (f"temp,5,6,{BIT}", f"a value within {-BIT} to {BIT - 1} was expected"),
-    (f"temp,5,6,{-BIT - 1}", f"a value within {-BIT} to {BIT - 1} was expected"),
-    pytest.param(f"temp,5,6,{'9' * 5000}", f"a value within {-BIT} to {BIT - 1} was expected", id="5000 digits"),
-    ("temp,1970-01-01T00:00:06,1", "temp came as rows before"),
-])
+@pytest.mark.parametrize(
+    "line, what",
+    [
+        (f"temp,5,{LIMIT + 1},1", f"a time within {-LIMIT} to {LIMIT} was expected"),
+        (f"temp,{-LIMIT - 1},5,1", f"a time within {-LIMIT} to {LIMIT} was expected"),
+        (f"temp,5,6,{BIT}", f"a value within {-BIT} to {BIT - 1} was expected"),
+        (f"temp,5,6,{-BIT - 1}", f"a value within {-BIT} to {BIT - 1} was expected"),
+        pytest.param(f"temp,5,6,{'9' * 5000}", f"a value within {-BIT} to {BIT - 1} was expected", id="5000 digits"),
+        ("temp,1970-01-01T00:00:06,1", "temp came as rows before"),
+    ],
+)
 def test_a_line_that_the_program_would_not_take_is_passed_over(tilt, tmp_path, line, what):
     lay_out(tmp_path)
     (tmp_path / "q").write_text("input temp; emit temp over (0, 20];")
@@ -206,14 +226,34 @@ def test_the_farthest_reading_is_taken(tilt, tmp_path):
     assert (tmp_path / "s" / "output.csv").read_text() == "start,end,value\n5,7,2\n"
 
 
-@pytest.mark.parametrize("reading, what", [
-    ("temp,1e20,1", f"its row would not lie within {-LIMIT} to {LIMIT} ticks"), ("temp,1e5000,1", "is no time"),
-    (f"temp,{LIMIT - 1},1", f"its row would not lie within {-LIMIT} to {LIMIT} ticks"), (f"temp,8,{BIT}", "isn't within 64 bits"),
-    ("temp,2,1", "it lies before 3, up to where its rows were known: it came too late"),
-])
+@pytest.mark.parametrize(
+    "reading, what",
+    [
+        ("temp,1e20,1", f"its row would not lie within {-LIMIT} to {LIMIT} ticks"),
+        ("temp,1e5000,1", "is no time"),
+        (f"temp,{LIMIT - 1},1", f"its row would not lie within {-LIMIT} to {LIMIT} ticks"),
+        (f"temp,8,{BIT}", "isn't within 64 bits"),
+        ("temp,2,1", "it lies before 3, up to where its rows were known: it came too late"),
+    ],
+)
 def test_a_reading_that_the_program_would_not_take_is_passed_over(tilt, tmp_path, reading, what):
     (tmp_path / "q").write_text("input temp; emit temp over (0, 20];")
-    words = ["--state", "s", "--rows", "1", "--skip-bad", "--tick", "1s", "--origin", "1970-01-01", "--unit", "s", "--max-age", "2s", "--end"]
+    words = [
+        "--state",
+        "s",
+        "--rows",
+        "1",
+        "--skip-bad",
+        "--tick",
+        "1s",
+        "--origin",
+        "1970-01-01",
+        "--unit",
+        "s",
+        "--max-age",
+        "2s",
+        "--end",
+    ]
     given = f"temp,0,3,1\n{reading}\ntemp,9,5\n".encode()
     status, out, err = done(follow(tmp_path, *words, stdin=subprocess.PIPE), given)
     assert status == 0 and what in err and err.count("\n") == 1 and out == "start,end,value\n0,3,1\n9,11,5\n"
@@ -235,7 +275,9 @@ def tree(folder: pathlib.Path) -> dict[str, str]:
     return {str(path.relative_to(folder)): path.read_text() for path in sorted(folder.rglob("*")) if path.is_file()}
 
 
-@pytest.mark.parametrize("names", [["notes.md", "log.txt", "rows.csv"], ["log/one"], ["query.tilt"], ["query.tilt", "state.md"], ["lock", "x"]])
+@pytest.mark.parametrize(
+    "names", [["notes.md", "log.txt", "rows.csv"], ["log/one"], ["query.tilt"], ["query.tilt", "state.md"], ["lock", "x"]]
+)
 def test_a_folder_that_it_did_not_begin_is_left_as_it_is(tmp_path, names):
     (tmp_path / "q").write_text(QUERY)
     for name in names:
@@ -285,7 +327,9 @@ def test_a_last_line_without_an_end_is_not_taken(tilt, tmp_path):
     # What the writer puts after it is read as one line with it.
     status, out, err = done(follow(tmp_path, *words, stdin=subprocess.PIPE), b"x,0,5,3\nx,5,9,17\nx,9,12,4\n")
     assert (status, err) == (0, "")
-    status, out, err = done(follow(tmp_path, *words, "--end", stdin=subprocess.PIPE), b"x,0,5,3\nx,5,9,17\nx,9,12,4\nx,12,13,5\r\nx,13,14,6")
+    status, out, err = done(
+        follow(tmp_path, *words, "--end", stdin=subprocess.PIPE), b"x,0,5,3\nx,5,9,17\nx,9,12,4\nx,12,13,5\r\nx,13,14,6"
+    )
     assert (status, err) == (0, "")
     assert (tmp_path / "s" / "output.csv").read_text() == "start,end,value\n0,5,3\n5,9,17\n9,12,4\n12,13,5\n13,14,6\n"
 
@@ -333,8 +377,14 @@ def test_a_log_that_has_no_room_is_told_and_nothing_is_lost(tilt, tmp_path):
     words = [sys.executable, "-m", "tilt_data", "follow", "q", "--state", "s", "--again"]
     room = 1000
     assert len(given) > 10 * room > len(QUERY)
-    full = subprocess.run(words, cwd=tmp_path, env={**BEGUN, "PYTHONDONTWRITEBYTECODE": "1"}, input=given, capture_output=True,
-                          preexec_fn=lambda: resource.setrlimit(resource.RLIMIT_FSIZE, (room, room)))
+    full = subprocess.run(
+        words,
+        cwd=tmp_path,
+        env={**BEGUN, "PYTHONDONTWRITEBYTECODE": "1"},
+        input=given,
+        capture_output=True,
+        preexec_fn=lambda: resource.setrlimit(resource.RLIMIT_FSIZE, (room, room)),
+    )
     assert (full.returncode, full.stdout) == (1, b"")
     assert full.stderr == b"tilt-data: s/log.begin: it can't be written: File too large\n"
     assert (tmp_path / "s" / "log.begin").stat().st_size == room
@@ -363,12 +413,16 @@ def test_a_query_that_is_refused_begins_no_state(tilt, tmp_path):
     assert done(follow(tmp_path, "--state", "s", "--end", stdin=subprocess.PIPE), given) == (0, wanted, "")
 
 
-@pytest.mark.parametrize("words, what", [
-    (["--until", "tomorrow"], "'tomorrow' is no time: ISO 8601 was expected"),
-    (["--until", "9999-01-01", "--tick", "1ns", "--origin", "1677-01-01"], "--until 9999-01-01: its tick "),
-    (["--event", "--max-age", "5s"], "--event is a reading of one tick: --max-age and --until are for readings that hold"),
-    (["--scale", "0"], "--scale: 1 or more was expected"), (["--rows", "0"], "--rows: 1 or more was expected"),
-])
+@pytest.mark.parametrize(
+    "words, what",
+    [
+        (["--until", "tomorrow"], "'tomorrow' is no time: ISO 8601 was expected"),
+        (["--until", "9999-01-01", "--tick", "1ns", "--origin", "1677-01-01"], "--until 9999-01-01: its tick "),
+        (["--event", "--max-age", "5s"], "--event is a reading of one tick: --max-age and --until are for readings that hold"),
+        (["--scale", "0"], "--scale: 1 or more was expected"),
+        (["--rows", "0"], "--rows: 1 or more was expected"),
+    ],
+)
 def test_words_are_read_before_any_line(tilt, tmp_path, words, what):
     lay_out(tmp_path)
     # The stream doesn't end: what is told doesn't wait for it.
@@ -392,7 +446,7 @@ def test_what_is_refused(tilt, tmp_path):
 
 def test_other_names_are_passed_over(tilt, tmp_path):
     lines, wanted = lay_out(tmp_path)
-    given = "".join(line + "\n" + "pressure" + line[line.index(","):] + "\n" for line in lines).encode()
+    given = "".join(line + "\n" + "pressure" + line[line.index(",") :] + "\n" for line in lines).encode()
     status, out, err = done(follow(tmp_path, "--state", "s", "--end", stdin=subprocess.PIPE), given)
     assert (status, out, err) == (0, wanted, "tilt-data: the query has no input pressure: its lines are passed over\n")
 
@@ -410,7 +464,8 @@ def changed(*words: str) -> list[str]:
 
 
 CHANGES = [
-    (changed("--scale", "100"), "with --scale 10", "with --scale 100"), (changed("--scale", "-"), "with --scale 10", "with --scale 1"),
+    (changed("--scale", "100"), "with --scale 10", "with --scale 100"),
+    (changed("--scale", "-"), "with --scale 10", "with --scale 1"),
     (changed("--tick", "100ms"), "with --tick 1s", "with --tick 100ms"),
     (changed("--origin", "2026-02-28"), "with --origin 2026-03-01T00:00:00Z", "with --origin 2026-02-28T00:00:00Z"),
     (changed("--origin", "-"), "with --origin 2026-03-01T00:00:00Z", "without --origin"),
@@ -422,8 +477,11 @@ CHANGES = [
     (changed("--until", "2026-03-02"), "without --until", "with --until 2026-03-02T00:00:00Z"),
     (changed("--ties", "first"), "with --ties last", "with --ties first"),
     (changed("--null", "NA,-9"), "with --null NA", "with --null -9,NA"),
-    (changed("--tick", "-", "--origin", "-", "--scale", "-", "--like", "hundred.csv"),
-     "with --scale 10", "with --scale 100 (of --like hundred.csv)"),
+    (
+        changed("--tick", "-", "--origin", "-", "--scale", "-", "--like", "hundred.csv"),
+        "with --scale 10",
+        "with --scale 100 (of --like hundred.csv)",
+    ),
 ]
 
 
@@ -442,10 +500,14 @@ def test_other_options_are_rejected_and_leave_the_folder_as_it_is(tilt, tmp_path
     first = changed("--max-age", "-")
     assert done(follow(tmp_path, "--state", "t", *first, stdin=subprocess.PIPE), b"x,2026-03-01T00:00:01,1.5\n")[::2] == (0, "")
     assert done(follow(tmp_path, "--state", "t", *first, "--event", stdin=subprocess.DEVNULL)) == (
-        1, "", "tilt-data: t was started without --event, not with --event: call it again without --event, or name another --state\n")
+        1,
+        "",
+        "tilt-data: t was started without --event, not with --event: call it again without --event, or name another --state\n",
+    )
     # The same options written otherwise are the same.
-    words = changed("--tick", "-", "--origin", "-", "--scale", "-", "--like", "ten.csv", "--max-age", "30000ms", "--closed", "left",
-                    "--zone", "UTC")
+    words = changed(
+        "--tick", "-", "--origin", "-", "--scale", "-", "--like", "ten.csv", "--max-age", "30000ms", "--closed", "left", "--zone", "UTC"
+    )
     assert done(follow(tmp_path, "--state", "s", *words, "--end", stdin=subprocess.PIPE), b"x,2026-03-01T00:00:09,3.5\n")[::2] == (0, "")
     assert (tmp_path / "s" / "output.csv").read_text() == "start,end,value\n1,5,15\n5,9,25\n9,39,35\n"
 
@@ -461,8 +523,9 @@ def test_options_of_readings_are_free_until_a_session_has_readings(tilt, tmp_pat
 
 def test_restarts_after_kills_with_other_options_change_nothing(tilt, tmp_path):
     draws = random.Random(6)
-    readings = [f"{time.strftime('%Y-%m-%dT%H:%M:%S', time.gmtime(1772323200 + at))},{draws.randrange(100) / 10}"
-                for at in range(1, 3000, 4)]
+    readings = [
+        f"{time.strftime('%Y-%m-%dT%H:%M:%S', time.gmtime(1772323200 + at))},{draws.randrange(100) / 10}" for at in range(1, 3000, 4)
+    ]
     (tmp_path / "raw.csv").write_text("time,x\n" + "".join(f"{line}\n" for line in readings))
     made = [sys.executable, "-m", "tilt_data", "series", "raw.csv", "--time", "time", *CLOCK]
     assert subprocess.run(made, cwd=tmp_path, env=BEGUN).returncode == 0
@@ -493,7 +556,8 @@ def test_restarts_after_kills_with_other_options_change_nothing(tilt, tmp_path):
         assert done(follow(tmp_path, *again, "--end", "--quiet", *CLOCK, stdin=given))[:2] == (0, "")
     assert (tmp_path / "s" / "output.csv").read_text() == wanted
     assert (tmp_path / "s" / "rejected.log").read_text() == "".join(
-        f"{at}\tNAME,start,end,value or NAME,time,value was expected\tx,bad\n" for at in range(8, len(lines) // 7 * 8 + 1, 8))
+        f"{at}\tNAME,start,end,value or NAME,time,value was expected\tx,bad\n" for at in range(8, len(lines) // 7 * 8 + 1, 8)
+    )
 
 
 def test_a_file_of_an_input_that_was_changed_is_rejected(tilt, tmp_path):
@@ -506,14 +570,20 @@ def test_a_file_of_an_input_that_was_changed_is_rejected(tilt, tmp_path):
     before = tree(tmp_path / "s")
     other = "limit.csv: its first 2 rows aren't those that s was given before: give the file as it was, or name another --state"
     for text, what in (
-            (rows.replace("12,2", "12,99"), other), (rows.replace("0,5,1\n", ""), other), ("start,end,value\n0,5,1\n", other),
-            (rows.replace("12,2", "7,2") + "7,15,3\n", other),
-            (rows.replace("12,2", "7,2") + "8,9,2\n", other)):
+        (rows.replace("12,2", "12,99"), other),
+        (rows.replace("0,5,1\n", ""), other),
+        ("start,end,value\n0,5,1\n", other),
+        (rows.replace("12,2", "7,2") + "7,15,3\n", other),
+        (rows.replace("12,2", "7,2") + "8,9,2\n", other),
+    ):
         limit.write_text(text)
         assert done(follow(tmp_path, *words, stdin=subprocess.PIPE), b"x,10,20,60\n") == (1, "", f"tilt-data: {what}\n")
         assert tree(tmp_path / "s") == before
     assert done(follow(tmp_path, "--state", "s", stdin=subprocess.PIPE), b"x,10,20,60\n") == (
-        1, "", "tilt-data: the input limit was given otherwise when s was begun: call it again with limit=FILE, or name another --state\n")
+        1,
+        "",
+        "tilt-data: the input limit was given otherwise when s was begun: call it again with limit=FILE, or name another --state\n",
+    )
     # What wasn't handed on yet may change, and rows may be added.
     limit.write_text(rows + "12,30,4\n30,40,5\n")
     assert done(follow(tmp_path, *words, "--end", stdin=subprocess.PIPE), b"x,10,40,60\n")[::2] == (0, "")
@@ -528,8 +598,11 @@ def test_a_row_that_is_added_to_a_file_where_all_is_decided_is_rejected(tilt, tm
     before = tree(tmp_path / "s")
     (tmp_path / "limit.csv").write_text("start,end,value\n0,5,1\n5,20,2\n")
     assert done(follow(tmp_path, *words, stdin=subprocess.PIPE), b"x,10,20,60\n") == (
-        1, "", "tilt-data: limit.csv: its row 5,20 is new and starts before 10, up to where s went: take out new rows that start before "
-        "10, or name another --state\n")
+        1,
+        "",
+        "tilt-data: limit.csv: its row 5,20 is new and starts before 10, up to where s went: take out new rows that start before "
+        "10, or name another --state\n",
+    )
     assert tree(tmp_path / "s") == before
 
 
@@ -537,12 +610,16 @@ TAKEN = [f"x,{at},{at + 1},{at}\n" for at in range(12)]
 AGAIN = ": with --again the input must start with the same first line; put rotated lines in front of it, or name another --state\n"
 
 
-@pytest.mark.parametrize("given, what", [
-    (["x,12,13,5\n", "x,13,14,6\n"], "the first line isn't what s took before"),
-    ([*TAKEN[:3], "x,3,4,9\n", *TAKEN[4:], "x,12,13,5\n"], "the first 4 lines aren't what s took before"),
-    ([*TAKEN[:11], "x,11,12,9\n", "x,12,13,5\n"], "the first 12 lines aren't what s took before"),
-    (TAKEN[:7], "the input ended after 7 lines, and s took 12 before"), ([], "the input ended after 0 lines, and s took 12 before"),
-])
+@pytest.mark.parametrize(
+    "given, what",
+    [
+        (["x,12,13,5\n", "x,13,14,6\n"], "the first line isn't what s took before"),
+        ([*TAKEN[:3], "x,3,4,9\n", *TAKEN[4:], "x,12,13,5\n"], "the first 4 lines aren't what s took before"),
+        ([*TAKEN[:11], "x,11,12,9\n", "x,12,13,5\n"], "the first 12 lines aren't what s took before"),
+        (TAKEN[:7], "the input ended after 7 lines, and s took 12 before"),
+        ([], "the input ended after 0 lines, and s took 12 before"),
+    ],
+)
 def test_lines_that_are_not_those_taken_before_are_rejected(tilt, tmp_path, given, what):
     (tmp_path / "q").write_text("input x; emit x over (0, 40];")
     words = ["--state", "s", "--again", "--rows", "5"]
@@ -586,9 +663,11 @@ def test_a_folder_of_an_earlier_version_is_continued_with_a_warning(tilt, tmp_pa
     del kept["inputs"]["limit"]["digest"]
     notes.write_text(json.dumps({name: kept[name] for name in ("lines", "inputs", "output")}))
     assert done(follow(tmp_path, *words, "--again", stdin=subprocess.PIPE), first + more)[::2] == (
-        0, "tilt-data: s is of an earlier version, which kept neither options nor digests of files: make sure that this call has those "
+        0,
+        "tilt-data: s is of an earlier version, which kept neither options nor digests of files: make sure that this call has those "
         "of the call before\ntilt-data: s is of an earlier version, which kept no digest of the lines that it took: make sure that the "
-        "input starts with the same first line\n")
+        "input starts with the same first line\n",
+    )
     # From its next session on the folder has what is compared.
     status, _, err = done(follow(tmp_path, *words, "--again", stdin=subprocess.PIPE), more)
     assert (status, err) == (1, f"tilt-data: the first line isn't what s took before{AGAIN}")
@@ -635,7 +714,9 @@ def test_control_characters_do_not_reach_the_terminal(tilt, tmp_path):
     assert err.splitlines()[2].endswith(": x,1,\\xff\\x00\\x5c (rejected so far: 2)")
     assert err.splitlines()[3] == "tilt-data: the last line has no end, and isn't taken without --end: x,2,\\xc2\\x9b7m"
     assert [line.split("\t")[2] for line in (tmp_path / "s" / "rejected.log").read_text().splitlines()] == [
-        "x,\\x1b[31mALERT,5", "x,1,\\xff\\x00\\x5c"]
+        "x,\\x1b[31mALERT,5",
+        "x,1,\\xff\\x00\\x5c",
+    ]
 
 
 def test_a_line_without_an_end_is_rejected_while_it_comes(tilt, tmp_path):
@@ -661,7 +742,7 @@ def test_lines_are_the_same_however_they_are_read():
     sizes = [0, 1, LONGEST - 1, LONGEST, LONGEST + 1, 3 * LONGEST]
     for _ in range(60):
         lines = [bytes([draws.choice(b"ab\r")]) * draws.choice(sizes) for _ in range(6)]
-        wanted = [line.rstrip(b"\r") if len(line) <= LONGEST else line[:LONGEST + 1] for line in lines]
+        wanted = [line.rstrip(b"\r") if len(line) <= LONGEST else line[: LONGEST + 1] for line in lines]
         text, found, cut = b"\n".join(lines) + b"\nrest", [], Lines()
         while text:
             size = draws.choice([1, 1000, LONGEST, 2 * LONGEST])
@@ -685,7 +766,10 @@ def test_a_file_may_be_named_after_options(tilt, tmp_path):
     words = ["limit=limit.csv", "--state", "s", "--end", "more=more.csv"]
     assert done(follow(tmp_path, *words, stdin=subprocess.PIPE), b"x,0,10,50\n") == (0, "start,end,value\n0,10,56\n", "")
     assert done(follow(tmp_path, "more=more.csv", "--state", "t", "limit=limit.csv", "more=limit.csv", stdin=subprocess.DEVNULL)) == (
-        1, "", "tilt-data: more=limit.csv: more is given by more.csv already: name one file for each input\n")
+        1,
+        "",
+        "tilt-data: more=limit.csv: more is given by more.csv already: name one file for each input\n",
+    )
     status, out, err = done(follow(tmp_path, "--state", "t", "limit.csv", stdin=subprocess.DEVNULL))
     assert (status, out) == (2, "") and "unrecognized arguments: limit.csv" in err
 
@@ -693,10 +777,15 @@ def test_a_file_may_be_named_after_options(tilt, tmp_path):
 # Silence is explained
 
 
-@pytest.mark.parametrize("query, last", [
-    ("input x; emit x over (3, 20];", 20), ("input x; emit x + ifnull(x[t+5], 0) over (3, 20];", 25),
-    # Each of two grids of 4 ticks counts as 3 ticks ahead.
-    ("input x; let a = sum(x[t-4:t]) every 4; emit a over (0, 20] every 4;", 26)])
+@pytest.mark.parametrize(
+    "query, last",
+    [
+        ("input x; emit x over (3, 20];", 20),
+        ("input x; emit x + ifnull(x[t+5], 0) over (3, 20];", 25),
+        # Each of two grids of 4 ticks counts as 3 ticks ahead.
+        ("input x; let a = sum(x[t-4:t]) every 4; emit a over (0, 20] every 4;", 26),
+    ],
+)
 def test_it_ends_where_the_output_of_the_query_ends(tilt, tmp_path, query, last):
     lines = [f"x,{at},{at + 1},{at}\n" for at in range(40)]
     (tmp_path / "x.csv").write_text("start,end,value\n" + "".join(line[2:] for line in lines))
@@ -726,7 +815,8 @@ def test_an_input_that_holds_the_output_back_is_named_once(tilt, tmp_path):
     status, out, err = done(follow(tmp_path, "--state", "s", "--rows", "50", stdin=subprocess.PIPE), "".join(given).encode())
     assert status == 0 and err == (
         "tilt-data: temp is known up to 149, waiting for valve, known up to 5\n"
-        "tilt-data: temp is known up to 548, waiting for valve, known up to 200\n")
+        "tilt-data: temp is known up to 548, waiting for valve, known up to 200\n"
+    )
 
 
 def test_an_input_without_a_line_is_named_with_the_time(tilt, tmp_path):
@@ -753,16 +843,25 @@ def test_a_file_whose_rows_end_is_named_once(tilt, tmp_path):
     (tmp_path / "none.csv").write_text("start,end,value\n")
     words = ["limit=limit.csv", "none=none.csv", "--state", "s", "--rows", "1"]
     status, out, err = done(follow(tmp_path, *words, stdin=subprocess.PIPE), b"x,0,5,9\nx,5,7,9\nx,7,9,9\n")
-    assert status == 0 and err == ("tilt-data: none.csv: it has no rows: none is null from there on\n"
-                                   "tilt-data: limit.csv: its rows end at 5: limit is null from there on\n")
+    assert status == 0 and err == (
+        "tilt-data: none.csv: it has no rows: none is null from there on\n"
+        "tilt-data: limit.csv: its rows end at 5: limit is null from there on\n"
+    )
 
 
-@pytest.mark.parametrize("notes, note", [
-    ({}, ""), ({"scale": 1, "kind": "helper"}, ""),
-    ({"scale": 100}, "the inputs have different scales (limit: 100; the readings: 10): write one --like the other before you add or compare them"),
-    ({"tick": "1min"}, "the series limit and the readings have other ticks or origins: write one --like the other"),
-    ({"closed": "right"}, "the inputs differ in `closed` (limit: right; the readings: left): write one --like the other"),
-])
+@pytest.mark.parametrize(
+    "notes, note",
+    [
+        ({}, ""),
+        ({"scale": 1, "kind": "helper"}, ""),
+        (
+            {"scale": 100},
+            "the inputs have different scales (limit: 100; the readings: 10): write one --like the other before you add or compare them",
+        ),
+        ({"tick": "1min"}, "the series limit and the readings have other ticks or origins: write one --like the other"),
+        ({"closed": "right"}, "the inputs differ in `closed` (limit: right; the readings: left): write one --like the other"),
+    ],
+)
 def test_a_file_on_another_clock_or_scale_is_noted(tilt, tmp_path, notes, note):
     (tmp_path / "q").write_text("input x; input limit; emit x - limit over (0, 40];")
     (tmp_path / "limit.csv").write_text("start,end,value\n0,40,1\n")
@@ -855,7 +954,7 @@ def test_a_broker(tilt, tmp_path):
             tail = subprocess.Popen(["tail", "-n", "+1", "-F", "log"], cwd=tmp_path, stdout=subprocess.PIPE, stderr=subprocess.DEVNULL)
             process = follow(tmp_path, "--state", "s", "--every", "50ms", "--again", "--quiet", stdin=tail.stdout, stderr=None)
             begun += [tail, process]
-            some = lines[part * len(lines) // 10:(part + 1) * len(lines) // 10]
+            some = lines[part * len(lines) // 10 : (part + 1) * len(lines) // 10]
             source.stdin.write("".join(line + "\n" for line in some).encode())
             source.stdin.flush()
             time.sleep(0.5)

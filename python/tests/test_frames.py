@@ -48,7 +48,9 @@ def test_other_reducers_are_those_of_pandas(reducer):
 
 
 def test_decimals_are_exact():
-    temp = pandas.Series([decimal.Decimal("0.1"), decimal.Decimal("1234567890123.12345")], pandas.to_datetime(["2026-03-01 00:01", "2026-03-01 00:02"]))
+    temp = pandas.Series(
+        [decimal.Decimal("0.1"), decimal.Decimal("1234567890123.12345")], pandas.to_datetime(["2026-03-01 00:01", "2026-03-01 00:02"])
+    )
     got = run("input temp; emit temp over (0, 600];", temp, exact=True)
     assert list(got["value"]) == [decimal.Decimal("0.1"), decimal.Decimal("1234567890123.12345")]
 
@@ -77,8 +79,13 @@ def test_short_floats_have_the_text_of_their_own_type(kind):
 def test_missing_values_and_zones():
     temp = readings(zone="Europe/Zurich")
     temp.iloc[3] = float("nan")
-    got = run("input temp; emit 1 when isnull(temp) over (0, 3600];", temp, origin="2026-03-01T00:00+01:00", until="2026-03-01T01:00+01:00",
-              output_scale=1)
+    got = run(
+        "input temp; emit 1 when isnull(temp) over (0, 3600];",
+        temp,
+        origin="2026-03-01T00:00+01:00",
+        until="2026-03-01T01:00+01:00",
+        output_scale=1,
+    )
     assert list(got.index.left) == [temp.index[3]] and list(got["value"]) == [1] and str(got.index.left.tz) == "Europe/Zurich"
 
 
@@ -139,7 +146,9 @@ def test_inputs_of_other_scales_are_rejected_unless_that_is_meant(tmp_path, monk
     monkeypatch.chdir(tmp_path)
     query = "input x; input y; emit x * y over (0, 600];"
     inputs = {"x": scaled("x", 10), "y": scaled("y", 100)}
-    with pytest.raises(Refused, match="^the scales differ: x has 10, y has 100; write the series --like each other, or say scales='differ'"):
+    with pytest.raises(
+        Refused, match="^the scales differ: x has 10, y has 100; write the series --like each other, or say scales='differ'"
+    ):
         run(query, inputs=inputs)
     with pytest.raises(Refused, match="output_scale=N is needed"):
         run(query, inputs=inputs, scales="differ")
@@ -158,15 +167,20 @@ LOW = "input x; let low = ifnull(x < 90, false); emit x when low over (0, 600];"
 ONE_DECIMAL = pandas.Series([85, 96.5], pandas.date_range("2026-03-01", periods=2, freq="1s"))
 
 
-@pytest.mark.parametrize("query, note", [
-    (LOW, "90 in the query is 9.0"), ("input x; let limit = -90; emit x when x < limit over (0, 9];", "90 in the query is 9.0"),
-    ("input x; emit count(x[t-9:t]) over (0, 9];", "the output needs output_scale=1"),
-    ("input x; emit 1 when x > 0 over (0, 9];", "1 in the query is 0.1"), ("input x; emit x + 1 over (0, 9];", "1 in the query is 0.1"),
-    ("input x; emit x * x over (0, 9];", "the output needs output_scale=100"),
-    ("input x; emit x when x * x > 8000 over (0, 9];", "8000 in the query is 80.00"),
-    ("input x; emit 100 * x / x over (0, 9];", "the output needs output_scale=1"),
-    ("input x; emit if x > 0 then 7 else x over (0, 9];", "7 in the query is 0.7"),
-])
+@pytest.mark.parametrize(
+    "query, note",
+    [
+        (LOW, "90 in the query is 9.0"),
+        ("input x; let limit = -90; emit x when x < limit over (0, 9];", "90 in the query is 9.0"),
+        ("input x; emit count(x[t-9:t]) over (0, 9];", "the output needs output_scale=1"),
+        ("input x; emit 1 when x > 0 over (0, 9];", "1 in the query is 0.1"),
+        ("input x; emit x + 1 over (0, 9];", "1 in the query is 0.1"),
+        ("input x; emit x * x over (0, 9];", "the output needs output_scale=100"),
+        ("input x; emit x when x * x > 8000 over (0, 9];", "8000 in the query is 80.00"),
+        ("input x; emit 100 * x / x over (0, 9];", "the output needs output_scale=1"),
+        ("input x; emit if x > 0 then 7 else x over (0, 9];", "7 in the query is 0.7"),
+    ],
+)
 def test_a_scale_by_the_data_that_changes_a_query_is_a_warning(query, note):
     with pytest.warns(UserWarning) as caught:
         run(query, ONE_DECIMAL)
@@ -178,23 +192,32 @@ def test_a_scale_by_the_data_that_changes_a_query_is_a_warning(query, note):
     assert [one.filename for one in caught] == [__file__]
 
 
-@pytest.mark.parametrize("query, data, options", [
-    (LOW, ONE_DECIMAL, {"scale": 10}), (LOW, ONE_DECIMAL.round(), {}), ("input x; emit x when x > 0 over (0, 9];", ONE_DECIMAL, {}),
-    ("input x; emit avg(x[t-60:t]) / 2 over (0, 9] every 3;", ONE_DECIMAL, {}),
-    ("input x; emit x when count(x[t-60:t]) > 30 over (0, 9];", ONE_DECIMAL, {}),
-    ("input x; emit count(x[t-60:t]) over (0, 9];", ONE_DECIMAL, {"output_scale": 1}),
-])
+@pytest.mark.parametrize(
+    "query, data, options",
+    [
+        (LOW, ONE_DECIMAL, {"scale": 10}),
+        (LOW, ONE_DECIMAL.round(), {}),
+        ("input x; emit x when x > 0 over (0, 9];", ONE_DECIMAL, {}),
+        ("input x; emit avg(x[t-60:t]) / 2 over (0, 9] every 3;", ONE_DECIMAL, {}),
+        ("input x; emit x when count(x[t-60:t]) > 30 over (0, 9];", ONE_DECIMAL, {}),
+        ("input x; emit count(x[t-60:t]) over (0, 9];", ONE_DECIMAL, {"output_scale": 1}),
+    ],
+)
 def test_a_scale_that_changes_nothing_is_no_warning(query, data, options):
     with warnings.catch_warnings():
         warnings.simplefilter("error")
         run(query, data, **options)
 
 
-@pytest.mark.parametrize("options, what", [
-    ({}, "the inputs don't have the same closed edge: x is closed 'left', y is closed 'right'"),
-    ({"tick": "1min"}, "closed edge"), ({"closed": "right", "tick": "1min"}, "tick='1min': the file of the input x has the tick 1s"),
-    ({"closed": "right", "origin": "2026-03-02"}, "origin='2026-03-02': the file of the input x has the origin 2026-03-01T00:00:00"),
-])
+@pytest.mark.parametrize(
+    "options, what",
+    [
+        ({}, "the inputs don't have the same closed edge: x is closed 'left', y is closed 'right'"),
+        ({"tick": "1min"}, "closed edge"),
+        ({"closed": "right", "tick": "1min"}, "tick='1min': the file of the input x has the tick 1s"),
+        ({"closed": "right", "origin": "2026-03-02"}, "origin='2026-03-02': the file of the input x has the origin 2026-03-01T00:00:00"),
+    ],
+)
 def test_files_that_say_something_else_than_the_caller_or_each_other(tmp_path, monkeypatch, options, what):
     monkeypatch.chdir(tmp_path)
     query = "input x; input y; emit x + y over (0, 600];"
@@ -209,8 +232,13 @@ def test_files_that_say_something_else_than_the_caller_or_each_other(tmp_path, m
 def test_all_inputs_of_a_call_have_one_scale_for_all_keys():
     data = readings(20).to_frame().assign(station=["a", "b"] * 10)
     limit = pandas.Series([20.125], pandas.to_datetime(["2026-03-01"]))
-    got = run("input temp; input limit; emit limit when temp > 0 over (0, 3600];", data, by="station", inputs={"limit": limit},
-              until="2026-03-01 01:00")
+    got = run(
+        "input temp; input limit; emit limit when temp > 0 over (0, 3600];",
+        data,
+        by="station",
+        inputs={"limit": limit},
+        until="2026-03-01 01:00",
+    )
     assert set(got["value"]) == {20.125} and list(got.index.get_level_values(0).unique()) == ["a", "b"]
 
 
@@ -333,10 +361,14 @@ def test_a_byte_order_mark_in_a_query_is_rejected_as_by_the_program(tmp_path):
     assert caught.value.line == "tilt: 20 bad byte at 0"
 
 
-@pytest.mark.parametrize("text, what", [
-    ("1_5", "'1_5' is no number; a missing value is NaN or None"), ("١", "is no number; a missing value is NaN or None"),
-    (f"0.{'0' * 19}1", "needs 20 digits after its point, and a 64-bit value has 19: round it, or name a scale="),
-])
+@pytest.mark.parametrize(
+    "text, what",
+    [
+        ("1_5", "'1_5' is no number; a missing value is NaN or None"),
+        ("١", "is no number; a missing value is NaN or None"),
+        (f"0.{'0' * 19}1", "needs 20 digits after its point, and a 64-bit value has 19: round it, or name a scale="),
+    ],
+)
 def test_a_text_that_the_command_rejects_is_rejected_in_a_series_too(text, what):
     values = readings(count=3).astype(object)
     values.iloc[1] = text
@@ -345,13 +377,21 @@ def test_a_text_that_the_command_rejects_is_rejected_in_a_series_too(text, what)
     assert str(caught.value).startswith("the input temp: ") and what in str(caught.value) and len(str(caught.value).splitlines()) == 1
 
 
-@pytest.mark.parametrize("call, what", [
-    (lambda: run(AVERAGE), "temp isn't given"), (lambda: run(AVERAGE, readings(), inputs={"x": readings()}), "not x"),
-    (lambda: run(AVERAGE, readings().iloc[::-1]), "sort_index"), (lambda: run(AVERAGE, readings(), tick="1h"), "two readings in one tick"),
-    (lambda: run(AVERAGE, readings(), scale=1), "digits would be lost"), (lambda: run(AVERAGE, readings(), unit="s"), "the options are tick"),
-    (lambda: run(AVERAGE, readings().reset_index(drop=True)), "a DatetimeIndex was expected"), (lambda: run(AVERAGE, 7), "a Series or a DataFrame"),
-    (lambda: Query(AVERAGE).live(), "origin and its scale"), (lambda: run(AVERAGE, readings(), by="k"), "a DataFrame with this column"),
-])
+@pytest.mark.parametrize(
+    "call, what",
+    [
+        (lambda: run(AVERAGE), "temp isn't given"),
+        (lambda: run(AVERAGE, readings(), inputs={"x": readings()}), "not x"),
+        (lambda: run(AVERAGE, readings().iloc[::-1]), "sort_index"),
+        (lambda: run(AVERAGE, readings(), tick="1h"), "two readings in one tick"),
+        (lambda: run(AVERAGE, readings(), scale=1), "digits would be lost"),
+        (lambda: run(AVERAGE, readings(), unit="s"), "the options are tick"),
+        (lambda: run(AVERAGE, readings().reset_index(drop=True)), "a DatetimeIndex was expected"),
+        (lambda: run(AVERAGE, 7), "a Series or a DataFrame"),
+        (lambda: Query(AVERAGE).live(), "origin and its scale"),
+        (lambda: run(AVERAGE, readings(), by="k"), "a DataFrame with this column"),
+    ],
+)
 def test_what_is_refused(call, what):
     with pytest.raises(Refused, match=what):
         call()
@@ -364,7 +404,8 @@ def two_columns():
 
 WRONG = [
     ({"closed": "both"}, "closed='both': one of 'left', 'right', None was expected"),
-    ({"closed": "neither"}, "closed='neither': one of"), ({"closed": 1}, "closed=1: one of"),
+    ({"closed": "neither"}, "closed='neither': one of"),
+    ({"closed": 1}, "closed=1: one of"),
     ({"ties": "nope"}, "ties='nope': one of 'last', 'first', 'spread', 'refuse' was expected"),
     ({"scales": "other"}, "scales='other': one of 'same', 'differ' was expected"),
     ({"index": "left"}, "index='left': one of 'interval', 'start', 'end' was expected"),
@@ -376,11 +417,16 @@ WRONG = [
     ({"event": {"temp": True}, "max_age": {"temp": "5s"}}, r"max_age\['temp'\]: the input is an event"),
     ({"event": {"tmep": True}}, r"event\['tmep'\]: no input has this name; there are: temp"),
     ({"max_age": {"tmep": "5s"}}, r"max_age\['tmep'\]: no input has this name; there are: temp"),
-    ({"event": "no"}, "event='no': True or False was expected"), ({"skip_empty": 1}, "skip_empty=1: True or False was expected"),
-    ({"merge": "no"}, "merge='no': True or False was expected"), ({"exact": 0}, "exact=0: True or False was expected"),
-    ({"tick": "1D"}, "tick='1D': a whole number above 0 and one of ns us ms s min h d"), ({"tick": 5}, "tick=5: a whole number"),
-    ({"max_age": "soon"}, "max_age='soon': a whole number"), ({"max_age": {"temp": 5}}, "max_age=5: a whole number"),
-    ({"origin": "yesterday"}, "origin='yesterday': a time was expected"), ({"until": 5}, "until=5: a time was expected"),
+    ({"event": "no"}, "event='no': True or False was expected"),
+    ({"skip_empty": 1}, "skip_empty=1: True or False was expected"),
+    ({"merge": "no"}, "merge='no': True or False was expected"),
+    ({"exact": 0}, "exact=0: True or False was expected"),
+    ({"tick": "1D"}, "tick='1D': a whole number above 0 and one of ns us ms s min h d"),
+    ({"tick": 5}, "tick=5: a whole number"),
+    ({"max_age": "soon"}, "max_age='soon': a whole number"),
+    ({"max_age": {"temp": 5}}, "max_age=5: a whole number"),
+    ({"origin": "yesterday"}, "origin='yesterday': a time was expected"),
+    ({"until": 5}, "until=5: a time was expected"),
     ({"unit": "s"}, "unit='s': there is no such option; the options are tick, .* by, merge, index, exact, inputs, convention"),
     ({"convention": {"tick": "1s"}}, "a Convention was expected"),
     ({"by": ["a", "b"]}, r"by=\['a', 'b'\]: a DataFrame with this column was expected"),
@@ -402,27 +448,43 @@ def test_wrong_arguments_of_live_span_and_convention(options):
             call()
 
 
-@pytest.mark.parametrize("call, what", [
-    (lambda: run("input x; emit x over (0, 10];", inputs={"x": intervals((0, 10)).set_axis(intervals((0, 10)).index.set_closed("both"))}),
-     "the input x: intervals that are closed 'left' or 'right' were expected, not 'both'"),
-    (lambda: run("input x; emit x over (0, 10];", inputs={"x": intervals((0, 10))}, closed="right"),
-     "closed='right': the input x is closed 'left'; index.set_closed"),
-    (lambda: run(AVERAGE, pandas.Series([True, False], readings(2).index)), "True is no number: astype"),
-    (lambda: run(AVERAGE, pandas.Series([1, 2], pandas.DatetimeIndex(["2026-03-01", pandas.NaT]))), "a time is missing in its index"),
-    (lambda: run("input x; emit x over (0, 10];", inputs={"x": intervals((0, 10), (15, 20))}, tick="10min"),
-     "the input x: the interval end 2026-03-01T00:15:00.000000000Z isn't on a tick: a shorter tick"),
-    (lambda: run(AVERAGE, two_columns()), "the input temp: the DataFrame has 2 columns of this name"),
-    (lambda: run(AVERAGE, pandas.concat([readings(2), readings(2)], axis=1, keys=["k", "k"]), by="k"), "not with 2 of this name"),
-    (lambda: run(AVERAGE, readings(2).to_frame().assign(k=[(1, 2), (3, 4)]), by="k"), r"by='k': a text, a number or a time .* not \(1, 2\)"),
-    (lambda: run("input temp; emit ifnull(temp, 0) over (0, 10000000000];", readings(2)), "1677-09-21 to 2262-04-11"),
-    (lambda: Query(AVERAGE).live(**COMMON).push(temp=[1]), "the input temp: a Series was expected, not list"),
-    (lambda: Query(AVERAGE).live(**COMMON).push(temp=intervals((0, 10)).set_axis(intervals((0, 10)).index.set_closed("right"))),
-     "the input temp: its intervals are closed 'right', not 'left'"),
-    # What is said of values has the arguments of Python.
-    (lambda: run(AVERAGE, readings().iloc[1:].pct_change().dropna(), scale=10), "scale=10+, scale='auto', or round"),
-    (lambda: run(AVERAGE, pandas.Series([1e12, 1e-9], readings(2).index)), "a smaller scale=, or round"),
-    (lambda: run(AVERAGE, pandas.Series([float("inf")], readings(1).index)), "'inf' is no number; a missing value is NaN or None"),
-])
+@pytest.mark.parametrize(
+    "call, what",
+    [
+        (
+            lambda: run(
+                "input x; emit x over (0, 10];", inputs={"x": intervals((0, 10)).set_axis(intervals((0, 10)).index.set_closed("both"))}
+            ),
+            "the input x: intervals that are closed 'left' or 'right' were expected, not 'both'",
+        ),
+        (
+            lambda: run("input x; emit x over (0, 10];", inputs={"x": intervals((0, 10))}, closed="right"),
+            "closed='right': the input x is closed 'left'; index.set_closed",
+        ),
+        (lambda: run(AVERAGE, pandas.Series([True, False], readings(2).index)), "True is no number: astype"),
+        (lambda: run(AVERAGE, pandas.Series([1, 2], pandas.DatetimeIndex(["2026-03-01", pandas.NaT]))), "a time is missing in its index"),
+        (
+            lambda: run("input x; emit x over (0, 10];", inputs={"x": intervals((0, 10), (15, 20))}, tick="10min"),
+            "the input x: the interval end 2026-03-01T00:15:00.000000000Z isn't on a tick: a shorter tick",
+        ),
+        (lambda: run(AVERAGE, two_columns()), "the input temp: the DataFrame has 2 columns of this name"),
+        (lambda: run(AVERAGE, pandas.concat([readings(2), readings(2)], axis=1, keys=["k", "k"]), by="k"), "not with 2 of this name"),
+        (
+            lambda: run(AVERAGE, readings(2).to_frame().assign(k=[(1, 2), (3, 4)]), by="k"),
+            r"by='k': a text, a number or a time .* not \(1, 2\)",
+        ),
+        (lambda: run("input temp; emit ifnull(temp, 0) over (0, 10000000000];", readings(2)), "1677-09-21 to 2262-04-11"),
+        (lambda: Query(AVERAGE).live(**COMMON).push(temp=[1]), "the input temp: a Series was expected, not list"),
+        (
+            lambda: Query(AVERAGE).live(**COMMON).push(temp=intervals((0, 10)).set_axis(intervals((0, 10)).index.set_closed("right"))),
+            "the input temp: its intervals are closed 'right', not 'left'",
+        ),
+        # What is said of values has the arguments of Python.
+        (lambda: run(AVERAGE, readings().iloc[1:].pct_change().dropna(), scale=10), "scale=10+, scale='auto', or round"),
+        (lambda: run(AVERAGE, pandas.Series([1e12, 1e-9], readings(2).index)), "a smaller scale=, or round"),
+        (lambda: run(AVERAGE, pandas.Series([float("inf")], readings(1).index)), "'inf' is no number; a missing value is NaN or None"),
+    ],
+)
 def test_what_else_is_rejected_in_one_line(call, what):
     with pytest.raises(Refused, match=what) as caught:
         call()
@@ -455,7 +517,9 @@ COMMON = {"tick": "1s", "origin": "2026-03-01", "scale": 10}
 def faulty(folder: pathlib.Path, monkeypatch: pytest.MonkeyPatch) -> pathlib.Path:
     """A file: while it is there the program ends with the status that stands in it, after all was printed and saved."""
     stop, program = folder / "stop", folder / "program"
-    program.write_text(f'#!/bin/sh\n"{PROGRAM}" "$@" || exit\n[ ! -e "{stop}" ] || {{ echo "tilt: 7 out of memory" >&2; exit $(cat "{stop}"); }}\n')
+    program.write_text(
+        f'#!/bin/sh\n"{PROGRAM}" "$@" || exit\n[ ! -e "{stop}" ] || {{ echo "tilt: 7 out of memory" >&2; exit $(cat "{stop}"); }}\n'
+    )
     program.chmod(0o755)
     monkeypatch.setenv("TILT", str(program))
     return stop
@@ -477,12 +541,12 @@ def test_after_a_fault_nothing_is_lost(tmp_path, monkeypatch, status, again):
             if at in (0, 40):
                 stop.write_text(str(status))
                 with pytest.raises(TiltError) as caught:
-                    live.push(temp.iloc[at:at + 20])
+                    live.push(temp.iloc[at : at + 20])
                 assert caught.value.status == status
                 os.unlink(stop)
                 parts += [live.push()] if again else []
             else:
-                parts.append(live.push(temp.iloc[at:at + 20]))
+                parts.append(live.push(temp.iloc[at : at + 20]))
         stop.write_text(str(status))
         with pytest.raises(TiltError):
             live.end()
@@ -518,13 +582,19 @@ def intervals(*minutes: tuple[int, int]):
     return pandas.Series([20] * len(ends), pandas.IntervalIndex.from_tuples(ends, closed="left"))
 
 
-@pytest.mark.parametrize("bad", [
-    # A reading that loses digits, and one that comes twice, in the midst of an input that is taken after another one.
-    pandas.Series([20, 0.123, 21], pandas.date_range("2026-03-01 00:30", periods=3, freq="1min")),
-    pandas.Series([20, 21, 22], pandas.to_datetime(["2026-03-01 00:30", "2026-03-01 00:31", "2026-03-01 00:31"])),
-    # Intervals that overlap, before and after what is decided by this push, and an empty one.
-    intervals((30, 40), (35, 50)), intervals((80, 90), (85, 95)), intervals((30, 40), (40, 40)), intervals((0, 10)),
-])
+@pytest.mark.parametrize(
+    "bad",
+    [
+        # A reading that loses digits, and one that comes twice, in the midst of an input that is taken after another one.
+        pandas.Series([20, 0.123, 21], pandas.date_range("2026-03-01 00:30", periods=3, freq="1min")),
+        pandas.Series([20, 21, 22], pandas.to_datetime(["2026-03-01 00:30", "2026-03-01 00:31", "2026-03-01 00:31"])),
+        # Intervals that overlap, before and after what is decided by this push, and an empty one.
+        intervals((30, 40), (35, 50)),
+        intervals((80, 90), (85, 95)),
+        intervals((30, 40), (40, 40)),
+        intervals((0, 10)),
+    ],
+)
 def test_a_push_that_is_refused_takes_nothing(bad):
     query = "input temp; input limit; emit temp - limit over (0, 7200];"
     temp, limit = readings(60), readings(60, seed=5)

@@ -70,8 +70,25 @@ def test_the_first_example(root):
 def test_from_a_raw_file_to_a_table(root, tmp_path):
     shutil.copytree(root / "usr/share/doc/tilt-stream/examples/clinical", tmp_path / "clinical")
     folder = tmp_path / "clinical"
-    called(root, "tilt-data", "series", "raw/monitor.csv", "--time", "time", "--tick", "1s", "--max-age", "1s", "--null", "-1", "--out", "data",
-           "--origin", "2026-03-02T22:00", folder=folder)
+    called(
+        root,
+        "tilt-data",
+        "series",
+        "raw/monitor.csv",
+        "--time",
+        "time",
+        "--tick",
+        "1s",
+        "--max-age",
+        "1s",
+        "--null",
+        "-1",
+        "--out",
+        "data",
+        "--origin",
+        "2026-03-02T22:00",
+        folder=folder,
+    )
     out = called(root, "tilt-data", "run", "desaturation.tilt", "saturation=data/saturation.csv", folder=folder)
     assert out == (folder / "expected/desaturation.csv").read_text()
 
@@ -85,9 +102,15 @@ def test_tilt_is_an_alternative(root):
 
 
 def test_what_is_in_it(root):
-    for name in ("man/man1/tilt-stream.1.gz", "man/man1/tilt-data.1.gz", "doc/tilt-stream/copyright", "doc/tilt-stream/docs/DATA.md",
-                 "doc/tilt-stream/CHANGELOG.md",
-                 "bash-completion/completions/tilt-data", "doc/tilt-stream/examples/sensors/raw/readings.csv"):
+    for name in (
+        "man/man1/tilt-stream.1.gz",
+        "man/man1/tilt-data.1.gz",
+        "doc/tilt-stream/copyright",
+        "doc/tilt-stream/docs/DATA.md",
+        "doc/tilt-stream/CHANGELOG.md",
+        "bash-completion/completions/tilt-data",
+        "doc/tilt-stream/examples/sensors/raw/readings.csv",
+    ):
         assert (root / "usr/share" / name).stat().st_size > 0, name
 
 
@@ -97,8 +120,10 @@ def versions(program: pathlib.Path, of: pathlib.Path) -> str:
     dirty = subprocess.run(["git", "-C", TOP, "status", "--porcelain"], check=True, capture_output=True, text=True).stdout
     described = subprocess.run([TOP / "tools" / "package" / "describe", of], check=True, capture_output=True, text=True).stdout
     toolchain = tomllib.loads(described).get("toolchain", "unknown")
-    return (f"tilt-data {VERSION}\ncommit: {commit}{'-dirty' if dirty else ''}\ntoolchain: {toolchain}\nprogram: {program}\n"
-            f"sha256: {hashlib.sha256(of.read_bytes()).hexdigest()}\n")
+    return (
+        f"tilt-data {VERSION}\ncommit: {commit}{'-dirty' if dirty else ''}\ntoolchain: {toolchain}\nprogram: {program}\n"
+        f"sha256: {hashlib.sha256(of.read_bytes()).hexdigest()}\n"
+    )
 
 
 def found_here() -> pathlib.Path:
@@ -122,7 +147,9 @@ def test_the_package_has_its_version(root):
 def offered(root: pathlib.Path, *words: str) -> list[str]:
     """What the completion for bash offers for the last of some words."""
     text = " ".join(shlex.quote(word) for word in words)
-    script = f". usr/share/bash-completion/completions/tilt; COMP_WORDS=({text}); COMP_CWORD={len(words) - 1}; _tilt; echo ${{COMPREPLY[*]}}"
+    script = (
+        f". usr/share/bash-completion/completions/tilt; COMP_WORDS=({text}); COMP_CWORD={len(words) - 1}; _tilt; echo ${{COMPREPLY[*]}}"
+    )
     return subprocess.run(["bash", "-c", script], cwd=root, capture_output=True, text=True, check=True).stdout.split()
 
 
@@ -197,12 +224,15 @@ def test_the_completion_has_the_options_of_each_command_of_tilt_data(prefix):
     commands = next(action for action in parser_of()._actions if isinstance(action, argparse._SubParsersAction)).choices
     environment = {"PATH": f"{prefix}/bin:/usr/bin:/bin", "PYTHONDONTWRITEBYTECODE": "1", "COLUMNS": "60"}
     script = f". {prefix}/share/bash-completion/completions/tilt-data\n" + "".join(
-        f"COMP_WORDS=(tilt-data {command} --) COMP_CWORD=2; _tilt_data; echo {command} ${{COMPREPLY[*]}}\n" for command in commands)
+        f"COMP_WORDS=(tilt-data {command} --) COMP_CWORD=2; _tilt_data; echo {command} ${{COMPREPLY[*]}}\n" for command in commands
+    )
     done = subprocess.run(["bash", "-c", script], env=environment, capture_output=True, text=True, check=True)
     offers = {command: set(options) for command, *options in map(str.split, done.stdout.splitlines())}
     assert len(offers) > 8 and "--force" in offers["series"] and "--force" in offers["ticks"]
-    assert offers == {command: {option for action in parser._actions for option in action.option_strings if option.startswith("--")}
-                      for command, parser in commands.items()}
+    assert offers == {
+        command: {option for action in parser._actions for option in action.option_strings if option.startswith("--")}
+        for command, parser in commands.items()
+    }
 
 
 def test_what_is_installed_has_its_version(prefix, tmp_path):
@@ -246,10 +276,13 @@ def test_the_way_of_the_page_installs_by_pip_without_a_network(tilt, tmp_path):
     environment = {"PATH": "/usr/bin:/bin", "HOME": str(tmp_path), "TILT": tilt, "PYTHONDONTWRITEBYTECODE": "1"}
     first = TOP / "examples" / "first"
     asked = "import importlib.metadata, tilt_data; assert importlib.metadata.version('tilt-data') == tilt_data.__version__"
-    for words in ([sys.executable, *shlex.split(make)[1:], "venv"], ["venv/bin/pip", *shlex.split(arguments), "--no-index"],
-                  ["venv/bin/python", "-c", asked],
-                  ["venv/bin/python", "-c", "import tilt_data, matplotlib; assert tilt_data.__file__.startswith(__import__('sys').prefix)"],
-                  ["venv/bin/tilt-data", "run", str(first / "query.tilt"), f"x={first}/x.csv"]):
+    for words in (
+        [sys.executable, *shlex.split(make)[1:], "venv"],
+        ["venv/bin/pip", *shlex.split(arguments), "--no-index"],
+        ["venv/bin/python", "-c", asked],
+        ["venv/bin/python", "-c", "import tilt_data, matplotlib; assert tilt_data.__file__.startswith(__import__('sys').prefix)"],
+        ["venv/bin/tilt-data", "run", str(first / "query.tilt"), f"x={first}/x.csv"],
+    ):
         done = subprocess.run(words, cwd=tmp_path, env=environment, capture_output=True, text=True)
         assert done.returncode == 0, done.stdout + done.stderr
     assert done.stdout == "start,end,value\n0,5,7\n6,8,9\n"

@@ -78,8 +78,9 @@ def test_no_band_is_narrower_than_a_pixel():
 def marks_in(path: str, sign: int) -> int:
     """How many marks that are orange (1) or blue (-1) stand side by side in the middle of a PNG, that is, below the legend."""
     from matplotlib import pyplot
+
     pixels = pyplot.imread(path)
-    middle = pixels[len(pixels) * 2 // 5:len(pixels) * 3 // 5]
+    middle = pixels[len(pixels) * 2 // 5 : len(pixels) * 3 // 5]
     found = (sign * (middle[:, :, 0] - middle[:, :, 2]) > 0.1).any(axis=0).tolist()
     return sum(now and not before for now, before in zip(found, [False, *found]))
 
@@ -101,14 +102,18 @@ def test_bands():
     assert list(joined([(0, 5, 1), (8, 9, 1), (30, 31, 1)], 3)) == [(0, 9), (30, 31)]
 
 
-@pytest.mark.parametrize("tick, lo, hi, marks, texts, label", [
-    (10**9, 0, 3600, 7, ["00:00", "00:10", "00:20"], "1970-01-01 (UTC)"), (10**6, 0, 5000, 6, ["00:00:00", "00:00:01"], "1970-01-01 (UTC)"),
-    (MINUTE, 0, 10 * 1440, 6, ["1970-01-01", "1970-01-03"], "1970-01-01 to 1970-01-10 (UTC)"),
-    (1, 0, 5000, 6, ["00:00:00.000000", "00:00:00.000001"], "1970-01-01 (UTC)"),
-])
+@pytest.mark.parametrize(
+    "tick, lo, hi, marks, texts, label",
+    [
+        (10**9, 0, 3600, 7, ["00:00", "00:10", "00:20"], "1970-01-01 (UTC)"),
+        (10**6, 0, 5000, 6, ["00:00:00", "00:00:01"], "1970-01-01 (UTC)"),
+        (MINUTE, 0, 10 * 1440, 6, ["1970-01-01", "1970-01-03"], "1970-01-01 to 1970-01-10 (UTC)"),
+        (1, 0, 5000, 6, ["00:00:00.000000", "00:00:00.000001"], "1970-01-01 (UTC)"),
+    ],
+)
 def test_the_axis_of_a_clock(tick, lo, hi, marks, texts, label):
     places, shown, its = axis_of(Clock(tick, 0), lo, hi, None, "UTC")
-    assert len(places) == marks and shown[:len(texts)] == texts and its == label and places[0] == 0
+    assert len(places) == marks and shown[: len(texts)] == texts and its == label and places[0] == 0
 
 
 def local(zone: str, *when: int, fold: int = 0) -> int:
@@ -116,10 +121,14 @@ def local(zone: str, *when: int, fold: int = 0) -> int:
     return int(datetime.datetime(*when, tzinfo=zoneinfo.ZoneInfo(zone), fold=fold).timestamp())
 
 
-@pytest.mark.parametrize("zone, first, last", [
-    ("Europe/Zurich", (2026, 10, 23), (2026, 10, 29)), ("Europe/Zurich", (2026, 3, 26), (2026, 4, 1)),
-    ("America/New_York", (2026, 10, 31), (2026, 11, 6)),
-])
+@pytest.mark.parametrize(
+    "zone, first, last",
+    [
+        ("Europe/Zurich", (2026, 10, 23), (2026, 10, 29)),
+        ("Europe/Zurich", (2026, 3, 26), (2026, 4, 1)),
+        ("America/New_York", (2026, 10, 31), (2026, 11, 6)),
+    ],
+)
 def test_days_begin_at_midnight_also_after_a_change_of_the_clocks(zone, first, last):
     begin, end = local(zone, *first), local(zone, *last)
     places, shown, label = axis_of(Clock(10**9, begin * 10**9), 0, end - begin, zoneinfo.ZoneInfo(zone), zone)
@@ -131,23 +140,31 @@ def test_days_begin_at_midnight_also_after_a_change_of_the_clocks(zone, first, l
     assert [begin + place for place in places] == [local(zone, date.year, date.month, date.day) for date in dates]
 
 
-@pytest.mark.parametrize("zone, first, last, dates, times", [
-    # At midnight the clocks go to 01:00, which is where this day begins.
-    ("America/Sao_Paulo", (2018, 11, 3), (2018, 11, 5), [3, 4, 5], [(2018, 11, 3), (2018, 11, 4, 1), (2018, 11, 5)]),
-    # At 01:00 the clocks go back to midnight: the day begins at the first of the two.
-    ("America/Havana", (2026, 10, 31), (2026, 11, 2), [31, 1, 2], [(2026, 10, 31), (2026, 11, 1), (2026, 11, 2)]),
-])
+@pytest.mark.parametrize(
+    "zone, first, last, dates, times",
+    [
+        # At midnight the clocks go to 01:00, which is where this day begins.
+        ("America/Sao_Paulo", (2018, 11, 3), (2018, 11, 5), [3, 4, 5], [(2018, 11, 3), (2018, 11, 4, 1), (2018, 11, 5)]),
+        # At 01:00 the clocks go back to midnight: the day begins at the first of the two.
+        ("America/Havana", (2026, 10, 31), (2026, 11, 2), [31, 1, 2], [(2026, 10, 31), (2026, 11, 1), (2026, 11, 2)]),
+    ],
+)
 def test_a_day_has_one_mark_where_its_midnight_is_left_out_or_there_twice(zone, first, last, dates, times):
     begin, end = local(zone, *first) - 7 * 86400, local(zone, *last)
     places, shown, _ = axis_of(Clock(10**9, begin * 10**9), 0, end - begin, zoneinfo.ZoneInfo(zone), zone)
-    assert [int(text[8:]) for text in shown[-3:]] == dates and [begin + place for place in places[-3:]] == [local(zone, *one) for one in times]
+    assert [int(text[8:]) for text in shown[-3:]] == dates and [begin + place for place in places[-3:]] == [
+        local(zone, *one) for one in times
+    ]
 
 
-@pytest.mark.parametrize("begin, texts, hours", [
-    # At 03:00 the clocks go back to 02:00, and at 02:00 on to 03:00.
-    ((2026, 10, 25), ["00:00", "01:00", "02:00", "02:00", "03:00", "04:00"], [0, 1, 2, 3, 4, 5]),
-    ((2026, 3, 29), ["00:00", "01:00", "03:00", "04:00", "05:00", "06:00"], [0, 1, 2, 3, 4, 5]),
-])
+@pytest.mark.parametrize(
+    "begin, texts, hours",
+    [
+        # At 03:00 the clocks go back to 02:00, and at 02:00 on to 03:00.
+        ((2026, 10, 25), ["00:00", "01:00", "02:00", "02:00", "03:00", "04:00"], [0, 1, 2, 3, 4, 5]),
+        ((2026, 3, 29), ["00:00", "01:00", "03:00", "04:00", "05:00", "06:00"], [0, 1, 2, 3, 4, 5]),
+    ],
+)
 def test_hours_over_a_change_of_the_clocks(begin, texts, hours):
     zone = zoneinfo.ZoneInfo("Europe/Zurich")
     places, shown, _ = axis_of(Clock(10**9, local(zone.key, *begin) * 10**9), 0, 5 * 3600, zone, zone.key)
@@ -167,8 +184,18 @@ def test_a_short_stretch_around_a_change():
     # The clocks go back an hour after the first 02:00, which is two seconds after this stretch begins.
     begin = local(zone.key, 2026, 10, 25, 2) + 3600 - 2
     places, shown, _ = axis_of(Clock(10**6, begin * 10**9), 0, 4500, zone, zone.key)
-    assert shown == ["02:59:58.000", "02:59:58.500", "02:59:59.000", "02:59:59.500", "02:00:00.000", "02:00:00.500", "02:00:01.000",
-                     "02:00:01.500", "02:00:02.000", "02:00:02.500"]
+    assert shown == [
+        "02:59:58.000",
+        "02:59:58.500",
+        "02:59:59.000",
+        "02:59:59.500",
+        "02:00:00.000",
+        "02:00:00.500",
+        "02:00:01.000",
+        "02:00:01.500",
+        "02:00:02.000",
+        "02:00:02.500",
+    ]
     assert places == [500 * at for at in range(10)]
 
 
@@ -179,8 +206,11 @@ def test_an_axis_beyond_the_years_of_dates_is_refused(zone):
 
 
 def test_the_axis_of_ticks():
-    assert axis_of(None, 50, 850, None, "") == ([50.0, 150.0, 250.0, 350.0, 450.0, 550.0, 650.0, 750.0],
-                                                ["100", "200", "300", "400", "500", "600", "700", "800"], "ticks")
+    assert axis_of(None, 50, 850, None, "") == (
+        [50.0, 150.0, 250.0, 350.0, 450.0, 550.0, 650.0, 750.0],
+        ["100", "200", "300", "400", "500", "600", "700", "800"],
+        "ticks",
+    )
 
 
 def test_a_picture(told):
@@ -188,7 +218,16 @@ def test_a_picture(told):
     put("temp", "0,600,205\n600,1200,213\n1800,2400,220\n")
     put("trade", "30,31,200\n1500,1501,210\n", "event")
     pathlib.Path("alarm.csv").write_text("start,end,value\n600,1200,3\n")
-    words = ["temp=temp.csv", "+limit:limit=temp.csv", "+band:alarm=alarm.csv", "trade=trade.csv", "--like", "temp.csv", "--unit", "temp=°C"]
+    words = [
+        "temp=temp.csv",
+        "+limit:limit=temp.csv",
+        "+band:alarm=alarm.csv",
+        "trade=trade.csv",
+        "--like",
+        "temp.csv",
+        "--unit",
+        "temp=°C",
+    ]
     for name in ("a.svg", "b.svg", "c.png"):
         assert told("plot", name, *words) == (0, "", "")
     text = pathlib.Path("a.svg").read_text()
@@ -237,7 +276,11 @@ def test_a_stretch_starts_where_that_of_ticks_does(told, closed, first):
     stretch = ["--from", "1970-01-01T00:00:11.5", "--to", "1970-01-01T00:00:40"]
     assert told("ticks", "each", "each.csv", "--like", "x.csv", *stretch)[0] == 0
     assert pathlib.Path("each.csv").read_text().splitlines()[1] == f"{first},{first + 1},0"
-    assert told("plot", "time.svg", "x=x.csv", *stretch) == told("plot", "tick.svg", "x=x.csv", "--from", str(first), "--to", "40") == (0, "", "")
+    assert (
+        told("plot", "time.svg", "x=x.csv", *stretch)
+        == told("plot", "tick.svg", "x=x.csv", "--from", str(first), "--to", "40")
+        == (0, "", "")
+    )
     assert pathlib.Path("time.svg").read_text() == pathlib.Path("tick.svg").read_text()
 
 
@@ -257,25 +300,29 @@ def test_standard_input_and_pipes_are_drawn(told, monkeypatch):
     assert ">1,000<" in pictures[0] and pictures[1] == pictures[2] == pictures[0]
 
 
-@pytest.mark.parametrize("words, what", [
-    (["a.pdf", "x=x.csv"], "a.pdf: a name that ends in .svg or .png was expected"),
-    (["a.svg", "+x=x.csv"], "'+x=x.csv': NAME=FILE was expected, and + only after a panel"),
-    (["a.svg", "x=nowhere.csv"], "nowhere.csv: No such file or directory"),
-    (["a.svg", "x=x.csv", "y=y.csv"], "these files have other ticks or origins"),
-    (["a.svg", "x=x.csv", "--from", "5", "--to", "5"], "there is nothing between --from and --to"),
-    (["a.svg", "x=bad.csv"], "bad.csv:2: a row start,end,value of whole numbers was expected, not 0,5"),
-    (["a.svg", "x=x.csv", "--scale", "²"], "--scale ²: a whole number above 0 was expected"),
-    (["a.svg", "x=x.csv", "--scale", "0"], "--scale 0: a whole number above 0 was expected"),
-    (["a.svg", "x=x.csv", "--scale", "9" * 5000], "--scale 9999"),
-    (["a.svg", "x=x.csv", "--scale", "y=10"], "--scale y=..: nothing that is drawn has this name; there are: x"),
-    (["a.svg", "x=x.csv", "--unit", "y=s"], "--unit y=..: nothing that is drawn has this name; there are: x"),
-    (["a.svg", "x=x.csv", "--unit", "s"], "--unit s: NAME=TEXT was expected"),
-    (["a.svg", "x\x1b=x.csv"], r"'x\x1b': a text without control characters was expected"),
-    (["a.svg", "x=x.csv", "--title", "a\x00b"], r"'a\x00b': a text without control characters was expected"),
-    (["a.svg", "x=x.csv", "--from", "9" * 400], "9999"), (["a.svg", "x=x.csv", "--to", "9" * 5000], "9999"),
-    (["a.svg", "x=large.csv"], "large.csv:"),
-    (["a.svg", "x=late.csv"], "late.csv:"),
-])
+@pytest.mark.parametrize(
+    "words, what",
+    [
+        (["a.pdf", "x=x.csv"], "a.pdf: a name that ends in .svg or .png was expected"),
+        (["a.svg", "+x=x.csv"], "'+x=x.csv': NAME=FILE was expected, and + only after a panel"),
+        (["a.svg", "x=nowhere.csv"], "nowhere.csv: No such file or directory"),
+        (["a.svg", "x=x.csv", "y=y.csv"], "these files have other ticks or origins"),
+        (["a.svg", "x=x.csv", "--from", "5", "--to", "5"], "there is nothing between --from and --to"),
+        (["a.svg", "x=bad.csv"], "bad.csv:2: a row start,end,value of whole numbers was expected, not 0,5"),
+        (["a.svg", "x=x.csv", "--scale", "²"], "--scale ²: a whole number above 0 was expected"),
+        (["a.svg", "x=x.csv", "--scale", "0"], "--scale 0: a whole number above 0 was expected"),
+        (["a.svg", "x=x.csv", "--scale", "9" * 5000], "--scale 9999"),
+        (["a.svg", "x=x.csv", "--scale", "y=10"], "--scale y=..: nothing that is drawn has this name; there are: x"),
+        (["a.svg", "x=x.csv", "--unit", "y=s"], "--unit y=..: nothing that is drawn has this name; there are: x"),
+        (["a.svg", "x=x.csv", "--unit", "s"], "--unit s: NAME=TEXT was expected"),
+        (["a.svg", "x\x1b=x.csv"], r"'x\x1b': a text without control characters was expected"),
+        (["a.svg", "x=x.csv", "--title", "a\x00b"], r"'a\x00b': a text without control characters was expected"),
+        (["a.svg", "x=x.csv", "--from", "9" * 400], "9999"),
+        (["a.svg", "x=x.csv", "--to", "9" * 5000], "9999"),
+        (["a.svg", "x=large.csv"], "large.csv:"),
+        (["a.svg", "x=late.csv"], "late.csv:"),
+    ],
+)
 def test_what_is_refused(told, words, what):
     pytest.importorskip("matplotlib")
     put("x", "0,5,1\n")

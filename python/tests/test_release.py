@@ -55,8 +55,25 @@ class Checkout:
         """A call of ./tilt: its status, its output and its messages. The path has no `rt`, or one that fails."""
         folder = self.folder / "path"
         folder.mkdir(exist_ok=True)
-        for name in ("sh", "env", "awk", "cat", "cut", "dirname", "find", "head", "mkdir", "python3", "readlink", "rm", "sed", "sha256sum", "sort",
-                     "touch", "xargs"):
+        for name in (
+            "sh",
+            "env",
+            "awk",
+            "cat",
+            "cut",
+            "dirname",
+            "find",
+            "head",
+            "mkdir",
+            "python3",
+            "readlink",
+            "rm",
+            "sed",
+            "sha256sum",
+            "sort",
+            "touch",
+            "xargs",
+        ):
             found = shutil.which(name)
             assert found is not None
             if not (folder / name).exists():
@@ -138,8 +155,12 @@ def found_in_python(checkout: Checkout, **environment: str) -> str:
     shutil.copytree(TOP / "python" / "tilt_data", checkout.folder / "python" / "tilt_data", ignore=shutil.ignore_patterns("__pycache__"))
     checkout.run()
     checkout.script("path/tilt-stream", "installed")
-    environment = {"PATH": str(checkout.folder / "path"), "PYTHONPATH": str(checkout.folder / "python"), "PYTHONDONTWRITEBYTECODE": "1",
-                   **environment}
+    environment = {
+        "PATH": str(checkout.folder / "path"),
+        "PYTHONPATH": str(checkout.folder / "python"),
+        "PYTHONDONTWRITEBYTECODE": "1",
+        **environment,
+    }
     words = [sys.executable, "-c", "from tilt_data.program import program; print(program())"]
     return subprocess.run(words, env=environment, check=True, capture_output=True, text=True).stdout.rstrip("\n")
 

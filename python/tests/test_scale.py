@@ -100,15 +100,18 @@ def even(plan: Plan, key: str, count: int) -> list[int]:
 # Without the program: where a domain may be cut
 
 
-@pytest.mark.parametrize("text, ticks, cuts, moved", [
-    ("emit 1 over (0, 10];", [1, 5, 9], [1, 5, 9], 0),
-    ("emit 1 over (0, 10];", [-3, 0, 1, 10, 12], [1], 4),
-    ("emit 1 over (0, 1];", [0, 1, 2], [], 3),
-    ("emit 1 over (0, 20] every 5;", [1, 5, 6, 14, 16], [5, 10, 15], 4),
-    ("emit 1 over (-7, 13] every 10 from 3;", [-7, -6, 3, 4], [3], 3),
-    ("emit 1 over (-20, -5] every 5;", [-19, -11, -6], [-15, -10], 3),
-    ("emit 1 over (-4000000000000000000, 4000000000000000000];", [1 - FAR, FAR - 1], [1 - FAR, FAR - 1], 0),
-])
+@pytest.mark.parametrize(
+    "text, ticks, cuts, moved",
+    [
+        ("emit 1 over (0, 10];", [1, 5, 9], [1, 5, 9], 0),
+        ("emit 1 over (0, 10];", [-3, 0, 1, 10, 12], [1], 4),
+        ("emit 1 over (0, 1];", [0, 1, 2], [], 3),
+        ("emit 1 over (0, 20] every 5;", [1, 5, 6, 14, 16], [5, 10, 15], 4),
+        ("emit 1 over (-7, 13] every 10 from 3;", [-7, -6, 3, 4], [3], 3),
+        ("emit 1 over (-20, -5] every 5;", [-19, -11, -6], [-15, -10], 3),
+        ("emit 1 over (-4000000000000000000, 4000000000000000000];", [1 - FAR, FAR - 1], [1 - FAR, FAR - 1], 0),
+    ],
+)
 def test_where_a_domain_may_be_cut(text, ticks, cuts, moved):
     assert Domain.of(text).cuts(ticks) == (cuts, moved)
 
@@ -146,30 +149,39 @@ def joined(folder: pathlib.Path, *texts: tuple[int, int, str]) -> str:
     return " ".join((folder / "whole").read_text().split()[1:])
 
 
-@pytest.mark.parametrize("texts, wanted", [
-    # One snapshot over the cut; a mark at the cut; a mark at the tick before it, which is the first one of the later part.
-    ([(0, 5, "0,3,7 3,5,8"), (4, 9, "4,6,8 6,9,1")], "0,3,7 3,6,8 6,9,1"),
-    ([(0, 5, "0,5,7"), (4, 9, "4,5,7 5,9,7")], "0,5,7 5,9,7"),
-    ([(0, 5, "0,4,7 4,5,7"), (4, 9, "4,9,7")], "0,4,7 4,9,7"),
-    # Null at the cut: nothing stands there, and the rows beside it aren't touched, also where they are equal.
-    ([(0, 5, "0,4,7"), (4, 9, "5,9,7")], "0,4,7 5,9,7"),
-    ([(0, 5, ""), (4, 9, "")], ""),
-    ([(0, 5, ""), (4, 9, "7,9,1")], "7,9,1"),
-    ([(0, 5, "1,2,3"), (4, 9, "")], "1,2,3"),
-    # One snapshot over all parts, and parts of one tick.
-    ([(0, 2, "0,2,4"), (1, 3, "1,3,4"), (2, 4, "2,4,4"), (3, 9, "3,8,4")], "0,8,4"),
-    ([(0, 1, "0,1,4"), (0, 2, "0,1,4 1,2,5"), (1, 3, "1,2,5 2,3,5")], "0,1,4 1,2,5 2,3,5"),
-    # A grid of 5: the later part begins a step before the cut.
-    ([(0, 10, "0,5,1 5,10,2"), (5, 20, "5,15,2 15,20,2")], "0,5,1 5,15,2 15,20,2"),
-    ([(-10, -5, "-10,-5,-1"), (-10, 0, "-10,0,-1")], "-10,0,-1"),
-])
+@pytest.mark.parametrize(
+    "texts, wanted",
+    [
+        # One snapshot over the cut; a mark at the cut; a mark at the tick before it, which is the first one of the later part.
+        ([(0, 5, "0,3,7 3,5,8"), (4, 9, "4,6,8 6,9,1")], "0,3,7 3,6,8 6,9,1"),
+        ([(0, 5, "0,5,7"), (4, 9, "4,5,7 5,9,7")], "0,5,7 5,9,7"),
+        ([(0, 5, "0,4,7 4,5,7"), (4, 9, "4,9,7")], "0,4,7 4,9,7"),
+        # Null at the cut: nothing stands there, and the rows beside it aren't touched, also where they are equal.
+        ([(0, 5, "0,4,7"), (4, 9, "5,9,7")], "0,4,7 5,9,7"),
+        ([(0, 5, ""), (4, 9, "")], ""),
+        ([(0, 5, ""), (4, 9, "7,9,1")], "7,9,1"),
+        ([(0, 5, "1,2,3"), (4, 9, "")], "1,2,3"),
+        # One snapshot over all parts, and parts of one tick.
+        ([(0, 2, "0,2,4"), (1, 3, "1,3,4"), (2, 4, "2,4,4"), (3, 9, "3,8,4")], "0,8,4"),
+        ([(0, 1, "0,1,4"), (0, 2, "0,1,4 1,2,5"), (1, 3, "1,2,5 2,3,5")], "0,1,4 1,2,5 2,3,5"),
+        # A grid of 5: the later part begins a step before the cut.
+        ([(0, 10, "0,5,1 5,10,2"), (5, 20, "5,15,2 15,20,2")], "0,5,1 5,15,2 15,20,2"),
+        ([(-10, -5, "-10,-5,-1"), (-10, 0, "-10,0,-1")], "-10,0,-1"),
+    ],
+)
 def test_parts_are_joined(tmp_path, texts, wanted):
     assert joined(tmp_path, *texts) == wanted
 
 
-@pytest.mark.parametrize("texts", [
-    [(0, 5, "0,5,7"), (4, 9, "5,9,7")], [(0, 5, "0,4,7"), (4, 9, "4,9,7")], [(0, 5, "0,5,7"), (4, 9, "4,9,8")],
-    [(0, 5, "0,5,7"), (4, 9, "")]])
+@pytest.mark.parametrize(
+    "texts",
+    [
+        [(0, 5, "0,5,7"), (4, 9, "5,9,7")],
+        [(0, 5, "0,4,7"), (4, 9, "4,9,7")],
+        [(0, 5, "0,5,7"), (4, 9, "4,9,8")],
+        [(0, 5, "0,5,7"), (4, 9, "")],
+    ],
+)
 def test_parts_that_do_not_fit_are_refused(tmp_path, texts):
     with pytest.raises(Refused, match="doesn't fit to the one before it, at 4"):
         joined(tmp_path, *texts)
@@ -212,15 +224,23 @@ def test_only_the_rows_of_a_stretch_are_read(tmp_path):
     for _ in range(100):
         low = draws.randrange(-50, 20050)
         high = low + 1 + draws.randrange(draws.choice([2, 500, 20000]))
-        assert read_back(indexed, low, high).decode() == text_of(rows_in_stretch(rows, low, high))[len(HEADER):]
+        assert read_back(indexed, low, high).decode() == text_of(rows_in_stretch(rows, low, high))[len(HEADER) :]
         bytes_read = sum(segment.length for segment, _ in blocks.stretch_of([indexed], low, high))
         assert bytes_read <= len(read_back(indexed, low, high)) + 2 * max(block.length for block in indexed.blocks)
 
 
-@pytest.mark.parametrize("text, rows", [
-    (HEADER + "0,5,7\n6,8,9", [(0, 5, 7), (6, 8, 9)]), ("\ufeffstart,end,value\r\n0,5,7\r\n\r\n6,8,\r\n", [(0, 5, 7), (6, 8, None)]),
-    ('"start","end","value"\n0,"5",7\n', [(0, 5, 7)]), ("start,end,value\r0,5,7\r6,8,9\r", [(0, 5, 7), (6, 8, 9)]), (HEADER, []),
-    (HEADER + "\n\n+0,005,-7\n", [(0, 5, -7)]), ("\n" + HEADER + "0,5,7\n", [(0, 5, 7)])])
+@pytest.mark.parametrize(
+    "text, rows",
+    [
+        (HEADER + "0,5,7\n6,8,9", [(0, 5, 7), (6, 8, 9)]),
+        ("\ufeffstart,end,value\r\n0,5,7\r\n\r\n6,8,\r\n", [(0, 5, 7), (6, 8, None)]),
+        ('"start","end","value"\n0,"5",7\n', [(0, 5, 7)]),
+        ("start,end,value\r0,5,7\r6,8,9\r", [(0, 5, 7), (6, 8, 9)]),
+        (HEADER, []),
+        (HEADER + "\n\n+0,005,-7\n", [(0, 5, -7)]),
+        ("\n" + HEADER + "0,5,7\n", [(0, 5, 7)]),
+    ],
+)
 def test_files_as_spreadsheets_write_them(tmp_path, text, rows):
     path = tmp_path / "x.csv"
     path.write_bytes(text.encode())
@@ -230,11 +250,18 @@ def test_files_as_spreadsheets_write_them(tmp_path, text, rows):
     assert blocks.found_index(str(path), str(tmp_path / "index")) == indexed
 
 
-@pytest.mark.parametrize("text, told", [
-    ("start,end\n0,5\n", "x.csv:1: the header"), (HEADER + "0,5,7\n4,8,9.5\n", "x.csv:3: a row"), (HEADER + "0,5\n", "x.csv:2: a row"),
-    (HEADER + "\n0,5,7\n9\n", "x.csv:4: a row"), (HEADER + "7,9,1\n0,5,1\n", "x.csv:3: a row that starts at 9"),
-    (HEADER + "".join(f"{at},{at + 1},7\n" for at in [*range(1000, 1060), *range(60)]), "x.csv:62: a row that starts at 1060")],
-    ids=range(6))
+@pytest.mark.parametrize(
+    "text, told",
+    [
+        ("start,end\n0,5\n", "x.csv:1: the header"),
+        (HEADER + "0,5,7\n4,8,9.5\n", "x.csv:3: a row"),
+        (HEADER + "0,5\n", "x.csv:2: a row"),
+        (HEADER + "\n0,5,7\n9\n", "x.csv:4: a row"),
+        (HEADER + "7,9,1\n0,5,1\n", "x.csv:3: a row that starts at 9"),
+        (HEADER + "".join(f"{at},{at + 1},7\n" for at in [*range(1000, 1060), *range(60)]), "x.csv:62: a row that starts at 1060"),
+    ],
+    ids=range(6),
+)
 def test_files_that_are_no_series(tmp_path, text, told):
     path = tmp_path / "x.csv"
     path.write_text(text)
@@ -306,12 +333,33 @@ def test_what_lies_between_blocks_is_read_too(tmp_path):
         blocks.bytes_of(dataclasses.replace(segment, stamp=blocks.stamp_of(str(path))))
 
 
-@pytest.mark.parametrize("line, times", [
-    (b"0,5,7", (0, 5)), (b"+0,005,-7\n", (0, 5)), (b"-3,5,\r\n", (-3, 5)), (b"-4000000000000000000,4000000000000000000,", (-FAR, FAR)),
-    (b"1_0,20,7", None), (b" 0,5,7", None), (b"0,5 ,7", None), (b"0,5,7 \n", None), (b"0,5,1_0", None), ("0,\uff15,7".encode(), None),
-    ("\u0660,5,7".encode(), None), (b"0,5", None), (b"0,5,7,", None), (b",5,7", None), (b"0,5,+", None), (b"0,5,--7", None),
-    (b"0,5,7.0", None),
-    (b"0,5,7\r\r\n", None), (b"0,5,7\n\n", None), (b"0,4000000000000000001,7", None), (b"-4000000000000000001,0,7", None), (b"", None)])
+@pytest.mark.parametrize(
+    "line, times",
+    [
+        (b"0,5,7", (0, 5)),
+        (b"+0,005,-7\n", (0, 5)),
+        (b"-3,5,\r\n", (-3, 5)),
+        (b"-4000000000000000000,4000000000000000000,", (-FAR, FAR)),
+        (b"1_0,20,7", None),
+        (b" 0,5,7", None),
+        (b"0,5 ,7", None),
+        (b"0,5,7 \n", None),
+        (b"0,5,1_0", None),
+        ("0,\uff15,7".encode(), None),
+        ("\u0660,5,7".encode(), None),
+        (b"0,5", None),
+        (b"0,5,7,", None),
+        (b",5,7", None),
+        (b"0,5,+", None),
+        (b"0,5,--7", None),
+        (b"0,5,7.0", None),
+        (b"0,5,7\r\r\n", None),
+        (b"0,5,7\n\n", None),
+        (b"0,4000000000000000001,7", None),
+        (b"-4000000000000000001,0,7", None),
+        (b"", None),
+    ],
+)
 def test_rows_are_parsed_as_the_program_does(line, times):
     assert blocks.times_of(line) == times
 
@@ -525,14 +573,29 @@ def test_500_random_queries(here):
     with concurrent.futures.ThreadPoolExecutor(2) as pool:
         found = list(pool.map(lambda seed: compare(seed, here / str(seed)), range(500)))
     counts = {what: sum(what in some for some in found) for what in sorted(set().union(*found))}
-    assert set(counts) == {"cut", "grid", "ahead", "span", "equal neighbours", "over a cut", "over two cuts", "null at a cut",
-                           "parts of one step"}
+    assert set(counts) == {
+        "cut",
+        "grid",
+        "ahead",
+        "span",
+        "equal neighbours",
+        "over a cut",
+        "over two cuts",
+        "null at a cut",
+        "parts of one step",
+    }
     assert counts["cut"] > 450 and min(counts.values()) >= 25, counts
 
 
-@pytest.mark.parametrize("query", [
-    "emit 5 over (0, 10];", "input x; emit ifnull(x, 7) over (-4000000000000000000, 4000000000000000000];",
-    "input x; emit 1 over (0, 10];", "input x; let g = count(x[t-5:t+5]) over (0, 5]; emit ifnull(g, 0) over (0, 10];"])
+@pytest.mark.parametrize(
+    "query",
+    [
+        "emit 5 over (0, 10];",
+        "input x; emit ifnull(x, 7) over (-4000000000000000000, 4000000000000000000];",
+        "input x; emit 1 over (0, 10];",
+        "input x; let g = count(x[t-5:t+5]) over (0, 5]; emit ifnull(g, 0) over (0, 10];",
+    ],
+)
 def test_queries_whose_output_rests_on_no_rows(here, query):
     pathlib.Path("x.csv").write_text(HEADER)
     files = {"x": "x.csv"} if "input" in query else {}
@@ -589,7 +652,9 @@ def test_parts_of_files_as_spreadsheets_write_them(here):
     wanted = run_program(str(PROGRAM), text, *(f"{name}={file}" for name, file in files.items()))
     plan = planned(text, **files)
     assert {os.path.basename(one.path): one.file == one.path for its in plan.indexed("").values() for one in its} == {
-        "limit.csv": True, "temperature.csv": False}
+        "limit.csv": True,
+        "temperature.csv": False,
+    }
     for ticks in ([30], [10, 20, 30, 40, 50], list(range(1, 60, 7))):
         assert made(plan, "", ticks) == wanted
 
@@ -658,11 +723,20 @@ class Cluster:
 
     def __init__(self, folder: pathlib.Path, configuration: pathlib.Path | None = None) -> None:
         import distributed
+
         self.folder = folder
         self.environment = {} if configuration is None else {"DASK_CONFIG": str(configuration)}
-        security = None if configuration is None else distributed.Security(
-            require_encryption=True, **{f"tls_{name}": str(configuration / file) for name, file in
-                                        (("ca_file", "ca.pem"), ("client_cert", "cert.pem"), ("client_key", "key.pem"))})
+        security = (
+            None
+            if configuration is None
+            else distributed.Security(
+                require_encryption=True,
+                **{
+                    f"tls_{name}": str(configuration / file)
+                    for name, file in (("ca_file", "ca.pem"), ("client_cert", "cert.pem"), ("client_key", "key.pem"))
+                },
+            )
+        )
         self.program = wrapped(folder / "program")
         self.begun: list[subprocess.Popen[bytes]] = []
         file = folder / "scheduler.json"
@@ -679,14 +753,23 @@ class Cluster:
     def begin(self, module: str, *words: str) -> None:
         environment = {**os.environ, "PYTHONPATH": str(PYTHON), "TILT": str(self.program), **self.environment}
         words = "-m", f"distributed.cli.{module}", "--host", "127.0.0.1", "--no-dashboard", "--dashboard-address", "127.0.0.1:0", *words
-        self.begun.append(subprocess.Popen([sys.executable, *words], cwd=self.folder, env=environment, stdout=subprocess.DEVNULL,
-                                           stderr=subprocess.DEVNULL, start_new_session=True))
+        self.begun.append(
+            subprocess.Popen(
+                [sys.executable, *words],
+                cwd=self.folder,
+                env=environment,
+                stdout=subprocess.DEVNULL,
+                stderr=subprocess.DEVNULL,
+                start_new_session=True,
+            )
+        )
 
     def before(self, text: str) -> None:
         before(self.program, text)
 
     def workers(self) -> list[Any]:
         import psutil
+
         found = []
         for process in psutil.Process(self.begun[1].pid).children(recursive=True):
             try:
@@ -739,8 +822,10 @@ def either(request, here, monkeypatch) -> Engine:
     return Engine(here / "bin" / "program", workers=2)
 
 
-FLEET = ("input x; input limit; let a = avg(x[t-20:t]); let above = ifnull(a > limit, false);\n"
-         "emit a - limit when any(above[t-30:t+3]) over (0, {end}];\n")
+FLEET = (
+    "input x; input limit; let a = avg(x[t-20:t]); let above = ifnull(a > limit, false);\n"
+    "emit a - limit when any(above[t-30:t+3]) over (0, {end}];\n"
+)
 INPUTS = {"x": "data/{key}/day-*.csv", "limit": "limit.csv"}
 
 
@@ -909,6 +994,7 @@ def test_a_disk_that_is_full_for_an_index(either, here, small_disk):
 
 def test_a_refusal_is_told_once_with_its_part(either, here, capfd):
     from tilt_data.cli import main
+
     rows = [(at, at + 1, at) for at in range(3000)]
     pathlib.Path("a.csv").write_text(text_of(rows[:1000]))
     pathlib.Path("b.csv").write_text(text_of(rows[1000:]).replace("\n2345,2346,2345\n", "\n2345,2345,2345\n"))
@@ -920,13 +1006,21 @@ def test_a_refusal_is_told_once_with_its_part(either, here, capfd):
     assert not list(pathlib.Path("out").glob("*.csv"))
 
 
-@pytest.mark.parametrize("words, what", [
-    (["q", "x=x.csv", "--part-rows", "0"], "part-rows: 1 or more was expected"), (["q", "x=x.csv", "--retries", "-1"], "retries: 0 or"),
-    (["q", "x=x.csv", "--workers", "0"], "workers: 1 or more"), (["q", "x"], "'x': NAME=FILES was expected"),
-    (["q"], "x isn't bound: x=FILES: the query reads x"),
-    (["q", "x=x.csv", "y=x.csv"], "not y: the query reads x"), (["q", "x=none*.csv"], "x=none*.csv: no file has this name"),
-    (["no", "x=x.csv"], "no: No such file"), (["wrong", "x=x.csv"], "tilt: 27 statement 2: unknown name\nwrong:1:15: "),
-    (["q", "x=x.csv", "--scheduler", "tcp://127.0.0.1:1", "--workers", "2"], "--workers is for this machine")])
+@pytest.mark.parametrize(
+    "words, what",
+    [
+        (["q", "x=x.csv", "--part-rows", "0"], "part-rows: 1 or more was expected"),
+        (["q", "x=x.csv", "--retries", "-1"], "retries: 0 or"),
+        (["q", "x=x.csv", "--workers", "0"], "workers: 1 or more"),
+        (["q", "x"], "'x': NAME=FILES was expected"),
+        (["q"], "x isn't bound: x=FILES: the query reads x"),
+        (["q", "x=x.csv", "y=x.csv"], "not y: the query reads x"),
+        (["q", "x=none*.csv"], "x=none*.csv: no file has this name"),
+        (["no", "x=x.csv"], "no: No such file"),
+        (["wrong", "x=x.csv"], "tilt: 27 statement 2: unknown name\nwrong:1:15: "),
+        (["q", "x=x.csv", "--scheduler", "tcp://127.0.0.1:1", "--workers", "2"], "--workers is for this machine"),
+    ],
+)
 def test_what_is_rejected(told, here, words, what):
     pathlib.Path("q").write_text("input x; emit x over (0, 10];")
     pathlib.Path("wrong").write_text("input x; emit y over (0, 10];")
@@ -948,10 +1042,16 @@ def test_what_is_told_of_cuts(here):
     query = "input x; emit sum(x[t-50:t]) over (0, 1000] every 50;"
     found = scale(query, {"x": "x.csv"}, "out", workers=2, part_rows=30)
     # Each part reads 49 rows before its stretch of 100, and 49 after it; the first has 50, and the ends have nothing beyond them.
-    assert found.parts == 20 and found.rows == 99 + 149 + 17 * 198 + 149 and found.notes == [
-        "cuts that were moved to the grid of every 50 ticks, or into the domain: 32",
-        "cuts that had no place of their own in the domain, so that there are fewer parts: 14",
-        "each row was read 3.8 times, since the query looks far: larger parts by --part-rows read fewer"]
+    assert (
+        found.parts == 20
+        and found.rows == 99 + 149 + 17 * 198 + 149
+        and found.notes
+        == [
+            "cuts that were moved to the grid of every 50 ticks, or into the domain: 32",
+            "cuts that had no place of their own in the domain, so that there are fewer parts: 14",
+            "each row was read 3.8 times, since the query looks far: larger parts by --part-rows read fewer",
+        ]
+    )
     assert outputs(found)["output"] == run_program(str(PROGRAM), query, "x=x.csv")
 
 
@@ -998,11 +1098,16 @@ def test_a_call_that_is_stopped_leaves_no_process_and_goes_on(here, monkeypatch,
     monkeypatch.setenv("TMPDIR", str(here / "temporary"))
     program = wrapped(here / "program")
     monkeypatch.setenv("TILT", str(program))
-    before(program, '[ "$1" = run ] || exec ' + str(PROGRAM) + ' "$@"\n[ $(ls out/parts/*/0* | wc -l) -lt 3 ] || { echo $$ >> pids; '
-           'echo start,end,value; exec sleep 300; }')
+    before(
+        program,
+        '[ "$1" = run ] || exec ' + str(PROGRAM) + ' "$@"\n[ $(ls out/parts/*/0* | wc -l) -lt 3 ] || { echo $$ >> pids; '
+        "echo start,end,value; exec sleep 300; }",
+    )
     words = [*COMMAND, "--workers", "2", "--part-rows", "200"]
     # A shell starts a job in the background with SIGINT ignored, and nohup with SIGHUP: so would the command, begun by these tests.
-    begun = subprocess.Popen(words, stdout=subprocess.PIPE, stderr=subprocess.PIPE, preexec_fn=lambda: signal.signal(number, signal.SIG_DFL))
+    begun = subprocess.Popen(
+        words, stdout=subprocess.PIPE, stderr=subprocess.PIPE, preexec_fn=lambda: signal.signal(number, signal.SIG_DFL)
+    )
     pids = here / "pids"
     assert waited(lambda: pids.exists() and pids.read_text().count("\n") == 2, begun)
     hanging = [int(pid) for pid in pids.read_text().split()]
@@ -1026,8 +1131,11 @@ def test_a_signal_that_is_ignored_stays_so(here):
     pathlib.Path("x.csv").write_text(HEADER + "0,5,7\n")
     program = wrapped(here / "program")
     before(program, '[ "$1" = run ] && { touch running; while [ ! -e go ]; do sleep 0.05; done; }')
-    begun = subprocess.Popen(["sh", "-c", "trap '' HUP; exec \"$@\"", "sh", *COMMAND[:3], "q", "x=x.csv", "--out", "out"],
-                             env={**os.environ, "TILT": str(program)}, stderr=subprocess.PIPE)
+    begun = subprocess.Popen(
+        ["sh", "-c", "trap '' HUP; exec \"$@\"", "sh", *COMMAND[:3], "q", "x=x.csv", "--out", "out"],
+        env={**os.environ, "TILT": str(program)},
+        stderr=subprocess.PIPE,
+    )
     assert waited(lambda: os.path.exists("running"), begun) is True
     begun.send_signal(signal.SIGHUP)
     time.sleep(0.2)
@@ -1135,7 +1243,7 @@ def test_clocks_that_differ(here):
         beside(f"x.{key}.csv", tick="1s")
         beside(f"y.{key}.csv", tick="1s" if key == "a" else "1m")
     found = scale(query, {"x": "x.{key}.csv", "y": "y.{key}.csv"}, "out", workers=1)
-    note, = found.notes
+    (note,) = found.notes
     assert note.startswith("note: the series x and y have other ") and note.endswith(" (the key b and 1 more)")
     pathlib.Path("y.a=1.csv").write_text(HEADER + "6,8,1\n")
     shutil.copy("y.b.json", "y.a=1.json")
@@ -1156,10 +1264,26 @@ def test_scales_and_conventions_that_differ(here, other, what):
         scale("input x; emit x over (0, 10];", {"x": ["x.csv", "y.csv"]}, "more", workers=1)
 
 
-@pytest.mark.parametrize("mark, rows", [
-    ("\ufeff", "0,5,7\n"), ("", "0,5,--7\n"), ("", "+-0,5,7\n"), ("", "0,5,+\n"), ("", "0,5,7,\n"), ("", "0,5,9223372036854775808\n"),
-    ("", "0,4000000000000000001,7\n"), ("", "0,1_0,7\n"), ("", "0,5,1_0\n"), ("", "0, 5,7\n"), ("", "0,5 ,7\n"), ("", "0,\uff15,7\n"),
-    ("", "0,5,\u0663\n"), ("", '"0 ",5,7\n'), ("", '0,5,"7\n"\n')])
+@pytest.mark.parametrize(
+    "mark, rows",
+    [
+        ("\ufeff", "0,5,7\n"),
+        ("", "0,5,--7\n"),
+        ("", "+-0,5,7\n"),
+        ("", "0,5,+\n"),
+        ("", "0,5,7,\n"),
+        ("", "0,5,9223372036854775808\n"),
+        ("", "0,4000000000000000001,7\n"),
+        ("", "0,1_0,7\n"),
+        ("", "0,5,1_0\n"),
+        ("", "0, 5,7\n"),
+        ("", "0,5 ,7\n"),
+        ("", "0,\uff15,7\n"),
+        ("", "0,5,\u0663\n"),
+        ("", '"0 ",5,7\n'),
+        ("", '0,5,"7\n"\n'),
+    ],
+)
 def test_what_the_program_rejects_is_rejected(told, here, mark, rows):
     pathlib.Path("q").write_bytes(f"{mark}input x; emit x over (0, 10];".encode())
     pathlib.Path("x.csv").write_text(HEADER + rows)

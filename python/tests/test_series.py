@@ -44,7 +44,7 @@ def refused(told, text: str, *words: str) -> str:
     assert (status, out) == (1, "")
     assert sorted(os.listdir()) == before
     assert err.startswith("tilt-data: ") and err.count("\n") == 1
-    return err[len("tilt-data: "):-1]
+    return err[len("tilt-data: ") : -1]
 
 
 # The conventions
@@ -121,18 +121,23 @@ def test_an_option_that_is_given_again_adds_to_the_first(told):
     assert sorted(os.listdir("both")) == ["a.csv", "a.json", "b.csv", "b.json"]
 
 
-@pytest.mark.parametrize("words, what", [
-    (["--max-age", "10s", "--max-age", "20s"], "--max-age without a name: it is given twice, as 10s and 20s: give it once"),
-    (["--max-age", "b=10s", "9s", "b=20s"], "--max-age b=..: it is given twice, as 10s and 20s: give it once"),
-    (["--scale", "10", "--scale", "auto"], "--scale without a name: it is given twice, as 10 and auto: give it once"),
-    (["--scale", "a=10", "--scale", "a=10"], "--scale a=..: it is given twice, as 10 and 10: give it once"),
-    (["--value", "a", "--value", "a"], "--value a: it is given twice: name each column once"),
-])
+@pytest.mark.parametrize(
+    "words, what",
+    [
+        (["--max-age", "10s", "--max-age", "20s"], "--max-age without a name: it is given twice, as 10s and 20s: give it once"),
+        (["--max-age", "b=10s", "9s", "b=20s"], "--max-age b=..: it is given twice, as 10s and 20s: give it once"),
+        (["--scale", "10", "--scale", "auto"], "--scale without a name: it is given twice, as 10 and auto: give it once"),
+        (["--scale", "a=10", "--scale", "a=10"], "--scale a=..: it is given twice, as 10 and 10: give it once"),
+        (["--value", "a", "--value", "a"], "--value a: it is given twice: name each column once"),
+    ],
+)
 def test_a_name_that_is_given_twice_is_rejected(told, words, what):
     assert refused(told, TWO, "--unit", "s", "--tick", "1s", "--null", "NaN", *words) == what
 
 
-@pytest.mark.parametrize("header, places, name", [("time,x,x", "2 and 3", "x"), ("time,x, x", "2 and 3", "x"), ("time,y ,x,\ty", "2 and 4", "y")])
+@pytest.mark.parametrize(
+    "header, places, name", [("time,x,x", "2 and 3", "x"), ("time,x, x", "2 and 3", "x"), ("time,y ,x,\ty", "2 and 4", "y")]
+)
 def test_two_columns_of_one_name_are_rejected(told, header, places, name):
     """With --ties they would be one series of both."""
     text = f"{header}\n0,1,100{',7' if header.count(',') == 3 else ''}\n"
@@ -150,9 +155,16 @@ def test_titles_have_no_blanks_around_them(told):
 # Times
 
 
-@pytest.mark.parametrize("text", [
-    "2026-03-01T06:00:05.250Z", "2026-03-01 06:00:05.25", "2026-03-01T07:00:05.250+01:00", "2026-03-01T01:30:05,25-0430",
-    "2026-03-01T08:00:05.250000000+02"])
+@pytest.mark.parametrize(
+    "text",
+    [
+        "2026-03-01T06:00:05.250Z",
+        "2026-03-01 06:00:05.25",
+        "2026-03-01T07:00:05.250+01:00",
+        "2026-03-01T01:30:05,25-0430",
+        "2026-03-01T08:00:05.250000000+02",
+    ],
+)
 def test_texts_of_one_moment(text):
     assert Moments().read(text) == Moments("ms").read("1772344805250") == Moments("s").read("1772344805.25")
 
@@ -168,9 +180,17 @@ def test_moments_are_exact():
             Moments().read(text)
 
 
-@pytest.mark.parametrize("text", [
-    "2026-03-01T00:00+99:99", "2026-03-01T00:00+24:00", "2026-03-01T00:00-0060", "0001-01-01T00:00:00+01:00", "9999-12-31T23:59-00:01",
-    "0000-01-01"])
+@pytest.mark.parametrize(
+    "text",
+    [
+        "2026-03-01T00:00+99:99",
+        "2026-03-01T00:00+24:00",
+        "2026-03-01T00:00-0060",
+        "0001-01-01T00:00:00+01:00",
+        "9999-12-31T23:59-00:01",
+        "0000-01-01",
+    ],
+)
 def test_texts_of_no_moment(told, text):
     with pytest.raises(ValueError, match="is no time"):
         Moments().read(text)
@@ -189,9 +209,18 @@ def test_numbers_of_other_signs_are_no_times(told, text):
     assert refused(told, f"time,temp\n{text},1\n", "--tick", "1s", "--unit", "s").startswith(f"raw.csv:2: {text!r} is no time")
 
 
-@pytest.mark.parametrize("text", [
-    "\uff12026-03-01", "2026-03-0\u0661", "2026-03-01T0\uff16:00", "2026-03-01T06:00:0\u0665", "2026-03-01T06:00:05.\uff15", "2026-03-01T06:00+0\uff11",
-    "\xa02026-03-01"])
+@pytest.mark.parametrize(
+    "text",
+    [
+        "\uff12026-03-01",
+        "2026-03-0\u0661",
+        "2026-03-01T0\uff16:00",
+        "2026-03-01T06:00:0\u0665",
+        "2026-03-01T06:00:05.\uff15",
+        "2026-03-01T06:00+0\uff11",
+        "\xa02026-03-01",
+    ],
+)
 def test_texts_of_other_digits_are_no_times(told, text):
     with pytest.raises(ValueError, match="is no time: ISO 8601 was expected"):
         Moments().read(text)
@@ -220,7 +249,7 @@ def test_local_times():
 def test_moments_and_texts_there_and_back():
     draws = random.Random(1)
     for _ in range(2000):
-        moment = draws.randrange(-10**18, 10**19 // 3)
+        moment = draws.randrange(-(10**18), 10**19 // 3)
         assert Moments().read(moment_text(moment, 9)) == moment
         shown = datetime.datetime.fromtimestamp(moment // 10**9, datetime.timezone.utc).strftime("%Y-%m-%dT%H:%M:%S")
         assert moment_text(moment, 0) == shown + "Z"
@@ -243,13 +272,20 @@ def test_origins(told):
     assert series(told, "time,temp\n2026-03-01T23:30Z,7\n", "--like", "first.csv")[0] == [(88200, 88201, 7)]
 
 
-@pytest.mark.parametrize("zone, first", [
-    # The clocks go forward at midnight: that midnight isn't there.
-    ("America/Sao_Paulo", "2017-10-15T12:00"), ("America/Havana", "2026-03-08T12:00"), ("Asia/Beirut", "2026-03-29T12:00"),
-    # They go back over it: it is there twice.
-    ("America/Havana", "2026-11-01T12:00"),
-    # It isn't within the years 1 to 9999 of UTC.
-    ("Europe/Zurich", "0001-01-01T00:10"), ("America/New_York", "9999-12-31T23:00")])
+@pytest.mark.parametrize(
+    "zone, first",
+    [
+        # The clocks go forward at midnight: that midnight isn't there.
+        ("America/Sao_Paulo", "2017-10-15T12:00"),
+        ("America/Havana", "2026-03-08T12:00"),
+        ("Asia/Beirut", "2026-03-29T12:00"),
+        # They go back over it: it is there twice.
+        ("America/Havana", "2026-11-01T12:00"),
+        # It isn't within the years 1 to 9999 of UTC.
+        ("Europe/Zurich", "0001-01-01T00:10"),
+        ("America/New_York", "9999-12-31T23:00"),
+    ],
+)
 def test_an_origin_that_is_no_midnight(told, zone, first):
     text = f"time,temp\n{first},1\n"
     what = refused(told, text, "--tick", "1s", "--zone", zone)
@@ -266,12 +302,15 @@ def test_an_origin_beyond_the_calendar(told):
     assert what == "--origin 0001-01-01T00:00: in UTC it lies outside of the years 1 to 9999: name another moment"
 
 
-@pytest.mark.parametrize("times, words, line, what", [
-    # A nanosecond before 4 10^18 of them there still is a tick after the reading, at 4 10^18 there is none.
-    ("1126-10-04T07:06:40", ["--event"], 3, "the reading at 1126-10-04T07:06:40Z has the tick 4000000000000000000"),
-    ("1126-10-04T07:06:39.999999999", ["--max-age", "2ns"], 3, "has a row to the tick 4000000000000000001"),
-    ("0873-03-30T16:53:19.999999999", ["--sort"], 3, "the reading at 0873-03-30T16:53:19.999999999Z has the tick -4000000000000000001"),
-])
+@pytest.mark.parametrize(
+    "times, words, line, what",
+    [
+        # A nanosecond before 4 10^18 of them there still is a tick after the reading, at 4 10^18 there is none.
+        ("1126-10-04T07:06:40", ["--event"], 3, "the reading at 1126-10-04T07:06:40Z has the tick 4000000000000000000"),
+        ("1126-10-04T07:06:39.999999999", ["--max-age", "2ns"], 3, "has a row to the tick 4000000000000000001"),
+        ("0873-03-30T16:53:19.999999999", ["--sort"], 3, "the reading at 0873-03-30T16:53:19.999999999Z has the tick -4000000000000000001"),
+    ],
+)
 def test_ticks_beyond_those_of_the_program_are_rejected(told, times, words, line, what):
     origin = datetime.datetime(1000, 1, 1)
     end = origin + datetime.timedelta(seconds=4 * 10**9)
@@ -300,8 +339,9 @@ def test_a_system_without_time_zones(tmp_path, monkeypatch):
     # A package of Python can have them too.
     code = "import sys; sys.modules['tzdata'] = None; from tilt_data.cli import main; sys.exit(main(sys.argv[1:]))"
     words = ["series", "raw.csv", "--time", "time", "--tick", "1s", "--zone", "Europe/Zurich"]
-    done = subprocess.run([sys.executable, "-c", code, *words], cwd=tmp_path, env={**os.environ, "PYTHONPATH": str(PYTHON)}, text=True,
-                          capture_output=True)
+    done = subprocess.run(
+        [sys.executable, "-c", code, *words], cwd=tmp_path, env={**os.environ, "PYTHONPATH": str(PYTHON)}, text=True, capture_output=True
+    )
     wanted = "tilt-data: --zone Europe/Zurich: this system has no time zones: apt-get install tzdata, or pip install tzdata\n"
     assert (done.returncode, done.stderr) == (1, wanted)
 
@@ -309,16 +349,22 @@ def test_a_system_without_time_zones(tmp_path, monkeypatch):
 # Values
 
 
-@pytest.mark.parametrize("text", ["1_000", "\uff11\uff12", "\u0663", "\xa05", "5\u3000", "1 0", "0x10", "1_0.5", "1.2_5", "1e1_0", "+-5", ".", "e5", "\xb2"])
+@pytest.mark.parametrize(
+    "text", ["1_000", "\uff11\uff12", "\u0663", "\xa05", "5\u3000", "1 0", "0x10", "1_0.5", "1.2_5", "1e1_0", "+-5", ".", "e5", "\xb2"]
+)
 def test_numbers_of_other_signs_are_no_values(told, text):
     with pytest.raises(ValueError, match="is no number"):
         Scale(10).whole(text)
     assert digits_after_point(text) == 0
     for words in (("--scale", "10"), ("--scale", "auto")):
-        assert refused(told, f"time,temp\n2026-03-01,{text}\n", "--tick", "1s", *words).startswith(f"raw.csv:2: temp: {text!r} is no number")
+        assert refused(told, f"time,temp\n2026-03-01,{text}\n", "--tick", "1s", *words).startswith(
+            f"raw.csv:2: temp: {text!r} is no number"
+        )
 
 
-@pytest.mark.parametrize("text, value", [("+5", 50), ("-5.", -50), (".5", 5), ("-0.50", -5), ("05", 50), ("5E-1", 5), ("1.5e+1", 150), (" 5\t", 50)])
+@pytest.mark.parametrize(
+    "text, value", [("+5", 50), ("-5.", -50), (".5", 5), ("-0.50", -5), ("05", 50), ("5E-1", 5), ("1.5e+1", 150), (" 5\t", 50)]
+)
 def test_numbers_as_they_are_written(text, value):
     assert Scale(10).whole(text) == value
 
@@ -338,14 +384,21 @@ def test_more_digits_than_a_value_has(told, text):
     assert digits_after_point("0." + "0" * 18 + "1") == digits_after_point("1e-19") == 19
 
 
-@pytest.mark.parametrize("scale", ["\xb2", "\uff11\uff10", "1_0", " 10", "-10", "0", "00", "1.5", "", pytest.param("1" * 5000, id="5000 digits"), "temp=\xb2"])
+@pytest.mark.parametrize(
+    "scale", ["\xb2", "\uff11\uff10", "1_0", " 10", "-10", "0", "00", "1.5", "", pytest.param("1" * 5000, id="5000 digits"), "temp=\xb2"]
+)
 def test_scales_that_are_none(told, scale):
     what = refused(told, "time,temp\n2026-03-01,1\n", "--tick", "1s", f"--scale={scale}")
     assert what == f"--scale {scale}: a whole number above 0, auto, or NAME=N was expected"
 
 
 def test_scales():
-    assert Scale(10).whole("20.5") == 205 and Scale(100).whole("-0.05") == -5 and Scale(8).whole("0.125") == 1 and Scale(1).whole("1e3") == 1000
+    assert (
+        Scale(10).whole("20.5") == 205
+        and Scale(100).whole("-0.05") == -5
+        and Scale(8).whole("0.125") == 1
+        and Scale(1).whole("1e3") == 1000
+    )
     assert [digits_after_point(text) for text in ("1", "1.50", "1e3", "1.25e-3", "0.0", "x", "100e-1")] == [0, 1, 0, 5, 0, 0, 0]
     assert [decimal_text(-5, 100), decimal_text(2050, 100), decimal_text(1, 8), decimal_text(-7, 1)] == ["-0.05", "20.50", "0.125", "-7"]
     for text, what in (("20.55", "--scale 100"), ("9223372036854775807", "64 bits"), ("Infinity", "no number"), ("", "no number")):
@@ -356,7 +409,7 @@ def test_scales():
 def test_scale_and_back():
     draws = random.Random(3)
     for _ in range(5000):
-        scale, value = 10**draws.randrange(0, 12), draws.randrange(-2**63, 2**63)
+        scale, value = 10 ** draws.randrange(0, 12), draws.randrange(-(2**63), 2**63)
         assert Scale(scale).whole(decimal_text(value, scale)) == value
 
 
@@ -365,11 +418,11 @@ def test_decimals_are_exact_where_the_scale_has_no_other_factors_than_2_and_5():
     assert decimal_text(1, 2**21) == "0.000000476837158203125"
     draws = random.Random(10)
     for _ in range(2000):
-        scale, value = 2**draws.randrange(40) * 5**draws.randrange(20), draws.randrange(-2**63, 2**63)
+        scale, value = 2 ** draws.randrange(40) * 5 ** draws.randrange(20), draws.randrange(-(2**63), 2**63)
         assert Fraction(decimal_text(value, scale)) == Fraction(value, scale)
         other = scale * draws.choice([3, 7, 11])
         assert abs(Fraction(decimal_text(value, other)) - Fraction(value, other)) <= Fraction(1, 2 * 10**20)
-    assert [decimal_text(2, 3), decimal_text(-10**25 + 1, 10**25 + 1), decimal_text(0, 3)] == ["0.66666666666666666667", "-1", "0"]
+    assert [decimal_text(2, 3), decimal_text(-(10**25) + 1, 10**25 + 1), decimal_text(0, 3)] == ["0.66666666666666666667", "-1", "0"]
 
 
 def test_a_decimal_comma(told):
@@ -392,22 +445,37 @@ def test_auto_is_one_scale_for_the_columns_that_have_none_of_their_own(told):
     assert status == 0, err
     assert [rows_in(name)[0][2] for name in ("temp.csv", "limit.csv", "volume.csv")] == [2050, 2375, 7000]
     assert json.loads(pathlib.Path("temp.json").read_text()) == {
-        "tilt-data": 1, "version": VERSION, "name": "temp", "tick": "1s", "origin": "2026-03-01T00:00:00Z", "closed": "left", "kind": "hold",
-        "scale": 100, "size": 34, "sha256": hashlib.sha256(b"start,end,value\n1,2,2050\n2,3,2000\n").hexdigest()}
+        "tilt-data": 1,
+        "version": VERSION,
+        "name": "temp",
+        "tick": "1s",
+        "origin": "2026-03-01T00:00:00Z",
+        "closed": "left",
+        "kind": "hold",
+        "scale": 100,
+        "size": 34,
+        "sha256": hashlib.sha256(b"start,end,value\n1,2,2050\n2,3,2000\n").hexdigest(),
+    }
 
 
 # Files
 
 
 def test_tall_files_and_keys(told):
-    text = ("time,station,sensor,value\n2026-03-01T00:00:01,north/1,temp,1\n2026-03-01T00:00:01,south,temp,2\n"
-            "2026-03-01T00:00:03,north/1,hum,3\n2026-03-01T00:00:04,north/1,temp,4\n")
+    text = (
+        "time,station,sensor,value\n2026-03-01T00:00:01,north/1,temp,1\n2026-03-01T00:00:01,south,temp,2\n"
+        "2026-03-01T00:00:03,north/1,hum,3\n2026-03-01T00:00:04,north/1,temp,4\n"
+    )
     words = ("series", put(text), "--time", "time", "--tick", "1s", "--key", "station", "--name", "sensor", "--value", "value")
     assert told(*words)[0] == 0
     assert rows_in("north%2F1/temp.csv") == [(1, 4, 1), (4, 5, 4)] and rows_in("south/temp.csv") == [(1, 2, 2)]
     assert json.loads(pathlib.Path("north%2F1/hum.json").read_text())["key"] == "north/1"
     assert told(*words, "--prefix", "--out", "flat")[0] == 0
-    assert sorted(name for name in os.listdir("flat") if name.endswith(".csv")) == ["north%2F1_hum.csv", "north%2F1_temp.csv", "south_temp.csv"]
+    assert sorted(name for name in os.listdir("flat") if name.endswith(".csv")) == [
+        "north%2F1_hum.csv",
+        "north%2F1_temp.csv",
+        "south_temp.csv",
+    ]
 
 
 @pytest.mark.parametrize("key", ["..", ".", "/", "a/../../b"])
@@ -418,12 +486,24 @@ def test_a_key_never_leaves_the_folder(told, tmp_path, key):
 
 
 def call(*words: str, folder: pathlib.Path, **streams) -> subprocess.CompletedProcess[str]:
-    return subprocess.run([sys.executable, "-m", "tilt_data", *words], cwd=folder, env={**os.environ, "PYTHONPATH": str(PYTHON)}, text=True,
-                          **{"stdout": subprocess.PIPE, "stderr": subprocess.PIPE, **streams})
+    return subprocess.run(
+        [sys.executable, "-m", "tilt_data", *words],
+        cwd=folder,
+        env={**os.environ, "PYTHONPATH": str(PYTHON)},
+        text=True,
+        **{"stdout": subprocess.PIPE, "stderr": subprocess.PIPE, **streams},
+    )
 
 
-@pytest.mark.parametrize("words, path", [
-    (["v.csv"], "v.csv"), (["link.csv"], "v.csv"), (["./v.csv", "--out", "../here"], "../here/v.csv"), (["v.csv", "--out", "other"], "other/v.csv")])
+@pytest.mark.parametrize(
+    "words, path",
+    [
+        (["v.csv"], "v.csv"),
+        (["link.csv"], "v.csv"),
+        (["./v.csv", "--out", "../here"], "../here/v.csv"),
+        (["v.csv", "--out", "other"], "other/v.csv"),
+    ],
+)
 def test_a_series_never_takes_the_place_of_its_readings(tmp_path, words, path):
     here, there = tmp_path / "here", tmp_path / "there"
     here.mkdir()
@@ -453,13 +533,16 @@ def test_nor_does_it_where_they_come_by_standard_input_or_have_the_name_of_its_n
     assert (tmp_path / "v.json").read_text() == raw and os.listdir(tmp_path) == ["v.json"]
 
 
-@pytest.mark.parametrize("name, other", [("temp.json", '{"name": "app"}'), ("temp.json", "no JSON"), ("temp.json", "[1]"), ("temp.csv", "a,b\n")])
+@pytest.mark.parametrize(
+    "name, other", [("temp.json", '{"name": "app"}'), ("temp.json", "no JSON"), ("temp.json", "[1]"), ("temp.csv", "a,b\n")]
+)
 def test_files_of_others_are_replaced_only_by_force(told, name, other):
     """A series of tilt-data has the JSON file of tilt-data beside it."""
     put(other, name)
     what = refused(told, READINGS, "--tick", "1s", "--scale", "100")
     assert what.startswith(f"{name}: it is there") and what.endswith(
-        "the series temp would take its place: name a folder by --out, or replace it by --force")
+        "the series temp would take its place: name a folder by --out, or replace it by --force"
+    )
     assert pathlib.Path(name).read_text() == other
     rows, _ = series(told, READINGS, "--tick", "1s", "--scale", "100", "--force")
     assert len(rows) == 3 and json.loads(pathlib.Path("temp.json").read_text())["scale"] == 100
@@ -538,42 +621,56 @@ def test_sorting_is_by_time_and_then_by_line(told):
 
 def test_sorting_in_parts(tmp_path):
     from tilt_data.series import in_order
+
     draws = random.Random(5)
     readings = [(draws.randrange(50), line, "", "x", "1") for line in range(1000)]
     assert list(in_order(readings, str(tmp_path), 64)) == sorted(readings)
 
 
-@pytest.mark.parametrize("text, words, what", [
-    ("", ["--tick", "1s"], "raw.csv:1: the column 'time' is not in the header"),
-    ("time,temp\n", ["--tick", "1s", "--value", "hum"], "raw.csv:1: the column 'hum' is not in the header; there are: time, temp"),
-    ("when,temp\n", ["--tick", "1s"], "raw.csv:1: the column 'time' is not in the header; there are: when, temp"),
-    ("time;temp\n2026-03-01;1\n", ["--tick", "1s"], "are its fields parted by ';'? --delimiter ';'"),
-    ("time,temp\n2026-03-01,\"1,5\"\n", ["--tick", "1s"], "for a decimal comma: --decimal ,"),
-    ("time,time,temp\n", ["--tick", "1s"], "raw.csv:1: the column 'time' is more than once in the header"),
-    ("time\n", ["--tick", "1s"], "raw.csv:1: no column of values"),
-    ("time,temp\nyesterday,1\n", ["--tick", "1s"], "raw.csv:2: 'yesterday' is no time: ISO 8601 was expected"),
-    ("time,temp\n1772344805,1\n", ["--tick", "1s"], "for numbers since 1970 say --unit"),
-    ("time,temp\n2026-03-01,1,2\n", ["--tick", "1s"], "raw.csv:2: 2 fields were expected as in the header, not 3"),
-    ("time,temp\n2026-03-01,1\n", [], "how long is a tick?"),
-    ("time,temp\n2026-03-01,1\n", ["--tick", "1x"], "'1x' is no duration"),
-    ("time,temp\n2026-03-01,1\n", ["--tick", "1s", "--max-age", "1500ms"], "--max-age 1500ms is no whole number of ticks of 1s"),
-    ("time,temp\n2026-03-01,\"12", ["--tick", "1s"], "raw.csv:2: a record of CSV was expected: unexpected end of data"),
-    ("time,temp\n2026-03-01,1\n2026-03-02,\"2\n2026-03-03,3\n", ["--tick", "1s"], "raw.csv:3: a record of CSV was expected"),
-    ("time,temp\n2026-03-01,1\n", ["--tick", "1s", "--delimiter", "ab"], "--delimiter 'ab': one sign was expected, or \\t for a tab"),
-    ("time,temp\n2026-03-01,1\n", ["--tick", "1s", "--delimiter", ""], "--delimiter '': one sign was expected"),
-    ("time\ttemp\n2026-03-01\t1\n", ["--tick", "1s"], "are its fields parted by '\\t'? --delimiter '\\t'"),
-    ("time,temp,hum\n2026-03-01,1,2\n", ["--tick", "1s", "--max-age", "5s", "tmep=1min"],
-     "--max-age tmep=..: no series has this name; there are: hum, temp"),
-    ("time,temp,hum\n2026-03-01,1,2\n", ["--tick", "1s", "--scale", "tmep=10"], "--scale tmep=..: no series has this name; there are: hum, temp"),
-    ("time,temp,hum\n2026-03-01,1,2\n", ["--tick", "1s", "--scale", "tmep=auto", "--value", "temp"],
-     "--scale tmep=..: no series has this name; there are: temp"),
-    ("time,temp\n2026-03-01,1\n", ["--tick", "1s", "--scale", "0"], "--scale 0: a whole number above 0"),
-    ("time,temp\n2026-03-01,1\n", ["--tick", "1s", "--zone", "Zurich"], "'Zurich' is no time zone"),
-    ("time,temp\n2026-03-01,1\n", ["--tick", "1s", "--event", "--hold", "next"], "--event is a reading of one tick"),
-    ("time,temp\n2026-03-01,1\n2026-03-02,x\n", ["--tick", "1s"], "raw.csv:3: temp: 'x' is no number"),
-    ("time,temp\n2026-03-02,1\n2026-03-01,2\n", ["--tick", "1s"], "raw.csv:3: this reading of temp lies before that of line 2: --sort"),
-    ("time,temp\n2026-03-02,1\n", ["--like", "other.csv"], "other.csv: there is no other.json beside it"),
-])
+@pytest.mark.parametrize(
+    "text, words, what",
+    [
+        ("", ["--tick", "1s"], "raw.csv:1: the column 'time' is not in the header"),
+        ("time,temp\n", ["--tick", "1s", "--value", "hum"], "raw.csv:1: the column 'hum' is not in the header; there are: time, temp"),
+        ("when,temp\n", ["--tick", "1s"], "raw.csv:1: the column 'time' is not in the header; there are: when, temp"),
+        ("time;temp\n2026-03-01;1\n", ["--tick", "1s"], "are its fields parted by ';'? --delimiter ';'"),
+        ('time,temp\n2026-03-01,"1,5"\n', ["--tick", "1s"], "for a decimal comma: --decimal ,"),
+        ("time,time,temp\n", ["--tick", "1s"], "raw.csv:1: the column 'time' is more than once in the header"),
+        ("time\n", ["--tick", "1s"], "raw.csv:1: no column of values"),
+        ("time,temp\nyesterday,1\n", ["--tick", "1s"], "raw.csv:2: 'yesterday' is no time: ISO 8601 was expected"),
+        ("time,temp\n1772344805,1\n", ["--tick", "1s"], "for numbers since 1970 say --unit"),
+        ("time,temp\n2026-03-01,1,2\n", ["--tick", "1s"], "raw.csv:2: 2 fields were expected as in the header, not 3"),
+        ("time,temp\n2026-03-01,1\n", [], "how long is a tick?"),
+        ("time,temp\n2026-03-01,1\n", ["--tick", "1x"], "'1x' is no duration"),
+        ("time,temp\n2026-03-01,1\n", ["--tick", "1s", "--max-age", "1500ms"], "--max-age 1500ms is no whole number of ticks of 1s"),
+        ('time,temp\n2026-03-01,"12', ["--tick", "1s"], "raw.csv:2: a record of CSV was expected: unexpected end of data"),
+        ('time,temp\n2026-03-01,1\n2026-03-02,"2\n2026-03-03,3\n', ["--tick", "1s"], "raw.csv:3: a record of CSV was expected"),
+        ("time,temp\n2026-03-01,1\n", ["--tick", "1s", "--delimiter", "ab"], "--delimiter 'ab': one sign was expected, or \\t for a tab"),
+        ("time,temp\n2026-03-01,1\n", ["--tick", "1s", "--delimiter", ""], "--delimiter '': one sign was expected"),
+        ("time\ttemp\n2026-03-01\t1\n", ["--tick", "1s"], "are its fields parted by '\\t'? --delimiter '\\t'"),
+        (
+            "time,temp,hum\n2026-03-01,1,2\n",
+            ["--tick", "1s", "--max-age", "5s", "tmep=1min"],
+            "--max-age tmep=..: no series has this name; there are: hum, temp",
+        ),
+        (
+            "time,temp,hum\n2026-03-01,1,2\n",
+            ["--tick", "1s", "--scale", "tmep=10"],
+            "--scale tmep=..: no series has this name; there are: hum, temp",
+        ),
+        (
+            "time,temp,hum\n2026-03-01,1,2\n",
+            ["--tick", "1s", "--scale", "tmep=auto", "--value", "temp"],
+            "--scale tmep=..: no series has this name; there are: temp",
+        ),
+        ("time,temp\n2026-03-01,1\n", ["--tick", "1s", "--scale", "0"], "--scale 0: a whole number above 0"),
+        ("time,temp\n2026-03-01,1\n", ["--tick", "1s", "--zone", "Zurich"], "'Zurich' is no time zone"),
+        ("time,temp\n2026-03-01,1\n", ["--tick", "1s", "--event", "--hold", "next"], "--event is a reading of one tick"),
+        ("time,temp\n2026-03-01,1\n2026-03-02,x\n", ["--tick", "1s"], "raw.csv:3: temp: 'x' is no number"),
+        ("time,temp\n2026-03-02,1\n2026-03-01,2\n", ["--tick", "1s"], "raw.csv:3: this reading of temp lies before that of line 2: --sort"),
+        ("time,temp\n2026-03-02,1\n", ["--like", "other.csv"], "other.csv: there is no other.json beside it"),
+    ],
+)
 def test_what_is_refused(told, text, words, what):
     assert what in refused(told, text, *words)
 
@@ -585,11 +682,18 @@ def test_a_tab_may_be_written_by_two_signs(told, sign):
 
 def test_names_of_files_and_back():
     assert [safe(text) for text in ("a b", "Zürich", ".5", "..", "a.b", "%2E", "a/b")] == [
-        "a b", "Z%C3%BCrich", "%2E5", "%2E.", "a.b", "%252E", "a%2Fb"]
+        "a b",
+        "Z%C3%BCrich",
+        "%2E5",
+        "%2E.",
+        "a.b",
+        "%252E",
+        "a%2Fb",
+    ]
     draws = random.Random(11)
     seen = {}
     for _ in range(5000):
-        text = "".join(draws.choice("aZ09._-~ +,=@()%/\\:*?\"<>|\n\0äéΩ漢😀") for _ in range(draws.randrange(1, 8)))
+        text = "".join(draws.choice('aZ09._-~ +,=@()%/\\:*?"<>|\n\0äéΩ漢😀') for _ in range(draws.randrange(1, 8)))
         name = safe(text)
         assert urllib.parse.unquote(name) == text and seen.setdefault(name, text) == text
         assert name.isascii() and not set(name) & set("/\n\0") and not name.startswith(".")
@@ -627,7 +731,9 @@ def test_pandas_has_the_same_windows_of_events(told, tilt, closed):
     frame.to_csv("raw.csv", index=False)
     words = ("--time", "time", "--tick", "500ms", "--origin", "1970-01-01", "--event", "--closed", closed)
     assert told("series", "raw.csv", *words)[0] == 0
-    wanted = frame.set_index("time")["temp"].resample("10s", closed=closed, label="right").agg(["count", "sum", "min", "max", "first", "last"])
+    wanted = (
+        frame.set_index("time")["temp"].resample("10s", closed=closed, label="right").agg(["count", "sum", "min", "max", "first", "last"])
+    )
     for reducer in wanted.columns:
         out = run_program(tilt, f"input temp; emit {reducer}(temp[t-20:t]) over (-20, 1220] every 20;", "temp=temp.csv")
         got = {int(line.split(",")[1]): int(line.split(",")[2]) for line in expand(out, 20)}

@@ -33,10 +33,16 @@ def table(told, *words: str) -> list[list[str]]:
 def test_dates_and_decimals(told):
     put("x", "0,60,205\n60,61,\n3600,7200,-5\n")
     assert table(told, "x.csv") == [
-        ["start", "end", "value"], ["1970-01-01T00:00:00Z", "1970-01-01T00:01:00Z", "20.5"],
-        ["1970-01-01T00:01:00Z", "1970-01-01T00:01:01Z", ""], ["1970-01-01T01:00:00Z", "1970-01-01T02:00:00Z", "-0.5"]]
+        ["start", "end", "value"],
+        ["1970-01-01T00:00:00Z", "1970-01-01T00:01:00Z", "20.5"],
+        ["1970-01-01T00:01:00Z", "1970-01-01T00:01:01Z", ""],
+        ["1970-01-01T01:00:00Z", "1970-01-01T02:00:00Z", "-0.5"],
+    ]
     assert table(told, "x.csv", "--zone", "Europe/Zurich", "--scale", "1")[1] == [
-        "1970-01-01T01:00:00+01:00", "1970-01-01T01:01:00+01:00", "205"]
+        "1970-01-01T01:00:00+01:00",
+        "1970-01-01T01:01:00+01:00",
+        "205",
+    ]
 
 
 def test_an_output_is_like_a_series(told):
@@ -65,7 +71,10 @@ def test_episodes(told):
     rows = table(told, "alarm.csv", "--episodes", "--of", "temp.csv", "--scale", "temp=10")
     assert rows[0] == ["start", "end", "seconds", "temp_min", "temp_max", "temp_mean"]
     assert [row[2:] for row in rows[1:]] == [
-        ["20", "10.0", "20.0", "16.667"], ["10", "-0.7", "-0.7", "-0.700"], ["10", "0.3", "0.3", "0.300"]]
+        ["20", "10.0", "20.0", "16.667"],
+        ["10", "-0.7", "-0.7", "-0.700"],
+        ["10", "0.3", "0.3", "0.300"],
+    ]
     assert [row[2] for row in table(told, "alarm.csv", "--episodes", "--gap", "10s")[1:]] == ["40", "10"]
 
 
@@ -77,15 +86,24 @@ def test_episodes_of_keys(told):
     rows = table(told, "all.csv", "--like", "a/temp.csv", "--episodes", "--of", "temp={key}/temp.csv")
     assert rows[0][:4] == ["key", "start", "end", "seconds"]
     assert [[row[0], *row[3:]] for row in rows[1:]] == [
-        ["a", "20", "10.0", "20.0", "17.500"], ["b/", "1", "0.7", "0.7", "0.700"], ["b/", "1", "0.7", "0.7", "0.700"]]
+        ["a", "20", "10.0", "20.0", "17.500"],
+        ["b/", "1", "0.7", "0.7", "0.700"],
+        ["b/", "1", "0.7", "0.7", "0.700"],
+    ]
 
 
 def test_side_by_side(told):
     put("a", "0,10,1\n10,20,2\n30,40,3\n", scale=1)
     put("b", "5,15,7\n15,35,\n", scale=1)
     rows = [[row[0][14:19], row[1][14:19], *row[2:]] for row in table(told, "a.csv", "other=b.csv", "--wide")]
-    assert rows[1:] == [["00:00", "00:05", "1", ""], ["00:05", "00:10", "1", "7"], ["00:10", "00:15", "2", "7"], ["00:15", "00:20", "2", ""],
-                        ["00:30", "00:35", "3", ""], ["00:35", "00:40", "3", ""]]
+    assert rows[1:] == [
+        ["00:00", "00:05", "1", ""],
+        ["00:05", "00:10", "1", "7"],
+        ["00:10", "00:15", "2", "7"],
+        ["00:15", "00:20", "2", ""],
+        ["00:30", "00:35", "3", ""],
+        ["00:35", "00:40", "3", ""],
+    ]
 
 
 def test_side_by_side_is_what_each_is_at_each_tick(told):
@@ -110,12 +128,23 @@ def test_series_and_then_table_gives_the_readings_back(told, closed, kind):
     draws = random.Random(9)
     for tick, unit in ((10**9, 0), (10**6, 3), (1, 9)):
         moments = sorted({draws.randrange(10**6) for _ in range(300)})
-        scale = 10**draws.randrange(4)
-        values = [draws.choice([None, draws.randrange(-10**6, 10**6)]) for _ in moments]
+        scale = 10 ** draws.randrange(4)
+        values = [draws.choice([None, draws.randrange(-(10**6), 10**6)]) for _ in moments]
         texts = ["" if value is None else decimal_text(value, scale) for value in values]
         times = [moment_text(1772323200 * 10**9 + moment * tick, unit) for moment in moments]
         pathlib.Path("raw.csv").write_text("time,temp\n" + "".join(f"{time},{text}\n" for time, text in zip(times, texts)))
-        words = ["--time", "time", "--tick", f"{tick}ns", "--scale", str(scale), "--closed", closed, kind, *(["next"] if kind == "--hold" else [])]
+        words = [
+            "--time",
+            "time",
+            "--tick",
+            f"{tick}ns",
+            "--scale",
+            str(scale),
+            "--closed",
+            closed,
+            kind,
+            *(["next"] if kind == "--hold" else []),
+        ]
         assert told("series", "raw.csv", *words)[0] == 0
         rows = table(told, "temp.csv")[1:]
         at = 1 if closed == "right" and kind == "--event" else 0
@@ -168,8 +197,13 @@ def test_a_pipe_is_written_as_it_stands(told):
 
 def call(command: str, folder: pathlib.Path) -> subprocess.CompletedProcess[str]:
     environment = {**os.environ, "PYTHONPATH": str(PYTHON)}
-    return subprocess.run(["sh", "-c", command.replace("tilt-data", f"{sys.executable} -m tilt_data")], cwd=folder, env=environment,
-                          capture_output=True, text=True)
+    return subprocess.run(
+        ["sh", "-c", command.replace("tilt-data", f"{sys.executable} -m tilt_data")],
+        cwd=folder,
+        env=environment,
+        capture_output=True,
+        text=True,
+    )
 
 
 # No test names /dev/stdout or a device itself: a root that this fails for would lose it.
@@ -215,18 +249,30 @@ def test_a_scale_that_is_none(told, scale):
     assert told("table", "x.csv", f"--scale={scale}") == (1, "", wanted)
 
 
-@pytest.mark.parametrize("words, out", [
-    (["x.csv"], "x.csv"), (["x.csv"], "x.json"), (["x.csv"], "./x.csv"), (["x.csv"], "link"), (["y=y.csv", "x.csv", "--wide"], "x.csv"),
-    (["y.csv", "--like", "x.csv"], "x.csv"), (["y.csv", "--like", "x.csv"], "x.json"), (["y.csv", "--episodes", "--of", "x.csv"], "x.csv"),
-    (["all.csv", "--like", "y.csv", "--episodes", "--of", "x={key}.csv"], "x.csv"),
-])
+@pytest.mark.parametrize(
+    "words, out",
+    [
+        (["x.csv"], "x.csv"),
+        (["x.csv"], "x.json"),
+        (["x.csv"], "./x.csv"),
+        (["x.csv"], "link"),
+        (["y=y.csv", "x.csv", "--wide"], "x.csv"),
+        (["y.csv", "--like", "x.csv"], "x.csv"),
+        (["y.csv", "--like", "x.csv"], "x.json"),
+        (["y.csv", "--episodes", "--of", "x.csv"], "x.csv"),
+        (["all.csv", "--like", "y.csv", "--episodes", "--of", "x={key}.csv"], "x.csv"),
+    ],
+)
 def test_what_is_read_is_never_written_over(told, words, out):
     put("x", "0,5,7\n"), put("y", "0,9,1\n")
     pathlib.Path("all.csv").write_text("key,start,end,value\nx,0,9,1\n")
     os.symlink("x.csv", "link")
     before = {name: pathlib.Path(name).read_bytes() for name in os.listdir()}
     assert told("table", *words, "-o", out) == (
-        1, "", f"tilt-data: {out}: it is a file that is read, and would be written over: name another file by --out\n")
+        1,
+        "",
+        f"tilt-data: {out}: it is a file that is read, and would be written over: name another file by --out\n",
+    )
     assert {name: pathlib.Path(name).read_bytes() for name in os.listdir()} == before
 
 
@@ -236,17 +282,20 @@ def test_notes_with_a_scale_that_is_none(told, scale):
     assert told("table", "x.csv")[2] == "tilt-data: x.json: the JSON that `tilt-data series` writes was expected: a scale above 0\n"
 
 
-@pytest.mark.parametrize("text, what", [
-    ("start,end,value\n0,5,7\n5,6,\"8", "x.csv:3: a record of CSV was expected: unexpected end of data"),
-    ("a,b\n", "x.csv:1: the header start,end,value or key,start,end,value was expected"),
-    ("start,end,value\n0,5,7.5\n", "x.csv:2: a row start,end,value of whole numbers was expected, not 0,5,7.5"),
-    ("start,end,value\n0,5\n", "x.csv:2: 3 fields were expected as in the header, not 2"),
-    ("start,end,value\n0,5,7,8\n", "x.csv:2: 3 fields were expected as in the header, not 4"),
-    ("start,end,value\n9,5,1\n", "x.csv:2: rows in order were expected, each with its start below its end"),
-    ("start,end,value\n0,5,7\n4,9,1\n", "x.csv:3: rows in order were expected, each with its start below its end"),
-    ("key,start,end,value\na,0,5,7\nb,0,5,7\nb,4,9,1\n", "x.csv:4: rows in order were expected, each with its start below its end"),
-    ("key,start,end,value\n0,5,7\n", "x.csv:2: 4 fields were expected as in the header, not 3"),
-])
+@pytest.mark.parametrize(
+    "text, what",
+    [
+        ('start,end,value\n0,5,7\n5,6,"8', "x.csv:3: a record of CSV was expected: unexpected end of data"),
+        ("a,b\n", "x.csv:1: the header start,end,value or key,start,end,value was expected"),
+        ("start,end,value\n0,5,7.5\n", "x.csv:2: a row start,end,value of whole numbers was expected, not 0,5,7.5"),
+        ("start,end,value\n0,5\n", "x.csv:2: 3 fields were expected as in the header, not 2"),
+        ("start,end,value\n0,5,7,8\n", "x.csv:2: 3 fields were expected as in the header, not 4"),
+        ("start,end,value\n9,5,1\n", "x.csv:2: rows in order were expected, each with its start below its end"),
+        ("start,end,value\n0,5,7\n4,9,1\n", "x.csv:3: rows in order were expected, each with its start below its end"),
+        ("key,start,end,value\na,0,5,7\nb,0,5,7\nb,4,9,1\n", "x.csv:4: rows in order were expected, each with its start below its end"),
+        ("key,start,end,value\n0,5,7\n", "x.csv:2: 4 fields were expected as in the header, not 3"),
+    ],
+)
 def test_bad_files(told, text, what):
     put("x", "")
     pathlib.Path("x.csv").write_text(text)

@@ -29,8 +29,23 @@ def test_each_tick(told):
 
 
 def test_hours_in_a_zone(told):
-    rows = made(told, "hours", "--from", "2026-03-05", "--to", "2026-03-11", "--open", "09:30", "--close", "16:00", "--zone", "America/New_York",
-                "--closed-on", "2026-03-06", tick=60 * 10**9)
+    rows = made(
+        told,
+        "hours",
+        "--from",
+        "2026-03-05",
+        "--to",
+        "2026-03-11",
+        "--open",
+        "09:30",
+        "--close",
+        "16:00",
+        "--zone",
+        "America/New_York",
+        "--closed-on",
+        "2026-03-06",
+        tick=60 * 10**9,
+    )
     new_york = zoneinfo.ZoneInfo("America/New_York")
     origin = datetime.datetime(2026, 3, 1, tzinfo=datetime.timezone.utc)
     wanted = []
@@ -44,8 +59,26 @@ def test_hours_in_a_zone(told):
 
 def test_hours_of_a_day_that_the_zone_left_out(told, tilt):
     """Samoa had no 30 December 2011: it went from UTC-10 to UTC+14."""
-    rows = made(told, "hours", "--from", "2011-12-28", "--to", "2012-01-01", "--open", "09:30", "--close", "16:00", "--zone", "Pacific/Apia",
-                "--days", "mon-fri", "--days", "sat", tick=60 * 10**9, origin="2011-12-28")
+    rows = made(
+        told,
+        "hours",
+        "--from",
+        "2011-12-28",
+        "--to",
+        "2012-01-01",
+        "--open",
+        "09:30",
+        "--close",
+        "16:00",
+        "--zone",
+        "Pacific/Apia",
+        "--days",
+        "mon-fri",
+        "--days",
+        "sat",
+        tick=60 * 10**9,
+        origin="2011-12-28",
+    )
     # In UTC: 19:30 of the same day on the 28th and the 29th, and 19:30 of the day before on the 31st.
     days = [(0, 28), (1, 29), (2, 31)]
     assert rows == [(day * 1440 + 1170, day * 1440 + 1560, 1) for day, _ in days]
@@ -59,7 +92,9 @@ def test_days_that_are_given_again_add_to_the_first(told):
 
 
 def test_weekdays_in_a_zone(told):
-    rows = made(told, "weekdays", "--from", "2026-03-28", "--to", "2026-03-31", "--zone", "Europe/Zurich", tick=3600 * 10**9, origin="2026-03-28")
+    rows = made(
+        told, "weekdays", "--from", "2026-03-28", "--to", "2026-03-31", "--zone", "Europe/Zurich", tick=3600 * 10**9, origin="2026-03-28"
+    )
     # Zurich's midnight is 23:00 in UTC and, after the clock went forward, 22:00; Sunday has 23 hours.
     assert rows == [(-1, 23, 6), (23, 46, 7), (46, 70, 1)]
 
@@ -76,25 +111,49 @@ def test_an_average_weighted_by_time(told, tilt):
     assert [line.split(",")[2] for line in out.splitlines()[1:]] == ["0", "1", "2", "3", "4", "0", "1", "2"]
 
 
-@pytest.mark.parametrize("words, what", [
-    (["periods", "out.csv", "--like", "x.csv", "--from", "0", "--to", "9"], "how long is a period?"),
-    (["hours", "out.csv", "--like", "x.csv", "--from", "0", "--to", "9"], "when is it open?"),
-    (["hours", "out.csv", "--like", "x.csv", "--from", "0", "--to", "9", "--open", "9:30", "--close", "16:00"], "'9:30' is no time of day"),
-    (["each", "out.csv", "--like", "x.csv", "--from", "9", "--to", "9"], "has no tick"),
-    (["each", "out.csv", "--like", "y.csv", "--from", "0", "--to", "9"], "there is no y.json beside it"),
-    (["each", "out.csv", "--like", "x.csv", "--from", "morning", "--to", "9"], "--from: 'morning' is no time"),
-    (["each", "out.csv", "--like", "x.csv", "--from", "0", "--to", "9" * 5000], ": a tick from -4000000000000000000 to 4000000000000000000 was"),
-    (["each", "out.csv", "--like", "x.csv", "--from", "0", "--to", "4000000000000000001"], "--to 4000000000000000001: a tick from -4000000000"),
-    (["each", "out.csv", "--like", "x.csv", "--from", "-4000000000000000001", "--to", "0"], "--from -4000000000000000001: a tick from -4000000"),
-    (["each", "out.csv", "--like", "x.csv", "--from", "\u0663", "--to", "9"], "--from: '\u0663' is no time"),
-    (["weekdays", "out.csv", "--like", "x.csv", "--from", "0001-01-01", "--to", "0001-01-10"],
-     "from 0001-01-01 to 0001-01-10: days from 0001-01-03 to 9999-12-28 were expected: take a nearer --from or --to"),
-    (["weekdays", "out.csv", "--like", "x.csv", "--from", "9999-12-20", "--to", "9999-12-31"],
-     "from 9999-12-20 to 9999-12-31: days from 0001-01-03 to 9999-12-28 were expected: take a nearer --from or --to"),
-    (["weekdays", "out.csv", "--like", "x.csv", "--from", "-99999999999", "--to", "0"],
-     "outside of the years 1 to 9999: take a nearer --from or --to"),
-    (["hours", "out.csv", "--like", "x.csv", "--from", "0", "--to", "9", "--open", "0\uff19:30", "--close", "16:00"], "is no time of day"),
-])
+@pytest.mark.parametrize(
+    "words, what",
+    [
+        (["periods", "out.csv", "--like", "x.csv", "--from", "0", "--to", "9"], "how long is a period?"),
+        (["hours", "out.csv", "--like", "x.csv", "--from", "0", "--to", "9"], "when is it open?"),
+        (
+            ["hours", "out.csv", "--like", "x.csv", "--from", "0", "--to", "9", "--open", "9:30", "--close", "16:00"],
+            "'9:30' is no time of day",
+        ),
+        (["each", "out.csv", "--like", "x.csv", "--from", "9", "--to", "9"], "has no tick"),
+        (["each", "out.csv", "--like", "y.csv", "--from", "0", "--to", "9"], "there is no y.json beside it"),
+        (["each", "out.csv", "--like", "x.csv", "--from", "morning", "--to", "9"], "--from: 'morning' is no time"),
+        (
+            ["each", "out.csv", "--like", "x.csv", "--from", "0", "--to", "9" * 5000],
+            ": a tick from -4000000000000000000 to 4000000000000000000 was",
+        ),
+        (
+            ["each", "out.csv", "--like", "x.csv", "--from", "0", "--to", "4000000000000000001"],
+            "--to 4000000000000000001: a tick from -4000000000",
+        ),
+        (
+            ["each", "out.csv", "--like", "x.csv", "--from", "-4000000000000000001", "--to", "0"],
+            "--from -4000000000000000001: a tick from -4000000",
+        ),
+        (["each", "out.csv", "--like", "x.csv", "--from", "\u0663", "--to", "9"], "--from: '\u0663' is no time"),
+        (
+            ["weekdays", "out.csv", "--like", "x.csv", "--from", "0001-01-01", "--to", "0001-01-10"],
+            "from 0001-01-01 to 0001-01-10: days from 0001-01-03 to 9999-12-28 were expected: take a nearer --from or --to",
+        ),
+        (
+            ["weekdays", "out.csv", "--like", "x.csv", "--from", "9999-12-20", "--to", "9999-12-31"],
+            "from 9999-12-20 to 9999-12-31: days from 0001-01-03 to 9999-12-28 were expected: take a nearer --from or --to",
+        ),
+        (
+            ["weekdays", "out.csv", "--like", "x.csv", "--from", "-99999999999", "--to", "0"],
+            "outside of the years 1 to 9999: take a nearer --from or --to",
+        ),
+        (
+            ["hours", "out.csv", "--like", "x.csv", "--from", "0", "--to", "9", "--open", "0\uff19:30", "--close", "16:00"],
+            "is no time of day",
+        ),
+    ],
+)
 def test_what_is_refused(told, words, what):
     pathlib.Path("x.json").write_text(Notes(Clock(10**9, 0)).text())
     status, out, err = told("ticks", *words)

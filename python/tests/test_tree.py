@@ -111,7 +111,7 @@ def tree(tmp_path: pathlib.Path, capsys: pytest.CaptureFixture[str]) -> Tree:
 
 
 def check_listed(top: str, tally: Tally) -> None:
-    listed.check_listed(top, tally, cited={})
+    listed.check_listed(top, tally, unnamed={})
 
 
 @pytest.mark.parametrize("check", [architecture.check_map, edits.check_edits, check_listed, lines.check_lines])
@@ -257,14 +257,14 @@ def test_a_list_of_crates_that_isnt_what_they_name(tree, name, old, new, faults)
 
 def test_an_exception_of_the_list_is_taken_while_it_is_needed(tree):
     def check(top: str, tally: Tally) -> None:
-        listed.check_listed(top, tally, cited={"tilt_core": {"tilt_base": "another"}})
+        listed.check_listed(top, tally, unnamed={"tilt_core": {"tilt_base": "another"}})
 
     place = "crates.txt:3: tilt_core"
-    assert tree.faults(check) == [f"{place} needs no exception for tilt_base (CITED in tools/check/tree/listed.py)"]
+    assert tree.faults(check) == [f"{place} needs no exception for tilt_base (UNNAMED in tools/check/tree/listed.py)"]
     tree.write("crates/tilt_core/proofs/Core.antt", "")
     assert tree.faults(check) == []
     tree.replace("crates.txt", "tilt_core: tilt_base ", "tilt_core: ")
-    assert tree.faults(check) == [f"{place} needs no exception for tilt_base (CITED in tools/check/tree/listed.py)"]
+    assert tree.faults(check) == [f"{place} needs no exception for tilt_base (UNNAMED in tools/check/tree/listed.py)"]
 
 
 @pytest.mark.parametrize(

@@ -30,9 +30,14 @@ def seconds(length: datetime.timedelta) -> Fraction:
 
 
 LENGTHS = {
-    "ns": Fraction(1, 10**9), "us": seconds(datetime.timedelta(microseconds=1)), "ms": seconds(datetime.timedelta(milliseconds=1)),
-    "s": seconds(datetime.timedelta(seconds=1)), "min": seconds(datetime.timedelta(minutes=1)), "m": seconds(datetime.timedelta(minutes=1)),
-    "h": seconds(datetime.timedelta(hours=1)), "d": seconds(datetime.timedelta(days=1)),
+    "ns": Fraction(1, 10**9),
+    "us": seconds(datetime.timedelta(microseconds=1)),
+    "ms": seconds(datetime.timedelta(milliseconds=1)),
+    "s": seconds(datetime.timedelta(seconds=1)),
+    "min": seconds(datetime.timedelta(minutes=1)),
+    "m": seconds(datetime.timedelta(minutes=1)),
+    "h": seconds(datetime.timedelta(hours=1)),
+    "d": seconds(datetime.timedelta(days=1)),
 }
 UNITS = ["s", "ms", "us", "ns"]
 LIMIT = 4 * 10**18
@@ -54,11 +59,20 @@ def test_the_length_of_a_unit(unit):
         assert duration_of(duration_text(duration_of(f"{number}{unit}"))) == duration_of(f"{number}{unit}")
 
 
-@pytest.mark.parametrize("length, text", [
-    (datetime.timedelta(days=2), "2d"), (datetime.timedelta(hours=36), "36h"), (datetime.timedelta(minutes=90), "90min"),
-    (datetime.timedelta(seconds=61), "61s"), (datetime.timedelta(seconds=3601), "3601s"), (datetime.timedelta(seconds=86401), "86401s"),
-    (datetime.timedelta(milliseconds=1500), "1500ms"), (datetime.timedelta(microseconds=1001), "1001us"),
-    (datetime.timedelta(microseconds=10), "10us")])
+@pytest.mark.parametrize(
+    "length, text",
+    [
+        (datetime.timedelta(days=2), "2d"),
+        (datetime.timedelta(hours=36), "36h"),
+        (datetime.timedelta(minutes=90), "90min"),
+        (datetime.timedelta(seconds=61), "61s"),
+        (datetime.timedelta(seconds=3601), "3601s"),
+        (datetime.timedelta(seconds=86401), "86401s"),
+        (datetime.timedelta(milliseconds=1500), "1500ms"),
+        (datetime.timedelta(microseconds=1001), "1001us"),
+        (datetime.timedelta(microseconds=10), "10us"),
+    ],
+)
 def test_the_shortest_text_of_a_length(length, text):
     assert duration_text(int(seconds(length) * 10**9)) == text
     assert duration_text(int(seconds(length) * 10**9) + 1) == f"{int(seconds(length) * 10**9) + 1}ns"
@@ -92,9 +106,21 @@ def test_how_long_a_reading_holds_by_each_unit(told, unit):
     assert rows_in("x.csv") == [(0, 5 * LENGTHS[unit] / LENGTHS["ns"], 1)]
 
 
-@pytest.mark.parametrize("tick, text", [
-    ("1000ns", "1us"), ("1000us", "1ms"), ("1000ms", "1s"), ("60s", "1min"), ("60m", "1h"), ("3600000ms", "1h"), ("24h", "1d"), ("86401s", "86401s"),
-    ("61s", "61s"), ("7d", "7d")])
+@pytest.mark.parametrize(
+    "tick, text",
+    [
+        ("1000ns", "1us"),
+        ("1000us", "1ms"),
+        ("1000ms", "1s"),
+        ("60s", "1min"),
+        ("60m", "1h"),
+        ("3600000ms", "1h"),
+        ("24h", "1d"),
+        ("86401s", "86401s"),
+        ("61s", "61s"),
+        ("7d", "7d"),
+    ],
+)
 def test_the_tick_that_is_written(told, tick, text):
     pathlib.Path("raw.csv").write_text("time,x\n1970-01-01T00:00:00,1\n")
     assert told("series", "raw.csv", "--time", "time", "--tick", tick)[0] == 0
@@ -150,8 +176,13 @@ def test_texts_that_mean_no_value_have_no_digits(told, words):
 def test_a_byte_that_is_no_text_in_a_pipe(tmp_path, scale):
     """The name of the copy of a pipe is nothing that the caller knows."""
     raw = b"time,x\n2026-03-01,1\n2026-03-02,\xff\n"
-    done = subprocess.run([sys.executable, "-m", "tilt_data", "series", "-", "--time", "time", "--tick", "1d", *scale], input=raw, cwd=tmp_path,
-                          env={**os.environ, "PYTHONPATH": str(PYTHON)}, capture_output=True)
+    done = subprocess.run(
+        [sys.executable, "-m", "tilt_data", "series", "-", "--time", "time", "--tick", "1d", *scale],
+        input=raw,
+        cwd=tmp_path,
+        env={**os.environ, "PYTHONPATH": str(PYTHON)},
+        capture_output=True,
+    )
     err = done.stderr.decode()
     assert done.returncode == 1 and err.count("\n") == 1 and "a text in UTF-8 was expected" in err and os.listdir(tmp_path) == []
     assert "spooled" not in err and "/tmp" not in err
@@ -191,8 +222,13 @@ def test_options_of_episodes_without_episodes(told, words):
 @pytest.mark.parametrize("scale", ["0", "x=0", "00"])
 def test_a_table_isn_t_divided_by_0(told, scale):
     put("x", "0,5,10\n")
-    done = subprocess.run([sys.executable, "-m", "tilt_data", "table", "x.csv", "--scale", scale], env={**os.environ, "PYTHONPATH": str(PYTHON)},
-                          text=True, capture_output=True, timeout=60)
+    done = subprocess.run(
+        [sys.executable, "-m", "tilt_data", "table", "x.csv", "--scale", scale],
+        env={**os.environ, "PYTHONPATH": str(PYTHON)},
+        text=True,
+        capture_output=True,
+        timeout=60,
+    )
     assert (done.returncode, done.stdout) == (1, "") and done.stderr.startswith("tilt-data: --scale") and "above 0" in done.stderr
 
 
@@ -207,7 +243,11 @@ def test_the_first_key_that_is_rejected_ends_the_call(told, tilt):
         pathlib.Path(f"data/k{key}/x.csv").write_text(f"start,end,value\n{row}\n")
     status, out, err = told("by", "q", "x=data/{key}/x.csv", "--jobs", "1")
     assert (status, out) == (1, "key,start,end,value\nk0,0,5,0\nk1,0,5,1\n")
-    assert err.startswith("k2: tilt: 14 series x: ") and "the key k2 " in err.splitlines()[-1] and err.splitlines()[-1].endswith(" prints the others")
+    assert (
+        err.startswith("k2: tilt: 14 series x: ")
+        and "the key k2 " in err.splitlines()[-1]
+        and err.splitlines()[-1].endswith(" prints the others")
+    )
     assert "k4" not in err
     status, out, err = told("by", "q", "x=data/{key}/x.csv", "--jobs", "1", "--keep-going")
     assert status == 1 and [line[:2] for line in out.splitlines()[1:]] == ["k0", "k1", "k3", "k5"] and "k2: " in err and "k4: " in err
@@ -219,6 +259,7 @@ def test_the_first_key_that_is_rejected_ends_the_call(told, tilt):
 def test_scales_and_times_and_intervals_from_python(tilt, monkeypatch):
     pandas = pytest.importorskip("pandas")
     from tilt_data import Refused, run
+
     monkeypatch.setenv("TILT", tilt)
     query = "input x; emit x over (0, 10];"
     readings = pandas.Series([1.0, 2.0], pandas.to_datetime(["2026-03-01", "2026-03-01 00:00:01"]))

@@ -52,8 +52,12 @@ class Versioned(Checkout):
             (self.folder / "path" / "git").unlink(missing_ok=True)
             (self.folder / "path" / "git").symlink_to(found)
         words = [sys.executable, "-m", "tilt_data", "--version"]
-        environment = {"PATH": str(self.folder / "path"), "PYTHONPATH": str(self.folder / "python"), "PYTHONDONTWRITEBYTECODE": "1",
-                       **environment}
+        environment = {
+            "PATH": str(self.folder / "path"),
+            "PYTHONPATH": str(self.folder / "python"),
+            "PYTHONDONTWRITEBYTECODE": "1",
+            **environment,
+        }
         return fields(subprocess.run(words, cwd="/", env=environment, check=True, capture_output=True, text=True).stdout)
 
 
@@ -96,7 +100,9 @@ def test_a_release_has_the_version(checkout: Versioned) -> None:
     (checkout.folder / "path" / "rt").chmod(0o755)
     for name in ("chmod", "cp", "mv"):
         (checkout.folder / "path" / name).symlink_to(f"/bin/{name}")
-    subprocess.run([checkout.folder / "tools/package/release"], env={"PATH": str(checkout.folder / "path")}, check=True, capture_output=True)
+    subprocess.run(
+        [checkout.folder / "tools/package/release"], env={"PATH": str(checkout.folder / "path")}, check=True, capture_output=True
+    )
     release = tomllib.loads((checkout.folder / "release/release.toml").read_text())
     assert release["version"] == VERSION and release["program"] == sha256(checkout.folder / "release/tilt")
 
@@ -123,8 +129,12 @@ def test_toolchain_of_a_program_built_here_is_that_of_rt(checkout: Versioned) ->
     assert checkout.printed()["toolchain"] == "unknown"
     (checkout.folder / "path" / "rt").write_text("#!/bin/sh\necho rattle-kit-1 logic 1\n")
     (checkout.folder / "path" / "rt").chmod(0o755)
-    assert checkout.printed() == {"commit": checkout.git("rev-parse", "HEAD"), "toolchain": "rattle-kit-1 logic 1", "program": str(built),
-                                  "sha256": sha256(built)}
+    assert checkout.printed() == {
+        "commit": checkout.git("rev-parse", "HEAD"),
+        "toolchain": "rattle-kit-1 logic 1",
+        "program": str(built),
+        "sha256": sha256(built),
+    }
     # One that is the release byte for byte was built by the release's toolchain.
     shutil.copy(checkout.folder / "release/tilt", built)
     assert checkout.printed()["toolchain"] == TOOLCHAIN
@@ -220,8 +230,8 @@ def texts_in(png: bytes) -> dict[str, str]:
     """The texts of a PNG by their keywords: the chunks tEXt, zTXt and iTXt of its format."""
     found, at = {}, 8
     while at < len(png):
-        length, kind = struct.unpack(">I4s", png[at:at + 8])
-        data = png[at + 8:at + 8 + length]
+        length, kind = struct.unpack(">I4s", png[at : at + 8])
+        data = png[at + 8 : at + 8 + length]
         keyword, _, text = data.partition(b"\0")
         if kind == b"tEXt":
             found[keyword.decode()] = text.decode("latin-1")

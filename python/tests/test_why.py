@@ -36,46 +36,52 @@ def marked(text: str) -> tuple[str, str]:
     """The line that is told of a text, and what is marked of it."""
     fault = fault_of(text.encode())
     assert fault is not None
-    return fault.line, text.encode()[fault.begin:fault.end].decode()
+    return fault.line, text.encode()[fault.begin : fault.end].decode()
 
 
-@pytest.mark.parametrize("text, line, mark", [
-    ("input x; emit x < 1 < 2 over (0, 5];", "24 statement 2: syntax", "<"),
-    ("input x; emit x over (0, 10);", "24 statement 2: syntax", ")"),
-    ("input x\nemit x over (0, 10];", "24 statement 1: syntax", "emit"),
-    ("input x; emit x & 1 over (0, 10];", "20 bad byte at 16", "&"),
-    ("input é; emit 1 over (0, 10];", "20 bad byte at 6", "é"),
-    ("emit 9223372036854775808 over (0, 10];", "21 big number at 5", "9223372036854775808"),
-    ("input x; let y = x;", "25 statement 2: place of emit", "let"),
-    ("input x; let x = 1; emit x over (0, 10];", "26 statement 2: name taken", "x"),
-    ("input x; emit y over (0, 10];", "27 statement 2: unknown name", "y"),
-    ("input x; emit 1 when x + 1 over (0, 10];", "28 statement 2: type mismatch", "x + 1"),
-    ("input x; emit (x > 1) over (0, 10];", "28 statement 2: type mismatch", "(x > 1)"),
-    ("input x; emit any(x[t-3:t]) over (0, 10];", "28 statement 2: type mismatch", "x"),
-    ("input x; emit sum(x[t:t-3]) over (0, 10];", "29 statement 2: bad window", "sum(x[t:t-3])"),
-    ("input x; emit x over (0, 10] every 4;", "30 statement 2: bad domain", "10"),
-    ("input x; emit x over (-7, -9];", "30 statement 2: bad domain", "-9"),
-    ("input x; emit x[t-1000000000001] over (0, 10];", "31 too far: back 1000000000001 ahead 0", "x[t-1000000000001]"),
-])
+@pytest.mark.parametrize(
+    "text, line, mark",
+    [
+        ("input x; emit x < 1 < 2 over (0, 5];", "24 statement 2: syntax", "<"),
+        ("input x; emit x over (0, 10);", "24 statement 2: syntax", ")"),
+        ("input x\nemit x over (0, 10];", "24 statement 1: syntax", "emit"),
+        ("input x; emit x & 1 over (0, 10];", "20 bad byte at 16", "&"),
+        ("input é; emit 1 over (0, 10];", "20 bad byte at 6", "é"),
+        ("emit 9223372036854775808 over (0, 10];", "21 big number at 5", "9223372036854775808"),
+        ("input x; let y = x;", "25 statement 2: place of emit", "let"),
+        ("input x; let x = 1; emit x over (0, 10];", "26 statement 2: name taken", "x"),
+        ("input x; emit y over (0, 10];", "27 statement 2: unknown name", "y"),
+        ("input x; emit 1 when x + 1 over (0, 10];", "28 statement 2: type mismatch", "x + 1"),
+        ("input x; emit (x > 1) over (0, 10];", "28 statement 2: type mismatch", "(x > 1)"),
+        ("input x; emit any(x[t-3:t]) over (0, 10];", "28 statement 2: type mismatch", "x"),
+        ("input x; emit sum(x[t:t-3]) over (0, 10];", "29 statement 2: bad window", "sum(x[t:t-3])"),
+        ("input x; emit x over (0, 10] every 4;", "30 statement 2: bad domain", "10"),
+        ("input x; emit x over (-7, -9];", "30 statement 2: bad domain", "-9"),
+        ("input x; emit x[t-1000000000001] over (0, 10];", "31 too far: back 1000000000001 ahead 0", "x[t-1000000000001]"),
+    ],
+)
 def test_what_is_marked(text, line, mark):
     assert marked(text) == (line, mark)
 
 
-@pytest.mark.parametrize("text, cure", [
-    ("input x; emit 1 < x < 9 over (0, 5];", "a < x and x < b"),
-    ("input x; emit x[-2] over (0, 5];", "x[t-2]"),
-    ("input x; emit avg(x) over (0, 5];", "avg(x[t-10:t])"),
-    ("input x; emit avg(x + 1) over (0, 5];", "by `let`"),
-    ("input count; emit 1 over (0, 5];", "reserved word"),
-    ("input x; emit x * 1.5 over (0, 5];", "scale values"),
-    ("input x; emit X OVER (0, 5];", "small letters: over"),
-    ("input temperature; emit temprature over (0, 5];", "did you mean `temperature`?"),
-    ("input x; emit x every 5 over (0, 5];", "`over` comes before `every`"),
-    ("# a comment\ninput x; emit x over (0, 5];", "sed"),
-    ("input x; emit 1 when x = 1 over (0, 5];", "`==`"),
-    ("input x; emit stddev(x[t-5:t]) over (0, 5];", "the reducers are sum"),
-    ("input x; emit x[t-5s] over (0, 5];", "no units"),
-])
+@pytest.mark.parametrize(
+    "text, cure",
+    [
+        ("input x; emit 1 < x < 9 over (0, 5];", "a < x and x < b"),
+        ("input x; emit x[-2] over (0, 5];", "x[t-2]"),
+        ("input x; emit avg(x) over (0, 5];", "avg(x[t-10:t])"),
+        ("input x; emit avg(x + 1) over (0, 5];", "by `let`"),
+        ("input count; emit 1 over (0, 5];", "reserved word"),
+        ("input x; emit x * 1.5 over (0, 5];", "scale values"),
+        ("input x; emit X OVER (0, 5];", "small letters: over"),
+        ("input temperature; emit temprature over (0, 5];", "did you mean `temperature`?"),
+        ("input x; emit x every 5 over (0, 5];", "`over` comes before `every`"),
+        ("# a comment\ninput x; emit x over (0, 5];", "sed"),
+        ("input x; emit 1 when x = 1 over (0, 5];", "`==`"),
+        ("input x; emit stddev(x[t-5:t]) over (0, 5];", "the reducers are sum"),
+        ("input x; emit x[t-5s] over (0, 5];", "no units"),
+    ],
+)
 def test_cures(text, cure):
     fault = fault_of(text.encode())
     assert fault is not None and cure in fault.cure, fault
@@ -134,23 +140,57 @@ def test_2000_random_texts(tilt, tmp_path):
 
 
 def test_long_texts(tilt, tmp_path):
-    texts = [b"let a = 1;" * 256 + b"emit 1 over (0, 1];", b"let a = 1;" * 257, b"emit 1" + b" + 1" * 125 + b" over (0, 1];",
-             b"emit 1" + b" + 1" * 124 + b" over (0, 1];", b"emit " + b"(" * 120 + b"1" + b")" * 120 + b" over (0, 1];",
-             b"emit " + b"(" * 124 + b"1" + b")" * 124 + b" over (0, 1];", b"emit " + b"-" * 247 + b"1 over (0, 1];", b"", b" \n", b";", b";;"]
+    texts = [
+        b"let a = 1;" * 256 + b"emit 1 over (0, 1];",
+        b"let a = 1;" * 257,
+        b"emit 1" + b" + 1" * 125 + b" over (0, 1];",
+        b"emit 1" + b" + 1" * 124 + b" over (0, 1];",
+        b"emit " + b"(" * 120 + b"1" + b")" * 120 + b" over (0, 1];",
+        b"emit " + b"(" * 124 + b"1" + b")" * 124 + b" over (0, 1];",
+        b"emit " + b"-" * 247 + b"1 over (0, 1];",
+        b"",
+        b" \n",
+        b";",
+        b";;",
+    ]
     compare(tilt, texts, tmp_path)
 
 
-@pytest.mark.parametrize("words", [
-    ["q", "x=x"], ["q", "x=x", "--plain"], ["q", "x=x", "--cut", "3,7"], ["q"], [], ["q", "x=x", "x=x"], ["q", "y=x"], ["nowhere", "x=x"],
-    ["q", "x=nowhere"], ["q", "x=x", "--save", "state"], ["wrong", "x=x"], ["q", "x=unsorted"], ["q", "x=headless"], ["q", "x=decimal"],
-    ["--plain", "q", "x=x"], ["q", "x=x", "--help"]])
+@pytest.mark.parametrize(
+    "words",
+    [
+        ["q", "x=x"],
+        ["q", "x=x", "--plain"],
+        ["q", "x=x", "--cut", "3,7"],
+        ["q"],
+        [],
+        ["q", "x=x", "x=x"],
+        ["q", "y=x"],
+        ["nowhere", "x=x"],
+        ["q", "x=nowhere"],
+        ["q", "x=x", "--save", "state"],
+        ["wrong", "x=x"],
+        ["q", "x=unsorted"],
+        ["q", "x=headless"],
+        ["q", "x=decimal"],
+        ["--plain", "q", "x=x"],
+        ["q", "x=x", "--help"],
+    ],
+)
 def test_run_has_the_programs_bytes_and_status(tilt, tmp_path, monkeypatch, words):
     monkeypatch.chdir(tmp_path)
-    put(q=QUERY, x=ROWS, wrong="input x; emit y over (0, 10];", unsorted="start,end,value\n0,5,7\n\n4,8,9\n", headless="0,5,7\n",
-        decimal="start,end,value\n0,5,7.5\n")
+    put(
+        q=QUERY,
+        x=ROWS,
+        wrong="input x; emit y over (0, 10];",
+        unsorted="start,end,value\n0,5,7\n\n4,8,9\n",
+        headless="0,5,7\n",
+        decimal="start,end,value\n0,5,7.5\n",
+    )
     plain = subprocess.run([tilt, "run", *words], capture_output=True, cwd=tmp_path)
-    ours = subprocess.run([sys.executable, "-m", "tilt_data", "run", *words], capture_output=True, cwd=tmp_path,
-                          env={"PYTHONPATH": str(PYTHON), "TILT": tilt})
+    ours = subprocess.run(
+        [sys.executable, "-m", "tilt_data", "run", *words], capture_output=True, cwd=tmp_path, env={"PYTHONPATH": str(PYTHON), "TILT": tilt}
+    )
     assert (ours.returncode, ours.stdout) == (plain.returncode, plain.stdout)
     assert ours.stderr.startswith(plain.stderr)
     if words in (["q", "x=x"], ["q", "x=x", "--plain"], ["q", "x=x", "--cut", "3,7"]):
@@ -165,22 +205,35 @@ def test_run_reads_the_descriptors_of_a_shell(tilt, tmp_path):
     assert (done.returncode, done.stdout, done.stderr) == (0, ROWS, "")
 
 
-@pytest.mark.parametrize("words, what", [
-    (["wrong", "x=x"], "wrong:1:15: no statement before it declares `y`\n    input x; emit y over (0, 10];\n                  ^\n"),
-    (["q", "x=unsorted"], "unsorted:4: out of order in row 2\n    4,8,9\n    a start at the end of the row before or later was expected: sort the rows, "
-     "and let none overlap; the row before is 0,5,7\n"),
-    (["q", "x=decimal"], "decimal:2: bad field 3 in row 1\n    0,5,7.5\n"),
-    (["q", "x=headless"], "headless:1: bad header\n    0,5,7\n"),
-    (["q", "y=x"], "q: the query has no input y\n"),
-    (["q"], "q: the input x is bound to no file\n    add x=FILE\n"),
-    (["q", "x=x", "x=x"], "q: x is bound more than once\n"),
-    (["q", "x=unsortd"], "unsortd: No such file or directory\n    did you mean unsorted?\n"),
-])
+@pytest.mark.parametrize(
+    "words, what",
+    [
+        (["wrong", "x=x"], "wrong:1:15: no statement before it declares `y`\n    input x; emit y over (0, 10];\n                  ^\n"),
+        (
+            ["q", "x=unsorted"],
+            "unsorted:4: out of order in row 2\n    4,8,9\n    a start at the end of the row before or later was expected: sort the rows, "
+            "and let none overlap; the row before is 0,5,7\n",
+        ),
+        (["q", "x=decimal"], "decimal:2: bad field 3 in row 1\n    0,5,7.5\n"),
+        (["q", "x=headless"], "headless:1: bad header\n    0,5,7\n"),
+        (["q", "y=x"], "q: the query has no input y\n"),
+        (["q"], "q: the input x is bound to no file\n    add x=FILE\n"),
+        (["q", "x=x", "x=x"], "q: x is bound more than once\n"),
+        (["q", "x=unsortd"], "unsortd: No such file or directory\n    did you mean unsorted?\n"),
+    ],
+)
 def test_what_run_adds(tilt, tmp_path, monkeypatch, capfd, words, what):
     from tilt_data.cli import main
+
     monkeypatch.chdir(tmp_path)
-    put(q=QUERY, x=ROWS, wrong="input x; emit y over (0, 10];", unsorted="start,end,value\n0,5,7\n\n4,8,9\n", headless="0,5,7\n",
-        decimal="start,end,value\n0,5,7.5\n")
+    put(
+        q=QUERY,
+        x=ROWS,
+        wrong="input x; emit y over (0, 10];",
+        unsorted="start,end,value\n0,5,7\n\n4,8,9\n",
+        headless="0,5,7\n",
+        decimal="start,end,value\n0,5,7.5\n",
+    )
     assert main(["run", *words]) in (1, 3)
     first, _, rest = capfd.readouterr().err.partition("\n")
     assert first.startswith("tilt: ") and rest.startswith(what)
@@ -188,6 +241,7 @@ def test_what_run_adds(tilt, tmp_path, monkeypatch, capfd, words, what):
 
 def test_why_of_a_query_alone(tilt, tmp_path, monkeypatch, capfd):
     from tilt_data.cli import main
+
     monkeypatch.chdir(tmp_path)
     put(q=QUERY, wrong="input x; emit y over (0, 10];")
     assert main(["why", "q"]) == 0
@@ -232,7 +286,9 @@ def test_series_that_differ_in_closed_are_told(tilt, told):
     put(q="input x; input y; emit x + y over (0, 10];")
     series_of(told, "x", "--scale", "10"), series_of(told, "y", "--scale", "10", "--closed", "right")
     assert told("run", "q", "x=x.csv", "y=y.csv")[::2] == (
-        0, "tilt-data: note: the inputs differ in `closed` (x: left; y: right): write one --like the other\n")
+        0,
+        "tilt-data: note: the inputs differ in `closed` (x: left; y: right): write one --like the other\n",
+    )
 
 
 def test_helper_series_have_no_unit(tilt, told):
@@ -255,7 +311,13 @@ def test_notes_that_dont_describe_their_file_are_told(tilt, told):
 
 def test_what_is_compared():
     left, right = Clock(10**9, 0), Clock(10**9, 0, "right")
-    known = {"a": Notes(left, 1), "b": Notes(left, 10), "c": Notes(right, 1), "d": Notes(Clock(10**6, 0), 1), "e": Notes(left, 7, "helper")}
+    known = {
+        "a": Notes(left, 1),
+        "b": Notes(left, 10),
+        "c": Notes(right, 1),
+        "d": Notes(Clock(10**6, 0), 1),
+        "e": Notes(left, 7, "helper"),
+    }
 
     def of(names: str, *aspects: str) -> str | None:
         return clashes({name: known[name] for name in names}, **({"of": aspects} if aspects else {}))
@@ -265,8 +327,13 @@ def test_what_is_compared():
     assert of("ac") == "the inputs differ in `closed` (a: left; c: right): write one --like the other"
     assert of("ad") == "the series a and d have other ticks or origins: write one --like the other"
     assert of("ab", "clock", "closed") is of("ac", "clock", "scale") is of("ad", "scale", "closed") is None
-    assert of("abcd") == "; ".join([of("ad"), "the inputs differ in `closed` (a, b, d: left; c: right): write one --like the other",
-                                    "the inputs have different scales (a, c, d: 1; b: 10): write one --like the other before you add or compare them"])
+    assert of("abcd") == "; ".join(
+        [
+            of("ad"),
+            "the inputs differ in `closed` (a, b, d: left; c: right): write one --like the other",
+            "the inputs have different scales (a, c, d: 1; b: 10): write one --like the other before you add or compare them",
+        ]
+    )
     assert "(a, b, c, ..: 1; e: 2)" in clashes({name: Notes(left, 2 if name == "e" else 1) for name in "abcde"})
 
 
@@ -287,7 +354,7 @@ def causes() -> list[tuple[str, list[str], list[str]]]:
     lines = (TOP / "docs" / "COMMANDS.md").read_text().splitlines()
     begin = lines.index("| cause | wrong | right |") + 2
     rows = []
-    for line in lines[begin:lines.index("", begin)]:
+    for line in lines[begin : lines.index("", begin)]:
         cause, wrong, right = (cell.strip() for cell in line.strip("|").split("|"))
         rows.append((cause, re.findall(r"`([^`]+)`", wrong), re.findall(r"`([^`]+)`", right)))
     return rows
@@ -317,8 +384,13 @@ def test_the_causes_of_line_24_in_the_page():
 # Without the program: what the repository's own tests and pages say of texts
 
 
-FAULTS = {"NameTaken": "26 statement {}: name taken", "UnknownName": "27 statement {}: unknown name", "TypeMismatch": "28 statement {}: type mismatch",
-          "BadWindow": "29 statement {}: bad window", "BadDomain": "30 statement {}: bad domain"}
+FAULTS = {
+    "NameTaken": "26 statement {}: name taken",
+    "UnknownName": "27 statement {}: unknown name",
+    "TypeMismatch": "28 statement {}: type mismatch",
+    "BadWindow": "29 statement {}: bad window",
+    "BadDomain": "30 statement {}: bad domain",
+}
 
 
 def literal(text: str) -> bytes:
@@ -350,7 +422,9 @@ def of_pages() -> list[tuple[bytes, str]]:
     """Each query that a page writes and runs, with the line of its refusal; empty where there is none."""
     found = []
     for page in [*TOP.glob("docs/*.md"), TOP / "README.md"]:
-        for text, below in re.findall(r"^\$ echo '([^']*)' > q; tilt (?:run|explain|compile|pipe) q[^\n|]*\n(tilt: [^\n]*)?", page.read_text(), re.M):
+        for text, below in re.findall(
+            r"^\$ echo '([^']*)' > q; tilt (?:run|explain|compile|pipe) q[^\n|]*\n(tilt: [^\n]*)?", page.read_text(), re.M
+        ):
             line = below.removeprefix("tilt: ")
             found.append((text.encode() + b"\n", line if re.match(r"2\d|3[01]", line) else ""))
     return found
@@ -373,8 +447,21 @@ def tree(node) -> str:
         return node.name.text + (f"@{node.low}" if node.low else "")
     if node.form == "window":
         return f"({node.token.text.capitalize()} {node.name.text} {node.low} {node.high})"
-    words = {"==": "Eq", "!=": "Ne", "<": "Lt", "<=": "Le", ">": "Gt", ">=": "Ge", "+": "Add", "-": "Sub", "*": "Mul", "/": "Div", "%": "Rem",
-             "isnull": "IsNull", "ifnull": "IfNull"}
+    words = {
+        "==": "Eq",
+        "!=": "Ne",
+        "<": "Lt",
+        "<=": "Le",
+        ">": "Gt",
+        ">=": "Ge",
+        "+": "Add",
+        "-": "Sub",
+        "*": "Mul",
+        "/": "Div",
+        "%": "Rem",
+        "isnull": "IsNull",
+        "ifnull": "IfNull",
+    }
     return f"({words.get(node.form, node.form.capitalize())} {' '.join(map(tree, node.parts))})"
 
 

@@ -132,8 +132,14 @@ def make_index(path: str, folder: str, check: Callable[[], None] = lambda: None)
     if stamp_of(path) != stamp:
         raise Refused(f"{path}: it was changed while it was read: call again")
     indexed = Indexed(path, stamp, file, file_stamp, blocks)
-    fields = {"tilt-data": VERSION, "path": path, "stamp": stamp, "file": file, "file-stamp": file_stamp,
-              "blocks": [block.fields for block in blocks]}
+    fields = {
+        "tilt-data": VERSION,
+        "path": path,
+        "stamp": stamp,
+        "file": file,
+        "file-stamp": file_stamp,
+        "blocks": [block.fields for block in blocks],
+    }
     # An index that a stop of the machine tears can't be read, and is made again.
     with placed(index_path(path, folder), lasting=False) as new:
         new.write(json.dumps(fields).encode())
@@ -192,7 +198,7 @@ def block_of(path: str, data: bytes, ends: int, offset: int, line: int, end: int
     if before == len(rows):
         return []
     first = times_of(rows[before:].partition(b"\n")[0])
-    last = times_of(rows[rows.rfind(b"\n") + 1:])
+    last = times_of(rows[rows.rfind(b"\n") + 1 :])
     if first is None or last is None or first[0] >= last[1] or end is not None and first[0] < end:
         raise fault_in(path, rows, line, end)
     digest = hashlib.sha1(data, usedforsecurity=False).hexdigest()
@@ -231,8 +237,10 @@ def in_order(files: Iterable[Indexed]) -> list[Indexed]:
     ordered = sorted((one for one in files if one.blocks), key=lambda one: one.blocks[0].first)
     for one, other in zip(ordered, ordered[1:]):
         if other.blocks[0].first < one.blocks[-1].last:
-            raise Refused(f"{other.path}: its rows begin at {other.blocks[0].first}, before those of {one.path} end, at "
-                          f"{one.blocks[-1].last}: the files of an input may not overlap")
+            raise Refused(
+                f"{other.path}: its rows begin at {other.blocks[0].first}, before those of {one.path} end, at "
+                f"{one.blocks[-1].last}: the files of an input may not overlap"
+            )
     return ordered
 
 
@@ -240,7 +248,7 @@ def met(blocks: list[Block], low: int, high: int) -> list[Block]:
     """The blocks of a file that may have a row with a tick in (low, high]."""
     begin = bisect.bisect_right(blocks, low, key=lambda block: block.last)
     end = bisect.bisect_left(blocks, high, key=lambda block: block.first)
-    return blocks[begin:max(begin, end)]
+    return blocks[begin : max(begin, end)]
 
 
 def stretch_of(files: list[Indexed], low: int, high: int) -> Iterator[tuple[Segment, list[Block]]]:
@@ -250,8 +258,16 @@ def stretch_of(files: list[Indexed], low: int, high: int) -> Iterator[tuple[Segm
         if blocks:
             begin, end = blocks[0].offset, blocks[-1].offset + blocks[-1].length
             spans = tuple((block.offset - begin, block.length) for block in blocks)
-            yield Segment(one.path, one.file, one.file_stamp, begin, end - begin, sum(block.rows for block in blocks), spans,
-                          joint_digest(block.digest for block in blocks)), blocks
+            yield Segment(
+                one.path,
+                one.file,
+                one.file_stamp,
+                begin,
+                end - begin,
+                sum(block.rows for block in blocks),
+                spans,
+                joint_digest(block.digest for block in blocks),
+            ), blocks
 
 
 def joint_digest(digests: Iterable[str]) -> str:

@@ -20,9 +20,11 @@ COMMANDS = [series, table, why, ticks, by, scaling, follow, plot]
 
 def parser_of() -> argparse.ArgumentParser:
     parser = argparse.ArgumentParser(
-        prog="tilt-data", description="From a file of readings to series of tilt, and from its output to tables and pictures.")
-    parser.add_argument("--version", action=ShowVersion, nargs=0,
-                        help="print the version, the commit, the toolchain, and the program with its SHA-256")
+        prog="tilt-data", description="From a file of readings to series of tilt, and from its output to tables and pictures."
+    )
+    parser.add_argument(
+        "--version", action=ShowVersion, nargs=0, help="print the version, the commit, the toolchain, and the program with its SHA-256"
+    )
     commands = parser.add_subparsers(metavar="COMMAND", required=True)
     for command in COMMANDS:
         command.add(commands)

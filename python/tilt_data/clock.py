@@ -14,7 +14,14 @@ import zoneinfo
 from .errors import Refused
 
 UNITS = {
-    "ns": 1, "us": 10**3, "ms": 10**6, "s": 10**9, "min": 60 * 10**9, "m": 60 * 10**9, "h": 3600 * 10**9, "d": 86400 * 10**9,
+    "ns": 1,
+    "us": 10**3,
+    "ms": 10**6,
+    "s": 10**9,
+    "min": 60 * 10**9,
+    "m": 60 * 10**9,
+    "h": 3600 * 10**9,
+    "d": 86400 * 10**9,
 }
 # Numbers are written in ASCII, as the program reads them: without underscores and without the digits of other scripts.
 WHOLE = re.compile(r"[+-]?[0-9]+")
@@ -22,8 +29,7 @@ DECIMAL = re.compile(r"[+-]?(?:[0-9]+(?:\.[0-9]*)?|\.[0-9]+)(?:[eE][+-]?[0-9]{1,
 # What a field of a CSV can have around its number or its time.
 BLANKS = " \t"
 DURATION = re.compile(r"([0-9]{1,30})\s*(ns|us|ms|s|min|m|h|d)")
-ISO = re.compile(
-    r"(\d{4}-\d\d-\d\d)(?:[T ](\d\d:\d\d)(?::(\d\d)(?:[.,](\d+))?)?)?\s*(Z|z|[+-](?:[01]\d|2[0-3])(?::?[0-5]\d)?)?", re.ASCII)
+ISO = re.compile(r"(\d{4}-\d\d-\d\d)(?:[T ](\d\d:\d\d)(?::(\d\d)(?:[.,](\d+))?)?)?\s*(Z|z|[+-](?:[01]\d|2[0-3])(?::?[0-5]\d)?)?", re.ASCII)
 EPOCH = datetime.datetime(1970, 1, 1)
 DAY = UNITS["d"]
 # The program takes times from -TIMES to TIMES, in ticks (`T` of crates/tilt_base/src/limits.rt).
@@ -148,7 +154,7 @@ def moment_text(moment: int, digits: int, zone: datetime.tzinfo | None = None) -
             text, end = local[:19], local[19:]
     except OverflowError as error:
         raise Refused(f"the moment {moment} ns after 1970 lies outside of the years 1 to 9999") from error
-    return text + (f".{fraction:09d}"[:digits + 1] if digits else "") + end
+    return text + (f".{fraction:09d}"[: digits + 1] if digits else "") + end
 
 
 @dataclasses.dataclass(frozen=True)
@@ -177,7 +183,7 @@ class Clock:
     @property
     def digits(self) -> int:
         """How many digits of a second its moments have: 0, 3, 6 or 9."""
-        return next(digits for digits in (0, 3, 6, 9) if self.tick % 10**(9 - digits) == 0 == self.origin % 10**(9 - digits))
+        return next(digits for digits in (0, 3, 6, 9) if self.tick % 10 ** (9 - digits) == 0 == self.origin % 10 ** (9 - digits))
 
     def text(self, tick: int, zone: datetime.tzinfo | None = None) -> str:
         return moment_text(self.moment(tick), self.digits, zone)

@@ -76,8 +76,11 @@ def scale_notes(query: str, scale: int, output_scale: int | None) -> list[str]:
     scaled = dict(powers.scaled)
     if output_scale is None and output.power is None:
         scaled.update({number: 1 for number in output.numbers})
-    notes = [f"{number} in the query is {decimal_text(int(number), scale**power)}" for number, power in scaled.items()
-             if power > 0 and int(number)]
+    notes = [
+        f"{number} in the query is {decimal_text(int(number), scale**power)}"
+        for number, power in scaled.items()
+        if power > 0 and int(number)
+    ]
     if output_scale is None and output.power is not None and output.power != 1 and output.power >= 0:
         notes.append(f"the output needs output_scale={scale**output.power}")
     return notes

@@ -17,8 +17,10 @@ from .errors import Refused
 from .tasks import Made, Processes
 
 Function = Callable[..., Made]
-MISSING = ("{0} isn't installed, which --scheduler needs: `apt-get install python3-dask python3-distributed`, or "
-           "`pip install 'dask[distributed]'`")
+MISSING = (
+    "{0} isn't installed, which --scheduler needs: `apt-get install python3-dask python3-distributed`, or "
+    "`pip install 'dask[distributed]'`"
+)
 
 
 @contextlib.contextmanager

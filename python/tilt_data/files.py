@@ -27,7 +27,7 @@ Row = tuple[int, int, "int | None"]
 HEADER = ["start", "end", "value"]
 # How the program spells a number, and the numbers that it takes (`read_number` of crates/tilt_base).
 WHOLE = re.compile(r"[+-]?[0-9]+", re.ASCII)
-SMALLEST, LARGEST = -2**63, 2**63 - 1
+SMALLEST, LARGEST = -(2**63), 2**63 - 1
 # How the name of a file ends that has no name of its own yet: in a folder that `scale` sweeps, and elsewhere.
 PLACED = ".tilt-data-new"
 BESIDE = ".tilt-data"
@@ -578,9 +578,18 @@ class Notes:
 
     def text(self) -> str:
         fields = {
-            "tilt-data": 1, "version": VERSION, "name": self.name, "key": self.key, "tick": duration_text(self.clock.tick),
-            "origin": moment_text(self.clock.origin, 9 if self.clock.origin % 10**9 else 0), "zone": self.zone,
-            "closed": self.clock.closed, "kind": self.kind, "scale": self.scale, "size": self.size, "sha256": self.sha256,
+            "tilt-data": 1,
+            "version": VERSION,
+            "name": self.name,
+            "key": self.key,
+            "tick": duration_text(self.clock.tick),
+            "origin": moment_text(self.clock.origin, 9 if self.clock.origin % 10**9 else 0),
+            "zone": self.zone,
+            "closed": self.clock.closed,
+            "kind": self.kind,
+            "scale": self.scale,
+            "size": self.size,
+            "sha256": self.sha256,
         }
         return json_text({name: value for name, value in fields.items() if value is not None})
 
@@ -617,6 +626,7 @@ def notes_of(series: str) -> Notes | None:
 
 def notes_read(found: dict[str, Any]) -> Notes:
     """The notes of the fields of a JSON file; a ValueError or a KeyError says what was expected."""
+
     def field(name: str, kind: type, *default: Any) -> Any:
         value = found.get(name, *default) if default else found[name]
         if type(value) is not kind and not (default and value is default[0]):
@@ -626,8 +636,16 @@ def notes_read(found: dict[str, Any]) -> Notes:
     clock = Clock(duration_of(field("tick", str)), Moments().read(field("origin", str)), field("closed", str, "left"))
     if clock.closed not in ("left", "right"):
         raise ValueError(f"closed {clock.closed!r}: left or right was expected")
-    notes = Notes(clock, field("scale", int), field("kind", str, "hold"), field("name", str, ""), field("key", str, None),
-                  field("zone", str, None), field("size", int, None), field("sha256", str, None))
+    notes = Notes(
+        clock,
+        field("scale", int),
+        field("kind", str, "hold"),
+        field("name", str, ""),
+        field("key", str, None),
+        field("zone", str, None),
+        field("size", int, None),
+        field("sha256", str, None),
+    )
     if notes.scale < 1:
         raise ValueError("a scale above 0")
     if notes.kind not in KINDS:

@@ -67,11 +67,16 @@ def add(commands: Any) -> None:
     parser.add_argument("--state", metavar="FOLDER", required=True, help="where all is kept")
     parser.add_argument("--every", metavar="DURATION", default="60s", help="how often a session is run (60s)")
     parser.add_argument("--rows", type=int, metavar="N", help="run one after so many lines too")
-    parser.add_argument("--again", action="store_true", help="the source starts with the same first line whenever this is called again, as "
-                        "`tail -n +1 -F` of a file that isn't rotated: the lines taken before are passed over, and rejected if they differ")
+    parser.add_argument(
+        "--again",
+        action="store_true",
+        help="the source starts with the same first line whenever this is called again, as "
+        "`tail -n +1 -F` of a file that isn't rotated: the lines taken before are passed over, and rejected if they differ",
+    )
     parser.add_argument("--end", action="store_true", help="where standard input ends, print all that is left: no more lines will come")
-    parser.add_argument("--skip-bad", action="store_true",
-                        help="a line that can't be taken is reported, written to rejected.log in the folder, and skipped")
+    parser.add_argument(
+        "--skip-bad", action="store_true", help="a line that can't be taken is reported, written to rejected.log in the folder, and skipped"
+    )
     parser.add_argument("--quiet", action="store_true", help="print nothing: output.csv has it")
     parser.add_argument("--unit", choices=["s", "ms", "us", "ns"], help="readings: as in `tilt-data series`, and so the options after it")
     for option in ("--zone", "--tick", "--origin", "--like", "--max-age", "--until"):
@@ -132,16 +137,20 @@ class Source:
     def check(self, state: str, kept: Taken, cut: int) -> None:
         """Rejects a file whose rows that were handed on have changed, or that has a new row below the cut, where all is decided."""
         digest = hashlib.sha256()
-        for row in self.rows[:kept["handed"]]:
+        for row in self.rows[: kept["handed"]]:
             digest.update(row_text(row).encode())
         changed = "digest" in kept and digest.hexdigest() != kept["digest"]
-        rest = self.rows[kept["handed"]:]
+        rest = self.rows[kept["handed"] :]
         if changed or len(self.rows) < kept["handed"]:
-            raise Refused(f"{self.path}: its first {kept['handed']} rows aren't those that {state} was given before: give the file as it "
-                          "was, or name another --state")
+            raise Refused(
+                f"{self.path}: its first {kept['handed']} rows aren't those that {state} was given before: give the file as it "
+                "was, or name another --state"
+            )
         if rest and rest[0][0] < cut:
-            raise Refused(f"{self.path}: its row {rest[0][0]},{rest[0][1]} is new and starts before {cut}, up to where {state} went: take "
-                          f"out new rows that start before {cut}, or name another --state")
+            raise Refused(
+                f"{self.path}: its row {rest[0][0]},{rest[0][1]} is new and starts before {cut}, up to where {state} went: take "
+                f"out new rows that start before {cut}, or name another --state"
+            )
 
     def dump(self) -> Taken:
         """What is written of it: of one that is given whole how many of its rows were handed on, and their digest."""
@@ -261,12 +270,17 @@ class Reader:
         tick = words.tick and duration_of(words.tick) if clock is None else clock.tick
         origin = words.origin and moment_of(words.origin, words) if clock is None else clock.origin
         return {
-            "--tick": None if tick is None else duration_text(tick), "--origin": None if origin is None else spelled(origin),
-            "--closed": (words.closed or "left") if clock is None else clock.closed, "--scale": self.scale.scale,
-            "--zone": words.zone or "UTC", "--unit": words.unit,
+            "--tick": None if tick is None else duration_text(tick),
+            "--origin": None if origin is None else spelled(origin),
+            "--closed": (words.closed or "left") if clock is None else clock.closed,
+            "--scale": self.scale.scale,
+            "--zone": words.zone or "UTC",
+            "--unit": words.unit,
             "--max-age": None if words.max_age is None else duration_text(duration_of(words.max_age)),
-            "--until": None if words.until is None else spelled(moment_of(words.until, words)), "--ties": words.ties,
-            "--null": ",".join(sorted(self.nulls.texts)) or None, "--event": words.event,
+            "--until": None if words.until is None else spelled(moment_of(words.until, words)),
+            "--ties": words.ties,
+            "--null": ",".join(sorted(self.nulls.texts)) or None,
+            "--event": words.event,
         }
 
     def shape(self) -> Taken | None:
@@ -281,14 +295,16 @@ class Reader:
             now = options.get(option)
             if now != before:
                 place = f" (of --like {words.like})" if words.like is not None and of_like.get(option, "") is None else ""
-                raise Refused(f"{state} was started {option_text(option, before)}, not {option_text(option, now)}{place}: call it again "
-                              f"{option_text(option, before)}, or name another --state")
+                raise Refused(
+                    f"{state} was started {option_text(option, before)}, not {option_text(option, now)}{place}: call it again "
+                    f"{option_text(option, before)}, or name another --state"
+                )
 
     def load(self, name: str, kept: Taken) -> None:
         source = self.sources[name]
         if "handed" in kept:
-            source.count(source.rows[:kept["handed"]])
-            source.rows = source.rows[kept["handed"]:]
+            source.count(source.rows[: kept["handed"]])
+            source.rows = source.rows[kept["handed"] :]
             return
         source.rows = [(start, end, value) for start, end, value in kept["rows"]]
         source.reached = kept["reached"]
@@ -326,7 +342,8 @@ def shown(line: bytes) -> str:
     text = line.decode("utf-8", "surrogateescape")
     return "".join(
         sign if sign.isprintable() and sign != "\\" else "".join(f"\\x{byte:02x}" for byte in sign.encode("utf-8", "surrogateescape"))
-        for sign in text)
+        for sign in text
+    )
 
 
 def shortened(text: str) -> str:
@@ -388,7 +405,7 @@ class Passing:
 
     def rest(self, lines: list[bytes]) -> list[bytes]:
         """The lines that come after those taken before."""
-        passed = lines[:self.left]
+        passed = lines[: self.left]
         self.left -= len(passed)
         for line in passed:
             self.seen.add(line)
@@ -397,7 +414,7 @@ class Passing:
         if passed and not self.left:
             self.compare(self.taken.digest.hex() if self.taken.known else self.seen.digest.hex())
             self.taken.digest, self.taken.marks, self.taken.known = self.seen.digest, self.seen.marks, True
-        return lines[len(passed):]
+        return lines[len(passed) :]
 
     def compare(self, digest: str) -> None:
         if self.seen.digest.hex() != digest:
@@ -410,8 +427,10 @@ class Passing:
             self.reject(f"the input ended after {self.seen.count} lines, and {self.state} took {self.taken.count} before")
 
     def reject(self, what: str) -> NoReturn:
-        raise Refused(f"{what}: with --again the input must start with the same first line; put rotated lines in front of it, or name "
-                      "another --state")
+        raise Refused(
+            f"{what}: with --again the input must start with the same first line; put rotated lines in front of it, or name "
+            "another --state"
+        )
 
 
 # The folder
@@ -508,7 +527,7 @@ class Store:
         rest = memoryview(text)
         try:
             while rest:
-                rest = rest[self.log.write(rest):]
+                rest = rest[self.log.write(rest) :]
         except OSError as error:
             raise Refused(f"{self.path('log')}: it can't be written: {error.strerror}") from error
 
@@ -616,8 +635,10 @@ class Follower:
         if os.path.exists(copy):
             with open(copy, "rb") as file:
                 if file.read() != text:
-                    raise Refused(f"{self.words.query}: it isn't the query that {self.words.state} was started with: take {copy}, which "
-                                  "is, or name another --state")
+                    raise Refused(
+                        f"{self.words.query}: it isn't the query that {self.words.state} was started with: take {copy}, which "
+                        "is, or name another --state"
+                    )
             return copy
         new = copy + ".new"
         try:
@@ -685,8 +706,10 @@ class Follower:
             elif kept["converter"] is not None and self.reader.clock is None:
                 raise Refused("readings were taken before: --tick and --origin, or --like, are needed again")
         if self.store.cut != "begin" and "shape" not in notes:
-            told(f"{state} is of an earlier version, which kept neither options nor digests of files: make sure that this call has those "
-                 "of the call before")
+            told(
+                f"{state} is of an earlier version, which kept neither options nor digests of files: make sure that this call has those "
+                "of the call before"
+            )
 
     def compare_files(self) -> None:
         """Notes in what the files differ from the readings, or from each other."""
@@ -778,8 +801,14 @@ class Follower:
         if not known:
             return
         first = max(known, key=lambda name: known[name])
-        late = [name for name, source in self.sources.items() if not source.fixed and source.reached == cut != known[first]
-                and self.is_quiet(source) and not (name in self.warned and self.warned[name] == cut)]
+        late = [
+            name
+            for name, source in self.sources.items()
+            if not source.fixed
+            and source.reached == cut != known[first]
+            and self.is_quiet(source)
+            and not (name in self.warned and self.warned[name] == cut)
+        ]
         if late:
             self.warned.update((name, cut) for name in late)
             place = "of which no line came yet" if cut is None else f"known up to {self.reader.text(cut)}"
@@ -803,8 +832,10 @@ class Follower:
         """Takes what comes on a descriptor until its end, or that of the query's output."""
         passing = Passing(self.chain, self.words.state) if self.words.again else None
         if passing is not None and not self.chain.known:
-            told(f"{self.words.state} is of an earlier version, which kept no digest of the lines that it took: make sure that the input "
-                 "starts with the same first line")
+            told(
+                f"{self.words.state} is of an earlier version, which kept no digest of the lines that it took: make sure that the input "
+                "starts with the same first line"
+            )
         due = time.monotonic() + self.every
         for chunk in chunks(number, lambda: due, self.words.end):
             lines = chunk if passing is None else passing.rest(chunk)
@@ -872,7 +903,7 @@ class Lines:
             return
         self.rest += piece
         if len(self.rest) > LONGEST:
-            yield bytes(self.rest[:LONGEST + 1])
+            yield bytes(self.rest[: LONGEST + 1])
             self.rest.clear()
             self.dropping = True
 

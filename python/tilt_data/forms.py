@@ -50,8 +50,12 @@ def check(statement: Statement, types: dict[str, str]) -> None:
         check_names(statement.body, number, types)
         kind = Types(number, types).of(statement.body)
         if statement.form == "emit" and kind == "bool":
-            raise Faulty(f"28 statement {number}: type mismatch", span_of(statement.body),
-                         "a number was expected, and this is a truth value", "emit 1 when it is true, or if it then 1 else 0")
+            raise Faulty(
+                f"28 statement {number}: type mismatch",
+                span_of(statement.body),
+                "a number was expected, and this is a truth value",
+                "emit 1 when it is true, or if it then 1 else 0",
+            )
         check_windows(statement.body, number)
         check_domain(statement)
     if name.kind:
@@ -70,8 +74,12 @@ def check_names(body: Node, number: int, types: dict[str, str]) -> None:
 def check_windows(body: Node, number: int) -> None:
     for node in walk(body):
         if node.form == "window" and node.low >= node.high:
-            raise Faulty(f"29 statement {number}: bad window", span_of(node), "a window that ends after its start was expected",
-                         "write the earlier end first, as x[t-3:t]")
+            raise Faulty(
+                f"29 statement {number}: bad window",
+                span_of(node),
+                "a window that ends after its start was expected",
+                "write the earlier end first, as x[t-3:t]",
+            )
 
 
 def check_domain(statement: Statement) -> None:
@@ -128,8 +136,12 @@ class Types:
         source, reducer = self.known[node.name.text], node.token.text
         wanted = "bool" if reducer in ("any", "all") else "int" if reducer in ("sum", "avg", "min", "max") else source
         if source != wanted:
-            raise Faulty(self.line, node.name, f"{WORDS[wanted]} was expected by `{reducer}`, and `{node.name.text}` is {WORDS[source]}",
-                         CURES[wanted])
+            raise Faulty(
+                self.line,
+                node.name,
+                f"{WORDS[wanted]} was expected by `{reducer}`, and `{node.name.text}` is {WORDS[source]}",
+                CURES[wanted],
+            )
         return "int" if reducer == "count" else source
 
     @property
@@ -176,5 +188,9 @@ def far(statements: list[Statement]) -> None:
                 if max(-low, node.high) > most:
                     most, place = max(-low, node.high), span_of(node)
     if max(farthest) > FARTHEST:
-        raise Faulty(f"31 too far: back {farthest[0]} ahead {farthest[1]}", place, f"a query looks at most {FARTHEST} ticks back and "
-                     "ahead", "shorten windows and offsets, which add up over definitions; or take a longer tick")
+        raise Faulty(
+            f"31 too far: back {farthest[0]} ahead {farthest[1]}",
+            place,
+            f"a query looks at most {FARTHEST} ticks back and " "ahead",
+            "shorten windows and offsets, which add up over definitions; or take a longer tick",
+        )

@@ -34,7 +34,8 @@ if TYPE_CHECKING:
 # The arguments of `run` besides those of a convention.
 ARGUMENTS = ("by", "merge", "index", "exact", "inputs", "convention")
 # The moments that pandas has.
-FIRST, LAST = -2**63 + 1, 2**63 - 1
+FIRST, LAST = -(2**63) + 1, 2**63 - 1
+
 
 class Query:
     """A query: its text, or the path of a file that has it."""
@@ -69,8 +70,18 @@ class Query:
             file.write(self.text)
         return path
 
-    def run(self, data: Any = None, *, by: str | None = None, merge: bool = False, index: str = "interval", exact: bool = False,
-            convention: Convention | None = None, inputs: Mapping[str, Any] | None = None, **options: Any) -> pandas.DataFrame:
+    def run(
+        self,
+        data: Any = None,
+        *,
+        by: str | None = None,
+        merge: bool = False,
+        index: str = "interval",
+        exact: bool = False,
+        convention: Convention | None = None,
+        inputs: Mapping[str, Any] | None = None,
+        **options: Any,
+    ) -> pandas.DataFrame:
         """What `tilt run` prints, as a DataFrame with the column `value`; see `run`."""
         convention = convention_of(convention, options, ARGUMENTS)
         check_one_of("index", index, ("interval", "start", "end"))
@@ -94,10 +105,12 @@ class Query:
                 rows = list(rows_of(out, file))
         return shape.frame(rows, merge, index, exact)
 
-    def by_key(self, data: Any, by: str, merge: bool, index: str, exact: bool, convention: Convention,
-               named: dict[str, Any]) -> pandas.DataFrame:
+    def by_key(
+        self, data: Any, by: str, merge: bool, index: str, exact: bool, convention: Convention, named: dict[str, Any]
+    ) -> pandas.DataFrame:
         """One run for each key of a column, one after another; the keys are the first level of the index."""
         import pandas
+
         check_keys(data, by)
         parts = {name: data[name] for name in self.inputs if name in data.columns and name != by}
         files, series = parted({**parts, **named})
@@ -107,8 +120,10 @@ class Query:
         # All keys have the clock and the scale of the whole.
         shared = {"tick": duration_text(clock.tick), "origin": moment_text(clock.origin, 9), "closed": clock.closed, "scale": scale}
         convention = convention_of(convention, shared)
-        found = {key: self.run(part.drop(columns=by), merge=merge, index=index, exact=exact, convention=convention, inputs=named)
-                 for key, part in data.groupby(by, sort=True, observed=True)}
+        found = {
+            key: self.run(part.drop(columns=by), merge=merge, index=index, exact=exact, convention=convention, inputs=named)
+            for key, part in data.groupby(by, sort=True, observed=True)
+        }
         return pandas.concat(found, names=[by]) if found else pandas.DataFrame({"value": []})
 
     def warn_of_scale(self, convention: Convention, scale: int) -> None:
@@ -161,10 +176,12 @@ class Explained:
         return Explained(int(reach[1]), int(reach[2]), inputs, lets, (int(loops[1]), int(loops[2])))
 
 
-def span(data: Any = None, *, inputs: Mapping[str, Any] | None = None, convention: Convention | None = None,
-         **options: Any) -> tuple[int, int]:
+def span(
+    data: Any = None, *, inputs: Mapping[str, Any] | None = None, convention: Convention | None = None, **options: Any
+) -> tuple[int, int]:
     """The ticks `(start, end]` over which the inputs have rows, by the arguments that `run` takes: a query has them in its `over`."""
     import pandas
+
     convention = convention_of(convention, options, ("inputs", "convention"))
     convention = dataclasses.replace(convention, output_scale=convention.output_scale or 1)
     frame = data.to_frame("the Series") if isinstance(data, pandas.Series) else data
@@ -197,6 +214,7 @@ def names_file(text: str) -> bool:
 def check_keys(data: Any, by: Any) -> None:
     """Rejects a column of keys that isn't one column, or doesn't have one key in each row."""
     import pandas
+
     count = list(data.columns).count(by) if isinstance(data, pandas.DataFrame) else 0
     if count != 1:
         what = f"a DataFrame with this column was expected{f', not with {count} of this name' if count else ''}"
@@ -212,6 +230,7 @@ def check_keys(data: Any, by: Any) -> None:
 def frame_inputs(data: Any, names: list[str]) -> dict[str, Any]:
     """The columns of a DataFrame that the query reads; a Series where it reads one input alone."""
     import pandas
+
     if data is None:
         return {}
     if isinstance(data, pandas.Series):
@@ -229,6 +248,7 @@ def frame_inputs(data: Any, names: list[str]) -> dict[str, Any]:
 def moments_of(index: Any, what: str) -> list[int]:
     """The nanoseconds of a DatetimeIndex."""
     import pandas
+
     if not isinstance(index, pandas.DatetimeIndex):
         raise Refused(f"{what}: a DatetimeIndex was expected, not {type(index).__name__}")
     if index.hasnans:
@@ -248,6 +268,7 @@ def texts_of(series: Any) -> list[str | None]:
 def text_of(value: Any) -> str | None:
     """The decimal text of a value of pandas; None for a missing one."""
     import pandas
+
     if isinstance(value, decimal.Decimal):
         return None if value.is_nan() else str(value)
     # What NA is compared to is NA, which is neither true nor false.
@@ -278,7 +299,7 @@ def in_python(text: str) -> str:
 
 def auto_scale(series: Mapping[str, Any]) -> int:
     """The smallest power of ten that makes all values whole."""
-    return int(10**max((digits_in(name, one) for name, one in series.items()), default=0))
+    return int(10 ** max((digits_in(name, one) for name, one in series.items()), default=0))
 
 
 def digits_in(name: str, series: Any) -> int:
@@ -317,6 +338,7 @@ class Shape:
     def frame(self, rows: list[Row], merge: bool = False, index: str = "interval", exact: bool = False) -> pandas.DataFrame:
         import pandas
         from .table import merged
+
         kept = list(merged(rows) if merge else rows)
         starts, ends = self.times([row[0] for row in kept]), self.times([row[1] for row in kept])
         shown: Any = starts if index == "start" else ends
@@ -326,6 +348,7 @@ class Shape:
 
     def times(self, ticks: list[int]) -> pandas.DatetimeIndex:
         import pandas
+
         moments = [self.clock.moment(tick) for tick in ticks]
         if moments and not FIRST <= min(moments) <= max(moments) <= LAST:
             raise Refused("the output goes beyond 1677-09-21 to 2262-04-11, the times that pandas has: give the query a shorter `over`")
@@ -359,6 +382,7 @@ def bind(names: list[str], named: dict[str, Any], convention: Convention) -> tup
 def parted(named: Mapping[str, Any]) -> tuple[dict[str, str], dict[str, Any]]:
     """The inputs that are files, and those that are Series."""
     import pandas
+
     files = {name: os.fspath(one) for name, one in named.items() if isinstance(one, (str, os.PathLike))}
     series = {name: one for name, one in named.items() if isinstance(one, pandas.Series)}
     for name in named:
@@ -369,6 +393,7 @@ def parted(named: Mapping[str, Any]) -> tuple[dict[str, str], dict[str, Any]]:
 
 def zone_in(index: Any) -> Any:
     import pandas
+
     return index.left.tz if isinstance(index, pandas.IntervalIndex) else getattr(index, "tz", None)
 
 
@@ -424,6 +449,7 @@ def closed_of(known: dict[str, Notes], series: dict[str, Any], convention: Conve
 def closed_in(name: str, index: Any) -> str | None:
     """The closed edge of intervals; None for readings."""
     import pandas
+
     if not isinstance(index, pandas.IntervalIndex):
         return None
     if index.closed not in ("left", "right"):
@@ -435,6 +461,7 @@ def closed_in(name: str, index: Any) -> str | None:
 def first_midnight(series: dict[str, Any]) -> int:
     """The midnight before the first reading, in the zone of the first Series. A day that has no midnight starts at its first moment."""
     import pandas
+
     starts = [min(starts_of(name, one.index)) for name, one in series.items() if len(one)]
     if not starts:
         return 0
@@ -467,12 +494,14 @@ def scale_of(known: dict[str, Notes], series: dict[str, Any], convention: Conven
 
 def starts_of(name: str, index: Any) -> list[int]:
     import pandas
+
     return moments_of(index.left if isinstance(index, pandas.IntervalIndex) else index, f"the input {name}")
 
 
 def rows_from(name: str, series: Any, clock: Clock, convention: Convention, scale: int) -> Iterator[Row]:
     """The rows of a Series: of its intervals, or of its readings by the convention."""
     import pandas
+
     values = whole_values(name, series, scale)
     starts = starts_of(name, series.index)
     if isinstance(series.index, pandas.IntervalIndex):
@@ -606,6 +635,7 @@ class Live:
 
     def take(self, taken: Taken, name: str, series: Any) -> None:
         import pandas
+
         if not isinstance(series, pandas.Series):
             raise Refused(f"the input {name}: a Series was expected, not {type(series).__name__}")
         taken.note_zone(series.index)

@@ -66,8 +66,12 @@ def statements_of(text: bytes) -> list[Statement]:
 
 def statement_of(tokens: list[Token], number: int, last: bool) -> Statement:
     if len(tokens) > MOST_TOKENS:
-        raise Faulty(f"23 statement {number}: too long", tokens[MOST_TOKENS], f"at most {MOST_TOKENS} tokens were expected",
-                     "name a part of it by `let`")
+        raise Faulty(
+            f"23 statement {number}: too long",
+            tokens[MOST_TOKENS],
+            f"at most {MOST_TOKENS} tokens were expected",
+            "name a part of it by `let`",
+        )
     statement = Reader(tokens, number).statement()
     if (statement.form == "emit") != last:
         what = "the query has to end with this `emit`" if not last else "the last statement has to be the `emit`"
@@ -128,9 +132,12 @@ class Reader:
 
     def cure_of_sign(self, token: Token, before: Token | None, expected: str) -> str:
         cures = {
-            ("]", ")"): "a span has its end in it, and is written over (0, 10]", ("`(`", "["): "a span begins with `(`: over (0, 10]",
-            ("`t`", "number"): "an offset is written from t: x[t-2]", ("`t`", "-"): "an offset is written from t: x[t-2]",
-            ("`[`", ")"): "a reducer needs a window, as avg(x[t-10:t])", ("`:`", "]"): "a window has two ends, as x[t-10:t]",
+            ("]", ")"): "a span has its end in it, and is written over (0, 10]",
+            ("`(`", "["): "a span begins with `(`: over (0, 10]",
+            ("`t`", "number"): "an offset is written from t: x[t-2]",
+            ("`t`", "-"): "an offset is written from t: x[t-2]",
+            ("`[`", ")"): "a reducer needs a window, as avg(x[t-10:t])",
+            ("`:`", "]"): "a window has two ends, as x[t-10:t]",
         }
         found = cures.get((expected.strip("`") if token.kind == ")" and expected == "`]`" else expected, token.kind))
         if found:

@@ -57,7 +57,7 @@ class Domain:
     def query(self, start: int, end: int) -> str:
         """The text of the query with another domain, whose bounds are grid points."""
         first, second = self.bounds
-        before, between, after = self.text[:first.begin], self.text[first.end:second.begin], self.text[second.end:]
+        before, between, after = self.text[: first.begin], self.text[first.end : second.begin], self.text[second.end :]
         return b"".join([before, str(start).encode(), between, str(end).encode(), after]).decode()
 
     def cut(self, tick: int) -> int | None:
@@ -121,7 +121,7 @@ def copied(first: bytes, file: IO[bytes], out: IO[bytes], cut: int | None, check
         tail = max(begin, end - LONGEST)
         file.seek(tail)
         text = file.read(end - tail)
-        last = text[text.rfind(b"\n", 0, len(text) - 1) + 1:]
+        last = text[text.rfind(b"\n", 0, len(text) - 1) + 1 :]
         out.write(first)
         copy(file, out, begin, end - len(last), check)
     if last and cut is not None and int(last.split(b",")[1]) == cut:

@@ -28,10 +28,17 @@ WIDTH, COLUMNS = 900, 750
 # What no XML file can have, and what no font shows; a line end is allowed.
 UNPRINTABLE = re.compile("[\x00-\x09\x0b-\x1f\x7f-\x9f\ud800-\udfff\ufffe\uffff]")
 # Steps of the axis in nanoseconds, by unit.
-STEPS = [step * unit for unit, steps in (
-    (1, (1, 2, 5, 10, 20, 50, 100, 200, 500)), (10**3, (1, 2, 5, 10, 20, 50, 100, 200, 500)), (10**6, (1, 2, 5, 10, 20, 50, 100, 200, 500)),
-    (10**9, (1, 2, 5, 10, 15, 30, 60, 120, 300, 600, 900, 1800, 3600, 7200, 10800, 21600, 43200)),
-    (DAY, (1, 2, 7, 14, 30, 60, 120, 365, 730, 3650))) for step in steps]
+STEPS = [
+    step * unit
+    for unit, steps in (
+        (1, (1, 2, 5, 10, 20, 50, 100, 200, 500)),
+        (10**3, (1, 2, 5, 10, 20, 50, 100, 200, 500)),
+        (10**6, (1, 2, 5, 10, 20, 50, 100, 200, 500)),
+        (10**9, (1, 2, 5, 10, 15, 30, 60, 120, 300, 600, 900, 1800, 3600, 7200, 10800, 21600, 43200)),
+        (DAY, (1, 2, 7, 14, 30, 60, 120, 365, 730, 3650)),
+    )
+    for step in steps
+]
 
 
 @dataclasses.dataclass
@@ -291,8 +298,16 @@ def draw_one(axes: Any, one: Drawn, lo: int, hi: int, colour: str) -> Any:
 
 
 def draw_legend(axes: Any, entries: list[tuple[Any, str]]) -> None:
-    legend = axes.legend([drawn for drawn, _ in entries], [""] * len(entries), loc="lower left", bbox_to_anchor=(0, 1), ncol=5,
-                         frameon=False, borderaxespad=0.1, handlelength=1.6)
+    legend = axes.legend(
+        [drawn for drawn, _ in entries],
+        [""] * len(entries),
+        loc="lower left",
+        bbox_to_anchor=(0, 1),
+        ncol=5,
+        frameon=False,
+        borderaxespad=0.1,
+        handlelength=1.6,
+    )
     # A label that starts with `_` would have no entry.
     for text, (_, name) in zip(legend.get_texts(), entries):
         text.set_text(escaped(name))
@@ -353,7 +368,7 @@ def axis_of(clock: Clock | None, lo: int, hi: int, zone: datetime.tzinfo | None,
     """Where the marks of the axis stand, in ticks after `lo`, their texts, and the text of the axis."""
     if clock is None:
         length = max(1, (hi - lo) // 8)
-        power = 10**(len(str(length)) - 1)
+        power = 10 ** (len(str(length)) - 1)
         step = next(power * many for many in (1, 2, 5, 10) if power * many >= length)
         marks = range(-(-lo // step) * step, hi + 1, step)
         return [float(mark - lo) for mark in marks], [f"{mark:,}" for mark in marks], "ticks"
@@ -373,8 +388,10 @@ def axis_of(clock: Clock | None, lo: int, hi: int, zone: datetime.tzinfo | None,
 def draw(words: argparse.Namespace, panels: list[list[Drawn]]) -> Any:
     """The figure; matplotlib is there."""
     import matplotlib
+
     matplotlib.use("Agg")
     from matplotlib import pyplot
+
     matplotlib.rcParams.update({"svg.fonttype": "none", "svg.hashsalt": "tilt-data", "font.size": 9})
     clock = clock_of(panels)
     lo, hi = bounds_of(words, panels, clock)

@@ -29,6 +29,7 @@ class Bar:
         if self.shown:
             try:
                 from tqdm import tqdm
+
                 self.bar = tqdm(total=total, unit=f" {unit}", leave=False)
             except ImportError:
                 self.show()

@@ -7,7 +7,7 @@ import re
 
 from .clock import BLANKS, DECIMAL, EXACT
 
-LEAST, GREATEST = -2**63, 2**63 - 1
+LEAST, GREATEST = -(2**63), 2**63 - 1
 # A 64-bit value has at most 19 digits: a scale that is found, and not given, is a power of ten of no more than these.
 MOST_DIGITS = 19
 # The numbers that can be scales: exact arithmetic (EXACT) has room for a value of 19 digits besides.
@@ -26,8 +26,9 @@ def digits_after_point(text: str) -> int:
     """How many digits a decimal needs after its point; 0 for a text that is no number. More than 19 are a ValueError."""
     count = digits_needed(text)
     if count > MOST_DIGITS:
-        raise ValueError(f"{text!r} needs {count} digits after its point, and a 64-bit value has {MOST_DIGITS}: round it, or name a "
-                         "--scale")
+        raise ValueError(
+            f"{text!r} needs {count} digits after its point, and a 64-bit value has {MOST_DIGITS}: round it, or name a " "--scale"
+        )
     return count
 
 
@@ -73,7 +74,7 @@ class Scale:
             digits_after_point(text)
             raise ValueError(f"{text} times {self.scale} isn't within 64 bits: a smaller --scale") from error
         if scaled != scaled.to_integral_value():
-            needed = 10**digits_after_point(text)
+            needed = 10 ** digits_after_point(text)
             raise ValueError(f"{text} times {self.scale} isn't whole, and digits would be lost: --scale {needed} or --scale auto")
         if not LEAST <= scaled <= GREATEST:
             raise ValueError(f"{text} times {self.scale} isn't within 64 bits: a smaller --scale")

@@ -52,8 +52,12 @@ def add(commands: Any) -> None:
     parser.add_argument("binds", nargs="*", metavar="NAME=FILES", help="the series files of an input, with {key}, * and ?")
     parser.add_argument("--out", metavar="FOLDER", required=True, help="where the outputs are written, and what is kept of a call")
     parser.add_argument("--workers", type=int, metavar="N", help="how many parts run at a time on this machine (one for each processor)")
-    parser.add_argument("--scheduler", metavar="ADDRESS", help="run the parts on the workers of this Dask scheduler, such as "
-                        "tls://host:8786; anyone who reaches a tcp:// address can run code on its workers")
+    parser.add_argument(
+        "--scheduler",
+        metavar="ADDRESS",
+        help="run the parts on the workers of this Dask scheduler, such as "
+        "tls://host:8786; anyone who reaches a tcp:// address can run code on its workers",
+    )
     parser.add_argument("--part-rows", type=int, metavar="N", default=PART_ROWS, help=f"about how many rows a part has ({PART_ROWS})")
     parser.add_argument("--retries", type=int, metavar="N", default=3, help="how often a task that fails is started again (3)")
     parser.add_argument("--index", metavar="FOLDER", help="where the index of the files is kept, which other calls can share (OUT/index)")
@@ -502,9 +506,18 @@ def parts_digest(files: Iterable[str]) -> str:
     return blocks.joint_digest(os.path.basename(file) for file in files)
 
 
-def scale(query: str | os.PathLike[str] | Query, inputs: Mapping[str, Files], out: str | os.PathLike[str], *, scheduler: str | None = None,
-          workers: int | None = None, part_rows: int = PART_ROWS, retries: int = 3, index: str | None = None,
-          progress: bool = False) -> Scaled:
+def scale(
+    query: str | os.PathLike[str] | Query,
+    inputs: Mapping[str, Files],
+    out: str | os.PathLike[str],
+    *,
+    scheduler: str | None = None,
+    workers: int | None = None,
+    part_rows: int = PART_ROWS,
+    retries: int = 3,
+    index: str | None = None,
+    progress: bool = False,
+) -> Scaled:
     """Runs a query over many files, several parts at a time, as `tilt-data scale` does with the same options. The files of an input are a
     name or several, with {key}, * and ? as there. Without a scheduler the parts run on threads of this process, which call the program."""
     begun = time.monotonic()
@@ -513,8 +526,10 @@ def scale(query: str | os.PathLike[str] | Query, inputs: Mapping[str, Files], ou
             raise Refused(f"{name.replace('_', '-')}: {least} or more was expected")
     if scheduler is not None:
         engine.imported()
-    named = {name: [os.fspath(files)] if isinstance(files, (str, os.PathLike)) else [os.fspath(one) for one in files]
-             for name, files in inputs.items()}
+    named = {
+        name: [os.fspath(files)] if isinstance(files, (str, os.PathLike)) else [os.fspath(one) for one in files]
+        for name, files in inputs.items()
+    }
     plan = Plan(query if isinstance(query, Query) else Query(query), named, os.fspath(out), index)
     with locked(plan.out), contextlib.ExitStack() as stack:
         sweep_parts(plan.out)
@@ -534,8 +549,17 @@ def main(words: argparse.Namespace) -> int:
         raise Refused("--workers is for this machine: the scheduler has its own workers")
     # What Dask leaves open as its client goes isn't for the reader of a command.
     logging.getLogger("asyncio").setLevel(logging.CRITICAL)
-    scaled = scale(pathlib.Path(words.query), bound(words.binds), words.out, scheduler=words.scheduler, workers=words.workers,
-                   part_rows=words.part_rows, retries=words.retries, index=words.index, progress=True)
+    scaled = scale(
+        pathlib.Path(words.query),
+        bound(words.binds),
+        words.out,
+        scheduler=words.scheduler,
+        workers=words.workers,
+        part_rows=words.part_rows,
+        retries=words.retries,
+        index=words.index,
+        progress=True,
+    )
     for line in scaled.told():
         print(f"tilt-data: {line}", file=sys.stderr)
     return 0

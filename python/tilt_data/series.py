@@ -80,21 +80,41 @@ def add_time(parser: argparse.ArgumentParser) -> None:
     parser.add_argument("--tick", help="the length of a tick, as 1s, 1ms, 1min")
     parser.add_argument("--origin", help="the moment at which the first tick begins (the midnight before the first reading)")
     parser.add_argument("--like", metavar="SERIES", help="take tick, origin and scale from the JSON file beside this series")
-    parser.add_argument("--scale", nargs="+", action="extend", metavar="N", help="values times N are whole; auto for the smallest power of "
-                        "ten that makes them whole; NAME=N for one column")
+    parser.add_argument(
+        "--scale",
+        nargs="+",
+        action="extend",
+        metavar="N",
+        help="values times N are whole; auto for the smallest power of " "ten that makes them whole; NAME=N for one column",
+    )
 
 
 def add_convention(parser: argparse.ArgumentParser) -> None:
     parser.add_argument("--hold", choices=["next"], help="a reading holds until the next one (so it is where --event isn't given)")
-    parser.add_argument("--max-age", nargs="+", action="extend", metavar="DURATION", default=[], help="it holds no longer than this, "
-                        "such as 5min; NAME=5min for one series")
+    parser.add_argument(
+        "--max-age",
+        nargs="+",
+        action="extend",
+        metavar="DURATION",
+        default=[],
+        help="it holds no longer than this, " "such as 5min; NAME=5min for one series",
+    )
     parser.add_argument("--until", metavar="TIME", help="until when the last reading holds (one tick, or --max-age)")
     parser.add_argument("--event", action="store_true", help="a reading is an event of one tick")
     parser.add_argument("--closed", choices=["left", "right"], help="which edge of a tick belongs to it, as in pandas (left)")
-    parser.add_argument("--ties", choices=TIES, default="refuse", help="which of the readings in one tick stands: the last, the first, or "
-                        "each, in ticks one after another (refuse)")
-    parser.add_argument("--null", metavar="TEXTS", action="append", default=[], help="texts with commas between them that mean no value, "
-                        "such as NaN,-1; empty fields always do")
+    parser.add_argument(
+        "--ties",
+        choices=TIES,
+        default="refuse",
+        help="which of the readings in one tick stands: the last, the first, or " "each, in ticks one after another (refuse)",
+    )
+    parser.add_argument(
+        "--null",
+        metavar="TEXTS",
+        action="append",
+        default=[],
+        help="texts with commas between them that mean no value, " "such as NaN,-1; empty fields always do",
+    )
     parser.add_argument("--skip-empty", action="store_true", help="a field without a value is no reading at all")
 
 
@@ -153,8 +173,12 @@ def check_titles(header: list[str], values: list[int], path: str) -> None:
     places: dict[str, int] = {}
     for at in values:
         if header[at] in places:
-            raise refused_at(path, 1, f"the columns {places[header[at]] + 1} and {at + 1} have one name, {header[at]!r}: rename one of "
-                             "them, or name the columns of values by --value")
+            raise refused_at(
+                path,
+                1,
+                f"the columns {places[header[at]] + 1} and {at + 1} have one name, {header[at]!r}: rename one of "
+                "them, or name the columns of values by --value",
+            )
         places[header[at]] = at
 
 
@@ -198,7 +222,7 @@ def by_time(one: Reading) -> tuple[int, int]:
 def put_part(part: list[Reading], path: str) -> str:
     with open(path, "wb") as file:
         for at in range(0, len(part), 1000):
-            pickle.dump(part[at:at + 1000], file)
+            pickle.dump(part[at : at + 1000], file)
     return path
 
 
@@ -264,8 +288,11 @@ class Converting:
         try:
             row = converter.push(moment, value)
         except Tie as error:
-            raise refused_at(self.path, line, f"a second reading of {name} in the tick of line {self.lines[place]}: --ties last, first or "
-                             "spread, or a shorter --tick") from error
+            raise refused_at(
+                self.path,
+                line,
+                f"a second reading of {name} in the tick of line {self.lines[place]}: --ties last, first or " "spread, or a shorter --tick",
+            ) from error
         except Late as error:
             raise refused_at(self.path, line, f"this reading of {name} lies before that of line {self.lines[place]}: --sort") from error
         if row is not None:
@@ -303,8 +330,12 @@ class Converting:
         file = file_of(key, name, self.words.prefix)
         path = file if self.words.out == "." else os.path.join(self.words.out, file)
         if max(len(part) for part in notes_path(file).split(os.sep)) > LONGEST_NAME:
-            raise refused_at(self.path, line, f"the name of a file has {LONGEST_NAME} bytes at most, and {notes_path(file)} is longer: "
-                             f"take a shorter name than {name!r}, or a shorter key; each byte outside of ASCII counts as three")
+            raise refused_at(
+                self.path,
+                line,
+                f"the name of a file has {LONGEST_NAME} bytes at most, and {notes_path(file)} is longer: "
+                f"take a shorter name than {name!r}, or a shorter key; each byte outside of ASCII counts as three",
+            )
         for one in (path, notes_path(path)):
             if same_file(one, self.path):
                 raise Refused(f"{one}: it is the file that is read, and the series {name} would take its place: name a folder by --out")
@@ -372,8 +403,12 @@ class Converting:
         converter = self.series[place]
         text = f"{rows} rows over ({start}, {end}]" if rows else "no rows"
         scale = self.scales.of(place[1]).scale
-        notes = ("without a value", nulls), ("dropped, in one tick with another", converter.dropped), (
-            "moved to the next free tick", converter.moved), ("gaps after --max-age", converter.gaps)
+        notes = (
+            ("without a value", nulls),
+            ("dropped, in one tick with another", converter.dropped),
+            ("moved to the next free tick", converter.moved),
+            ("gaps after --max-age", converter.gaps),
+        )
         scaled = [f"values times {scale}"] if scale != 1 else []
         return ", ".join([text, *scaled, *(f"{what}: {count}" for what, count in notes if count)])
 
@@ -450,8 +485,10 @@ def midnight_before(moment: int, zone: str | None) -> int:
         moment_text(midnight, 0)
     except (Refused, ValueError) as error:
         where = "" if zone is None else f" in {zone}"
-        raise ValueError(f"the first reading, at {time_text(moment)}, has no midnight before it{where}, or it has two: name the moment of "
-                         "the first tick by --origin") from error
+        raise ValueError(
+            f"the first reading, at {time_text(moment)}, has no midnight before it{where}, or it has two: name the moment of "
+            "the first tick by --origin"
+        ) from error
     return midnight
 
 
@@ -492,7 +529,7 @@ def scales_of(words: argparse.Namespace, path: str, nulls: Nulls, like: Notes | 
             raise Refused(f"--scale {shown_word}: a whole number above 0, auto, or NAME=N was expected") from error
     digits = digits_of(path, words, nulls) if "auto" in given.values() else {}
     most = max((count for name, count in digits.items() if name not in given), default=0)
-    scales = {name: Scale(number or 10**(digits.get(name, 0) if name else most)) for name, number in numbers.items()}
+    scales = {name: Scale(number or 10 ** (digits.get(name, 0) if name else most)) for name, number in numbers.items()}
     others = scales.pop("", None) or Scale(1 if like is None else like.scale)
     return Scales(scales, others)
 

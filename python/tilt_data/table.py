@@ -54,8 +54,14 @@ def add(commands: Any) -> None:
     parser.add_argument("--merge", action="store_true", help="join equal neighbours")
     parser.add_argument("--episodes", action="store_true", help="a row for each stretch of rows that follow one another")
     parser.add_argument("--gap", metavar="DURATION", help="with --episodes: stretches no farther apart are one")
-    parser.add_argument("--of", nargs="+", action="extend", metavar="NAME=FILE", default=[], help="with --episodes: the least, greatest "
-                        "and mean value (weighted by time) of these in each episode")
+    parser.add_argument(
+        "--of",
+        nargs="+",
+        action="extend",
+        metavar="NAME=FILE",
+        default=[],
+        help="with --episodes: the least, greatest " "and mean value (weighted by time) of these in each episode",
+    )
     parser.add_argument("--wide", action="store_true", help="several files side by side, cut where one of them changes")
     parser.add_argument("-o", "--out", metavar="FILE", help="where the table is written (standard output)")
     parser.set_defaults(main=main)
@@ -166,6 +172,7 @@ def keyed_rows(file: str, opened: IO[str]) -> tuple[list[str], Iterator[tuple[li
 
 def by_key(file: str, found: Iterable[tuple[int, list[str]]], width: int) -> Iterator[tuple[list[str], Iterator[Row]]]:
     """The rows of each key that follow one another. Those of one key are in order."""
+
     def parsed() -> Iterator[tuple[list[str], Row]]:
         known: list[str] | None = None
         before: int | None = None
@@ -286,7 +293,7 @@ def length_text(clock: Clock, ticks: int) -> str:
     """A duration in seconds, with the digits of the clock."""
     digits = clock.digits
     seconds, rest = divmod(ticks * clock.tick, 10**9)
-    return f"{seconds}" + (f".{rest:09d}"[:digits + 1] if digits else "")
+    return f"{seconds}" + (f".{rest:09d}"[: digits + 1] if digits else "")
 
 
 def episodes(words: argparse.Namespace, looks: Looks) -> Iterator[list[str]]:

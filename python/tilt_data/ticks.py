@@ -25,8 +25,12 @@ FIRST_DAY, LAST_DAY = datetime.date(1, 1, 3), datetime.date(9999, 12, 28)
 
 
 def add(commands: Any) -> None:
-    parser = commands.add_parser("ticks", help="helper series: each tick, periods, trading hours, weekdays", description=HELP,
-                                 formatter_class=argparse.RawDescriptionHelpFormatter)
+    parser = commands.add_parser(
+        "ticks",
+        help="helper series: each tick, periods, trading hours, weekdays",
+        description=HELP,
+        formatter_class=argparse.RawDescriptionHelpFormatter,
+    )
     parser.add_argument("kind", choices=["each", "now", "periods", "hours", "weekdays"], metavar="KIND")
     parser.add_argument("out", metavar="OUT.csv")
     parser.add_argument("--like", metavar="SERIES", required=True, help="the series whose clock it has")

@@ -6,8 +6,28 @@ import re
 
 REDUCERS = ("sum", "avg", "min", "max", "count", "first", "last", "any", "all")
 RESERVED = frozenset(
-    ("input", "let", "emit", "over", "every", "from", "if", "then", "else", "when", "or", "and", "not", "true", "false", "isnull", "ifnull",
-     "t") + REDUCERS)
+    (
+        "input",
+        "let",
+        "emit",
+        "over",
+        "every",
+        "from",
+        "if",
+        "then",
+        "else",
+        "when",
+        "or",
+        "and",
+        "not",
+        "true",
+        "false",
+        "isnull",
+        "ifnull",
+        "t",
+    )
+    + REDUCERS
+)
 BLANKS = re.compile(rb"[ \t\n\r]*")
 TOKEN = re.compile(rb"([A-Za-z_][A-Za-z0-9_]*)|([0-9]+)|==|!=|<=|>=|[;=<>+\-*/%()\[\],:]")
 GREATEST_NUMBER = 2**63 - 1
@@ -47,10 +67,17 @@ class Faulty(Exception):
 
 
 SIGNS = {
-    "&": "`and` is written in letters", "|": "`or` is written in letters", "!": "`not a` is written in letters; `!=` compares",
-    "#": "there are no comments: take them out, as by sed 's/#.*//'", ".": "numbers are whole: scale values, as 20.5 degrees to 205 tenths",
-    "'": "there are no texts, only numbers", '"': "there are no texts, only numbers", "{": "blocks aren't in the language",
-    "}": "blocks aren't in the language", "^": "there is no power: write x * x", "?": "choices are written `if c then a else b`",
+    "&": "`and` is written in letters",
+    "|": "`or` is written in letters",
+    "!": "`not a` is written in letters; `!=` compares",
+    "#": "there are no comments: take them out, as by sed 's/#.*//'",
+    ".": "numbers are whole: scale values, as 20.5 degrees to 205 tenths",
+    "'": "there are no texts, only numbers",
+    '"': "there are no texts, only numbers",
+    "{": "blocks aren't in the language",
+    "}": "blocks aren't in the language",
+    "^": "there is no power: write x * x",
+    "?": "choices are written `if c then a else b`",
     "$": "a name has letters, digits and _",
 }
 
@@ -84,8 +111,9 @@ def unknown_byte(text: bytes, at: int) -> Faulty:
         end = at + 1
         while end < len(text) and text[end] & 0xC0 == 0x80:
             end += 1
-        return Faulty(f"20 bad byte at {at}", Token("", "", at, end), "a letter or sign of ASCII was expected",
-                      "write names without accents")
+        return Faulty(
+            f"20 bad byte at {at}", Token("", "", at, end), "a letter or sign of ASCII was expected", "write names without accents"
+        )
     return Faulty(f"20 bad byte at {at}", Token("", sign, at, at + 1), f"the language has no {sign!r}", cure)
 
 
@@ -101,6 +129,6 @@ class Place:
 def place_of(text: bytes, at: int) -> Place:
     begin = text.rfind(b"\n", 0, at) + 1
     end = text.find(b"\n", at)
-    whole = text[begin:len(text) if end < 0 else end].rstrip(b"\r")
+    whole = text[begin : len(text) if end < 0 else end].rstrip(b"\r")
     before = text[begin:at].decode("utf-8", "replace")
     return Place(text.count(b"\n", 0, at) + 1, len(before) + 1, whole.decode("utf-8", "replace"))

@@ -38,8 +38,11 @@ def version_lines() -> list[str]:
     known = described(path)
     toolchain = known.get("toolchain") if digest is not None and digest == known.get("program") else None
     return [
-        f"tilt-data {VERSION}", f"commit: {known.get('commit', 'unknown')}", f"toolchain: {toolchain or 'unknown'}",
-        f"program: {'none' if path is None else printable(found(path))}", f"sha256: {digest or 'unknown'}",
+        f"tilt-data {VERSION}",
+        f"commit: {known.get('commit', 'unknown')}",
+        f"toolchain: {toolchain or 'unknown'}",
+        f"program: {'none' if path is None else printable(found(path))}",
+        f"sha256: {digest or 'unknown'}",
     ]
 
 

@@ -60,10 +60,10 @@ class Refusal:
         begin = max(0, (self.column or 1) - 60)
         text = self.text.replace("\t", " ")
         if self.text:
-            yield "    " + printable(text[begin:begin + 120])
+            yield "    " + printable(text[begin : begin + 120])
         if self.column is not None:
             at, room = self.column - 1, max(1, len(text) - self.column + 1)
-            marked = printable(text[at:at + min(self.width, room, 80)])
+            marked = printable(text[at : at + min(self.width, room, 80)])
             yield "    " + " " * len(printable(text[begin:at])) + "^" * max(1, len(marked))
         if self.cure:
             yield f"    {printable(self.cure)}"
@@ -73,7 +73,7 @@ def placed(file: str, text: bytes, fault: Fault) -> Refusal:
     """The place of a fault. At the end of a text it is after the last token."""
     at = fault.begin
     place = place_of(text, at)
-    width = len(text[fault.begin:fault.end].decode("utf-8", "replace"))
+    width = len(text[fault.begin : fault.end].decode("utf-8", "replace"))
     return Refusal(file, place.line, place.column, place.text, width, fault.expected, fault.cure)
 
 
@@ -181,8 +181,8 @@ def refusal_of(told: str, words: list[str]) -> Refusal | None:
     if found:
         return series_refusal(found, bound(words))
     if line.startswith("2 input names: "):
-        return names_refusal(query, line[len("2 input names: "):], words)
-    return fault_refusal(line[len("4 read fault: "):]) if line.startswith("4 read fault: ") else None
+        return names_refusal(query, line[len("2 input names: ") :], words)
+    return fault_refusal(line[len("4 read fault: ") :]) if line.startswith("4 read fault: ") else None
 
 
 def clashes(inputs: Sequence[str] | Mapping[str, Notes], of: Collection[Aspect] = ASPECTS) -> str | None:
@@ -274,9 +274,13 @@ def why(words: argparse.Namespace) -> int:
 def add(commands: Any) -> None:
     # It is here for the list of commands and its own help: `cli.main` hands all other words on as they are.
     commands.add_parser(
-        "run", help="tilt run, and the place of a mistake", usage="tilt-data run QUERY NAME=FILE .. [--plain] [--cut TIME,..]",
-        description="Runs `tilt run` with the same words: its output, line and status. Where it refuses, the place stands after its line.")
-    parser = commands.add_parser("why", help="why a query is refused", description="Tells why a query is refused, and where; else what "
-                                 "`tilt explain` prints.")
+        "run",
+        help="tilt run, and the place of a mistake",
+        usage="tilt-data run QUERY NAME=FILE .. [--plain] [--cut TIME,..]",
+        description="Runs `tilt run` with the same words: its output, line and status. Where it refuses, the place stands after its line.",
+    )
+    parser = commands.add_parser(
+        "why", help="why a query is refused", description="Tells why a query is refused, and where; else what " "`tilt explain` prints."
+    )
     parser.add_argument("query", metavar="QUERY")
     parser.set_defaults(main=why)

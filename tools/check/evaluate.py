@@ -106,8 +106,8 @@ def shifted(x: Stream, offset: int) -> Stream:
 def lifted(rule: Callable[..., Cell], *operands: Stream) -> Stream:
     """An operator: the cells of each tick by itself, and a mark where an operand has one."""
     return Stream(
-        lambda tick: rule(*(operand.cell(tick) for operand in operands)),
-        [mark for operand in operands for mark in operand.marks])
+        lambda tick: rule(*(operand.cell(tick) for operand in operands)), [mark for operand in operands for mark in operand.marks]
+    )
 
 
 # Windows
@@ -115,7 +115,7 @@ def lifted(rule: Callable[..., Cell], *operands: Stream) -> Stream:
 
 def met(x: Stream, lo: int, hi: int) -> list[Cell]:
     """The cells of the snapshots that the ticks of `(lo, hi]` meet: the first tick counts as the beginning of one."""
-    begins = [lo + 1] + x.marks[bisect.bisect_right(x.marks, lo + 1):bisect.bisect_right(x.marks, hi)]
+    begins = [lo + 1] + x.marks[bisect.bisect_right(x.marks, lo + 1) : bisect.bisect_right(x.marks, hi)]
     return [x.cell(tick) for tick in begins]
 
 
@@ -148,7 +148,8 @@ def on_grid(x: Stream, period: int, offset: int) -> Stream:
     """The cell of the least grid point that isn't below the tick, and a mark after the greatest that is below a mark."""
     return Stream(
         lambda tick: x.cell(-((offset - tick) // period) * period + offset),
-        [(mark - 1 - offset) // period * period + offset + 1 for mark in x.marks])
+        [(mark - 1 - offset) // period * period + offset + 1 for mark in x.marks],
+    )
 
 
 # Spans
@@ -156,8 +157,8 @@ def on_grid(x: Stream, period: int, offset: int) -> Stream:
 
 def restricted(x: Stream, lo: int, hi: int) -> Stream:
     return Stream(
-        lambda tick: x.cell(tick) if lo < tick <= hi else None,
-        [lo + 1, hi + 1] + [mark for mark in x.marks if lo + 2 <= mark <= hi])
+        lambda tick: x.cell(tick) if lo < tick <= hi else None, [lo + 1, hi + 1] + [mark for mark in x.marks if lo + 2 <= mark <= hi]
+    )
 
 
 # Snapshots and output
@@ -430,7 +431,7 @@ def flow_of(tokens: list[str], inputs: Mapping[str, list[Row]]) -> list[Row]:
         else:
             pieces = joined(pieces, filled(inputs[rest[0]]), rest[1:])
     comma = last.index(",")
-    lo, hi = bound_of(last[3:comma]), bound_of(last[comma + 1:-1])
+    lo, hi = bound_of(last[3:comma]), bound_of(last[comma + 1 : -1])
     return snapshots(of_rows(pieces), lo, hi)
 
 

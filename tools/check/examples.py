@@ -76,6 +76,7 @@ COMMAND = re.compile(rf"\$ |(?:\w+=\S* +)*(?:(?:\.{{0,2}}/|~/|\.ci/|tools/)\w|(?
 class Call:
     """A call of `run` or `flow` that is worked out again: its words after `tilt`, and where what it prints stands: in a file, or on the
     page, of which it may be so many lines alone."""
+
     words: list[str]
     file: str | None = None
     most: int | None = None
@@ -178,10 +179,10 @@ def evaluated(call: Call, folder: str) -> str:
     name, *words = call.words
     if "--cut" in words:
         at = words.index("--cut")
-        del words[at:at + 2]
+        del words[at : at + 2]
     option = ["--flow"] if name == "flow" else []
     text = said([EVALUATE, *option, *(word for word in words if word != "--plain")], folder)
-    return text if call.most is None else "".join(text.splitlines(keepends=True)[:call.most])
+    return text if call.most is None else "".join(text.splitlines(keepends=True)[: call.most])
 
 
 def check_calls(tally: PageTally, place: str, command: str, wanted: str, folder: str) -> None:
@@ -242,7 +243,7 @@ def indented(lines: Sequence[str]) -> Iterator[tuple[int, str]]:
 
 def text_before(lines: Sequence[str], fence: int) -> str:
     """The last line of text before a fence; the lines are counted from 1."""
-    return next((line for line in reversed(lines[:fence - 1]) if line.strip()), "")
+    return next((line for line in reversed(lines[: fence - 1]) if line.strip()), "")
 
 
 def hidden_commands(lines: Sequence[str]) -> Iterator[tuple[int, str]]:

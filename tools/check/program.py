@@ -76,8 +76,8 @@ def run(program: str, call: Row, folder: str) -> list[str]:
     full = call.get("full", False)
     out: BinaryIO | int = open("/dev/full", "wb") if full else subprocess.PIPE
     process = subprocess.Popen(
-        [program] + words_of(call), cwd=folder, stdin=subprocess.PIPE, stdout=out, stderr=subprocess.PIPE,
-        preexec_fn=before(call))
+        [program] + words_of(call), cwd=folder, stdin=subprocess.PIPE, stdout=out, stderr=subprocess.PIPE, preexec_fn=before(call)
+    )
     try:
         written, told = process.communicate(contents(call.get("input", "")), timeout=call.get("seconds", 120))
     except subprocess.TimeoutExpired:

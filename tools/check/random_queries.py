@@ -74,25 +74,29 @@ def random_span(draw: random.Random, period: int = 1, offset: int = 0) -> str:
 def random_number(draw: random.Random, names: Sequence[str]) -> str:
     """An expression of numbers over names."""
     name = draw.choice(names)
-    return draw.choice([
-        name,
-        f"{name} + {draw.choice(names)}",
-        f"{name} * 2 - {draw.choice(names)}",
-        f"{name} / {draw.choice([2, 3, 7])}",
-        f"ifnull({name}, {draw.choice([0, 5])})",
-        f"{name} when {name} > {draw.randint(-5, 5)}",
-        str(draw.randint(-9, 9)) if draw.random() < 0.5 else f"-{name}",
-    ])
+    return draw.choice(
+        [
+            name,
+            f"{name} + {draw.choice(names)}",
+            f"{name} * 2 - {draw.choice(names)}",
+            f"{name} / {draw.choice([2, 3, 7])}",
+            f"ifnull({name}, {draw.choice([0, 5])})",
+            f"{name} when {name} > {draw.randint(-5, 5)}",
+            str(draw.randint(-9, 9)) if draw.random() < 0.5 else f"-{name}",
+        ]
+    )
 
 
 def random_test(draw: random.Random, names: Sequence[str]) -> str:
     name = draw.choice(names)
-    return draw.choice([
-        f"{name} > {draw.randint(-9, 3)}",
-        f"not {name} == {draw.randint(-3, 3)}",
-        f"{name} <= {draw.randint(0, 9)} and {name} >= -7",
-        f"{name} > {draw.choice([-100, -50, 100])}",
-    ])
+    return draw.choice(
+        [
+            f"{name} > {draw.randint(-9, 3)}",
+            f"not {name} == {draw.randint(-3, 3)}",
+            f"{name} <= {draw.randint(0, 9)} and {name} >= -7",
+            f"{name} > {draw.choice([-100, -50, 100])}",
+        ]
+    )
 
 
 def random_step(draw: random.Random) -> str:
@@ -117,12 +121,14 @@ def random_body(draw: random.Random, names: Sequence[str]) -> str:
     """An expression of numbers over sources, with shifts and windows."""
     name = draw.choice(names)
     low, high = sorted(draw.sample(range(-6, 5), 2))
-    return draw.choice([
-        random_number(draw, names),
-        f"{name}[t{draw.choice(['-1', '-4', '+1', '+3'])}]",
-        f"{draw.choice(REDUCERS)}({name}[t{low:+d}:t{high:+d}])".replace("+0", "").replace("-0", ""),
-        f"{draw.choice(REDUCERS)}({name}[t-{draw.choice([1, 3, 8])}:t])",
-    ])
+    return draw.choice(
+        [
+            random_number(draw, names),
+            f"{name}[t{draw.choice(['-1', '-4', '+1', '+3'])}]",
+            f"{draw.choice(REDUCERS)}({name}[t{low:+d}:t{high:+d}])".replace("+0", "").replace("-0", ""),
+            f"{draw.choice(REDUCERS)}({name}[t-{draw.choice([1, 3, 8])}:t])",
+        ]
+    )
 
 
 def random_query(draw: random.Random) -> str:

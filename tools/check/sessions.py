@@ -33,7 +33,11 @@ def readings() -> list[Row]:
 CASES: list[tuple[str, list[Row], Sequence[Sequence[int]]]] = [
     ("input x; emit count(x[t-3:t]) over (0, 10];", [(0, 5, 7), (5, 8, 7)], [(a, b) for a in range(-2, 13) for b in range(a, 13)]),
     ("input x; emit sum(x[t-5:t]) over (0, 10] every 5;", [(0, 5, 1), (5, 8, 2)], [(a, b) for a in range(-2, 13) for b in range(a, 13)]),
-    ("input x; emit sum(x[t-5:t]) over (2, 12] every 5 from 2;", [(0, 5, 1), (5, 8, 2)], [(a, b) for a in range(-2, 15) for b in range(a, 15)]),
+    (
+        "input x; emit sum(x[t-5:t]) over (2, 12] every 5 from 2;",
+        [(0, 5, 1), (5, 8, 2)],
+        [(a, b) for a in range(-2, 15) for b in range(a, 15)],
+    ),
     (f"input x; let m = avg(x[t-600:t]) every 60; emit m - x[t+30] over (0, {DAY}];", readings(), [tuple(range(HOUR, DAY + 1, HOUR))]),
 ]
 
@@ -41,7 +45,11 @@ CASES: list[tuple[str, list[Row], Sequence[Sequence[int]]]] = [
 # Queries of x and y, with their rows: each session is handed those of x by its own cuts, and those of y by others.
 APART: list[tuple[str, list[Row], list[Row]]] = [
     ("input x; input y; emit x + y over (0, 5];", [(0, 3, 1), (3, 5, 2)], [(0, 2, 10), (2, 6, 20)]),
-    ("input x; input y; emit ifnull(x[t-1], 0) * 100 + ifnull(y[t+1], 0) over (0, 5];", [(0, 1, 1), (2, 4, 2)], [(-1, 2, 10), (3, 4, 20), (4, 6, 30)]),
+    (
+        "input x; input y; emit ifnull(x[t-1], 0) * 100 + ifnull(y[t+1], 0) over (0, 5];",
+        [(0, 1, 1), (2, 4, 2)],
+        [(-1, 2, 10), (3, 4, 20), (4, 6, 30)],
+    ),
     ("input x; input y; emit count(x[t-2:t]) + sum(y[t-3:t]) over (0, 4] every 2;", [(-1, 1, 1), (1, 2, 1), (3, 5, 1)], [(0, 4, 7)]),
 ]
 PAIRS = [(first, second) for first in range(-1, 7) for second in range(first, 7)]

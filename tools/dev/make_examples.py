@@ -47,8 +47,24 @@ def between(points: Sequence[tuple[int, int]], tick: int) -> int:
 # Sensors: a tick is a second, a value is a tenth of a degree.
 
 DAY = 86400
-WARMTH = [(0, 182), (21600, 170), (32400, 224), (36000, 238), (39600, 252), (43200, 246), (46800, 228), (50400, 226), (52200, 252),
-          (58800, 250), (61200, 222), (66000, 220), (66600, 242), (67800, 242), (68400, 214), (DAY, 186)]
+WARMTH = [
+    (0, 182),
+    (21600, 170),
+    (32400, 224),
+    (36000, 238),
+    (39600, 252),
+    (43200, 246),
+    (46800, 228),
+    (50400, 226),
+    (52200, 252),
+    (58800, 250),
+    (61200, 222),
+    (66000, 220),
+    (66600, 242),
+    (67800, 242),
+    (68400, 214),
+    (DAY, 186),
+]
 # Without a reading: the sensor was switched on at 00:03, lost twice, and off for an hour.
 NOT_READ = [(0, 180), (38100, 38400), (54720, 55800), (72000, 75600)]
 
@@ -72,8 +88,18 @@ def limit() -> list[Whole]:
 # Trading: a tick is a millisecond, a price is in hundredths of a cent, and quotes are in whole cents.
 
 TEN_MINUTES = 600000
-PRICE = [(0, 1002000), (90000, 1004600), (170000, 1001200), (230000, 1003000), (262000, 997400), (330000, 1001800), (410000, 1000200),
-         (480000, 1004200), (540000, 1000400), (TEN_MINUTES, 1002400)]
+PRICE = [
+    (0, 1002000),
+    (90000, 1004600),
+    (170000, 1001200),
+    (230000, 1003000),
+    (262000, 997400),
+    (330000, 1001800),
+    (410000, 1000200),
+    (480000, 1004200),
+    (540000, 1000400),
+    (TEN_MINUTES, 1002400),
+]
 HALT = 300000, 315000
 
 
@@ -178,7 +204,7 @@ WARD_BEGINS = datetime.datetime(2026, 3, 2, 22, 0)
 def moment(begin: datetime.datetime, milliseconds: int, digits: int) -> str:
     """A time of ISO 8601 with three digits of a second, or none."""
     time = (begin + datetime.timedelta(milliseconds=milliseconds)).isoformat(timespec="milliseconds")
-    return time[:23 if digits else 19]
+    return time[: 23 if digits else 19]
 
 
 def put_sensors(file: TextIO) -> None:
@@ -222,8 +248,11 @@ def put_clinical(file: TextIO) -> None:
 
 
 def put_raw(top: str, traded: Sequence[Whole]) -> None:
-    for example, name, put in (("sensors", "readings", put_sensors), ("clinical", "monitor", put_clinical),
-                               ("trading", "trades", lambda file: put_trading(file, traded))):
+    for example, name, put in (
+        ("sensors", "readings", put_sensors),
+        ("clinical", "monitor", put_clinical),
+        ("trading", "trades", lambda file: put_trading(file, traded)),
+    ):
         os.makedirs(os.path.join(top, example, "raw"), exist_ok=True)
         with open(os.path.join(top, example, "raw", name + ".csv"), "w", encoding="ascii") as file:
             put(file)

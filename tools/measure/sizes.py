@@ -48,6 +48,7 @@ QUERY = b"input x; emit x over (0, 10];\n"
 @dataclasses.dataclass
 class Run:
     """What a run left: a status of None where it took too long. The time is in seconds of the processor, the memory in bytes."""
+
     status: int | None
     out: str
     err: bytes
@@ -60,6 +61,7 @@ class Run:
 class Bad:
     """A bad input. `put` writes a text of about so many bytes and gives the line that has to be told of it, if the status isn't 0.
     `memory` is how many bytes of memory a byte of the file may take, or None where nothing is promised."""
+
     what: str
     words: list[str]
     put: Callable[[BinaryIO, int], str]
@@ -69,6 +71,7 @@ class Bad:
 @dataclasses.dataclass(frozen=True)
 class Good:
     """A good input: its files, its commands, and what the last of them has to print."""
+
     what: str
     files: dict[str, Callable[[], Iterator[bytes]]]
     commands: list[list[str]]
@@ -77,9 +80,11 @@ class Good:
 
 # Running.
 
+
 @dataclasses.dataclass(frozen=True)
 class Limits:
     """Bytes of memory, and seconds on the clock."""
+
     memory: int
     seconds: float
 
@@ -96,8 +101,14 @@ def run(program: str, words: list[str], folder: str, limits: Limits) -> Run:
     measured = [TIME, "-f", "%M", "-o", peak] if TIME else []
     with open(out, "wb") as out_file, open(err, "wb") as err_file:
         process = subprocess.Popen(
-            [*measured, program, *words], cwd=folder, stdin=subprocess.DEVNULL, stdout=out_file, stderr=err_file,
-            preexec_fn=limit, start_new_session=True)
+            [*measured, program, *words],
+            cwd=folder,
+            stdin=subprocess.DEVNULL,
+            stdout=out_file,
+            stderr=err_file,
+            preexec_fn=limit,
+            start_new_session=True,
+        )
         late = threading.Timer(limits.seconds, stop)
         late.start()
         _, ended, usage = os.wait4(process.pid, 0)
@@ -117,6 +128,7 @@ def peak_of(path: str) -> int:
 
 
 # Bad inputs.
+
 
 def again_and_again(piece: bytes, told: str, first: bytes = b"") -> Callable[[BinaryIO, int], str]:
     """A text that has a piece again and again after its first bytes."""
@@ -338,6 +350,7 @@ def growth(runs: list[Run]) -> str:
 
 # Words.
 
+
 def word_lists() -> list[tuple[str, list[str], int, str]]:
     many = 100000
     return [
@@ -361,6 +374,7 @@ def try_words(program: str, limits: Limits, tally: Tally) -> list[list[str]]:
 
 
 # Good inputs.
+
 
 def text(*pieces: str) -> Callable[[], Iterator[bytes]]:
     return lambda: iter([piece.encode() for piece in pieces])
@@ -410,12 +424,24 @@ def good_inputs() -> list[Good]:
     return [
         Good("listing of 100,000 lines", {"f": long_code, "x": series}, [["exec", "f", "x=x"]], plus(99994)),
         Good("listing of 10,000 loops", {"f": many_loops, "x": series}, [["exec", "f", "x=x"]], plus(0)),
-        Good("checkpoint of 200,000 rows", {"q": text(counts), "x": rows(0, 200000, lambda i: i % 7), "y": rows(200000, 200010, lambda i: 3)},
-             [["start", "q", "x=x", "--upto", "200000", "--save", "f"], ["resume", "f", "x=y", "--end"]], counted),
-        Good("series of 3,000,000 rows", {"q": text("input x; emit x over (0, 3000000];"), "f": rows(0, 3000000, lambda i: i % 1000)},
-             [["run", "q", "x=f"]], rows(0, 3000000, lambda i: i % 1000)),
-        Good("query of 255 inputs", {"f": text(inputs), "x": series}, [["run", "f", *(f"a{i}=x" for i in range(255))]],
-             text("start,end,value\n0,5,700\n6,8,900\n")),
+        Good(
+            "checkpoint of 200,000 rows",
+            {"q": text(counts), "x": rows(0, 200000, lambda i: i % 7), "y": rows(200000, 200010, lambda i: 3)},
+            [["start", "q", "x=x", "--upto", "200000", "--save", "f"], ["resume", "f", "x=y", "--end"]],
+            counted,
+        ),
+        Good(
+            "series of 3,000,000 rows",
+            {"q": text("input x; emit x over (0, 3000000];"), "f": rows(0, 3000000, lambda i: i % 1000)},
+            [["run", "q", "x=f"]],
+            rows(0, 3000000, lambda i: i % 1000),
+        ),
+        Good(
+            "query of 255 inputs",
+            {"f": text(inputs), "x": series},
+            [["run", "f", *(f"a{i}=x" for i in range(255))]],
+            text("start,end,value\n0,5,700\n6,8,900\n"),
+        ),
         Good("query of 255 definitions", {"f": text(chain), "x": series}, [["run", "f", "x=x"]], plus(255)),
         Good("query of 65,022 tokens", {"f": text(wide), "x": series}, [["run", "f", "x=x"]], plus(254 * 125 + 120)),
     ]

@@ -44,6 +44,7 @@ PLAIN: list[list[str]] = [[], ["--plain"]]
 
 # The works and their series.
 
+
 def ragged(chance: random.Random, rows: int, gaps: float) -> Iterator[str]:
     """Rows of 1 to 18 ticks; so often there is a gap of 1 to 6 ticks before one."""
     end = 0
@@ -82,6 +83,7 @@ Maker = Callable[[random.Random, int], Iterator[str]]
 @dataclasses.dataclass(frozen=True)
 class Work:
     """A work: the name of its query and of its programs, and how the series of its inputs are made."""
+
     name: str
     what: str
     inputs: dict[str, Maker]
@@ -100,6 +102,7 @@ WORKS = [
 @dataclasses.dataclass
 class Laid:
     """A work whose series lie in a folder: their paths, how many rows they have together, and how many bytes."""
+
     work: Work
     folder: str
     files: dict[str, str]
@@ -131,9 +134,11 @@ def lay(work: Work, rows: int, folder: str) -> Laid:
 
 # Running.
 
+
 @dataclasses.dataclass(frozen=True)
 class Run:
     """What a run took: seconds of the processor in the program itself, seconds on the clock, and bytes of memory at its peak."""
+
     user: float
     clock: float
     memory: int
@@ -212,6 +217,7 @@ def build(folder: str) -> str:
 
 # Peers.
 
+
 def is_there(peer: str) -> bool:
     if peer == "pandas":
         return has_module("pandas")
@@ -240,9 +246,11 @@ def by_peer(peer: str, laid: Laid) -> tuple[list[str], str] | None:
 
 # What is measured of the works.
 
+
 @dataclasses.dataclass
 class Measured:
     """The lines of each table."""
+
     counted: list[list[str]]
     timed: list[list[str]]
     held: list[list[str]]
@@ -304,6 +312,7 @@ def seconds(done: Run) -> str:
 
 # How the work grows with the query.
 
+
 def readings(count: int) -> str:
     return f"input x;\nlet y = x over (0, 200];\nemit {' + '.join(['y'] * count)} over (0, 200];\n"
 
@@ -354,9 +363,10 @@ def run_and_exec(program: str, query: str, series: str, plain: list[str], folder
 
 # The tables.
 
+
 def all_tables(tables: Measured, given: argparse.Namespace, program: str, tally: Tally) -> dict[str, str]:
     sizes = [f"{rows:,}" for rows in (SMALL, LARGE)]
-    counted_heads = [f"{who}, {size}" for size in sizes[:1 + given.large] for who in ("Rust", "tilt", "ratio")]
+    counted_heads = [f"{who}, {size}" for size in sizes[: 1 + given.large] for who in ("Rust", "tilt", "ratio")]
     held_heads = [f"{who}, {size}" for size in sizes for who in ("files", "Rust", "tilt")]
     grown_heads = ["`run`", "`exec`", "ratio", "`run --plain`", "`exec` of its listing", "ratio"]
     made = {"work machine": machine(given.peers)}

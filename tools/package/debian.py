@@ -20,7 +20,7 @@ from shared.paths import FIND_PROGRAM, TOP
 DOC = "usr/share/doc/tilt-stream"
 DESCRIBE = os.path.join(TOP, "tools", "package", "describe")
 MODULES = "usr/lib/python3/dist-packages/tilt_data"
-STARTER = "#!/usr/bin/python3\nimport sys\n\nfrom tilt_data.cli import main\n\nif __name__ == \"__main__\":\n    sys.exit(main())\n"
+STARTER = '#!/usr/bin/python3\nimport sys\n\nfrom tilt_data.cli import main\n\nif __name__ == "__main__":\n    sys.exit(main())\n'
 
 
 def text_of(*parts: str) -> str:
@@ -74,8 +74,7 @@ Description: queries over interval data, proved to print what they mean
 
 
 def lay_out(root: str, program: str) -> None:
-    shutil.copytree(os.path.join(TOP, "python", "tilt_data"), os.path.join(root, MODULES),
-                    ignore=shutil.ignore_patterns("__pycache__"))
+    shutil.copytree(os.path.join(TOP, "python", "tilt_data"), os.path.join(root, MODULES), ignore=shutil.ignore_patterns("__pycache__"))
     shutil.copytree(os.path.join(TOP, "examples"), os.path.join(root, DOC, "examples"))
     described = subprocess.run([DESCRIBE, program], capture_output=True, check=True)
     put(root, f"{MODULES}/described.toml", described.stdout)
@@ -126,8 +125,11 @@ def main() -> int:
         lay_out(root, found.stdout.strip())
         finish(root, time)
         new = package + ".new"
-        done = subprocess.run(["dpkg-deb", "--root-owner-group", "-Zxz", "--build", root, new], stdout=subprocess.DEVNULL,
-                              env={**os.environ, "SOURCE_DATE_EPOCH": str(time)})
+        done = subprocess.run(
+            ["dpkg-deb", "--root-owner-group", "-Zxz", "--build", root, new],
+            stdout=subprocess.DEVNULL,
+            env={**os.environ, "SOURCE_DATE_EPOCH": str(time)},
+        )
         if done.returncode:
             return 1
     os.replace(new, package)

@@ -28,6 +28,7 @@ Numbered = list[tuple[str, int, str]]
 @dataclasses.dataclass(frozen=True)
 class Call:
     """A call to the system: its name, the how manieth of this name it is, what it has to do with, and whether its fault has to be told."""
+
     name: str
     count: int
     part: str
@@ -38,6 +39,7 @@ class Call:
 @dataclasses.dataclass(frozen=True)
 class Demand:
     """A call for memory: of each name in MEMORY, the how manieth call is the next one there; and whether no file was opened yet."""
+
     counts: dict[str, int]
     early: bool
 
@@ -45,6 +47,7 @@ class Demand:
 @dataclasses.dataclass
 class Clean:
     """The run of a case without faults: its output, what it saved, its calls, and those that ask for memory."""
+
     out: bytes
     saved: bytes | None
     calls: list[Call]
@@ -128,6 +131,6 @@ def wrong_order(calls: list[Call]) -> list[str]:
     renames = [i for i, name in enumerate(names) if name in RENAMES]
     if not renames:
         return ["no rename"]
-    synced = [i for i, name in enumerate(names[:renames[0]]) if name in SYNCS]
+    synced = [i for i, name in enumerate(names[: renames[0]]) if name in SYNCS]
     written = [i for i, name in enumerate(names) if name in WRITES]
     return [] if synced and written and written[-1] < synced[-1] else [f"no sync between the last write and the rename: {names}"]

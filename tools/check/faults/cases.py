@@ -40,8 +40,14 @@ def cases_of(program: str) -> list[Case]:
         Case("parts", ["parts", "q", "x=x", "--at", "6"], {"q": QUERY, "x": series}),
         Case("flow", ["flow", "p", "x=x"], {"p": b"from x; window sum 3; emit over (0, 12];\n", "x": series}),
         Case("fix", ["fix", "q", "x=x", "--edits", "e"], {"q": QUERY, "x": series, "e": b"remove x 0,5\nadd x 1,4,6\n"}),
-        Case("run, refused", ["run", "q", "x=x"], {"q": b"input x; emit y over (0, 12];\n", "x": series}, None, 1,
-             b"tilt: 27 statement 2: unknown name\n"),
+        Case(
+            "run, refused",
+            ["run", "q", "x=x"],
+            {"q": b"input x; emit y over (0, 12];\n", "x": series},
+            None,
+            1,
+            b"tilt: 27 statement 2: unknown name\n",
+        ),
     ]
 
 

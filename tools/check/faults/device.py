@@ -46,8 +46,12 @@ def rows_from(first: int, last: int) -> bytes:
 def try_device(program: str, tally: FaultTally) -> None:
     """A `resume` whose new checkpoint doesn't fit the device, under the name of the old one; a save after it that fits; and an output that
     doesn't fit."""
-    files = {"q": b"input x; emit count(x[t-100000:t]) over (0, 100000];\n", "x": rows_from(0, 500), "more": rows_from(500, 9000),
-             "some": rows_from(500, 600)}
+    files = {
+        "q": b"input x; emit count(x[t-100000:t]) over (0, 100000];\n",
+        "x": rows_from(0, 500),
+        "more": rows_from(500, 9000),
+        "some": rows_from(500, 600),
+    }
     resume = ["resume", "state"]
     with Place(Case("", [], files)) as folder:
         first = run([program, "start", "q", "x=x", "--upto", "500", "--save", "state"], folder)

@@ -123,6 +123,7 @@ def unchanged(folder: str, end: End, saved: bytes) -> bool:
 class Row:
     """A name to save under: how its folder is prepared, whether what stands afterwards is good, and whether the save has to fail. A name
     outside of the folder is weak: a program that is wrong must not be able to put a file in the place of a device of the machine."""
+
     what: str
     name: str
     prepare: Callable[[str], None]

@@ -73,8 +73,9 @@ def wrong_end(case: Case, clean: Clean, call: Call, error: str, end: End, stays:
     wrong = wrong_files(case, end, clean)
     answers = answers_of(case, call, error, stays)
     line_fails = call.part == "err" and error != "EINTR" or stays and call.name in WRITES
-    fits = [(status, told) for status, told in answers
-            if status == end.status and (told == end.err or line_fails and told.startswith(end.err))]
+    fits = [
+        (status, told) for status, told in answers if status == end.status and (told == end.err or line_fails and told.startswith(end.err))
+    ]
     if not fits:
         wrong.append(f"status {end.status} and {end.err[:100]!r}, wanted one of {answers}")
     if not is_prefix(case, end, clean):

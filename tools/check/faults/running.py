@@ -18,6 +18,7 @@ NOBODY = 65534
 class Case:
     """A command on files. `saves` is the file that it saves, and `old` what that held before, if it was there; where there is a link to it,
     the words have the link's name."""
+
     name: str
     words: list[str]
     files: dict[str, bytes]
@@ -42,6 +43,7 @@ class Case:
 @dataclasses.dataclass
 class End:
     """What a run leaves. The status is None where it took too long, and the files are those of its folder with their modes."""
+
     status: int | None
     out: bytes
     err: bytes
@@ -110,8 +112,17 @@ def run(command: list[str], folder: str, fds: Iterable[int] = (), weak: bool = F
     out, err = folder + ".out", folder + ".err"
     with open(out, "wb") as out_file, open(err, "wb") as err_file:
         process = subprocess.Popen(
-            command, cwd=folder, stdin=subprocess.DEVNULL, stdout=out_file, stderr=err_file, start_new_session=True,
-            pass_fds=tuple(fds), user=user, group=user, extra_groups=None if user is None else list(groups))
+            command,
+            cwd=folder,
+            stdin=subprocess.DEVNULL,
+            stdout=out_file,
+            stderr=err_file,
+            start_new_session=True,
+            pass_fds=tuple(fds),
+            user=user,
+            group=user,
+            extra_groups=None if user is None else list(groups),
+        )
         status = finish(process)
     return End(status, content(out), content(err), files_in(folder))
 

@@ -27,7 +27,7 @@ def give(file: int, given: bytes) -> None:
     """Writes the bytes to a pipe, each as a packet of its own, so that a read gives one."""
     try:
         for i in range(len(given)):
-            os.write(file, given[i:i + 1])
+            os.write(file, given[i : i + 1])
     except BrokenPipeError:
         pass
     os.close(file)
