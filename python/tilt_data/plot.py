@@ -429,7 +429,7 @@ def main(words: argparse.Namespace) -> int:
     if form not in ("svg", "png"):
         raise Refused(f"{words.out}: a name that ends in .svg or .png was expected")
     try:
-        importlib.import_module("matplotlib")
+        matplotlib = importlib.import_module("matplotlib")
     except ImportError as error:
         raise Refused("matplotlib isn't there: apt-get install python3-matplotlib, or pip install matplotlib") from error
     panels = panels_of(words)
