@@ -28,6 +28,11 @@ def printed(*command: str) -> str:
     return subprocess.run(command, check=True, stdin=subprocess.DEVNULL, capture_output=True, text=True).stdout.strip()
 
 
+def logic_of(toolchain: str) -> str:
+    """The sum of the logic that a toolchain proves by. Kits of several names have the same one."""
+    return toolchain.partition(" logic ")[2]
+
+
 def compare(description: dict[str, str], tally: Tally) -> None:
     released = content(RELEASED)
     digest = hashlib.sha256(released).hexdigest()
@@ -39,7 +44,7 @@ def compare(description: dict[str, str], tally: Tally) -> None:
     built = content(printed(FIND_PROGRAM, "--built"))
     tally.expect(built == released, "release/tilt isn't the program that was built from these sources")
     toolchain = printed("rt", "version")
-    tally.expect(toolchain == description["toolchain"], f"the toolchain is {toolchain}")
+    tally.expect(logic_of(toolchain) == logic_of(description["toolchain"]), f"the toolchain is {toolchain}")
 
 
 def main() -> int:

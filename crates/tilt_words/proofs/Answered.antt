@@ -1,18 +1,20 @@
 -- What an answer says that is a command of the words, or that they are none.
-use Rattle.std.proofs.Common.{◌≡◌, ◌≢◌, ℕ, ◌-◌, ◌≤◌, List, [], ◌∷◌, length, get_or, take, drop}
-use Rattle.std.proofs.Common.{Option, Some, None, Result, Ok, Err, IfOk, IfErr, IsErr, MatchOption, MatchResult, codes, String, string_bytes, refl, sym, ap, ◌∙◌, subst, arith}
+use Rattle.std.proofs.Common.{◌≡◌, ◌≢◌, ℕ, ◌-◌, ◌<◌, ◌≤◌, List, [], ◌∷◌, length, get_or, take, drop}
+use Rattle.std.proofs.Common.{Option, Some, None, Result, Ok, Err, IfOk, IfErr, IsErr, MatchOption, MatchResult, codes, String, string_bytes, refl, sym, ap, ◌∙◌, arith}
 use Rattle.std.specs.declared.alloc.Global.{Global}
 use Rattle.std.specs.Option.{ok_or}
 use Rattle.std.proofs.lemmas.List.{take_rest}
 use Rattle.tilt_words.specs.declared.command.Command.{Command}
 use Rattle.tilt_words.specs.declared.fault.WordsFault.{WordsFault}
 use Rattle.tilt_words.specs.declared.fault.WordsFault.TheVariants.{Usage, OutOfMemory}
-use Rattle.tilt_words.specs.Arguments.{Settings, no_settings, AreArguments}
-use Rattle.tilt_words.specs.Command.{CommandValue, IsCommand, IsFile, IsFileCommand, IsTry, IsWithin, command_of, texts}
-use Rattle.tilt_words.specs.Given.{IsCalled}
-use Rattle.tilt_words.proofs.Determined.{same_settings}
+use Rattle.std.proofs.lemmas.Option.{none-some}
+use Rattle.std.specs.Prelude.{option_and_then, option_map}
+use Rattle.tilt_words.specs.Arguments.{ArgumentsValue, no_arguments, AreArguments}
+use Rattle.tilt_words.specs.Command.{CommandValue, IsCommand, IsFile, IsFileCommand, IsTry, IsWithin, command_of, command_with, texts, with_file}
+use Rattle.tilt_words.specs.Legal.{command_of_table}
+use Rattle.tilt_words.specs.Tables.{CommandEntry}
 use Rattle.tilt_words.proofs.Within.{within}
-use Rattle.tilt_words.proofs.OneCommand.{one_command, only_try, only_file, file_command}
+use Rattle.tilt_words.proofs.OneCommand.{called_with, one_command, only_try, only_file}
 
 -- the texts of two words and of the others
 pub two_texts : (words : List (String Global)) (a b : String Global) (x y : List ℕ) → 2 ≤ length words → a ≡ get_or words 0 a →
@@ -26,22 +28,31 @@ two_texts (w ∷ v ∷ ws) a b x y some p q e f =
     let rest : take (length (w ∷ v ∷ ws) - 2) (drop 2 (w ∷ v ∷ ws)) ≡ ws = take_rest (w ∷ v ∷ ws) 2 in
     λ i. first i ∷ second i ∷ sym (ap texts rest) i
 
--- a call of the words answers the command of the words that has a file
-pub called : (name file : List ℕ) (rest : List (List ℕ)) (settings : Settings) (result : Option Command) → IsFile file →
-    AreArguments no_settings rest settings → IsCalled (record { name = name; file = file; settings = settings }) result →
+-- no row of the table has the first word and can have the arguments: the words are no command that has a file
+pub not_called : (name file : List ℕ) (rest : List (List ℕ)) (given : ArgumentsValue) → AreArguments no_arguments rest given →
+    command_of_table name given ≡ None → (command : CommandValue) → IsFileCommand (name ∷ file ∷ rest) command → ⊥
+not_called name file rest given are none command is =
+    let called = called_with name file rest given are command is in
+    none-some command (sym (ap (option_and_then (λ (row : CommandEntry). command_with row.form file given)) none) ∙ called)
+
+-- a row does: the words are the command that it makes
+pub called : (name file : List ℕ) (rest : List (List ℕ)) (given : ArgumentsValue) (row : CommandEntry) (result : Option Command) → IsFile file →
+    AreArguments no_arguments rest given → command_of_table name given ≡ Some row → option_map command_of result ≡ command_with row.form file given →
     MatchResult (ok_or result Usage) (λ command. IsFileCommand (name ∷ file ∷ rest) (command_of command))
     (λ fault. fault ≡ Usage → (command : CommandValue) → ¬ (IsFileCommand (name ∷ file ∷ rest) command))
-called name file rest settings (Some command) is_file are answer =
-    record { call = record { name = name; file = file; settings = settings }; rest = rest; call_is = answer; words_are = refl; is_file = is_file; are_arguments = are }
-called name file rest settings None is_file are answer = λ usage command is.
-    let words : is.call.name ∷ is.call.file ∷ is.rest ≡ name ∷ file ∷ rest = sym is.words_are in
-    let names : is.call.name ≡ name = cc in
-    let files : is.call.file ≡ file = cc in
-    let rests : is.rest ≡ rest = cc in
-    let same = same_settings (subst (λ r. AreArguments no_settings r is.call.settings) rests is.are_arguments) are in
-    let calls : is.call ≡ record { name = name; file = file; settings = settings } =
-    λ i. record { name = names i; file = files i; settings = same i } in
-    answer command (is.call_is ∙ ap Some calls)
+called name file rest given row (Some command) is_file are named made = record {
+  name = name;
+  file = file;
+  rest = rest;
+  given = given;
+  words_are = refl;
+  is_file = is_file;
+  are_arguments = are;
+  is_called = ap (option_and_then (λ (r : CommandEntry). command_with r.form file given)) named ∙ sym made;
+}
+called name file rest given row None is_file are named made = λ usage command is.
+    let none = ap (option_and_then (λ (r : CommandEntry). command_with r.form file given)) named ∙ sym made in
+    none-some command (sym none ∙ called_with name file rest given are command is)
 
 -- `try` has one word after the second
 pub try_texts : (first second : List ℕ) (rest : List (List ℕ)) (seed count : ℕ) → (is : IsTry (first ∷ second ∷ rest) seed count) →
@@ -54,6 +65,13 @@ pub try_count : (rest : List (String Global)) (word : String Global) (text : Lis
     text ∷ [] ≡ texts rest → text ≡ string_bytes word
 try_count [] word text is same = cc
 try_count (w ∷ ws) word text is same = let heads : text ≡ string_bytes w = cc in heads ∙ sym (ap string_bytes is)
+
+-- the text of one word
+pub one_text : (words : List (String Global)) (word : String Global) (text : List ℕ) → 1 ≤ length words → length words < 2 → word ≡ get_or words 0 word →
+    text ≡ string_bytes word → texts words ≡ text ∷ []
+one_text [] word text some few is same = absurd (omega arith)
+one_text (w ∷ []) word text some few is same = λ i. (sym (ap string_bytes is) ∙ sym same) i ∷ []
+one_text (w ∷ v ∷ ws) word text some few is same = absurd (omega arith)
 
 module _ (words : List (List ℕ)) where
   abbrev pub IsAnswer : Result Command WordsFault → Type 0
@@ -69,7 +87,7 @@ module _ (words : List (List ℕ)) where
 
   pub by_call : (name : List ℕ) (rest : List (List ℕ)) (result : Result Command WordsFault) → words ≡ name ∷ rest → name ≢ codes "try" →
       MatchResult result (λ command. IsFileCommand words (command_of command)) (λ fault. fault ≡ Usage → (command : CommandValue) → ¬ (IsFileCommand words command)) → IsAnswer result
-  by_call name rest (Ok found) e differs answer = file_command words (command_of found) answer
+  by_call name rest (Ok found) e differs answer = with_file answer
   by_call name rest (Err fault) e differs answer = λ usage command is. answer usage command (only_file words command name rest e differs is)
 
   -- the parts of an answer

@@ -2,23 +2,23 @@
 use Rattle.std.proofs.Common.{◌≡◌, ℕ, ◌+◌, ◌-◌, ◌<◌, ◌≤◌, List, length, take, drop, String, string_bytes, sym, ap, ◌∙◌, subst, arith, length-drop}
 use Rattle.std.specs.declared.alloc.Global.{Global}
 use Rattle.std.proofs.lemmas.List.{take_rest, drop_all, drop-drop, drop-map}
-use Rattle.tilt_words.specs.Arguments.{Settings, no_settings, Begins, AreArguments, none, more}
+use Rattle.tilt_words.specs.Arguments.{ArgumentsValue, no_arguments, Begins, AreArguments, none, more}
 use Rattle.tilt_words.specs.Command.{texts}
 use Rattle.tilt_words.proofs.Determined.{behind_first, first_begins}
 
-pub record ArgumentsBefore (words : List (List ℕ)) (at : ℕ) (settings : Settings) : Type 0 where
+pub record ArgumentsBefore (words : List (List ℕ)) (at : ℕ) (given : ArgumentsValue) : Type 0 where
   pub within : at ≤ length words
-  pub go_on : (new : Settings) → AreArguments settings (drop at words) new → AreArguments no_settings words new
-  pub back : (new : Settings) → AreArguments no_settings words new → AreArguments settings (drop at words) new
+  pub go_on : (new : ArgumentsValue) → AreArguments given (drop at words) new → AreArguments no_arguments words new
+  pub back : (new : ArgumentsValue) → AreArguments no_arguments words new → AreArguments given (drop at words) new
 
 -- the texts of the words after a place
 pub texts_behind : (words : List (String Global)) (at : ℕ) → texts (take (length words - at) (drop at words)) ≡ drop at (texts words)
 texts_behind words at = ap texts (take_rest words at) ∙ sym (drop-map (λ w. string_bytes w) at words)
 
 module _ (words : List (List ℕ)) where
-  module _ (at : ℕ) (settings : Settings) (before : ArgumentsBefore words at settings) where
-    pub before_next : (count : ℕ) (new : Settings) → count ≤ length (drop at words) →
-        Begins settings (drop at words) new (drop count (drop at words)) → ArgumentsBefore words (at + count) new
+  module _ (at : ℕ) (given : ArgumentsValue) (before : ArgumentsBefore words at given) where
+    pub before_next : (count : ℕ) (new : ArgumentsValue) → count ≤ length (drop at words) →
+        Begins given (drop at words) new (drop count (drop at words)) → ArgumentsBefore words (at + count) new
     before_next count new fits begins =
         let same = drop-drop count at words in
         record {
@@ -27,11 +27,11 @@ module _ (words : List (List ℕ)) where
           back = λ all are. subst (λ l. AreArguments new l all) same (behind_first (before.back all are) begins);
         }
 
-    pub all_read : length words ≤ at → AreArguments no_settings words settings
-    all_read end = before.go_on settings (subst (λ l. AreArguments settings l settings) (sym (drop_all at words end)) none)
+    pub all_read : length words ≤ at → AreArguments no_arguments words given
+    all_read end = before.go_on given (subst (λ l. AreArguments given l given) (sym (drop_all at words end)) none)
 
-    pub refused : at < length words → ((new : Settings) (rest : List (List ℕ)) → Begins settings (drop at words) new rest → ⊥) →
-        (new : Settings) → AreArguments no_settings words new → ⊥
+    pub refused : at < length words → ((new : ArgumentsValue) (rest : List (List ℕ)) → Begins given (drop at words) new rest → ⊥) →
+        (new : ArgumentsValue) → AreArguments no_arguments words new → ⊥
     refused some none_begins new are =
         let empty = first_begins (before.back new are) none_begins in
         omega (arith, ap length empty, length-drop at words)

@@ -1,46 +1,83 @@
--- The words of the command line at the beginning of others, and the argument with which they begin.
-use Rattle.std.proofs.Common.{◌≡◌, ◌≢◌, ℕ, ◌-◌, ◌<◌, ◌≤◌, List, [], ◌∷◌, length, get_or, take, drop, codes, String, string_bytes, refl, sym, ap, ◌∙◌, subst, arith}
+-- What words start with, from what was read of them.
+use Rattle.std.proofs.Common.{◌≡◌, ◌≢◌, ℕ, ◌<◌, inl, inr, true, false, List, [], ◌∷◌, length, get_or, drop, Some, String, string_bytes, sym, ap, ◌∙◌, subst, arith}
+use Rattle.std.specs.Prelude.{find}
+use Rattle.std.specs.Str.{bytes_eq}
 use Rattle.std.specs.declared.alloc.Global.{Global}
-use Rattle.std.proofs.lemmas.List.{take_rest}
-use Rattle.tilt_words.specs.Arguments.{Settings, Begins}
+use Rattle.std.proofs.lemmas.Bool.{cases_Bool, false≢true}
+use Rattle.std.proofs.lemmas.Option.{none-some, same_Some}
+use Rattle.std.proofs.lemmas.Slice.Eq.{bytes_eq-Decides}
+use Rattle.tilt_words.specs.Arguments.{ArgumentsValue, Begins, with_setting}
+use Rattle.tilt_words.specs.Arguments as argument
 use Rattle.tilt_words.specs.Command.{texts}
-use Rattle.tilt_words.proofs.Determined.{IsOption, plain, end, cut, upto, save, parts_at, order, edits}
+use Rattle.tilt_words.specs.Options.{IsValue, OptionValue, flag, is_set}
+use Rattle.tilt_words.specs.Tables.{OptionEntry, option_of, options}
+use Rattle.tilt_words.specs.declared.option_table.Shape.TheVariants as shape
+use Rattle.tilt_words.proofs.Determined.{after_option}
 
 -- the text of the first word, and the others
 pub first_text : (words : List (String Global)) (word : String Global) (text : List ℕ) → 0 < length words →
-    word ≡ get_or words 0 word → string_bytes word ≡ text → texts words ≡ text ∷ drop 1 (texts words)
+    word ≡ get_or words 0 word → text ≡ string_bytes word → texts words ≡ text ∷ drop 1 (texts words)
 first_text [] word text some is same = absurd (omega arith)
-first_text (w ∷ ws) word text some is same = λ i. (sym (ap string_bytes is) ∙ same) i ∷ texts ws
-
--- the text of the second word
-pub record HasSecond (words : List (String Global)) (value : List ℕ) : Type 0 where
-  pub two : 2 ≤ length words
-  pub second : drop 1 (texts words) ≡ value ∷ drop 2 (texts words)
-
-pub second_text : (words rest : List (String Global)) (value : List ℕ) → rest ≡ take (length words - 1) (drop 1 words) →
-    0 < length rest → texts rest ≡ value ∷ drop 1 (texts rest) → HasSecond words value
-second_text [] rest value is some split = absurd (omega (arith, ap length is))
-second_text (w ∷ []) rest value is some split = absurd (omega (arith, ap length is))
-second_text (w ∷ v ∷ ws) rest value is some split =
-    let same : rest ≡ v ∷ ws = is ∙ take_rest (w ∷ v ∷ ws) 1 in
-    let texts_same : string_bytes v ∷ texts ws ≡ value ∷ drop 1 (texts rest) = sym (ap texts same) ∙ split in
-    let heads : string_bytes v ≡ value = cc in
-    record { two = omega arith; second = λ i. heads i ∷ texts ws }
+first_text (w ∷ ws) word text some is same = λ i. (sym (ap string_bytes is) ∙ sym same) i ∷ texts ws
 
 -- the same words begin so, and give the same
-pub moved : {old new new' : Settings} {words words' rest rest' : List (List ℕ)} → Begins old words new rest → words' ≡ words →
-    new' ≡ new → rest' ≡ rest → Begins old words' new' rest'
-moved {old} {new} {new'} {words} {words'} {rest} {rest'} begins w n r =
-    subst (λ v. Begins old v new' rest') (sym w) (subst (λ m. Begins old words m rest') (sym n) (subst (λ t. Begins old words new t) (sym r) begins))
+pub moved : {old new new' : ArgumentsValue} {words words' rest : List (List ℕ)} → Begins old words new rest → words' ≡ words →
+    new' ≡ new → Begins old words' new' rest
+moved {old} {new} {new'} {words} {words'} {rest} begins w n =
+    subst (λ v. Begins old v new' rest) (sym w) (subst (λ m. Begins old words m rest) (sym n) begins)
 
--- a word that is none of them is no option
-pub not_option : (word : List ℕ) → word ≢ codes "--plain" → word ≢ codes "--end" → word ≢ codes "--cut" → word ≢ codes "--upto" →
-    word ≢ codes "--save" → word ≢ codes "--at" → word ≢ codes "--order" → word ≢ codes "--edits" → IsOption word → ⊥
-not_option word p e c u s a o d plain = p refl
-not_option word p e c u s a o d end = e refl
-not_option word p e c u s a o d cut = c refl
-not_option word p e c u s a o d upto = u refl
-not_option word p e c u s a o d save = s refl
-not_option word p e c u s a o d parts_at = a refl
-not_option word p e c u s a o d order = o refl
-not_option word p e c u s a o d edits = d refl
+-- the option that is found is the word
+found_word : (entries : List OptionEntry) (word : List ℕ) (entry : OptionEntry) → find (λ (e : OptionEntry). bytes_eq e.word word) entries ≡ Some entry →
+    entry.word ≡ word
+found_word [] word entry e = absurd (none-some entry e)
+found_word (first ∷ entries) word entry e =
+    elim (cases_Bool (bytes_eq first.word word)) [
+      | inl so ↦ let same = same_Some first entry (rw so at e) in
+          ap (λ (x : OptionEntry). x.word) (sym same) ∙ (bytes_eq-Decides first.word word).0 so
+      | inr not ↦ found_word entries word entry (rw not at e)
+    ]
+
+pub option_word : (word : List ℕ) (entry : OptionEntry) → option_of word ≡ Some entry → entry.word ≡ word
+unfolding option_of
+option_word word entry e = found_word options word entry e
+
+-- the words start with an option
+module _ (old : ArgumentsValue) (words : List (List ℕ)) (word : List ℕ) (tail : List (List ℕ)) (row : OptionEntry)
+    (front : words ≡ word ∷ tail) (named : option_of word ≡ Some row) where
+  same_word : row.word ≡ word
+  same_word = option_word word row named
+
+  pub set_before : is_set row.word old.settings ≡ true → (new : ArgumentsValue) (rest : List (List ℕ)) → Begins old words new rest → ⊥
+  set_before set new rest begins =
+      let fresh = (after_option begins word tail row front named).fresh in
+      false≢true (sym fresh ∙ subst (λ w. is_set w old.settings ≡ true) same_word set)
+
+  pub no_value : tail ≡ [] → row.shape ≢ shape.Flag → (new : ArgumentsValue) (rest : List (List ℕ)) → Begins old words new rest → ⊥
+  no_value end kind new rest begins =
+      elim (after_option begins word tail row front named).gives [
+        | inl alone ↦ kind alone.is_flag
+        | inr valued ↦ let some : [] ≡ valued.spelled ∷ rest = sym end ∙ valued.rests in cc
+      ]
+
+  pub wrong_value : (spelled : List ℕ) (more : List (List ℕ)) → tail ≡ spelled ∷ more → row.shape ≢ shape.Flag →
+      ((value : OptionValue) → IsValue row.shape spelled value → ⊥) → (new : ArgumentsValue) (rest : List (List ℕ)) → Begins old words new rest → ⊥
+  wrong_value spelled more second kind none new rest begins =
+      elim (after_option begins word tail row front named).gives [
+        | inl alone ↦ kind alone.is_flag
+        | inr valued ↦
+            let tails : spelled ∷ more ≡ valued.spelled ∷ rest = sym second ∙ valued.rests in
+            let same : valued.spelled ≡ spelled = cc in
+            none valued.value (subst (λ s. IsValue row.shape s valued.value) same valued.is_value)
+      ]
+
+  pub sets_flag : (new : ArgumentsValue) → is_set row.word old.settings ≡ false → row.shape ≡ shape.Flag →
+      new ≡ with_setting old row.word flag → Begins old words new tail
+  sets_flag new fresh kind gives =
+      moved (argument.alone named (subst (λ w. is_set w old.settings ≡ false) same_word fresh) kind) front
+      (gives ∙ ap (λ w. with_setting old w flag) same_word)
+
+  pub sets_value : (new : ArgumentsValue) (spelled : List ℕ) (more : List (List ℕ)) (value : OptionValue) → tail ≡ spelled ∷ more →
+      is_set row.word old.settings ≡ false → IsValue row.shape spelled value → new ≡ with_setting old row.word value → Begins old words new more
+  sets_value new spelled more value second fresh is gives =
+      moved (argument.valued value named (subst (λ w. is_set w old.settings ≡ false) same_word fresh) is) (front ∙ ap (λ t. word ∷ t) second)
+      (gives ∙ ap (λ w. with_setting old w value) same_word)

@@ -5,5 +5,8 @@ pub mod Determined
 pub mod Fronts
 pub mod Listed
 pub mod OneCommand
+pub mod Settings
 pub mod UptoRead
+pub mod Values
+pub mod ValuesDecided
 pub mod Within

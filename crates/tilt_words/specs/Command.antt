@@ -1,13 +1,17 @@
 -- The words of a command line, as they stand after the program's name, and the command that they are (our own rule).
-use Rattle.std.specs.Prelude.{◌≡◌, ◌≢◌, ℕ, ◌≤◌, ℤ, pos, neg_ℤ, Bool, false, true}
-use Rattle.std.specs.Prelude.{List, [], ◌∷◌, ◌++◌, Option, None, Some, codes, map, String, string_bytes, ⊤}
+use Rattle.std.specs.Prelude.{◌≡◌, ◌≢◌, ℕ, ◌≤◌, ℤ, pos, neg_ℤ, Bool, false}
+use Rattle.std.specs.Prelude.{List, [], ◌∷◌, ◌++◌, Option, Some, codes, map, option_and_then, option_map, String, string_bytes, ⊤}
 use Rattle.std.specs.declared.alloc.Global.{Global}
 use Rattle.tilt_base.specs.declared.limits.TheConstants.{T}
 use Rattle.tilt_words.specs.declared.command.Command.{Command}
 use Rattle.tilt_words.specs.declared.command.Command.TheVariants as variant
-use Rattle.tilt_words.specs.Arguments.{Settings, no_settings, AreArguments}
+use Rattle.tilt_words.specs.declared.command_table.Form.{Form}
+use Rattle.tilt_words.specs.declared.command_table.Form.TheVariants as form
+use Rattle.tilt_words.specs.Arguments.{ArgumentsValue, no_arguments, AreArguments}
 use Rattle.tilt_words.specs.Binding.{Binding, bindings_of}
+use Rattle.tilt_words.specs.Legal.{command_of_table}
 use Rattle.tilt_words.specs.Number.{IsNumber, RiseFrom, ClimbFrom}
+use Rattle.tilt_words.specs.Options.{cuts_of, is_set, numbers_of, set_to, text_of, times_of}
 use Rattle.tilt_words.specs.Upto.{IsUptoWithin, UptoValue, upto_of}
 
 -- the bytes of each word
@@ -30,74 +34,55 @@ pub data CommandValue : Type 0 where
   fix : (query : List ℕ) (binds : List Binding) (plain : Bool) (edits : List ℕ) → CommandValue
   try : (seed count : ℕ) → CommandValue
 
--- a command's first word, its file, and what else it is given
-pub record Call : Type 0 where
-  pub name : List ℕ
-  pub file : List ℕ
-  pub settings : Settings
+-- whether `--plain` is among the arguments
+abbrev pub plain_of : ArgumentsValue → Bool
+plain_of arguments = is_set (codes "--plain") arguments.settings
 
--- the first word of each command that has a file, that file, and the settings that stand with it: those named, and no others
-abbrev pub call_of : CommandValue → Option Call
-call_of (run query binds plain cuts) =
-    Some (record { name = codes "run"; file = query; settings = record no_settings { binds = binds; plain = plain; cuts = cuts } })
-call_of (compile query plain) =
-    Some (record { name = codes "compile"; file = query; settings = record no_settings { plain = plain } })
-call_of (exec code binds) =
-    Some (record { name = codes "exec"; file = code; settings = record no_settings { binds = binds } })
-call_of (explain query) =
-    Some (record { name = codes "explain"; file = query; settings = no_settings })
-call_of (start query binds plain upto save) =
-    Some (record {
-      name = codes "start";
-      file = query;
-      settings = record no_settings { binds = binds; plain = plain; upto = Some upto; save = Some save };
-    })
-call_of (resume_upto checkpoint binds plain upto save) =
-    Some (record {
-      name = codes "resume";
-      file = checkpoint;
-      settings = record no_settings { binds = binds; plain = plain; upto = Some upto; save = Some save };
-    })
-call_of (resume_end checkpoint binds plain) =
-    Some (record {
-      name = codes "resume";
-      file = checkpoint;
-      settings = record no_settings { binds = binds; plain = plain; end = true };
-    })
-call_of (pipe query binds plain) =
-    Some (record { name = codes "pipe"; file = query; settings = record no_settings { binds = binds; plain = plain } })
-call_of (watch query binds plain) =
-    Some (record { name = codes "watch"; file = query; settings = record no_settings { binds = binds; plain = plain } })
-call_of (parts query binds plain [] order) = None
-call_of (parts query binds plain (first ∷ later) order) =
-    Some (record {
-      name = codes "parts";
-      file = query;
-      settings = record no_settings { binds = binds; plain = plain; at = first ∷ later; order = order };
-    })
-call_of (flow pipeline binds plain) =
-    Some (record { name = codes "flow"; file = pipeline; settings = record no_settings { binds = binds; plain = plain } })
-call_of (fix query binds plain edits) =
-    Some (record {
-      name = codes "fix";
-      file = query;
-      settings = record no_settings { binds = binds; plain = plain; edits = Some edits };
-    })
-call_of (try seed count) = None
+-- a session's command, if both its cuts and the file that it is saved in are given
+abbrev pub saved_with : (UptoValue → List ℕ → CommandValue) → Option UptoValue → Option (List ℕ) → Option CommandValue
+saved_with session upto save = option_and_then (λ cuts. option_map (λ file. session cuts file) save) upto
+
+-- the command of each form, with its file and its arguments
+abbrev pub command_with : Form → List ℕ → ArgumentsValue → Option CommandValue
+command_with form.Run file given = Some (run file given.binds (plain_of given) (times_of (set_to (codes "--cut") given.settings)))
+command_with form.Compile file given = Some (compile file (plain_of given))
+command_with form.Exec file given = Some (exec file given.binds)
+command_with form.Explain file given = Some (explain file)
+command_with form.Start file given =
+    saved_with (λ upto save. start file given.binds (plain_of given) upto save)
+    (cuts_of (set_to (codes "--upto") given.settings)) (text_of (set_to (codes "--save") given.settings))
+command_with form.ResumeUpto file given =
+    saved_with (λ upto save. resume_upto file given.binds (plain_of given) upto save)
+    (cuts_of (set_to (codes "--upto") given.settings)) (text_of (set_to (codes "--save") given.settings))
+command_with form.ResumeEnd file given = Some (resume_end file given.binds (plain_of given))
+command_with form.Pipe file given = Some (pipe file given.binds (plain_of given))
+command_with form.Watch file given = Some (watch file given.binds (plain_of given))
+command_with form.Parts file given =
+    Some (parts file given.binds (plain_of given) (times_of (set_to (codes "--at") given.settings))
+    (numbers_of (set_to (codes "--order") given.settings)))
+command_with form.Flow file given = Some (flow file given.binds (plain_of given))
+command_with form.Fix file given =
+    option_map (λ edits. fix file given.binds (plain_of given) edits) (text_of (set_to (codes "--edits") given.settings))
+
+-- the command with this first word, this file and these arguments, by the table of commands
+abbrev pub command_called : (name file : List ℕ) → ArgumentsValue → Option CommandValue
+command_called name file given = option_and_then (λ command. command_with command.form file given) (command_of_table name given)
 
 -- a file that may stand after a command's first word: not empty, and it doesn't begin with `--`
 pub record IsFile (file : List ℕ) : Type 0 where
   pub named : file ≢ []
   pub no_option : (rest : List ℕ) → file ≢ codes "--" ++ rest
 
--- the words are the first word of the command, its file, and arguments that give its settings
+-- the words are a first word, a file and arguments after it, and the command is the one with these
 pub record IsFileCommand (words : List (List ℕ)) (command : CommandValue) : Type 0 where
-  pub call : Call
+  pub name : List ℕ
+  pub file : List ℕ
   pub rest : List (List ℕ)
-  pub call_is : call_of command ≡ Some call
-  pub words_are : words ≡ call.name ∷ call.file ∷ rest
-  pub is_file : IsFile call.file
-  pub are_arguments : AreArguments no_settings rest call.settings
+  pub given : ArgumentsValue
+  pub words_are : words ≡ name ∷ file ∷ rest
+  pub is_file : IsFile file
+  pub are_arguments : AreArguments no_arguments rest given
+  pub is_called : command_called name file given ≡ Some command
 
 -- the words are `try`, a seed and a count, both within their bounds
 pub record IsTry (words : List (List ℕ)) (seed count : ℕ) : Type 0 where
@@ -108,9 +93,11 @@ pub record IsTry (words : List (List ℕ)) (seed count : ℕ) : Type 0 where
   pub is_count : IsNumber (pos 0) (pos 1000000) count_word (pos count)
 
 -- the words are this command
-abbrev pub IsCommand : List (List ℕ) → CommandValue → Type 0
-IsCommand words (try seed count) = IsTry words seed count
-IsCommand words command = IsFileCommand words command
+pub data IsCommand : List (List ℕ) → CommandValue → Type 0 where
+  -- one of the table, which has a file
+  with_file : {words : List (List ℕ)} {command : CommandValue} → IsFileCommand words command → IsCommand words command
+  -- `try`
+  tries : {words : List (List ℕ)} {seed count : ℕ} → IsTry words seed count → IsCommand words (try seed count)
 
 -- whether the loops of a command's query aren't to be merged
 abbrev pub is_plain : CommandValue → Bool

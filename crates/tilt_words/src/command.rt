@@ -1,11 +1,13 @@
-// The command that words ask for.
-ghost use Rattle.std.specs.Prelude.{◌≡◌, codes};
-ghost use Rattle.tilt_words.specs.Command.{command_of, is_plain};
-ghost use Rattle.tilt_words.specs.Given.{IsCalled, call_with};
+// The command that arguments ask for.
+ghost use Rattle.std.specs.Prelude.{◌≡◌, Some, option_map, string_bytes};
+ghost use Rattle.tilt_words.specs.Arguments.{arguments_of};
+ghost use Rattle.tilt_words.specs.Command.{command_of, command_with, is_plain, plain_of};
 
 use crate::arguments::Arguments;
 use crate::bind::Bind;
+use crate::command_table::Form;
 use crate::upto::Upto;
+use std::alloc::Global;
 
 /// What the words of a command line ask for. The names of files are as the words give them, not empty; those that a
 /// command reads first don't begin with `--`. Times are in ticks and lie in `-T..=T`. Where `plain` is true no loops are merged.
@@ -120,225 +122,124 @@ impl Command {
         }
     }
 
-    // The command with this first word, from its file and its arguments; `None` where there is none with these.
-    pub(crate) fn named(name: &str, file: String, arguments: Arguments) -> Option<Command>
-        ensures { IsCalled (call_with name.now file arguments) result }
+    // The command of this form with this file and these arguments. It is `None` if an option is missing that it must have.
+    pub(crate) fn new(
+        alloc: Global,
+        form: Form,
+        file: String,
+        arguments: Arguments,
+    ) -> Option<Command>
+        ensures { option_map command_of result ≡ command_with form (string_bytes file) (arguments_of arguments) }
     {
-        match name {
-            "run" => run(file, arguments),
-            "compile" => compile(file, arguments),
-            "exec" => exec(file, arguments),
-            "explain" => explain(file, arguments),
-            "start" => start(file, arguments),
-            "resume" => resume(file, arguments),
-            "pipe" => pipe(file, arguments),
-            "watch" => watch(file, arguments),
-            "parts" => parts(file, arguments),
-            "flow" => flow(file, arguments),
-            "fix" => fix(file, arguments),
-            _ => None,
+        let plain = arguments.has("--plain");
+        match form {
+            Form::Run => Some(run(alloc, file, plain, arguments)),
+            Form::Watch => Some(Command::Watch {
+                query: file,
+                binds: arguments.binds,
+                plain,
+            }),
+            Form::Pipe => Some(Command::Pipe {
+                query: file,
+                binds: arguments.binds,
+                plain,
+            }),
+            Form::Parts => Some(parts(alloc, file, plain, arguments)),
+            Form::Fix => fix(file, plain, arguments),
+            Form::Flow => Some(Command::Flow {
+                flow: file,
+                binds: arguments.binds,
+                plain,
+            }),
+            Form::Compile => Some(Command::Compile { query: file, plain }),
+            Form::Exec => Some(Command::Exec {
+                code: file,
+                binds: arguments.binds,
+            }),
+            Form::Explain => Some(Command::Explain { query: file }),
+            Form::Start => start(file, plain, arguments),
+            Form::ResumeUpto => resume_upto(file, plain, arguments),
+            Form::ResumeEnd => Some(Command::ResumeEnd {
+                file,
+                binds: arguments.binds,
+                plain,
+            }),
         }
     }
 }
 
-// `run`, with `--plain` and `--cut` or without.
-fn run(query: String, arguments: Arguments) -> Option<Command>
-    ensures { IsCalled (call_with (codes "run") query arguments) result }
+// `run`, cut by `--cut`.
+fn run(alloc: Global, query: String, plain: bool, mut arguments: Arguments) -> Command
+    requires { plain ≡ plain_of (arguments_of arguments) }
+    ensures { Some (command_of result) ≡ command_with Form.Run (string_bytes query) (arguments_of arguments) }
 {
-    if arguments.has_parts_or_edits() {
-        return None;
-    }
-    match (arguments.end, arguments.upto, arguments.save) {
-        (false, None, None) => Some(Command::Run {
-            query,
-            binds: arguments.binds,
-            plain: arguments.plain,
-            cuts: arguments.cuts,
-        }),
-        _ => None,
+    let cuts = arguments.remove_times(alloc, "--cut");
+    Command::Run {
+        query,
+        binds: arguments.binds,
+        plain,
+        cuts,
     }
 }
 
-// `compile`, with `--plain` or without.
-fn compile(query: String, arguments: Arguments) -> Option<Command>
-    ensures { IsCalled (call_with (codes "compile") query arguments) result }
+// `parts`, cut by `--at` and stepped through by `--order`.
+fn parts(alloc: Global, query: String, plain: bool, mut arguments: Arguments) -> Command
+    requires { plain ≡ plain_of (arguments_of arguments) }
+    ensures { Some (command_of result) ≡ command_with Form.Parts (string_bytes query) (arguments_of arguments) }
 {
-    if arguments.has_parts_or_edits() || !arguments.binds.is_empty() || !arguments.cuts.is_empty() {
-        return None;
-    }
-    match (arguments.end, arguments.upto, arguments.save) {
-        (false, None, None) => Some(Command::Compile {
-            query,
-            plain: arguments.plain,
-        }),
-        _ => None,
+    let at = arguments.remove_times(alloc, "--at");
+    let order = arguments.remove_numbers(alloc, "--order");
+    Command::Parts {
+        query,
+        binds: arguments.binds,
+        plain,
+        at,
+        order,
     }
 }
 
-// `exec`, without options.
-fn exec(code: String, arguments: Arguments) -> Option<Command>
-    ensures { IsCalled (call_with (codes "exec") code arguments) result }
+// `fix`, with the corrections in the file of `--edits`.
+fn fix(query: String, plain: bool, mut arguments: Arguments) -> Option<Command>
+    requires { plain ≡ plain_of (arguments_of arguments) }
+    ensures { option_map command_of result ≡ command_with Form.Fix (string_bytes query) (arguments_of arguments) }
 {
-    if arguments.has_parts_or_edits() || arguments.plain || !arguments.cuts.is_empty() {
-        return None;
-    }
-    match (arguments.end, arguments.upto, arguments.save) {
-        (false, None, None) => Some(Command::Exec {
-            code,
-            binds: arguments.binds,
-        }),
-        _ => None,
-    }
+    let edits = arguments.remove_text("--edits")?;
+    Some(Command::Fix {
+        query,
+        binds: arguments.binds,
+        plain,
+        edits,
+    })
 }
 
-// `explain`, without options and binds.
-fn explain(query: String, arguments: Arguments) -> Option<Command>
-    ensures { IsCalled (call_with (codes "explain") query arguments) result }
+// `start`, up to the cuts of `--upto`, saved in the file of `--save`.
+fn start(query: String, plain: bool, mut arguments: Arguments) -> Option<Command>
+    requires { plain ≡ plain_of (arguments_of arguments) }
+    ensures { option_map command_of result ≡ command_with Form.Start (string_bytes query) (arguments_of arguments) }
 {
-    if arguments.has_parts_or_edits() || !arguments.binds.is_empty() {
-        return None;
-    }
-    if arguments.plain || !arguments.cuts.is_empty() {
-        return None;
-    }
-    match (arguments.end, arguments.upto, arguments.save) {
-        (false, None, None) => Some(Command::Explain { query }),
-        _ => None,
-    }
+    let upto = arguments.remove_cuts("--upto")?;
+    let save = arguments.remove_text("--save")?;
+    Some(Command::Start {
+        query,
+        binds: arguments.binds,
+        plain,
+        upto,
+        save,
+    })
 }
 
-// `start`, with `--upto` and `--save`, and with `--plain` or without.
-fn start(query: String, arguments: Arguments) -> Option<Command>
-    ensures { IsCalled (call_with (codes "start") query arguments) result }
+// `resume`, up to the cuts of `--upto`, saved in the file of `--save`.
+fn resume_upto(file: String, plain: bool, mut arguments: Arguments) -> Option<Command>
+    requires { plain ≡ plain_of (arguments_of arguments) }
+    ensures { option_map command_of result ≡ command_with Form.ResumeUpto (string_bytes file) (arguments_of arguments) }
 {
-    if arguments.has_parts_or_edits() || !arguments.cuts.is_empty() {
-        return None;
-    }
-    match (arguments.end, arguments.upto, arguments.save) {
-        (false, Some(upto), Some(save)) => Some(Command::Start {
-            query,
-            binds: arguments.binds,
-            plain: arguments.plain,
-            upto,
-            save,
-        }),
-        _ => None,
-    }
-}
-
-// `resume`, with `--upto` and `--save` or with `--end`, and with `--plain` or without.
-fn resume(file: String, arguments: Arguments) -> Option<Command>
-    ensures { IsCalled (call_with (codes "resume") file arguments) result }
-{
-    if arguments.has_parts_or_edits() || !arguments.cuts.is_empty() {
-        return None;
-    }
-    match (arguments.end, arguments.upto, arguments.save) {
-        (false, Some(upto), Some(save)) => Some(Command::ResumeUpto {
-            file,
-            binds: arguments.binds,
-            plain: arguments.plain,
-            upto,
-            save,
-        }),
-        (true, None, None) => Some(Command::ResumeEnd {
-            file,
-            binds: arguments.binds,
-            plain: arguments.plain,
-        }),
-        _ => None,
-    }
-}
-
-// `pipe`, with `--plain` or without.
-fn pipe(query: String, arguments: Arguments) -> Option<Command>
-    ensures { IsCalled (call_with (codes "pipe") query arguments) result }
-{
-    if arguments.has_parts_or_edits() || !arguments.cuts.is_empty() {
-        return None;
-    }
-    match (arguments.end, arguments.upto, arguments.save) {
-        (false, None, None) => Some(Command::Pipe {
-            query,
-            binds: arguments.binds,
-            plain: arguments.plain,
-        }),
-        _ => None,
-    }
-}
-
-// `watch`, with `--plain` or without.
-fn watch(query: String, arguments: Arguments) -> Option<Command>
-    ensures { IsCalled (call_with (codes "watch") query arguments) result }
-{
-    if arguments.has_parts_or_edits() || !arguments.cuts.is_empty() {
-        return None;
-    }
-    match (arguments.end, arguments.upto, arguments.save) {
-        (false, None, None) => Some(Command::Watch {
-            query,
-            binds: arguments.binds,
-            plain: arguments.plain,
-        }),
-        _ => None,
-    }
-}
-
-// `parts`, with `--at`, and with `--order` and `--plain` or without.
-fn parts(query: String, arguments: Arguments) -> Option<Command>
-    ensures { IsCalled (call_with (codes "parts") query arguments) result }
-{
-    if arguments.at.is_empty() || arguments.edits.is_some() || !arguments.cuts.is_empty() {
-        return None;
-    }
-    match (arguments.end, arguments.upto, arguments.save) {
-        (false, None, None) => Some(Command::Parts {
-            query,
-            binds: arguments.binds,
-            plain: arguments.plain,
-            at: arguments.at,
-            order: arguments.order,
-        }),
-        _ => None,
-    }
-}
-
-// `flow`, with `--plain` or without.
-fn flow(flow: String, arguments: Arguments) -> Option<Command>
-    ensures { IsCalled (call_with (codes "flow") flow arguments) result }
-{
-    if arguments.has_parts_or_edits() || !arguments.cuts.is_empty() {
-        return None;
-    }
-    match (arguments.end, arguments.upto, arguments.save) {
-        (false, None, None) => Some(Command::Flow {
-            flow,
-            binds: arguments.binds,
-            plain: arguments.plain,
-        }),
-        _ => None,
-    }
-}
-
-// `fix`, with `--edits`, and with `--plain` or without.
-fn fix(query: String, arguments: Arguments) -> Option<Command>
-    ensures { IsCalled (call_with (codes "fix") query arguments) result }
-{
-    if arguments.has_parts() || !arguments.cuts.is_empty() {
-        return None;
-    }
-    match (
-        arguments.end,
-        arguments.upto,
-        arguments.save,
-        arguments.edits,
-    ) {
-        (false, None, None, Some(edits)) => Some(Command::Fix {
-            query,
-            binds: arguments.binds,
-            plain: arguments.plain,
-            edits,
-        }),
-        _ => None,
-    }
+    let upto = arguments.remove_cuts("--upto")?;
+    let save = arguments.remove_text("--save")?;
+    Some(Command::ResumeUpto {
+        file,
+        binds: arguments.binds,
+        plain,
+        upto,
+        save,
+    })
 }

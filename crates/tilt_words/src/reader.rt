@@ -4,6 +4,7 @@ ghost use Rattle.tilt_words.specs.Command.{CommandValue, IsCommand, IsFile, IsFi
 
 use crate::arguments::Arguments;
 use crate::command::Command;
+use crate::command_table::find_command;
 use crate::fault::WordsFault;
 use crate::number::read_up_to;
 use std::alloc::Global;
@@ -66,8 +67,9 @@ fn read_call(alloc: Global, name: &str, file: &str, rest: &[String]) -> Result<C
         return Err(WordsFault::Usage);
     }
     let arguments = Arguments::read(alloc, rest)?;
+    let row = find_command(name, &arguments).ok_or(WordsFault::Usage)?;
     let file = String::from_str(alloc, file)?;
-    Command::named(name, file, arguments).ok_or(WordsFault::Usage)
+    Command::new(alloc, row.form, file, arguments).ok_or(WordsFault::Usage)
 }
 
 // Whether the word may be the file after a command's first word.

@@ -1,8 +1,9 @@
-use Rattle.std.proofs.Common.{length, string_bytes, pos, subst, sym, ap, ◌∙◌, arith}
+use Rattle.std.proofs.Common.{◌≡◌, ◌∷◌, [], codes, length, string_bytes, pos, subst, sym, ap, ◌∙◌, arith}
 use Rattle.std.proofs.lemmas.Bool.Decides.{nat_tests}
 use Rattle.std.proofs.lemmas.List.{length-map}
+use Rattle.tilt_words.specs.Command.{texts, tries}
 use Rattle.tilt_words.specs.Number.{IsNumber}
-use Rattle.tilt_words.proofs.Answered.{try_texts, try_count}
+use Rattle.tilt_words.proofs.Answered.{one_text, try_texts, try_count}
 use Rattle.tilt_words.proofs.reader.read_try.Goals as goal
 use Rattle.tilt_words.proofs.reader.read_try.Goals.{in_default-via-then-rest-lt1, in_default-via-else-rest-lt1+else-rest-lt2}
 
@@ -26,3 +27,14 @@ returns-in_err-count c =
     let same =
     try_count c.args.rest.now c.count-item.result is.count_word c.count-item.is (try_texts _ _ _ seed count is).1 ∙ sym c.as_str.ensures.value in
     c.in_err-count.ensures (pos count) (subst (λ w. IsNumber (pos 0) (pos 1000000) w (pos count)) same is.is_count))
+
+pub returns : goal.returns
+returns c =
+    let count : c.as_str.result.now ∷ [] ≡ texts c.args.rest.now = sym (one_text c.args.rest.now c.count-item.result c.as_str.result.now (omega arith) (omega arith) c.count-item.is c.as_str.ensures.value) in
+    tries (record {
+      seed_word = c.args.seed.now;
+      count_word = c.as_str.result.now;
+      words_are = λ i. codes "try" ∷ c.args.seed.now ∷ sym count i;
+      is_seed = c.in_ok-seed.ensures;
+      is_count = c.in_ok-count.ensures;
+    })

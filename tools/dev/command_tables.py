@@ -1,0 +1,251 @@
+#!/usr/bin/env python3
+"""Writes what is said of commands and options outside of the program, from the tables that the program reads them by.
+
+The tables are `OPTIONS` and `COMMANDS` in the sources of the crate that has `src/command_table.rt`. Written from them are the table at the top
+of docs/COMMANDS.md, the table of options in docs/MEANING.md, the synopsis in docs/tilt.1, and the commands and options in
+tools/package/completion. With --check nothing is written: each file that differs is named, the last line is 'N passed, M failed', and the
+status is 1 if one failed."""
+from __future__ import annotations
+
+import argparse
+import dataclasses
+import pathlib
+import re
+import sys
+from typing import Callable, Iterable
+
+TOP = next(folder for folder in pathlib.Path(__file__).resolve().parents if (folder / "crates.txt").is_file())
+
+# What stands for a value in a synopsis, by its shape. A flag has none.
+VALUES = {"Flag": "", "Text": "FILE", "Times": "TIME,TIME,..", "RisingTimes": "TIME,TIME,..", "Numbers": "PART,PART,..", "Cuts": "CUTS"}
+
+BIND = "NAME=FILE .."
+
+# The one command without a file: it has two numbers and no options, and so no row in the table.
+TRY = ("try", "SEED N", "figures on a run over made rows")
+
+
+class Unreadable(Exception):
+    """A table or a page isn't in the form that is read here."""
+
+
+@dataclasses.dataclass(frozen=True)
+class Command:
+    """A row of `COMMANDS`, with the comment above it: the name of its file, and what it prints."""
+
+    word: str
+    file: str
+    prints: str
+    required: tuple[str, ...]
+    allowed: tuple[str, ...]
+    takes_binds: bool
+
+
+@dataclasses.dataclass(frozen=True)
+class Tables:
+    """The two tables. `options` gives the shape of each option's value."""
+
+    options: dict[str, str]
+    commands: tuple[Command, ...]
+
+
+def sources() -> pathlib.Path:
+    """The folder of the two source files with the tables."""
+    found = sorted(TOP.glob("crates/*/src/command_table.rt"))
+    if len(found) != 1:
+        raise Unreadable(f"{len(found)} crates have src/command_table.rt")
+    return found[0].parent
+
+
+def rows(text: str, table: str, kind: str) -> list[str]:
+    """The rows of a table, each from the comment above it to its last field."""
+    declared = re.search(rf"^(?:pub(?:\(crate\))? )?const {table}: \[{kind}; (\d+)\] = \[\n(.*?)^\];$", text, re.M | re.S)
+    if declared is None:
+        raise Unreadable(f"no table {table}")
+    found = re.findall(rf"((?:^    //[^\n]*\n)?)^    {kind} \{{(.*?)^    \}},$", declared[2], re.M | re.S)
+    if len(found) != int(declared[1]):
+        raise Unreadable(f"{len(found)} rows of {declared[1]} in {table}")
+    return [comment + row for comment, row in found]
+
+
+def field(row: str, pattern: str) -> str:
+    found = re.search(pattern, row)
+    if found is None:
+        raise Unreadable(f"no {pattern} in {row.strip()}")
+    return found[1]
+
+
+def words(text: str) -> tuple[str, ...]:
+    return tuple(re.findall(r'"([^"]+)"', text))
+
+
+def command(row: str) -> Command:
+    about = re.match(r"    // ([A-Z]+): (.+)\n", row)
+    if about is None:
+        raise Unreadable(f"no comment with the file and what is printed above {row.strip()}")
+    return Command(
+        field(row, r'word: "(\w+)"'),
+        about[1],
+        about[2],
+        words(field(row, r"required: &\[([^\]]*)\]")),
+        words(field(row, r"allowed: &\[([^\]]*)\]")),
+        field(row, r"takes_binds: (true|false)") == "true",
+    )
+
+
+def tables() -> Tables:
+    folder = sources()
+    options = {
+        field(row, r'word: "(--[a-z-]+)"'): field(row, r"shape: Shape::(\w+)")
+        for row in rows((folder / "option_table.rt").read_text(), "OPTIONS", "OptionRow")
+    }
+    commands = tuple(command(row) for row in rows((folder / "command_table.rt").read_text(), "COMMANDS", "CommandRow"))
+    for row in commands:
+        unknown = [option for option in row.required + row.allowed if option not in options]
+        if unknown:
+            raise Unreadable(f"{row.word} has {', '.join(unknown)}, which {'is' if len(unknown) == 1 else 'are'} not in OPTIONS")
+    return Tables(options, commands)
+
+
+def with_value(option: str, options: dict[str, str]) -> str:
+    """An option and what stands for its value."""
+    return f"{option} {VALUES[options[option]]}".rstrip()
+
+
+def call(row: Command, options: dict[str, str]) -> str:
+    """A command's form on one line."""
+    parts = [
+        row.word,
+        row.file,
+        *([BIND] if row.takes_binds else []),
+        *(with_value(option, options) for option in row.required),
+        *(f"[{with_value(option, options)}]" for option in row.allowed),
+    ]
+    return " ".join(parts)
+
+
+def reference(found: Tables) -> str:
+    """The table at the top of docs/COMMANDS.md."""
+    lines = [f"| `{call(row, found.options)}` | {row.prints} |" for row in found.commands]
+    return "\n".join(["| command | prints |", "|---|---|", *lines, f"| `{TRY[0]} {TRY[1]}` | {TRY[2]} |", ""])
+
+
+def listed(options: Iterable[str]) -> str:
+    return ", ".join(f"`{option}`" for option in options) or "none"
+
+
+def meaning(found: Tables) -> str:
+    """The table of docs/MEANING.md."""
+    lines = [
+        f"| `{row.word} {row.file}` | {listed(row.required)} | {listed(row.allowed)} | {'any number' if row.takes_binds else 'none'} |"
+        for row in found.commands
+    ]
+    return "\n".join(["| command | options that it must have | options that it can have | binds |", "|---|---|---|---|", *lines, ""])
+
+
+def roff(text: str) -> str:
+    return text.replace("-", r"\-")
+
+
+def roff_value(value: str) -> str:
+    """A value in italics, with its punctuation in bold."""
+    return (
+        value.replace(",..", r"\fB,\fR...")
+        .replace("TIME,", r"TIME\fB,\fI")
+        .replace("PART,", r"PART\fB,\fI")
+        .replace(r"\fI\fB,\fR", r"\fB,\fR")
+    )
+
+
+def roff_option(option: str, options: dict[str, str], optional: bool) -> list[str]:
+    value = roff_value(VALUES[options[option]])
+    if not optional:
+        return [f".B {roff(option)}", *([f".IR {value}" if "\\" in value else f".I {value}"] if value else [])]
+    if not value:
+        return [f".RB [ {roff(option)} ]"]
+    return [f".RB [ {roff(option)}", f".IR {value} ]"]
+
+
+def synopsis(found: Tables) -> str:
+    """The part of docs/tilt.1 between its headings SYNOPSIS and DESCRIPTION."""
+    calls = []
+    for row in found.commands:
+        lines = [
+            f".B tilt {row.word}",
+            f".I {row.file}" + (r" NAME\fB=\fIFILE" if row.takes_binds else ""),
+            *([r"\&...\&"] if row.takes_binds else []),
+        ]
+        for option in row.required + row.allowed:
+            lines += roff_option(option, found.options, option in row.allowed)
+        calls.append("\n".join(lines) + "\n")
+    calls.append(f".B tilt {TRY[0]}\n.I {TRY[1]}\n")
+    return ".br\n".join(calls)
+
+
+def options_of(found: Tables) -> dict[str, list[str]]:
+    """Each first word, with the options of all its rows."""
+    of: dict[str, list[str]] = {}
+    for row in found.commands:
+        known = of.setdefault(row.word, [])
+        known += [option for option in row.required + row.allowed if option not in known]
+    return of
+
+
+def completed_words(found: Tables) -> str:
+    return " ".join([*options_of(found), TRY[0]])
+
+
+def completed_options(found: Tables) -> str:
+    """The cases of the completion for bash: the words that have the same options are one case."""
+    alike: dict[tuple[str, ...], list[str]] = {}
+    for word, options in options_of(found).items():
+        if options:
+            alike.setdefault(tuple(options), []).append(word)
+    return "".join(
+        f'        {" | ".join(some)}) COMPREPLY=($(compgen -W "{" ".join(options)}" -- "$word")) ;;\n' for options, some in alike.items()
+    )
+
+
+# Of each file what is written, and where: the pattern matches once, and its group `made` is what is written.
+PLACES: tuple[tuple[str, str, Callable[[Tables], str]], ...] = (
+    ("docs/COMMANDS.md", r"^(?P<made>\| command \| prints \|\n(?:\|.*\n)+)", reference),
+    ("docs/MEANING.md", r"^(?P<made>\| command \| options that .*\n(?:\|.*\n)+)", meaning),
+    ("docs/tilt.1", r"^\.SH SYNOPSIS\n(?P<made>(?:.*\n)*?)\.SH DESCRIPTION$", synopsis),
+    ("tools/package/completion", r'^_tilt\(\) \{\n(?:.*\n)*?.*compgen -W "(?P<made>[a-z ]+)"', completed_words),
+    ("tools/package/completion", r"^        case \$command in\n(?P<made>(?:.*\n)*?)        esac$", completed_options),
+)
+
+
+def written(text: str, name: str, pattern: str, made: str) -> str:
+    """The text of a file with what is made in its place."""
+    found = list(re.finditer(pattern, text, re.M))
+    if len(found) != 1:
+        raise Unreadable(f"{name} has {len(found)} places for what is made from the tables")
+    return text[: found[0].start("made")] + made + text[found[0].end("made") :]
+
+
+def main() -> int:
+    parser = argparse.ArgumentParser(description=(__doc__ or "").partition("\n")[0])
+    parser.add_argument("--check", action="store_true", help="compare, and write nothing")
+    check: bool = parser.parse_args().check
+    found = tables()
+    texts: dict[str, str] = {}
+    for name, pattern, make in PLACES:
+        texts[name] = written(texts.get(name) or (TOP / name).read_text(), name, pattern, make(found))
+    other = [name for name, text in texts.items() if (TOP / name).read_text() != text]
+    if check:
+        for name in other:
+            print(f"{name} isn't what the tables of commands and options say: call tools/dev/command_tables.py")
+        print(f"{len(texts) - len(other)} passed, {len(other)} failed")
+        return 1 if other else 0
+    for name in other:
+        (TOP / name).write_text(texts[name])
+        print(name)
+    return 0
+
+
+if __name__ == "__main__":
+    try:
+        sys.exit(main())
+    except Unreadable as error:
+        sys.exit(f"command_tables: {error}")
