@@ -1,5 +1,5 @@
-use Rattle.tilt_fix.proofs.Outcomes.{outcome-one, outcome-first, outcome-some, outcome-either}
-use Rattle.tilt_fix.proofs.law.edits_have_one_outcome.Goals as goal
+use Rattle.tilt_edits.proofs.Outcomes.{outcome-one, outcome-first, outcome-some, outcome-either}
+use Rattle.tilt_edits.proofs.law.edits_have_one_outcome.Goals as goal
 
 pub returns-clause-one : goal.returns-clause-one
 returns-clause-one c = outcome-one

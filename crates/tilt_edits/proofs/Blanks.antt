@@ -7,7 +7,7 @@ use Rattle.std.proofs.lemmas.Bool.{cases_Bool}
 use Rattle.std.proofs.lemmas.List.{take_rest}
 use Rattle.std.proofs.lemmas.List.Quantifiers.{position-Some}
 use Rattle.tilt_base.proofs.Comparisons.{not_found}
-use Rattle.tilt_fix.specs.Edits.{until_blank}
+use Rattle.tilt_edits.specs.Edits.{until_blank}
 
 abbrev blank : ℕ → Bool
 blank byte = byte == 32 || byte == 9

@@ -1,8 +1,8 @@
 -- The lines so far say as many edits as were counted.
 use Rattle.std.proofs.Common.{◌≡◌, ◌+◌, ◌≤◌, List, length}
-use Rattle.tilt_fix.specs.Reading.{HasRead}
-use Rattle.tilt_fix.specs.declared.edit.Edit.{Edit}
-use Rattle.tilt_fix.proofs.reader.count_edits.Given as goal
+use Rattle.tilt_edits.specs.Reading.{HasRead}
+use Rattle.tilt_edits.specs.declared.edit.Edit.{Edit}
+use Rattle.tilt_edits.proofs.reader.count_edits.Given as goal
 
 abbrev pub invariant-loop-left : goal.invariant-loop-left
 invariant-loop-left l = record {

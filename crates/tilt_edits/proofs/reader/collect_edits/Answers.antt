@@ -1,7 +1,7 @@
 use Rattle.std.proofs.Common.{◌+◌, sym}
-use Rattle.tilt_fix.proofs.Lines.{none_read, read_more, rest_shorter}
-use Rattle.tilt_fix.proofs.Outcomes.{read_all}
-use Rattle.tilt_fix.proofs.reader.collect_edits.Goals as goal
+use Rattle.tilt_edits.proofs.Lines.{none_read, read_more, rest_shorter}
+use Rattle.tilt_edits.proofs.Outcomes.{read_all}
+use Rattle.tilt_edits.proofs.reader.collect_edits.Goals as goal
 
 pub loop-edit-init : goal.loop-edit-init
 loop-edit-init c = rw c.in_ok-edits.ensures.items (1, none_read c.args.inputs.now c.args.bytes.now)

@@ -1,7 +1,6 @@
 ghost use Rattle.std.specs.Prelude.{◌≡◌};
 ghost use Rattle.std.specs.Option.{option_to_list};
-ghost use Rattle.tilt_fix.specs.Change.{put_of};
-ghost use Rattle.tilt_fix.specs.Edited.{end_of, input_of, start_of};
+ghost use Rattle.tilt_edits.specs.Edited.{end_of, input_of, put_of, start_of};
 
 use tilt_stream::Row;
 
@@ -17,8 +16,8 @@ pub enum Edit {
 }
 
 impl Edit {
-    // The input that it is of.
-    pub(crate) fn input(&self) -> u32
+    /// The input that it is of.
+    pub fn input(&self) -> u32
         ensures { result ≡ input_of self.now }
     {
         match self {
@@ -28,8 +27,8 @@ impl Edit {
         }
     }
 
-    // The tick before the first one of its row.
-    pub(crate) fn start(&self) -> i64
+    /// The tick before the first one of its row.
+    pub fn start(&self) -> i64
         ensures { result ≡ start_of self.now }
     {
         match self {
@@ -39,8 +38,8 @@ impl Edit {
         }
     }
 
-    // The last tick of its row.
-    pub(crate) fn end(&self) -> i64
+    /// The last tick of its row.
+    pub fn end(&self) -> i64
         ensures { result ≡ end_of self.now }
     {
         match self {
@@ -50,8 +49,8 @@ impl Edit {
         }
     }
 
-    // The row that it puts, where it puts one.
-    pub(crate) fn put(&self) -> Option<Row>
+    /// The row that it puts; `None` for an edit that removes one.
+    pub fn put(&self) -> Option<Row>
         ensures { option_to_list result ≡ put_of self.now }
     {
         match self {

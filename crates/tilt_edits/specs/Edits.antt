@@ -5,8 +5,8 @@ use Rattle.std.specs.List.{position}
 use Rattle.std.specs.Str.{bytes_eq}
 use Rattle.tilt_base.specs.Number.{cell_spelled, number_spelled}
 use Rattle.tilt_base.specs.declared.limits.TheConstants.{T}
-use Rattle.tilt_fix.specs.declared.edit.Edit.{Edit}
-use Rattle.tilt_fix.specs.declared.edit.Edit.TheVariants.{Add, Remove, Set}
+use Rattle.tilt_edits.specs.declared.edit.Edit.{Edit}
+use Rattle.tilt_edits.specs.declared.edit.Edit.TheVariants.{Add, Remove, Set}
 use Rattle.tilt_stream.specs.Snap.{Snapshot}
 use Rattle.tilt_text.specs.Cut.{onto, until_at}
 use Rattle.tilt_text.specs.Step.{◌>>=◌}

@@ -1,5 +1,5 @@
-use Rattle.tilt_fix.proofs.Outcomes.{given-each, given-only, given-first}
-use Rattle.tilt_fix.proofs.reader.read_edits.Goals as goal
+use Rattle.tilt_edits.proofs.Outcomes.{given-each, given-only, given-first}
+use Rattle.tilt_edits.proofs.reader.read_edits.Goals as goal
 
 pub returns-clause-each : goal.returns-clause-each
 returns-clause-each c = given-each c.args.inputs.now c.args.bytes.now (λ edits. edits.items) c.read_lines.result c.read_lines.ensures

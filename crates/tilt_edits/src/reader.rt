@@ -1,11 +1,11 @@
 // From a text to the edits that it says.
 ghost use Rattle.std.specs.Prelude.{◌≡◌, ◌≢◌, ◌⊎◌, ◌<◌, ◌^◌, ◌++◌, ℕ, List, [], ◌∷◌, length, option_map, IfOk, IfErr, OnOk, MatchResult};
 ghost use Rattle.std.specs.List.{AllByRecursion};
-ghost use Rattle.tilt_fix.specs.Edited.{IsEditOf};
-ghost use Rattle.tilt_fix.specs.Edits.{AreEdits, IsBadLine};
-ghost use Rattle.tilt_fix.specs.Reading.{next_edit, Tells};
-ghost use Rattle.tilt_fix.specs.declared.edit.Edit.{Edit};
-ghost use Rattle.tilt_fix.specs.declared.fault.EditFault.{EditFault};
+ghost use Rattle.tilt_edits.specs.Edited.{IsEditOf};
+ghost use Rattle.tilt_edits.specs.Edits.{AreEdits, IsBadLine};
+ghost use Rattle.tilt_edits.specs.Reading.{next_edit, Tells};
+ghost use Rattle.tilt_edits.specs.declared.edit.Edit.{Edit};
+ghost use Rattle.tilt_edits.specs.declared.fault.EditFault.{EditFault};
 ghost use Rattle.tilt_lexer.specs.Word.{AreDistinct};
 
 use crate::edit::Edit;

@@ -4,15 +4,15 @@ use Rattle.std.proofs.Common.{List, [], ◌∷◌, ◌++◌, length, append_asso
 use Rattle.std.proofs.lemmas.Option.{none-some, same_Some}
 use Rattle.std.specs.List.{AllByRecursion}
 use Rattle.std.specs.Prelude.{IfOk}
-use Rattle.tilt_fix.proofs.EditsOf.{are-edits_of}
-use Rattle.tilt_fix.specs.Edited.{IsEditOf}
-use Rattle.tilt_fix.specs.Edits.{edit_of, text_of_lines, Say, AreEdits, BeginsBadly, IsBadLine}
-use Rattle.tilt_fix.specs.Reading.{next_edit, HasRead, Outcome, Tells}
-use Rattle.tilt_fix.specs.declared.edit.Edit.{Edit}
-use Rattle.tilt_fix.specs.declared.fault.EditFault.{EditFault}
-use Rattle.tilt_fix.specs.declared.fault.EditFault.TheVariants.{BadEdit, OutOfMemory}
+use Rattle.tilt_edits.proofs.EditsOf.{are-edits_of}
+use Rattle.tilt_edits.specs.Edited.{IsEditOf}
+use Rattle.tilt_edits.specs.Edits.{edit_of, text_of_lines, Say, AreEdits, BeginsBadly, IsBadLine}
+use Rattle.tilt_edits.specs.Reading.{next_edit, HasRead, Outcome, Tells}
+use Rattle.tilt_edits.specs.declared.edit.Edit.{Edit}
+use Rattle.tilt_edits.specs.declared.fault.EditFault.{EditFault}
+use Rattle.tilt_edits.specs.declared.fault.EditFault.TheVariants.{BadEdit, OutOfMemory}
 use Rattle.tilt_text.specs.Cut.{until_at}
-use Rattle.tilt_fix.proofs.Lines.{NextLine, next_line, no_line, until_line}
+use Rattle.tilt_edits.proofs.Lines.{NextLine, next_line, no_line, until_line}
 
 -- a text ends here, or goes on badly
 abbrev Ends : List (List ℕ) → List ℕ → Type 0

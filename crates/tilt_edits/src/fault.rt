@@ -16,7 +16,7 @@ pub enum EditFault {
 }
 
 impl From<AllocError> for EditFault {
-    ghost use Rattle.tilt_fix.specs.declared.fault.EditFault.TheVariants.{OutOfMemory};
+    ghost use Rattle.tilt_edits.specs.declared.fault.EditFault.TheVariants.{OutOfMemory};
 
     ghost from_gives = { λ _ fault. fault ≡ OutOfMemory };
 
@@ -40,7 +40,7 @@ pub enum FixFault {
 }
 
 impl From<AllocError> for FixFault {
-    ghost use Rattle.tilt_fix.specs.declared.fault.FixFault.TheVariants.{OutOfMemory};
+    ghost use Rattle.tilt_edits.specs.declared.fault.FixFault.TheVariants.{OutOfMemory};
 
     ghost from_gives = { λ _ fault. fault ≡ OutOfMemory };
 

@@ -1,7 +1,7 @@
 -- The lines so far say the edits so far.
 use Rattle.std.proofs.Common.{ℕ, length}
-use Rattle.tilt_fix.specs.Reading.{HasRead}
-use Rattle.tilt_fix.proofs.reader.collect_edits.Given as goal
+use Rattle.tilt_edits.specs.Reading.{HasRead}
+use Rattle.tilt_edits.proofs.reader.collect_edits.Given as goal
 
 abbrev pub invariant-loop-edit : goal.invariant-loop-edit
 invariant-loop-edit l = (number : ℕ) × HasRead l.inputs l.bytes l.left l.edits.items number

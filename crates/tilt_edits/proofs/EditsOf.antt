@@ -9,10 +9,10 @@ use Rattle.std.proofs.lemmas.List.Quantifiers.{position-Some}
 use Rattle.std.proofs.lemmas.Option.{none-some, same_Some}
 use Rattle.tilt_base.specs.Number.{cell_spelled, number_spelled}
 use Rattle.tilt_base.specs.declared.limits.TheConstants.{T}
-use Rattle.tilt_fix.specs.Edited.{IsEditOf}
-use Rattle.tilt_fix.specs.Edits.{edit_by, edit_of, fields_of, row_of, times_of, until_blank, AreEdits, Say}
-use Rattle.tilt_fix.specs.declared.edit.Edit.{Edit}
-use Rattle.tilt_fix.specs.declared.edit.Edit.TheVariants.{Add, Remove, Set}
+use Rattle.tilt_edits.specs.Edited.{IsEditOf}
+use Rattle.tilt_edits.specs.Edits.{edit_by, edit_of, fields_of, row_of, times_of, until_blank, AreEdits, Say}
+use Rattle.tilt_edits.specs.declared.edit.Edit.{Edit}
+use Rattle.tilt_edits.specs.declared.edit.Edit.TheVariants.{Add, Remove, Set}
 use Rattle.tilt_stream.specs.Snap.{Snapshot}
 use Rattle.tilt_text.specs.Cut.{until_at}
 use Rattle.tilt_text.specs.Step.{◌>>=◌}

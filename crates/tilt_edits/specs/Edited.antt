@@ -5,10 +5,10 @@ use Rattle.std.specs.List.{list_any, slice_index_or}
 use Rattle.std.specs.Ordering.{int_eq}
 use Rattle.std.specs.Prelude.{slice_set}
 use Rattle.tilt_base.specs.declared.limits.TheConstants.{T}
-use Rattle.tilt_fix.specs.declared.edit.Edit.{Edit}
-use Rattle.tilt_fix.specs.declared.edit.Edit.TheVariants.{Add, Remove, Set}
-use Rattle.tilt_fix.specs.declared.fault.FixFault.{FixFault}
-use Rattle.tilt_fix.specs.declared.fault.FixFault.TheVariants.{NoSuchRow, Overlaps}
+use Rattle.tilt_edits.specs.declared.edit.Edit.{Edit}
+use Rattle.tilt_edits.specs.declared.edit.Edit.TheVariants.{Add, Remove, Set}
+use Rattle.tilt_edits.specs.declared.fault.FixFault.{FixFault}
+use Rattle.tilt_edits.specs.declared.fault.FixFault.TheVariants.{NoSuchRow, Overlaps}
 use Rattle.tilt_stream.specs.Snap.{Snapshot}
 
 -- the input that an edit is of, and the ticks `(start, end]` of its row
@@ -26,6 +26,12 @@ abbrev pub end_of : Edit → ℤ
 end_of (Add input row) = row.end
 end_of (Remove input start end) = end
 end_of (Set input row) = row.end
+
+-- the row that an edit puts, where it puts one
+abbrev pub put_of : Edit → List Snapshot
+put_of (Add input row) = row ∷ []
+put_of (Remove input start end) = []
+put_of (Set input row) = row ∷ []
 
 -- an edit of one of so many inputs, with times in `-T..T`
 pub record IsEditOf (inputs : ℕ) (edit : Edit) : Type 0 where

@@ -1,6 +1,6 @@
 use Rattle.std.proofs.Common.{◌++◌, ◌+◌, [], ◌∷◌, sym, arith, length-append}
-use Rattle.tilt_fix.proofs.Lines.{read_more, rest_shorter}
-use Rattle.tilt_fix.proofs.reader.count_edits.Goals as goal
+use Rattle.tilt_edits.proofs.Lines.{read_more, rest_shorter}
+use Rattle.tilt_edits.proofs.reader.count_edits.Goals as goal
 
 pub loop-left-smaller : goal.loop-left-smaller
 loop-left-smaller c =

@@ -1,9 +1,9 @@
 -- How edits are read, line after line.
 use Rattle.std.specs.Prelude.{◌≡◌, ◌≢◌, ◌⊎◌, ℕ, suc, List, ◌++◌, length, Option, Some}
-use Rattle.tilt_fix.specs.Edits.{edit_of, text_of_lines, AreEdits, IsBadLine, Say}
-use Rattle.tilt_fix.specs.declared.edit.Edit.{Edit}
-use Rattle.tilt_fix.specs.declared.fault.EditFault.{EditFault}
-use Rattle.tilt_fix.specs.declared.fault.EditFault.TheVariants.{BadEdit, OutOfMemory}
+use Rattle.tilt_edits.specs.Edits.{edit_of, text_of_lines, AreEdits, IsBadLine, Say}
+use Rattle.tilt_edits.specs.declared.edit.Edit.{Edit}
+use Rattle.tilt_edits.specs.declared.fault.EditFault.{EditFault}
+use Rattle.tilt_edits.specs.declared.fault.EditFault.TheVariants.{BadEdit, OutOfMemory}
 use Rattle.tilt_text.specs.Cut.{until_at}
 use Rattle.tilt_text.specs.Step.{◌>>=◌}
 

@@ -2,7 +2,7 @@
 ghost use Rattle.std.specs.Prelude.{◌≡◌, ◌||◌, ◌==◌, ◌<◌, ◌^◌, length, Option, Some, None, MatchOption};
 ghost use Rattle.std.specs.List.{position};
 ghost use Rattle.std.specs.Str.{bytes_eq};
-ghost use Rattle.tilt_fix.specs.Edits.{edit_by, edit_of, fields_of, row_of, times_of, until_blank};
+ghost use Rattle.tilt_edits.specs.Edits.{edit_by, edit_of, fields_of, row_of, times_of, until_blank};
 
 use crate::edit::Edit;
 use tilt_base::{Cell, T, read_cell, read_number};

@@ -3,9 +3,9 @@ use Rattle.std.proofs.Common.{◌≡◌, ◌≢◌, ℕ, ◌+◌, Bool, true, fa
 use Rattle.std.proofs.Common.{List, [], ◌∷◌, ◌++◌, length, ◌<◌, append_assoc, length-append}
 use Rattle.std.specs.Prelude.{◌==◌}
 use Rattle.std.proofs.lemmas.Option.{none-some, same_Some}
-use Rattle.tilt_fix.specs.Edits.{edit_of, text_of_lines, Say, BeginsBadly}
-use Rattle.tilt_fix.specs.Reading.{next_edit, HasRead}
-use Rattle.tilt_fix.specs.declared.edit.Edit.{Edit}
+use Rattle.tilt_edits.specs.Edits.{edit_of, text_of_lines, Say, BeginsBadly}
+use Rattle.tilt_edits.specs.Reading.{next_edit, HasRead}
+use Rattle.tilt_edits.specs.declared.edit.Edit.{Edit}
 use Rattle.tilt_text.specs.Cut.{onto, until_at}
 use Rattle.tilt_text.specs.Step.{◌>>=◌}
 use Rattle.tilt_text.proofs.Step.{bind_some}
