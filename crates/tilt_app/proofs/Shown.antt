@@ -22,7 +22,7 @@ use Rattle.tilt_printed.specs.declared.printed.Printed.TheVariants.{Whole, Run, 
 use Rattle.tilt_printed.specs.declared.save.Save.{Save}
 use Rattle.tilt_report.specs.Report.{Outcome, Report, usage, refusal, read_fault, write_fault, save_fault, out_of_memory, printed, refused, report_of}
 use Rattle.tilt_report.specs.declared.fault.Fault.{Fault}
-use Rattle.tilt_sessions.specs.SavedCut.{SavedCutValue}
+use Rattle.tilt_commands.specs.SavedCut.{SavedCutValue}
 use Rattle.tilt_stream.specs.Snap.{Snapshot}
 use Rattle.tilt_stream.specs.Text.{text_of}
 use Rattle.tilt_watch.specs.Watch.{Watch}

@@ -5,8 +5,8 @@ use Rattle.tilt_app.specs.Saving.{IsSaved}
 use Rattle.tilt_checkpoint.specs.Cuts.{CutsParts}
 use Rattle.tilt_printed.specs.Saving.{SaveValue, outcome_of}
 use Rattle.tilt_report.specs.Report.{Outcome}
-use Rattle.tilt_sessions.specs.HandsOn.{HandsOn, IsBegun, IsBeyond}
-use Rattle.tilt_sessions.specs.SavedCut.{SavedCutValue}
+use Rattle.tilt_commands.specs.HandsOn.{HandsOn, IsBegun, IsBeyond}
+use Rattle.tilt_commands.specs.SavedCut.{SavedCutValue}
 use Rattle.tilt_stream.specs.Snap.{Snapshot}
 use Rattle.tilt_syntax.specs.Tree.{StatementTree}
 use Rattle.tilt_words.specs.Binding.{Binding}

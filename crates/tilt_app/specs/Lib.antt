@@ -5,4 +5,5 @@ pub mod Continued
 pub mod Done
 pub mod Outcome
 pub mod Saving
+pub mod SessionCalls
 pub mod Show

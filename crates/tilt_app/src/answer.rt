@@ -6,19 +6,19 @@ ghost use Rattle.tilt_app.specs.Outcome.{HasRowTurn};
 ghost use Rattle.tilt_commands.specs.Table.{row_of};
 ghost use Rattle.tilt_load.specs.Does.{reading};
 ghost use Rattle.tilt_printed.specs.Answer.{comes_to};
-ghost use Rattle.tilt_sessions.specs.SavedCut.{ending_of};
+ghost use Rattle.tilt_commands.specs.SavedCut.{ending_of};
 ghost use Rattle.tilt_watch.specs.Watch.{Watch};
 ghost use Rattle.tilt_words.specs.Command.{IsWithin, command_of};
 ghost use Rattle.tilt_words.specs.Upto.{upto_of};
 
 use std::alloc::Global;
 use tilt_commands::{
-    Division, Manner, compile, exec, explain, fix, flow, parts, pipe, run, try_, watch,
+    Division, Manner, SavedCut, compile, exec, explain, fix, flow, parts, pipe, resume_session, run, start_session,
+    try_, watch,
 };
 use tilt_outside::Shelf;
 use tilt_printed::Answered;
 use tilt_report::Fault;
-use tilt_sessions::{SavedCut, resume_session, start_session};
 use tilt_words::{Command, Upto};
 
 /// What the command prints and saves. All files are read here. Memory is taken later only where snapshots are put as they are made:

@@ -5,7 +5,8 @@
 //! `specs/Outcome`. The clauses that matter stand on `tilt`: `done`, that the bytes printed and saved are the outcome, `continued`, that
 //! sessions go on from one another, `reported`, that every other answer has its cause, `complete`, `complete_refusal` and `faultless`,
 //! that the outcome is answered, and `seen`, that the watchers were shown what was printed. `outcome_is_one` has the law that there always
-//! is one outcome.
+//! is one outcome, and `sessions_are_one_run` the law of sessions: the texts of calls that go on from one another, joined, are the text of
+//! one run.
 #![tactic(auto)]
 
 mod answer;
@@ -13,4 +14,4 @@ mod command;
 mod law;
 
 pub use command::tilt;
-pub use law::outcome_is_one;
+pub use law::{outcome_is_one, sessions_are_one_run};

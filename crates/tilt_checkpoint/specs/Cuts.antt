@@ -1,5 +1,5 @@
 -- Up to where the rows of inputs were seen (our own rule).
-use Rattle.std.specs.Prelude.{◌≢◌, ℤ, neg_ℤ, ◌≤ℤ◌, List, [], Contains}
+use Rattle.std.specs.Prelude.{◌≢◌, ℕ, ℤ, neg_ℤ, ◌≤ℤ◌, List, [], replicate, Contains}
 use Rattle.std.specs.List.{AllByRecursion}
 use Rattle.tilt_base.specs.declared.limits.TheConstants.{T}
 
@@ -7,6 +7,10 @@ use Rattle.tilt_base.specs.declared.limits.TheConstants.{T}
 pub record CutsParts : Type 0 where
   pub least : ℤ
   pub each : List ℤ
+
+-- one cut for so many inputs
+abbrev pub same_cuts : ℕ → ℤ → CutsParts
+same_cuts inputs cut = record { least = cut; each = replicate inputs cut }
 
 -- a cut lies within the range of times
 abbrev pub IsCut : ℤ → Type 0

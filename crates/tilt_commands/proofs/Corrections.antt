@@ -11,13 +11,13 @@ use Rattle.tilt_commands.specs.Corrections.{HasApplied, IsCorrected, not_applied
 use Rattle.tilt_compiler.specs.Accepted.{AcceptedParts}
 use Rattle.tilt_core.specs.Core.{CoreParts}
 use Rattle.tilt_core.specs.Meaning.{output_of}
-use Rattle.tilt_fix.specs.Edited.{added, after_edit, changed, edited, has_times, input_of, meets}
+use Rattle.tilt_edits.specs.Edited.{added, after_edit, changed, edited, has_times, input_of, meets}
 use Rattle.tilt_fix.specs.Live.{LiveParts}
 use Rattle.tilt_fix.specs.Reached.{reached}
-use Rattle.tilt_fix.specs.declared.edit.Edit.{Edit}
-use Rattle.tilt_fix.specs.declared.edit.Edit.TheVariants.{Add, Remove, Set}
-use Rattle.tilt_fix.specs.declared.fault.FixFault.{FixFault}
-use Rattle.tilt_fix.specs.declared.fault.FixFault.TheVariants.{NoSuchRow, Overlaps, OutOfMemory}
+use Rattle.tilt_edits.specs.declared.edit.Edit.{Edit}
+use Rattle.tilt_edits.specs.declared.edit.Edit.TheVariants.{Add, Remove, Set}
+use Rattle.tilt_edits.specs.declared.fault.FixFault.{FixFault}
+use Rattle.tilt_edits.specs.declared.fault.FixFault.TheVariants.{NoSuchRow, Overlaps, OutOfMemory}
 use Rattle.tilt_load.specs.Load.{IsLoadFault}
 use Rattle.tilt_printed.specs.Reached.{corrected_text}
 use Rattle.tilt_report.specs.Report.{Reason, Outcome, printed, refused, refusal, usage, no_such_row, overlaps, report_of_fix}

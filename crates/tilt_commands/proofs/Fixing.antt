@@ -11,7 +11,7 @@ use Rattle.tilt_commands.specs.LastFile.{HasLastTurn, earlier, last_turn, IsLast
 use Rattle.tilt_commands.specs.Loaded.{refusing_row}
 use Rattle.tilt_core.specs.Core.{CoreParts, IsCore}
 use Rattle.tilt_core.specs.Needs.{Need}
-use Rattle.tilt_fix.specs.declared.edit.Edit.{Edit}
+use Rattle.tilt_edits.specs.declared.edit.Edit.{Edit}
 use Rattle.tilt_load.proofs.Loads.{load_fault_weaker}
 use Rattle.tilt_load.proofs.OneEdits.{edits_once, edits_refused_once, edits_refused_or_taken, edits_taken_or_refused}
 use Rattle.tilt_load.specs.Does.{IsRead, IsUndone, Reading}

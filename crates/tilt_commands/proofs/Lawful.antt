@@ -31,7 +31,7 @@ use Rattle.tilt_pipe.specs.Rings.{most_ever}
 use Rattle.tilt_printed.specs.Figures.{watched_text}
 use Rattle.tilt_printed.specs.Rings.{rings_line}
 use Rattle.tilt_report.specs.Report.{Reason, Outcome, printed, refused, usage}
-use Rattle.tilt_sessions.proofs.Lawful.{start_lawful, resume_lawful}
+use Rattle.tilt_commands.proofs.LawfulSessions.{start_lawful, resume_lawful}
 use Rattle.tilt_stream.specs.Snap.{Snapshot}
 use Rattle.tilt_stream.specs.Text.{text_of}
 use Rattle.tilt_types.specs.Checked.{core_of}

@@ -1,8 +1,13 @@
+pub mod Beyond
 pub mod Corrections
 pub mod Divided
 pub mod Doing
 pub mod Fixing
 pub mod Flowed
+pub mod Handed
 pub mod Lawful
+pub mod LawfulSessions
 pub mod MadeQuery
+pub mod Resumed
+pub mod Started
 pub mod Taken

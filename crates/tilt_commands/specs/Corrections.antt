@@ -6,11 +6,11 @@ use Rattle.tilt_bounds.specs.Margins.{MarginsParts}
 use Rattle.tilt_compiler.specs.Accepted.{AcceptedParts}
 use Rattle.tilt_core.specs.Core.{CoreParts}
 use Rattle.tilt_core.specs.Meaning.{output_of}
-use Rattle.tilt_fix.specs.Edited.{IsEditOf, after_edit}
+use Rattle.tilt_edits.specs.Edited.{IsEditOf, after_edit}
 use Rattle.tilt_fix.specs.Live.{LiveParts}
 use Rattle.tilt_fix.specs.Reached.{reached}
-use Rattle.tilt_fix.specs.declared.edit.Edit.{Edit}
-use Rattle.tilt_fix.specs.declared.fault.FixFault.{FixFault}
+use Rattle.tilt_edits.specs.declared.edit.Edit.{Edit}
+use Rattle.tilt_edits.specs.declared.fault.FixFault.{FixFault}
 use Rattle.tilt_printed.specs.Reached.{corrected_text}
 use Rattle.tilt_report.specs.Report.{Reason, Outcome, printed, refused, refusal, report_of_fix}
 use Rattle.tilt_stream.specs.Snap.{Snapshot}

@@ -4,7 +4,7 @@ use Rattle.tilt_bounds.specs.Margins.{MarginsParts, margins_of}
 use Rattle.tilt_commands.specs.Corrections.{IsCorrected}
 use Rattle.tilt_commands.specs.Query.{query_row}
 use Rattle.tilt_core.specs.Core.{CoreParts}
-use Rattle.tilt_fix.specs.declared.edit.Edit.{Edit}
+use Rattle.tilt_edits.specs.declared.edit.Edit.{Edit}
 use Rattle.tilt_load.specs.EditsFile.{TakesEdits, RefusesEdits}
 use Rattle.tilt_load.specs.FileCommand.{FileCommand}
 use Rattle.tilt_report.specs.Report.{Reason, Outcome, refused, refusal}

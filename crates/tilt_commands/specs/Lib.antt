@@ -1,7 +1,12 @@
 pub mod Corrections
 pub mod Divided
 pub mod Fixed
+pub mod HandsOn
 pub mod LastFile
 pub mod Loaded
 pub mod Query
+pub mod Resume
+pub mod RowBounds
+pub mod SavedCut
+pub mod Start
 pub mod Table

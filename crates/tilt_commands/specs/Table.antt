@@ -1,4 +1,4 @@
--- The table of commands: what each of them does. A command on the file of a name is a row here, or in `tilt_sessions`.
+-- The table of commands: what each of them does. A command on the file of a name is a row here, in `Start` or in `Resume`.
 use Rattle.std.specs.Prelude.{◌≡◌, ◌++◌, not, List, [], ◌∷◌, ℕ, ℤ, Bool, Ok, Some, None}
 use Rattle.tilt_bounds.specs.Margins.{MarginsParts, margins_of}
 use Rattle.tilt_code.specs.Code.{CodeParts}
@@ -26,8 +26,8 @@ use Rattle.tilt_pipe.specs.Rings.{most_ever}
 use Rattle.tilt_printed.specs.Figures.{watched_text}
 use Rattle.tilt_printed.specs.Rings.{rings_line}
 use Rattle.tilt_report.specs.Report.{Outcome, printed}
-use Rattle.tilt_sessions.specs.Resume.{resume_row}
-use Rattle.tilt_sessions.specs.Start.{start_row}
+use Rattle.tilt_commands.specs.Resume.{resume_row}
+use Rattle.tilt_commands.specs.Start.{start_row}
 use Rattle.tilt_stream.specs.Snap.{Snapshot}
 use Rattle.tilt_stream.specs.Snapshots.{snapshots}
 use Rattle.tilt_stream.specs.Stream.{stream_of}

@@ -2,9 +2,9 @@
 ghost use Rattle.std.specs.Prelude.{◌≡◌, ◌⊎◌, ◌++◌, ⊤, [], ◌∷◌, Ok, Err, length, map, IfOk, IfErr, OnOk};
 ghost use Rattle.std.specs.List.{AllByRecursion};
 ghost use Rattle.tilt_commands.specs.Corrections.{IsCorrected, after_edits};
-ghost use Rattle.tilt_fix.specs.Edited.{IsEditOf};
+ghost use Rattle.tilt_edits.specs.Edited.{IsEditOf};
 ghost use Rattle.tilt_fix.specs.Reached.{reached};
-ghost use Rattle.tilt_fix.specs.declared.fault.FixFault.{FixFault};
+ghost use Rattle.tilt_edits.specs.declared.fault.FixFault.{FixFault};
 ghost use Rattle.tilt_load.specs.Load.{IsLoadFault};
 ghost use Rattle.tilt_printed.specs.Text.{whole_text};
 ghost use Rattle.tilt_report.specs.Report.{printed, refused, refusal, report_of};
@@ -12,7 +12,8 @@ ghost use Rattle.tilt_report.specs.Report.{printed, refused, refusal, report_of}
 use std::alloc::{AllocError as OutOfMemory, Global};
 use tilt_base::Span;
 use tilt_compiler::Accepted;
-use tilt_fix::{Edit, FixFault, Live};
+use tilt_edits::{Edit, FixFault};
+use tilt_fix::Live;
 use tilt_printed::WholeText;
 use tilt_report::Fault;
 use tilt_stream::Rows;

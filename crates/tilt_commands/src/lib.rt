@@ -4,6 +4,9 @@
 //! Each command is a row of `specs/Table`: what its file may say, and what it comes to on the rows of its inputs. The clause `Does` of its
 //! function, or `DoesLast`, says that it does that, that each fault has its cause, and that each file was read once. That words and files
 //! have one outcome, and always one, is `IsLawful` of its row, in `proofs/`.
+//!
+//! `start_session` and `resume_session` also save a checkpoint under a name. Their clauses `begun` and `beyond` say by `specs/HandsOn` that
+//! sessions print together, and leave, what one session does on all rows.
 #![tactic(auto)]
 
 mod compile_command;
@@ -15,7 +18,11 @@ mod flow_command;
 mod loaded;
 mod parts_command;
 mod pipe_command;
+mod resume_command;
+mod row_bounds;
 mod run_command;
+mod saved_cut;
+mod start_command;
 mod try_command;
 mod watch_command;
 
@@ -26,6 +33,9 @@ pub use fix_command::fix;
 pub use flow_command::flow;
 pub use parts_command::{Division, parts};
 pub use pipe_command::pipe;
+pub use resume_command::resume_session;
 pub use run_command::{Manner, run};
+pub use saved_cut::SavedCut;
+pub use start_command::start_session;
 pub use try_command::try_;
 pub use watch_command::watch;

@@ -21,7 +21,7 @@ use std::alloc::{AllocError as OutOfMemory, Global};
 use tilt_outside::Shelf;
 use tilt_printed::{Answered, Printed, WholeText};
 use tilt_report::Fault;
-use tilt_sessions::run_cut;
+use tilt_session::run_cut;
 use tilt_words::Bind;
 
 /// How a query is run.

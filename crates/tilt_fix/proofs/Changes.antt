@@ -6,8 +6,8 @@ use Rattle.std.proofs.lemmas.Int.{ints, by_lt_z}
 use Rattle.std.specs.List.{insert, remove, list_any}
 use Rattle.std.specs.List.Sorted.{IsPartitionPoint, IsPartitionedBy}
 use Rattle.std.specs.Ordering.{int_eq}
-use Rattle.tilt_fix.specs.Edited.{has_times, meets, with_row, added}
-use Rattle.tilt_fix.specs.declared.fault.FixFault.TheVariants.{Overlaps}
+use Rattle.tilt_edits.specs.Edited.{has_times, meets, with_row, added}
+use Rattle.tilt_edits.specs.declared.fault.FixFault.TheVariants.{Overlaps}
 use Rattle.tilt_stream.proofs.Ended.{none_ended, ended-counted, ended-parted}
 use Rattle.tilt_stream.specs.Snap.{Snapshot, InOrder, ended_below, with_value}
 

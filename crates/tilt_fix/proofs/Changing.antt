@@ -9,7 +9,7 @@ use Rattle.tilt_base.specs.declared.limits.TheConstants.{T}
 use Rattle.tilt_fix.proofs.Changes.{has_room, with_row-at, some_has, has_own, taken_out, set_at, first_left}
 use Rattle.tilt_fix.specs.Change.{HasRowAt, IsChangeOf}
 use Rattle.tilt_fix.specs.declared.change.Change.TheVariants.{Insert, Remove, Revalue}
-use Rattle.tilt_fix.specs.declared.edit.Edit.TheVariants.{Add, Remove as TakeOut, Set}
+use Rattle.tilt_edits.specs.declared.edit.Edit.TheVariants.{Add, Remove as TakeOut, Set}
 use Rattle.tilt_stream.proofs.Order.{InOrder-removed, InOrder-valued}
 use Rattle.tilt_stream.proofs.Places.{ended-within}
 use Rattle.tilt_stream.specs.Snap.{Snapshot, AreRows, InOrder, ended_below, with_value}

@@ -17,10 +17,10 @@ use Rattle.tilt_fix.proofs.Outside.{AreSameOutside, edited-same}
 use Rattle.tilt_fix.proofs.Reaching.{IsFar, far-agrees}
 use Rattle.tilt_fix.proofs.Restricted.{IsRestricted, cells-outside, emitted-restricted, marks-first, marks-outside}
 use Rattle.tilt_fix.proofs.Stretch.{IsStretchOf, looking-none, looking-some}
-use Rattle.tilt_fix.specs.Edited.{IsEditOf, after_edit, changed, edited, end_of, input_of, start_of}
+use Rattle.tilt_edits.specs.Edited.{IsEditOf, after_edit, changed, edited, end_of, input_of, start_of}
 use Rattle.tilt_fix.specs.Reached.{IsOutside, StaysOutside, looking_at, reached}
-use Rattle.tilt_fix.specs.declared.edit.Edit.{Edit}
-use Rattle.tilt_fix.specs.declared.fault.FixFault.{FixFault}
+use Rattle.tilt_edits.specs.declared.edit.Edit.{Edit}
+use Rattle.tilt_edits.specs.declared.fault.FixFault.{FixFault}
 use Rattle.tilt_stream.specs.Agreement.{Agree}
 use Rattle.tilt_stream.specs.Domain.{lies_in}
 use Rattle.tilt_stream.specs.Snap.{Snapshot}

@@ -5,11 +5,11 @@ use Rattle.std.specs.List.{list_any}
 use Rattle.std.specs.Ordering.{int_eq}
 use Rattle.std.proofs.lemmas.Bool.{cases_Bool}
 use Rattle.std.proofs.lemmas.Int.{ints}
-use Rattle.tilt_fix.specs.Edited.{added, edited, end_of, has_times, meets, start_of, with_row}
-use Rattle.tilt_fix.specs.declared.edit.Edit.{Edit}
-use Rattle.tilt_fix.specs.declared.edit.Edit.TheVariants.{Add, Remove, Set}
-use Rattle.tilt_fix.specs.declared.fault.FixFault.{FixFault}
-use Rattle.tilt_fix.specs.declared.fault.FixFault.TheVariants.{NoSuchRow}
+use Rattle.tilt_edits.specs.Edited.{added, edited, end_of, has_times, meets, start_of, with_row}
+use Rattle.tilt_edits.specs.declared.edit.Edit.{Edit}
+use Rattle.tilt_edits.specs.declared.edit.Edit.TheVariants.{Add, Remove, Set}
+use Rattle.tilt_edits.specs.declared.fault.FixFault.{FixFault}
+use Rattle.tilt_edits.specs.declared.fault.FixFault.TheVariants.{NoSuchRow}
 use Rattle.tilt_stream.specs.Snap.{Snapshot}
 use Rattle.tilt_stream.specs.Stream.{Stream, stream_of, covers, cell_at, mark_at}
 

@@ -18,14 +18,14 @@ use Rattle.tilt_fix.proofs.Corrected.{far-stays, first-within, is-piece, output-
 use Rattle.tilt_fix.proofs.Outside.{AreSameOutside, edited-same}
 use Rattle.tilt_fix.proofs.Stretch.{IsStretchOf, looking-none, looking-some}
 use Rattle.tilt_fix.specs.Change.{IsChangeOf, all_made, made}
-use Rattle.tilt_fix.specs.Edited.{end_of, input_of, start_of}
+use Rattle.tilt_edits.specs.Edited.{end_of, input_of, start_of}
 use Rattle.tilt_fix.specs.Piece.{IsPieceOf, first_before}
 use Rattle.tilt_fix.specs.Put.{IsPut}
 use Rattle.tilt_fix.specs.Reached.{looking_at, reached}
 use Rattle.tilt_fix.specs.Replaced.{stretched}
 use Rattle.tilt_fix.specs.Window.{windows}
 use Rattle.tilt_fix.specs.declared.change.Change.{Change}
-use Rattle.tilt_fix.specs.declared.edit.Edit.{Edit}
+use Rattle.tilt_edits.specs.declared.edit.Edit.{Edit}
 use Rattle.tilt_stream.proofs.Places.{ended-rises}
 use Rattle.tilt_stream.specs.Snap.{Snapshot, AreRows, AreSnapshots, ended_below}
 use Rattle.tilt_stream.specs.Stream.{stream_of}

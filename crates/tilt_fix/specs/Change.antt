@@ -1,11 +1,10 @@
 -- Changes of rows at a place, which is counted from 0.
 use Rattle.std.specs.Prelude.{◌≡◌, ℕ, suc, ◌<◌, ◌≤◌, ℤ, List, [], ◌∷◌, length, slice_get, slice_set, Option, Some, Ok}
 use Rattle.std.specs.List.{insert, remove, slice_index_or, splice}
-use Rattle.tilt_fix.specs.Edited.{edited}
+use Rattle.tilt_edits.specs.Edited.{edited, put_of}
 use Rattle.tilt_fix.specs.declared.change.Change.{Change}
 use Rattle.tilt_fix.specs.declared.change.Change.TheVariants.{Insert, Remove, Revalue}
-use Rattle.tilt_fix.specs.declared.edit.Edit.{Edit}
-use Rattle.tilt_fix.specs.declared.edit.Edit.TheVariants.{Add, Remove as TakeOut, Set}
+use Rattle.tilt_edits.specs.declared.edit.Edit.{Edit}
 use Rattle.tilt_stream.specs.Snap.{Snapshot, AreRows, with_value}
 
 -- what a change makes of rows
@@ -30,12 +29,6 @@ abbrev pub next_of : Change → ℕ
 next_of (Insert at row) = at
 next_of (Remove at) = suc at
 next_of (Revalue at value) = suc at
-
--- the rows that an edit puts
-abbrev pub put_of : Edit → List Snapshot
-put_of (Add input row) = row ∷ []
-put_of (TakeOut input start end) = []
-put_of (Set input row) = row ∷ []
 
 -- the row of exactly these times stands at this place
 pub record HasRowAt (rows : List Snapshot) (start end : ℤ) (at : ℕ) : Type 0 where

@@ -1,10 +1,7 @@
 pub mod Change
-pub mod Edited
-pub mod Edits
 pub mod Live
 pub mod Piece
 pub mod Put
 pub mod Reached
-pub mod Reading
 pub mod Replaced
 pub mod Window

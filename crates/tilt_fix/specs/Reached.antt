@@ -6,9 +6,9 @@ use Rattle.tilt_bounds.specs.Margins.{need_at}
 use Rattle.tilt_compiler.specs.Accepted.{AcceptedParts}
 use Rattle.tilt_core.specs.Core.{domain_of}
 use Rattle.tilt_core.specs.Needs.{Need}
-use Rattle.tilt_fix.specs.Edited.{input_of, start_of, end_of}
+use Rattle.tilt_edits.specs.Edited.{input_of, start_of, end_of}
 use Rattle.tilt_stream.specs.Stream.{Stream}
-use Rattle.tilt_fix.specs.declared.edit.Edit.{Edit}
+use Rattle.tilt_edits.specs.declared.edit.Edit.{Edit}
 
 -- the ticks of `(lo, hi]`, where there are some
 abbrev pub some_ticks : ℤ → ℤ → Option Span

@@ -3,14 +3,13 @@ ghost use Rattle.std.specs.Prelude.{◌≡◌, ◌≤◌, ℕ, length, neg_ℤ, 
 ghost use Rattle.std.specs.List.{list_any};
 ghost use Rattle.tilt_base.specs.declared.limits.TheConstants.{T};
 ghost use Rattle.tilt_fix.specs.Change.{HasRowAt, IsChangeOf};
-ghost use Rattle.tilt_fix.specs.Edited.{added, edited, has_times, start_of, end_of};
-ghost use Rattle.tilt_fix.specs.declared.edit.Edit.{Edit};
-ghost use Rattle.tilt_fix.specs.declared.fault.FixFault.{FixFault};
+ghost use Rattle.tilt_edits.specs.Edited.{added, edited, has_times, start_of, end_of};
+ghost use Rattle.tilt_edits.specs.declared.edit.Edit.{Edit};
+ghost use Rattle.tilt_edits.specs.declared.fault.FixFault.{FixFault};
 ghost use Rattle.tilt_stream.specs.Snap.{AreRows, ended_below};
 
-use crate::edit::Edit;
-use crate::fault::FixFault;
 use tilt_base::Cell;
+use tilt_edits::{Edit, FixFault};
 use tilt_stream::Row;
 
 /// A change of rows at a place, which is counted from 0.

@@ -3,14 +3,12 @@ ghost use Rattle.std.specs.Prelude.{◌≡◌, ◌⊎◌, ◌<◌, Ok, Err, Some
 ghost use Rattle.std.specs.List.{slice_index_or};
 ghost use Rattle.tilt_core.specs.Meaning.{output_of};
 ghost use Rattle.tilt_fix.specs.Change.{IsChangeOf, all_made};
-ghost use Rattle.tilt_fix.specs.Edited.{IsEditOf, after_edit, input_of};
+ghost use Rattle.tilt_edits.specs.Edited.{IsEditOf, after_edit, input_of};
 ghost use Rattle.tilt_fix.specs.Put.{IsPut};
 ghost use Rattle.tilt_fix.specs.Reached.{reached};
-ghost use Rattle.tilt_fix.specs.declared.fault.FixFault.{FixFault};
+ghost use Rattle.tilt_edits.specs.declared.fault.FixFault.{FixFault};
 
 use crate::change::{Change, change_of};
-use crate::edit::Edit;
-use crate::fault::FixFault;
 use crate::piece::{Piece, piece_of};
 use crate::put::put;
 use crate::reach::{reached, widened};
@@ -19,6 +17,7 @@ use std::alloc::{AllocError as OutOfMemory, Global};
 use std::marker::Model;
 use tilt_base::Span;
 use tilt_compiler::Accepted;
+use tilt_edits::{Edit, FixFault};
 use tilt_machine::run_code;
 use tilt_stream::{Rows, SnapList};
 

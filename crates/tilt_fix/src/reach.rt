@@ -3,14 +3,14 @@ ghost use Rattle.std.specs.Prelude.{◌≡◌, ◌<ℤ◌, ◌≤ℤ◌, neg_ℤ
 ghost use Rattle.tilt_base.specs.declared.limits.TheConstants.{REACH, T};
 ghost use Rattle.tilt_bounds.specs.Margins.{IsWithin, evenly};
 ghost use Rattle.tilt_core.specs.Core.{IsStretch};
-ghost use Rattle.tilt_fix.specs.Edited.{end_of, start_of};
+ghost use Rattle.tilt_edits.specs.Edited.{end_of, start_of};
 ghost use Rattle.tilt_fix.specs.Piece.{first_before};
 ghost use Rattle.tilt_fix.specs.Reached.{looking_at, reached};
 
-use crate::edit::Edit;
 use tilt_base::Span;
 use tilt_bounds::{Need, need_at};
 use tilt_compiler::Accepted;
+use tilt_edits::Edit;
 
 // The ticks of the output that an edit reaches; none where its input isn't used.
 pub(crate) fn reached(accepted: &Accepted, edit: &Edit) -> Option<Span>

@@ -5,15 +5,15 @@ ghost use Rattle.std.specs.Option.{option_to_list};
 ghost use Rattle.tilt_base.specs.declared.limits.TheConstants.{REACH, T};
 ghost use Rattle.tilt_bounds.specs.Margins.{AreWithin, IsWithin as LooksWithin, evenly, need_of};
 ghost use Rattle.tilt_fix.specs.Change.{IsChangeOf, IsWithin, all_made, made, next_of, place_of};
-ghost use Rattle.tilt_fix.specs.Edited.{input_of};
+ghost use Rattle.tilt_edits.specs.Edited.{input_of};
 ghost use Rattle.tilt_fix.specs.Window.{early, late, seen, window, window_in, windows};
 ghost use Rattle.tilt_stream.specs.Snap.{AreRows};
 
 use crate::change::Change;
-use crate::edit::Edit;
 use std::alloc::{AllocError as OutOfMemory, Global};
 use tilt_base::Span;
 use tilt_bounds::{Need, need_at};
+use tilt_edits::Edit;
 use tilt_stream::{Row, Rows};
 
 // Of each input the rows that the output on these ticks looks at, after a change of the rows of one of them.

@@ -3,11 +3,11 @@ use Rattle.std.proofs.Common.{◌≡◌, ◌≢◌, ◌<◌, ◌≤◌, ◌⊎�
 use Rattle.std.specs.Prelude.{⊤}
 use Rattle.std.proofs.lemmas.Bool.{cases_lt}
 use Rattle.tilt_base.specs.declared.limits.TheConstants.{FILE}
-use Rattle.tilt_fix.proofs.Outcomes.{outcome-one, outcome-first, outcome-some, outcome-either}
-use Rattle.tilt_fix.specs.Edits.{AreEdits, IsBadLine}
-use Rattle.tilt_fix.specs.declared.edit.Edit.{Edit}
-use Rattle.tilt_fix.specs.declared.fault.EditFault.{EditFault}
-use Rattle.tilt_fix.specs.declared.fault.EditFault.TheVariants as fault
+use Rattle.tilt_edits.proofs.Outcomes.{outcome-one, outcome-first, outcome-some, outcome-either}
+use Rattle.tilt_edits.specs.Edits.{AreEdits, IsBadLine}
+use Rattle.tilt_edits.specs.declared.edit.Edit.{Edit}
+use Rattle.tilt_edits.specs.declared.fault.EditFault.{EditFault}
+use Rattle.tilt_edits.specs.declared.fault.EditFault.TheVariants as fault
 use Rattle.tilt_load.specs.EditsFile.{TakesEdits, RefusesEdits, long, line}
 use Rattle.tilt_load.specs.Load.{IsLoadFault, IsTooLong}
 use Rattle.tilt_report.specs.Report.{Reason, file_too_long, bad_edit, report_of_edits}

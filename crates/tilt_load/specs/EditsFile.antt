@@ -1,8 +1,8 @@
 -- What an edits file comes to: edits of the rows of inputs, or the first reason why it has none.
 use Rattle.std.specs.Prelude.{◌<◌, ◌≤◌, List, ℕ, length}
 use Rattle.tilt_base.specs.declared.limits.TheConstants.{FILE}
-use Rattle.tilt_fix.specs.Edits.{AreEdits, IsBadLine}
-use Rattle.tilt_fix.specs.declared.edit.Edit.{Edit}
+use Rattle.tilt_edits.specs.Edits.{AreEdits, IsBadLine}
+use Rattle.tilt_edits.specs.declared.edit.Edit.{Edit}
 use Rattle.tilt_report.specs.Report.{Reason, file_too_long, bad_edit}
 
 -- the text is no longer than a file may be, and it says these edits of inputs with these names

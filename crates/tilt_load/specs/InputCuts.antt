@@ -1,8 +1,8 @@
 -- The cut of each input, as words give it.
-use Rattle.std.specs.Prelude.{◌≡◌, ℕ, ℤ, pos, if◌then◌else◌, List, [], ◌∷◌, Option, Some, None, length, map, replicate}
+use Rattle.std.specs.Prelude.{◌≡◌, ℕ, ℤ, pos, if◌then◌else◌, List, [], ◌∷◌, Option, Some, None, length, map}
 use Rattle.std.specs.Int.{int_min}
 use Rattle.std.specs.Str.{bytes_eq}
-use Rattle.tilt_checkpoint.specs.Cuts.{CutsParts}
+use Rattle.tilt_checkpoint.specs.Cuts.{CutsParts, same_cuts}
 use Rattle.tilt_load.specs.Inputs.{faulty_among}
 use Rattle.tilt_report.specs.Report.{Reason, cut_names}
 use Rattle.tilt_words.specs.Upto.{CutBinding, UptoValue, all, each}
@@ -30,10 +30,6 @@ abbrev pub least_of : List ℤ → ℤ
 least_of [] = pos 0
 least_of (number ∷ []) = number
 least_of (number ∷ next ∷ more) = int_min number (least_of (next ∷ more))
-
--- one cut for so many inputs
-abbrev pub same_cuts : ℕ → ℤ → CutsParts
-same_cuts inputs cut = record { least = cut; each = replicate inputs cut }
 
 -- the cuts of inputs, with their least
 abbrev pub with_least : List ℤ → CutsParts

@@ -9,4 +9,3 @@ pub mod Inputs
 pub mod Load
 pub mod QueryFile
 pub mod SeriesFiles
-pub mod Sessions

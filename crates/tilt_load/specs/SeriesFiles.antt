@@ -16,27 +16,11 @@ use Rattle.tilt_words.specs.Binding.{Binding}
 abbrev pub no_bounds : Bounds
 no_bounds = record { last_end = None; from = None; upto = None }
 
--- the last end that was kept of the input at a place, where one was
-abbrev pub kept_end : List KeptParts → ℕ → Option ℤ
-kept_end [] place = None
-kept_end (k ∷ series) zero = k.last_end
-kept_end (k ∷ series) (suc place) = kept_end series place
-
--- the cut that was kept of it, where one was
-abbrev pub kept_cut : List KeptParts → ℕ → Option ℤ
-kept_cut [] place = None
-kept_cut (k ∷ series) zero = Some k.cut
-kept_cut (k ∷ series) (suc place) = kept_cut series place
-
--- the cut at a place, where there are cuts
-abbrev pub cut_at : Option (List ℤ) → ℕ → Option ℤ
-cut_at None place = None
-cut_at (Some cuts) place = slice_get cuts place
-
--- where the rows of the input at a place may start in a session that goes on after what was kept, and ends by cuts: from its old cut and
--- its last end on, and below its new cut
-abbrev pub session_bounds : List KeptParts → Option (List ℤ) → ℕ → Bounds
-session_bounds series upto place = record { last_end = kept_end series place; from = kept_cut series place; upto = cut_at upto place }
+-- the bounds of the input at a place, counted from 0; an input beyond the list has none
+abbrev pub bounds_in : List Bounds → ℕ → Bounds
+bounds_in [] place = no_bounds
+bounds_in (b ∷ bounds) zero = b
+bounds_in (b ∷ bounds) (suc place) = bounds_in bounds place
 
 -- a row starts within the bounds
 pub record IsWithin (bounds : Bounds) (row : Snapshot) : Type 0 where

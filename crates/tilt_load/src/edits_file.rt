@@ -1,7 +1,7 @@
 // An edits file, from the shelf to the edits that it says.
 ghost use Rattle.std.specs.Prelude.{◌≡◌, ◌<◌, ◌^◌, IfOk, IfErr, length};
 ghost use Rattle.std.specs.List.{AllByRecursion};
-ghost use Rattle.tilt_fix.specs.Edited.{IsEditOf};
+ghost use Rattle.tilt_edits.specs.Edited.{IsEditOf};
 ghost use Rattle.tilt_lexer.specs.Word.{AreDistinct};
 ghost use Rattle.tilt_load.specs.EditsFile.{TakesEdits, RefusesEdits};
 ghost use Rattle.tilt_load.specs.Load.{IsLoadFault};
@@ -11,7 +11,7 @@ ghost use Rattle.tilt_report.specs.Report.{report_of};
 
 use crate::file::load;
 use std::alloc::Global;
-use tilt_fix::{Edit, read_edits};
+use tilt_edits::{Edit, read_edits};
 use tilt_lexer::Name;
 use tilt_outside::Shelf;
 use tilt_report::Fault;

@@ -4,19 +4,19 @@ ghost use Rattle.tilt_outside.specs.Counts.{added_count, last_count};
 ghost use Rattle.tilt_outside.specs.Reads.{OnlyReads};
 ghost use Rattle.tilt_load.specs.Inputs.{bytes_of_inputs, faulty_name};
 ghost use Rattle.tilt_load.specs.Load.{HasInputTurn, HasSessionTurn, IsLoadFault, IsNameFault};
-ghost use Rattle.tilt_load.specs.SeriesFiles.{AreWithin, TakesInputs, TakesSession, RefusesInputs, RefusesSession, inputs_read};
-ghost use Rattle.tilt_load.specs.Sessions.{bounds_of};
+ghost use Rattle.tilt_load.specs.SeriesFiles.{AreWithin, TakesInputs, TakesSession, RefusesInputs, RefusesSession};
+ghost use Rattle.tilt_load.specs.SeriesFiles.{bounds_in, inputs_read};
 ghost use Rattle.tilt_report.specs.Report.{report_of};
 ghost use Rattle.tilt_words.specs.Binding.{bindings_of};
 
 use crate::binds::{faulty_bind, file_bound};
 use crate::names::FaultyName;
 use crate::series_file::load_input;
-use crate::session::{Session, bounds_at};
 use std::alloc::{AllocError as OutOfMemory, Global};
 use tilt_lexer::Name;
 use tilt_outside::Shelf;
 use tilt_report::{Fault, Refusal};
+use tilt_series::Bounds;
 use tilt_stream::Rows;
 use tilt_words::Bind;
 
@@ -41,15 +41,11 @@ pub fn load_inputs<'a, S: Shelf>(
         ≡ added_count (S.given shelf.old) (bytes_of_inputs (S.files shelf.old) (bindings_of binds.now) inputs.now)) }
     ensures rest { OnlyReads S.files S.read_faults S.save_faults S.takes shelf.old shelf.new }
 {
-    let session = Session {
-        kept: &[],
-        upto: None,
-    };
-    load_session_inputs(alloc, shelf, inputs, binds, &session)
+    load_session_inputs(alloc, shelf, inputs, binds, &[])
 }
 
 /// The rows of each input that a session is handed, in order, from the file that is bound to its name, each within the bounds of
-/// its place. The names are tested before a file is read, and each input is done before the next one is read. The first faulty name is
+/// its place; an input beyond the list of bounds has none. The names are tested before a file is read, and each input is done before the next one is read. The first faulty name is
 /// refused, or else the first series that has a fault; `ReadFault` comes where a read failed, and `OutOfMemory` for want of memory
 /// alone.
 pub fn load_session_inputs<'a, S: Shelf>(
@@ -57,24 +53,24 @@ pub fn load_session_inputs<'a, S: Shelf>(
     shelf: &mut S,
     inputs: &[Name],
     binds: &'a [Bind],
-    session: &Session<'_>,
+    bounds: &[Bounds],
 ) -> Result<Vec<Rows>, Fault<'a>>
     requires { (file : List ℕ)
-        → HasSessionTurn S.tells (S.files shelf.old) (bindings_of binds.now) (bounds_of session.now) inputs.now file → S.lends file }
+        → HasSessionTurn S.tells (S.files shelf.old) (bindings_of binds.now) (bounds_in bounds.now) inputs.now file → S.lends file }
     ensures taken { S.tells → IfOk result (λ rows.
-        TakesSession (S.files shelf.old) (bindings_of binds.now) (bounds_of session.now) inputs.now rows.items) }
+        TakesSession (S.files shelf.old) (bindings_of binds.now) (bounds_in bounds.now) inputs.now rows.items) }
     ensures many { IfOk result (λ rows. length rows.items ≡ length inputs.now) }
-    ensures within { IfOk result (λ rows. AreWithin (bounds_of session.now) rows.items) }
+    ensures within { IfOk result (λ rows. AreWithin (bounds_in bounds.now) rows.items) }
     ensures fault { IfErr result (λ fault. IsLoadFault S.tells
-        (RefusesSession (S.files shelf.old) (bindings_of binds.now) (bounds_of session.now) inputs.now)
-        (HasSessionTurn S.tells (S.files shelf.old) (bindings_of binds.now) (bounds_of session.now) inputs.now)
+        (RefusesSession (S.files shelf.old) (bindings_of binds.now) (bounds_in bounds.now) inputs.now)
+        (HasSessionTurn S.tells (S.files shelf.old) (bindings_of binds.now) (bounds_in bounds.now) inputs.now)
         (S.read_faults shelf.old) (S.read_faults shelf.new) (report_of fault)) }
     ensures given { S.tells → S.given shelf.old ≤ last_count → IfOk result (λ _. S.given shelf.new
         ≡ added_count (S.given shelf.old) (bytes_of_inputs (S.files shelf.old) (bindings_of binds.now) inputs.now)) }
     ensures rest { OnlyReads S.files S.read_faults S.save_faults S.takes shelf.old shelf.new }
 {
     check_names(inputs, binds)?;
-    read_inputs(alloc, shelf, inputs, binds, session)
+    read_inputs(alloc, shelf, inputs, binds, bounds)
 }
 
 // Refuses words that don't bind each input once, and nothing else.
@@ -99,18 +95,18 @@ fn read_inputs<'a, S: Shelf>(
     shelf: &mut S,
     inputs: &[Name],
     binds: &'a [Bind],
-    session: &Session<'_>,
+    bounds: &[Bounds],
 ) -> Result<Vec<Rows>, Fault<'a>>
     requires named { faulty_name inputs.now (bindings_of binds.now) ≡ None }
     requires lent { (file : List ℕ)
-        → HasSessionTurn S.tells (S.files shelf.old) (bindings_of binds.now) (bounds_of session.now) inputs.now file → S.lends file }
+        → HasSessionTurn S.tells (S.files shelf.old) (bindings_of binds.now) (bounds_in bounds.now) inputs.now file → S.lends file }
     ensures taken { S.tells → IfOk result (λ rows.
-        inputs_read (S.files shelf.old) (bindings_of binds.now) (bounds_of session.now) inputs.now ≡ Ok rows.items) }
+        inputs_read (S.files shelf.old) (bindings_of binds.now) (bounds_in bounds.now) inputs.now ≡ Ok rows.items) }
     ensures many { IfOk result (λ rows. length rows.items ≡ length inputs.now) }
-    ensures within { IfOk result (λ rows. AreWithin (bounds_of session.now) rows.items) }
+    ensures within { IfOk result (λ rows. AreWithin (bounds_in bounds.now) rows.items) }
     ensures fault { IfErr result (λ fault. IsLoadFault S.tells
-        (λ why. inputs_read (S.files shelf.old) (bindings_of binds.now) (bounds_of session.now) inputs.now ≡ Err why)
-        (HasSessionTurn S.tells (S.files shelf.old) (bindings_of binds.now) (bounds_of session.now) inputs.now)
+        (λ why. inputs_read (S.files shelf.old) (bindings_of binds.now) (bounds_in bounds.now) inputs.now ≡ Err why)
+        (HasSessionTurn S.tells (S.files shelf.old) (bindings_of binds.now) (bounds_in bounds.now) inputs.now)
         (S.read_faults shelf.old) (S.read_faults shelf.new) (report_of fault)) }
     ensures given { S.tells → S.given shelf.old ≤ last_count → IfOk result (λ _. S.given shelf.new
         ≡ added_count (S.given shelf.old) (bytes_of_inputs (S.files shelf.old) (bindings_of binds.now) inputs.now)) }
@@ -118,11 +114,25 @@ fn read_inputs<'a, S: Shelf>(
 {
     let mut all = Vec::new(alloc);
     for input in inputs {
-        let bounds = bounds_at(session, all.len());
-        let rows = load_input(alloc, shelf, input, file_bound(binds, input), bounds)?;
+        let within = bounds_at(bounds, all.len());
+        let rows = load_input(alloc, shelf, input, file_bound(binds, input), within)?;
         add(&mut all, rows)?;
     }
     Ok(all)
+}
+
+// The bounds of the input at a place, counted from 0.
+fn bounds_at(bounds: &[Bounds], place: usize) -> Bounds
+    ensures { result ≡ bounds_in bounds.now place }
+{
+    match bounds.get(place) {
+        Some(bounds) => *bounds,
+        None => Bounds {
+            last_end: None,
+            from: None,
+            upto: None,
+        },
+    }
 }
 
 // Adds the rows of one more input.

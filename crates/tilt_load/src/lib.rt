@@ -20,7 +20,6 @@ mod inputs;
 mod names;
 mod query_file;
 mod series_file;
-mod session;
 
 pub use checkpoint_file::{LoadedCheckpoint, load_checkpoint};
 pub use code_file::load_code;
@@ -29,4 +28,3 @@ pub use edits_file::load_edits;
 pub use flow_file::{LoadedFlow, load_flow};
 pub use inputs::{load_inputs, load_session_inputs};
 pub use query_file::{LoadedQuery, load_query, read_query};
-pub use session::Session;

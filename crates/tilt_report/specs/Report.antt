@@ -19,10 +19,10 @@ use Rattle.tilt_operators.specs.declared.fault.FlowFault.{FlowFault}
 use Rattle.tilt_operators.specs.declared.fault.FlowFault.TheVariants as pipeline
 use Rattle.tilt_code.specs.declared.fault.CodeFault.{CodeFault}
 use Rattle.tilt_code.specs.declared.fault.CodeFault.TheVariants as listing
-use Rattle.tilt_fix.specs.declared.fault.EditFault.{EditFault}
-use Rattle.tilt_fix.specs.declared.fault.EditFault.TheVariants as edits
-use Rattle.tilt_fix.specs.declared.fault.FixFault.{FixFault}
-use Rattle.tilt_fix.specs.declared.fault.FixFault.TheVariants as correction
+use Rattle.tilt_edits.specs.declared.fault.EditFault.{EditFault}
+use Rattle.tilt_edits.specs.declared.fault.EditFault.TheVariants as edits
+use Rattle.tilt_edits.specs.declared.fault.FixFault.{FixFault}
+use Rattle.tilt_edits.specs.declared.fault.FixFault.TheVariants as correction
 use Rattle.tilt_words.specs.declared.fault.WordsFault.{WordsFault}
 use Rattle.tilt_words.specs.declared.fault.WordsFault.TheVariants as words
 use Rattle.tilt_report.specs.declared.refusal.Refusal.{Refusal}

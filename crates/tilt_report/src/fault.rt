@@ -7,7 +7,7 @@ use crate::refusal::{Refusal, StatementFault};
 use std::alloc::AllocError;
 use tilt_bounds::ReachFault;
 use tilt_code::CodeFault;
-use tilt_fix::{EditFault, FixFault};
+use tilt_edits::{EditFault, FixFault};
 use tilt_lexer::LexFault;
 use tilt_operators::FlowFault;
 use tilt_outside::{Failed, Sink};

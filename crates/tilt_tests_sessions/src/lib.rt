@@ -7,4 +7,4 @@
 #[cfg(test)]
 mod checkpoint;
 #[cfg(test)]
-mod chunk;
+mod session;

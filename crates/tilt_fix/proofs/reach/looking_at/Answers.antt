@@ -2,7 +2,7 @@ use Rattle.std.proofs.Common.{pos, ◌+ℤ◌, SFits, true, false, arith, w64}
 use Rattle.std.proofs.lemmas.Int.{ints, to_z-of_z}
 use Rattle.tilt_base.proofs.Wide.{wide_fits}
 use Rattle.tilt_fix.proofs.Stretch.{looked}
-use Rattle.tilt_fix.specs.Edited.{end_of, start_of}
+use Rattle.tilt_edits.specs.Edited.{end_of, start_of}
 use Rattle.tilt_fix.proofs.reach.looking_at.Goals as goal
 
 -- the sums fit

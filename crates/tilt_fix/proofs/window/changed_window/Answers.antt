@@ -1,6 +1,7 @@
 use Rattle.std.specs.Option.{option_to_list}
 use Rattle.tilt_fix.proofs.Windows.{parts-joined}
-use Rattle.tilt_fix.specs.Change.{made, next_of, place_of, put_of}
+use Rattle.tilt_edits.specs.Edited.{put_of}
+use Rattle.tilt_fix.specs.Change.{made, next_of, place_of}
 use Rattle.tilt_fix.proofs.window.changed_window.Goals as goal
 
 pub window_around-requires : goal.window_around-requires

@@ -3,8 +3,7 @@ use Rattle.std.specs.List.{AllByRecursion}
 use Rattle.std.proofs.lemmas.Result.{err_from_is_err_and}
 use Rattle.tilt_report.specs.Report.{report_of}
 use Rattle.tilt_words.specs.Binding.{bindings_of}
-use Rattle.tilt_load.specs.SeriesFiles.{IsWithin}
-use Rattle.tilt_load.specs.Sessions.{bounds_of}
+use Rattle.tilt_load.specs.SeriesFiles.{IsWithin, bounds_in}
 use Rattle.tilt_series.specs.Series.{Bounds}
 use Rattle.tilt_outside.proofs.MoreReads.{reads-then}
 use Rattle.tilt_load.proofs.Within.{within_more}
@@ -13,7 +12,7 @@ use Rattle.tilt_load.proofs.inputs.read_inputs.Goals as goal
 
 pub load_input-requires : goal.load_input-requires
 load_input-requires g c =
-    c.requires.lent c.file_bound.result.now (turn_at (g.S.Shelf.files c.args.shelf.now) (bindings_of c.args.binds.now) (bounds_of c.args.session.now)
+    c.requires.lent c.file_bound.result.now (turn_at (g.S.Shelf.files c.args.shelf.now) (bindings_of c.args.binds.now) (bounds_in c.args.bounds.now)
     c.args.inputs.now c.input-item.result c.loop-input.input-index c.loop-input-test.true c.input-item.is g.S.Shelf.tells c.file_bound.result.now
     c.requires.named c.file_bound.ensures (λ t. (c.loop-input.all.items, c.loop-input.invariant.read t)))
 
@@ -21,10 +20,10 @@ pub returns-in_err-rows-clause-fault : goal.returns-in_err-rows-clause-fault
 returns-in_err-rows-clause-fault g c =
     let p = err_from_is_err_and c.from_residual.result c.from_residual.ensures.1 in
     let stored : vec_len c.loop-input.all ≡ length c.loop-input.all.items = search rules in
-    let here : c.bounds_at-bounds.result ≡ bounds_of c.args.session.now c.loop-input.input-index =
-    c.bounds_at-bounds.ensures ∙ ap (bounds_of c.args.session.now) (c.len.ensures ∙ stored ∙ c.loop-input.invariant.many) in
-    rw (p.1, p.2) (fault_at (g.S.Shelf.files c.args.shelf.now) (bindings_of c.args.binds.now) (bounds_of c.args.session.now) c.args.inputs.now
-    c.input-item.result c.loop-input.input-index c.loop-input-test.true c.input-item.is c.bounds_at-bounds.result here g.S.Shelf.tells
+    let here : c.bounds_at-within.result ≡ bounds_in c.args.bounds.now c.loop-input.input-index =
+    c.bounds_at-within.ensures ∙ ap (bounds_in c.args.bounds.now) (c.len.ensures ∙ stored ∙ c.loop-input.invariant.many) in
+    rw (p.1, p.2) (fault_at (g.S.Shelf.files c.args.shelf.now) (bindings_of c.args.binds.now) (bounds_in c.args.bounds.now) c.args.inputs.now
+    c.input-item.result c.loop-input.input-index c.loop-input-test.true c.input-item.is c.bounds_at-within.result here g.S.Shelf.tells
     (g.S.Shelf.files c.loop-input.shelf) c.file_bound.result.now (g.S.Shelf.read_faults c.args.shelf.now) (g.S.Shelf.read_faults c.loop-input.shelf)
     (g.S.Shelf.read_faults c.load_input.new.shelf) c.requires.named c.file_bound.ensures (λ t. (c.loop-input.all.items, c.loop-input.invariant.read t))
     c.loop-input.invariant.rest.same_files c.loop-input.invariant.rest.no_fewer_read_faults (report_of c.in_err-rows.field-0.0) c.in_err-rows.ensures.fault)
@@ -33,16 +32,16 @@ pub loop-input-preserved : goal.loop-input-preserved
 loop-input-preserved g c =
     let files = g.S.Shelf.files c.args.shelf.now in
     let binds = bindings_of c.args.binds.now in
-    let bounds = bounds_of c.args.session.now in
+    let bounds = bounds_in c.args.bounds.now in
     let stored : vec_len c.loop-input.all ≡ length c.loop-input.all.items = search rules in
-    let here : c.bounds_at-bounds.result ≡ bounds c.loop-input.input-index = c.bounds_at-bounds.ensures ∙ ap bounds (c.len.ensures ∙ stored ∙ c.loop-input.invariant.many) in
+    let here : c.bounds_at-within.result ≡ bounds c.loop-input.input-index = c.bounds_at-within.ensures ∙ ap bounds (c.len.ensures ∙ stored ∙ c.loop-input.invariant.many) in
     record {
       read = λ t.
           let taken = rw (c.loop-input.invariant.rest.same_files, c.file_bound.ensures) at (c.in_ok-rows.ensures.taken t) in
           rw c.in_ok-add.ensures (taken_at files binds bounds c.args.inputs.now c.input-item.result c.loop-input.input-index c.loop-input-test.true c.input-item.is
-          c.bounds_at-bounds.result here c.loop-input.all.items c.in_ok-rows.rows (c.loop-input.invariant.read t) taken);
+          c.bounds_at-within.result here c.loop-input.all.items c.in_ok-rows.rows (c.loop-input.invariant.read t) taken);
       within = rw c.in_ok-add.ensures (within_more bounds c.loop-input.all.items c.in_ok-rows.rows c.loop-input.invariant.within
-          (subst (λ (b : Bounds). AllByRecursion (IsWithin b) c.in_ok-rows.rows) (c.bounds_at-bounds.ensures ∙ ap bounds (c.len.ensures ∙ stored)) c.in_ok-rows.ensures.within));
+          (subst (λ (b : Bounds). AllByRecursion (IsWithin b) c.in_ok-rows.rows) (c.bounds_at-within.ensures ∙ ap bounds (c.len.ensures ∙ stored)) c.in_ok-rows.ensures.within));
       many = rw c.in_ok-add.ensures (omega (arith, length-append c.loop-input.all.items (c.in_ok-rows.rows ∷ []), c.loop-input.invariant.many));
       given = λ t small.
           counted_at files binds bounds c.args.inputs.now c.input-item.result c.loop-input.input-index c.loop-input-test.true c.input-item.is
@@ -54,7 +53,7 @@ loop-input-preserved g c =
 
 pub returns-clause-taken : goal.returns-clause-taken
 returns-clause-taken g c =
-    λ t. all_taken (g.S.Shelf.files c.args.shelf.now) (bindings_of c.args.binds.now) (bounds_of c.args.session.now) c.args.inputs.now c.loop-input.all.items
+    λ t. all_taken (g.S.Shelf.files c.args.shelf.now) (bindings_of c.args.binds.now) (bounds_in c.args.bounds.now) c.args.inputs.now c.loop-input.all.items
     c.loop-input.input-index c.loop-input-test.false (c.loop-input.invariant.read t)
 
 pub returns-clause-given : goal.returns-clause-given

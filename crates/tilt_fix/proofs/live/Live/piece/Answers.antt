@@ -2,7 +2,7 @@ use Rattle.std.proofs.Common.{◌≡◌, [], None, sym, subst, ◌∙◌}
 use Rattle.std.specs.List.{slice_index_or}
 use Rattle.tilt_fix.proofs.Pieced.{nothing-put}
 use Rattle.tilt_fix.specs.Change.{IsChangeOf}
-use Rattle.tilt_fix.specs.Edited.{input_of}
+use Rattle.tilt_edits.specs.Edited.{input_of}
 use Rattle.tilt_fix.specs.Live.{LiveParts}
 use Rattle.tilt_fix.specs.Reached.{reached}
 use Rattle.tilt_fix.proofs.live.Live.piece.Goals as goal

@@ -7,7 +7,7 @@ use Rattle.tilt_bounds.specs.Margins.{need_of}
 use Rattle.tilt_fix.proofs.Pieced.{computed-is, if_ok-three, on-fits, piece-fits, piece-put, span-within}
 use Rattle.tilt_fix.proofs.Windows.{length-windows}
 use Rattle.tilt_fix.specs.Change.{IsChangeOf, all_made, made}
-use Rattle.tilt_fix.specs.Edited.{input_of}
+use Rattle.tilt_edits.specs.Edited.{input_of}
 use Rattle.tilt_fix.specs.Live.{LiveParts}
 use Rattle.tilt_fix.specs.Piece.{first_before}
 use Rattle.tilt_fix.specs.Reached.{reached}

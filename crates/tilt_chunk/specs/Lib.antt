@@ -1,7 +1,0 @@
-pub mod Cuts
-pub mod Emitted
-pub mod Handed
-pub mod Kept
-pub mod Later
-pub mod Law
-pub mod NewRows

@@ -1,0 +1,4 @@
+mod Blanks
+pub mod EditsOf
+mod Lines
+pub mod Outcomes

@@ -1,0 +1,15 @@
+pub mod Counted
+pub mod Cuts
+pub mod Ends
+pub mod Falls
+pub mod Given
+pub mod Lists
+pub mod OneCut
+pub mod Parted
+pub mod Parts
+pub mod Printed
+pub mod Reach
+pub mod Sessions
+pub mod Steps
+pub mod Valid
+pub mod Whole
