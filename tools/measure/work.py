@@ -39,7 +39,6 @@ SMALL, LARGE = 25_000, 400_000
 SEED = 1
 PEERS = ["awk", "sqlite3", "pandas"]
 # The options with fusion, and without.
-PLAIN: list[list[str]] = [[], ["--plain"]]
 
 
 # The works and their series.
@@ -336,7 +335,7 @@ def ones(rows: int) -> str:
 
 
 def grown(what: Callable[[int], str], rows: int, counts: list[int], program: str, tally: Tally) -> list[list[str]]:
-    """Millions of instructions of `run` and of `exec` of the same listing, with fusion and without."""
+    """Millions of instructions of `run`, with fusion and without."""
     lines = []
     for count in counts:
         with tempfile.TemporaryDirectory(prefix="work.") as folder:
@@ -344,21 +343,17 @@ def grown(what: Callable[[int], str], rows: int, counts: list[int], program: str
             for path, text in ((query, what(count)), (series, ones(rows))):
                 with open(path, "w", encoding="ascii") as file:
                     file.write(text)
-            lines.append([str(count)])
-            for plain in PLAIN:
-                lines[-1] += run_and_exec(program, query, series, plain, folder, tally)
+            lines.append([str(count), *run_both(program, query, series, folder, tally)])
     return lines
 
 
-def run_and_exec(program: str, query: str, series: str, plain: list[str], folder: str, tally: Tally) -> list[str]:
-    code, out = os.path.join(folder, "code"), os.path.join(folder, "out")
-    run([program, "compile", query, *plain], code)
-    ways = [[program, "run", query, f"x={series}", *plain], [program, "exec", code, f"x={series}"]]
-    taken = [instructions(words, folder) for words in ways]
-    for words, name in zip(ways, (out, out + ".exec")):
+def run_both(program: str, query: str, series: str, folder: str, tally: Tally) -> list[str]:
+    out = os.path.join(folder, "out")
+    ways = [[program, "run", query, f"x={series}"], [program, "run", query, f"x={series}", "--plain"]]
+    for words, name in zip(ways, (out, out + ".plain")):
         run(words, name)
-    tally.expect(filecmp.cmp(out, out + ".exec", shallow=False), f"`exec` of {query} prints other bytes than `run`")
-    return [*(f"{number / 10**6:,.1f}" for number in taken), f"{taken[0] / taken[1]:.1f}"]
+    tally.expect(filecmp.cmp(out, out + ".plain", shallow=False), f"`run --plain` of {query} prints other bytes than `run`")
+    return [f"{instructions(words, folder) / 10**6:,.1f}" for words in ways]
 
 
 # The tables.
@@ -368,7 +363,7 @@ def all_tables(tables: Measured, given: argparse.Namespace, program: str, tally:
     sizes = [f"{rows:,}" for rows in (SMALL, LARGE)]
     counted_heads = [f"{who}, {size}" for size in sizes[: 1 + given.large] for who in ("Rust", "tilt", "ratio")]
     held_heads = [f"{who}, {size}" for size in sizes for who in ("files", "Rust", "tilt")]
-    grown_heads = ["`run`", "`exec`", "ratio", "`run --plain`", "`exec` of its listing", "ratio"]
+    grown_heads = ["`run`", "`run --plain`"]
     made = {"work machine": machine(given.peers)}
     if tables.counted:
         made["work instructions"] = markdown(["work", *counted_heads], tables.counted)

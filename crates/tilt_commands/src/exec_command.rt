@@ -9,8 +9,8 @@ ghost use Rattle.tilt_words.specs.Binding.{bindings_of};
 
 use std::alloc::Global;
 use tilt_load::{load_code, load_inputs};
-use tilt_machine::run_code;
 use tilt_outside::Shelf;
+use tilt_pipe::{run_pipe, share_rows};
 use tilt_printed::{Answered, Printed, WholeText};
 use tilt_report::Fault;
 use tilt_words::Bind;
@@ -29,6 +29,7 @@ pub fn exec<'a, S: Shelf>(
 {
     let code = load_code(alloc, shelf, code)?;
     let rows = load_inputs(alloc, shelf, code.inputs(), binds)?;
-    let list = run_code(alloc, &code, &rows)?;
+    let inputs = share_rows(alloc, rows)?;
+    let list = run_pipe(alloc, code, inputs)?;
     Ok(Answered::unsaved(Printed::Whole(WholeText::Snapshots(list))))
 }

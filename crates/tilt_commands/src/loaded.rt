@@ -12,9 +12,8 @@ ghost use Rattle.tilt_words.specs.Binding.{bindings_of};
 use std::alloc::{AllocError as OutOfMemory, Global};
 use tilt_compiler::Accepted;
 use tilt_load::{LoadedQuery, load_inputs, load_query};
-use tilt_machine::run_code;
 use tilt_outside::Shelf;
-use tilt_pipe::Pipe;
+use tilt_pipe::{Pipe, run_pipe, share_rows};
 use tilt_report::Fault;
 use tilt_stream::{Rows, SnapList};
 use tilt_syntax::Query;
@@ -56,13 +55,13 @@ pub(crate) fn load_run<'a, S: Shelf>(
 pub(crate) fn run_whole(
     alloc: Global,
     accepted: &Accepted,
-    rows: &[Rows],
+    rows: Vec<Rows>,
 ) -> Result<SnapList, OutOfMemory>
-    requires { length rows.now ≡ length accepted.now.core.inputs }
-    ensures { IfOk result (λ list. output_of accepted.now.core rows.now ≡ Some list) }
+    requires { length rows.items ≡ length accepted.now.core.inputs }
+    ensures { IfOk result (λ list. output_of accepted.now.core rows.items ≡ Some list) }
 {
     let code = accepted.code(alloc)?;
-    run_code(alloc, &code, rows)
+    run_pipe(alloc, code, share_rows(alloc, rows)?)
 }
 
 // The pipe of what a query means on its rows.
@@ -78,5 +77,5 @@ pub(crate) fn query_pipe(
     ensures fresh { IfOk result (λ pipe. pipe ≡ pipe_after pipe.code pipe.inputs 0) }
 {
     let code = accepted.code(alloc)?;
-    Pipe::new(alloc, code, rows)
+    Pipe::new(alloc, code, share_rows(alloc, rows)?)
 }

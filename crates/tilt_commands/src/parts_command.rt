@@ -23,9 +23,9 @@ use tilt_compiler::Accepted;
 use tilt_load::{LoadedQuery, load_inputs, load_query};
 use tilt_outside::Shelf;
 use tilt_parts::Parts;
+use tilt_pipe::{Input, share_rows};
 use tilt_printed::{Answered, Printed, WholeText};
 use tilt_report::{Fault, Refusal};
-use tilt_stream::Rows;
 use tilt_words::Bind;
 
 /// How a query is run in parts.
@@ -58,7 +58,8 @@ pub fn parts<'a, S: Shelf>(
 {
     let loaded = load_divided(alloc, shelf, query, division)?;
     let rows = load_inputs(alloc, shelf, loaded.accepted.core().inputs(), binds)?;
-    let text = run_parts(alloc, &loaded.accepted, &rows, division)?;
+    let inputs = share_rows(alloc, rows)?;
+    let text = run_parts(alloc, &loaded.accepted, &inputs, division)?;
     Ok(Answered::unsaved(Printed::Whole(text)))
 }
 
@@ -123,7 +124,7 @@ fn first_unnamed(count: usize, order: &[u32]) -> Option<u32>
 fn run_parts(
     alloc: Global,
     accepted: &Accepted,
-    rows: &[Rows],
+    rows: &[Input],
     division: Division<'_>,
 ) -> Result<WholeText, OutOfMemory>
     requires many { length rows.now ≡ length accepted.now.core.inputs }

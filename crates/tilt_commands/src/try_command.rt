@@ -25,7 +25,7 @@ pub fn try_<'a>(alloc: Global, seed: u32, count: u32) -> Result<Answered<'a>, Fa
 {
     let loaded = made_query(alloc, count)?;
     let rows = made_inputs(alloc, seed, count)?;
-    let list = run_whole(alloc, &loaded.accepted, &rows)?;
+    let list = run_whole(alloc, &loaded.accepted, rows)?;
     let text = summary(alloc, count, &list)?;
     Ok(Answered::unsaved(Printed::Whole(WholeText::Text(text))))
 }

@@ -6,7 +6,7 @@ ghost use Rattle.tilt_core.specs.Core.{domain_of};
 
 use crate::compiler::Accepted;
 use std::alloc::{AllocError as OutOfMemory, Global};
-use tilt_pipe::run_pipe;
+use tilt_pipe::{run_pipe, share_rows};
 use tilt_stream::{Rows, SnapList};
 
 impl Accepted {
@@ -30,6 +30,6 @@ impl Accepted {
         // The output domain is known from here on.
         let _domain = self.domain();
         let code = self.code_on(alloc, lo, hi)?;
-        run_pipe(alloc, code, inputs)
+        run_pipe(alloc, code, share_rows(alloc, inputs)?)
     }
 }

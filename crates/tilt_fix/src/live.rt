@@ -18,7 +18,7 @@ use std::marker::Model;
 use tilt_base::Span;
 use tilt_compiler::Accepted;
 use tilt_edits::{Edit, FixFault};
-use tilt_machine::run_code;
+use tilt_pipe::{run_pipe, share_inputs, share_rows, take_rows};
 use tilt_stream::{Rows, SnapList};
 
 /// The rows of an accepted query's inputs, and at every moment the snapshots of what the query means on them. A clause sees it as plain
@@ -51,7 +51,9 @@ impl Live {
         ensures rows { IfOk result (λ live. live.rows ≡ rows.items) }
     {
         let code = accepted.code(alloc)?;
-        let output = run_code(alloc, &code, &rows)?;
+        let inputs = share_rows(alloc, rows)?;
+        let output = run_pipe(alloc, code, share_inputs(alloc, &inputs)?)?;
+        let rows = take_rows(alloc, inputs)?;
         Ok(Live {
             alloc,
             accepted,

@@ -10,8 +10,8 @@ use std::alloc::{AllocError as OutOfMemory, Global};
 use std::marker::Model;
 use tilt_base::Span;
 use tilt_compiler::Accepted;
-use tilt_pipe::Pipe;
-use tilt_stream::{Rows, SnapList};
+use tilt_pipe::{Input, Pipe, share_inputs};
+use tilt_stream::SnapList;
 
 // The part of a stretch: its pipe, the snapshots that were taken from it, and whether memory was refused to it.
 #[derive(Drop)]
@@ -35,11 +35,11 @@ impl Model for Part {
 }
 
 impl Part {
-    // The part of a stretch within the output domain, from which nothing was taken, over copies of the rows.
+    // The part of a stretch within the output domain, from which nothing was taken. Its pipe shares the rows of the inputs.
     pub(crate) fn new(
         alloc: Global,
         accepted: &Accepted,
-        rows: &[Rows],
+        rows: &[Input],
         stretch: Span,
     ) -> Result<Part, OutOfMemory>
         requires within { LiesWithin (domain_of accepted.now.core.defs) stretch.start stretch.end }
@@ -48,7 +48,7 @@ impl Part {
         ensures part { IfOk result (λ part. part ≡ part_after stretch (code_on accepted.now stretch) rows.now 0) }
     {
         let code = accepted.code_on(alloc, stretch.start, stretch.end)?;
-        let pipe = Pipe::new(alloc, code, copies(alloc, rows)?)?;
+        let pipe = Pipe::new(alloc, code, share_inputs(alloc, rows)?)?;
         Ok(Part {
             stretch,
             pipe,
@@ -92,17 +92,4 @@ impl Part {
             None => false,
         }
     }
-}
-
-// Copies of the rows of each input.
-fn copies(alloc: Global, rows: &[Rows]) -> Result<Vec<Rows>, OutOfMemory>
-    ensures { IfOk result (λ copies. copies.items ≡ rows.now) }
-{
-    let mut copies = Vec::new(alloc);
-    for input in rows {
-        let mut copy = Rows::new(alloc);
-        copy.append(input.as_slice())?;
-        copies.push(copy)?;
-    }
-    Ok(copies)
 }

@@ -16,10 +16,11 @@ use std::alloc::{AllocError as OutOfMemory, Global};
 use std::marker::Model;
 use tilt_base::Span;
 use tilt_compiler::Accepted;
-use tilt_stream::{Rows, SnapList};
+use tilt_pipe::Input;
+use tilt_stream::SnapList;
 
 /// The parts of a query's output domain, by their numbers from 0. The first begins where the domain does, each later one a tick before
-/// its cut, and the last ends where the domain does. Each has a pipe of its own over its own copies of the rows.
+/// its cut, and the last ends where the domain does. Each has a pipe of its own, and all of them share the rows of the inputs.
 #[derive(Drop)]
 pub struct Parts {
     alloc: Global,
@@ -42,12 +43,12 @@ impl Model for Parts {
 }
 
 impl Parts {
-    /// The parts that cuts make of the output domain, in ticks: they rise, and each lies inside the domain. There is one list of rows for
-    /// each input. No snapshot was taken from any part.
+    /// The parts that cuts make of the output domain, in ticks: they rise, and each lies inside the domain. The inputs are those of
+    /// the query, in its order, and none of their rows is copied. No snapshot was taken from any part.
     pub fn new(
         alloc: Global,
         accepted: &Accepted,
-        rows: &[Rows],
+        rows: &[Input],
         cuts: &[i64],
     ) -> Result<Parts, OutOfMemory>
         requires many { length rows.now ≡ length accepted.now.core.inputs }

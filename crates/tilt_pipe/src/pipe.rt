@@ -9,10 +9,11 @@ ghost use Rattle.tilt_pipe.specs.Rings.{held};
 ghost use Rattle.tilt_pipe.specs.Value.{pipe_after};
 
 use crate::chain::Chain;
+use crate::input::Input;
 use std::alloc::{AllocError as OutOfMemory, Global};
 use std::marker::Model;
 use tilt_code::Code;
-use tilt_stream::{Rows, Snap};
+use tilt_stream::Snap;
 
 /// A code that runs on the rows of its inputs, snapshot by snapshot. Beside these it keeps for each loop a ring, the state of its
 /// turns, and where it stands. A loop makes a snapshot only where a later one reads it or it is asked for as output, and what no next
@@ -39,9 +40,9 @@ impl Model for Pipe {
 }
 
 impl Pipe {
-    /// A pipe that has given out no snapshot. There is one list of rows for each input, in the order of the code. `OutOfMemory` comes
+    /// A pipe that has given out no snapshot, over the inputs of the code in their order. `OutOfMemory` comes
     /// where memory is refused, and for no other reason.
-    pub fn new(alloc: Global, code: Code, inputs: Vec<Rows>) -> Result<Pipe, OutOfMemory>
+    pub fn new(alloc: Global, code: Code, inputs: Vec<Input>) -> Result<Pipe, OutOfMemory>
         requires { length inputs.items ≡ length code.inputs }
         ensures { IfOk result (λ pipe. pipe ≡ pipe_after code inputs.items 0) }
     {

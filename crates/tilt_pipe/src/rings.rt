@@ -12,11 +12,12 @@ ghost use Rattle.tilt_pipe.specs.Rings.{held};
 ghost use Rattle.tilt_pipe.specs.Trimmed.{HasNextEnd};
 ghost use Rattle.tilt_stream.specs.Snap.{InOrder};
 
+use crate::input::Input;
 use crate::loop_ring::LoopRing;
 use std::alloc::{AllocError as OutOfMemory, Global};
 use std::marker::Model;
 use tilt_code::{Code, Loop};
-use tilt_stream::{Buffer, Rows, Snap};
+use tilt_stream::{Buffer, Snap};
 use tilt_turn::Buffers;
 
 // A code, the rows of its inputs, and the rings of its loops. Where a loop stands says what it has made: the part of its buffer
@@ -24,7 +25,7 @@ use tilt_turn::Buffers;
 #[derive(Drop)]
 pub(crate) struct Rings {
     code: Code,
-    inputs: Vec<Rows>,
+    inputs: Vec<Input>,
     rings: Vec<LoopRing>,
 }
 
@@ -48,7 +49,7 @@ impl Buffers for Rings {
     #[inline]
     fn made(&self, buffer: usize) -> usize {
         match self.inputs.get(buffer) {
-            Some(rows) => rows.made(),
+            Some(input) => input.made(),
             None => self.ring_made(buffer - self.inputs.len()),
         }
     }
@@ -67,7 +68,7 @@ impl Buffers for Rings {
     #[inline]
     fn at(&self, buffer: usize, place: usize) -> Option<Snap> {
         match self.inputs.get(buffer) {
-            Some(rows) => Buffer::at(rows, place),
+            Some(input) => Buffer::at(input, place),
             None => self.ring_at(buffer - self.inputs.len(), place),
         }
     }
@@ -75,7 +76,7 @@ impl Buffers for Rings {
 
 impl Rings {
     // The rings of a code before the first turn: all loops stand at the lower ends of their stretches.
-    pub(crate) fn new(alloc: Global, code: Code, inputs: Vec<Rows>) -> Result<Rings, OutOfMemory>
+    pub(crate) fn new(alloc: Global, code: Code, inputs: Vec<Input>) -> Result<Rings, OutOfMemory>
         requires { length inputs.items ≡ length code.inputs }
         ensures code { IfOk result (λ r. r.code ≡ code) }
         ensures inputs { IfOk result (λ r. r.inputs ≡ inputs.items) }

@@ -2,14 +2,15 @@
 ghost use Rattle.std.specs.Prelude.{◌≡◌, length, IfOk};
 ghost use Rattle.tilt_code.specs.Run.{run_of};
 
+use crate::input::Input;
 use crate::pipe::Pipe;
 use std::alloc::{AllocError as OutOfMemory, Global};
 use tilt_code::Code;
-use tilt_stream::{Rows, SnapList};
+use tilt_stream::SnapList;
 
-/// The run of a code on the rows of its inputs: all that its pipe gives out. There is one list of rows for each input, in the order
-/// of the code. `OutOfMemory` comes where memory is refused, and for no other reason.
-pub fn run_pipe(alloc: Global, code: Code, inputs: Vec<Rows>) -> Result<SnapList, OutOfMemory>
+/// The run of a code on its inputs, in their order: all that its pipe gives out. `OutOfMemory` comes where memory is refused, and for
+/// no other reason.
+pub fn run_pipe(alloc: Global, code: Code, inputs: Vec<Input>) -> Result<SnapList, OutOfMemory>
     requires { length inputs.items ≡ length code.inputs }
     ensures { IfOk result (λ list. list ≡ run_of code inputs.items) }
 {

@@ -9,16 +9,16 @@ ghost use Rattle.tilt_pipe.specs.Reads.{body_reads};
 ghost use Rattle.tilt_pipe.specs.Sources.{AreSources};
 
 use crate::chain::{Chain, LoopTurns, Reader, next_point};
+use crate::input::Input;
 use crate::rings::Rings;
 use crate::sources::{Source, sources_of};
 use std::alloc::{AllocError as OutOfMemory, Global};
 use tilt_code::Code;
-use tilt_stream::Rows;
 use tilt_turn::LoopState;
 
 impl Chain {
     // The loops of a code before their first turns.
-    pub(crate) fn new(alloc: Global, code: Code, inputs: Vec<Rows>) -> Result<Chain, OutOfMemory>
+    pub(crate) fn new(alloc: Global, code: Code, inputs: Vec<Input>) -> Result<Chain, OutOfMemory>
         requires { length inputs.items ≡ length code.inputs }
         ensures is { IfOk result (λ c. IsChain c) }
         ensures code { IfOk result (λ c. c.rings.code ≡ code) }

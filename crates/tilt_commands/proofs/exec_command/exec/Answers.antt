@@ -55,7 +55,7 @@ returns g c =
     rw c.unsaved.ensures (record {
       made = λ t w.
           let read = rw (c.load_code.ensures.rest.same_files, c.inputs.ensures.names) at (c.in_ok-rows.ensures.taken t) in
-          let out = rw c.deref.ensures.value at c.in_ok-list.ensures.run in
+          let out = rw c.in_ok-inputs.ensures at c.in_ok-list.ensures in
           done c.in_ok-code.code c.in_ok-rows.rows.items (c.in_ok-code.ensures.taken t) read (ap (λ (list : List Snapshot). printed (text_of list)) out);
       kept = fits_unsaved ⊥ ⊥ (Whole (Snapshots c.in_ok-list.list)) tt (λ no. no, λ no. no) (none_shown _ refl);
       fault = λ w. tt;

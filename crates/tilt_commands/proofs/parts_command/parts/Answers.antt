@@ -41,7 +41,7 @@ returns-in_err-rows g c =
 
 pub run_parts-requires-clause-many : goal.run_parts-requires-clause-many
 run_parts-requires-clause-many g c =
-    rw c.deref.ensures.value (rw (c.inputs.ensures.names, c.core.ensures.value) at c.in_ok-rows.ensures.many)
+    rw (c.deref.ensures.value, c.in_ok-inputs.ensures) (rw (c.inputs.ensures.names, c.core.ensures.value) at c.in_ok-rows.ensures.many)
 
 pub returns : goal.returns
 returns g c =
@@ -49,7 +49,7 @@ returns g c =
       made = λ t w.
           let read = rw (c.load_divided.ensures.rest.same_files, c.inputs.ensures.names, c.core.ensures.value) at (c.in_ok-rows.ensures.taken t) in
           done c.in_ok-loaded.loaded.accepted.core c.in_ok-rows.rows.items (c.in_ok-loaded.ensures.taken t) read
-          (rw c.deref.ensures.value at c.in_ok-text.ensures);
+          (rw (c.deref.ensures.value, c.in_ok-inputs.ensures) at c.in_ok-text.ensures);
       kept = fits_unsaved ⊥ ⊥ (Whole c.in_ok-text.text) tt (λ no. no, λ no. no) (none_shown _ refl);
       fault = λ w. tt;
       read = λ t w.

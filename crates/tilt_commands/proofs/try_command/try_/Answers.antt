@@ -8,7 +8,7 @@ use Rattle.tilt_commands.proofs.try_command.try_.Goals as goal
 pub returns-clause-made : goal.returns-clause-made
 returns-clause-made c =
     λ watchers.
-    let run = rw (c.deref.ensures.value, c.in_ok-rows.ensures) at c.in_ok-list.ensures in
+    let run = rw c.in_ok-rows.ensures at c.in_ok-list.ensures in
     rw (c.unsaved.ensures, c.in_ok-text.ensures) (summed c.in_ok-loaded.loaded.accepted.core c.in_ok-list.list c.in_ok-loaded.ensures.taken run)
 
 pub returns-clause-fits : goal.returns-clause-fits
