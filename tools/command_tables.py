@@ -1,10 +1,10 @@
 #!/usr/bin/env python3
 """Writes what is said of commands and options outside of the program, from the tables that the program reads them by.
 
-The tables are `OPTIONS` and `COMMANDS` in the sources of the crate that has `src/command_table.rt`. Written from them are the table at the top of
-docs/COMMANDS.md, the table of options in docs/MEANING.md, the synopsis in docs/tilt.1, and the commands and options in
-tools/packaging/completion. With --check nothing is written: each file that differs is named, the last line is 'N passed, M failed', and the status is 1
-if one failed."""
+The tables are `OPTIONS` and `COMMANDS` in the sources of the crate that has `src/command_table.rt`. Written from them are the table at the
+top of docs/COMMANDS.md, the table of commands in docs/MEANING.md, the synopsis in docs/tilt.1, and the commands and options in
+tools/packaging/completion. With --check nothing is written: each file that differs is named, the last line is 'N passed, M failed', and
+the status is 1 if one failed."""
 from __future__ import annotations
 
 import argparse
@@ -132,7 +132,8 @@ def roff(text: str) -> str:
 
 def roff_value(value: str) -> str:
     """A value in italics, with its punctuation in bold."""
-    return value.replace(",..", r"\fB,\fR...").replace("TIME,", r"TIME\fB,\fI").replace("PART,", r"PART\fB,\fI").replace(r"\fI\fB,\fR", r"\fB,\fR")
+    first, comma, more = value.partition(",")
+    return first + r"\fB,\fI" + more.replace(",..", r"\fB,\fR...") if comma else value
 
 
 def roff_option(option: str, options: dict[str, str], optional: bool) -> list[str]:
@@ -148,7 +149,9 @@ def synopsis(found: Tables) -> str:
     """The part of docs/tilt.1 between its headings SYNOPSIS and DESCRIPTION."""
     calls = []
     for row in found.commands:
-        lines = [f".B tilt {row.word}", f".I {row.file}" + (r" NAME\fB=\fIFILE" if row.takes_binds else ""), *([r"\&...\&"] if row.takes_binds else [])]
+        lines = [f".B tilt {row.word}", f".I {row.file}"]
+        if row.takes_binds:
+            lines = [lines[0], lines[1] + r" NAME\fB=\fIFILE", r"\&...\&"]
         for option in row.required + row.allowed:
             lines += roff_option(option, found.options, option in row.allowed)
         calls.append("\n".join(lines) + "\n")
@@ -175,7 +178,8 @@ def completed_options(found: Tables) -> str:
     for word, options in options_of(found).items():
         if options:
             alike.setdefault(tuple(options), []).append(word)
-    return "".join(f'        {" | ".join(some)}) COMPREPLY=($(compgen -W "{" ".join(options)}" -- "$word")) ;;\n' for options, some in alike.items())
+    return "".join(f'        {" | ".join(some)}) COMPREPLY=($(compgen -W "{" ".join(options)}" -- "$word")) ;;\n'
+                   for options, some in alike.items())
 
 
 # Of each file what is written, and where: the pattern matches once, and its group `made` is what is written.
