@@ -1,8 +1,8 @@
 #!/usr/bin/env python3
 """Writes what is said of commands and options outside of the program, from the tables that the program reads them by.
 
-The tables are `OPTIONS` and `COMMANDS` in the sources of the crate that has `src/command_table.rt`. Written from them are the table at the top
-of docs/COMMANDS.md, the table of options in docs/MEANING.md, the synopsis in docs/tilt.1, and the commands and options in
+The tables are `OPTIONS` and `COMMANDS` in the sources of the crate that has `src/command_table.rt`. Written from them are the table at the
+top of docs/COMMANDS.md, the table of commands in docs/MEANING.md, the synopsis in docs/tilt.1, and the commands and options in
 tools/package/completion. With --check nothing is written: each file that differs is named, the last line is 'N passed, M failed', and the
 status is 1 if one failed."""
 from __future__ import annotations

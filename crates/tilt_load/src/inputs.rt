@@ -45,9 +45,9 @@ pub fn load_inputs<'a, S: Shelf>(
 }
 
 /// The rows of each input that a session is handed, in order, from the file that is bound to its name, each within the bounds of
-/// its place; an input beyond the list of bounds has none. The names are tested before a file is read, and each input is done before the next one is read. The first faulty name is
-/// refused, or else the first series that has a fault; `ReadFault` comes where a read failed, and `OutOfMemory` for want of memory
-/// alone.
+/// its place; an input beyond the list of bounds has none. The names are tested before a file is read, and each input is done before
+/// the next one is read. The first faulty name is refused, or else the first series that has a fault; `ReadFault` comes where a read
+/// failed, and `OutOfMemory` for want of memory alone.
 pub fn load_session_inputs<'a, S: Shelf>(
     alloc: Global,
     shelf: &mut S,

@@ -1,5 +1,5 @@
 -- What words start with, from what was read of them.
-use Rattle.std.proofs.Common.{◌≡◌, ◌≢◌, ℕ, ◌<◌, inl, inr, true, false, List, [], ◌∷◌, length, get_or, drop, Some, String, string_bytes, sym, ap, ◌∙◌, subst, arith}
+use Rattle.std.proofs.Common.{◌≡◌, ℕ, ◌<◌, inl, inr, true, false, List, [], ◌∷◌, length, get_or, drop, Some, String, string_bytes, sym, ap, ◌∙◌, subst, arith}
 use Rattle.std.specs.Prelude.{find}
 use Rattle.std.specs.Str.{bytes_eq}
 use Rattle.std.specs.declared.alloc.Global.{Global}
@@ -51,24 +51,6 @@ module _ (old : ArgumentsValue) (words : List (List ℕ)) (word : List ℕ) (tai
   set_before set new rest begins =
       let fresh = (after_option begins word tail row front named).fresh in
       false≢true (sym fresh ∙ subst (λ w. is_set w old.settings ≡ true) same_word set)
-
-  pub no_value : tail ≡ [] → row.shape ≢ shape.Flag → (new : ArgumentsValue) (rest : List (List ℕ)) → Begins old words new rest → ⊥
-  no_value end kind new rest begins =
-      elim (after_option begins word tail row front named).gives [
-        | inl alone ↦ kind alone.is_flag
-        | inr valued ↦ let some : [] ≡ valued.spelled ∷ rest = sym end ∙ valued.rests in cc
-      ]
-
-  pub wrong_value : (spelled : List ℕ) (more : List (List ℕ)) → tail ≡ spelled ∷ more → row.shape ≢ shape.Flag →
-      ((value : OptionValue) → IsValue row.shape spelled value → ⊥) → (new : ArgumentsValue) (rest : List (List ℕ)) → Begins old words new rest → ⊥
-  wrong_value spelled more second kind none new rest begins =
-      elim (after_option begins word tail row front named).gives [
-        | inl alone ↦ kind alone.is_flag
-        | inr valued ↦
-            let tails : spelled ∷ more ≡ valued.spelled ∷ rest = sym second ∙ valued.rests in
-            let same : valued.spelled ≡ spelled = cc in
-            none valued.value (subst (λ s. IsValue row.shape s valued.value) same valued.is_value)
-      ]
 
   pub sets_flag : (new : ArgumentsValue) → is_set row.word old.settings ≡ false → row.shape ≡ shape.Flag →
       new ≡ with_setting old row.word flag → Begins old words new tail

@@ -1,5 +1,6 @@
 -- What a search through settings finds, and what it leaves that takes one out.
-use Rattle.std.proofs.Common.{◌≡◌, ℕ, zero, suc, ◌<◌, ◌≤◌, ◌||◌, ◌&&◌, ◌==◌, Bool, ◌+◌, nat_lt, cond, true, false, inl, inr, List, [], ◌∷◌, length, get_or, Option, Some, None, refl, sym, ap, ◌∙◌, subst, arith}
+use Rattle.std.proofs.Common.{◌≡◌, ℕ, zero, suc, ◌<◌, ◌≤◌, ◌||◌, ◌&&◌, ◌==◌, Bool, ◌+◌, nat_lt, cond, true, false}
+use Rattle.std.proofs.Common.{inl, inr, List, [], ◌∷◌, length, get_or, Option, Some, None, refl, sym, ap, ◌∙◌, subst, arith}
 use Rattle.std.specs.List.{position, position_or_len, remove, list_all, list_any}
 use Rattle.std.specs.Prelude.{find, map, option_map}
 use Rattle.std.specs.Str.{bytes_eq}

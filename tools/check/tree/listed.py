@@ -11,11 +11,7 @@ from shared.tally import Tally
 # Libraries that a crate is listed with though it names nothing of them, and whether it is proved without them. They go with the next change
 # of crates.txt, since each of those makes the release out of date. One that is named, or isn't listed any more, is a failure here.
 PROVED, UNTRIED = "proved without it", "not tried without it"
-UNNAMED = {
-    "tilt_parts": {"tilt_bounds": PROVED},
-    "tilt_fix": {"tilt_fuse": UNTRIED, "tilt_code": UNTRIED, "tilt_lower": UNTRIED, "tilt_pipe": UNTRIED, "tilt_turn": UNTRIED},
-    "tilt_report": {"tilt_base": UNTRIED, "tilt_core": UNTRIED},
-}
+UNNAMED: dict[str, dict[str, str]] = {}
 # How code names a library, and how definitions and proofs do.
 NAMED = re.compile(r"\b(?:Rattle\.(\w+)\.|(\w+)::|use (\w+)(?:;| as ))")
 COMMENTS = {".rt": "//", ".antt": "--"}

@@ -1,7 +1,7 @@
-use Rattle.std.proofs.Common.{◌≡◌, ◌∷◌, [], codes, length, string_bytes, pos, subst, sym, ap, ◌∙◌, arith}
+use Rattle.std.proofs.Common.{◌∷◌, codes, length, string_bytes, pos, subst, sym, ap, ◌∙◌, arith}
 use Rattle.std.proofs.lemmas.Bool.Decides.{nat_tests}
 use Rattle.std.proofs.lemmas.List.{length-map}
-use Rattle.tilt_words.specs.Command.{texts, tries}
+use Rattle.tilt_words.specs.Command.{tries}
 use Rattle.tilt_words.specs.Number.{IsNumber}
 use Rattle.tilt_words.proofs.Answered.{one_text, try_texts, try_count}
 use Rattle.tilt_words.proofs.reader.read_try.Goals as goal
@@ -30,11 +30,11 @@ returns-in_err-count c =
 
 pub returns : goal.returns
 returns c =
-    let count : c.as_str.result.now ∷ [] ≡ texts c.args.rest.now = sym (one_text c.args.rest.now c.count-item.result c.as_str.result.now (omega arith) (omega arith) c.count-item.is c.as_str.ensures.value) in
+    let rest = one_text c.args.rest.now c.count-item.result c.as_str.result.now (omega arith) (omega arith) c.count-item.is c.as_str.ensures.value in
     tries (record {
       seed_word = c.args.seed.now;
       count_word = c.as_str.result.now;
-      words_are = λ i. codes "try" ∷ c.args.seed.now ∷ sym count i;
+      words_are = λ i. codes "try" ∷ c.args.seed.now ∷ rest i;
       is_seed = c.in_ok-seed.ensures;
       is_count = c.in_ok-count.ensures;
     })
