@@ -7,9 +7,9 @@ use Rattle.tilt_outside.specs.Faults.{Rose}
 use Rattle.tilt_printed.specs.Saving.{SaveValue, outcome_of}
 use Rattle.tilt_report.specs.Report.{Outcome, refused, Report, usage, refusal, read_fault, write_fault, save_fault, out_of_memory, report_of_words, status_of}
 use Rattle.tilt_watch.specs.Watch.{Watch}
-use Rattle.tilt_words.specs.Command.{CommandValue, IsCommand}
-use Rattle.tilt_words.specs.declared.fault.WordsFault.{WordsFault}
-use Rattle.tilt_words.specs.declared.fault.WordsFault.TheVariants as variant
+use Rattle.tilt_cli.specs.Command.{CommandValue, IsCommand}
+use Rattle.tilt_cli.specs.declared.fault.WordsFault.{WordsFault}
+use Rattle.tilt_cli.specs.declared.fault.WordsFault.TheVariants as variant
 
 text_is_no_refusal : (text : List ℕ) (save : Option SaveValue) (report : Report) → outcome_of text save ≡ refused report → ⊥
 text_is_no_refusal text None report same = cc

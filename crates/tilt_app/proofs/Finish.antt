@@ -14,7 +14,7 @@ use Rattle.tilt_printed.specs.declared.save.Save.{Save}
 use Rattle.tilt_printed.specs.declared.unput.Unput.{Unput}
 use Rattle.tilt_printed.specs.declared.unput.Unput.TheVariants.{Failed, OutOfMemory}
 use Rattle.tilt_report.specs.Report.{Outcome, Report, save_fault}
-use Rattle.tilt_words.specs.Command.{CommandValue, start, resume_upto, resume_end}
+use Rattle.tilt_cli.specs.Command.{CommandValue, start, resume_upto, resume_end}
 
 -- what holds where a call didn't fail
 pub on_ok : {E X : Type 0} (r : Result (Unit {0}) E) → ((e : E) → r ≡ Err e → ⊥) → OnOk r X → X

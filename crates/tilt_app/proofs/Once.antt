@@ -6,10 +6,10 @@ use Rattle.tilt_commands.proofs.Lawful.{rows_lawful}
 use Rattle.tilt_commands.specs.Table.{row_of}
 use Rattle.tilt_report.specs.Report.{Outcome, refused, usage}
 use Rattle.tilt_watch.specs.Watch.{Watch}
-use Rattle.tilt_words.proofs.Decided.{command_or_none}
-use Rattle.tilt_words.proofs.OneCommand.{one_command}
-use Rattle.tilt_words.proofs.Within.{within}
-use Rattle.tilt_words.specs.Command.{CommandValue, IsCommand}
+use Rattle.tilt_cli.proofs.Decided.{command_or_none}
+use Rattle.tilt_cli.proofs.OneCommand.{one_command}
+use Rattle.tilt_cli.proofs.Within.{within}
+use Rattle.tilt_cli.specs.Command.{CommandValue, IsCommand}
 
 -- a command has one outcome
 command_once : (words : List (List ℕ)) (files : List ℕ → List ℕ) (watchers : List Watch) (c : CommandValue) → IsCommand words c → (o p : Outcome)

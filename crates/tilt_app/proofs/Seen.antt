@@ -11,8 +11,8 @@ use Rattle.tilt_printed.specs.declared.unput.Unput.TheVariants.{Failed, OutOfMem
 use Rattle.tilt_printed.specs.Unput.{report_of_unput}
 use Rattle.tilt_report.specs.Report.{Outcome, Report, usage, refusal, read_fault, write_fault, save_fault, out_of_memory}
 use Rattle.tilt_stream.specs.Snap.{Snapshot}
-use Rattle.tilt_words.specs.Binding.{Binding}
-use Rattle.tilt_words.specs.Command.{CommandValue, watch}
+use Rattle.tilt_cli.specs.Binding.{Binding}
+use Rattle.tilt_cli.specs.Command.{CommandValue, watch}
 
 -- what `watch` shows is what `run` prints
 run_shown : (tells : Type 0) (files : List ℕ → List ℕ) (command : CommandValue) (query : List ℕ) (binds : List Binding) (plain : Bool) (shown : Option (List Snapshot))

@@ -30,8 +30,8 @@ use Rattle.tilt_stream.specs.Snap.{Snapshot}
 use Rattle.tilt_stream.specs.Text.{lines_of, row_text, text_of}
 use Rattle.tilt_syntax.specs.Tree.{StatementTree}
 use Rattle.tilt_types.specs.Checked.{core_of}
-use Rattle.tilt_words.specs.Binding.{Binding}
-use Rattle.tilt_words.specs.Command.{CommandValue, IsCommand, run, compile, exec, explain, start, resume_upto, resume_end, pipe, watch, parts, flow, fix, try}
+use Rattle.tilt_cli.specs.Binding.{Binding}
+use Rattle.tilt_cli.specs.Command.{CommandValue, IsCommand, run, compile, exec, explain, start, resume_upto, resume_end, pipe, watch, parts, flow, fix, try}
 
 -- a call
 abbrev called : CommandValue → (held holds : List ℕ → List ℕ) → List ℕ → SessionCall

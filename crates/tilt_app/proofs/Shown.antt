@@ -26,8 +26,8 @@ use Rattle.tilt_commands.specs.SavedCut.{SavedCutValue}
 use Rattle.tilt_stream.specs.Snap.{Snapshot}
 use Rattle.tilt_stream.specs.Text.{text_of}
 use Rattle.tilt_watch.specs.Watch.{Watch}
-use Rattle.tilt_words.specs.Binding.{Binding}
-use Rattle.tilt_words.specs.Command.{CommandValue, watch}
+use Rattle.tilt_cli.specs.Binding.{Binding}
+use Rattle.tilt_cli.specs.Command.{CommandValue, watch}
 
 module _ (shelf : Reading) (keeps : Answered → Type 0) (result : Result Answered Fault) where
   -- what a row comes to

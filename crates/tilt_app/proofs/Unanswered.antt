@@ -15,7 +15,7 @@ use Rattle.tilt_report.specs.Report.{report_of}
 use Rattle.tilt_report.specs.declared.fault.Fault.{Fault}
 use Rattle.tilt_stream.specs.Snap.{Snapshot}
 use Rattle.tilt_watch.specs.Watch.{Watch}
-use Rattle.tilt_words.specs.Command.{CommandValue}
+use Rattle.tilt_cli.specs.Command.{CommandValue}
 
 -- of a shelf's meanings, and its states before the call and after it
 module _ {S : Type 0} (tells : Type 0) (files : S → List ℕ → List ℕ) (read_faults save_faults : S → ℕ) (takes : S → List ℕ → ℕ → Type 0) (given : S → ℕ) (old new : S) where

@@ -9,7 +9,7 @@ use Rattle.tilt_printed.specs.declared.answered.Answered.{Answered}
 use Rattle.tilt_report.specs.Report.{Outcome, out_of_memory, report_of}
 use Rattle.tilt_report.specs.declared.fault.Fault.{Fault}
 use Rattle.tilt_watch.specs.Watch.{Watch}
-use Rattle.tilt_words.specs.Command.{CommandValue}
+use Rattle.tilt_cli.specs.Command.{CommandValue}
 
 -- a command that reads nothing was done: the result is what it comes to, and keeps a property, or memory was wanting
 pub record Makes (is_outcome : Outcome → Type 0) (keeps : Answered → Type 0) (shelf : Reading) (result : Result Answered Fault)

@@ -9,8 +9,8 @@ use Rattle.tilt_commands.specs.HandsOn.{HandsOn, IsBegun, IsBeyond}
 use Rattle.tilt_commands.specs.SavedCut.{SavedCutValue}
 use Rattle.tilt_stream.specs.Snap.{Snapshot}
 use Rattle.tilt_syntax.specs.Tree.{StatementTree}
-use Rattle.tilt_words.specs.Binding.{Binding}
-use Rattle.tilt_words.specs.Command.{CommandValue, start, resume_upto, resume_end}
+use Rattle.tilt_cli.specs.Binding.{Binding}
+use Rattle.tilt_cli.specs.Command.{CommandValue, start, resume_upto, resume_end}
 
 -- what was written, and saved where something is, is such an outcome
 pub record IsLeft (is_outcome : Outcome → Type 0) (shelf : ShelfChange) (out : SinkChange) : Type 0 where

@@ -7,7 +7,7 @@ use Rattle.tilt_load.specs.FileCommand.{IsFileOutcome, HasFileTurn, HasBytes}
 use Rattle.tilt_outside.specs.Counts.{added_count}
 use Rattle.tilt_report.specs.Report.{Outcome, refused, usage}
 use Rattle.tilt_watch.specs.Watch.{Watch}
-use Rattle.tilt_words.specs.Command.{CommandValue, IsCommand, run, pipe, watch, flow, start, resume_upto}
+use Rattle.tilt_cli.specs.Command.{CommandValue, IsCommand, run, pipe, watch, flow, start, resume_upto}
 
 -- what a row comes to
 abbrev pub IsRowOutcome : (List ℕ → List ℕ) → List Watch → Row → Outcome → Type 0

@@ -14,8 +14,8 @@ use Rattle.tilt_stream.specs.Snap.{Snapshot}
 use Rattle.tilt_stream.specs.Text.{text_of}
 use Rattle.tilt_core.specs.Core.{CoreParts}
 use Rattle.tilt_watch.specs.Watch.{Watch}
-use Rattle.tilt_words.specs.Binding.{Binding}
-use Rattle.tilt_words.specs.Command.{CommandValue, IsCommand, run, start, resume_upto, resume_end}
+use Rattle.tilt_cli.specs.Binding.{Binding}
+use Rattle.tilt_cli.specs.Command.{CommandValue, IsCommand, run, start, resume_upto, resume_end}
 
 -- a call that exited with status 0: its command, what each name held before it and holds after it, and the text that it wrote
 pub record SessionCall : Type 0 where

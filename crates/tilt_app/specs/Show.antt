@@ -8,8 +8,8 @@ use Rattle.tilt_printed.specs.declared.unput.Unput.TheVariants.{Failed, OutOfMem
 use Rattle.tilt_report.specs.Report.{Report, usage, refusal, read_fault, write_fault, save_fault, out_of_memory, printed}
 use Rattle.tilt_stream.specs.Snap.{Snapshot}
 use Rattle.tilt_stream.specs.Text.{text_of}
-use Rattle.tilt_words.specs.Binding.{Binding}
-use Rattle.tilt_words.specs.Command.{CommandValue, IsCommand, watch}
+use Rattle.tilt_cli.specs.Binding.{Binding}
+use Rattle.tilt_cli.specs.Command.{CommandValue, IsCommand, watch}
 
 -- the words are `watch` with this query and these binds
 abbrev pub IsWatchOf : List (List ℕ) → List ℕ → List Binding → Type 0

@@ -8,18 +8,18 @@ ghost use Rattle.tilt_load.specs.Does.{reading};
 ghost use Rattle.tilt_printed.specs.Answer.{comes_to};
 ghost use Rattle.tilt_commands.specs.SavedCut.{ending_of};
 ghost use Rattle.tilt_watch.specs.Watch.{Watch};
-ghost use Rattle.tilt_words.specs.Command.{IsWithin, command_of};
-ghost use Rattle.tilt_words.specs.Upto.{upto_of};
+ghost use Rattle.tilt_cli.specs.Command.{IsWithin, command_of};
+ghost use Rattle.tilt_cli.specs.Upto.{upto_of};
 
 use std::alloc::Global;
+use tilt_cli::{Command, Upto};
 use tilt_commands::{
-    Division, Manner, SavedCut, compile, exec, explain, fix, flow, parts, pipe, resume_session, run, start_session,
-    try_, watch,
+    Division, Manner, SavedCut, compile, exec, explain, fix, flow, parts, pipe, resume_session,
+    run, start_session, try_, watch,
 };
 use tilt_outside::Shelf;
 use tilt_printed::Answered;
 use tilt_report::Fault;
-use tilt_words::{Command, Upto};
 
 /// What the command prints and saves. All files are read here. Memory is taken later only where snapshots are put as they are made:
 /// by the pipe that makes them, and for the watchers.

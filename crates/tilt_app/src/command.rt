@@ -19,16 +19,16 @@ ghost use Rattle.tilt_report.specs.Report.{Report, refused, report_of, status_of
 ghost use Rattle.tilt_report.specs.Report.{write_fault, save_fault, out_of_memory};
 ghost use Rattle.tilt_stream.specs.Snap.{Snapshot};
 ghost use Rattle.tilt_watch.specs.Watch.{Watch, watches};
-ghost use Rattle.tilt_words.specs.Binding.{Binding};
-ghost use Rattle.tilt_words.specs.Command.{CommandValue, IsCommand, IsWithin, command_of, texts};
+ghost use Rattle.tilt_cli.specs.Binding.{Binding};
+ghost use Rattle.tilt_cli.specs.Command.{CommandValue, IsCommand, IsWithin, command_of, texts};
 
 use crate::answer::answer;
 use std::alloc::Global;
+use tilt_cli::{Command, read_words};
 use tilt_outside::{Shelf, Sink};
 use tilt_printed::Save;
 use tilt_report::Fault;
 use tilt_watch::Watcher;
-use tilt_words::{Command, read_words};
 
 // Does what the command says: all is read before the first put, and what is saved is saved after all puts.
 fn done<'a, S: Shelf, O: Sink>(

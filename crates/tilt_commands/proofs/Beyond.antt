@@ -44,7 +44,7 @@ use Rattle.tilt_stream.specs.Snap.{Snapshot, AreRows, last_end}
 use Rattle.tilt_stream.specs.Text.{lines_of}
 use Rattle.tilt_syntax.specs.Tree.{StatementTree}
 use Rattle.tilt_types.specs.Checked.{core_of}
-use Rattle.tilt_words.specs.Binding.{Binding}
+use Rattle.tilt_cli.specs.Binding.{Binding}
 
 -- rows that are kept have numbers of 64 bits
 kept_numbers : (first : ℤ) (rows : List Snapshot) → AreNumbers rows → AreNumbers (kept first rows)

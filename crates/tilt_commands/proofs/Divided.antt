@@ -24,7 +24,7 @@ use Rattle.tilt_printed.specs.Sizes.{parts_line}
 use Rattle.tilt_report.specs.Report.{Reason, Outcome, printed, part_outside, no_such_part}
 use Rattle.tilt_stream.specs.Snap.{Snapshot}
 use Rattle.tilt_stream.specs.Text.{text_of}
-use Rattle.tilt_words.specs.Number.{ClimbFrom}
+use Rattle.tilt_cli.specs.Number.{ClimbFrom}
 
 -- a query that is taken has no fault of its parts, or one
 module _ (name : List ℕ) (cuts : List ℤ) (order bytes : List ℕ) where

@@ -27,7 +27,7 @@ use Rattle.tilt_report.specs.Report.{Outcome, printed, refused, Report, refusal,
 use Rattle.tilt_report.specs.declared.fault.Fault.{Fault}
 use Rattle.tilt_stream.specs.Snap.{Snapshot}
 use Rattle.tilt_stream.specs.Text.{text_of}
-use Rattle.tilt_words.specs.Binding.{Binding}
+use Rattle.tilt_cli.specs.Binding.{Binding}
 
 -- What a command on a query comes to.
 module _ (query : List ℕ) (gives : CoreParts → List (List Snapshot) → Outcome → Type 0) where

@@ -25,7 +25,7 @@ use Rattle.tilt_outside.proofs.Puts.{rose_from}
 use Rattle.tilt_outside.specs.Counts.{added_count}
 use Rattle.tilt_report.specs.Report.{Reason, Outcome, refused, refusal, usage, Report}
 use Rattle.tilt_stream.specs.Snap.{Snapshot}
-use Rattle.tilt_words.specs.Binding.{Binding}
+use Rattle.tilt_cli.specs.Binding.{Binding}
 
 -- the inputs of a query that is accepted aren't many
 pub inputs_few : (core : CoreParts) → IsCore core → length core.inputs < 2 ^ 32

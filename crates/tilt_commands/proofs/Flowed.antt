@@ -15,7 +15,7 @@ use Rattle.tilt_operators.specs.Steps.{IsFlow}
 use Rattle.tilt_stream.specs.Snap.{Snapshot}
 use Rattle.tilt_stream.specs.Text.{text_of}
 use Rattle.tilt_types.specs.Checked.{core_of}
-use Rattle.tilt_words.specs.Binding.{Binding}
+use Rattle.tilt_cli.specs.Binding.{Binding}
 
 same_list : {list list' : List Snapshot} → (let x : Option (List Snapshot) = Some list in x ≡ Some list') → list ≡ list'
 same_list e = cc

@@ -36,7 +36,7 @@ use Rattle.tilt_stream.specs.Snap.{Snapshot}
 use Rattle.tilt_stream.specs.Text.{text_of}
 use Rattle.tilt_types.specs.Checked.{core_of}
 use Rattle.tilt_watch.specs.Watch.{Watch}
-use Rattle.tilt_words.specs.Command.{CommandValue, IsWithin, run, compile, exec, explain, start, resume_upto, resume_end, pipe, watch, parts, flow, fix, try}
+use Rattle.tilt_cli.specs.Command.{CommandValue, IsWithin, run, compile, exec, explain, start, resume_upto, resume_end, pipe, watch, parts, flow, fix, try}
 
 printed_usage : (text : List ℕ) → printed text ≡ refused usage → ⊥
 printed_usage text same = cc

@@ -22,7 +22,7 @@ use Rattle.tilt_commands.specs.Start.{RefusesToStart, StartsBy, StartsFrom, no_q
 use Rattle.tilt_stream.specs.Snap.{Snapshot}
 use Rattle.tilt_syntax.specs.Tree.{StatementTree}
 use Rattle.tilt_types.specs.Checked.{core_of}
-use Rattle.tilt_words.specs.Upto.{UptoValue}
+use Rattle.tilt_cli.specs.Upto.{UptoValue}
 
 -- a query file is one query
 starts_once : (bytes : List ℕ) (q p : List StatementTree) → StartsFrom bytes q → StartsFrom bytes p → q ≡ p

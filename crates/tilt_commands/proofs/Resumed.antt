@@ -26,7 +26,7 @@ use Rattle.tilt_commands.specs.Resume.{GoesOn, RefusesToGoOn, back, end_after, i
 use Rattle.tilt_commands.specs.SavedCut.{RefusesEnd, SavedCutValue, cut_of, faulty_end}
 use Rattle.tilt_stream.specs.Snap.{Snapshot}
 use Rattle.tilt_stream.specs.Text.{lines_of}
-use Rattle.tilt_words.specs.Binding.{Binding}
+use Rattle.tilt_cli.specs.Binding.{Binding}
 
 -- a cut would fall
 pub is_back : (name bytes : List ℕ) (ending : Option SavedCutValue) (c : CheckpointParts) (names : List (List ℕ)) (cut : Cut) (cuts : CutsParts)

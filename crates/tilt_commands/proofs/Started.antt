@@ -25,8 +25,8 @@ use Rattle.tilt_stream.specs.Snap.{Snapshot}
 use Rattle.tilt_stream.specs.Text.{text_of}
 use Rattle.tilt_syntax.specs.Tree.{StatementTree}
 use Rattle.tilt_types.specs.Checked.{checked, core_of}
-use Rattle.tilt_words.specs.Binding.{Binding}
-use Rattle.tilt_words.specs.Upto.{UptoValue}
+use Rattle.tilt_cli.specs.Binding.{Binding}
+use Rattle.tilt_cli.specs.Upto.{UptoValue}
 
 -- Of a query, with its core: the names of its inputs, and the cut of the session, as they were passed on.
 module _ (q : List StatementTree) (core : CoreParts) (accepted : checked q ≡ Ok core) where

@@ -19,7 +19,7 @@ use Rattle.tilt_stream.specs.Snap.{Snapshot, AreRows}
 use Rattle.tilt_stream.specs.Text.{lines_of}
 use Rattle.tilt_syntax.specs.Tree.{StatementTree}
 use Rattle.tilt_types.specs.Checked.{core_of}
-use Rattle.tilt_words.specs.Binding.{Binding}
+use Rattle.tilt_cli.specs.Binding.{Binding}
 
 -- an accepted query, and rows that one session of it may be handed: in order, their numbers of 64 bits, and each starting before the
 -- session ends

@@ -9,7 +9,7 @@ use Rattle.tilt_report.specs.Report.{Outcome, refused, refusal, report_of}
 use Rattle.tilt_report.specs.declared.fault.Fault.{Fault}
 use Rattle.tilt_stream.specs.Snap.{Snapshot}
 use Rattle.tilt_watch.specs.Watch.{Watch}
-use Rattle.tilt_words.specs.Binding.{Binding}
+use Rattle.tilt_cli.specs.Binding.{Binding}
 
 -- the command's own file was taken, and the series of all its inputs were
 pub record AreTaken (command : FileCommand) (files : List ℕ → List ℕ) (file : List ℕ) (binds : List Binding) : Type 0 where

@@ -10,7 +10,7 @@ use Rattle.tilt_report.specs.Report.{report_of}
 use Rattle.tilt_report.specs.declared.fault.Fault.{Fault}
 use Rattle.tilt_syntax.specs.Query.{IsQuery}
 use Rattle.tilt_types.specs.Checked.{checked}
-use Rattle.tilt_words.specs.Binding.{Binding}
+use Rattle.tilt_cli.specs.Binding.{Binding}
 
 -- a command on the query in the file of a name that comes to nothing on any rows: it has refusals, and turns
 abbrev pub refusing_row : List ℕ → FileCommand

@@ -5,7 +5,7 @@ use Rattle.tilt_session.specs.declared.cut.Cut.TheVariants.{Upto, End}
 use Rattle.tilt_load.specs.InputCuts.{RefusesCuts, cuts_by, faulty_cut}
 use Rattle.tilt_report.specs.Report.{Reason}
 use Rattle.tilt_commands.specs.declared.saved_cut.SavedCut.{SavedCut}
-use Rattle.tilt_words.specs.Upto.{IsUptoWithin, UptoValue, upto_of}
+use Rattle.tilt_cli.specs.Upto.{IsUptoWithin, UptoValue, upto_of}
 
 -- the cuts as the words give them, and the name under which the checkpoint there is saved
 pub record SavedCutValue : Type 0 where

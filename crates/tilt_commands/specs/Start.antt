@@ -18,7 +18,7 @@ use Rattle.tilt_stream.specs.Snap.{Snapshot}
 use Rattle.tilt_stream.specs.Text.{text_of}
 use Rattle.tilt_syntax.specs.Tree.{StatementTree}
 use Rattle.tilt_types.specs.Checked.{core_of}
-use Rattle.tilt_words.specs.Upto.{UptoValue}
+use Rattle.tilt_cli.specs.Upto.{UptoValue}
 
 -- the text is exactly this query, which is well formed and looks no farther than a query may
 pub record StartsFrom (bytes : List ℕ) (query : List StatementTree) : Type 0 where

@@ -33,9 +33,9 @@ use Rattle.tilt_stream.specs.Snapshots.{snapshots}
 use Rattle.tilt_stream.specs.Stream.{stream_of}
 use Rattle.tilt_stream.specs.Text.{text_of}
 use Rattle.tilt_watch.specs.Watch.{Watch}
-use Rattle.tilt_words.specs.Binding.{Binding}
-use Rattle.tilt_words.specs.Command.{CommandValue, run, compile, exec, explain, start, resume_upto, resume_end, pipe, watch, parts}
-use Rattle.tilt_words.specs.Command.{flow, fix, try}
+use Rattle.tilt_cli.specs.Binding.{Binding}
+use Rattle.tilt_cli.specs.Command.{CommandValue, run, compile, exec, explain, start, resume_upto, resume_end, pipe, watch, parts}
+use Rattle.tilt_cli.specs.Command.{flow, fix, try}
 
 -- `run` on the query in the file of a name prints the text of the snapshots of the query's meaning on its output domain
 abbrev pub run_row : List ℕ → FileCommand

@@ -5,15 +5,15 @@ ghost use Rattle.tilt_load.specs.Does.{Does, reading};
 ghost use Rattle.tilt_load.specs.FileCommand.{HasFileTurn};
 ghost use Rattle.tilt_printed.specs.Answer.{Fits, comes_to};
 ghost use Rattle.tilt_watch.specs.Watch.{Watch};
-ghost use Rattle.tilt_words.specs.Binding.{bindings_of};
+ghost use Rattle.tilt_cli.specs.Binding.{bindings_of};
 
 use std::alloc::Global;
+use tilt_cli::Bind;
 use tilt_load::{load_code, load_inputs};
 use tilt_outside::Shelf;
 use tilt_pipe::{run_pipe, share_rows};
 use tilt_printed::{Answered, Printed, WholeText};
 use tilt_report::Fault;
-use tilt_words::Bind;
 
 /// What `exec` comes to: the run of the code in a file, on the files that are bound.
 pub fn exec<'a, S: Shelf>(

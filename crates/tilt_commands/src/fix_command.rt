@@ -4,16 +4,16 @@ ghost use Rattle.tilt_commands.specs.Fixed.{fix_row};
 ghost use Rattle.tilt_commands.specs.LastFile.{DoesLast, HasLastTurn};
 ghost use Rattle.tilt_load.specs.Does.{reading};
 ghost use Rattle.tilt_printed.specs.Answer.{Fits, comes_to};
-ghost use Rattle.tilt_words.specs.Binding.{bindings_of};
+ghost use Rattle.tilt_cli.specs.Binding.{bindings_of};
 
 use crate::corrected::correct;
 use crate::loaded::{LoadedRun, load_run};
 use std::alloc::Global;
+use tilt_cli::Bind;
 use tilt_load::load_edits;
 use tilt_outside::Shelf;
 use tilt_printed::{Answered, Printed};
 use tilt_report::Fault;
-use tilt_words::Bind;
 
 /// What `fix` comes to: the query in a file, with fusion or without, on the files that are bound, whose rows are edited as the edits file
 /// says, which is read after all of them. All of it is there before the first put: an edit that is refused leaves nothing to print.

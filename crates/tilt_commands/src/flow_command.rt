@@ -5,15 +5,15 @@ ghost use Rattle.tilt_load.specs.Does.{Does, reading};
 ghost use Rattle.tilt_load.specs.FileCommand.{HasFileTurn};
 ghost use Rattle.tilt_printed.specs.Answer.{Fits, comes_to};
 ghost use Rattle.tilt_watch.specs.Watch.{Watch};
-ghost use Rattle.tilt_words.specs.Binding.{bindings_of};
+ghost use Rattle.tilt_cli.specs.Binding.{bindings_of};
 
 use crate::loaded::query_pipe;
 use std::alloc::Global;
+use tilt_cli::Bind;
 use tilt_load::{load_flow, load_inputs};
 use tilt_outside::Shelf;
 use tilt_printed::{Answered, Printed};
 use tilt_report::Fault;
-use tilt_words::Bind;
 
 /// What `flow` comes to: the pipeline in a file, on the files that are bound. What it prints is what the pipeline gives by lists;
 /// its query is run, with fusion or without, and a pipe gives it out.

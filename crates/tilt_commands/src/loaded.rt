@@ -7,9 +7,10 @@ ghost use Rattle.tilt_core.specs.Meaning.{output_of};
 ghost use Rattle.tilt_load.specs.Does.{reading};
 ghost use Rattle.tilt_load.specs.FileCommand.{HasFileTurn};
 ghost use Rattle.tilt_pipe.specs.Value.{pipe_after};
-ghost use Rattle.tilt_words.specs.Binding.{bindings_of};
+ghost use Rattle.tilt_cli.specs.Binding.{bindings_of};
 
 use std::alloc::{AllocError as OutOfMemory, Global};
+use tilt_cli::Bind;
 use tilt_compiler::Accepted;
 use tilt_load::{LoadedQuery, load_inputs, load_query};
 use tilt_outside::Shelf;
@@ -17,7 +18,6 @@ use tilt_pipe::{Pipe, run_pipe, share_rows};
 use tilt_report::Fault;
 use tilt_stream::{Rows, SnapList};
 use tilt_syntax::Query;
-use tilt_words::Bind;
 
 // A query that was accepted, and the rows of its inputs, one list for each.
 #[derive(Drop)]

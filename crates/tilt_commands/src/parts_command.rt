@@ -14,11 +14,12 @@ ghost use Rattle.tilt_printed.specs.Answer.{Fits, comes_to};
 ghost use Rattle.tilt_printed.specs.Text.{whole_text};
 ghost use Rattle.tilt_report.specs.Report.{printed, reason_of, report_of};
 ghost use Rattle.tilt_watch.specs.Watch.{Watch};
-ghost use Rattle.tilt_words.specs.Binding.{bindings_of};
-ghost use Rattle.tilt_words.specs.Number.{ClimbFrom};
+ghost use Rattle.tilt_cli.specs.Binding.{bindings_of};
+ghost use Rattle.tilt_cli.specs.Number.{ClimbFrom};
 
 use std::alloc::{AllocError as OutOfMemory, Global};
 use tilt_base::Span;
+use tilt_cli::Bind;
 use tilt_compiler::Accepted;
 use tilt_load::{LoadedQuery, load_inputs, load_query};
 use tilt_outside::Shelf;
@@ -26,7 +27,6 @@ use tilt_parts::Parts;
 use tilt_pipe::{Input, share_rows};
 use tilt_printed::{Answered, Printed, WholeText};
 use tilt_report::{Fault, Refusal};
-use tilt_words::Bind;
 
 /// How a query is run in parts.
 #[derive(Clone, Copy)]

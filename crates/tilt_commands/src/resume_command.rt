@@ -18,20 +18,20 @@ ghost use Rattle.tilt_stream.specs.Snap.{Snapshot};
 ghost use Rattle.tilt_syntax.specs.Tree.{StatementTree};
 ghost use Rattle.tilt_types.specs.Checked.{core_of};
 ghost use Rattle.tilt_watch.specs.Watch.{Watch};
-ghost use Rattle.tilt_words.specs.Binding.{bindings_of};
+ghost use Rattle.tilt_cli.specs.Binding.{bindings_of};
 
 use crate::row_bounds::later_bounds;
 use crate::saved_cut::SavedCut;
 use std::alloc::{AllocError as OutOfMemory, Global};
 use tilt_checkpoint::{Checkpoint, encode};
-use tilt_session::{Cut, next_cut, resume};
+use tilt_cli::Bind;
 use tilt_lexer::Name;
 use tilt_load::{LoadedCheckpoint, cuts_by, load_checkpoint, load_session_inputs};
 use tilt_outside::Shelf;
 use tilt_printed::{Answered, Printed, Save, WholeText};
 use tilt_report::{Fault, Refusal};
+use tilt_session::{Cut, next_cut, resume};
 use tilt_stream::{Rows, SnapList};
-use tilt_words::Bind;
 
 /// A session after the checkpoint in a file: what is printed newly, and where the session ends by cuts its own checkpoint, which is
 /// to be saved; where no cut is given, the session goes on to the last row, and nothing is saved. Each row of an input starts at its

@@ -33,16 +33,15 @@ pub(crate) fn later_bounds(
 {
     match cut {
         Cut::Upto(cuts) => bounds_up_to(alloc, series, cuts.each()),
-        Cut::End => series.iter().map(|kept| after_kept(kept, None)).collect(alloc),
+        Cut::End => series
+            .iter()
+            .map(|kept| after_kept(kept, None))
+            .collect(alloc),
     }
 }
 
 // The same, where it ends by cuts.
-fn bounds_up_to(
-    alloc: Global,
-    series: &[Kept],
-    cuts: &[i64],
-) -> Result<Vec<Bounds>, OutOfMemory>
+fn bounds_up_to(alloc: Global, series: &[Kept], cuts: &[i64]) -> Result<Vec<Bounds>, OutOfMemory>
     requires { length cuts.now ≡ length series.now }
     ensures { IfOk result (λ bounds. bounds.items ≡ up_to series.now cuts.now) }
 {

@@ -13,16 +13,16 @@ ghost use Rattle.tilt_stream.specs.Text.{text_of};
 ghost use Rattle.tilt_syntax.specs.Query.{IsQuery};
 ghost use Rattle.tilt_types.specs.Checked.{checked};
 ghost use Rattle.tilt_watch.specs.Watch.{Watch};
-ghost use Rattle.tilt_words.specs.Binding.{bindings_of};
-ghost use Rattle.tilt_words.specs.Number.{RiseFrom};
+ghost use Rattle.tilt_cli.specs.Binding.{bindings_of};
+ghost use Rattle.tilt_cli.specs.Number.{RiseFrom};
 
 use crate::loaded::{LoadedRun, load_run, query_pipe};
 use std::alloc::{AllocError as OutOfMemory, Global};
+use tilt_cli::Bind;
 use tilt_outside::Shelf;
 use tilt_printed::{Answered, Printed, WholeText};
 use tilt_report::Fault;
 use tilt_session::run_cut;
-use tilt_words::Bind;
 
 /// How a query is run.
 #[derive(Clone, Copy)]

@@ -1,4 +1,4 @@
-use tilt_words::Upto;
+use tilt_cli::Upto;
 
 /// Where a session ends by cuts, and the name under which it saves its checkpoint.
 #[derive(Clone, Copy)]

@@ -15,20 +15,20 @@ ghost use Rattle.tilt_commands.specs.Start.{start_row};
 ghost use Rattle.tilt_syntax.specs.Query.{IsQuery};
 ghost use Rattle.tilt_types.specs.Checked.{checked};
 ghost use Rattle.tilt_watch.specs.Watch.{Watch};
-ghost use Rattle.tilt_words.specs.Binding.{bindings_of};
-ghost use Rattle.tilt_words.specs.Upto.{IsUptoWithin, upto_of};
+ghost use Rattle.tilt_cli.specs.Binding.{bindings_of};
+ghost use Rattle.tilt_cli.specs.Upto.{IsUptoWithin, upto_of};
 
 use crate::row_bounds::first_bounds;
 use crate::saved_cut::SavedCut;
 use std::alloc::{AllocError as OutOfMemory, Global};
 use tilt_checkpoint::{Cuts, encode};
-use tilt_session::start;
+use tilt_cli::Bind;
 use tilt_load::{LoadedQuery, cuts_by, load_query, load_session_inputs};
 use tilt_outside::Shelf;
 use tilt_printed::{Answered, Printed, Save, WholeText};
 use tilt_report::Fault;
+use tilt_session::start;
 use tilt_stream::{Rows, SnapList};
-use tilt_words::Bind;
 
 /// The first session of the query in a file, up to a cut of each input: what is printed by then, and the checkpoint there, which is to be
 /// saved. Each row of an input starts below its cut. Whether the cuts are given to the inputs is tested after the query and before the

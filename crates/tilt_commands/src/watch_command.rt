@@ -4,14 +4,14 @@ ghost use Rattle.tilt_commands.specs.Table.{watch_row};
 ghost use Rattle.tilt_load.specs.Does.{Does, reading};
 ghost use Rattle.tilt_load.specs.FileCommand.{HasFileTurn};
 ghost use Rattle.tilt_printed.specs.Answer.{Fits, comes_to};
-ghost use Rattle.tilt_words.specs.Binding.{bindings_of};
+ghost use Rattle.tilt_cli.specs.Binding.{bindings_of};
 
 use crate::loaded::{LoadedRun, load_run, query_pipe};
 use std::alloc::Global;
+use tilt_cli::Bind;
 use tilt_outside::Shelf;
 use tilt_printed::{Answered, Printed};
 use tilt_report::Fault;
-use tilt_words::Bind;
 
 /// What `watch` comes to: the query in a file, with fusion or without, on the files that are bound. A pipe gives it out, and the
 /// watchers are shown its snapshots.

@@ -14,7 +14,7 @@ use Rattle.tilt_outside.specs.Counts.{added_count, last_count}
 use Rattle.tilt_report.specs.Report.{Reason, Outcome, refused, Report, refusal, usage, report_of}
 use Rattle.tilt_report.specs.declared.fault.Fault.{Fault}
 use Rattle.tilt_stream.specs.Snap.{Snapshot}
-use Rattle.tilt_words.specs.Binding.{Binding}
+use Rattle.tilt_cli.specs.Binding.{Binding}
 
 -- What makes a command have one outcome: each file says one thing or is refused for one reason, one of the two always, and on rows that
 -- are read the command comes to one thing, which isn't usage.

@@ -9,7 +9,7 @@ use Rattle.tilt_checkpoint.proofs.Leasts.{least_once, least_same}
 use Rattle.tilt_checkpoint.specs.Cuts.{AreCuts, CutsParts, IsCut, IsLeast}
 use Rattle.tilt_load.specs.InputCuts.{cut_named, cuts_by, least_of, names_cut, with_least}
 use Rattle.tilt_load.specs.Inputs.{faulty_among}
-use Rattle.tilt_words.specs.Upto.{CutBinding, IsTime, UptoValue, all, each}
+use Rattle.tilt_cli.specs.Upto.{CutBinding, IsTime, UptoValue, all, each}
 
 -- the least of numbers is below none of them
 all_above : (a : ℤ) (xs : List ℤ) → a ≤ℤ least_of xs → AllByRecursion (λ (x : ℤ). a ≤ℤ x) xs

@@ -4,10 +4,10 @@ use Rattle.std.proofs.Common.{None, Contains}
 use Rattle.std.specs.Str.{bytes_eq}
 use Rattle.std.proofs.lemmas.Bool.{cases_Bool, false≢true}
 use Rattle.tilt_base.proofs.Comparisons.{bytes_same}
-use Rattle.tilt_words.specs.Binding.{Binding, bindings_of}
-use Rattle.tilt_words.specs.Upto.{cut_bindings_of}
-use Rattle.tilt_words.specs.declared.bind.Bind.{Bind}
-use Rattle.tilt_words.specs.declared.cut_bind.CutBind.{CutBind}
+use Rattle.tilt_cli.specs.Binding.{Binding, bindings_of}
+use Rattle.tilt_cli.specs.Upto.{cut_bindings_of}
+use Rattle.tilt_cli.specs.declared.bind.Bind.{Bind}
+use Rattle.tilt_cli.specs.declared.cut_bind.CutBind.{CutBind}
 use Rattle.tilt_load.specs.InputCuts.{names_cut}
 use Rattle.tilt_load.specs.Inputs.{is_among, bound_names, first_unexpected, first_unbound, first_of_two, file_of, faulty_name}
 

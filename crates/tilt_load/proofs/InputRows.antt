@@ -4,7 +4,7 @@ use Rattle.tilt_stream.specs.Snap.{Snapshot}
 use Rattle.tilt_load.specs.SeriesFiles.{with_rows, input_read, inputs_read}
 use Rattle.tilt_report.specs.Report.{Reason}
 use Rattle.tilt_series.specs.Series.{Bounds}
-use Rattle.tilt_words.specs.Binding.{Binding}
+use Rattle.tilt_cli.specs.Binding.{Binding}
 use Rattle.tilt_load.specs.Inputs.{file_of}
 
 -- the rows before others, where there was no refusal

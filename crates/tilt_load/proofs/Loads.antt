@@ -27,7 +27,7 @@ use Rattle.tilt_load.specs.SeriesFiles.{RefusesSession, by_names}
 use Rattle.tilt_report.specs.Report.{Reason, Report, usage, refusal, read_fault, write_fault, save_fault}
 use Rattle.tilt_report.specs.Report.{out_of_memory, report_of_place, report_of_syntax, report_of_text, report_of_check, report_of_reach}
 use Rattle.tilt_series.specs.Series.{Bounds}
-use Rattle.tilt_words.specs.Binding.{Binding}
+use Rattle.tilt_cli.specs.Binding.{Binding}
 
 -- a fault, where other refusals and other turns follow
 pub load_fault_weaker : (tells tells' : Type 0) (is is' : Reason → Type 0) (turn turn' : List ℕ → Type 0) (before after before' after' : ℕ) → (tells' → tells)

@@ -5,7 +5,7 @@ use Rattle.tilt_load.specs.SeriesFiles.{TakesSession, RefusesSession, by_names, 
 use Rattle.tilt_report.specs.Report.{Reason, input_names}
 use Rattle.tilt_series.specs.Series.{Bounds}
 use Rattle.tilt_stream.specs.Snap.{Snapshot}
-use Rattle.tilt_words.specs.Binding.{Binding}
+use Rattle.tilt_cli.specs.Binding.{Binding}
 
 same_rows : {xs ys : List (List Snapshot)} → (let x : Result (List (List Snapshot)) Reason = Ok xs in x ≡ Ok ys) → xs ≡ ys
 same_rows e = cc

@@ -21,7 +21,7 @@ use Rattle.tilt_series.specs.Series.{rows_after_header, rows_of, series_of, thre
 use Rattle.tilt_series.specs.declared.fault.SeriesFault.{SeriesFault}
 use Rattle.tilt_series.specs.declared.fault.SeriesFault.TheVariants.{BadFields, BadField, TimeRange, EmptyInterval, OutOfOrder}
 use Rattle.tilt_stream.specs.Snap.{Snapshot, InOrder, AreRows}
-use Rattle.tilt_words.specs.Binding.{Binding}
+use Rattle.tilt_cli.specs.Binding.{Binding}
 
 -- the numbers of rows are of 64 bits
 abbrev pub AreNumbers : List Snapshot → Type 0

@@ -11,7 +11,7 @@ use Rattle.tilt_load.specs.Load.{IsLoadFault, HasSessionTurn}
 use Rattle.tilt_load.specs.SeriesFiles.{input_read, inputs_read}
 use Rattle.tilt_report.specs.Report.{Reason, Report}
 use Rattle.tilt_series.specs.Series.{Bounds}
-use Rattle.tilt_words.specs.Binding.{Binding}
+use Rattle.tilt_cli.specs.Binding.{Binding}
 use Rattle.tilt_load.proofs.InputNames.{bound_file}
 use Rattle.tilt_load.proofs.InputRows.{read_more, read_stops}
 use Rattle.tilt_load.proofs.Loads.{load_fault_weaker}

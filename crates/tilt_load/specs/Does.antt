@@ -6,7 +6,7 @@ use Rattle.tilt_outside.specs.Counts.{added_count}
 use Rattle.tilt_outside.specs.Reads.{OnlyReads}
 use Rattle.tilt_report.specs.Report.{Outcome, Report, refused, refusal, report_of}
 use Rattle.tilt_report.specs.declared.fault.Fault.{Fault}
-use Rattle.tilt_words.specs.Binding.{Binding}
+use Rattle.tilt_cli.specs.Binding.{Binding}
 
 -- what a shelf was before a call that only reads, and is after it
 pub record Reading : Type 1 where

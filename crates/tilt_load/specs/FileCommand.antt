@@ -6,7 +6,7 @@ use Rattle.tilt_load.specs.SeriesFiles.{IsNextOfSession, RefusesSession, TakesSe
 use Rattle.tilt_report.specs.Report.{Reason, Outcome, refused, refusal}
 use Rattle.tilt_series.specs.Series.{Bounds}
 use Rattle.tilt_stream.specs.Snap.{Snapshot}
-use Rattle.tilt_words.specs.Binding.{Binding}
+use Rattle.tilt_cli.specs.Binding.{Binding}
 
 -- a command that is given a file and binds
 pub record FileCommand : Type 1 where

@@ -5,7 +5,7 @@ use Rattle.std.specs.Str.{bytes_eq}
 use Rattle.tilt_checkpoint.specs.Cuts.{CutsParts, same_cuts}
 use Rattle.tilt_load.specs.Inputs.{faulty_among}
 use Rattle.tilt_report.specs.Report.{Reason, cut_names}
-use Rattle.tilt_words.specs.Upto.{CutBinding, UptoValue, all, each}
+use Rattle.tilt_cli.specs.Upto.{CutBinding, UptoValue, all, each}
 
 -- the names that have cuts, in order
 abbrev pub names_cut : List CutBinding → List (List ℕ)

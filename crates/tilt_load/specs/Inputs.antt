@@ -2,7 +2,7 @@
 use Rattle.std.specs.Prelude.{ℕ, Bool, not, ◌||◌, if◌then◌else◌, List, [], ◌∷◌, Option, Some, None, length, map, sum_by}
 use Rattle.std.specs.List.{list_any, slice_index_or}
 use Rattle.std.specs.Str.{bytes_eq}
-use Rattle.tilt_words.specs.Binding.{Binding}
+use Rattle.tilt_cli.specs.Binding.{Binding}
 use Rattle.tilt_load.specs.declared.names.FaultyName.{FaultyName}
 use Rattle.tilt_load.specs.declared.names.FaultyName.TheVariants.{Given, Input}
 

@@ -3,7 +3,7 @@ use Rattle.std.specs.Prelude.{◌≡◌, ◌<◌, ⊤, List, ℕ, length, Contai
 use Rattle.tilt_base.specs.declared.limits.TheConstants.{FILE}
 use Rattle.tilt_outside.specs.Faults.{Rose}
 use Rattle.tilt_load.specs.Inputs.{faulty_name}
-use Rattle.tilt_words.specs.Binding.{Binding}
+use Rattle.tilt_cli.specs.Binding.{Binding}
 use Rattle.tilt_report.specs.Report.{Reason, input_names, file_too_long}
 use Rattle.tilt_report.specs.Report.{Report, usage, refusal, read_fault, write_fault, save_fault, out_of_memory}
 use Rattle.tilt_load.specs.SeriesFiles.{IsNextOfSession, no_bounds}

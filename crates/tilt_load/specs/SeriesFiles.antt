@@ -10,7 +10,7 @@ use Rattle.tilt_report.specs.Report.{Reason, input_names, file_too_long, bad_ser
 use Rattle.tilt_series.specs.Series.{Bounds, series_of}
 use Rattle.tilt_series.specs.declared.fault.SeriesFault.{SeriesFault}
 use Rattle.tilt_stream.specs.Snap.{Snapshot}
-use Rattle.tilt_words.specs.Binding.{Binding}
+use Rattle.tilt_cli.specs.Binding.{Binding}
 
 -- no bound but the order of the rows
 abbrev pub no_bounds : Bounds

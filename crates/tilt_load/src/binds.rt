@@ -2,11 +2,11 @@
 ghost use Rattle.std.specs.Prelude.{◌≡◌, ◌<◌, ℕ, length, MatchOption, None, Some};
 ghost use Rattle.tilt_load.specs.Inputs.{faulty_name, file_of, name_told};
 ghost use Rattle.tilt_load.specs.declared.names.FaultyName.TheVariants.{Input};
-ghost use Rattle.tilt_words.specs.Binding.{bindings_of};
+ghost use Rattle.tilt_cli.specs.Binding.{bindings_of};
 
 use crate::names::{FaultyName, faulty_name};
+use tilt_cli::Bind;
 use tilt_lexer::Name;
-use tilt_words::Bind;
 
 /// The first bound name that isn't an input's or stands twice, or else the place of the first input that isn't bound; `None` where there
 /// is neither.

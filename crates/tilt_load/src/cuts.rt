@@ -5,14 +5,14 @@ ghost use Rattle.tilt_load.specs.Inputs.{faulty_among, name_told};
 ghost use Rattle.tilt_load.specs.Load.{IsLoadFault};
 ghost use Rattle.tilt_load.specs.declared.names.FaultyName.TheVariants.{Input};
 ghost use Rattle.tilt_report.specs.Report.{report_of};
-ghost use Rattle.tilt_words.specs.Upto.{IsUptoWithin, UptoValue, cut_bindings_of, upto_of};
+ghost use Rattle.tilt_cli.specs.Upto.{IsUptoWithin, UptoValue, cut_bindings_of, upto_of};
 
 use crate::names::{FaultyName, faulty_name};
 use std::alloc::{AllocError as OutOfMemory, Global};
 use tilt_checkpoint::Cuts;
+use tilt_cli::{CutBind, Upto};
 use tilt_lexer::Name;
 use tilt_report::{Fault, Refusal};
-use tilt_words::{CutBind, Upto};
 
 /// The cuts of a query's inputs, in their order: one for all of them, or that of each by its name. Where the words give cuts to names
 /// that aren't the inputs, each once, a name is told.

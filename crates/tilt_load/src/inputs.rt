@@ -7,18 +7,18 @@ ghost use Rattle.tilt_load.specs.Load.{HasInputTurn, HasSessionTurn, IsLoadFault
 ghost use Rattle.tilt_load.specs.SeriesFiles.{AreWithin, TakesInputs, TakesSession, RefusesInputs, RefusesSession};
 ghost use Rattle.tilt_load.specs.SeriesFiles.{bounds_in, inputs_read};
 ghost use Rattle.tilt_report.specs.Report.{report_of};
-ghost use Rattle.tilt_words.specs.Binding.{bindings_of};
+ghost use Rattle.tilt_cli.specs.Binding.{bindings_of};
 
 use crate::binds::{faulty_bind, file_bound};
 use crate::names::FaultyName;
 use crate::series_file::load_input;
 use std::alloc::{AllocError as OutOfMemory, Global};
+use tilt_cli::Bind;
 use tilt_lexer::Name;
 use tilt_outside::Shelf;
 use tilt_report::{Fault, Refusal};
 use tilt_series::Bounds;
 use tilt_stream::Rows;
-use tilt_words::Bind;
 
 /// The rows of each input, in order, from the file that is bound to its name. The names are tested before a file is read,
 /// and each input is done before the next one is read. The first faulty name is refused, or else the first series that has a fault;

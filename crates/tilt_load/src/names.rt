@@ -3,8 +3,8 @@ ghost use Rattle.std.specs.Prelude.{◌≡◌, ◌<◌, ℕ, [], List, length, m
 ghost use Rattle.std.specs.Option.{option_copied};
 ghost use Rattle.tilt_load.specs.Inputs.{faulty_among, first_unbound, first_unexpected, is_among, name_told};
 
+use tilt_cli::{Bind, CutBind};
 use tilt_lexer::Name;
-use tilt_words::{Bind, CutBind};
 
 // What the words give to a name.
 pub(crate) trait Named {

@@ -23,8 +23,8 @@ use Rattle.tilt_edits.specs.declared.fault.EditFault.{EditFault}
 use Rattle.tilt_edits.specs.declared.fault.EditFault.TheVariants as edits
 use Rattle.tilt_edits.specs.declared.fault.FixFault.{FixFault}
 use Rattle.tilt_edits.specs.declared.fault.FixFault.TheVariants as correction
-use Rattle.tilt_words.specs.declared.fault.WordsFault.{WordsFault}
-use Rattle.tilt_words.specs.declared.fault.WordsFault.TheVariants as words
+use Rattle.tilt_cli.specs.declared.fault.WordsFault.{WordsFault}
+use Rattle.tilt_cli.specs.declared.fault.WordsFault.TheVariants as words
 use Rattle.tilt_report.specs.declared.refusal.Refusal.{Refusal}
 use Rattle.tilt_report.specs.declared.refusal.Refusal.TheVariants as code
 use Rattle.tilt_report.specs.declared.refusal.StatementFault.{StatementFault}

@@ -6,6 +6,7 @@ use crate::line::{put_named, put_text};
 use crate::refusal::{Refusal, StatementFault};
 use std::alloc::AllocError;
 use tilt_bounds::ReachFault;
+use tilt_cli::WordsFault;
 use tilt_code::CodeFault;
 use tilt_edits::{EditFault, FixFault};
 use tilt_lexer::LexFault;
@@ -13,7 +14,6 @@ use tilt_operators::FlowFault;
 use tilt_outside::{Failed, Sink};
 use tilt_syntax::{SyntaxFault, TextFault};
 use tilt_types::CheckFault;
-use tilt_words::WordsFault;
 
 /// Why a command isn't done.
 #[derive(Drop)]

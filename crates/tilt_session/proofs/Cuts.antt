@@ -12,7 +12,7 @@ use Rattle.tilt_stream.specs.Snap.{Snapshot}
 use Rattle.tilt_base.specs.declared.span.Span.{Span}
 use Rattle.tilt_core.specs.Core.{CoreParts, domain_of}
 use Rattle.tilt_core.specs.Meaning.{output_of}
-use Rattle.tilt_words.specs.Number.{RiseFrom}
+use Rattle.tilt_cli.specs.Number.{RiseFrom}
 
 -- the next of cuts that don't fall
 pub rise-at : (from limit : ℤ) (cuts : List ℤ) (i : ℕ) → i < length cuts → RiseFrom from limit (drop i cuts)

@@ -3,7 +3,7 @@ ghost use Rattle.std.specs.Prelude.{◌≡◌, ◌∷◌, neg_ℤ, Some, IfOk};
 ghost use Rattle.tilt_base.specs.declared.limits.TheConstants.{T};
 ghost use Rattle.tilt_session.specs.Parts.{IsRun};
 ghost use Rattle.tilt_core.specs.Meaning.{output_of};
-ghost use Rattle.tilt_words.specs.Number.{RiseFrom};
+ghost use Rattle.tilt_cli.specs.Number.{RiseFrom};
 
 use crate::joined::Joined;
 use std::alloc::{AllocError as OutOfMemory, Global};

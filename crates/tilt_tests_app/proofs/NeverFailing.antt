@@ -13,8 +13,8 @@ use Rattle.tilt_printed.specs.Saving.{SaveValue, outcome_of}
 use Rattle.tilt_report.specs.Report.{Outcome, printed_and_saved}
 use Rattle.tilt_stream.specs.Snap.{Snapshot}
 use Rattle.tilt_watch.specs.Watch.{Watch, watches}
-use Rattle.tilt_words.specs.Binding.{Binding}
-use Rattle.tilt_words.specs.Command.{CommandValue, IsCommand, run}
+use Rattle.tilt_cli.specs.Binding.{Binding}
+use Rattle.tilt_cli.specs.Command.{CommandValue, IsCommand, run}
 
 module _ (a b c d : List HeldFile) (q s x y : List ℕ) (l m n o : ℕ) (first : HoldsInstead [] a q x l) (second : HoldsInstead a b s y m)
     (first' : HoldsInstead [] c q x n) (second' : HoldsInstead c d s y o) where

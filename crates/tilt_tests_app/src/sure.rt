@@ -4,17 +4,17 @@ ghost use Rattle.tilt_app.specs.Outcome.{IsOutcome};
 ghost use Rattle.tilt_outside.specs.HeldFiles.{content_of, room_of};
 ghost use Rattle.tilt_printed.specs.Saving.{SaveValue, outcome_of};
 ghost use Rattle.tilt_watch.specs.Watch.{watches};
-ghost use Rattle.tilt_words.specs.Binding.{Binding};
-ghost use Rattle.tilt_words.specs.Command.{command_of, run, texts};
+ghost use Rattle.tilt_cli.specs.Binding.{Binding};
+ghost use Rattle.tilt_cli.specs.Command.{command_of, run, texts};
 
 use crate::call::{QUERY, SERIES, WORDS, words_of};
 use std::alloc::Global;
 use std::process::Abort;
 use std::test::Fail;
 use tilt_app::{outcome_is_one, tilt};
+use tilt_cli::{Command, read_words};
 use tilt_outside::{MemShelf, MemSink, Sink, SureShelf, SureSink};
 use tilt_watch::Watcher;
-use tilt_words::{Command, read_words};
 
 // Where both have room for all that the words and the files come to, the call is done, it is refused, or there is no memory.
 fn sure<E: Sink>(

@@ -1,8 +1,8 @@
 // What command lines are which command.
 use std::alloc::Global;
 use std::test::Fail;
+use tilt_cli::{Bind, Command, CutBind, Upto, WordsFault, read_words};
 use tilt_testing::name_text;
-use tilt_words::{Bind, Command, CutBind, Upto, WordsFault, read_words};
 
 // The pieces of a text between bars.
 fn words_of(alloc: Global, text: &str) -> Result<Vec<String>, Fail> {

@@ -1,6 +1,6 @@
 use Rattle.std.specs.Prelude.{string_bytes}
 use Rattle.std.proofs.Common.{[]}
-use Rattle.tilt_words.specs.Upto.{upto_of}
+use Rattle.tilt_cli.specs.Upto.{upto_of}
 use Rattle.tilt_app.proofs.Shown.{does_weaker, fits_saved, fits_unsaved}
 use Rattle.tilt_app.proofs.answer.answer.Goals as goal
 

@@ -15,7 +15,7 @@ use Rattle.tilt_printed.specs.Show.{shown_of}
 use Rattle.tilt_printed.specs.declared.save.Save.{Save}
 use Rattle.tilt_report.specs.Report.{report_of}
 use Rattle.tilt_watch.specs.Watch.{Watch}
-use Rattle.tilt_words.specs.Command.{command_of}
+use Rattle.tilt_cli.specs.Command.{command_of}
 use Rattle.tilt_app.proofs.command.done.Goals as goal
 
 pub returns-in_err-answered-clause-cause : goal.returns-in_err-answered-clause-cause

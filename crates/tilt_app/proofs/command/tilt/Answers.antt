@@ -7,7 +7,7 @@ use Rattle.tilt_app.specs.Outcome.{HasRowTurn, HasTurn, IsOutcome, IsRowOutcome,
 use Rattle.tilt_commands.specs.Table.{row_of}
 use Rattle.tilt_report.specs.Report.{report_of, status_of}
 use Rattle.tilt_watch.specs.Watch.{Watch}
-use Rattle.tilt_words.specs.Command.{CommandValue, IsCommand, command_of, texts, watch}
+use Rattle.tilt_cli.specs.Command.{CommandValue, IsCommand, command_of, texts, watch}
 use Rattle.tilt_app.proofs.command.tilt.Goals as goal
 
 pub done-requires-clause-room : goal.done-requires-clause-room

@@ -11,7 +11,7 @@ use Rattle.tilt_printed.specs.declared.whole_text.WholeText.TheVariants.{Snapsho
 use Rattle.tilt_report.specs.Report.{printed, report_of}
 use Rattle.tilt_stream.specs.Snap.{Snapshot}
 use Rattle.tilt_stream.specs.Text.{text_of}
-use Rattle.tilt_words.specs.Binding.{bindings_of}
+use Rattle.tilt_cli.specs.Binding.{bindings_of}
 use Rattle.tilt_commands.proofs.exec_command.exec.Goals as goal
 
 pub load_code-requires : goal.load_code-requires

@@ -9,7 +9,7 @@ use Rattle.tilt_load.specs.Does.{reading}
 use Rattle.tilt_outside.proofs.MoreReads.{reads-then}
 use Rattle.tilt_printed.specs.declared.printed.Printed.TheVariants.{Whole}
 use Rattle.tilt_report.specs.Report.{report_of}
-use Rattle.tilt_words.specs.Binding.{bindings_of}
+use Rattle.tilt_cli.specs.Binding.{bindings_of}
 use Rattle.tilt_commands.proofs.fix_command.fix.Goals as goal
 
 pub load_run-requires : goal.load_run-requires

@@ -10,7 +10,7 @@ use Rattle.tilt_load.specs.FileCommand.{done, own_turn}
 use Rattle.tilt_outside.proofs.MoreReads.{reads-then}
 use Rattle.tilt_printed.specs.declared.printed.Printed.TheVariants.{Run}
 use Rattle.tilt_report.specs.Report.{printed, report_of}
-use Rattle.tilt_words.specs.Binding.{bindings_of}
+use Rattle.tilt_cli.specs.Binding.{bindings_of}
 use Rattle.tilt_commands.proofs.flow_command.flow.Goals as goal
 
 pub load_flow-requires : goal.load_flow-requires

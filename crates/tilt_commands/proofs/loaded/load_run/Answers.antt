@@ -5,7 +5,7 @@ use Rattle.tilt_load.specs.Does.{reading}
 use Rattle.tilt_load.specs.FileCommand.{own_turn}
 use Rattle.tilt_outside.proofs.MoreReads.{reads-then}
 use Rattle.tilt_report.specs.Report.{report_of}
-use Rattle.tilt_words.specs.Binding.{bindings_of}
+use Rattle.tilt_cli.specs.Binding.{bindings_of}
 use Rattle.tilt_commands.proofs.loaded.load_run.Goals as goal
 
 pub load_query-requires : goal.load_query-requires

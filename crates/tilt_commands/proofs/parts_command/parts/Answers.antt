@@ -8,7 +8,7 @@ use Rattle.tilt_load.specs.FileCommand.{done, own_turn}
 use Rattle.tilt_outside.proofs.MoreReads.{reads-then}
 use Rattle.tilt_printed.specs.declared.printed.Printed.TheVariants.{Whole}
 use Rattle.tilt_report.specs.Report.{report_of}
-use Rattle.tilt_words.specs.Binding.{bindings_of}
+use Rattle.tilt_cli.specs.Binding.{bindings_of}
 use Rattle.tilt_commands.proofs.parts_command.parts.Goals as goal
 
 pub load_divided-requires : goal.load_divided-requires

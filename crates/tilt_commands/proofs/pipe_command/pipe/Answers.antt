@@ -7,7 +7,7 @@ use Rattle.tilt_load.specs.Does.{reading}
 use Rattle.tilt_printed.specs.Answer.{Fits, comes_to}
 use Rattle.tilt_printed.specs.declared.printed.Printed.TheVariants.{Rings}
 use Rattle.tilt_watch.specs.Watch.{Watch}
-use Rattle.tilt_words.specs.Binding.{bindings_of}
+use Rattle.tilt_cli.specs.Binding.{bindings_of}
 use Rattle.tilt_commands.proofs.pipe_command.pipe.Goals as goal
 
 pub load_run-requires : goal.load_run-requires

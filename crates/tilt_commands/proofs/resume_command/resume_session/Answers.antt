@@ -16,7 +16,7 @@ use Rattle.tilt_commands.specs.Resume.{end_after, inputs_of, later_bounds, resum
 use Rattle.tilt_commands.specs.RowBounds.{all_after}
 use Rattle.tilt_load.specs.SeriesFiles.{bounds_in}
 use Rattle.tilt_commands.specs.SavedCut.{ending_of}
-use Rattle.tilt_words.specs.Binding.{bindings_of}
+use Rattle.tilt_cli.specs.Binding.{bindings_of}
 use Rattle.tilt_commands.proofs.resume_command.resume_session.Goals as goal
 
 pub load_onward-requires-clause-lent : goal.load_onward-requires-clause-lent

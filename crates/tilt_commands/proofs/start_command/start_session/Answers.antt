@@ -18,7 +18,7 @@ use Rattle.tilt_commands.proofs.Started.{cuts_given, cuts_refused, starts_by, st
 use Rattle.tilt_commands.specs.SavedCut.{saved_cut_of}
 use Rattle.tilt_commands.specs.Start.{RefusesToStart, first_bounds, no_query, start_row}
 use Rattle.tilt_load.specs.SeriesFiles.{bounds_in}
-use Rattle.tilt_words.specs.Binding.{bindings_of}
+use Rattle.tilt_cli.specs.Binding.{bindings_of}
 use Rattle.tilt_commands.proofs.start_command.start_session.Goals as goal
 
 pub load_query-requires : goal.load_query-requires

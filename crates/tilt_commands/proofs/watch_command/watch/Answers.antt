@@ -10,7 +10,7 @@ use Rattle.tilt_load.specs.Does.{reading}
 use Rattle.tilt_printed.specs.Answer.{Fits, comes_to}
 use Rattle.tilt_printed.specs.declared.printed.Printed.TheVariants.{Watched}
 use Rattle.tilt_watch.specs.Watch.{Watch}
-use Rattle.tilt_words.specs.Binding.{bindings_of}
+use Rattle.tilt_cli.specs.Binding.{bindings_of}
 use Rattle.tilt_commands.proofs.watch_command.watch.Goals as goal
 
 pub load_run-requires : goal.load_run-requires

@@ -1,6 +1,6 @@
 use Rattle.std.proofs.Common.{◌≡◌, drop}
 use Rattle.tilt_load.specs.Inputs.{file_of}
-use Rattle.tilt_words.specs.Binding.{bindings_of}
+use Rattle.tilt_cli.specs.Binding.{bindings_of}
 use Rattle.tilt_load.proofs.binds.file_bound.Given as goal
 
 abbrev pub invariant-loop-bind : goal.invariant-loop-bind

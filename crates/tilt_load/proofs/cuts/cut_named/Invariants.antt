@@ -1,6 +1,6 @@
 use Rattle.std.proofs.Common.{◌≡◌, drop}
 use Rattle.tilt_load.specs.InputCuts.{cut_named}
-use Rattle.tilt_words.specs.Upto.{cut_bindings_of}
+use Rattle.tilt_cli.specs.Upto.{cut_bindings_of}
 use Rattle.tilt_load.proofs.cuts.cut_named.Given as goal
 
 abbrev pub invariant-loop-bind : goal.invariant-loop-bind

@@ -1,7 +1,7 @@
 use Rattle.std.proofs.Common.{◌∙◌, map}
 use Rattle.tilt_load.specs.InputCuts.{cut_named}
 use Rattle.tilt_load.proofs.GivenCuts.{all_in_range, are_with_least, some_cuts}
-use Rattle.tilt_words.specs.Upto.{cut_bindings_of}
+use Rattle.tilt_cli.specs.Upto.{cut_bindings_of}
 use Rattle.tilt_load.proofs.cuts.cuts_by.Goals as goal
 
 pub of-requires-clause-some : goal.of-requires-clause-some

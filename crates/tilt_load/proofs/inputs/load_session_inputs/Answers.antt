@@ -4,7 +4,7 @@ use Rattle.tilt_load.specs.Load.{HasSessionTurn}
 use Rattle.tilt_load.specs.SeriesFiles.{RefusesSession, bounds_in, by_series, inputs_read}
 use Rattle.tilt_load.proofs.Loads.{load_fault_weaker, names_refuse}
 use Rattle.tilt_report.specs.Report.{report_of}
-use Rattle.tilt_words.specs.Binding.{bindings_of}
+use Rattle.tilt_cli.specs.Binding.{bindings_of}
 use Rattle.tilt_load.proofs.inputs.load_session_inputs.Goals as goal
 
 pub returns-in_err-check_names-clause-fault : goal.returns-in_err-check_names-clause-fault

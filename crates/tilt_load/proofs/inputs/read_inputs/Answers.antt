@@ -2,7 +2,7 @@ use Rattle.std.proofs.Common.{◌≡◌, ◌∙◌, rules, arith, [], ◌∷◌,
 use Rattle.std.specs.List.{AllByRecursion}
 use Rattle.std.proofs.lemmas.Result.{err_from_is_err_and}
 use Rattle.tilt_report.specs.Report.{report_of}
-use Rattle.tilt_words.specs.Binding.{bindings_of}
+use Rattle.tilt_cli.specs.Binding.{bindings_of}
 use Rattle.tilt_load.specs.SeriesFiles.{IsWithin, bounds_in}
 use Rattle.tilt_series.specs.Series.{Bounds}
 use Rattle.tilt_outside.proofs.MoreReads.{reads-then}

@@ -3,7 +3,7 @@ use Rattle.tilt_outside.specs.Counts.{added_count, last_count}
 use Rattle.tilt_outside.specs.Reads.{OnlyReads}
 use Rattle.tilt_load.specs.Inputs.{bytes_of_inputs}
 use Rattle.tilt_load.specs.SeriesFiles.{AreWithin, bounds_in, inputs_read}
-use Rattle.tilt_words.specs.Binding.{bindings_of}
+use Rattle.tilt_cli.specs.Binding.{bindings_of}
 use Rattle.tilt_load.proofs.inputs.read_inputs.Given as goal
 
 abbrev pub invariant-loop-input : goal.invariant-loop-input

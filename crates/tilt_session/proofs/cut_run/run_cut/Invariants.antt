@@ -1,7 +1,7 @@
 use Rattle.std.proofs.Common.{drop}
 use Rattle.tilt_base.specs.declared.limits.TheConstants.{T}
 use Rattle.tilt_session.specs.Parts.{AreJoined}
-use Rattle.tilt_words.specs.Number.{RiseFrom}
+use Rattle.tilt_cli.specs.Number.{RiseFrom}
 use Rattle.tilt_session.proofs.cut_run.run_cut.Given as goal
 
 abbrev pub invariant-loop-cut : goal.invariant-loop-cut

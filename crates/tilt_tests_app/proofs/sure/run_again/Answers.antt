@@ -3,7 +3,7 @@ use Rattle.tilt_outside.specs.HeldFiles.{content_of}
 use Rattle.tilt_outside.specs.MemSink.{SinkState}
 use Rattle.tilt_outside.specs.SureSink.{SinkRoom}
 use Rattle.tilt_printed.specs.Saving.{outcome_of}
-use Rattle.tilt_words.specs.Command.{command_of, texts}
+use Rattle.tilt_cli.specs.Command.{command_of, texts}
 use Rattle.tilt_tests_app.proofs.NeverFailing.{same_files, same_length, saves_nothing, unwatched}
 use Rattle.tilt_tests_app.proofs.sure.run_again.Goals as goal
 

@@ -1,0 +1,80 @@
+// The options of the command line, as a table.
+ghost use Rattle.std.specs.Prelude.{◌≡◌, option_map};
+ghost use Rattle.tilt_cli.specs.Tables.{option_entry, option_found, option_of};
+
+// What the value of an option is.
+#[derive(Clone, Copy, Debug, PartialEq, Eq)]
+pub(crate) enum Shape {
+    // There is none: the option is one argument.
+    Flag,
+    // A text that isn't empty.
+    Text,
+    // One or more times with commas between them, none below the one before it.
+    Times,
+    // One or more times with commas between them, each above the one before it.
+    RisingTimes,
+    // One or more 32-bit numbers with commas between them, in any order.
+    Numbers,
+    // A cut of all inputs, or a cut of each input.
+    Cuts,
+}
+
+// An option.
+#[derive(Clone, Copy, Debug)]
+pub(crate) struct OptionRow {
+    // The option as an argument.
+    pub(crate) word: &'static str,
+    // Its value, the argument after it.
+    pub(crate) shape: Shape,
+}
+
+// All options.
+pub(crate) const OPTIONS: [OptionRow; 8] = [
+    OptionRow {
+        word: "--plain",
+        shape: Shape::Flag,
+    },
+    OptionRow {
+        word: "--cut",
+        shape: Shape::Times,
+    },
+    OptionRow {
+        word: "--at",
+        shape: Shape::RisingTimes,
+    },
+    OptionRow {
+        word: "--order",
+        shape: Shape::Numbers,
+    },
+    OptionRow {
+        word: "--edits",
+        shape: Shape::Text,
+    },
+    OptionRow {
+        word: "--upto",
+        shape: Shape::Cuts,
+    },
+    OptionRow {
+        word: "--save",
+        shape: Shape::Text,
+    },
+    OptionRow {
+        word: "--end",
+        shape: Shape::Flag,
+    },
+];
+
+// The option that is this word.
+pub(crate) fn find_option(word: &str) -> Option<OptionRow>
+    ensures { option_map option_entry result ≡ option_of word.now }
+{
+    find_row(&OPTIONS, word)
+}
+
+// The first of some rows that has this word.
+#[tactic(auto, unfolding(crate::specs::Tables::option_found))]
+fn find_row(rows: &[OptionRow], word: &str) -> Option<OptionRow>
+    ensures { result ≡ option_found rows.now word.now }
+{
+    rows.iter().copied().find(|row| row.word == word)
+}
