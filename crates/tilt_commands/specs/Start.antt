@@ -1,5 +1,5 @@
 -- What the first session of a query does, given its query file, its binds, its cuts and what each name holds.
-use Rattle.std.specs.Prelude.{◌≡◌, ℕ, ℤ, List, map, Ok}
+use Rattle.std.specs.Prelude.{◌≡◌, ℕ, ℤ, List, map, None, Ok}
 use Rattle.tilt_bounds.specs.Margins.{MarginsParts, margins_of}
 use Rattle.tilt_checkpoint.specs.Cuts.{CutsParts}
 use Rattle.tilt_checkpoint.specs.Spelling.{spelling}

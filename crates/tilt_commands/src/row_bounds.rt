@@ -1,5 +1,5 @@
 // Where the rows of a session may start, input by input.
-ghost use Rattle.std.specs.Prelude.{◌≡◌, IfOk, length, map};
+ghost use Rattle.std.specs.Prelude.{◌≡◌, None, IfOk, length, map};
 ghost use Rattle.tilt_checkpoint.specs.Cuts.{AreCuts, CutsParts};
 ghost use Rattle.tilt_commands.specs.RowBounds.{after_kept, all_after, before_cut, up_to};
 ghost use Rattle.tilt_session.specs.Cuts.{IsInRange};
@@ -33,11 +33,18 @@ pub(crate) fn later_bounds(
 {
     match cut {
         Cut::Upto(cuts) => bounds_up_to(alloc, series, cuts.each()),
-        Cut::End => series
-            .iter()
-            .map(|kept| after_kept(kept, None))
-            .collect(alloc),
+        Cut::End => bounds_to_the_end(alloc, series),
     }
+}
+
+// The same, where it ends after the last row.
+fn bounds_to_the_end(alloc: Global, series: &[Kept]) -> Result<Vec<Bounds>, OutOfMemory>
+    ensures { IfOk result (λ bounds. bounds.items ≡ map (λ k. after_kept k None) series.now) }
+{
+    series
+        .iter()
+        .map(|kept| after_kept(kept, None))
+        .collect(alloc)
 }
 
 // The same, where it ends by cuts.

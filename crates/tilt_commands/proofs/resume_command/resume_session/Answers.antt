@@ -1,4 +1,4 @@
-use Rattle.std.proofs.Common.{◌∙◌, length, List, ℕ, ap, refl, subst, sym}
+use Rattle.std.proofs.Common.{◌≡◌, ◌∙◌, length, List, ℕ, ap, refl, subst, sym}
 use Rattle.std.proofs.lemmas.Result.{err_from_is_err_and}
 use Rattle.tilt_session.specs.Cuts.{IsInRange}
 use Rattle.tilt_session.specs.declared.cut.Cut.{Cut}
@@ -8,7 +8,7 @@ use Rattle.tilt_load.specs.Does.{reading}
 use Rattle.tilt_load.specs.FileCommand.{own_turn, done}
 use Rattle.tilt_outside.proofs.MoreReads.{reads-then}
 use Rattle.tilt_printed.specs.Answer.{save_of}
-use Rattle.tilt_report.specs.Report.{report_of}
+use Rattle.tilt_report.specs.Report.{bad_checkpoint, out_of_memory, refusal, report_of}
 use Rattle.tilt_commands.proofs.Beyond.{goes_beyond, never_bad_report}
 use Rattle.tilt_commands.proofs.Handed.{AreCounted, later_handed}
 use Rattle.tilt_commands.proofs.Resumed.{fits_saved, given_counted, is_resumed, onward_counted, resume_bytes, resume_read, resume_turn, resume_undone}
@@ -18,6 +18,10 @@ use Rattle.tilt_load.specs.SeriesFiles.{bounds_in}
 use Rattle.tilt_commands.specs.SavedCut.{ending_of}
 use Rattle.tilt_cli.specs.Binding.{bindings_of}
 use Rattle.tilt_commands.proofs.resume_command.resume_session.Goals as goal
+
+-- no refusal is reported for want of memory
+memory_is_no_reason : out_of_memory ≡ refusal bad_checkpoint → ⊥
+memory_is_no_reason same = cc same
 
 pub load_onward-requires-clause-lent : goal.load_onward-requires-clause-lent
 load_onward-requires-clause-lent g c = c.requires.lent c.args.checkpoint.now own_turn
@@ -54,6 +58,11 @@ load_session_inputs-requires g c =
     let bounds = ap bounds_in (c.deref.ensures.value ∙ c.in_ok-bounds.ensures.bounds ∙ ap (all_after c.in_ok-onward.onward.cut) c.series.ensures.value) ∙ ap (λ (k : Cut). later_bounds k c0) ends in
     let goes = c.in_ok-onward.ensures.taken in
     c.requires.lent name (resume_turn ending c0 now c.args.checkpoint.now binds _ _ shelf c.load_onward.ensures.rest.same_files bounds names goes name turn)
+
+pub returns-in_err-bounds-clause-good : goal.returns-in_err-bounds-clause-good
+returns-in_err-bounds-clause-good g c =
+    let p = err_from_is_err_and c.from_residual-in_err-bounds.result c.from_residual-in_err-bounds.ensures.1 in
+    λ told. rw (p.1, p.2) (λ q rows old hands same. memory_is_no_reason same)
 
 pub returns-in_err-rows-clause-does : goal.returns-in_err-rows-clause-does
 returns-in_err-rows-clause-does g c =
