@@ -40,12 +40,13 @@ called command held holds text = record { command = command; held = held; holds 
 -- the lines of two lists, joined
 lines-append : (front back : List Snapshot) → lines_of (front ++ back) ≡ lines_of front ++ lines_of back
 lines-append [] back = refl
-lines-append (s ∷ front) back = by (is_some s.value)
+lines-append (s ∷ front) back = by (is_some s.value) (lines-append front back)
   where
-    by : (b : Bool) → (if b then row_text s ++ lines_of (front ++ back) else lines_of (front ++ back))
+    by : (b : Bool) → lines_of (front ++ back) ≡ lines_of front ++ lines_of back
+        → (if b then row_text s ++ lines_of (front ++ back) else lines_of (front ++ back))
         ≡ (if b then row_text s ++ lines_of front else lines_of front) ++ lines_of back
-    by true = ap (λ (l : List ℕ). row_text s ++ l) (lines-append front back) ∙ append_assoc (row_text s) (lines_of front) (lines_of back)
-    by false = lines-append front back
+    by true more = ap (λ (l : List ℕ). row_text s ++ l) more ∙ sym (append_assoc (row_text s) (lines_of front) (lines_of back))
+    by false more = more
 
 -- what is printed, and saved where something is
 saved_is : (text other name bytes : List ℕ) (save : Option SaveValue) → outcome_of text save ≡ printed_and_saved other name bytes
@@ -160,7 +161,7 @@ first-and-rest q rows cuts upto call calls is at rest =
       beyond = is.beyond ++ rest.beyond;
       read = (is.more, is.read, rest.read);
       many = rest.many;
-      adds = rest.adds ∙ ap (λ (l : List Snapshot). l ++ rest.beyond) adds ∙ sym (append_assoc (emitted core rows (Upto cuts)) is.beyond rest.beyond);
+      adds = rest.adds ∙ ap (λ (l : List Snapshot). l ++ rest.beyond) adds ∙ append_assoc (emitted core rows (Upto cuts)) is.beyond rest.beyond;
       wrote = (λ i. is.wrote i ++ rest.wrote i) ∙ sym (lines-append is.beyond rest.beyond);
     }
 
@@ -264,7 +265,7 @@ one-run first calls are =
     let list = emitted core more.all End in
     let gives = output-given core more.all domain.0 domain.1 more.many in
     let joined : texts_of (first ∷ calls) ≡ text_of list =
-    (λ i. is.wrote i ++ more.wrote i) ∙ sym (append_assoc (codes "start,end,value\n") (lines_of (emitted core is.rows (Upto is.cuts))) (lines_of more.beyond))
+    (λ i. is.wrote i ++ more.wrote i) ∙ append_assoc (codes "start,end,value\n") (lines_of (emitted core is.rows (Upto is.cuts))) (lines_of more.beyond)
     ∙ ap (λ (l : List ℕ). codes "start,end,value\n" ++ l) (sym (lines-append (emitted core is.rows (Upto is.cuts)) more.beyond) ∙ ap lines_of (sym more.adds)) in
     record {
       core = core;
