@@ -1,10 +1,11 @@
 -- A state and a turn over other lists, which tell the same as far as the loop reads them.
-use Rattle.std.proofs.Common.{◌≡◌, ℕ, zero, suc, ℤ, pos, ◌+ℤ◌, ◌-ℤ◌, ◌≤ℤ◌, List, [], ◌∷◌, ◌++◌, map, get_or, length, Option, None, refl, ap, ◌∙◌, sym, arith}
+use Rattle.std.proofs.Common.{◌≡◌, ◌⊎◌, inl, inr, Vec, Global, ℕ, zero, suc, ℤ, pos, neg_ℤ, ◌+ℤ◌, ◌-ℤ◌, ◌≤ℤ◌, List, [], ◌∷◌, ◌++◌, map, get_or, length, Option, None, refl, ap, subst, ◌∙◌, sym, arith}
 use Rattle.std.specs.Int.{int_gap}
 use Rattle.std.specs.List.{AllByRecursion}
 use Rattle.std.proofs.lemmas.Int.{ints, by_lt_z}
 use Rattle.tilt_base.specs.Grid.{ceil}
 use Rattle.tilt_base.specs.Reduce.{numbers, reduce}
+use Rattle.tilt_base.specs.declared.limits.TheConstants.{WIDE}
 use Rattle.tilt_code.proofs.Constancy.{instr_cell-same}
 use Rattle.tilt_code.specs.Body.{body_of, instr_cell, last_or, leaf_marked, leaf_of, mapped, with_registers}
 use Rattle.tilt_code.specs.Code.{Block, LoopParts}
@@ -24,16 +25,21 @@ use Rattle.tilt_turn.proofs.Numbered.{read-stream}
 use Rattle.tilt_turn.proofs.Origins.{origin-holds}
 use Rattle.tilt_turn.proofs.Placing.{SeenBy}
 use Rattle.tilt_stream.proofs.SameMarks.{SameNext, either-same, next_mark-same, port-same, window-same}
-use Rattle.tilt_turn.proofs.Stepwise.{all-weaker}
-use Rattle.tilt_turn.specs.Held.{Holds, IsFit, IsLeafAt, IsPlacedBy, Knows, MayMove, origin, places_of}
+use Rattle.tilt_turn.proofs.Stepwise.{all-mapped, all-weaker}
+use Rattle.tilt_turn.specs.Again.{leaf_again, placed_again}
+use Rattle.tilt_turn.specs.Held.{AreAllRead, Holds, IsFit, IsLeafAt, IsPlaceOf, IsPlacedBy, IsPortAt, IsWindowAt, Knows, MayMove, known_next, origin, places_of}
 use Rattle.tilt_stream.specs.Marked.{marked, marked_behind}
 use Rattle.tilt_turn.specs.Ready.{IsReadable, IsReady}
-use Rattle.tilt_turn.specs.Same.{IsSameFor}
+use Rattle.tilt_turn.specs.Same.{IsAlikeFor, IsAlikeUpTo, IsSameFor}
 use Rattle.tilt_turn.specs.Sight.{Sees}
 use Rattle.tilt_turn.specs.declared.leaf.Leaf.{Leaf}
 use Rattle.tilt_turn.specs.declared.leaf.Leaf.TheVariants as leaf
 use Rattle.tilt_turn.specs.declared.moving.Moving.{Moving}
+use Rattle.tilt_turn.specs.declared.moving.NextMark.{NextMark}
+use Rattle.tilt_turn.specs.declared.moving.NextMark.TheVariants.{Unknown}
 use Rattle.tilt_turn.specs.declared.placed.Placed.{Placed}
+use Rattle.tilt_turn.specs.declared.port.PortLeaf.{PortLeaf}
+use Rattle.tilt_turn.specs.declared.span.WindowLeaf.{WindowLeaf}
 use Rattle.tilt_turn.specs.declared.state.LoopState.{LoopState}
 
 -- a cursor that may move over one may move over the other
@@ -77,35 +83,77 @@ holds-same a b last first f w cells marks within held =
       marks = held.marks ∙ marked-same (stream_of a) (stream_of b) first w.back.tick near;
     }
 
+-- lists that tell the same up to a tick are alike up to it
+same-alike : (a b : List Snapshot) (last : ℤ) → IsSameUpTo last a b → IsAlikeUpTo last a b
+same-alike a b last s = record { ended = s.ended; cells = s.cells; marks = s.marks }
+
 -- and one that knows where its last tick stands, and its next mark, knows it of the other
 knows-same : (a b : List Snapshot) (last : ℤ) (w : Moving) → IsSameUpTo last a b → w.back.tick ≤ℤ last → Knows a w → Knows b w
 knows-same a b last w s within knows = record {
   place = knows.place ∙ s.ended w.back.tick within;
-  next = names-next (stream_of a) (stream_of b) w.back.tick w.next (same-earlier a b last w.back.tick within s).next knows.next;
+  next = names-next (stream_of a) (stream_of b) w.back.tick (known_next w.next) (same-earlier a b last w.back.tick within s).next knows.next;
   low = knows.low;
   high = knows.high;
 }
 
--- a leaf that may be read over the one may be read over the other
-leaf-there : (a b : List (List Snapshot)) (maps : List Block) (at point : ℤ) (own : Leaf) → at ≤ℤ point
-    → IsSameFor a b point (origin own) → IsLeafAt a maps at own → IsLeafAt b maps at own
-leaf-there a b maps at point (leaf.Port p) onwards s is = (
+-- so it knows as much of the other as it has to know before it moves on
+known-same : (a b : List Snapshot) (last : ℤ) (w : Moving) → IsSameUpTo last a b → w.back.tick ≤ℤ last → (w.next ≡ Unknown) ⊎ Knows a w
+    → (w.next ≡ Unknown) ⊎ Knows b w
+known-same a b last w s within (inl unknown) = inl unknown
+known-same a b last w s within (inr knows) = inr (knows-same a b last w s within knows)
+
+-- a port that may be read over the one may be read over the other
+port-there : (a b : List (List Snapshot)) (at point : ℤ) (p : PortLeaf) → at ≤ℤ point
+    → IsAlikeUpTo (point +ℤ p.offset) (get_or a p.buffer []) (get_or b p.buffer []) → IsPortAt a at p → IsPortAt b at p
+port-there a b at point p onwards s is = (
   is.0,
   cursor-same (get_or a p.buffer []) (get_or b p.buffer []) (point +ℤ p.offset) (at +ℤ p.offset) p.cursor s.ended (omega (arith, ints)) is.1,
 )
-leaf-there a b maps at point (leaf.Window w) onwards s is =
+
+-- so may a window with this next mark, if it is unknown or also that of the other
+window-there : (a b : List (List Snapshot)) (maps : List Block) (at point : ℤ) (w : WindowLeaf) (next : NextMark) → at ≤ℤ point
+    → IsAlikeUpTo (point +ℤ w.to) (get_or a w.buffer []) (get_or b w.buffer [])
+    → (w.window.back.tick ≤ℤ (point +ℤ w.to) → (w.window.next ≡ Unknown) ⊎ Knows (get_or a w.buffer []) w.window
+    → (next ≡ Unknown) ⊎ Knows (get_or b w.buffer []) (record w.window { next = next }))
+    → IsWindowAt a maps at w → IsWindowAt b maps at (record w { window = record w.window { next = next } })
+window-there a b maps at point w next onwards s knows is =
     let stands = is.cursor.onwards in
     let list = get_or a w.buffer [] in
     let other = get_or b w.buffer [] in
     let last = point +ℤ w.to in
+    let within : w.window.back.tick ≤ℤ last = omega (arith, ints) in
+    let held = holds-same list other last (at +ℤ w.from +ℤ pos 1) (mapped maps w.map) w.window s.cells s.marks within is.begins.held in
     record {
       readable = is.readable;
       cursor = cursor-same list other last (at +ℤ w.to) w.window.back s.ended (omega (arith, ints)) is.cursor;
       begins = record {
-        held = holds-same list other last (at +ℤ w.from +ℤ pos 1) (mapped maps w.map) w.window s.cells s.marks (omega (arith, ints)) is.begins.held;
-        known = λ some. knows-same list other last w.window s (omega (arith, ints)) (is.begins.known some);
+        held = record { cells = held.cells; marks = held.marks };
+        known = λ some.
+            let may = is.begins.known some in
+            record { place = may.place ∙ s.ended w.window.back.tick within; known = knows within may.known };
       };
     }
+
+-- a leaf that may be read over the one may be read over the other
+leaf-there : (a b : List (List Snapshot)) (maps : List Block) (at point : ℤ) (own : Leaf) → at ≤ℤ point
+    → IsSameFor a b point (origin own) → IsLeafAt a maps at own → IsLeafAt b maps at own
+leaf-there a b maps at point (leaf.Port p) onwards s is =
+    port-there a b at point p onwards (same-alike (get_or a p.buffer []) (get_or b p.buffer []) (point +ℤ p.offset) s) is
+leaf-there a b maps at point (leaf.Window w) onwards s is =
+    let list = get_or a w.buffer [] in
+    let other = get_or b w.buffer [] in
+    let last = point +ℤ w.to in
+    window-there a b maps at point w w.window.next onwards (same-alike list other last s) (λ within known. known-same list other last w.window s within known) is
+
+-- and over lists that are only alike, if it is looked at again
+leaf-again : (a b : List (List Snapshot)) (maps : List Block) (at point : ℤ) (own : Leaf) → at ≤ℤ point
+    → IsAlikeFor a b point (origin own) → IsLeafAt a maps at own → IsLeafAt b maps at (leaf_again own)
+leaf-again a b maps at point (leaf.Port p) onwards s is = port-there a b at point p onwards s is
+leaf-again a b maps at point (leaf.Window w) onwards s is = window-there a b maps at point w Unknown onwards s (λ within known. inl refl) is
+
+again-origin : (own : Leaf) → origin (leaf_again own) ≡ origin own
+again-origin (leaf.Port p) = refl
+again-origin (leaf.Window w) = refl
 
 -- the cell of a leaf at the grid point
 leaf_cell-same : (a b : List (List Snapshot)) (maps : List Block) (point : ℤ) (i : Instr) → IsSameFor a b point i
@@ -189,6 +237,37 @@ fit-elsewhere a b l before point state same onwards fit = record {
       (λ own at. placed-there a b l.maps l.body state.registers.items before point own onwards
       (origin-holds (IsSameFor a b point) l.body own same at.places) at) fit.leaves;
 }
+
+-- and a leaf of a body that is looked at again is as well placed over lists that are only alike
+placed-again : (a b : List (List Snapshot)) (maps : List Block) (body : Block) (cells : List (Option ℤ)) (point : ℤ) (own : Placed)
+    → neg_ℤ WIDE ≤ℤ point → IsAlikeFor a b point (origin own.leaf) → IsPlacedBy a maps body cells point own
+    → IsPlacedBy b maps body cells point (placed_again own)
+placed-again a b maps body cells point own low s is = record {
+  leaf = (is.leaf.0, is.leaf.1, leaf-again a b maps is.leaf.0 point own.leaf is.leaf.1 s is.leaf.2);
+  places = subst (λ (i : Instr). AllByRecursion (IsPlaceOf body i) (places_of own)) (sym (again-origin own.leaf)) is.places;
+  known = λ stays. absurd (omega (arith, ints));
+}
+
+again-places : (leaves : List Placed) → map places_of (map placed_again leaves) ≡ map places_of leaves
+again-places [] = refl
+again-places (own ∷ rest) = ap (λ (all : List (List ℕ)). places_of own ∷ all) (again-places rest)
+
+-- so a state whose leaves are all looked at again is fit over them
+pub fit-again : (a b : List (List Snapshot)) (l : LoopParts) (point : ℤ) (state : LoopState) (leaves : Vec Placed Global)
+    → neg_ℤ WIDE ≤ℤ point → AllByRecursion (IsAlikeFor a b point) l.body → leaves.items ≡ map placed_again state.leaves.items
+    → IsFit a l point state → IsFit b l point (record state { leaves = leaves })
+fit-again a b l point state leaves low alike is fit =
+    let placed = IsPlacedBy a l.maps l.body state.registers.items point in
+    let elsewhere = IsPlacedBy b l.maps l.body state.registers.items point in
+    record {
+      all = subst (AreAllRead l.body) (sym (ap (map places_of) is ∙ again-places state.leaves.items)) fit.all;
+      leaves = subst (AllByRecursion elsewhere) (sym is)
+          (all-mapped placed_again placed elsewhere state.leaves.items
+          (λ own at. placed-again a b l.maps l.body state.registers.items point own low
+          (origin-holds (IsAlikeFor a b point) l.body own alike at.places) at) fit.leaves);
+      computed = fit.computed;
+      registers = fit.registers;
+    }
 
 -- the same the other way round
 for-back : (a b : List (List Snapshot)) (point : ℤ) (i : Instr) → IsSameFor a b point i → IsSameFor b a point i

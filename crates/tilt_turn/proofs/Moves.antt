@@ -12,6 +12,8 @@ use Rattle.tilt_stream.proofs.MarkedTicks.{marked-none, marked-next, marked-firs
 use Rattle.tilt_turn.specs.Held.{Holds}
 use Rattle.tilt_stream.specs.Marked.{marked}
 use Rattle.tilt_turn.specs.declared.moving.Moving.{Moving}
+use Rattle.tilt_turn.specs.declared.moving.NextMark.{NextMark}
+use Rattle.tilt_turn.specs.declared.moving.NextMark.TheVariants.{Known}
 use Rattle.tilt_window.specs.Taken.{IsFirstTaken}
 
 -- cells and marks of the ticks from a first one to a last one
@@ -119,4 +121,9 @@ moved x f first last later cells marks some onwards none held =
 
 -- a window in which a next mark is stored
 abbrev pub stored : Moving → Option ℤ → Moving
-stored w next = record { kind = w.kind; marks = w.marks; back = w.back; next = next }
+stored w next = record { kind = w.kind; marks = w.marks; back = w.back; next = Known next }
+
+-- a window holds the same cells with another next mark
+pub holds-beside : (list : List Snapshot) (f : Option ℤ → Option ℤ) (first : ℤ) (w : Moving) (next : NextMark) → Holds list f first w
+    → Holds list f first (record w { next = next })
+holds-beside list f first w next held = record { cells = held.cells; marks = held.marks }

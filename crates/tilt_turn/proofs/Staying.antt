@@ -14,7 +14,7 @@ use Rattle.tilt_stream.specs.Snap.{Snapshot, ended_below}
 use Rattle.tilt_stream.specs.Stream.{Stream, mark_at, stream_of}
 use Rattle.tilt_stream.specs.declared.seen.Seen.{Seen}
 use Rattle.tilt_turn.proofs.Numbered.{read-stream}
-use Rattle.tilt_turn.specs.Held.{Knows, origin}
+use Rattle.tilt_turn.specs.Held.{Knows, known_next, origin}
 use Rattle.tilt_turn.specs.Kinds.{kind_reducer}
 use Rattle.tilt_turn.specs.Sight.{Sees}
 use Rattle.tilt_turn.specs.declared.leaf.Leaf.{Leaf}
@@ -71,7 +71,7 @@ pub knows-later : (list : List Snapshot) (later : ℤ) (w moved : Moving) → Kn
     → moved.back ≡ record { tick = later; place = w.back.place } → moved.next ≡ w.next → Knows list moved
 knows-later list later w moved knows onwards none is same = record {
   place = rw is (knows.place ∙ ended-stays list w.back.tick later onwards none);
-  next = rw (is, same) (names-later (stream_of list) w.back.tick later w.next onwards none knows.next);
+  next = rw (is, same) (names-later (stream_of list) w.back.tick later (known_next w.next) onwards none knows.next);
   low = rw same knows.low;
   high = rw same knows.high;
 }

@@ -14,6 +14,12 @@ pub all-weaker : {X : Type 0} (P Q : X → Type 0) (xs : List X) → ((x : X) �
 all-weaker P Q [] f h = tt
 all-weaker P Q (x ∷ xs) f h = (f x h.0, all-weaker P Q xs f h.1)
 
+-- what follows for each item that is made of another
+pub all-mapped : {X Y : Type 0} (f : X → Y) (P : X → Type 0) (Q : Y → Type 0) (xs : List X) → ((x : X) → P x → Q (f x)) → AllByRecursion P xs
+    → AllByRecursion Q (map f xs)
+all-mapped f P Q [] step all = tt
+all-mapped f P Q (x ∷ xs) step all = (step x all.0, all-mapped f P Q xs step all.1)
+
 -- what follows for each item from two things that are said of it
 pub all-both : {X : Type 0} (P Q R : X → Type 0) (xs : List X) → ((x : X) → P x → Q x → R x) → AllByRecursion P xs → AllByRecursion Q xs
     → AllByRecursion R xs

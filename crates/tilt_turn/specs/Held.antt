@@ -24,6 +24,8 @@ use Rattle.tilt_turn.specs.declared.port.PortLeaf.{PortLeaf}
 use Rattle.tilt_turn.specs.declared.placed.Placed.{Placed}
 use Rattle.tilt_turn.specs.declared.span.WindowLeaf.{WindowLeaf}
 use Rattle.tilt_turn.specs.declared.moving.Moving.{Moving}
+use Rattle.tilt_turn.specs.declared.moving.NextMark.{NextMark}
+use Rattle.tilt_turn.specs.declared.moving.NextMark.TheVariants.{Known, Unknown}
 use Rattle.tilt_turn.specs.declared.state.LoopState.{LoopState}
 
 -- a cursor that may move to a tick, where the snapshots from that tick on are kept
@@ -37,18 +39,29 @@ pub record Holds (list : List Snapshot) (by_map : Option ℤ → Option ℤ) (fi
   pub cells : kind_cells w.kind ≡ map by_map (met (stream_of list) (first -ℤ pos 1) w.back.tick)
   pub marks : w.marks.items ≡ marked (stream_of list) first w.back.tick
 
+-- the next mark that a window has, or none if it isn't known
+abbrev pub known_next : NextMark → Option ℤ
+known_next (Known next) = next
+known_next Unknown = None
+
 -- what a window that was moved knows of its list: the place of its last tick, and the next mark above it
 pub record Knows (list : List Snapshot) (w : Moving) : Type 0 where
   pub place : w.back.place ≡ ended_below w.back.tick list
-  pub next : NamesNextMark (stream_of list) w.back.tick w.next
-  pub low : IfSome w.next (λ next. neg_ℤ WIDE <ℤ next)
-  pub high : IfSome w.next (λ next. next ≤ℤ (WIDE +ℤ pos 1))
+  pub next : NamesNextMark (stream_of list) w.back.tick (known_next w.next)
+  pub low : IfSome (known_next w.next) (λ next. neg_ℤ WIDE <ℤ next)
+  pub high : IfSome (known_next w.next) (λ next. next ≤ℤ (WIDE +ℤ pos 1))
 
--- a window that may go on to any first tick from this one on: it holds what the ticks from there on meet, and knows its list where it was
--- moved before
+-- what a window has to know of its list before it moves on: the place of its last tick, and the next mark above it unless it says that this
+-- isn't known
+pub record MayKnow (list : List Snapshot) (w : Moving) : Type 0 where
+  pub place : w.back.place ≡ ended_below w.back.tick list
+  pub known : (w.next ≡ Unknown) ⊎ Knows list w
+
+-- a window that may go on to any first tick from this one on: it holds what the ticks from there on meet, and knows enough of its list if
+-- it was moved before
 pub record MayBegin (list : List Snapshot) (by_map : Option ℤ → Option ℤ) (first : ℤ) (w : Moving) : Type 0 where
   pub held : Holds list by_map first w
-  pub known : first ≤ℤ w.back.tick → Knows list w
+  pub known : first ≤ℤ w.back.tick → MayKnow list w
 
 -- a window that moves on to a last tick: it stands there, knows its list, and answers its reducer as before
 pub record MovesTo (list : List Snapshot) (last : ℤ) (old new : Moving) : Type 0 where
@@ -94,10 +107,11 @@ pub record IsWindowAt (lists : List (List Snapshot)) (maps : List Block) (point 
   pub cursor : MayMove (get_or lists w.buffer []) (point +ℤ w.to) w.window.back
   pub begins : MayBegin (get_or lists w.buffer []) (mapped maps w.map) (point +ℤ w.from +ℤ pos 1) w.window
 
--- a window that stands at a grid point: it may be read there, and its last tick is the last one that it reads there
+-- a window that stands at a grid point: it may be read there, its last tick is the last one that it reads there, and it knows its list
 pub record StandsAt (lists : List (List Snapshot)) (maps : List Block) (point : ℤ) (w : WindowLeaf) : Type 0 where
   pub at : IsWindowAt lists maps point w
   pub last : w.window.back.tick ≡ point +ℤ w.to
+  pub knows : Knows (get_or lists w.buffer []) w.window
 
 -- a leaf that may be read, at a grid point
 abbrev pub IsLeafAt : List (List Snapshot) → List Block → ℤ → Leaf → Type 0

@@ -1,3 +1,4 @@
+pub mod Again
 pub mod Held
 pub mod Kinds
 pub mod Picked

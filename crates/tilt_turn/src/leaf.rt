@@ -3,6 +3,7 @@ ghost use Rattle.std.specs.Prelude.{◌≡◌, ℤ, true, false, List, ◌≤ℤ
 ghost use Rattle.tilt_base.specs.declared.limits.TheConstants.{WIDE};
 ghost use Rattle.tilt_code.specs.Code.{Block};
 ghost use Rattle.tilt_stream.specs.Snap.{Snapshot};
+ghost use Rattle.tilt_turn.specs.Again.{leaf_again};
 ghost use Rattle.tilt_turn.specs.Held.{IsLeafAt, IsLeafBy, origin};
 ghost use Rattle.tilt_turn.specs.Picked.{reads};
 ghost use Rattle.tilt_turn.specs.Ready.{IsReadable};
@@ -73,6 +74,16 @@ impl Leaf {
         match self {
             Leaf::Port(port) => Ok(port.look(reading.buffers, reading.point)),
             Leaf::Window(window) => window.look(reading, arguments),
+        }
+    }
+
+    // Forgets the next mark that a window has seen. A port keeps none.
+    pub(crate) fn look_again(&mut self)
+        ensures { self.new ≡ leaf_again self.old }
+    {
+        match self {
+            Leaf::Port(_) => {}
+            Leaf::Window(leaf) => leaf.window.forget_next(),
         }
     }
 }

@@ -9,9 +9,10 @@ ghost use Rattle.tilt_code.specs.Body.{mapped};
 ghost use Rattle.tilt_stream.specs.Marks.{IsNextMark, NamesNextMark};
 ghost use Rattle.tilt_stream.specs.Snap.{Snapshot, ended_below};
 ghost use Rattle.tilt_stream.specs.Stream.{cell_at, stream_of};
-ghost use Rattle.tilt_turn.specs.Held.{Holds, Knows, MayBegin, MayMove, MovesTo};
+ghost use Rattle.tilt_turn.specs.Held.{Holds, Knows, MayBegin, MayKnow, MayMove, MovesTo, known_next};
 ghost use Rattle.tilt_turn.specs.Kinds.{kind_cells, kind_reducer};
 ghost use Rattle.tilt_turn.specs.Ready.{MayMap};
+ghost use Rattle.tilt_turn.specs.declared.moving.NextMark.TheVariants.{Unknown};
 
 use crate::kind::Kind;
 use crate::maps::mapped;
@@ -29,7 +30,15 @@ pub(crate) struct Moving {
     kind: Kind,
     marks: VecDeque<i64>,
     back: Cursor,
-    next: Option<i64>,
+    next: NextMark,
+}
+
+// The next mark above the last tick of a window, or none if the buffer has none there; or that it isn't known, since the buffer may have
+// got other marks above that tick.
+#[derive(Clone, Copy)]
+pub(crate) enum NextMark {
+    Known(Option<i64>),
+    Unknown,
 }
 
 // The buffer that a window goes over, and the map by which it takes the cells.
@@ -52,7 +61,7 @@ impl Moving {
             kind: Kind::new(alloc, reducer),
             marks: VecDeque::new(alloc),
             back: Cursor::new(),
-            next: None,
+            next: NextMark::Unknown,
         }
     }
 
@@ -96,8 +105,29 @@ impl Moving {
         if self.back.tick() < first {
             self.begin_at(source, first, registers)
         } else {
+            self.find_next(source.buffer);
             self.drop_before(first)
         }
+    }
+
+    // Reads the next mark above the last tick from the buffer, if it isn't known.
+    #[inline]
+    fn find_next<B: Buffer>(&mut self, buffer: &B)
+        requires knows { MayKnow (B.list buffer.now) self.old }
+        requires kept { B.forgotten buffer.now ≤ ended_below self.old.back.tick (B.list buffer.now) }
+        ensures knows { Knows (B.list buffer.now) self.new }
+        ensures same { self.new ≡ record self.old { next = self.new.next } }
+    {
+        if let NextMark::Unknown = self.next {
+            self.next = NextMark::Known(self.back.next(buffer));
+        }
+    }
+
+    // Forgets the next mark above the last tick, so that it is read again before the window moves on.
+    pub(crate) fn forget_next(&mut self)
+        ensures { self.new ≡ record self.old { next = Unknown } }
+    {
+        self.next = NextMark::Unknown;
     }
 
     // Lets all cells go, and holds the cell of a tick above all of them.
@@ -172,14 +202,14 @@ impl Moving {
             → Holds (B.list source.now.buffer.now) (mapped source.now.each.now.maps source.now.map) first self.old
             → Holds (B.list source.now.buffer.now) (mapped source.now.each.now.maps source.now.map) first self.new) }
     {
-        let mut next = self.next;
+        let mut next = self.next_behind();
         while let Some(mark) = up_to(next, last) {
             let seen = self.back.look(source.buffer, mark);
             next = seen.next;
             self.push_marked(source, mark, seen.cell, registers)?;
         }
         self.back.stay_until(last);
-        self.next = next;
+        self.next = NextMark::Known(next);
         Ok(())
     }
 
@@ -200,7 +230,7 @@ impl Moving {
         ensures marks { self.new.marks ≡ self.old.marks }
     {
         let seen = self.back.look(source.buffer, tick);
-        self.next = seen.next;
+        self.next = NextMark::Known(seen.next);
         push_mapped(&mut self.kind, source, seen.cell, registers)
     }
 
@@ -234,12 +264,15 @@ impl Moving {
         self.kind.result()
     }
 
-    // The next mark above the last tick.
+    // The next mark above the last tick, if it is known.
     #[inline]
     pub(crate) fn next_behind(&self) -> Option<i64>
-        ensures { result ≡ self.now.next }
+        ensures { result ≡ known_next self.now.next }
     {
-        self.next
+        match self.next {
+            NextMark::Known(next) => next,
+            NextMark::Unknown => None,
+        }
     }
 
     // The next mark above the first tick: the first one in the window, and else the next above the last tick.
@@ -254,7 +287,7 @@ impl Moving {
     {
         match self.first_mark() {
             Some(mark) => Some(mark),
-            None => self.next,
+            None => self.next_behind(),
         }
     }
 }

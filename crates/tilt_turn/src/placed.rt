@@ -7,6 +7,7 @@ ghost use Rattle.tilt_code.specs.Code.{Block};
 ghost use Rattle.tilt_code.specs.declared.instr.Instr.TheVariants.{Const};
 ghost use Rattle.tilt_stream.specs.Marks.{NamesNextMark};
 ghost use Rattle.tilt_stream.specs.Stream.{stream_of};
+ghost use Rattle.tilt_turn.specs.Again.{placed_again};
 ghost use Rattle.tilt_turn.specs.Held.{AreAllRead, IsAmong, IsPlaceOf, IsPlacedBy, IsUnread, origin, places_of};
 ghost use Rattle.tilt_turn.specs.Picked.{reads, written};
 ghost use Rattle.tilt_turn.specs.Ready.{IsMarkTick};
@@ -21,8 +22,8 @@ use tilt_base::Cell;
 use tilt_code::Instr;
 
 // A leaf of a body, with the number of its register, those of the registers of later instructions that read the same, and its next mark
-// as it was told where it was looked at last: below it the registers stay as they are. It is the least tick where the leaf was never
-// looked at.
+// as it was seen when it was looked at last: below it the registers stay as they are. It is the smallest tick if the leaf was never looked
+// at, or has to be looked at again.
 #[derive(Drop)]
 pub(crate) struct Placed {
     pub(crate) place: usize,
@@ -74,6 +75,14 @@ impl Placed {
             Some(next) => point < next,
             None => true,
         }
+    }
+
+    // Makes the leaf be looked at again at the next grid point, whatever next mark was seen before.
+    pub(crate) fn look_again(&mut self)
+        ensures { self.new ≡ placed_again self.old }
+    {
+        self.leaf.look_again();
+        self.next = Some(i64::MIN);
     }
 
     // Adds the place of a later instruction that reads the same.

@@ -4,6 +4,7 @@ ghost use Rattle.std.specs.List.{AllByRecursion};
 ghost use Rattle.tilt_base.specs.Grid.{ceil};
 ghost use Rattle.tilt_base.specs.declared.limits.TheConstants.{WIDE};
 ghost use Rattle.tilt_code.specs.Body.{body_of, leaf_of};
+ghost use Rattle.tilt_code.specs.Code.{LoopParts};
 ghost use Rattle.tilt_code.specs.Turn.{turn};
 ghost use Rattle.tilt_stream.specs.Marks.{NamesNextMark};
 ghost use Rattle.tilt_stream.specs.Snap.{Snapshot};
@@ -11,6 +12,7 @@ ghost use Rattle.tilt_stream.specs.Stream.{Stream, stream_of};
 ghost use Rattle.tilt_turn.specs.Held.{IsFit};
 ghost use Rattle.tilt_turn.specs.Picked.{AreRead, computes, picked};
 ghost use Rattle.tilt_turn.specs.Ready.{IsBodyTick, IsKept, IsMarkTick, IsReady, NameEarlier};
+ghost use Rattle.tilt_turn.specs.Same.{IsAlikeFor};
 ghost use Rattle.tilt_turn.specs.Sight.{Sees};
 ghost use Rattle.tilt_turn.specs.Stepped.{MayStep, StepsTo};
 
@@ -95,6 +97,17 @@ impl LoopState {
             end,
             value: seen.cell,
         })
+    }
+
+    /// Makes the state fit for lists that are the same up to the last tick that the loop reads at a grid point: each port and each window
+    /// is looked at again at the next turn, whatever next mark was seen before. It takes no memory, and reads no cell of a window again.
+    pub fn look_again(&mut self)
+        ensures { (a b : List (List Snapshot)) (l : LoopParts) (point : ℤ) → neg_ℤ WIDE ≤ℤ point → IsFit a l point self.old
+            → AllByRecursion (IsAlikeFor a b point) l.body → IsFit b l point self.new }
+    {
+        for leaf in self.leaves.iter_mut() {
+            leaf.look_again();
+        }
     }
 }
 

@@ -3,6 +3,7 @@ use Rattle.std.proofs.lemmas.Int.{to_z-of_z}
 use Rattle.tilt_base.specs.declared.limits.TheConstants.{WIDE}
 use Rattle.tilt_stream.specs.Stream.{stream_of}
 use Rattle.tilt_turn.proofs.MarkBounds.{held-next, later-next, held-bounds, later-bounds}
+use Rattle.tilt_turn.specs.Held.{known_next}
 use Rattle.tilt_turn.proofs.moving.Moving.next_within.Goals as goal
 
 pub returns-in-Some-clause-next : goal.returns-in-Some-clause-next
@@ -25,10 +26,12 @@ pub returns-in-None-clause-next : goal.returns-in-None-clause-next
 returns-in-None-clause-next c =
     let w = c.args.self.now in
     λ list by_map first some held knows.
-    later-next (stream_of list) first w.back.tick w.marks.items w.next some held.marks (sym c.in-None.ensures)
-    knows.next
+    rw c.next_behind.ensures
+    (later-next (stream_of list) first w.back.tick w.marks.items (known_next w.next) some held.marks (sym c.in-None.ensures) knows.next)
 
 pub returns-in-None-clause-bounds : goal.returns-in-None-clause-bounds
 returns-in-None-clause-bounds c =
     let w = c.args.self.now in
-    λ list by_map first some held knows. later-bounds (stream_of list) first w.back.tick (WIDE +ℤ pos 1) w.next some knows.next knows.high
+    λ list by_map first some held knows.
+    rw c.next_behind.ensures
+    (later-bounds (stream_of list) first w.back.tick (WIDE +ℤ pos 1) (known_next w.next) some knows.next knows.high)

@@ -1,4 +1,4 @@
-use Rattle.std.proofs.Common.{◌+ℤ◌, pos, [], get_or, ap, arith}
+use Rattle.std.proofs.Common.{◌+ℤ◌, pos, [], get_or, inr, ap, arith}
 use Rattle.std.proofs.lemmas.Int.{ints}
 use Rattle.std.proofs.lemmas.Result.{on_ok_weaker}
 use Rattle.tilt_base.specs.declared.reducer.Reducer.{Reducer}
@@ -45,9 +45,10 @@ returns-clause-at g c =
       at = record {
         readable = r;
         cursor = knows-may list (c.args.point +ℤ w.to) c.move_to.new.self moved.knows (rw stands (omega (arith, ints)));
-        begins = record { held = rw first_is at held; known = λ some. moved.knows };
+        begins = record { held = rw first_is at held; known = λ some. record { place = moved.knows.place; known = inr moved.knows } };
       };
       last = stands;
+      knows = moved.knows;
     })
 
 pub returns-clause-same : goal.returns-clause-same

@@ -9,20 +9,16 @@ use Rattle.tilt_turn.proofs.MarkBounds.{read-bounds}
 use Rattle.tilt_turn.proofs.NextMarks.{window-next}
 use Rattle.tilt_turn.proofs.Numbered.{read-stream}
 use Rattle.tilt_turn.proofs.TurnTicks.{offset-fits}
+use Rattle.tilt_turn.specs.Held.{known_next}
 use Rattle.tilt_turn.specs.Kinds.{kind_reducer}
 use Rattle.tilt_turn.proofs.span.WindowLeaf.next.Goals as goal
 
 pub earlier-requires : goal.earlier-requires
 earlier-requires c =
     let w = c.args.self.now in
-    let point = c.requires.at.2 in
-    let at = c.requires.at.4.at in
-    let r = at.readable in
-    let ticks = r.some_ticks in
-    let stands = c.requires.at.4.last in
-    let some : (point +ℤ w.from +ℤ pos 1) ≤ℤ w.window.back.tick = rw stands (omega (arith, ints)) in
-    let knows = at.begins.known some in
-    rw (c.next_behind.ensures, offset-fits w.to r.high) (read-bounds w.window.next w.to r.high knows.low knows.high)
+    let r = c.requires.at.4.at.readable in
+    let knows = c.requires.at.4.knows in
+    rw (c.next_behind.ensures, offset-fits w.to r.high) (read-bounds (known_next w.window.next) w.to r.high knows.low knows.high)
 
 pub earlier-requires-2 : goal.earlier-requires-2
 earlier-requires-2 c =
@@ -43,7 +39,7 @@ earlier-requires-2 c =
     let some : (point +ℤ w.from +ℤ pos 1) ≤ℤ w.window.back.tick = rw stands (omega (arith, ints)) in
     let from : to_z w64 (of_z w64 (to_z w64 (of_z w64 w.from) +ℤ pos 1)) ≡ w.from +ℤ pos 1 = omega (arith, ints) in
     let bounds = c.next_within.ensures.bounds (get_or lists w.buffer []) (mapped maps w.map) (point +ℤ w.from +ℤ pos 1) some at.begins.held
-    (at.begins.known some) in
+    c.requires.at.4.knows in
     rw from (IfSome_then c.next_within.result bounds
     (λ next within.
     let above = within.0 in
@@ -64,7 +60,7 @@ returns-clause-next c =
     let list = get_or lists w.buffer [] in
     let x = stream_of list in
     let some : (point +ℤ w.from +ℤ pos 1) ≤ℤ w.window.back.tick = rw stands (omega (arith, ints)) in
-    let knows = at.begins.known some in
+    let knows = is.knows in
     let from : to_z w64 (of_z w64 (to_z w64 (of_z w64 w.from) +ℤ pos 1)) ≡ w.from +ℤ pos 1 = omega (arith, ints) in
     let first : point +ℤ w.from +ℤ pos 1 ≡ point +ℤ (w.from +ℤ pos 1) = omega (arith, ints) in
     let last_names : NamesNextMark x (point +ℤ w.to) c.next_behind.result = rw c.next_behind.ensures (rw stands at knows.next) in
