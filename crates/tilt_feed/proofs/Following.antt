@@ -54,7 +54,7 @@ pub none-is : (fault : Option EventFault) → is_none fault ≡ true → fault �
 none-is None is = refl
 none-is (Some fault) is = absurd (cc is)
 
-unfinished : (finished : Bool) → (if finished then Some Finished else None) ≡ None → finished ≡ false
+pub unfinished : (finished : Bool) → (if finished then Some Finished else None) ≡ None → finished ≡ false
 unfinished true is = absurd (cc is)
 unfinished false is = refl
 

@@ -1,7 +1,10 @@
+pub mod AllAtRest
+pub mod AtRest
 pub mod Final
 pub mod Following
 pub mod Known
 pub mod Ordered
+pub mod Parted
 pub mod Rising
 pub mod Same
 pub mod Starts

@@ -20,12 +20,12 @@ use Rattle.tilt_feed.specs.declared.update.Update.TheVariants.{Row, Value, NoVal
 use Rattle.tilt_stream.specs.Snap.{Snapshot, InOrder}
 
 -- rows in order stay so under a higher limit
-order-raised : (from limit higher : ℤ) (rows : List Snapshot) → limit ≤ℤ higher → InOrder from limit rows → InOrder from higher rows
+pub order-raised : (from limit higher : ℤ) (rows : List Snapshot) → limit ≤ℤ higher → InOrder from limit rows → InOrder from higher rows
 order-raised from limit higher [] on h = tt
 order-raised from limit higher (s ∷ rows) on h = let end = h.2 in (h.0, h.1, omega (arith, ints), order-raised s.end limit higher rows on h.3)
 
 -- where the open row ends later
-order-ended : (from w end : ℤ) (rows : List Snapshot) (open_row : Option OpenRow) → w ≤ℤ end → InOrder from w (rows ++ closed_at w open_row)
+pub order-ended : (from w end : ℤ) (rows : List Snapshot) (open_row : Option OpenRow) → w ≤ℤ end → InOrder from w (rows ++ closed_at w open_row)
     → InOrder from end (rows ++ closed_at end open_row)
 order-ended from w end [] None on h = tt
 order-ended from w end [] (Some row) on h = let some = h.1 in (h.0, omega (arith, ints), omega (arith, ints), tt)
@@ -91,7 +91,7 @@ module _ (a : InputFeed) (is : IsInOrder a) where
   finish-order : IsInOrder (finished_input a)
   finish-order = record { rows = subst (InOrder from a.edge.watermark) (sym (append-nil (rows_now a))) is.rows; low = is.low; high = is.high }
 
-abbrev AreInOrder : List InputFeed → Type 0
+abbrev pub AreInOrder : List InputFeed → Type 0
 AreInOrder inputs = AllByRecursion IsInOrder inputs
 
 updated-order : (number : ℕ) (update : Update) (inputs : List InputFeed) → IsAllowed (edge_of inputs number) update → AreInOrder inputs → AreInOrder (updated_at number update inputs)

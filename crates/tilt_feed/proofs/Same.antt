@@ -92,7 +92,7 @@ module _ (grid : GridPoints) (h : Horizon) (x y : Stream) (valid : pos 1 ≤ℤ 
       (on_grid-agrees grid x y (tick -ℤ pos 2) tick valid there).marks tick (omega (arith, ints)) (omega (arith, ints))
   point-marks tick false point known = rw point refl
 
-  on_grid-same : AgreeUpTo (grid_horizon grid h) (on_grid grid x) (on_grid grid y)
+  pub on_grid-same : AgreeUpTo (grid_horizon grid h) (on_grid grid x) (on_grid grid y)
   on_grid-same = record {
     cells = λ tick known. same.cells (ceil grid tick) (known-point grid h tick valid known);
     marks = λ tick known. point-marks tick (is_point grid (tick -ℤ pos 1)) refl known;
@@ -108,7 +108,7 @@ module _ (span : Span) (h : Horizon) (x y : Stream) (same : AgreeUpTo h x y) (ti
   inside-mark true is = same.marks tick (known-inside span h tick known is)
   inside-mark false is = refl
 
-within-same : (over : Option Span) (h : Horizon) (x y : Stream) → AgreeUpTo h x y → AgreeUpTo (over_horizon over h) (within over x) (within over y)
+pub within-same : (over : Option Span) (h : Horizon) (x y : Stream) → AgreeUpTo h x y → AgreeUpTo (over_horizon over h) (within over x) (within over y)
 within-same None h x y same = same
 within-same (Some span) h x y same = record {
   cells = λ tick known. inside-cell span h x y same tick known (lies_in span.start span.end tick) refl;

@@ -20,7 +20,7 @@ marks-refl x = record { all = λ tick is. is }
 pub marks-trans : (x y z : Stream) → HasMarksOf x y → HasMarksOf y z → HasMarksOf x z
 marks-trans x y z first second = record { all = λ tick is. second.all tick (first.all tick is) }
 
-either_true : (a b c d : Bool) → (a ≡ true → c ≡ true) → (b ≡ true → d ≡ true) → (a || b) ≡ true → (c || d) ≡ true
+pub either_true : (a b c d : Bool) → (a ≡ true → c ≡ true) → (b ≡ true → d ≡ true) → (a || b) ≡ true → (c || d) ≡ true
 either_true true b c d left right is = rw (left refl) refl
 either_true false b true d left right is = refl
 either_true false b false d left right is = right is

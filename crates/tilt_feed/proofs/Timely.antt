@@ -26,7 +26,7 @@ use Rattle.tilt_feed.specs.Laws.{fed}
 use Rattle.tilt_feed.specs.declared.event.Event.{Event}
 
 -- a source is known as far beyond a tick as it is looked ahead
-abbrev IsFar : ℤ → Option Need → Horizon → Type 0
+abbrev pub IsFar : ℤ → Option Need → Horizon → Type 0
 IsFar base None h = ⊤
 IsFar base (Some n) h = IsKnownAt h (base +ℤ n.ahead)
 
@@ -117,7 +117,7 @@ module _ (base : ℤ) where
       definition-far hs number def n is (λ s low. second_of_both (asked_from (suc number) defs s) (asked_of def n s) (horizon_of hs s) (far s low))
 
   -- the last definition is known up to the tick itself
-  last-far : (number place : ℕ) (defs : List Definition) (hs : List Horizon) → length hs ≡ number → length defs ≡ suc place → AreDefinitions number defs
+  pub last-far : (number place : ℕ) (defs : List Definition) (hs : List Horizon) → length hs ≡ number → length defs ≡ suc place → AreDefinitions number defs
       → ((source : ℕ) → source < number → IsFar base (asked_from number defs source) (horizon_of hs source))
       → IsKnownAt (horizon_of (with_horizons hs defs) (number + place)) base
   last-far number place [] hs many count are far = absurd (omega arith)
@@ -150,7 +150,7 @@ widest-ahead (None ∷ ns) (suc k) n is = widest-ahead ns k n is
 widest-ahead (Some m ∷ ns) (suc k) n is = let rest = widest-ahead ns k n is in omega (arith, ints, clamps)
 
 -- nor does what an input is asked for
-input-ahead : (inputs : ℕ) (defs : List Definition) (input : ℕ) (n : Need) → input < inputs → asked_from inputs defs input ≡ Some n → n.ahead ≤ℤ (reach inputs defs).ahead
+pub input-ahead : (inputs : ℕ) (defs : List Definition) (input : ℕ) (n : Need) → input < inputs → asked_from inputs defs input ≡ Some n → n.ahead ≤ℤ (reach inputs defs).ahead
 input-ahead inputs defs input n low is =
     let asks = map (asked_from inputs defs) (range_with_len 0 inputs) in
     let bodies = body_needs defs (needs_from inputs defs) in
@@ -165,7 +165,7 @@ input-known finished [] least input low all = absurd (omega arith)
 input-known finished (a ∷ inputs) least zero low all = known-watermark finished a.edge least all.0
 input-known finished (a ∷ inputs) least (suc input) low all = input-known finished inputs least input (omega arith) all.1
 
-input-far : (n : Option Need) (ahead least : ℤ) (h : Horizon) → ((m : Need) → n ≡ Some m → m.ahead ≤ℤ ahead) → IsKnownAt h least → IsFar (least -ℤ ahead) n h
+pub input-far : (n : Option Need) (ahead least : ℤ) (h : Horizon) → ((m : Need) → n ≡ Some m → m.ahead ≤ℤ ahead) → IsKnownAt h least → IsFar (least -ℤ ahead) n h
 input-far None ahead least h within known = tt
 input-far (Some n) ahead least h within known = let high = within n refl in known-below h least (least -ℤ ahead +ℤ n.ahead) known (omega (arith, ints))
 

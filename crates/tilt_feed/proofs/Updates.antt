@@ -1,5 +1,5 @@
 -- What an update of an input leaves as it is: all up to the watermark.
-use Rattle.std.proofs.Common.{◌≡◌, ℤ, pos, ◌+ℤ◌, ◌≤ℤ◌, ◌<ℤ◌, Bool, true, false, ◌&&◌, ◌||◌, not, List, [], ◌∷◌, ◌++◌, Option, Some, None, int_lt, int_le}
+use Rattle.std.proofs.Common.{◌≡◌, zero, ℤ, pos, ◌+ℤ◌, ◌≤ℤ◌, ◌<ℤ◌, Bool, true, false, ◌&&◌, ◌||◌, not, List, [], ◌∷◌, ◌++◌, Option, Some, None, int_lt, int_le}
 use Rattle.std.proofs.Common.{if◌then◌else◌, refl, ap, sym, subst, ◌∙◌, inl, inr, append_assoc, append-nil, arith}
 use Rattle.std.specs.Ordering.{int_eq}
 use Rattle.std.proofs.Math.Bool.{or-true}
@@ -21,7 +21,7 @@ use Rattle.tilt_feed.specs.declared.fault.EventFault.TheVariants.{Finished, OutO
 use Rattle.tilt_feed.specs.declared.open_row.OpenRow.{OpenRow}
 use Rattle.tilt_feed.specs.declared.update.Update.{Update}
 use Rattle.tilt_feed.specs.declared.update.Update.TheVariants.{Row, Value, NoValue, KnownUpTo}
-use Rattle.tilt_stream.specs.Snap.{Snapshot}
+use Rattle.tilt_stream.specs.Snap.{Snapshot, ended_below}
 use Rattle.tilt_stream.specs.Stream.{cell_at, covers, mark_at, stream_of}
 
 -- an update that breaks no rule
@@ -45,7 +45,7 @@ allowed-of finished edge update is =
     let late = rules.2 in
     (rules.0, record { range = rules.1; on = grind (arith, ints); ticks = rules.3 })
 
--- pieces that start at a tick or after it have no cell and no mark up to it
+-- pieces that start at a tick or after it have no cell and no mark up to it, and none of them ends below it
 piece-null : (s : Snapshot) (tick : ℤ) → tick ≤ℤ s.start → cell_at (s ∷ []) tick ≡ None
 piece-null s tick low =
     let outside : covers s tick ≡ false = grind (arith, ints) in
@@ -57,6 +57,11 @@ piece-clear s tick low some =
     let end : int_eq tick (s.end +ℤ pos 1) ≡ false = grind (arith, ints) in
     rw (start, end) refl
 
+piece-late : (s : Snapshot) (tick : ℤ) → tick ≤ℤ s.start → s.start <ℤ s.end → ended_below tick (s ∷ []) ≡ zero
+piece-late s tick low some =
+    let later : int_lt s.end tick ≡ false = grind (arith, ints) in
+    rw later refl
+
 -- what follows the closed rows of an input after an update: the row that was open, ended at the watermark or after it, and pieces that
 -- start there or after it; nothing new if the watermark is `T`
 pub record IsTail (edge : Edge) (tail : List Snapshot) : Type 0 where
@@ -66,23 +71,29 @@ pub record IsTail (edge : Edge) (tail : List Snapshot) : Type 0 where
   pub on : edge.watermark ≤ℤ end
   pub null : (tick : ℤ) → tick ≤ℤ edge.watermark → cell_at more tick ≡ None
   pub clear : (tick : ℤ) → tick ≤ℤ edge.watermark → mark_at more tick ≡ false
+  pub late : (tick : ℤ) → tick ≤ℤ edge.watermark → ended_below tick more ≡ zero
   pub whole : edge.watermark ≡ T → (end ≡ T) × (more ≡ [])
 
 -- nothing follows
-tail-ended : (edge : Edge) (end : ℤ) (tail : List Snapshot) → tail ≡ closed_at end edge.open_row ++ [] → edge.watermark ≤ℤ end → end ≤ℤ T → IsTail edge tail
-tail-ended edge end tail is on high = record {
+pub tail-rests : (edge : Edge) (end : ℤ) (tail : List Snapshot) → tail ≡ closed_at end edge.open_row ++ [] → edge.watermark ≤ℤ end → (edge.watermark ≡ T → end ≡ T)
+    → IsTail edge tail
+tail-rests edge end tail is on last = record {
   end = end;
   more = [];
   is = is;
   on = on;
   null = λ tick low. refl;
   clear = λ tick low. refl;
-  whole = λ last. (omega (arith, ints), refl);
+  late = λ tick low. refl;
+  whole = λ at. (last at, refl);
 }
 
+pub tail-ended : (edge : Edge) (end : ℤ) (tail : List Snapshot) → tail ≡ closed_at end edge.open_row ++ [] → edge.watermark ≤ℤ end → end ≤ℤ T → IsTail edge tail
+tail-ended edge end tail is on high = tail-rests edge end tail is on (λ at. omega (arith, ints))
+
 -- a piece follows
-tail-piece : (edge : Edge) (end : ℤ) (s : Snapshot) (tail : List Snapshot) → tail ≡ closed_at end edge.open_row ++ s ∷ [] → edge.watermark ≤ℤ end → end ≤ℤ s.start → s.start <ℤ s.end → s.end ≤ℤ T
-    → IsTail edge tail
+pub tail-piece : (edge : Edge) (end : ℤ) (s : Snapshot) (tail : List Snapshot) → tail ≡ closed_at end edge.open_row ++ s ∷ [] → edge.watermark ≤ℤ end → end ≤ℤ s.start → s.start <ℤ s.end
+    → s.start <ℤ T → IsTail edge tail
 tail-piece edge end s tail is on from some high = record {
   end = end;
   more = s ∷ [];
@@ -90,6 +101,7 @@ tail-piece edge end s tail is on from some high = record {
   on = on;
   null = λ tick low. piece-null s tick (omega (arith, ints));
   clear = λ tick low. piece-clear s tick (omega (arith, ints)) some;
+  late = λ tick low. piece-late s tick (omega (arith, ints)) some;
   whole = λ last. absurd (omega (arith, ints));
 }
 
@@ -99,12 +111,12 @@ pub record IsStep (edge : Edge) (update : Update) : Type 0 where
   pub low : edge.watermark ≤ℤ watermark_after update
   pub high : watermark_after update ≤ℤ T
 
-row-tail : (edge : Edge) (start end : ℤ) (value : Option ℤ) (joins : Bool) → edge.watermark ≤ℤ (if joins then end else start) → start <ℤ end → end ≤ℤ T
+pub row-tail : (edge : Edge) (start end : ℤ) (value : Option ℤ) (joins : Bool) → edge.watermark ≤ℤ (if joins then end else start) → start <ℤ end → end ≤ℤ T
     → IsTail edge ((if joins then closed_at end edge.open_row else closed_at start edge.open_row ++ record { start = start; end = end; value = value } ∷ []) ++ [])
 row-tail edge start end value true on some high = tail-ended edge end _ refl on high
 row-tail edge start end value false on some high =
     let s : Snapshot = record { start = start; end = end; value = value } in
-    tail-piece edge start s _ (append-nil (closed_at start edge.open_row ++ s ∷ [])) on (omega (arith, ints)) some high
+    tail-piece edge start s _ (append-nil (closed_at start edge.open_row ++ s ∷ [])) on (omega (arith, ints)) some (omega (arith, ints))
 
 row-low : (w start end : ℤ) (joins : Bool) → w ≤ℤ (if joins then end else start) → start <ℤ end → w ≤ℤ end
 row-low w start end true on some = on
@@ -172,6 +184,14 @@ mark-front (s ∷ rows) more tick is =
       | inr there ↦ third_true (int_eq tick (s.start +ℤ pos 1)) (int_eq tick (s.end +ℤ pos 1)) (mark_at (rows ++ more) tick) (mark-front rows more tick there)
     ]
 
+count-behind : (rows t u : List Snapshot) (tick : ℤ) → ended_below tick t ≡ ended_below tick u → ended_below tick (rows ++ t) ≡ ended_below tick (rows ++ u)
+count-behind [] t u tick is = is
+count-behind (s ∷ rows) t u tick is = rw (count-behind rows t u tick is) refl
+
+none-behind : (rows more : List Snapshot) (tick : ℤ) → ended_below tick more ≡ zero → ended_below tick rows ≡ ended_below tick (rows ++ more)
+none-behind [] more tick is = sym is
+none-behind (s ∷ rows) more tick is = rw (none-behind rows more tick is) refl
+
 -- the open row, ended later
 ended-cell : (open_row : Option OpenRow) (w end tick : ℤ) → tick ≤ℤ w → w ≤ℤ end → cell_at (closed_at w open_row) tick ≡ cell_at (closed_at end open_row) tick
 ended-cell None w end tick low on = refl
@@ -185,6 +205,13 @@ ended-mark None w end tick low on = refl
 ended-mark (Some row) w end tick low on =
     let here : int_eq tick (w +ℤ pos 1) ≡ false = grind (arith, ints) in
     let there : int_eq tick (end +ℤ pos 1) ≡ false = grind (arith, ints) in
+    rw (here, there) refl
+
+ended-count : (open_row : Option OpenRow) (w end tick : ℤ) → tick ≤ℤ w → w ≤ℤ end → ended_below tick (closed_at w open_row) ≡ ended_below tick (closed_at end open_row)
+ended-count None w end tick low on = refl
+ended-count (Some row) w end tick low on =
+    let here : int_lt w tick ≡ false = grind (arith, ints) in
+    let there : int_lt end tick ≡ false = grind (arith, ints) in
     rw (here, there) refl
 
 -- an input whose closed rows are followed by this tail is the same up to the watermark, and everywhere if that is `T`
@@ -205,7 +232,15 @@ module _ (a : InputFeed) (now : List Snapshot) (tail : List Snapshot) (t : IsTai
       ∙ ap (λ (l : List Snapshot). mark_at l tick) (sym t.is))
       ∙ ap (λ (l : List Snapshot). mark_at l tick) (sym is)
 
-  tail-whole : a.edge.watermark ≡ T → rows_now a ≡ now
+  tail-count : (tick : ℤ) → tick ≤ℤ a.edge.watermark → ended_below tick (rows_now a) ≡ ended_below tick now
+  tail-count tick low =
+      count-behind a.rows (closed_at a.edge.watermark a.edge.open_row) tail tick
+      (ended-count a.edge.open_row a.edge.watermark t.end tick low t.on
+      ∙ none-behind (closed_at t.end a.edge.open_row) t.more tick (t.late tick low)
+      ∙ ap (ended_below tick) (sym t.is))
+      ∙ ap (ended_below tick) (sym is)
+
+  pub tail-whole : a.edge.watermark ≡ T → rows_now a ≡ now
   tail-whole last =
       let whole = t.whole last in
       let same : closed_at a.edge.watermark a.edge.open_row ≡ tail =
@@ -228,6 +263,16 @@ module _ (a : InputFeed) (now : List Snapshot) (tail : List Snapshot) (t : IsTai
       let at = (Decides-int_eq a.edge.watermark T).0 last in
       ap (λ (l : List Snapshot). mark_at l tick) (tail-whole at)
   tail-mark_by tick false last known = tail-mark tick known
+
+  tail-count_by : (tick : ℤ) (last : Bool) → int_eq a.edge.watermark T ≡ last → IsKnownAt (if last then ForEver else Until a.edge.watermark) tick
+      → ended_below tick (rows_now a) ≡ ended_below tick now
+  tail-count_by tick true last known =
+      let at = (Decides-int_eq a.edge.watermark T).0 last in
+      ap (ended_below tick) (tail-whole at)
+  tail-count_by tick false last known = tail-count tick known
+
+  pub tail-ended_same : (tick : ℤ) → IsKnownAt (input_horizon false a.edge) tick → ended_below tick (rows_now a) ≡ ended_below tick now
+  tail-ended_same tick known = tail-count_by tick (int_eq a.edge.watermark T) refl known
 
   pub tail-same : AgreeUpTo (input_horizon false a.edge) (stream_of (rows_now a)) (stream_of now)
   tail-same = record {
@@ -278,7 +323,7 @@ sure-mark finished a tick is =
 pub known-sure : (finished : Bool) (a : InputFeed) (tick : ℤ) → IsKnownAt (input_horizon finished a.edge) tick → mark_at (rows_now a) tick ≡ true → has_sure_mark finished a tick ≡ true
 known-sure finished a tick known is = rw (IsKnownAt-tested (input_horizon finished a.edge) tick known, is) refl
 
-same_tests : (b c : Bool) → (b ≡ true → c ≡ true) → (c ≡ true → b ≡ true) → b ≡ c
+pub same_tests : (b c : Bool) → (b ≡ true → c ≡ true) → (c ≡ true → b ≡ true) → b ≡ c
 same_tests true true there back = refl
 same_tests true false there back = sym (there refl)
 same_tests false true there back = back refl

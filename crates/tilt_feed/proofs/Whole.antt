@@ -80,7 +80,7 @@ module _ (core : CoreParts) (is : IsCore core) (feed : Feed) (finished : feed.fi
   finished-output many = output-is core (all_rows_now feed) is (length-map feed.inputs rows_now ∙ many) ∙ ap Some (sym all-printed)
 
 -- no input has an open row
-abbrev AreClosed : List InputFeed → Type 0
+abbrev pub AreClosed : List InputFeed → Type 0
 AreClosed [] = ⊤
 AreClosed (a ∷ inputs) = (a.edge.open_row ≡ None) × AreClosed inputs
 
@@ -89,7 +89,7 @@ finished-closed [] = tt
 finished-closed (a ∷ inputs) = (refl, finished-closed inputs)
 
 -- the inputs of a finished feed have none
-abbrev IsClosed : Feed → Type 0
+abbrev pub IsClosed : Feed → Type 0
 IsClosed feed = feed.finished ≡ true → AreClosed feed.inputs
 
 changed-closed : (event : Event) (inputs : List InputFeed) → IsClosed (changed_by event inputs)
@@ -100,7 +100,7 @@ after_by-closed : (event : Event) (feed : Feed) (allowed : Bool) → IsClosed fe
 after_by-closed event feed true closed = changed-closed event feed.inputs
 after_by-closed event feed false closed = closed
 
-after_all-closed : (events : List Event) (feed : Feed) → IsClosed feed → IsClosed (after_all events feed)
+pub after_all-closed : (events : List Event) (feed : Feed) → IsClosed feed → IsClosed (after_all events feed)
 after_all-closed [] feed closed = closed
 after_all-closed (event ∷ events) feed closed =
     after_all-closed events (after event feed) (after_by-closed event feed (is_none (event_fault feed event)) closed)

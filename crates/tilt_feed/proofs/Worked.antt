@@ -1,7 +1,7 @@
 -- Small feeds, computed from the definitions. For each rule of the horizon, two completions that differ one tick above it.
-use Rattle.std.proofs.Common.{◌≡◌, ℕ, ℤ, pos, negsuc, List, [], ◌∷◌, Option, Some, None, true, false, refl}
+use Rattle.std.proofs.Common.{◌≡◌, ℕ, ℤ, pos, negsuc, List, [], ◌∷◌, Option, Some, None, true, false, drop, refl}
 use Rattle.tilt_base.specs.Expression.{Leaf, Two}
-use Rattle.tilt_base.specs.declared.limits.TheConstants.{T}
+use Rattle.tilt_base.specs.declared.limits.TheConstants.{T, WIDE}
 use Rattle.tilt_base.specs.declared.operator.Op2.TheVariants.{IfNull, Gt, When}
 use Rattle.tilt_base.specs.declared.reducer.Reducer.TheVariants.{Sum, Avg}
 use Rattle.tilt_base.specs.declared.span.Span.{Span}
@@ -13,6 +13,7 @@ use Rattle.tilt_feed.specs.Feed.{all_rows_now}
 use Rattle.tilt_feed.specs.Horizon.{horizon}
 use Rattle.tilt_feed.specs.Laws.{fed}
 use Rattle.tilt_feed.specs.Printed.{begun, meaning_now, printed}
+use Rattle.tilt_feed.specs.Resting.{all_resting, begun_next, ended_by, whole}
 use Rattle.tilt_feed.specs.Sure.{is_sure}
 use Rattle.tilt_feed.specs.declared.event.Event.{Event}
 use Rattle.tilt_feed.specs.declared.event.Event.TheVariants.{Input, Finish}
@@ -109,6 +110,32 @@ open_followed = refl
 
 open_ended : all_rows_now (fed itself (Input 0 (Value (pos 0) (pos 7)) ∷ Input 0 (NoValue (pos 3)) ∷ [])) ≡ (snap 0 3 (Some (pos 7)) ∷ []) ∷ []
 open_ended = refl
+
+-- at rest an open row goes on beyond all times of queries, or ends at `T` if that is the watermark
+abbrev half_open : List Event
+half_open = row 0 3 7 ∷ Input 0 (Value (pos 3) (pos 8)) ∷ up_to 5 ∷ []
+
+rest_rows : all_resting (fed itself half_open) ≡ (snap 0 3 (Some (pos 7)) ∷ record { start = pos 3; end = WIDE; value = Some (pos 8) } ∷ []) ∷ []
+rest_rows = refl
+
+rest_last : all_resting (fed itself (Input 0 (Value (pos 3) (pos 8)) ∷ Input 0 (KnownUpTo T) ∷ [])) ≡ (record { start = pos 3; end = T; value = Some (pos 8) } ∷ []) ∷ []
+rest_last = refl
+
+-- of the whole output on these rows, what ends at the horizon or below it is printed, and what comes next has begun
+rest_whole : whole itself (fed itself half_open) ≡ snap 0 3 (Some (pos 7)) ∷ snap 3 10 (Some (pos 8)) ∷ []
+rest_whole = refl
+
+rest_printed : printed itself (fed itself half_open) ≡ snap 0 3 (Some (pos 7)) ∷ []
+rest_printed = refl
+
+rest_ended : ended_by (pos 5) (whole itself (fed itself half_open)) ≡ snap 0 3 (Some (pos 7)) ∷ []
+rest_ended = refl
+
+rest_begun : begun itself (fed itself half_open) ≡ Some (record { start = pos 3; value = Some (pos 8) })
+rest_begun = refl
+
+rest_next : begun_next (pos 5) (drop 1 (whole itself (fed itself half_open))) ≡ Some (record { start = pos 3; value = Some (pos 8) })
+rest_next = refl
 
 -- the rules, in order, and what breaks them
 late_rule : event_fault (fed itself (up_to 5 ∷ [])) (row 4 4 1) ≡ Some Late

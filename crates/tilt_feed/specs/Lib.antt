@@ -3,4 +3,5 @@ pub mod Feed
 pub mod Horizon
 pub mod Laws
 pub mod Printed
+pub mod Resting
 pub mod Sure

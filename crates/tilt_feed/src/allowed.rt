@@ -69,8 +69,8 @@ fn has_ticks(update: Update) -> bool
     }
 }
 
-// Whether a row has the start and the value of the open row.
-fn continues(edge: Edge, start: i64, value: Cell) -> bool
+/// Whether a row has the start and the value of the open row.
+pub fn continues(edge: Edge, start: i64, value: Cell) -> bool
     ensures { result ≡ continues edge.open_row start value }
 {
     match (edge.open_row, value) {

@@ -1,6 +1,7 @@
 // Laws of feeds.
-ghost use Rattle.std.specs.Prelude.{◌≡◌, ◌≤ℤ◌, ℤ, List, ℕ, Some, IsSome};
+ghost use Rattle.std.specs.Prelude.{◌≡◌, ◌≤ℤ◌, ℤ, neg_ℤ, List, ℕ, Some, IsSome, drop, length};
 ghost use Rattle.std.specs.List.{AllByRecursion};
+ghost use Rattle.tilt_base.specs.declared.limits.TheConstants.{T, WIDE};
 ghost use Rattle.tilt_checkpoint.specs.Cuts.{IsLeast};
 ghost use Rattle.tilt_checkpoint.specs.Decided.{decided, frame_of};
 ghost use Rattle.tilt_core.specs.Core.{CoreParts, IsCore};
@@ -9,9 +10,11 @@ ghost use Rattle.tilt_feed.specs.Events.{after, after_all, event_fault};
 ghost use Rattle.tilt_feed.specs.Feed.{Feed, closed_rows, empty_feed, watermarks};
 ghost use Rattle.tilt_feed.specs.Horizon.{horizon};
 ghost use Rattle.tilt_feed.specs.Laws.{AreSureWhereKnown, ListGoesOn, OutputGoesOn, IsFinal, IsInOrder, fed};
-ghost use Rattle.tilt_feed.specs.Printed.{printed};
+ghost use Rattle.tilt_feed.specs.Printed.{begun, printed};
+ghost use Rattle.tilt_feed.specs.Resting.{AllRestOn, LooksNear, all_resting, begun_next, ended_by, whole};
 ghost use Rattle.tilt_feed.specs.declared.event.Event.{Event};
 ghost use Rattle.tilt_feed.specs.declared.event.Event.TheVariants.{Finish};
+ghost use Rattle.tilt_stream.specs.Snap.{InOrder};
 
 /// This does nothing. Its clauses are laws of the definitions, for every list of events and every list of further ones: what is known
 /// stays as it is, each sure mark stays, up to the horizon all marks are sure, and the horizon doesn't fall. So what is printed is a
@@ -47,4 +50,23 @@ pub fn feeds_are_in_order()
     ensures order { (inputs : ℕ) (events : List Event)
         → AllByRecursion IsInOrder (after_all events (empty_feed inputs)).inputs }
     ensures unchanged { (feed : Feed) (event : Event) → IsSome (event_fault feed event) → after event feed ≡ feed }
+{}
+
+/// This does nothing. Its clauses are laws of the definitions, for every query that looks ahead by the limit at most. Of the whole output
+/// on the rows at rest, what ends at the horizon or below it is printed. What comes next has begun, if it starts below the horizon.
+pub fn printed_of_resting_rows()
+    ensures printed { (core : CoreParts) (events : List Event) → IsCore core → LooksNear core
+        → printed core (fed core events) ≡ ended_by (horizon core (fed core events)) (whole core (fed core events)) }
+    ensures begun { (core : CoreParts) (events : List Event) → IsCore core → LooksNear core
+        → begun core (fed core events)
+        ≡ begun_next (horizon core (fed core events)) (drop (length (printed core (fed core events))) (whole core (fed core events))) }
+{}
+
+/// This does nothing. Its clauses are laws of the definitions. The rows at rest of each input are in order. After an event they are the
+/// same up to the horizon that the input had, and they have all marks that they had.
+pub fn resting_rows_go_on()
+    ensures order { (inputs : ℕ) (events : List Event)
+        → AllByRecursion (InOrder (neg_ℤ T) WIDE) (all_resting (after_all events (empty_feed inputs))) }
+    ensures rests { (inputs : ℕ) (events : List Event) (event : Event)
+        → AllRestOn (after_all events (empty_feed inputs)) (after event (after_all events (empty_feed inputs))) }
 {}

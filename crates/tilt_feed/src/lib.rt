@@ -2,9 +2,10 @@
 //!
 //! What comes in is the events of a feed, one after another: rows, values whose end isn't known yet, and watermarks. `specs/` says what
 //! a feed is after them (`Feed`, `Events`), up to which tick each source of the query is known (`Horizon`), which marks are sure beyond it
-//! (`Sure`), and which snapshots may be printed (`Printed`). These are definitions, and the functions of `law` have their laws as clauses:
-//! what is printed is final, it is the whole output in the end, and the horizon isn't below the tick up to which sessions decide the
-//! output. `update_fault` returns the first rule that an update breaks. Nothing here takes memory.
+//! (`Sure`), which snapshots may be printed (`Printed`), and what the inputs have if nothing more happens (`Resting`). These are
+//! definitions, and the functions of `law` have their laws as clauses: what is printed is final, it is the whole output in the end, the
+//! horizon isn't below the tick up to which sessions decide the output, and what is printed is the part of the output on the rows at rest
+//! that ends at the horizon or below it. `update_fault` returns the first rule that an update breaks. Nothing here takes memory.
 #![tactic(auto)]
 
 mod allowed;
@@ -15,10 +16,13 @@ mod law;
 mod open_row;
 mod update;
 
-pub use allowed::update_fault;
+pub use allowed::{continues, update_fault};
 pub use edge::Edge;
 pub use event::Event;
 pub use fault::EventFault;
-pub use law::{all_is_printed, feeds_are_in_order, horizon_is_timely, known_is_final};
+pub use law::{
+    all_is_printed, feeds_are_in_order, horizon_is_timely, known_is_final, printed_of_resting_rows,
+    resting_rows_go_on,
+};
 pub use open_row::OpenRow;
 pub use update::Update;
