@@ -3,9 +3,9 @@ from __future__ import annotations
 
 import random
 import re
-import tomllib
 
 from conftest import TOP
+from shared.calls import all_tests
 
 STRING = re.compile(r'"((?:[^"\\]|\\.)*)"')
 SHELL = re.compile(r"echo '([^']*)' > q")
@@ -15,9 +15,8 @@ BLOCK = re.compile(r"```file \S+\n(.*?)```", re.S)
 def of_repository() -> list[bytes]:
     """Each text that stands in a table of calls, in a page, an example or a test, and has to do with a query."""
     found = set()
-    with open(TOP / "tools" / "check" / "calls.toml", "rb") as file:
-        for call in tomllib.load(file)["call"]:
-            found |= {text for text in call.get("files", {}).values() if isinstance(text, str)}
+    for call in [call for test in all_tests() for call in test.calls if "prefixes" not in call]:
+        found |= {text for text in call.get("files", {}).values() if isinstance(text, str)}
     for page in [*TOP.glob("docs/*.md"), *TOP.glob("examples/*/README.md"), TOP / "README.md"]:
         text = page.read_text()
         found |= set(SHELL.findall(text)) | set(BLOCK.findall(text))

@@ -11,6 +11,8 @@ import sys
 import pytest
 import queries
 from conftest import PYTHON, TOP, run_program
+from shared.calls import read_tests
+from shared.paths import CALLS
 from tilt_data.clock import Clock
 from tilt_data.files import Notes
 from tilt_data.forms import fault_of
@@ -129,14 +131,14 @@ def test_texts_of_the_repository(tilt, tmp_path):
     texts = queries.of_repository()
     assert len(texts) > 100
     seen = compare(tilt, texts, tmp_path)
-    assert {"", "20", "21", "24", "25", "26", "27", "28", "29", "30", "31"} <= set(seen)
+    assert {"", "20", "21", "22", "23", "24", "25", "26", "27", "28", "29", "30", "31"} <= set(seen)
 
 
 def test_2000_random_texts(tilt, tmp_path):
     draw = queries.Draw(1)
     texts = [draw.mistaken(draw.query()) for _ in range(2000)]
     seen = compare(tilt, texts, tmp_path)
-    assert {"", "20", "21", "24", "25", "26", "27", "28", "29", "30", "31"} <= set(seen), seen
+    assert {"", "20", "21", "22", "23", "24", "25", "26", "27", "28", "29", "30", "31"} <= set(seen), seen
 
 
 def test_long_texts(tilt, tmp_path):
@@ -404,13 +406,13 @@ QUOTED = r'"((?:[^"\\]|\\.|\\\n)*)"'
 
 
 def of_tests() -> list[tuple[bytes, str]]:
-    """Each text of the tests in crates/, with the line of its refusal; empty where it is taken."""
-    folder = TOP / "crates"
+    """Each text of the tests in crates/ and in the tables of calls, with the line of its refusal; empty where it is taken."""
     found = []
-    refusals = (folder / "tilt_tests_app/src/refusals.rt").read_text()
-    for text, line in re.findall(rf'\(\s*b{QUOTED},\s*SERIES,\s*b"",\s*b"tilt: ((?:2\d|3[01]) [^"\\]*)\\n"', refusals):
-        found.append((literal(text), line))
-    checking = (folder / "tilt_tests_language/src/checking.rt").read_text()
+    for call in [call for test in read_tests(os.path.join(CALLS, "refusals.toml")) for call in test.calls]:
+        line = call["err"].removeprefix("tilt: ").removesuffix("\n")
+        if re.match(r"2\d|3[01]", line):
+            found.append((call["files"]["q"].encode(), line))
+    checking = (TOP / "crates/tilt_tests_language/src/checking.rt").read_text()
     cores, faults = checking.split("const FAULTS", 1)
     found += [(literal(text), "") for text, _ in re.findall(rf"\(\s*{QUOTED},\s*{QUOTED},\s*\)", cores.split("const CORES", 1)[1])]
     for text, kind, number in re.findall(rf'\(\s*{QUOTED},\s*"(\w+) {{ statement: (\d+) }}",?\s*\)', faults):
@@ -433,7 +435,7 @@ def of_pages() -> list[tuple[bytes, str]]:
 def test_texts_of_the_tests_and_pages():
     tests, pages = of_tests(), of_pages()
     assert len(tests) > 60 and len(pages) > 60
-    assert {line[:2] for _, line in tests} == {"", "20", "21", "24", "25", "26", "27", "28", "29", "30", "31"}
+    assert {line[:2] for _, line in tests} == {"", "20", "21", "22", "23", "24", "25", "26", "27", "28", "29", "30", "31"}
     for text, line in tests + pages:
         fault = fault_of(text)
         assert (fault.line if fault else "") == line, text

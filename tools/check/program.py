@@ -1,44 +1,31 @@
 #!/usr/bin/env python3
-"""Runs the built program on the calls of calls.toml beside this file, and compares what each one leaves: its status, its standard
-output, byte for byte or where it is long by the figures of its values, and its standard error. The program is built first where it has
-to be. The last line is 'N passed, M failed', and the status is 1 where one failed."""
+"""Runs the built program on the calls in the folder calls beside this file, and compares what each one leaves: its status, its standard
+output, byte for byte or where it is long by the figures of its values, its standard error, and the files where it ran.
+tools/shared/calls.py says what a call may have. The program is built first where it has to be. The last line is 'N passed, M failed', and
+the status is 1 where one failed."""
 from __future__ import annotations
 
-import itertools
 import os
 import resource
 import subprocess
 import sys
 import tempfile
-import tomllib
-from typing import Any, BinaryIO, Callable
-
-# A call as the table has it.
-Row = dict[str, Any]
+from typing import BinaryIO, Callable
 
 sys.path.insert(0, os.path.dirname(os.path.dirname(os.path.realpath(__file__))))
 
-from shared.paths import TOOLS, TOP
+from shared.calls import CallTest, Row, all_tests, contents
+from shared.paths import BUILT, TOP
 from shared.program import build_program
 from shared.tally import Tally
 
-PROGRAM = os.path.join(TOP, "tilt")
+SCRIPT = os.path.join(TOP, "tilt")
 
 
-def contents(value: str | Row) -> bytes:
-    """A file is its text, a number of zero bytes, or a series of so many rows, the row i from i to i+1 with the value i, or
-    with the same value in each."""
-    if isinstance(value, str):
-        return value.encode()
-    if "zeros" in value:
-        return bytes(value["zeros"])
-    rows = range(value["rows"])
-    same = value.get("value")
-    return b"start,end,value\n" + b"".join(b"%d,%d,%d\n" % (i, i + 1, i if same is None else same) for i in rows)
-
-
-def before(call: Row) -> Callable[[], None]:
-    """What is done in the new process before the program begins."""
+def before(call: Row) -> Callable[[], None] | None:
+    """What is done in the new process before the program begins, if anything is."""
+    if not {"closed", "memory"} & set(call):
+        return None
 
     def prepare() -> None:
         for number in call.get("closed", []):
@@ -60,19 +47,30 @@ def figures(written: bytes) -> list[int]:
     return [len(values), sum(values), min(values), max(values)]
 
 
-def each(call: Row) -> list[Row]:
-    """The call; or one for each order of so many steps over so many parts, if it says how many."""
-    if "orders" not in call:
-        return [call]
-    parts, steps = call["orders"]
-    orders = [",".join(map(str, order)) for order in itertools.product(range(parts), repeat=steps)]
-    return [{**call, "name": f"{call['name']}: {order}", "words": call["words"] + ["--order", order]} for order in orders]
+def files_in(folder: str) -> dict[str, bytes]:
+    """The files of a folder, with what they hold."""
+    found = {}
+    for name in os.listdir(folder):
+        with open(os.path.join(folder, name), "rb") as file:
+            found[name] = file.read()
+    return found
+
+
+def wrong_files(found: dict[str, bytes], wanted: dict[str, bytes]) -> list[str]:
+    """Which files hold something else than they have to, or are there or not."""
+    return [
+        f"file {name} {found.get(name, b'not there')[:300]!r}, wanted {wanted.get(name, b'not there')[:300]!r}"
+        for name in sorted({*found, *wanted})
+        if found.get(name) != wanted.get(name)
+    ]
 
 
 def run(program: str, call: Row, folder: str) -> list[str]:
+    """Makes a call in a folder: what is wrong with what it leaves."""
     for name, value in call.get("files", {}).items():
         with open(os.path.join(folder, name), "wb") as file:
             file.write(contents(value))
+    wanted = {**files_in(folder), **{name: contents(value) for name, value in call.get("left", {}).items()}}
     full = call.get("full", False)
     out: BinaryIO | int = open("/dev/full", "wb") if full else subprocess.PIPE
     process = subprocess.Popen(
@@ -94,23 +92,27 @@ def run(program: str, call: Row, folder: str) -> list[str]:
         wrong.append(f"output {written[:200]!r}, wanted {call.get('out', '')!r}")
     if told != call.get("err", "").encode():
         wrong.append(f"error {told[:200]!r}, wanted {call.get('err', '')!r}")
-    return wrong
+    return wrong + wrong_files(files_in(folder), wanted)
+
+
+def try_test(test: CallTest, tally: Tally) -> None:
+    """Makes the calls of a test, each in the folder as the one before left it."""
+    with tempfile.TemporaryDirectory() as beside, tempfile.TemporaryDirectory() as folder:
+        for number, call in enumerate(test.calls, 1):
+            program = SCRIPT if call.get("script", False) else BUILT
+            if call.get("link", False):
+                # A link to the script serves as well.
+                program = os.path.join(beside, "link")
+                os.symlink(SCRIPT, program)
+            name = test.name if len(test.calls) == 1 else f"{test.name}, call {number}"
+            tally.note(name, run(program, call, folder))
 
 
 def main() -> int:
-    with open(os.path.join(TOOLS, "check", "calls.toml"), "rb") as file:
-        calls = [one for call in tomllib.load(file)["call"] for one in each(call)]
-    # A link to the script serves as well.
     build_program()
     tally = Tally()
-    for call in calls:
-        with tempfile.TemporaryDirectory() as folder:
-            program = PROGRAM
-            if call.get("link", False):
-                program = os.path.join(folder, "link")
-                os.symlink(PROGRAM, program)
-            wrong = run(program, call, folder)
-        tally.note(call["name"], wrong)
+    for test in all_tests():
+        try_test(test, tally)
     return tally.end()
 
 

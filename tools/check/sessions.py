@@ -6,6 +6,7 @@ input. Each session after the first saves to the file that it reads. The last li
 failed."""
 from __future__ import annotations
 
+import dataclasses
 import itertools
 import os
 import subprocess
@@ -30,27 +31,67 @@ def readings() -> list[Row]:
     return sorted(rows + [(36060, 41340, 190)])
 
 
-CASES: list[tuple[str, list[Row], Sequence[Sequence[int]]]] = [
-    ("input x; emit count(x[t-3:t]) over (0, 10];", [(0, 5, 7), (5, 8, 7)], [(a, b) for a in range(-2, 13) for b in range(a, 13)]),
-    ("input x; emit sum(x[t-5:t]) over (0, 10] every 5;", [(0, 5, 1), (5, 8, 2)], [(a, b) for a in range(-2, 13) for b in range(a, 13)]),
-    (
-        "input x; emit sum(x[t-5:t]) over (2, 12] every 5 from 2;",
-        [(0, 5, 1), (5, 8, 2)],
-        [(a, b) for a in range(-2, 15) for b in range(a, 15)],
+@dataclasses.dataclass
+class Case:
+    """A query of x, its rows, and the cuts of each list of sessions. `text` is what one run prints if that was worked out by hand."""
+
+    query: str
+    rows: list[Row]
+    cuts: Sequence[Sequence[int]]
+    text: bytes | None = None
+
+
+CASES = [
+    Case(
+        query="input x; emit count(x[t-3:t]) over (0, 10];",
+        rows=[(0, 5, 7), (5, 8, 7)],
+        cuts=[(a, b) for a in range(-2, 13) for b in range(a, 13)],
+        text=b"start,end,value\n0,2,1\n2,5,1\n5,7,2\n7,8,1\n8,10,1\n",
     ),
-    (f"input x; let m = avg(x[t-600:t]) every 60; emit m - x[t+30] over (0, {DAY}];", readings(), [tuple(range(HOUR, DAY + 1, HOUR))]),
+    Case(
+        query="input x; emit sum(x[t-5:t]) over (0, 10] every 5;",
+        rows=[(0, 5, 1), (5, 8, 2)],
+        cuts=[(a, b) for a in range(-2, 13) for b in range(a, 13)],
+        text=b"start,end,value\n0,5,1\n5,10,2\n",
+    ),
+    Case(
+        query="input x; emit sum(x[t-5:t]) over (2, 12] every 5 from 2;",
+        rows=[(0, 5, 1), (5, 8, 2)],
+        cuts=[(a, b) for a in range(-2, 15) for b in range(a, 15)],
+    ),
+    Case(
+        query=f"input x; let m = avg(x[t-600:t]) every 60; emit m - x[t+30] over (0, {DAY}];",
+        rows=readings(),
+        cuts=[tuple(range(HOUR, DAY + 1, HOUR))],
+    ),
 ]
 
 
-# Queries of x and y, with their rows: each session is handed those of x by its own cuts, and those of y by others.
-APART: list[tuple[str, list[Row], list[Row]]] = [
-    ("input x; input y; emit x + y over (0, 5];", [(0, 3, 1), (3, 5, 2)], [(0, 2, 10), (2, 6, 20)]),
-    (
-        "input x; input y; emit ifnull(x[t-1], 0) * 100 + ifnull(y[t+1], 0) over (0, 5];",
-        [(0, 1, 1), (2, 4, 2)],
-        [(-1, 2, 10), (3, 4, 20), (4, 6, 30)],
+@dataclasses.dataclass
+class Apart:
+    """A query of x and y, with their rows: each session is handed those of x by its own cuts, and those of y by others."""
+
+    query: str
+    of_x: list[Row]
+    of_y: list[Row]
+
+
+APART = [
+    Apart(
+        query="input x; input y; emit x + y over (0, 5];",
+        of_x=[(0, 3, 1), (3, 5, 2)],
+        of_y=[(0, 2, 10), (2, 6, 20)],
     ),
-    ("input x; input y; emit count(x[t-2:t]) + sum(y[t-3:t]) over (0, 4] every 2;", [(-1, 1, 1), (1, 2, 1), (3, 5, 1)], [(0, 4, 7)]),
+    Apart(
+        query="input x; input y; emit ifnull(x[t-1], 0) * 100 + ifnull(y[t+1], 0) over (0, 5];",
+        of_x=[(0, 1, 1), (2, 4, 2)],
+        of_y=[(-1, 2, 10), (3, 4, 20), (4, 6, 30)],
+    ),
+    Apart(
+        query="input x; input y; emit count(x[t-2:t]) + sum(y[t-3:t]) over (0, 4] every 2;",
+        of_x=[(-1, 1, 1), (1, 2, 1), (3, 5, 1)],
+        of_y=[(0, 4, 7)],
+    ),
 ]
 PAIRS = [(first, second) for first in range(-1, 7) for second in range(first, 7)]
 
@@ -100,7 +141,8 @@ def apart(folder: str, of_x: Sequence[Row], of_y: Sequence[Row], cuts: Sequence[
 
 def check_apart(tally: Tally) -> None:
     """Sessions with cuts of their own for each input print what one run prints."""
-    for query, of_x, of_y in APART:
+    for case in APART:
+        query, of_x, of_y = case.query, case.of_x, case.of_y
         with tempfile.TemporaryDirectory() as folder:
             with open(os.path.join(folder, "q"), "w", encoding="utf-8") as file:
                 file.write(query)
@@ -117,8 +159,9 @@ def main() -> int:
     build_program()
     tally = Tally()
     check_apart(tally)
-    for query, rows, all_cuts in CASES:
-        for cuts in all_cuts:
+    for case in CASES:
+        query, rows = case.query, case.rows
+        for cuts in case.cuts:
             with tempfile.TemporaryDirectory() as folder:
                 with open(os.path.join(folder, "q"), "w", encoding="utf-8") as file:
                     file.write(query)
@@ -127,6 +170,7 @@ def main() -> int:
                 cut = tilt(folder, "run", "q", "x=x", "--cut", ",".join(map(str, cuts)))
                 joined = by_sessions(folder, rows, cuts)
             good = whole[0] == 0 and len(whole[1].splitlines()) > 2 and joined == whole[1] and cut == whole
+            good = good and case.text in (None, joined)
             tally.expect(good, f"{query} cut at {cuts}: {joined[:200]!r}, {cut[1:]!r}, wanted {whole!r}"[:600])
     return tally.end()
 

@@ -10,20 +10,24 @@ pub const WORDS: &str = "run\nq\nx=s";
 
 pub const QUERY: &[u8] = b"input x; emit x over (0, 10];\n";
 
-pub const TWO: &[u8] = b"input x; input y; emit y over (0, 10];";
-
 pub const SERIES: &[u8] = b"start,end,value\n0,5,7\n6,8,9\n";
 
 // The name of a file, and what it holds.
 pub type File<'a> = (&'a str, &'a [u8]);
 
-// Words, one a line; the files; and the status, the output and the line that are wanted.
-pub type Case<'a> = (&'a str, &'a [File<'a>], u8, &'a [u8], &'a [u8]);
-
 // The numbers of the read, of the put of the output and of the put of the line that fail, and 0 for none.
-pub type Failing = (u64, u64, u64);
+#[derive(Drop)]
+pub struct Failing {
+    pub read: u64,
+    pub put: u64,
+    pub line: u64,
+}
 
-pub const NONE: Failing = (0, 0, 0);
+pub const NONE: Failing = Failing {
+    read: 0,
+    put: 0,
+    line: 0,
+};
 
 // What the call leaves.
 #[derive(Drop)]
@@ -61,9 +65,9 @@ pub fn end_of(
     alloc: Global,
     words: &str,
     files: &[File<'_>],
-    failing: Failing,
+    failing: &Failing,
 ) -> Result<End, Fail> {
-    let mut shelf = shelf_of(alloc, files, failing.0)?;
+    let mut shelf = shelf_of(alloc, files, failing.read)?;
     end_over(alloc, words, &mut shelf, failing)
 }
 
@@ -72,7 +76,7 @@ pub fn end_over(
     alloc: Global,
     words: &str,
     shelf: &mut MemShelf,
-    failing: Failing,
+    failing: &Failing,
 ) -> Result<End, Fail> {
     let mut watchers = Vec::new(alloc);
     end_beside(alloc, words, shelf, failing, &mut watchers)
@@ -83,12 +87,12 @@ pub fn end_beside(
     alloc: Global,
     words: &str,
     shelf: &mut MemShelf,
-    failing: Failing,
+    failing: &Failing,
     watchers: &mut Vec<Box<dyn Watcher>>,
 ) -> Result<End, Fail> {
     let words = words_of(alloc, words)?;
-    let mut out = sink_of(alloc, failing.1)?;
-    let mut err = sink_of(alloc, failing.2)?;
+    let mut out = sink_of(alloc, failing.put)?;
+    let mut err = sink_of(alloc, failing.line)?;
     let status = tilt(alloc, &words, shelf, &mut out, &mut err, watchers);
     Ok(End { status, out, err })
 }
@@ -97,56 +101,4 @@ pub fn end_beside(
 pub fn assert_end(rt: &impl Abort, end: &End, status: u8, out: &[u8], err: &[u8], case: usize) {
     let found = (end.status, end.out.written(), end.err.written());
     assert_eq!(rt; found, (status, out, err), "case {case}");
-}
-
-// Ends the test unless the case ends as it is to.
-pub fn assert_case(
-    rt: &impl Abort,
-    alloc: Global,
-    case: &Case<'_>,
-    failing: Failing,
-    number: usize,
-) -> Result<(), Fail> {
-    let (words, files, status, out, err) = *case;
-    let end = end_of(alloc, words, files, failing)?;
-    assert_end(rt, &end, status, out, err, number);
-    Ok(())
-}
-
-// Ends the test unless each case ends as it is to.
-pub fn assert_cases(rt: &impl Abort, alloc: Global, cases: &[Case<'_>]) -> Result<(), Fail> {
-    for (i, case) in cases.iter().enumerate() {
-        assert_case(rt, alloc, case, NONE, i)?;
-    }
-    Ok(())
-}
-
-// A query, the series of x, and the output or else the line that is wanted.
-pub type Text<'a> = (&'a [u8], &'a [u8], &'a [u8], &'a [u8]);
-
-// Ends the test unless each run on x ends so.
-pub fn assert_texts(rt: &impl Abort, alloc: Global, cases: &[Text<'_>]) -> Result<(), Fail> {
-    for (i, (query, series, out, err)) in cases.iter().enumerate() {
-        let files = [("q", *query), ("s", *series)];
-        let status = if err.is_empty() { 0 } else { 1 };
-        assert_case(rt, alloc, &(WORDS, &files, status, out, err), NONE, i)?;
-    }
-    Ok(())
-}
-
-// What a call that may save ends in: its status, its output, its line, and what `c` holds then.
-pub type Saved<'a> = (u8, &'a [u8], &'a [u8], &'a [u8]);
-
-// Ends the test unless the call over the shelf ends so.
-pub fn assert_saved(
-    rt: &impl Abort,
-    alloc: Global,
-    words: &str,
-    shelf: &mut MemShelf,
-    saved: &Saved<'_>,
-) -> Result<(), Fail> {
-    let end = end_over(alloc, words, shelf, NONE)?;
-    assert_end(rt, &end, saved.0, saved.1, saved.2, 0);
-    assert_eq!(rt; shelf.bytes("c"), Some(saved.3), "at {words}");
-    Ok(())
 }

@@ -2,7 +2,7 @@
 ghost use Rattle.std.specs.Prelude.{◌≡◌, false, true};
 
 use crate::call::{
-    Case, End, Failing, File, NONE, QUERY, SERIES, assert_cases, assert_end, end_beside, shelf_of,
+    End, Failing, File, NONE, QUERY, SERIES, assert_end, end_beside, end_of, shelf_of,
 };
 use std::alloc::Global;
 use std::process::Abort;
@@ -21,111 +21,148 @@ const AFTER: &[(i64, i64)] = &[(2, 16), (7, 9), (0, 8), (2, 16)];
 
 const FAULT: &[u8] = b"tilt: 5 write fault\n";
 
-// Words, what fails, the status, the output, the line and the figures of the watchers.
-type Watched<'a> = (&'a str, Failing, u8, &'a [u8], &'a [u8], &'a [(i64, i64)]);
+// A call: its words, the numbers of the read and of the put that fail, and 0 for none; the status, the output, the line and the figures
+// of the watchers.
+struct Watched<'a> {
+    words: &'a str,
+    read: u64,
+    put: u64,
+    status: u8,
+    out: &'a [u8],
+    line: &'a [u8],
+    figures: &'a [(i64, i64)],
+}
 
 const WATCHED: &[Watched<'_>] = &[
-    (
-        "watch\nq\nx=s",
-        NONE,
-        0,
-        b"start,end,value\n0,5,7\n6,8,9\nfigures 2 16\nfigures 7 9\nfigures 0 8\nfigures 2 16\n",
-        b"",
-        AFTER,
-    ),
-    (
-        "watch\nq\nx=s\n--plain",
-        NONE,
-        0,
-        b"start,end,value\n0,5,7\n6,8,9\nfigures 2 16\nfigures 7 9\nfigures 0 8\nfigures 2 16\n",
-        b"",
-        AFTER,
-    ),
-    (
-        "watch\nq\nx=none",
-        NONE,
-        0,
-        b"start,end,value\nfigures 0 0\nfigures 9223372036854775807 -9223372036854775808\n\
+    Watched {
+        words: "watch\nq\nx=s",
+        read: 0,
+        put: 0,
+        status: 0,
+        out: b"start,end,value\n0,5,7\n6,8,9\nfigures 2 16\nfigures 7 9\nfigures 0 8\nfigures 2 16\n",
+        line: b"",
+        figures: AFTER,
+    },
+    Watched {
+        words: "watch\nq\nx=s\n--plain",
+        read: 0,
+        put: 0,
+        status: 0,
+        out: b"start,end,value\n0,5,7\n6,8,9\nfigures 2 16\nfigures 7 9\nfigures 0 8\nfigures 2 16\n",
+        line: b"",
+        figures: AFTER,
+    },
+    Watched {
+        words: "watch\nq\nx=none",
+        read: 0,
+        put: 0,
+        status: 0,
+        out: b"start,end,value\nfigures 0 0\nfigures 9223372036854775807 -9223372036854775808\n\
           figures 9223372036854775807 -9223372036854775808\nfigures 0 0\n",
-        b"",
-        BEFORE,
-    ),
+        line: b"",
+        figures: BEFORE,
+    },
     // Nobody watches a run, or a query that is refused.
-    ("run\nq\nx=s", NONE, 0, SERIES, b"", BEFORE),
-    (
-        "watch\nq",
-        NONE,
-        1,
-        b"",
-        b"tilt: 2 input names: x\n",
-        BEFORE,
-    ),
-    (
-        "watch\nq\nx=s",
-        (4, 0, 0),
-        3,
-        b"",
-        b"tilt: 4 read fault: s\n",
-        BEFORE,
-    ),
+    Watched {
+        words: "run\nq\nx=s",
+        read: 0,
+        put: 0,
+        status: 0,
+        out: SERIES,
+        line: b"",
+        figures: BEFORE,
+    },
+    Watched {
+        words: "watch\nq",
+        read: 0,
+        put: 0,
+        status: 1,
+        out: b"",
+        line: b"tilt: 2 input names: x\n",
+        figures: BEFORE,
+    },
+    Watched {
+        words: "watch\nq\nx=s",
+        read: 4,
+        put: 0,
+        status: 3,
+        out: b"",
+        line: b"tilt: 4 read fault: s\n",
+        figures: BEFORE,
+    },
     // A row is seen once its line is put, and after all lines come the figures and the flush.
-    ("watch\nq\nx=s", (0, 1, 0), 4, b"start,en", FAULT, BEFORE),
-    (
-        "watch\nq\nx=s",
-        (0, 2, 0),
-        4,
-        b"start,end,value\n0,5",
-        FAULT,
-        BEFORE,
-    ),
-    (
-        "watch\nq\nx=s",
-        (0, 3, 0),
-        4,
-        b"start,end,value\n0,5,7\n6,8",
-        FAULT,
-        ONE,
-    ),
-    (
-        "watch\nq\nx=s",
-        (0, 4, 0),
-        4,
-        b"start,end,value\n0,5,7\n6,8,9\nfigure",
-        FAULT,
-        AFTER,
-    ),
-    (
-        "watch\nq\nx=s",
-        (0, 5, 0),
-        4,
-        b"start,end,value\n0,5,7\n6,8,9\nfigures 2 16\nfigure",
-        FAULT,
-        AFTER,
-    ),
-    (
-        "watch\nq\nx=s",
-        (0, 6, 0),
-        4,
-        b"start,end,value\n0,5,7\n6,8,9\nfigures 2 16\nfigures 7 9\nfigure",
-        FAULT,
-        AFTER,
-    ),
-    (
-        "watch\nq\nx=s",
-        (0, 7, 0),
-        4,
-        b"start,end,value\n0,5,7\n6,8,9\nfigures 2 16\nfigures 7 9\nfigures 0 8\nfigure",
-        FAULT,
-        AFTER,
-    ),
-    (
-        "watch\nq\nx=s",
-        (0, 8, 0),
-        4,
-        b"start,end,value\n0,5,7\n6,8,9\nfigures 2 16\nfigures 7 9\nfigures 0 8\nfigures 2 16\n",
-        FAULT,
-        AFTER,
-    ),
+    Watched {
+        words: "watch\nq\nx=s",
+        read: 0,
+        put: 1,
+        status: 4,
+        out: b"start,en",
+        line: FAULT,
+        figures: BEFORE,
+    },
+    Watched {
+        words: "watch\nq\nx=s",
+        read: 0,
+        put: 2,
+        status: 4,
+        out: b"start,end,value\n0,5",
+        line: FAULT,
+        figures: BEFORE,
+    },
+    Watched {
+        words: "watch\nq\nx=s",
+        read: 0,
+        put: 3,
+        status: 4,
+        out: b"start,end,value\n0,5,7\n6,8",
+        line: FAULT,
+        figures: ONE,
+    },
+    Watched {
+        words: "watch\nq\nx=s",
+        read: 0,
+        put: 4,
+        status: 4,
+        out: b"start,end,value\n0,5,7\n6,8,9\nfigure",
+        line: FAULT,
+        figures: AFTER,
+    },
+    Watched {
+        words: "watch\nq\nx=s",
+        read: 0,
+        put: 5,
+        status: 4,
+        out: b"start,end,value\n0,5,7\n6,8,9\nfigures 2 16\nfigure",
+        line: FAULT,
+        figures: AFTER,
+    },
+    Watched {
+        words: "watch\nq\nx=s",
+        read: 0,
+        put: 6,
+        status: 4,
+        out: b"start,end,value\n0,5,7\n6,8,9\nfigures 2 16\nfigures 7 9\nfigure",
+        line: FAULT,
+        figures: AFTER,
+    },
+    Watched {
+        words: "watch\nq\nx=s",
+        read: 0,
+        put: 7,
+        status: 4,
+        out: b"start,end,value\n0,5,7\n6,8,9\nfigures 2 16\nfigures 7 9\nfigures 0 8\nfigure",
+        line: FAULT,
+        figures: AFTER,
+    },
+    Watched {
+        words: "watch\nq\nx=s",
+        read: 0,
+        put: 8,
+        status: 4,
+        out: b"start,end,value\n0,5,7\n6,8,9\nfigures 2 16\nfigures 7 9\nfigures 0 8\nfigures 2 16\n",
+        line: FAULT,
+        figures: AFTER,
+    },
 ];
 
 // Ends the test unless these are the figures of the watchers in the list.
@@ -141,10 +178,10 @@ fn end_watched(
     alloc: Global,
     words: &str,
     files: &[File<'_>],
-    failing: Failing,
+    failing: &Failing,
     watchers: &mut Vec<Box<dyn Watcher>>,
 ) -> Result<End, Fail> {
-    let mut shelf = shelf_of(alloc, files, failing.0)?;
+    let mut shelf = shelf_of(alloc, files, failing.read)?;
     end_beside(alloc, words, &mut shelf, failing, watchers)
 }
 
@@ -156,27 +193,31 @@ fn assert_watched(
     case: &Watched<'_>,
     i: usize,
 ) -> Result<(), Fail> {
-    let (words, failing, status, out, err, figures) = *case;
     let mut watchers: Vec<Box<dyn Watcher>> = Vec::new(alloc);
     watchers.push(Box::new(alloc, Tally::new())?)?;
     watchers.push(Box::new(alloc, Range::new())?)?;
     watchers.push(Box::new(alloc, Ends::new())?)?;
     watchers.push(Box::new(alloc, FirstRows::new(3))?)?;
-    let end = end_watched(alloc, words, files, failing, &mut watchers)?;
-    assert_end(rt, &end, status, out, err, i);
-    assert_figures(rt, &watchers, figures);
+    let failing = Failing {
+        read: case.read,
+        put: case.put,
+        line: 0,
+    };
+    let end = end_watched(alloc, case.words, files, &failing, &mut watchers)?;
+    assert_end(rt, &end, case.status, case.out, case.line, i);
+    assert_figures(rt, &watchers, case.figures);
     Ok(())
 }
-
-// Nobody watches.
-const ALONE: &[Case<'_>] = &[("watch\nq\nx=s", FILES, 0, SERIES, b"")];
 
 #[test]
 fn watchers_see_what_is_printed(rt: HostRuntime) -> Result<(), Fail> {
     for (i, case) in WATCHED.iter().enumerate() {
         assert_watched(&rt, rt.alloc(), FILES, case, i)?;
     }
-    assert_cases(&rt, rt.alloc(), ALONE)
+    // Nobody watches.
+    let end = end_of(rt.alloc(), "watch\nq\nx=s", FILES, &NONE)?;
+    assert_end(&rt, &end, 0, SERIES, b"", 0);
+    Ok(())
 }
 
 // A count over three ticks, of two rows that touch: it has five rows.
@@ -189,14 +230,15 @@ const COUNTS: &[u8] = b"start,end,value\n0,2,1\n2,5,1\n5,7,2\n7,8,1\n8,10,1\n\
     figures 5 6\nfigures 1 2\nfigures 0 10\nfigures 3 4\n";
 
 // The watcher of the first three rows is dropped.
-const ENOUGH: Watched<'_> = (
-    "watch\nq\nx=s",
-    NONE,
-    0,
-    COUNTS,
-    b"",
-    &[(5, 6), (1, 2), (0, 10)],
-);
+const ENOUGH: Watched<'_> = Watched {
+    words: "watch\nq\nx=s",
+    read: 0,
+    put: 0,
+    status: 0,
+    out: COUNTS,
+    line: b"",
+    figures: &[(5, 6), (1, 2), (0, 10)],
+};
 
 #[test]
 fn a_watcher_that_has_seen_enough_is_dropped(rt: HostRuntime) -> Result<(), Fail> {
@@ -208,7 +250,7 @@ fn all_watchers_may_end(rt: HostRuntime) -> Result<(), Fail> {
     let mut watchers: Vec<Box<dyn Watcher>> = Vec::new(rt.alloc());
     watchers.push(Box::new(rt.alloc(), UntilAbove::new(1))?)?;
     watchers.push(Box::new(rt.alloc(), UntilTime::new(5))?)?;
-    let end = end_watched(rt.alloc(), "watch\nq\nx=s", COUNT, NONE, &mut watchers)?;
+    let end = end_watched(rt.alloc(), "watch\nq\nx=s", COUNT, &NONE, &mut watchers)?;
     let text = b"start,end,value\n0,2,1\n2,5,1\n5,7,2\n7,8,1\n8,10,1\nfigures 3 2\nfigures 2 5\n";
     assert_end(&rt, &end, 0, text, b"", 0);
     assert_figures(&rt, &watchers, &[]);
@@ -219,7 +261,12 @@ fn all_watchers_may_end(rt: HostRuntime) -> Result<(), Fail> {
 fn a_row_whose_put_fails_is_not_seen(rt: HostRuntime) -> Result<(), Fail> {
     let mut watchers: Vec<Box<dyn Watcher>> = Vec::new(rt.alloc());
     watchers.push(Box::new(rt.alloc(), Tally::new())?)?;
-    let end = end_watched(rt.alloc(), "watch\nq\nx=s", FILES, (0, 2, 0), &mut watchers)?;
+    let failing = Failing {
+        read: 0,
+        put: 2,
+        line: 0,
+    };
+    let end = end_watched(rt.alloc(), "watch\nq\nx=s", FILES, &failing, &mut watchers)?;
     assert_end(&rt, &end, 4, b"start,end,value\n0,5", FAULT, 0);
     assert_figures(&rt, &watchers, &[(0, 0)]);
     Ok(())
@@ -280,7 +327,7 @@ fn a_watcher_of_ones_own_serves(rt: HostRuntime) -> Result<(), Fail> {
     let mut watchers: Vec<Box<dyn Watcher>> = Vec::new(rt.alloc());
     watchers.push(Box::new(rt.alloc(), First { start: 0, end: 0 })?)?;
     watchers.push(Box::new(rt.alloc(), Last { start: 0, end: 0 })?)?;
-    let end = end_watched(rt.alloc(), "watch\nq\nx=s", FILES, NONE, &mut watchers)?;
+    let end = end_watched(rt.alloc(), "watch\nq\nx=s", FILES, &NONE, &mut watchers)?;
     let text = b"start,end,value\n0,5,7\n6,8,9\nfigures 0 5\nfigures 6 8\n";
     assert_end(&rt, &end, 0, text, b"", 0);
     assert_figures(&rt, &watchers, &[(6, 8)]);
@@ -291,7 +338,7 @@ fn a_watcher_of_ones_own_serves(rt: HostRuntime) -> Result<(), Fail> {
 fn an_end_before_the_first_row_has_no_effect(rt: HostRuntime) -> Result<(), Fail> {
     let mut watchers: Vec<Box<dyn Watcher>> = Vec::new(rt.alloc());
     watchers.push(Box::new(rt.alloc(), First { start: 1, end: 2 })?)?;
-    let end = end_watched(rt.alloc(), "watch\nq\nx=none", FILES, NONE, &mut watchers)?;
+    let end = end_watched(rt.alloc(), "watch\nq\nx=none", FILES, &NONE, &mut watchers)?;
     assert_end(&rt, &end, 0, b"start,end,value\nfigures 1 2\n", b"", 0);
     assert_figures(&rt, &watchers, &[(1, 2)]);
     Ok(())

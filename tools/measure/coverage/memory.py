@@ -5,9 +5,9 @@ import concurrent.futures
 import os
 import subprocess
 import tempfile
-import tomllib
 from typing import Any
 
+from shared.calls import read_tests
 from shared.tally import Tally
 
 # What a call of the table must not have: its streams, its memory or its size make it another case.
@@ -18,8 +18,7 @@ OUT_OF_MEMORY = (3, 5, 6, 7)
 
 def calls_of(table: str) -> list[dict[str, Any]]:
     """The calls of the table that end with status 0, with files that are written as they are."""
-    with open(table, "rb") as file:
-        calls = tomllib.load(file)["call"]
+    calls: list[dict[str, Any]] = [{**test.calls[0], "name": test.name} for test in read_tests(table) if len(test.calls) == 1]
     return [
         call
         for call in calls
