@@ -81,14 +81,16 @@ module _ (a : InputFeed) (is : IsInOrder a) where
       subst (λ (l : List Snapshot). InOrder from watermark (l ++ closed_at watermark a.edge.open_row)) (sym (append-nil a.rows))
       (ended-only watermark watermark allowed.on (omega (arith, ints)))
 
-  update-order : (update : Update) → IsAllowed a.edge update → IsInOrder (updated update a)
+  -- an input stays in order under an update that is allowed
+  pub update-order : (update : Update) → IsAllowed a.edge update → IsInOrder (updated update a)
   update-order update allowed =
       let step = step-of a.edge update allowed in
       let before = is.low in
       let low = step.low in
       record { rows = update-rows update allowed; low = omega (arith, ints); high = step.high }
 
-  finish-order : IsInOrder (finished_input a)
+  -- and at the end
+  pub finish-order : IsInOrder (finished_input a)
   finish-order = record { rows = subst (InOrder from a.edge.watermark) (sym (append-nil (rows_now a))) is.rows; low = is.low; high = is.high }
 
 abbrev pub AreInOrder : List InputFeed → Type 0
@@ -112,9 +114,12 @@ after_by-order : (event : Event) (feed : Feed) (allowed : Bool) → is_none (eve
 after_by-order event feed true is all = changed-order event feed (none-is (event_fault feed event) is) all
 after_by-order event feed false is all = all
 
+pub after-order : (event : Event) (feed : Feed) → AreInOrder feed.inputs → AreInOrder (after event feed).inputs
+after-order event feed all = after_by-order event feed (is_none (event_fault feed event)) refl all
+
 after_all-order : (events : List Event) (feed : Feed) → AreInOrder feed.inputs → AreInOrder (after_all events feed).inputs
 after_all-order [] feed all = all
-after_all-order (event ∷ events) feed all = after_all-order events (after event feed) (after_by-order event feed (is_none (event_fault feed event)) refl all)
+after_all-order (event ∷ events) feed all = after_all-order events (after event feed) (after-order event feed all)
 
 unknown-order : (inputs : ℕ) → AreInOrder (replicate inputs unknown_input)
 unknown-order zero = tt

@@ -8,15 +8,15 @@ use Rattle.tilt_core.specs.Meaning.{AreGrids}
 use Rattle.tilt_feed.proofs.Known.{IsNotAbove, known-both, known-earlier, known-first, known-later, known-point, known-second, over-above, point-known}
 use Rattle.tilt_feed.specs.Horizon.{Horizon, earlier, earlier_by, horizon_of, body_horizon, grid_horizon, definition_horizon, with_horizons}
 
-moved-rises : (g h : Horizon) (offset : ℤ) → IsNotAbove g h → IsNotAbove (earlier_by g offset) (earlier_by h offset)
+pub moved-rises : (g h : Horizon) (offset : ℤ) → IsNotAbove g h → IsNotAbove (earlier_by g offset) (earlier_by h offset)
 moved-rises g h offset rises = record { all = λ tick known. known-earlier h offset tick (rises.all (tick +ℤ offset) (known-later g offset tick known)) }
 
-earlier-rises : (f g h i : Horizon) → IsNotAbove f h → IsNotAbove g i → IsNotAbove (earlier f g) (earlier h i)
+pub earlier-rises : (f g h i : Horizon) → IsNotAbove f h → IsNotAbove g i → IsNotAbove (earlier f g) (earlier h i)
 earlier-rises f g h i first second = record {
   all = λ tick known. known-both h i tick (first.all tick (known-first f g tick known)) (second.all tick (known-second f g tick known));
 }
 
-grid-rises : (grid : GridPoints) (g h : Horizon) → pos 1 ≤ℤ grid.period → IsNotAbove g h → IsNotAbove (grid_horizon grid g) (grid_horizon grid h)
+pub grid-rises : (grid : GridPoints) (g h : Horizon) → pos 1 ≤ℤ grid.period → IsNotAbove g h → IsNotAbove (grid_horizon grid g) (grid_horizon grid h)
 grid-rises grid g h valid rises = record {
   all = λ tick known. point-known grid h tick valid (rises.all (ceil grid tick) (known-point grid g tick valid known));
 }
@@ -47,7 +47,7 @@ rises-at (g ∷ gs) [] all source = absurd all
 rises-at (g ∷ gs) (h ∷ hs) all zero = all.0
 rises-at (g ∷ gs) (h ∷ hs) all (suc source) = rises-at gs hs all.1 source
 
-rises-push : (gs hs : List Horizon) (g h : Horizon) → AreNotAbove gs hs → IsNotAbove g h → AreNotAbove (gs ++ g ∷ []) (hs ++ h ∷ [])
+pub rises-push : (gs hs : List Horizon) (g h : Horizon) → AreNotAbove gs hs → IsNotAbove g h → AreNotAbove (gs ++ g ∷ []) (hs ++ h ∷ [])
 rises-push [] [] g h all rises = (rises, tt)
 rises-push [] (i ∷ hs) g h all rises = absurd all
 rises-push (f ∷ gs) [] g h all rises = absurd all

@@ -1,0 +1,50 @@
+use Rattle.std.proofs.Common.{◌≡◌, ◌∙◌, List, None, ap, length, refl, sym}
+use Rattle.std.proofs.lemmas.List.{with_items_is}
+use Rattle.tilt_engine.proofs.InletPlaces.{fault-unfinished}
+use Rattle.tilt_engine.proofs.Taking.{IsBeside, at-ok, engine-fault, engine-taken}
+use Rattle.tilt_engine.specs.Inlets.{inlet_fault, inlets_after}
+use Rattle.std.specs.Vec.{with_items}
+use Rattle.tilt_engine.specs.Stock.{InletParts}
+use Rattle.tilt_engine.specs.declared.engine.Engine.{Engine}
+use Rattle.tilt_feed.specs.Events.{event_fault}
+use Rattle.tilt_engine.proofs.engine.Engine.take.Goals as goal
+
+pub returns-in-Some-clause-taken : goal.returns-in-Some-clause-taken
+returns-in-Some-clause-taken c = λ code feed given is. (
+  sym (engine-fault c.args.self.now code feed given c.args.event is)
+      ∙ sym (ap (λ (list : List InletParts). inlet_fault c.args.self.now.finished list c.args.event) c.deref.ensures.value)
+      ∙ sym c.fault_of.ensures ∙ c.in-Some.is,
+  is,
+)
+
+pub take_event-requires : goal.take_event-requires
+take_event-requires c =
+    let e = c.args.self.now in
+    let of = λ (list : List InletParts). inlet_fault e.finished list c.args.event in
+    let none : None ≡ inlet_fault e.finished e.stock.inputs.items c.args.event =
+    sym c.in_default.is ∙ c.fault_of.ensures ∙ ap of c.deref.ensures.value in
+    rw c.deref_mut.ensures.value (fault-unfinished e.finished e.stock.inputs.items c.args.event none)
+
+pub returns-clause-taken : goal.returns-clause-taken
+returns-clause-taken c = λ code feed given is.
+    let e = c.args.self.now in
+    let event = c.args.event in
+    let inputs = e.stock.inputs in
+    let items = c.take_event.new.inputs in
+    let later : Engine = record {
+      code = e.code;
+      stock = record { inputs = with_items inputs items; loops = e.stock.loops };
+      states = e.states;
+      horizons = e.horizons;
+      status = c.behind-self.result;
+      finished = c.finishes-self.result;
+      given = e.given;
+    } in
+    let of = λ (list : List InletParts). inlet_fault e.finished list event in
+    let none : event_fault feed event ≡ None =
+    sym (engine-fault e code feed given event is) ∙ sym (ap of c.deref.ensures.value) ∙ sym c.fault_of.ensures ∙ c.in_default.is in
+    let made : items ≡ inlets_after event c.deref_mut.result.now = at-ok c.take_event.result c.if-is_err.ensures.value c.take_event.ensures.ok in
+    let many : length items ≡ inputs.len = c.take_event.auto.inputs ∙ c.deref_mut.ensures.len in
+    let all = with_items_is inputs items many ∙ made ∙ ap (inlets_after event) c.deref_mut.ensures.value in
+    let beside : IsBeside e later = record { code = refl; given = refl; loops = refl; states = refl } in
+    (none, engine-taken e later code feed given event beside c.finishes-self.ensures all (c.behind-self.ensures.behind is.sound) none is)

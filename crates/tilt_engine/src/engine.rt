@@ -1,0 +1,246 @@
+// The engine.
+ghost use Rattle.std.specs.Prelude.{◌≡◌, ◌≢◌, ℕ, drop, length, map, replicate, slice_get, Some, IsErr, IfOk, OnErr, OnOk};
+ghost use Rattle.tilt_code.specs.Code.{CodeParts, LoopParts};
+ghost use Rattle.tilt_engine.specs.Engines.{HasTaken, IsCurrent, IsEngine, IsEngineOf, IsNextOf, IsRefused, begun_pair, finishes};
+ghost use Rattle.tilt_engine.specs.Engines.{given_after, horizons_of, last_horizon, run_at_rest};
+ghost use Rattle.tilt_engine.specs.CodeHorizon.{horizon_by};
+ghost use Rattle.tilt_engine.specs.GoingOn.{IsNearCode};
+ghost use Rattle.tilt_engine.specs.Standing.{IsFresh};
+ghost use Rattle.tilt_engine.specs.Stock.{nothing_made, resting_inlet};
+ghost use Rattle.tilt_engine.specs.declared.status.Status.TheVariants.{Behind, Refused};
+ghost use Rattle.tilt_feed.specs.Events.{event_fault};
+ghost use Rattle.tilt_feed.specs.Feed.{Feed, empty_feed, unknown_input};
+ghost use Rattle.tilt_feed.specs.Horizon.{IsKnownAt};
+ghost use Rattle.tilt_feed.specs.Resting.{begun_next, ended_by};
+ghost use Rattle.tilt_turn.specs.declared.state.LoopState.{LoopState};
+
+use crate::advancing::{add_inputs, catch_up};
+use crate::events::{fault_of, take_event};
+use crate::fault::TakeError;
+use crate::inlet::Inlet;
+use crate::made::Made;
+use crate::status::Status;
+use crate::stock::Stock;
+use std::alloc::{AllocError as OutOfMemory, Global};
+use tilt_base::Cell;
+use tilt_code::Code;
+use tilt_feed::{Event, EventFault};
+use tilt_stream::Snap;
+use tilt_turn::LoopState;
+
+/// A code that runs while the rows of its inputs come in, event by event. After each event its run is the one on the rows of the feed
+/// at rest, of which it gives what is known.
+#[derive(Drop)]
+pub struct Engine {
+    code: Code,
+    stock: Stock,
+    states: Vec<LoopState>,
+    horizons: Vec<Option<i64>>,
+    status: Status,
+    finished: bool,
+    given: usize,
+}
+
+impl Engine {
+    /// The engine of a code before the first event. `OutOfMemory` comes if memory is refused, and for no other reason.
+    pub fn new(alloc: Global, code: Code) -> Result<Engine, OutOfMemory>
+        requires { IsNearCode code }
+        ensures { IfOk result (λ engine. IsEngineOf engine code (empty_feed (length code.inputs)) 0) }
+    {
+        let stock = new_stock(alloc, &code)?;
+        let states = new_states(alloc, &code)?;
+        Ok(Engine {
+            code,
+            stock,
+            states,
+            horizons: Vec::new(alloc),
+            status: Status::Behind,
+            finished: false,
+            given: 0,
+        })
+    }
+
+    /// The first rule that an event breaks, or `None` if it is allowed.
+    pub fn fault(&self, event: Event) -> Option<EventFault>
+        ensures { (code : CodeParts) (feed : Feed) (given : ℕ) → IsEngineOf self.now code feed given → result ≡ event_fault feed event }
+    {
+        fault_of(self.finished, &self.stock.inputs, event)
+    }
+
+    /// Up to where each input is known, in order, as a tick; none for ever.
+    pub fn input_horizons(&self, alloc: Global) -> Result<Vec<Option<i64>>, OutOfMemory>
+        ensures { IfOk result (λ horizons. (code : CodeParts) (feed : Feed) (given : ℕ) → IsEngineOf self.now code feed given
+            → map horizon_by horizons.items ≡ horizons_of feed) }
+    {
+        let mut horizons = Vec::new(alloc);
+        add_inputs(&mut horizons, &self.stock.inputs, self.finished)?;
+        Ok(horizons)
+    }
+
+    /// Takes an event. If it isn't allowed, the first rule that it breaks is returned, and nothing changes; if memory is refused, nothing
+    /// changes either. No loop makes a turn before the next snapshot is asked for.
+    pub fn take(&mut self, event: Event) -> Result<(), TakeError>
+        ensures taken { (code : CodeParts) (feed : Feed) (given : ℕ) → IsEngineOf self.old code feed given
+            → HasTaken result event feed (λ later. IsEngineOf self.new code later given) }
+        ensures for_good { IsRefused self.old → IsRefused self.new }
+    {
+        if let Some(fault) = fault_of(self.finished, &self.stock.inputs, event) {
+            return Err(TakeError::Fault(fault));
+        }
+        if take_event(&mut self.stock.inputs, event).is_err() {
+            return Err(TakeError::OutOfMemory);
+        }
+        self.finished = finishes(event);
+        self.status = behind(self.status);
+        Ok(())
+    }
+
+    /// The next snapshot of the run, if it ends at a limit or below it, which is known: `None` if all of these were given. `OutOfMemory`
+    /// comes if memory is refused, and each time after that.
+    pub fn next(&mut self, limit: i64) -> Result<Option<Snap>, OutOfMemory>
+        requires { IsEngine self.old }
+        ensures next { (code : CodeParts) (feed : Feed) (given : ℕ) → IsEngineOf self.old code feed given
+            → IsKnownAt (last_horizon code feed) limit
+            → IfOk result (λ next. (next ≡ slice_get (ended_by limit (run_at_rest code feed)) given)
+            × IsEngineOf self.new code feed (given_after given next)) }
+        ensures refused { OnErr result (IsRefused self.new) }
+        ensures for_good { IsRefused self.old → IsErr result }
+    {
+        // What a code keeps is known from here on.
+        let _ = self.code.loops();
+        let Some(snap) = self.peek()? else {
+            return Ok(None);
+        };
+        if limit < snap.end {
+            return Ok(None);
+        }
+        self.given += 1;
+        Ok(Some(snap))
+    }
+
+    /// The start and the value of the snapshot of the run after those that were given, if it starts below a limit, which is known.
+    /// `OutOfMemory` comes if memory is refused, and each time after that.
+    pub fn begun(&mut self, limit: i64) -> Result<Option<(i64, Cell)>, OutOfMemory>
+        requires { IsEngine self.old }
+        ensures begun { (code : CodeParts) (feed : Feed) (given : ℕ) → IsEngineOf self.old code feed given
+            → IsKnownAt (last_horizon code feed) limit
+            → IfOk result (λ begun. (begun ≡ begun_pair (begun_next limit (drop given (run_at_rest code feed))))
+            × IsEngineOf self.new code feed given) }
+        ensures refused { OnErr result (IsRefused self.new) }
+        ensures for_good { IsRefused self.old → IsErr result }
+    {
+        // What a code keeps is known from here on.
+        let _ = self.code.loops();
+        match self.peek()? {
+            Some(snap) if snap.start < limit => Ok(Some((snap.start, snap.value))),
+            _ => Ok(None),
+        }
+    }
+
+    // What the last loop has made after the snapshots that were given, once the loops have made all that is known.
+    fn peek(&mut self) -> Result<Option<Snap>, OutOfMemory>
+        requires { IsEngine self.old }
+        ensures next { (code : CodeParts) (feed : Feed) (given : ℕ) → IsEngineOf self.old code feed given
+            → IfOk result (λ next. IsNextOf code feed given next × IsEngineOf self.new code feed given) }
+        ensures refused { OnErr result (IsRefused self.new) }
+        ensures for_good { IsRefused self.old → IsErr result }
+    {
+        self.advance()?;
+        let last = self.code.loops().len() - 1;
+        Ok(self.stock.loops[last].piece(self.given))
+    }
+
+    // Makes all turns that are known.
+    fn advance(&mut self) -> Result<(), OutOfMemory>
+        requires { IsEngine self.old }
+        ensures engine { (code : CodeParts) (feed : Feed) (given : ℕ) → IsEngineOf self.old code feed given
+            → OnOk result (IsEngineOf self.new code feed given) }
+        ensures current { OnOk result (IsCurrent self.new) }
+        ensures refused { OnErr result (IsRefused self.new) }
+        ensures for_good { IsRefused self.old → IsErr result }
+    {
+        match self.status {
+            Status::Refused => Err(OutOfMemory),
+            Status::Current => Ok(()),
+            Status::Behind => {
+                // So it remains if memory is refused.
+                self.status = Status::Refused;
+                catch_up(
+                    &self.code,
+                    &mut self.stock,
+                    &mut self.states,
+                    &mut self.horizons,
+                    self.finished,
+                )?;
+                self.status = Status::Current;
+                Ok(())
+            }
+        }
+    }
+}
+
+// Whether a feed is finished by an event.
+fn finishes(event: Event) -> bool
+    ensures { result ≡ finishes event }
+{
+    match event {
+        Event::Input { .. } => false,
+        Event::Finish => true,
+    }
+}
+
+// How far an engine has come after an event.
+fn behind(status: Status) -> Status
+    ensures behind { status ≢ Refused → result ≡ Behind }
+    ensures refused { status ≡ Refused → result ≡ Refused }
+{
+    match status {
+        Status::Refused => Status::Refused,
+        _ => Status::Behind,
+    }
+}
+
+// The inputs and the loops of a code before the first event.
+fn new_stock(alloc: Global, code: &Code) -> Result<Stock, OutOfMemory>
+    ensures inputs { IfOk result (λ stock. stock.inputs.items ≡ replicate (length code.now.inputs) (resting_inlet unknown_input)) }
+    ensures loops { IfOk result (λ stock. stock.loops.items ≡ map nothing_made code.now.loops) }
+{
+    let inputs = new_inputs(alloc, code.inputs().len())?;
+    let loops = new_loops(alloc, code)?;
+    Ok(Stock { inputs, loops })
+}
+
+// So many inputs of which nothing is known.
+fn new_inputs(alloc: Global, count: usize) -> Result<Vec<Inlet>, OutOfMemory>
+    ensures { IfOk result (λ inputs. inputs.items ≡ replicate count (resting_inlet unknown_input)) }
+{
+    let mut inputs = Vec::new(alloc);
+    for _ in 0..count {
+        inputs.push(Inlet::new(alloc))?;
+    }
+    Ok(inputs)
+}
+
+// The loops of a code, which have made nothing.
+fn new_loops(alloc: Global, code: &Code) -> Result<Vec<Made>, OutOfMemory>
+    ensures { IfOk result (λ loops. loops.items ≡ map nothing_made code.now.loops) }
+{
+    let mut loops = Vec::new(alloc);
+    for each in code.loops() {
+        loops.push(Made::new(alloc, each.lo, each.hi))?;
+    }
+    Ok(loops)
+}
+
+// The states of the loops of a code before their first turns.
+fn new_states(alloc: Global, code: &Code) -> Result<Vec<LoopState>, OutOfMemory>
+    ensures many { IfOk result (λ states. length states.items ≡ length code.now.loops) }
+    ensures fresh { IfOk result (λ states. (k : ℕ) (l : LoopParts) (state : LoopState) → slice_get code.now.loops k ≡ Some l
+        → slice_get states.items k ≡ Some state → IsFresh l state) }
+{
+    let mut states = Vec::new(alloc);
+    for each in code.loops() {
+        states.push(LoopState::new(alloc, each)?)?;
+    }
+    Ok(states)
+}

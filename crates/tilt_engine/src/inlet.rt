@@ -1,0 +1,155 @@
+// An input that is fed.
+ghost use Rattle.std.specs.Prelude.{◌≡◌, ◌<ℤ◌, None, OnErr, OnOk, false, slice_get};
+ghost use Rattle.std.specs.Option.{ForSome};
+ghost use Rattle.tilt_engine.specs.Stock.{finished_inlet, resting_inlet};
+ghost use Rattle.tilt_feed.specs.Resting.{resting_end};
+ghost use Rattle.tilt_feed.specs.Events.{opened_by, update_fault, updated, watermark_after};
+ghost use Rattle.tilt_feed.specs.Laws.{IsInOrder};
+ghost use Rattle.tilt_feed.specs.Feed.{closed_at, unknown_input};
+
+use crate::closing::{add_closed, ended};
+use std::alloc::{AllocError as OutOfMemory, Global};
+use std::marker::Model;
+use tilt_base::{T, WIDE};
+use tilt_feed::{Edge, OpenRow, Update};
+use tilt_stream::{Buffer, Rows, Snap};
+
+// What is known of an input: its closed rows, the edge after them, and where the open row is taken to end.
+#[derive(Drop)]
+pub(crate) struct Inlet {
+    rows: Rows,
+    edge: Edge,
+    end: i64,
+}
+
+impl Model for Inlet {
+    ghost use Rattle.tilt_engine.specs.Stock.{InletParts, IsInlet, coded_inlet};
+
+    ghost Value = { InletParts };
+
+    ghost coded = { coded_inlet };
+
+    ghost view = { λ i. record { input = record { rows = i.rows; edge = i.edge }; end = i.end } };
+
+    ghost invariant = { λ i. IsInlet (record { input = record { rows = i.rows; edge = i.edge }; end = i.end }) };
+}
+
+impl Buffer for Inlet {
+    ghost use Rattle.tilt_engine.specs.Stock.{inlet_list};
+
+    ghost list = { inlet_list };
+
+    ghost forgotten = { λ _. 0 };
+
+    #[inline]
+    fn made(&self) -> usize {
+        match self.edge.open_row {
+            Some(_) => self.rows.len() + 1,
+            None => self.rows.len(),
+        }
+    }
+
+    #[inline]
+    fn first_kept(&self) -> usize {
+        0
+    }
+
+    #[inline]
+    fn at(&self, place: usize) -> Option<Snap> {
+        if place < self.rows.len() {
+            return Some(self.rows.get(place));
+        }
+        if place == self.rows.len() {
+            return resting_row(self.edge.open_row, self.end);
+        }
+        None
+    }
+}
+
+impl Inlet {
+    // An input of which nothing is known.
+    pub(crate) fn new(alloc: Global) -> Inlet
+        ensures { result ≡ resting_inlet unknown_input }
+    {
+        Inlet {
+            rows: Rows::new(alloc),
+            edge: Edge {
+                open_row: None,
+                watermark: -T,
+            },
+            end: WIDE,
+        }
+    }
+
+    // Where what is known of it ends.
+    #[inline]
+    pub(crate) fn edge(&self) -> Edge
+        ensures edge { result ≡ self.now.input.edge }
+        ensures order { IsInOrder self.now.input }
+    {
+        self.edge
+    }
+
+    // Takes an update that is allowed. If memory is refused, nothing changes.
+    pub(crate) fn update(&mut self, update: Update) -> Result<(), OutOfMemory>
+        requires { update_fault false self.old.input.edge update ≡ None }
+        ensures ok { OnOk result (self.new ≡ resting_inlet (updated update self.old.input)) }
+        ensures err { OnErr result (self.new ≡ self.old) }
+    {
+        add_closed(&mut self.rows, self.edge, update)?;
+        self.edge = edge_after(self.edge, update);
+        self.end = resting_end(self.edge);
+        Ok(())
+    }
+
+    // Takes it that nothing more comes.
+    pub(crate) fn finish(&mut self)
+        ensures { self.new ≡ finished_inlet self.old.input }
+    {
+        self.end = self.edge.watermark;
+    }
+}
+
+// An open row, if there is one, ended at a tick.
+#[inline]
+fn resting_row(open_row: Option<OpenRow>, end: i64) -> Option<Snap>
+    requires { ForSome open_row (λ row. row.start <ℤ end) }
+    ensures { result ≡ slice_get (closed_at end open_row) 0 }
+{
+    match open_row {
+        Some(row) => Some(ended(row, end)),
+        None => None,
+    }
+}
+
+// The edge after an update that is allowed.
+fn edge_after(edge: Edge, update: Update) -> Edge
+    requires { update_fault false edge update ≡ None }
+    ensures { result ≡ record { open_row = opened_by edge update; watermark = watermark_after update } }
+{
+    match update {
+        Update::Row { end, .. } => Edge {
+            open_row: None,
+            watermark: end,
+        },
+        Update::Value { start, value } => Edge {
+            open_row: Some(OpenRow { start, value }),
+            watermark: start + 1,
+        },
+        Update::NoValue { start } => Edge {
+            open_row: None,
+            watermark: (start + 1).min(T),
+        },
+        Update::KnownUpTo { watermark } => Edge {
+            open_row: edge.open_row,
+            watermark,
+        },
+    }
+}
+
+// Where an open row is taken to end while that isn't known.
+fn resting_end(edge: Edge) -> i64
+    ensures { result ≡ resting_end edge }
+{
+    if edge.watermark == T { T } else { WIDE }
+}

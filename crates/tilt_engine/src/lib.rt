@@ -1,0 +1,35 @@
+//! Loop code that runs while its rows come in.
+//!
+//! What comes in is loop code and the events of a feed, one after another; what goes out is the snapshots of the code's last loop, each as
+//! soon as it is known. `IsEngineOf engine code feed given` of `specs/Engines` says that `engine` runs a code after a feed, and that it has
+//! returned the first `given` snapshots of the run on the rows of the feed at rest, `run_at_rest code feed`. The clauses of `Engine` say
+//! what each call does with that:
+//!
+//! - `new` starts with the empty feed, and with no snapshot returned.
+//! - `take` of an event that is allowed goes on to the feed after it. Otherwise it returns the first rule that is broken, and nothing
+//!   changes. Nothing changes either if memory is refused.
+//! - `next limit` returns the snapshot that comes after the first `given`, if it ends at the limit or below it. The limit has to be known
+//!   of the last loop. `specs/CodeHorizon` says up to where each buffer of a code is known.
+//!
+//! The clause `next` matters most. Its proof rests on the law `buffers_go_on`: where the inputs of a code go on, so does each buffer, up to
+//! its own horizon. So a snapshot whose end is known stays, whatever comes later.
+//!
+//! If memory is refused in `next` or `begun`, each later call of them reports the same. All rows and all snapshots of all loops are kept.
+#![tactic(auto)]
+
+mod advancing;
+mod closing;
+mod engine;
+mod events;
+mod fault;
+mod horizon;
+mod inlet;
+mod law;
+mod made;
+mod status;
+mod stock;
+mod turning;
+
+pub use engine::Engine;
+pub use fault::TakeError;
+pub use law::buffers_go_on;

@@ -1,0 +1,27 @@
+//! The live engine of an accepted query.
+//!
+//! What comes in is an accepted query and the events of its feed, one after another; what goes out is snapshots of its output, each as
+//! soon as it is final. `IsLiveOf live accepted feed given` of `specs/Lives` says that `live` is the engine of a query after a feed, and
+//! that it has returned the first `given` of the snapshots `printed accepted.core feed`. The clauses of `Live` say together what it does,
+//! whatever events come, and in whatever order with calls of `next` and `begun`:
+//!
+//! - `new` starts with the empty feed, and with no snapshot returned.
+//! - `take` of an event that is allowed goes on to the feed after it. If the event isn't allowed, it returns the first rule that is
+//!   broken, and nothing changes. Nothing changes either if memory is refused. `fault` returns that rule without taking the event.
+//! - `next` returns the snapshot of `printed` that comes after the first `given`, and `given` is one higher then. It returns `None` if
+//!   there is no such snapshot.
+//!
+//! So at each moment the snapshots that were returned are the first `given` of `printed`, each once and in order, and `next` returns
+//! `None` exactly if all of them were returned. What is printed after some events is a prefix of what is printed after further ones, and
+//! the whole output of the query once the feed is finished: these are laws of the definitions, which `tilt_feed` has as clauses
+//! (`known_is_final`, `all_is_printed`). After all of `printed`, `begun` returns the start and the value of the snapshot that has begun.
+//!
+//! If memory is refused in `next` or `begun`, each later call of them reports the same.
+#![tactic(auto)]
+
+mod horizon;
+mod law;
+mod live;
+
+pub use law::code_reaches_the_horizon;
+pub use live::Live;

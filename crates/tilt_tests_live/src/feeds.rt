@@ -1,0 +1,281 @@
+// Feeds of queries that were worked out by hand.
+ghost use Rattle.std.specs.Prelude.{IfOk};
+ghost use Rattle.tilt_live.specs.Lives.{IsLive};
+
+use std::alloc::Global;
+use std::process::Abort;
+use std::test::Fail;
+use tilt_base::Cell;
+use tilt_compiler::accept;
+use tilt_engine::TakeError;
+use tilt_feed::{Event, EventFault, Update};
+use tilt_live::Live;
+use tilt_testing::{Piece, core_of, piece_of};
+
+// What an event says of an input, which has a number: a row, a value from a tick on, or that it is known up to a tick; or that the feed is
+// finished.
+enum Said {
+    Row(u32, i64, i64, i64),
+    Value(u32, i64, i64),
+    Known(u32, i64),
+    Finish,
+}
+
+// An event that is allowed, and what comes out after it: the snapshots that are final, and what has begun.
+struct Step {
+    said: Said,
+    printed: &'static [Piece],
+    begun: Option<(i64, Cell)>,
+}
+
+// The input itself.
+const ITSELF: &str = "input x;\nemit x over (0, 30];";
+
+const ITSELF_STEPS: &[Step] = &[
+    Step {
+        said: Said::Row(0, 0, 10, 5),
+        printed: &[(0, 10, Some(5))],
+        begun: None,
+    },
+    // A gap has begun.
+    Step {
+        said: Said::Known(0, 20),
+        printed: &[],
+        begun: Some((10, None)),
+    },
+    Step {
+        said: Said::Value(0, 22, 7),
+        printed: &[(10, 22, None)],
+        begun: Some((22, Some(7))),
+    },
+    Step {
+        said: Said::Known(0, 25),
+        printed: &[],
+        begun: Some((22, Some(7))),
+    },
+    // The open row ends.
+    Step {
+        said: Said::Row(0, 22, 26, 7),
+        printed: &[(22, 26, Some(7))],
+        begun: None,
+    },
+    Step {
+        said: Said::Finish,
+        printed: &[(26, 30, None)],
+        begun: None,
+    },
+];
+
+// How many rows a window meets.
+const COUNTED: &str = "input x;\nemit count(x[t-3:t]) over (0, 8];";
+
+const COUNTED_STEPS: &[Step] = &[
+    Step {
+        said: Said::Row(0, 0, 2, 1),
+        printed: &[(0, 2, Some(1))],
+        begun: None,
+    },
+    Step {
+        said: Said::Row(0, 4, 6, 2),
+        printed: &[(2, 4, Some(1)), (4, 6, Some(1))],
+        begun: None,
+    },
+    Step {
+        said: Said::Known(0, 7),
+        printed: &[],
+        begun: Some((6, Some(1))),
+    },
+    Step {
+        said: Said::Known(0, 8),
+        printed: &[(6, 8, Some(1))],
+        begun: None,
+    },
+];
+
+// Two inputs, of which one waits for the other, and a third one, which isn't read.
+const ADDED: &str = "input x;\ninput y;\ninput z;\nemit x + y over (0, 10];";
+
+const ADDED_STEPS: &[Step] = &[
+    Step {
+        said: Said::Row(0, 0, 10, 1),
+        printed: &[],
+        begun: None,
+    },
+    Step {
+        said: Said::Row(1, 0, 4, 2),
+        printed: &[(0, 4, Some(3))],
+        begun: None,
+    },
+    Step {
+        said: Said::Known(1, 6),
+        printed: &[],
+        begun: Some((4, None)),
+    },
+    Step {
+        said: Said::Row(1, 6, 10, 5),
+        printed: &[(4, 6, None), (6, 10, Some(6))],
+        begun: None,
+    },
+];
+
+// An average on a grid, over one of definitions that are fused or not.
+const AVERAGED: &str =
+    "input x;\nlet y = x + 1;\nlet z = y - 1;\nemit avg(z[t-10:t]) over (0, 30] every 10;";
+
+const AVERAGED_STEPS: &[Step] = &[
+    Step {
+        said: Said::Row(0, 0, 5, 4),
+        printed: &[],
+        begun: None,
+    },
+    // The row leaves the window after the grid point.
+    Step {
+        said: Said::Known(0, 10),
+        printed: &[(0, 10, Some(4))],
+        begun: None,
+    },
+    Step {
+        said: Said::Row(0, 12, 16, 6),
+        printed: &[],
+        begun: None,
+    },
+    Step {
+        said: Said::Row(0, 17, 19, 8),
+        printed: &[],
+        begun: None,
+    },
+    Step {
+        said: Said::Finish,
+        printed: &[(10, 20, Some(7)), (20, 30, None)],
+        begun: None,
+    },
+];
+
+fn event_of(said: &Said) -> Event {
+    match said {
+        Said::Row(input, start, end, value) => Event::Input {
+            input: *input,
+            update: Update::Row {
+                start: *start,
+                end: *end,
+                value: Some(*value),
+            },
+        },
+        Said::Value(input, start, value) => Event::Input {
+            input: *input,
+            update: Update::Value {
+                start: *start,
+                value: *value,
+            },
+        },
+        Said::Known(input, watermark) => Event::Input {
+            input: *input,
+            update: Update::KnownUpTo {
+                watermark: *watermark,
+            },
+        },
+        Said::Finish => Event::Finish,
+    }
+}
+
+// The live engine of a query.
+fn live_of(alloc: Global, text: &str, fuse: bool) -> Result<Live, Fail>
+    ensures { IfOk result (λ live. IsLive live) }
+{
+    let core = core_of(alloc, text)?;
+    let accepted = accept(alloc, core, fuse)?;
+    Ok(Live::new(alloc, accepted)?)
+}
+
+// Takes an event, which is allowed.
+fn take(live: &mut Live, said: &Said) -> Result<(), Fail>
+    requires { IsLive live.old }
+    ensures { IsLive live.new }
+{
+    match live.take(event_of(said)) {
+        Ok(()) => Ok(()),
+        Err(_) => Err("not taken".into()),
+    }
+}
+
+// The snapshots that are final, at most 100.
+fn drain(alloc: Global, live: &mut Live) -> Result<Vec<Piece>, Fail>
+    requires { IsLive live.old }
+    ensures { IsLive live.new }
+{
+    let mut pieces = Vec::new(alloc);
+    for _ in 0..100 {
+        match live.next()? {
+            Some(snap) => pieces.push(piece_of(snap))?,
+            None => return Ok(pieces),
+        }
+    }
+    Ok(pieces)
+}
+
+// What comes out after an event is what is wanted.
+fn goes_on(alloc: Global, rt: &impl Abort, live: &mut Live, step: &Step) -> Result<(), Fail>
+    requires { IsLive live.old }
+    ensures { IsLive live.new }
+{
+    take(live, &step.said)?;
+    let pieces = drain(alloc, live)?;
+    assert_eq!(rt; pieces.as_slice(), step.printed);
+    let begun = live.begun()?;
+    assert_eq!(rt; begun, step.begun);
+    Ok(())
+}
+
+// So it is after each event, with fusion and without.
+fn run(alloc: Global, rt: &impl Abort, text: &str, steps: &[Step]) -> Result<(), Fail> {
+    for fuse in [true, false] {
+        run_one(alloc, rt, text, fuse, steps)?;
+    }
+    Ok(())
+}
+
+fn run_one(
+    alloc: Global,
+    rt: &impl Abort,
+    text: &str,
+    fuse: bool,
+    steps: &[Step],
+) -> Result<(), Fail> {
+    let mut live = live_of(alloc, text, fuse)?;
+    for step in steps {
+        goes_on(alloc, rt, &mut live, step)?;
+    }
+    Ok(())
+}
+
+#[test]
+fn an_input_itself(rt: HostRuntime) -> Result<(), Fail> {
+    run(rt.alloc(), &rt, ITSELF, ITSELF_STEPS)
+}
+
+#[test]
+fn rows_in_a_window(rt: HostRuntime) -> Result<(), Fail> {
+    run(rt.alloc(), &rt, COUNTED, COUNTED_STEPS)
+}
+
+#[test]
+fn an_input_that_is_ahead(rt: HostRuntime) -> Result<(), Fail> {
+    run(rt.alloc(), &rt, ADDED, ADDED_STEPS)
+}
+
+#[test]
+fn an_average_on_a_grid(rt: HostRuntime) -> Result<(), Fail> {
+    run(rt.alloc(), &rt, AVERAGED, AVERAGED_STEPS)
+}
+
+#[test]
+fn an_event_that_is_late(rt: HostRuntime) -> Result<(), Fail> {
+    let mut live = live_of(rt.alloc(), ITSELF, true)?;
+    take(&mut live, &Said::Row(0, 0, 10, 5))?;
+    let late = live.take(event_of(&Said::Row(0, 9, 12, 5)));
+    assert!(&rt; late == Err(TakeError::Fault(EventFault::Late)));
+    take(&mut live, &Said::Finish)?;
+    let finished = live.take(event_of(&Said::Finish));
+    assert!(&rt; finished == Err(TakeError::Fault(EventFault::Finished)));
+    Ok(())
+}
