@@ -11,15 +11,16 @@ from conftest import TOP
 
 sys.path.insert(0, str(TOP / "tools"))
 
-from measure.coverage.program import ENTRY, Observed, places_of  # noqa: E402
-from measure.coverage.run import functions_in, is_ours, jumps_in  # noqa: E402
+from measure.coverage.program import ENTRY, Observed, Place, places_of  # noqa: E402
+from measure.coverage.run import branches_in, functions_in, is_ours  # noqa: E402
 
 # With one argument and the name of the program `count` is 2.
 SOURCE = """
 int never(int n) { return n; }
 int odd(int n) { if (n & 1) return 1; return 0; }
 int sum(int n) { int all = 0; for (int i = 0; i < n; i++) all += i; return all; }
-int main(int count, char **words) { if (count > 9) return never(count); return 10 * odd(count) + sum(100 * count) % 7; }
+int sure(int n) { if (n > 9) __builtin_trap(); return n; }
+int main(int count, char **words) { if (count > 9) return never(count); return 10 * odd(sure(count)) + sum(100 * count) % 7; }
 """
 
 
@@ -68,7 +69,22 @@ def test_jumps_are_found_with_their_conditions(observed: Observed) -> None:
 def test_only_places_in_some_functions_are_observed(observed: Observed, tmp_path: pathlib.Path) -> None:
     some = Observed(str(tmp_path / "program"), str(tmp_path), lambda function: function in ("odd", "sum"))
     assert subprocess.run([some.starter]).returncode == 10 + 4950 % 7
-    assert functions_in(some.seen()) == {"odd": True, "sum": True} and sum(jumps_in(some.seen()).values()) == 2
+    assert functions_in(some.seen()) == {"odd": True, "sum": True} and sorted(branches_in(some.seen())) == [("odd", 0), ("sum", 0)]
+
+
+def test_a_way_to_where_nothing_leads_makes_no_branch(observed: Observed) -> None:
+    assert subprocess.run([observed.starter]).returncode == 10 + 4950 % 7
+    assert functions_in(observed.seen())["sure"] and ways(observed, "sure") == []
+
+
+def test_branches_of_a_generic_function_count_once() -> None:
+    def jump(function: str, at: int, bits: int) -> tuple[Place, int]:
+        return Place(function, at, at + 9, 2, 4, 0x74), bits
+
+    same = [jump("tilt_a::f::<i8>", 1, 1), jump("tilt_a::f::<i8>", 5, 1), jump("tilt_a::f::<i64>", 11, 2), jump("tilt_a::f::<i64>", 15, 0)]
+    assert branches_in(same) == {("tilt_a::f", 0): 3, ("tilt_a::f", 1): 1}
+    apart = [*same, jump("tilt_a::f::<i64>", 19, 2)]
+    assert sorted(branches_in(apart).values()) == [0, 1, 1, 2, 2] and len({name for name, _ in branches_in(apart)}) == 2
 
 
 def test_functions_of_the_crates_count_and_not_what_the_compiler_writes() -> None:

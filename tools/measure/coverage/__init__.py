@@ -1,1 +1,1 @@
-"""Which functions and jumps of the program the checks reach: run.py begins it, and says what it does."""
+"""Which functions and branches of the program the checks reach: run.py begins it, and says what it does."""
