@@ -5,7 +5,7 @@ ghost use Rattle.tilt_live.specs.Lives.{IsLive};
 use std::alloc::Global;
 use std::process::Abort;
 use std::test::Fail;
-use tilt_base::Cell;
+use tilt_base::{Cell, T};
 use tilt_compiler::accept;
 use tilt_engine::TakeError;
 use tilt_feed::{Event, EventFault, Update};
@@ -151,6 +151,163 @@ const AVERAGED_STEPS: &[Step] = &[
     },
 ];
 
+// A reading of the past, of a value that goes on, ends, is said again, and ends by the next row.
+const SHIFTED: &str = "input x;\nemit x[t-2] over (0, 10];";
+
+const SHIFTED_STEPS: &[Step] = &[
+    Step {
+        said: Said::Value(0, 0, 7),
+        printed: &[(0, 2, None)],
+        begun: Some((2, Some(7))),
+    },
+    Step {
+        said: Said::Known(0, 4),
+        printed: &[],
+        begun: Some((2, Some(7))),
+    },
+    Step {
+        said: Said::Row(0, 0, 5, 7),
+        printed: &[(2, 7, Some(7))],
+        begun: None,
+    },
+    // The same value again is a snapshot of its own.
+    Step {
+        said: Said::Value(0, 5, 7),
+        printed: &[],
+        begun: Some((7, Some(7))),
+    },
+    Step {
+        said: Said::Row(0, 8, 9, 1),
+        printed: &[(7, 10, Some(7))],
+        begun: None,
+    },
+    Step {
+        said: Said::Finish,
+        printed: &[],
+        begun: None,
+    },
+];
+
+// A reading of the future.
+const AHEAD: &str = "input x;\nemit x[t+3] over (0, 10];";
+
+const AHEAD_STEPS: &[Step] = &[
+    Step {
+        said: Said::Row(0, 0, 5, 1),
+        printed: &[(0, 2, Some(1))],
+        begun: None,
+    },
+    Step {
+        said: Said::Row(0, 5, 8, 1),
+        printed: &[(2, 5, Some(1))],
+        begun: None,
+    },
+    Step {
+        said: Said::Known(0, 9),
+        printed: &[],
+        begun: Some((5, None)),
+    },
+    Step {
+        said: Said::Value(0, 12, 4),
+        printed: &[(5, 9, None), (9, 10, Some(4))],
+        begun: None,
+    },
+];
+
+// An input that is known for ever.
+const FOR_EVER_STEPS: &[Step] = &[
+    Step {
+        said: Said::Value(0, 0, 4),
+        printed: &[],
+        begun: Some((0, Some(4))),
+    },
+    Step {
+        said: Said::Known(0, T),
+        printed: &[(0, 30, Some(4))],
+        begun: None,
+    },
+    Step {
+        said: Said::Finish,
+        printed: &[],
+        begun: None,
+    },
+];
+
+// The last ticks of all.
+const LAST: &str = "input x;\nemit x over (3999999999999999998, 4000000000000000000];";
+
+const LAST_STEPS: &[Step] = &[
+    Step {
+        said: Said::Row(0, T - 2, T - 1, 1),
+        printed: &[(T - 2, T - 1, Some(1))],
+        begun: None,
+    },
+    // The value is at the last tick alone.
+    Step {
+        said: Said::Value(0, T - 1, 5),
+        printed: &[(T - 1, T, Some(5))],
+        begun: None,
+    },
+];
+
+// No input is read.
+const CONSTANT: &str = "emit 3 over (0, 5];";
+
+const CONSTANT_STEPS: &[Step] = &[Step {
+    said: Said::Finish,
+    printed: &[(0, 5, Some(3))],
+    begun: None,
+}];
+
+// A grid over another one, whose periods have no common factor.
+const NESTED: &str =
+    "input x;\nlet y = sum(x[t-4:t]) every 2;\nemit max(y[t-6:t]) over (0, 12] every 3;";
+
+const NESTED_STEPS: &[Step] = &[
+    Step {
+        said: Said::Row(0, 0, 3, 5),
+        printed: &[],
+        begun: None,
+    },
+    // The marks of the past leave the window after 3, so that the end of the first snapshot is sure.
+    Step {
+        said: Said::Value(0, 3, 1),
+        printed: &[(0, 3, Some(6))],
+        begun: None,
+    },
+    Step {
+        said: Said::Known(0, 7),
+        printed: &[(3, 6, Some(6))],
+        begun: None,
+    },
+    Step {
+        said: Said::Row(0, 3, 12, 1),
+        printed: &[(6, 9, Some(6)), (9, 12, Some(1))],
+        begun: None,
+    },
+];
+
+// A definition with a span of its own: null is known before it, and after it.
+const SPANNED: &str = "input x;\nlet y = x over (5, 8];\nemit y over (0, 12];";
+
+const SPANNED_STEPS: &[Step] = &[
+    Step {
+        said: Said::Known(0, 2),
+        printed: &[(0, 5, None)],
+        begun: None,
+    },
+    Step {
+        said: Said::Row(0, 4, 7, 9),
+        printed: &[(5, 7, Some(9))],
+        begun: None,
+    },
+    Step {
+        said: Said::Known(0, 8),
+        printed: &[(7, 8, None), (8, 12, None)],
+        begun: None,
+    },
+];
+
 fn event_of(said: &Said) -> Event {
     match said {
         Said::Row(input, start, end, value) => Event::Input {
@@ -266,6 +423,41 @@ fn an_input_that_is_ahead(rt: HostRuntime) -> Result<(), Fail> {
 #[test]
 fn an_average_on_a_grid(rt: HostRuntime) -> Result<(), Fail> {
     run(rt.alloc(), &rt, AVERAGED, AVERAGED_STEPS)
+}
+
+#[test]
+fn a_reading_of_the_past(rt: HostRuntime) -> Result<(), Fail> {
+    run(rt.alloc(), &rt, SHIFTED, SHIFTED_STEPS)
+}
+
+#[test]
+fn a_reading_of_the_future(rt: HostRuntime) -> Result<(), Fail> {
+    run(rt.alloc(), &rt, AHEAD, AHEAD_STEPS)
+}
+
+#[test]
+fn an_input_that_is_known_for_ever(rt: HostRuntime) -> Result<(), Fail> {
+    run(rt.alloc(), &rt, ITSELF, FOR_EVER_STEPS)
+}
+
+#[test]
+fn the_last_ticks(rt: HostRuntime) -> Result<(), Fail> {
+    run(rt.alloc(), &rt, LAST, LAST_STEPS)
+}
+
+#[test]
+fn a_query_without_inputs(rt: HostRuntime) -> Result<(), Fail> {
+    run(rt.alloc(), &rt, CONSTANT, CONSTANT_STEPS)
+}
+
+#[test]
+fn a_grid_over_a_grid(rt: HostRuntime) -> Result<(), Fail> {
+    run(rt.alloc(), &rt, NESTED, NESTED_STEPS)
+}
+
+#[test]
+fn a_definition_with_a_span(rt: HostRuntime) -> Result<(), Fail> {
+    run(rt.alloc(), &rt, SPANNED, SPANNED_STEPS)
 }
 
 #[test]
