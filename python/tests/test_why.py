@@ -138,7 +138,7 @@ def test_2000_random_texts(tilt, tmp_path):
     draw = queries.Draw(1)
     texts = [draw.mistaken(draw.query()) for _ in range(2000)]
     seen = compare(tilt, texts, tmp_path)
-    assert {"", "20", "21", "22", "23", "24", "25", "26", "27", "28", "29", "30", "31"} <= set(seen), seen
+    assert {"", "20", "21", "24", "25", "26", "27", "28", "29", "30", "31"} <= set(seen), seen
 
 
 def test_long_texts(tilt, tmp_path):
