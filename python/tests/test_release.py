@@ -100,7 +100,7 @@ def test_release_is_run_through_a_link(checkout: Checkout, tmp_path: pathlib.Pat
     assert (done.returncode, done.stdout) == (0, "released x\n")
 
 
-@pytest.mark.parametrize("name", ["crates.txt", "crates/tilt/src/lib.rt", "crates/tilt_base/src/lib.rt", "crates/tilt_base/specs/Lib.antt"])
+@pytest.mark.parametrize("name", ["crates/tilt/src/lib.rt", "crates/tilt_base/src/lib.rt", "crates/tilt_base/specs/Lib.antt"])
 def test_release_of_other_sources_is_not_run(checkout: Checkout, name: str) -> None:
     with open(checkout.folder / name, "a") as file:
         file.write("// changed\n")
@@ -113,6 +113,16 @@ def test_release_of_other_sources_is_not_run(checkout: Checkout, name: str) -> N
 def test_release_is_not_run_if_a_source_is_new(checkout: Checkout, name: str) -> None:
     checkout.write(name, "")
     assert checkout.run("run")[:2] == (125, "")
+
+
+def test_libraries_of_a_crate_count(checkout: Checkout) -> None:
+    checkout.write("crates.txt", "tilt_base: itoa csv\ntilt: tilt_base\n")
+    assert checkout.run("run")[:2] == (125, "")
+
+
+def test_lines_of_other_crates_do_not_count(checkout: Checkout) -> None:
+    checkout.write("crates.txt", "tilt: tilt_base\ntilt_more: tilt_base\n# Another comment.\ntilt_base: itoa\n")
+    assert checkout.run("run")[1] == "released run\n"
 
 
 def test_sources_of_tests_do_not_count(checkout: Checkout) -> None:
