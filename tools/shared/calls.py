@@ -5,7 +5,7 @@
   the default of the calls without it.
 - `chain` is one test: its `calls` run one after another in one folder, so each call finds what those before it left.
 
-A call has `words`, its arguments, where `?` stands for a byte that isn't UTF-8; `files`, the files in the folder where it runs; and what
+A call has `words`, its arguments, where `?` is a byte that isn't UTF-8; `files`, the files in the folder where it runs; and what
 it has to leave: `status`; `out` and `err`, which are empty by default; and `left`, the files that hold something else after the call. All
 other files have to be as before, and no file may be added. These keys are optional:
 
@@ -93,7 +93,7 @@ def in_group(group: Row, call: Row) -> Row:
 
 
 def each_of(name: str, call: Row) -> Iterator[tuple[str, Row]]:
-    """The calls that a call stands for, with their names."""
+    """The calls that a call expands to, with their names."""
     if "ways" in call:
         for words in call["ways"]:
             yield f"{name}: {' '.join(words)}", {**call, "words": words}
