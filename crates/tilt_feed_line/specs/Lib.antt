@@ -1,0 +1,4 @@
+pub mod Lines
+pub mod Plain
+pub mod Records
+pub mod Texts
