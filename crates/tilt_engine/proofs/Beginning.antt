@@ -1,5 +1,5 @@
 -- Where an engine stands before the first event.
-use Rattle.std.proofs.Common.{◌≡◌, ◌+◌, ℕ, zero, suc, List, [], ◌∷◌, ◌++◌, length, map, replicate, slice_get, option_map, Some, refl, sym, ap, ◌∙◌, inl, subst}
+use Rattle.std.proofs.Common.{◌≡◌, ◌+◌, ℕ, zero, suc, List, [], ◌∷◌, ◌++◌, length, map, get_or, replicate, slice_get, option_map, Some, refl, sym, ap, ◌∙◌, inl, subst}
 use Rattle.std.proofs.Common.{take, arith, Bool, true, false, if◌then◌else◌}
 use Rattle.std.proofs.lemmas.Int.{clamps, ints}
 use Rattle.std.proofs.lemmas.List.{length-map, length-replicate}
@@ -13,6 +13,7 @@ use Rattle.tilt_code.specs.Code.{CodeParts, LoopParts}
 use Rattle.tilt_code.specs.Meaning.{IsTimed}
 use Rattle.tilt_code.specs.References.{IsCode}
 use Rattle.tilt_engine.proofs.CodeHorizons.{horizon-at}
+use Rattle.tilt_engine.proofs.Gone.{all-left}
 use Rattle.tilt_engine.specs.CodeHorizon.{block_horizon, code_horizons, loop_horizon}
 use Rattle.tilt_engine.specs.Engines.{IsEngineOf, horizons_of}
 use Rattle.tilt_engine.specs.GoingOn.{IsNearCode}
@@ -27,6 +28,7 @@ use Rattle.tilt_feed.specs.Resting.{all_resting, resting}
 use Rattle.tilt_pipe.proofs.Standing.{none-fills, none-made}
 use Rattle.tilt_pipe.proofs.Works.{work-is}
 use Rattle.tilt_pipe.specs.Made.{Work}
+use Rattle.tilt_pipe.specs.Reads.{turn_point}
 use Rattle.tilt_stream.specs.Snap.{Fill, Snapshot}
 use Rattle.tilt_turn.specs.declared.state.LoopState.{LoopState}
 
@@ -65,9 +67,10 @@ start-known code hs place l many is =
 pub nothing-stands : (code : CodeParts) (rows : List (List Snapshot)) (hs : List Horizon) (states : List LoopState) → IsCode code
     → length rows ≡ length code.inputs → length hs ≡ length code.inputs → length states ≡ length code.loops
     → ((k : ℕ) (l : LoopParts) (state : LoopState) → slice_get code.loops k ≡ Some l → slice_get states k ≡ Some state → IsFresh l state)
-    → AreLoops code rows hs (map nothing_made code.loops) states 0
+    → AreLoops code rows [] hs (map nothing_made code.loops) states 0
 nothing-stands code rows hs states valid inputs horizons many fresh = record {
   inputs = inputs;
+  begin = λ number within. (get_or rows number [], refl);
   horizons = horizons;
   many = length-map code.loops nothing_made;
   many_states = many;
@@ -76,13 +79,13 @@ nothing-stands code rows hs states valid inputs horizons many fresh = record {
       let timed = all-slice_get IsTimed code.loops k w.loop (loops-timed code.loops valid.grammatical.loops) it.loop in
       let m_is : nothing_made w.loop ≡ m =
       same_Some (nothing_made w.loop) m (sym (slice_get-map nothing_made code.loops k ∙ ap (option_map nothing_made) it.loop) ∙ at) in
-      subst (λ (n : MadeParts). IsLoopAt code rows hs k w n state) m_is (begun k w state it.loop
+      subst (λ (n : MadeParts). IsLoopAt code rows [] hs k w n state) m_is (begun k w state it.loop
       (subst (Fill w.loop.lo w.loop.hi) (sym it.whole) (turns-Fill _ w.loop timed)) timed (fresh k w.loop state it.loop own));
   done = λ k m below at. absurd (omega arith);
 }
   where
     begun : (k : ℕ) (w : Work) (state : LoopState) → slice_get code.loops k ≡ Some w.loop → Fill w.loop.lo w.loop.hi w.whole → IsTimed w.loop
-        → IsFresh w.loop state → IsLoopAt code rows hs k w (nothing_made w.loop) state
+        → IsFresh w.loop state → IsLoopAt code rows [] hs k w (nothing_made w.loop) state
     begun k w state is fills timed new =
         let stretch = timed.stretch in
         record {
@@ -92,6 +95,7 @@ nothing-stands code rows hs states valid inputs horizons many fresh = record {
           hi = refl;
           known = start-known code hs k w.loop horizons is;
           waiting = λ v no. absurd (cc no);
+          unread = λ some. all-left (turn_point w.loop w.loop.lo) w.loop.body;
           fit = inl new;
         }
 
@@ -113,7 +117,10 @@ engine-new e valid near given finished status inputs loops many fresh =
     record {
       code_is = refl;
       near = near;
-      given_is = given;
+      gone = [];
+      left = feed;
+      feed_is = refl;
+      given_is = omega (arith, given);
       finished_is = finished;
       inlets = inputs ∙ sym (map-same resting_inlet n unknown_input);
       many = count;
@@ -121,8 +128,9 @@ engine-new e valid near given finished status inputs loops many fresh =
       events = [];
       follows = refl;
       order = fed-order n [];
+      whole_order = fed-order n [];
       upto = 0;
-      loops = subst (λ (made : List MadeParts). AreLoops e.code (all_resting feed) (horizons_of feed) made e.states.items 0) (sym loops)
+      loops = subst (λ (made : List MadeParts). AreLoops e.code (all_resting feed) [] (horizons_of feed) made e.states.items 0) (sym loops)
           (nothing-stands e.code (all_resting feed) (horizons_of feed) e.states.items valid
           (length-map feed.inputs resting ∙ count) (length-map feed.inputs (λ (a : InputFeed). input_horizon feed.finished a.edge) ∙ count) many fresh);
       current = λ is. absurd (cc (is, status));

@@ -25,6 +25,18 @@ horizons-front hs (l ∷ loops) =
     let more = horizons-front (hs ++ h ∷ []) loops in
     (h ∷ more.0, more.1 ∙ append_assoc hs (h ∷ []) more.0)
 
+horizon_of-front : (hs rest : List Horizon) (number : ℕ) → number < length hs → horizon_of (hs ++ rest) number ≡ horizon_of hs number
+horizon_of-front [] rest number within = absurd (omega arith)
+horizon_of-front (h ∷ hs) rest zero within = refl
+horizon_of-front (h ∷ hs) rest (suc number) within = horizon_of-front hs rest number (omega arith)
+
+-- an input has the horizon that was given
+pub input-horizon : (hs : List Horizon) (loops : List LoopParts) (number : ℕ) → number < length hs
+    → horizon_of (with_loop_horizons hs loops) number ≡ horizon_of hs number
+input-horizon hs loops number within =
+    let all = horizons-front hs loops in
+    ap (λ (list : List Horizon). horizon_of list number) all.1 ∙ horizon_of-front hs all.0 number within
+
 horizon_of-behind : (hs : List Horizon) (h : Horizon) (rest : List Horizon) → horizon_of (hs ++ h ∷ rest) (length hs) ≡ h
 horizon_of-behind [] h rest = refl
 horizon_of-behind (x ∷ hs) h rest = horizon_of-behind hs h rest

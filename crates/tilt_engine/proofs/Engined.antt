@@ -2,7 +2,7 @@
 use Rattle.std.proofs.Common.{◌≡◌, ◌⊎◌, ◌<◌, ◌+◌, ◌-◌, ℕ, ℤ, pos, ◌+ℤ◌, ◌<ℤ◌, ◌≤ℤ◌, Bool, List, [], length, map, drop, get_or, slice_get, Option, Some, None, refl, sym, ap, ◌∙◌, subst, arith}
 use Rattle.std.proofs.lemmas.Int.{ints, by_lt_z}
 use Rattle.std.proofs.lemmas.Option.{same_Some, slice_get_read, slice_get_within}
-use Rattle.circular_buffer.proofs.Places.{slice_get-some}
+use Rattle.circular_buffer.proofs.Places.{slice_get-append_right, slice_get-some}
 use Rattle.std.specs.List.{AllByRecursion}
 use Rattle.tilt_code.proofs.Runs.{loops-timed}
 use Rattle.tilt_code.specs.Code.{CodeParts}
@@ -11,14 +11,17 @@ use Rattle.tilt_code.specs.References.{IsCode}
 use Rattle.tilt_code.specs.Run.{run_of}
 use Rattle.tilt_engine.proofs.Feeding.{feed-goes_on, horizons-at_rest, lists-at_rest, order-after}
 use Rattle.tilt_engine.proofs.Given.{begun-none, late-of, limited-none, limited-some, made-of, starts-low, HasMadeTo}
-use Rattle.tilt_engine.proofs.Ringed.{ring-is}
+use Rattle.tilt_engine.proofs.Ringed.{pieces-are, ring-is}
+use Rattle.tilt_engine.proofs.WholeFeeds.{whole-after_all, whole-begins, whole-horizons, whole-lefts}
 use Rattle.tilt_engine.specs.Engines.{AreInlets, IsCurrent, IsEngineOf, IsNextOf, horizons_of, last_horizon, run_at_rest}
-use Rattle.tilt_engine.specs.GoingOn.{GoOn, IsNearCode}
-use Rattle.tilt_engine.specs.Standing.{AreLoops, ring_of}
+use Rattle.tilt_engine.specs.GoingOn.{AllGoOn, GoOn, IsNearCode}
+use Rattle.tilt_engine.specs.Gone.{BeginsWith, rests, whole_feed}
+use Rattle.tilt_engine.specs.Standing.{AreLoops, InletsGoOn, gone_at, ring_of}
 use Rattle.tilt_engine.specs.Stock.{InletParts, MadeParts, inlet_horizon, inlet_list, pieces, reached}
 use Rattle.tilt_engine.specs.declared.engine.Engine.{Engine}
 use Rattle.tilt_engine.specs.declared.status.Status.TheVariants.{Current}
 use Rattle.tilt_feed.proofs.Known.{known-below}
+use Rattle.tilt_feed.specs.Events.{after_all}
 use Rattle.tilt_feed.specs.Feed.{Feed}
 use Rattle.tilt_feed.specs.Horizon.{Horizon, IsKnownAt}
 use Rattle.tilt_feed.specs.Laws.{IsInOrder}
@@ -34,64 +37,113 @@ use Rattle.tilt_turn.specs.declared.state.LoopState.{LoopState}
 pub record MayCatchUp (code : CodeParts) (finished : Bool) (inlets : List InletParts) (loops : List MadeParts) (states : List LoopState) : Type 0 where
   pub near : IsNearCode code
   pub rows : List (List Snapshot)
+  pub later : List (List Snapshot)
+  pub gone : List (List Snapshot)
   pub hs : List Horizon
   pub upto : ℕ
-  pub are : AreLoops code rows hs loops states upto
-  pub go : GoOn hs rows (map (inlet_horizon finished) inlets) (map inlet_list inlets)
+  pub are : AreLoops code rows gone hs loops states upto
+  pub go : InletsGoOn code rows later gone hs finished inlets
 
 module _ (engine : Engine) (code : CodeParts) (feed : Feed) (given : ℕ) (of : IsEngineOf engine code feed given) where
-  -- the rows of its inputs are those of the feed at rest, known up to the same horizons
-  pub inlet-rows : map inlet_list engine.stock.inputs.items ≡ all_resting feed
-  inlet-rows = lists-at_rest feed engine.stock.inputs.items of.inlets
+  abbrev before : Feed
+  before = whole_feed of.gone of.before
+
+  -- the rows of its inputs are what is left of those of the feed at rest, known up to the same horizons
+  pub inlet-lefts : map inlet_list engine.stock.inputs.items ≡ rests of.gone (all_resting feed)
+  inlet-lefts =
+      lists-at_rest of.left engine.stock.inputs.items of.inlets ∙ sym (whole-lefts of.gone of.left)
+      ∙ ap (λ (f : Feed). rests of.gone (all_resting f)) (sym of.feed_is)
 
   pub inlet-horizons : map (inlet_horizon engine.finished) engine.stock.inputs.items ≡ horizons_of feed
   inlet-horizons =
-      ap (λ (b : Bool). map (inlet_horizon b) engine.stock.inputs.items) of.finished_is ∙ horizons-at_rest feed engine.stock.inputs.items of.inlets
+      ap (λ (b : Bool). map (inlet_horizon b) engine.stock.inputs.items) of.finished_is
+      ∙ horizons-at_rest of.left engine.stock.inputs.items of.inlets ∙ sym (whole-horizons of.gone of.left) ∙ ap horizons_of (sym of.feed_is)
 
-  goes : GoOn (horizons_of of.before) (all_resting of.before) (horizons_of feed) (all_resting feed)
-  goes = subst (λ (f : Feed). GoOn (horizons_of of.before) (all_resting of.before) (horizons_of f) (all_resting f)) (sym of.follows)
-      (feed-goes_on of.events of.before of.order)
+  -- the feed follows from the earlier one
+  feed-follows : feed ≡ after_all of.events before
+  feed-follows = of.feed_is ∙ ap (whole_feed of.gone) of.follows ∙ sym (whole-after_all of.gone of.events of.before)
+
+  goes : GoOn (horizons_of before) (all_resting before) (horizons_of feed) (all_resting feed)
+  goes = subst (λ (f : Feed). GoOn (horizons_of before) (all_resting before) (horizons_of f) (all_resting f)) (sym feed-follows)
+      (feed-goes_on of.events before of.whole_order)
+
+  left-goes : AllGoOn (horizons_of before) (rests of.gone (all_resting before)) (rests of.gone (all_resting feed))
+  left-goes =
+      let go : AllGoOn (horizons_of of.before) (all_resting of.before) (all_resting of.left) =
+      subst (λ (f : Feed). AllGoOn (horizons_of of.before) (all_resting of.before) (all_resting f)) (sym of.follows)
+      (feed-goes_on of.events of.before of.order).rows_go_on in
+      let now : rests of.gone (all_resting feed) ≡ all_resting of.left =
+      ap (λ (f : Feed). rests of.gone (all_resting f)) of.feed_is ∙ whole-lefts of.gone of.left in
+      subst (λ (hs : List Horizon). AllGoOn hs (rests of.gone (all_resting before)) (rests of.gone (all_resting feed))) (sym (whole-horizons of.gone of.before))
+      (subst (λ (rows : List (List Snapshot)). AllGoOn (horizons_of of.before) rows (rests of.gone (all_resting feed))) (sym (whole-lefts of.gone of.before))
+      (subst (λ (rows : List (List Snapshot)). AllGoOn (horizons_of of.before) (all_resting of.before) rows) (sym now) go))
+
+  inlets-go_on : InletsGoOn code (all_resting before) (all_resting feed) of.gone (horizons_of before) engine.finished engine.stock.inputs.items
+  inlets-go_on = record {
+    whole = subst (λ (hs : List Horizon). GoOn (horizons_of before) (all_resting before) hs (all_resting feed)) (sym inlet-horizons) goes;
+    left = inlet-lefts;
+    rest = left-goes;
+    begin = λ number within.
+        subst (λ (f : Feed). BeginsWith (get_or of.gone number []) (get_or (all_resting f) number [])) (sym of.feed_is)
+        (whole-begins of.gone of.left number (omega (arith, within, of.many)));
+  }
+
+  pub loops-before : AreLoops engine.code (all_resting before) of.gone (horizons_of before) engine.stock.loops.items engine.states.items of.upto
+  loops-before =
+      subst (λ (x : CodeParts). AreLoops x (all_resting before) of.gone (horizons_of before) engine.stock.loops.items engine.states.items of.upto)
+      (sym of.code_is) of.loops
+
+  pub inlets-after : InletsGoOn engine.code (all_resting before) (all_resting feed) of.gone (horizons_of before) engine.finished engine.stock.inputs.items
+  inlets-after =
+      subst (λ (x : CodeParts). InletsGoOn x (all_resting before) (all_resting feed) of.gone (horizons_of before) engine.finished engine.stock.inputs.items)
+      (sym of.code_is) inlets-go_on
 
   pub may-catch_up : MayCatchUp engine.code engine.finished engine.stock.inputs.items engine.stock.loops.items engine.states.items
-  may-catch_up =
-      let near : IsNearCode engine.code = subst IsNearCode (sym of.code_is) of.near in
-      let are : AreLoops engine.code (all_resting of.before) (horizons_of of.before) engine.stock.loops.items engine.states.items of.upto =
-      subst (λ (x : CodeParts). AreLoops x (all_resting of.before) (horizons_of of.before) engine.stock.loops.items engine.states.items of.upto)
-      (sym of.code_is) of.loops in
-      let go : GoOn (horizons_of of.before) (all_resting of.before) (map (inlet_horizon engine.finished) engine.stock.inputs.items)
-      (map inlet_list engine.stock.inputs.items) =
-      subst (λ (hs : List Horizon). GoOn (horizons_of of.before) (all_resting of.before) hs (map inlet_list engine.stock.inputs.items)) (sym inlet-horizons)
-      (subst (λ (rows : List (List Snapshot)). GoOn (horizons_of of.before) (all_resting of.before) (horizons_of feed) rows) (sym inlet-rows) goes) in
-      record { near = near; rows = all_resting of.before; hs = horizons_of of.before; upto = of.upto; are = are; go = go }
+  may-catch_up = record {
+    near = subst IsNearCode (sym of.code_is) of.near;
+    rows = all_resting before;
+    later = all_resting feed;
+    gone = of.gone;
+    hs = horizons_of before;
+    upto = of.upto;
+    are = loops-before;
+    go = inlets-after;
+  }
 
-  order : AllByRecursion IsInOrder feed.inputs
-  order = subst (λ (f : Feed). AllByRecursion IsInOrder f.inputs) (sym of.follows) (order-after of.events of.before of.order)
+  left-order : AllByRecursion IsInOrder of.left.inputs
+  left-order = subst (λ (f : Feed). AllByRecursion IsInOrder f.inputs) (sym of.follows) (order-after of.events of.before of.order)
+
+  pub order : AllByRecursion IsInOrder feed.inputs
+  order = subst (λ (f : Feed). AllByRecursion IsInOrder f.inputs) (sym feed-follows) (order-after of.events before of.whole_order)
 
   -- once its loops have made all that is known
   pub caught-up : (new : Engine) → new.code ≡ engine.code → new.given ≡ engine.given → new.finished ≡ engine.finished
       → new.stock.inputs.items ≡ engine.stock.inputs.items → new.status ≡ Current
-      → AreLoops engine.code (map inlet_list engine.stock.inputs.items) (map (inlet_horizon engine.finished) engine.stock.inputs.items)
+      → AreLoops engine.code (all_resting feed) of.gone (map (inlet_horizon engine.finished) engine.stock.inputs.items)
       new.stock.loops.items new.states.items (length engine.code.loops)
       → IsEngineOf new code feed given
   caught-up new code_is given_is finished_is inputs_is status are =
-      let here : AreLoops code (all_resting feed) (horizons_of feed) new.stock.loops.items new.states.items (length code.loops) =
-      subst (λ (x : CodeParts). AreLoops x (all_resting feed) (horizons_of feed) new.stock.loops.items new.states.items (length x.loops)) of.code_is
-      (subst (λ (hs : List Horizon). AreLoops engine.code (all_resting feed) hs new.stock.loops.items new.states.items (length engine.code.loops)) inlet-horizons
-      (subst (λ (rows : List (List Snapshot)). AreLoops engine.code rows (map (inlet_horizon engine.finished) engine.stock.inputs.items)
-      new.stock.loops.items new.states.items (length engine.code.loops)) inlet-rows are)) in
+      let here : AreLoops code (all_resting feed) of.gone (horizons_of feed) new.stock.loops.items new.states.items (length code.loops) =
+      subst (λ (x : CodeParts). AreLoops x (all_resting feed) of.gone (horizons_of feed) new.stock.loops.items new.states.items (length x.loops)) of.code_is
+      (subst (λ (hs : List Horizon). AreLoops engine.code (all_resting feed) of.gone hs new.stock.loops.items new.states.items (length engine.code.loops))
+      inlet-horizons are) in
       record {
         code_is = code_is ∙ of.code_is;
         near = of.near;
-        given_is = given_is ∙ of.given_is;
+        gone = of.gone;
+        left = of.left;
+        feed_is = of.feed_is;
+        given_is = ap (λ (n : ℕ). length (gone_at code of.gone (length code.loops - 1)) + n) given_is ∙ of.given_is;
         finished_is = finished_is ∙ of.finished_is;
-        inlets = subst (AreInlets feed.finished feed.inputs) (sym inputs_is) of.inlets;
+        inlets = subst (AreInlets of.left.finished of.left.inputs) (sym inputs_is) of.inlets;
         many = of.many;
-        before = feed;
+        before = of.left;
         events = [];
         follows = refl;
-        order = order;
+        order = left-order;
+        whole_order = subst (λ (f : Feed). AllByRecursion IsInOrder f.inputs) of.feed_is order;
         upto = length code.loops;
-        loops = here;
+        loops = subst (λ (f : Feed). AreLoops code (all_resting f) of.gone (horizons_of f) new.stock.loops.items new.states.items (length code.loops)) of.feed_is here;
         current = λ _. (refl, refl);
         sound = λ no. absurd (cc (sym status ∙ no));
       }
@@ -104,8 +156,8 @@ run-fills code rows is =
     (w.loop.lo, w.loop.hi, subst (Fill w.loop.lo w.loop.hi) last.run (work-fills code rows (length code.loops - 1) w (loops-timed code.loops is.grammatical.loops) last.is).0)
 
 -- what the last loop has made once all that is known is made
-module _ (code : CodeParts) (feed : Feed) (loops : List MadeParts) (states : List LoopState) (is : IsCode code)
-    (are : AreLoops code (all_resting feed) (horizons_of feed) loops states (length code.loops)) (m : MadeParts)
+module _ (code : CodeParts) (feed : Feed) (gone : List (List Snapshot)) (loops : List MadeParts) (states : List LoopState) (is : IsCode code)
+    (are : AreLoops code (all_resting feed) gone (horizons_of feed) loops states (length code.loops)) (m : MadeParts)
     (at : slice_get loops (length code.loops - 1) ≡ Some m) where
   abbrev rows : List (List Snapshot)
   rows = all_resting feed
@@ -117,14 +169,27 @@ module _ (code : CodeParts) (feed : Feed) (loops : List MadeParts) (states : Lis
   below = let some = is.grammatical.some in omega arith
 
   -- the snapshot with a number that it has made is of the run; one that it hasn't made starts where nothing is known
-  pub next-of : (n : ℕ) (x : Option Snapshot) → x ≡ slice_get (pieces m) n → IsNextOf code feed n x
-  next-of n x read = by x read
+  pub next-of : (n : ℕ) (x : Option Snapshot) → x ≡ slice_get (pieces m) n → IsNextOf code feed (length (gone_at code gone (length code.loops - 1)) + n) x
+  next-of number x read = by x read
     where
+      g : List Snapshot
+      g = gone_at code gone (length code.loops - 1)
+
+      n : ℕ
+      n = length g + number
+
       last : HasLast code (all_resting feed)
       last = last-loop code (all_resting feed) is
 
-      ring : IsRing last.work (ring_of m)
-      ring = ring-is code (all_resting feed) (horizons_of feed) loops states (length code.loops) is are (length code.loops - 1) last.work m last.is at
+      ring : IsRing last.work (ring_of g m)
+      ring = ring-is code (all_resting feed) gone (horizons_of feed) loops states (length code.loops) is are (length code.loops - 1) last.work m last.is at
+
+      -- counted from the first one that it made
+      made-at : slice_get (made_by (reached m) last.work.whole) n ≡ slice_get (pieces m) number
+      made-at =
+          ap (λ (list : List Snapshot). slice_get list n)
+          (sym (pieces-are code (all_resting feed) gone (horizons_of feed) loops states (length code.loops) is are (length code.loops - 1) last.work m last.is at))
+          ∙ slice_get-append_right g (pieces m) n number refl
 
       fills : Fill last.work.loop.lo last.work.loop.hi last.work.whole
       fills = (work-fills code (all_resting feed) (length code.loops - 1) last.work (loops-timed code.loops is.grammatical.loops) last.is).0
@@ -141,13 +206,13 @@ module _ (code : CodeParts) (feed : Feed) (loops : List MadeParts) (states : Lis
           let state = slice_get-some states (length code.loops - 1) (omega (arith, below, are.many_states)) in
           (are.each (length code.loops - 1) last.work m state.0 last.is at state.1).known
 
-      by : (x : Option Snapshot) → x ≡ slice_get (pieces m) n → IsNextOf code feed n x
+      by : (x : Option Snapshot) → x ≡ slice_get (pieces m) number → IsNextOf code feed n x
       by (Some s) read =
-          let here : slice_get (made_by (reached m) last.work.whole) n ≡ Some s = ap (λ (list : List Snapshot). slice_get list n) (sym ring.held) ∙ sym read in
+          let here : slice_get (made_by (reached m) last.work.whole) n ≡ Some s = made-at ∙ sym read in
           subst (λ (list : List Snapshot). slice_get list n ≡ Some s) last.run
           (made-of last.work.loop.lo last.work.loop.hi (reached m) m.settled last.work.whole (to m.settled lo-known) n s here)
       by None read = λ s there known.
-          let none : slice_get (made_by (reached m) last.work.whole) n ≡ None = ap (λ (list : List Snapshot). slice_get list n) (sym ring.held) ∙ sym read in
+          let none : slice_get (made_by (reached m) last.work.whole) n ≡ None = made-at ∙ sym read in
           let late = late-of last.work.loop.lo last.work.loop.hi (reached m) (s.start +ℤ pos 1) last.work.whole (to (s.start +ℤ pos 1) known) n s none
           (subst (λ (list : List Snapshot). slice_get list n ≡ Some s) (sym last.run) there) in
           omega (arith, ints)
@@ -182,12 +247,13 @@ module _ (code : CodeParts) (feed : Feed) (is : IsCode code) (limit : ℤ) (know
 
 -- an engine whose loops have made all that is known
 module _ (new : Engine) (code : CodeParts) (feed : Feed) (given : ℕ) (of : IsEngineOf new code feed given) (now : IsCurrent new) (is : IsCode new.code) where
-  current-loops : AreLoops new.code (all_resting feed) (horizons_of feed) new.stock.loops.items new.states.items (length new.code.loops)
+  pub current-loops : AreLoops new.code (all_resting feed) of.gone (horizons_of feed) new.stock.loops.items new.states.items (length new.code.loops)
   current-loops =
       let c = of.current now in
-      subst (λ (x : CodeParts). AreLoops x (all_resting feed) (horizons_of feed) new.stock.loops.items new.states.items (length x.loops)) (sym of.code_is)
-      (subst (λ (n : ℕ). AreLoops code (all_resting feed) (horizons_of feed) new.stock.loops.items new.states.items n) c.1
-      (subst (λ (f : Feed). AreLoops code (all_resting f) (horizons_of f) new.stock.loops.items new.states.items of.upto) c.0 of.loops))
+      subst (λ (x : CodeParts). AreLoops x (all_resting feed) of.gone (horizons_of feed) new.stock.loops.items new.states.items (length x.loops)) (sym of.code_is)
+      (subst (λ (n : ℕ). AreLoops code (all_resting feed) of.gone (horizons_of feed) new.stock.loops.items new.states.items n) c.1
+      (subst (λ (f : Feed). AreLoops code (all_resting f) of.gone (horizons_of f) new.stock.loops.items new.states.items of.upto)
+      (ap (whole_feed of.gone) c.0 ∙ sym of.feed_is) of.loops))
 
   pub last-there : length new.code.loops - 1 < length new.stock.loops.items
   last-there = let some = is.grammatical.some in omega (arith, current-loops.many)
@@ -196,8 +262,10 @@ module _ (new : Engine) (code : CodeParts) (feed : Feed) (given : ℕ) (of : IsE
       → x ≡ slice_get (pieces m) new.given → IsNextOf code feed given x
   peeked m at x read =
       let there = slice_get_read new.stock.loops.items (length new.stock.loops.items) (length new.code.loops - 1) m refl last-there at in
-      let here : IsNextOf new.code feed new.given x = next-of new.code feed new.stock.loops.items new.states.items is current-loops m there new.given x read in
-      subst (λ (y : CodeParts). IsNextOf y feed given x) of.code_is (subst (λ (n : ℕ). IsNextOf new.code feed n x) of.given_is here)
+      let here = next-of new.code feed of.gone new.stock.loops.items new.states.items is current-loops m there new.given x read in
+      let count : length (gone_at new.code of.gone (length new.code.loops - 1)) + new.given ≡ given =
+      ap (λ (y : CodeParts). length (gone_at y of.gone (length y.loops - 1)) + new.given) of.code_is ∙ of.given_is in
+      subst (λ (y : CodeParts). IsNextOf y feed given x) of.code_is (subst (λ (n : ℕ). IsNextOf new.code feed n x) count here)
 
 -- one more snapshot is given
 pub given-more : (engine : Engine) (code : CodeParts) (feed : Feed) (given : ℕ) → IsEngineOf engine code feed given
@@ -205,7 +273,10 @@ pub given-more : (engine : Engine) (code : CodeParts) (feed : Feed) (given : ℕ
 given-more engine code feed given of = record {
   code_is = of.code_is;
   near = of.near;
-  given_is = ap (λ (n : ℕ). n + 1) of.given_is;
+  gone = of.gone;
+  left = of.left;
+  feed_is = of.feed_is;
+  given_is = omega (arith, of.given_is);
   finished_is = of.finished_is;
   inlets = of.inlets;
   many = of.many;
@@ -213,6 +284,7 @@ given-more engine code feed given of = record {
   events = of.events;
   follows = of.follows;
   order = of.order;
+  whole_order = of.whole_order;
   upto = of.upto;
   loops = of.loops;
   current = of.current;

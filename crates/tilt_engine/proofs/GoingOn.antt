@@ -30,7 +30,7 @@ use Rattle.tilt_stream.specs.Snap.{Fill, InOrder, Snapshot, ended_below}
 use Rattle.tilt_stream.specs.Stream.{cell_at, covers, mark_at, stream_of}
 
 -- what fills a stretch is in order
-Fill-InOrder : (lo hi : ℤ) (list : List Snapshot) → Fill lo hi list → InOrder lo hi list
+pub Fill-InOrder : (lo hi : ℤ) (list : List Snapshot) → Fill lo hi list → InOrder lo hi list
 Fill-InOrder lo hi [] fills = tt
 Fill-InOrder lo hi (s ∷ ss) fills =
     let start = fills.0 in
@@ -38,7 +38,7 @@ Fill-InOrder lo hi (s ∷ ss) fills =
     (omega (arith, ints), omega (arith, ints), Fill-up s.end hi ss fills.2, Fill-InOrder s.end hi ss fills.2)
 
 -- after the first snapshot, a list has the cells and the marks of the rest
-rest-cell : (s : Snapshot) (ss : List Snapshot) (tick : ℤ) → s.end <ℤ tick → cell_at (s ∷ ss) tick ≡ cell_at ss tick
+pub rest-cell : (s : Snapshot) (ss : List Snapshot) (tick : ℤ) → s.end <ℤ tick → cell_at (s ∷ ss) tick ≡ cell_at ss tick
 rest-cell s ss tick above =
     let outside : covers s tick ≡ false = grind (arith, ints) in
     rw outside refl

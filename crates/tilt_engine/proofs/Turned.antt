@@ -1,10 +1,10 @@
 -- The next turn of a loop of an engine: it may be made, and what stands after it.
 use Rattle.std.proofs.Common.{◌≡◌, ◌⊎◌, inl, inr, ◌<◌, ◌+◌, ℕ, suc, ℤ, pos, neg_ℤ, ◌+ℤ◌, ◌<ℤ◌, ◌≤ℤ◌, Bool, true, false, List, [], ◌∷◌, ◌++◌, length, map, get_or, slice_get, slice_set}
-use Rattle.std.proofs.Common.{Option, Some, None, refl, sym, ap, ◌∙◌, subst, arith, option_map}
+use Rattle.std.proofs.Common.{Option, Some, None, refl, sym, ap, ◌∙◌, subst, arith}
 use Rattle.std.proofs.lemmas.Bool.{cases_eq}
 use Rattle.std.proofs.lemmas.Int.{ints, by_lt_z}
-use Rattle.std.proofs.lemmas.List.{length-set}
-use Rattle.std.proofs.lemmas.Option.{same_Some, slice_get-map, slice_get_read, slice_get_within}
+use Rattle.std.proofs.lemmas.List.{append_assoc, length-append, length-map, length-set}
+use Rattle.std.proofs.lemmas.Option.{same_Some, slice_get_read, slice_get_within}
 use Rattle.std.specs.List.{AllByRecursion}
 use Rattle.std.specs.Option.{ForSome}
 use Rattle.circular_buffer.proofs.Places.{slice_get-set_other, slice_get-set_same, slice_get-some}
@@ -18,13 +18,17 @@ use Rattle.tilt_code.specs.Turn.{turn}
 use Rattle.tilt_code.specs.declared.instr.Instr.{Instr}
 use Rattle.tilt_code.specs.declared.instr.Instr.TheVariants.{Const, Null, Argument, Port, Win, One, Two, If}
 use Rattle.tilt_engine.proofs.CodeHorizons.{loop_at-is, turn-known}
-use Rattle.tilt_engine.proofs.Ringed.{lists-are, rings-are}
+use Rattle.tilt_engine.proofs.Gone.{begins-rest, gone-later, rests-long}
+use Rattle.tilt_engine.proofs.LeftLists.{turn-left}
+use Rattle.tilt_engine.proofs.Lefts.{left-block}
+use Rattle.tilt_engine.proofs.Ringed.{lefts-at, list-begins, ring-at, rings-are}
+use Rattle.tilt_engine.specs.Gone.{IsGoneFor, rests}
 use Rattle.tilt_engine.specs.CodeHorizon.{block_horizon, code_horizons, instr_horizon}
-use Rattle.tilt_engine.specs.Standing.{AreLoops, IsDone, IsLoopAt, IsStateAt, IsWaiting, MayTurn, loop_at, ring_of, rings_parts, turns_left, turns_of, with_piece}
+use Rattle.tilt_engine.specs.Standing.{AreLoops, IsDone, IsLoopAt, IsStateAt, IsWaiting, MayTurn, gone_at, loop_at, ring_of, rings_parts, turns_left, turns_of, with_piece}
 use Rattle.tilt_engine.specs.Stock.{IsPieceOn, MadeParts, made_list, reached}
 use Rattle.tilt_feed.proofs.Known.{IsKnownAt-tested, known-below, known-first, known-later, known-second, tested-IsKnownAt}
 use Rattle.tilt_feed.specs.Horizon.{Horizon, IsKnownAt, horizon_of, is_known_at}
-use Rattle.tilt_pipe.proofs.Keeping.{fit-whole, lists-long, same-all, turn-next}
+use Rattle.tilt_pipe.proofs.Keeping.{turn-next}
 use Rattle.tilt_pipe.proofs.Nears.{ready-more, turn-near, work-ready}
 use Rattle.tilt_pipe.proofs.RingsKept.{is-at}
 use Rattle.tilt_pipe.proofs.Standing.{IsNextMade, next-is}
@@ -39,7 +43,8 @@ use Rattle.tilt_stream.proofs.Cut.{int_gap_is}
 use Rattle.tilt_stream.proofs.Filling.{Fill-up}
 use Rattle.tilt_stream.specs.Snap.{Snapshot}
 use Rattle.tilt_stream.specs.Stream.{stream_of}
-use Rattle.tilt_turn.proofs.Elsewhere.{fit-back}
+use Rattle.tilt_turn.proofs.Elsewhere.{fit-back, fit-elsewhere}
+use Rattle.tilt_turn.specs.Same.{IsSameFor}
 use Rattle.tilt_turn.specs.Held.{IsFit}
 use Rattle.tilt_turn.specs.Ready.{IsKept, IsReadable, IsReady}
 use Rattle.tilt_turn.specs.declared.state.LoopState.{LoopState}
@@ -67,16 +72,19 @@ pub record MayMake (lists : List (List Snapshot)) (l : LoopParts) (start : ℤ) 
   pub kept : AllByRecursion (IsKept lists [] (ceil l.grid (start +ℤ pos 1))) l.body
   pub fit : (before : ℤ) × (before ≤ℤ ceil l.grid (start +ℤ pos 1)) × IsFit lists l before state
 
-module _ (code : CodeParts) (rows : List (List Snapshot)) (hs : List Horizon) (loops : List MadeParts) (states : List LoopState) (place : ℕ)
-    (is : IsCode code) (are : AreLoops code rows hs loops states place) where
+module _ (code : CodeParts) (rows gone : List (List Snapshot)) (hs : List Horizon) (loops : List MadeParts) (states : List LoopState) (place : ℕ)
+    (is : IsCode code) (are : AreLoops code rows gone hs loops states place) where
   abbrev p : RingsParts
-  p = rings_parts code rows loops
+  p = rings_parts code rows gone loops
 
   abbrev H : List Horizon
   H = code_horizons code hs
 
   abbrev lists : List (List Snapshot)
-  lists = rows ++ map made_list loops
+  lists = rests gone rows ++ map made_list loops
+
+  abbrev wholes : List (List Snapshot)
+  wholes = rests gone (buffers_of code rows)
 
   -- a read of a known tick of an earlier buffer
   told-read : (point : ℤ) (buffer : ℕ) (first last : ℤ) → buffer < length rows + place → IsKnownAt (horizon_of H buffer) (point +ℤ last)
@@ -87,8 +95,8 @@ module _ (code : CodeParts) (rows : List (List Snapshot)) (hs : List Horizon) (l
       let m = found.0 in
       let state = slice_get-some states source (omega (arith, within, are.many_states, works-length code rows)) in
       let it = are.each source v m state.0 of found.1 state.1 in
-      let at = is-at p source v (ring_of m) is (rings-are code rows hs loops states place is are) of
-      (slice_get-map ring_of loops source ∙ ap (option_map ring_of) found.1) in
+      let at = is-at p source v (ring_of (gone_at code gone source) m) is (rings-are code rows gone hs loops states place is are) of
+      (ring-at gone (length code.inputs) loops source m found.1) in
       let number : buffer ≡ length code.inputs + source = omega (arith, from, are.inputs) in
       let there : IsKnownAt (loop_at code hs source) (point +ℤ last) = subst (λ (n : ℕ). IsKnownAt (horizon_of H n) (point +ℤ last)) number known in
       let before : source < place = omega (arith, near, from) in
@@ -124,16 +132,16 @@ module _ (code : CodeParts) (rows : List (List Snapshot)) (hs : List Horizon) (l
 
   module _ (w : Work) (m : MadeParts) (state : LoopState) (of : slice_get (works_of code rows) place ≡ Some w) (at : slice_get loops place ≡ Some m)
       (own : slice_get states place ≡ Some state) (may : MayTurn (loop_at code hs place) m) where
-    it : IsLoopAt code rows hs place w m state
+    it : IsLoopAt code rows gone hs place w m state
     it = are.each place w m state of at own
 
     rings : AreRings p
-    rings = rings-are code rows hs loops states place is are
+    rings = rings-are code rows gone hs loops states place is are
 
     -- the loop stands where its settled snapshots end
     stands : start_at p place ≡ m.settled
     stands =
-        (is-at p place w (ring_of m) is rings of (slice_get-map ring_of loops place ∙ ap (option_map ring_of) at)).start
+        (is-at p place w (ring_of (gone_at code gone place) m) is rings of (ring-at gone (length code.inputs) loops place m at)).start
         ∙ ap (λ (s : Option Snapshot). reached (record m { waiting = s })) may.none
 
     low : w.loop.lo ≤ℤ m.settled
@@ -167,51 +175,63 @@ module _ (code : CodeParts) (rows : List (List Snapshot)) (hs : List Horizon) (l
     near-low : neg_ℤ WIDE ≤ℤ turn_point w.loop m.settled
     near-low = subst (λ (t : ℤ). neg_ℤ WIDE ≤ℤ turn_point w.loop t) stands (turn-near p place w is rings open_).low
 
-    all-ready : IsReady (length (lists_of p)) w.loop
+    lists-count : length lists ≡ length rows + length code.loops
+    lists-count = omega (arith, length-append (rests gone rows) (map made_list loops), rests-long gone rows, length-map loops made_list, are.many)
+
+    all-ready : IsReady (length lists) w.loop
     all-ready =
         let within = slice_get_within (works_of code rows) place w of in
-        ready-more (length rows + place) (length (lists_of p)) w.loop (omega (arith, within, works-length code rows, lists-long p rings)) ready
+        ready-more (length rows + place) (length lists) w.loop (omega (arith, within, works-length code rows, lists-count)) ready
 
-    state-fit : IsStateAt (buffers_of code rows) H w.loop m.settled state
-        → (earlier : ℤ) × (earlier ≤ℤ turn_point w.loop m.settled) × IsFit (lists_of p) w.loop earlier state
-    state-fit (inl fresh) = (turn_point w.loop m.settled, omega (arith, ints), fresh (lists_of p) (turn_point w.loop m.settled) all-ready near-low)
+    -- it tells the same of what is left as of the whole buffers
+    same : AllByRecursion (IsSameFor lists wholes (turn_point w.loop m.settled)) w.loop.body
+    same =
+        let within = slice_get_within (works_of code rows) place w of in
+        left-block code rows gone hs loops states place is are (turn_point w.loop m.settled) (length w.loop.maps) w.loop.body
+        (omega (arith, within, works-length code rows)) ready.leaves known
+
+    state-fit : IsStateAt wholes H w.loop m.settled state
+        → (earlier : ℤ) × (earlier ≤ℤ turn_point w.loop m.settled) × IsFit lists w.loop earlier state
+    state-fit (inl fresh) = (turn_point w.loop m.settled, omega (arith, ints), fresh lists (turn_point w.loop m.settled) all-ready near-low)
     state-fit (inr fit) =
-        let same = same-all p place w is rings of told in (
-          fit.point,
-          fit.below,
-          fit-back (lists_of p) (buffers_of code rows) w.loop fit.point (turn_point w.loop (start_at p place)) state same
-              (subst (λ (t : ℤ). fit.point ≤ℤ turn_point w.loop t) (sym stands) fit.below) fit.fit,
-        )
+        (fit.point, fit.below, fit-back lists wholes w.loop fit.point (turn_point w.loop m.settled) state same fit.below fit.fit)
 
     -- the turn may be made
     pub may-make : MayMake lists w.loop m.settled state
-    may-make =
-        let all = lists-are code rows hs loops states place is are in
-        subst (λ (l : List (List Snapshot)). MayMake l w.loop m.settled state) (sym all) (record {
-          ready = all-ready;
-          low = low;
-          high = before;
-          kept = all-kept (lists_of p) (turn_point w.loop m.settled) w.loop.body;
-          fit = state-fit it.fit;
-        })
+    may-make = record {
+      ready = all-ready;
+      low = low;
+      high = before;
+      kept = all-kept lists (turn_point w.loop m.settled) w.loop.body;
+      fit = state-fit it.fit;
+    }
+
+    -- the turn over what is left is that over all that the loops have made
+    over-left : turn (body_of (map stream_of lists) w.loop) w.loop.grid w.loop.hi m.settled
+        ≡ turn (body_of (map stream_of (lists_of p)) w.loop) w.loop.grid w.loop.hi m.settled
+    over-left =
+        let within = slice_get_within (works_of code rows) place w of in
+        turn-left gone (lists_of p) lists w.loop m.settled (length rows + place) ready
+        (λ number below.
+        let begins = list-begins code rows gone hs loops states place is are number (omega (arith, below, within, works-length code rows, are.inputs)) in
+        begins-rest (get_or gone number []) (get_or (lists_of p) number []) begins
+        ∙ ap (λ (rest : List Snapshot). get_or gone number [] ++ rest) (sym (lefts-at code rows gone hs loops states place is are number)))
+        (it.unread before)
 
     module _ (s : Snapshot) (new : LoopState) (snap : s ≡ turn (body_of (map stream_of lists) w.loop) w.loop.grid w.loop.hi m.settled)
         (fit : IsFit lists w.loop (ceil w.loop.grid (m.settled +ℤ pos 1)) new) where
       -- its snapshot is the next one of the whole buffer
-      next : slice_get w.whole (length m.made) ≡ Some s
+      next : slice_get w.whole (length (made_by m.settled w.whole)) ≡ Some s
       next =
-          let all = lists-are code rows hs loops states place is are in
           let here = turn-next p place w is rings open_ told in
-          let same : turn (body_of (map stream_of (lists_of p)) w.loop) w.loop.grid w.loop.hi (start_at p place) ≡ s =
-          ap (λ (t : ℤ). turn (body_of (map stream_of (lists_of p)) w.loop) w.loop.grid w.loop.hi t) stands
-          ∙ ap (λ (l : List (List Snapshot)). turn (body_of (map stream_of l) w.loop) w.loop.grid w.loop.hi m.settled) (sym all) ∙ sym snap in
-          ap (λ (list : List Snapshot). slice_get w.whole (length list)) (it.made ∙ ap (λ (t : ℤ). made_by t w.whole) (sym stands)) ∙ here
-          ∙ ap (λ (x : Snapshot). Some x) same
+          let turned : turn (body_of (map stream_of (lists_of p)) w.loop) w.loop.grid w.loop.hi (start_at p place) ≡ s =
+          ap (λ (t : ℤ). turn (body_of (map stream_of (lists_of p)) w.loop) w.loop.grid w.loop.hi t) stands ∙ sym over-left ∙ sym snap in
+          ap (λ (t : ℤ). slice_get w.whole (length (made_by t w.whole))) (sym stands) ∙ here ∙ ap (λ (x : Snapshot). Some x) turned
 
       after : IsNextMade w.loop.lo w.loop.hi m.settled w.whole s
       after =
           let fills = work-fills code rows place w (loops-timed code.loops is.grammatical.loops) of in
-          next-is w.loop.lo w.loop.hi m.settled w.whole s fills.0 it.fill (ap (λ (list : List Snapshot). slice_get w.whole (length list)) (sym it.made) ∙ next)
+          next-is w.loop.lo w.loop.hi m.settled w.whole s fills.0 it.fill next
 
       pub piece-on : IsPieceOn m.settled m.hi s
       piece-on =
@@ -220,33 +240,34 @@ module _ (code : CodeParts) (rows : List (List Snapshot)) (hs : List Horizon) (l
           let rises = after.rises in
           record { begins = begins; rises = rw begins rises; within = rw end after.within }
 
-      fit-after : (settled : ℤ) → m.settled ≤ℤ settled → IsStateAt (buffers_of code rows) H w.loop settled new
+      fit-after : (settled : ℤ) → m.settled ≤ℤ settled → IsStateAt wholes H w.loop settled new
       fit-after settled up =
-          let all = lists-are code rows hs loops states place is are in
-          let over : IsFit (lists_of p) w.loop (turn_point w.loop (start_at p place)) new =
-          subst (λ (t : ℤ). IsFit (lists_of p) w.loop (turn_point w.loop t) new) (sym stands)
-          (subst (λ (l : List (List Snapshot)). IsFit l w.loop (turn_point w.loop m.settled) new) all fit) in
-          let whole : IsFit (buffers_of code rows) w.loop (turn_point w.loop m.settled) new =
-          subst (λ (t : ℤ). IsFit (buffers_of code rows) w.loop (turn_point w.loop t) new) stands (fit-whole p place w new is rings of told over) in
+          let point = turn_point w.loop m.settled in
           inr (record {
-            point = turn_point w.loop m.settled;
+            point = point;
             low = near-low;
             below = turn_point-rises w.loop m.settled settled ready.grid up;
             known = known;
-            fit = whole;
+            fit = fit-elsewhere lists wholes w.loop point point new same (omega (arith, ints)) fit;
           })
 
-      turned-by : (b : Bool) → is_known_at (loop_at code hs place) s.end ≡ b → IsLoopAt code rows hs place w (with_piece b s m) new
+      unread-after : (settled : ℤ) → m.settled ≤ℤ settled → AllByRecursion (IsGoneFor gone (turn_point w.loop settled)) w.loop.body
+      unread-after settled up =
+          gone-later gone (turn_point w.loop m.settled) (turn_point w.loop settled) w.loop.body (turn_point-rises w.loop m.settled settled ready.grid up)
+          (it.unread before)
+
+      turned-by : (b : Bool) → is_known_at (loop_at code hs place) s.end ≡ b → IsLoopAt code rows gone hs place w (with_piece b s m) new
       turned-by true test =
           let n = after in
           let rises = n.rises in
           record {
             fill = n.fill;
-            made = ap (λ (list : List Snapshot). list ++ s ∷ []) it.made ∙ sym n.more;
+            made = sym (append_assoc (gone_at code gone place) m.made (s ∷ [])) ∙ ap (λ (list : List Snapshot). list ++ s ∷ []) it.made ∙ sym n.more;
             within = n.within;
             hi = it.hi;
             known = tested-IsKnownAt (loop_at code hs place) s.end test;
             waiting = λ v no. absurd (cc no);
+            unread = λ some. unread-after s.end (omega (arith, ints));
             fit = fit-after s.end (omega (arith, ints));
           }
       turned-by false test = record {
@@ -255,11 +276,12 @@ module _ (code : CodeParts) (rows : List (List Snapshot)) (hs : List Horizon) (l
         within = it.within;
         hi = it.hi;
         known = it.known;
-        waiting = λ v same. subst (IsWaiting w.whole (length m.made) (loop_at code hs place)) (cc same) (record {
+        waiting = λ v same. subst (IsWaiting w.whole (length (made_by m.settled w.whole)) (loop_at code hs place)) (cc same) (record {
           next = next;
           first = subst (λ (t : ℤ). IsKnownAt (loop_at code hs place) (t +ℤ pos 1)) (sym after.begins) may.first;
           last = test;
         });
+        unread = it.unread;
         fit = fit-after m.settled (omega (arith, ints));
       }
 
@@ -267,13 +289,14 @@ module _ (code : CodeParts) (rows : List (List Snapshot)) (hs : List Horizon) (l
       piece = with_piece (is_known_at (loop_at code hs place) s.end) s m
 
       -- the loops then stand with it
-      pub turned-loops : AreLoops code rows hs (slice_set loops place piece) (slice_set states place new) place
+      pub turned-loops : AreLoops code rows gone hs (slice_set loops place piece) (slice_set states place new) place
       turned-loops =
           let within = slice_get_within loops place m at in
           let there = slice_get_within states place state own in
           record {
             inputs = are.inputs;
             horizons = are.horizons;
+            begin = are.begin;
             many = length-set loops place piece ∙ are.many;
             many_states = length-set states place new ∙ are.many_states;
             each = λ k v n t of_k at_k own_k. each-turned k v n t of_k at_k own_k;
@@ -281,7 +304,7 @@ module _ (code : CodeParts) (rows : List (List Snapshot)) (hs : List Horizon) (l
           }
         where
           own-turned : (k : ℕ) (v : Work) (n : MadeParts) (t : LoopState) → k ≡ place → slice_get (works_of code rows) k ≡ Some v
-              → slice_get (slice_set loops place piece) k ≡ Some n → slice_get (slice_set states place new) k ≡ Some t → IsLoopAt code rows hs k v n t
+              → slice_get (slice_set loops place piece) k ≡ Some n → slice_get (slice_set states place new) k ≡ Some t → IsLoopAt code rows gone hs k v n t
           own-turned k v n t same of_k at_k own_k =
               let within = slice_get_within loops place m at in
               let there = slice_get_within states place state own in
@@ -290,23 +313,23 @@ module _ (code : CodeParts) (rows : List (List Snapshot)) (hs : List Horizon) (l
               (sym (slice_get-set_same loops place piece within) ∙ subst (λ (x : ℕ). slice_get (slice_set loops place piece) x ≡ Some n) same at_k) in
               let own_here : new ≡ t = same_Some new t
               (sym (slice_get-set_same states place new there) ∙ subst (λ (x : ℕ). slice_get (slice_set states place new) x ≡ Some t) same own_k) in
-              subst (λ (x : ℕ). IsLoopAt code rows hs x v n t) (sym same)
-              (subst (λ (y : Work). IsLoopAt code rows hs place y n t) of_here
-              (subst (λ (z : MadeParts). IsLoopAt code rows hs place w z t) at_here
-              (subst (λ (q : LoopState). IsLoopAt code rows hs place w piece q) own_here (turned-by (is_known_at (loop_at code hs place) s.end) refl))))
+              subst (λ (x : ℕ). IsLoopAt code rows gone hs x v n t) (sym same)
+              (subst (λ (y : Work). IsLoopAt code rows gone hs place y n t) of_here
+              (subst (λ (z : MadeParts). IsLoopAt code rows gone hs place w z t) at_here
+              (subst (λ (q : LoopState). IsLoopAt code rows gone hs place w piece q) own_here (turned-by (is_known_at (loop_at code hs place) s.end) refl))))
 
           each-turned : (k : ℕ) (v : Work) (n : MadeParts) (t : LoopState) → slice_get (works_of code rows) k ≡ Some v
-              → slice_get (slice_set loops place piece) k ≡ Some n → slice_get (slice_set states place new) k ≡ Some t → IsLoopAt code rows hs k v n t
+              → slice_get (slice_set loops place piece) k ≡ Some n → slice_get (slice_set states place new) k ≡ Some t → IsLoopAt code rows gone hs k v n t
           each-turned k v n t of_k at_k own_k =
-              elim (cases_eq k place) as (λ _. IsLoopAt code rows hs k v n t) [
+              elim (cases_eq k place) as (λ _. IsLoopAt code rows gone hs k v n t) [
                 | inl same ↦ own-turned k v n t same of_k at_k own_k
                 | inr apart ↦ are.each k v n t of_k (sym (slice_get-set_other loops place k piece apart) ∙ at_k)
                     (sym (slice_get-set_other states place k new apart) ∙ own_k)
               ]
 
 -- what is read of lists at a place is there
-module _ (code : CodeParts) (rows : List (List Snapshot)) (hs : List Horizon) (loops : List MadeParts) (states : List LoopState) (place : ℕ)
-    (is : IsCode code) (are : AreLoops code rows hs loops states place) (there : place < length code.loops) (m : MadeParts)
+module _ (code : CodeParts) (rows gone : List (List Snapshot)) (hs : List Horizon) (loops : List MadeParts) (states : List LoopState) (place : ℕ)
+    (is : IsCode code) (are : AreLoops code rows gone hs loops states place) (there : place < length code.loops) (m : MadeParts)
     (at : m ≡ get_or loops place m) (may : MayTurn (loop_at code hs place) m) where
   m-there : slice_get loops place ≡ Some m
   m-there = slice_get_read loops (length loops) place m refl (omega (arith, there, are.many)) at
@@ -322,25 +345,25 @@ module _ (code : CodeParts) (rows : List (List Snapshot)) (hs : List Horizon) (l
     loop-is = same_Some work.0.loop l
         (sym (work-is code rows place work.0 work.1).loop ∙ slice_get_read code.loops (length code.loops) place l refl there of)
 
-    pub make-here : MayMake (rows ++ map made_list loops) l m.settled state
+    pub make-here : MayMake (rests gone rows ++ map made_list loops) l m.settled state
     make-here =
-        subst (λ (x : LoopParts). MayMake (rows ++ map made_list loops) x m.settled state) loop-is
-        (may-make code rows hs loops states place is are work.0 m state work.1 m-there own-there may)
+        subst (λ (x : LoopParts). MayMake (rests gone rows ++ map made_list loops) x m.settled state) loop-is
+        (may-make code rows gone hs loops states place is are work.0 m state work.1 m-there own-there may)
 
     module _ (s : Snapshot) (new : LoopState)
-        (snap : s ≡ turn (body_of (map stream_of (rows ++ map made_list loops)) l) l.grid l.hi m.settled)
-        (fit : IsFit (rows ++ map made_list loops) l (ceil l.grid (m.settled +ℤ pos 1)) new) where
-      snap-of : s ≡ turn (body_of (map stream_of (rows ++ map made_list loops)) work.0.loop) work.0.loop.grid work.0.loop.hi m.settled
-      snap-of = subst (λ (x : LoopParts). s ≡ turn (body_of (map stream_of (rows ++ map made_list loops)) x) x.grid x.hi m.settled) (sym loop-is) snap
+        (snap : s ≡ turn (body_of (map stream_of (rests gone rows ++ map made_list loops)) l) l.grid l.hi m.settled)
+        (fit : IsFit (rests gone rows ++ map made_list loops) l (ceil l.grid (m.settled +ℤ pos 1)) new) where
+      snap-of : s ≡ turn (body_of (map stream_of (rests gone rows ++ map made_list loops)) work.0.loop) work.0.loop.grid work.0.loop.hi m.settled
+      snap-of = subst (λ (x : LoopParts). s ≡ turn (body_of (map stream_of (rests gone rows ++ map made_list loops)) x) x.grid x.hi m.settled) (sym loop-is) snap
 
-      fit-of : IsFit (rows ++ map made_list loops) work.0.loop (ceil work.0.loop.grid (m.settled +ℤ pos 1)) new
-      fit-of = subst (λ (x : LoopParts). IsFit (rows ++ map made_list loops) x (ceil x.grid (m.settled +ℤ pos 1)) new) (sym loop-is) fit
+      fit-of : IsFit (rests gone rows ++ map made_list loops) work.0.loop (ceil work.0.loop.grid (m.settled +ℤ pos 1)) new
+      fit-of = subst (λ (x : LoopParts). IsFit (rests gone rows ++ map made_list loops) x (ceil x.grid (m.settled +ℤ pos 1)) new) (sym loop-is) fit
 
       pub piece-here : IsPieceOn m.settled m.hi s
-      piece-here = piece-on code rows hs loops states place is are work.0 m state work.1 m-there own-there may s new snap-of fit-of
+      piece-here = piece-on code rows gone hs loops states place is are work.0 m state work.1 m-there own-there may s new snap-of fit-of
 
-      pub loops-here : AreLoops code rows hs (slice_set loops place (with_piece (is_known_at (loop_at code hs place) s.end) s m)) (slice_set states place new) place
-      loops-here = turned-loops code rows hs loops states place is are work.0 m state work.1 m-there own-there may s new snap-of fit-of
+      pub loops-here : AreLoops code rows gone hs (slice_set loops place (with_piece (is_known_at (loop_at code hs place) s.end) s m)) (slice_set states place new) place
+      loops-here = turned-loops code rows gone hs loops states place is are work.0 m state work.1 m-there own-there may s new snap-of fit-of
 
 -- a turn leaves fewer
 fewer-by : (b : Bool) (s : Snapshot) (m : MadeParts) → m.waiting ≡ None → m.settled <ℤ m.hi → IsPieceOn m.settled m.hi s
@@ -361,29 +384,30 @@ fewer-here loops place b s m at none before on =
     rw (slice_get-set_same loops place (with_piece b s m) (slice_get_within loops place m at), at) (fewer-by b s m none before on)
 
 -- a loop whose next turn isn't to be made has made all that is known
-done-by : (h : Horizon) (whole : List Snapshot) (m : MadeParts) (waiting : Option Snapshot) → m.waiting ≡ waiting
-    → ForSome m.waiting (IsWaiting whole (length m.made) h) → ¬ (MayTurn h m) → IsDone h m
-done-by h whole m (Some s) is waits may = λ tick known.
+done-by : (h : Horizon) (whole : List Snapshot) (count : ℕ) (m : MadeParts) (waiting : Option Snapshot) → m.waiting ≡ waiting
+    → ForSome m.waiting (IsWaiting whole count h) → ¬ (MayTurn h m) → IsDone h m
+done-by h whole count m (Some s) is waits may = λ tick known.
     let w = waits s is in
     inr (rw is (by_lt_z s.end tick
     (λ above.
     let no : true ≡ false = sym (IsKnownAt-tested h s.end (known-below h tick s.end known (omega (arith, ints)))) ∙ w.last in
     absurd (cc no)) (λ low. low)))
-done-by h whole m None is waits may = λ tick known.
+done-by h whole count m None is waits may = λ tick known.
     by_lt_z m.settled m.hi
     (λ before.
     by_lt_z m.settled tick
     (λ above. absurd (may (record { none = is; before = before; first = known-below h tick (m.settled +ℤ pos 1) known (omega (arith, ints)) })))
     (λ low. inr (rw is low))) (λ end. inl (rw is end))
 
-pub done-next : (code : CodeParts) (rows : List (List Snapshot)) (hs : List Horizon) (loops : List MadeParts) (states : List LoopState) (place : ℕ)
-    → AreLoops code rows hs loops states place → place < length code.loops → (m : MadeParts) → m ≡ get_or loops place m
-    → ¬ (MayTurn (loop_at code hs place) m) → AreLoops code rows hs loops states (suc place)
-done-next code rows hs loops states place are there m read may = record {
+pub done-next : (code : CodeParts) (rows gone : List (List Snapshot)) (hs : List Horizon) (loops : List MadeParts) (states : List LoopState) (place : ℕ)
+    → AreLoops code rows gone hs loops states place → place < length code.loops → (m : MadeParts) → m ≡ get_or loops place m
+    → ¬ (MayTurn (loop_at code hs place) m) → AreLoops code rows gone hs loops states (suc place)
+done-next code rows gone hs loops states place are there m read may = record {
   inputs = are.inputs;
   horizons = are.horizons;
   many = are.many;
   many_states = are.many_states;
+  begin = are.begin;
   each = are.each;
   done = λ k n below at. by k n below at;
 }
@@ -399,6 +423,6 @@ done-next code rows hs loops states place are there m read may = record {
               let state = slice_get-some states place (omega (arith, there, are.many_states)) in
               let it = are.each place work.0 m state.0 work.1 own state.1 in
               subst (λ (x : ℕ). IsDone (loop_at code hs x) n) (sym same)
-              (subst (IsDone (loop_at code hs place)) is (done-by (loop_at code hs place) work.0.whole m m.waiting refl it.waiting may)))
+              (subst (IsDone (loop_at code hs place)) is (done-by (loop_at code hs place) work.0.whole (length (made_by m.settled work.0.whole)) m m.waiting refl it.waiting may)))
           | inr apart ↦ are.done k n (omega arith) at
         ]

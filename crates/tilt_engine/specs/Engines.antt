@@ -3,8 +3,10 @@ use Rattle.std.specs.Prelude.{◌≡◌, ◌≢◌, ◌⊎◌, ℕ, ◌+◌, ◌
 use Rattle.std.specs.List.{AllByRecursion}
 use Rattle.tilt_code.specs.Code.{CodeParts}
 use Rattle.tilt_code.specs.Run.{run_of}
+use Rattle.tilt_engine.specs.Forgetting.{kept_lists}
 use Rattle.tilt_engine.specs.GoingOn.{IsNearCode}
-use Rattle.tilt_engine.specs.Standing.{AreLoops, loop_at}
+use Rattle.tilt_engine.specs.Gone.{whole_feed, with_gone}
+use Rattle.tilt_engine.specs.Standing.{AreLoops, gone_at, loop_at}
 use Rattle.tilt_engine.specs.Stock.{InletParts, finished_inlet, resting_inlet}
 use Rattle.tilt_engine.specs.declared.engine.Engine.{Engine}
 use Rattle.tilt_engine.specs.declared.fault.TakeError.{TakeError}
@@ -18,6 +20,7 @@ use Rattle.tilt_feed.specs.Printed.{Begun}
 use Rattle.tilt_feed.specs.Resting.{all_resting}
 use Rattle.tilt_feed.specs.declared.event.Event.{Event}
 use Rattle.tilt_feed.specs.declared.event.Event.TheVariants.{Input, Finish}
+use Rattle.tilt_pipe.specs.Rings.{held}
 use Rattle.tilt_stream.specs.Snap.{Snapshot}
 
 -- the inputs of a feed as an engine keeps them: in a finished one, as they were before it was finished
@@ -29,22 +32,27 @@ AreInlets true inputs inlets = (before : List InputFeed) × (inputs ≡ map fini
 abbrev pub horizons_of : Feed → List Horizon
 horizons_of feed = map (λ input. input_horizon feed.finished input.edge) feed.inputs
 
--- an engine that runs a code, after a feed, and has given so many snapshots: its loops stand where they stood after an earlier feed, from
--- which this one follows by some events
+-- an engine that runs a code, after a feed, and has given so many snapshots: of each of its buffers the first ones have gone. Its loops
+-- stand where they stood after an earlier feed, from which this one follows by some events
 pub record IsEngineOf (engine : Engine) (code : CodeParts) (feed : Feed) (given : ℕ) : Type 0 where
   pub code_is : engine.code ≡ code
   pub near : IsNearCode code
-  pub given_is : engine.given ≡ given
-  pub finished_is : engine.finished ≡ feed.finished
-  pub inlets : AreInlets feed.finished feed.inputs engine.stock.inputs.items
-  pub many : length feed.inputs ≡ length code.inputs
+  pub gone : List (List Snapshot)
+  pub left : Feed
+  pub feed_is : feed ≡ whole_feed gone left
+  pub given_is : length (gone_at code gone (length code.loops - 1)) + engine.given ≡ given
+  pub finished_is : engine.finished ≡ left.finished
+  pub inlets : AreInlets left.finished left.inputs engine.stock.inputs.items
+  pub many : length left.inputs ≡ length code.inputs
   pub before : Feed
   pub events : List Event
-  pub follows : feed ≡ after_all events before
+  pub follows : left ≡ after_all events before
   pub order : AllByRecursion IsInOrder before.inputs
+  pub whole_order : AllByRecursion IsInOrder (with_gone gone before.inputs)
   pub upto : ℕ
-  pub loops : AreLoops code (all_resting before) (horizons_of before) engine.stock.loops.items engine.states.items upto
-  pub current : engine.status ≡ Current → (before ≡ feed) × (upto ≡ length code.loops)
+  pub loops : AreLoops code (all_resting (whole_feed gone before)) gone (horizons_of (whole_feed gone before))
+      engine.stock.loops.items engine.states.items upto
+  pub current : engine.status ≡ Current → (before ≡ left) × (upto ≡ length code.loops)
   pub sound : engine.status ≢ Refused
 
 -- an engine whose loops were refused memory
@@ -55,7 +63,7 @@ IsRefused engine = engine.status ≡ Refused
 abbrev pub HasTaken : Result (Unit {0}) TakeError → Event → Feed → (Feed → Type 0) → Type 0
 HasTaken (Ok _) event feed Is = (event_fault feed event ≡ None) × Is (after event feed)
 HasTaken (Err (Fault fault)) event feed Is = (event_fault feed event ≡ Some fault) × Is feed
-HasTaken (Err OutOfMemory) event feed Is = Is feed
+HasTaken (Err OutOfMemory) event feed Is = (event_fault feed event ≡ None) × Is feed
 
 -- the run of a code on the rows of a feed at rest
 abbrev pub run_at_rest : CodeParts → Feed → List Snapshot
@@ -94,3 +102,7 @@ begun_pair (Some b) = Some (b.start, b.value)
 abbrev pub finishes : Event → Bool
 finishes (Input number update) = false
 finishes Finish = true
+
+-- how many closed rows of inputs and settled snapshots of loops an engine keeps
+abbrev pub held_by : Engine → ℕ
+held_by engine = held (kept_lists engine.stock.inputs.items engine.stock.loops.items)

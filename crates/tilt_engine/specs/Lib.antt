@@ -1,7 +1,10 @@
 pub mod CodeHorizon
 pub mod Engines
+pub mod Forgetting
 pub mod GoingOn
+pub mod Gone
 pub mod Inlets
 pub mod Looking
 pub mod Standing
 pub mod Stock
+pub mod Wanted

@@ -81,7 +81,7 @@ reached_by settled (Some s) = s.end
 abbrev pub reached : MadeParts → ℤ
 reached m = reached_by m.settled m.waiting
 
--- what other loops read of it: what it has made, and one null snapshot that stands for the rest of its stretch
+-- what other loops read of it: what it has made, and one null snapshot for the rest of its stretch
 abbrev pub made_list : MadeParts → List Snapshot
 made_list m = pieces m ++ gap_before (Some (reached m)) m.hi
 

@@ -2,10 +2,10 @@
 ghost use Rattle.std.specs.Prelude.{◌≡◌, [], List, ℕ, length, map, slice_get, Some, OnOk};
 ghost use Rattle.std.specs.List.{AllByRecursion};
 ghost use Rattle.tilt_engine.specs.CodeHorizon.{IsTimeOrNever, code_horizons, horizon_by};
-ghost use Rattle.tilt_engine.specs.GoingOn.{GoOn, IsNearCode};
+ghost use Rattle.tilt_engine.specs.GoingOn.{IsNearCode};
 ghost use Rattle.tilt_engine.specs.Looking.{LooksAgain};
-ghost use Rattle.tilt_engine.specs.Standing.{AreLoops};
-ghost use Rattle.tilt_engine.specs.Stock.{inlet_horizon, inlet_list, restarted};
+ghost use Rattle.tilt_engine.specs.Standing.{AreLoops, InletsGoOn, IsStockOf};
+ghost use Rattle.tilt_engine.specs.Stock.{inlet_horizon, restarted};
 ghost use Rattle.tilt_feed.specs.Horizon.{Horizon};
 ghost use Rattle.tilt_stream.specs.Snap.{Snapshot};
 ghost use Rattle.tilt_turn.specs.declared.state.LoopState.{LoopState};
@@ -28,12 +28,15 @@ pub(crate) fn catch_up(
     finished: bool,
 ) -> Result<(), OutOfMemory>
     requires near { IsNearCode code.now }
-    requires loops { (rows : List (List Snapshot)) × (hs : List Horizon) × (upto : ℕ)
-        × AreLoops code.now rows hs stock.old.loops.items states.old upto
-        × GoOn hs rows (map (inlet_horizon finished) stock.old.inputs.items) (map inlet_list stock.old.inputs.items) }
+    requires loops { (rows later gone : List (List Snapshot)) × (hs : List Horizon) × (upto : ℕ)
+        × AreLoops code.now rows gone hs stock.old.loops.items states.old upto
+        × InletsGoOn code.now rows later gone hs finished stock.old.inputs.items }
     ensures inputs { stock.new.inputs.items ≡ stock.old.inputs.items }
-    ensures loops { OnOk result (AreLoops code.now (map inlet_list stock.old.inputs.items)
-        (map (inlet_horizon finished) stock.old.inputs.items) stock.new.loops.items states.new (length code.now.loops)) }
+    ensures loops { (rows later gone : List (List Snapshot)) (hs : List Horizon) (upto : ℕ)
+        → AreLoops code.now rows gone hs stock.old.loops.items states.old upto
+        → InletsGoOn code.now rows later gone hs finished stock.old.inputs.items
+        → OnOk result (AreLoops code.now later gone (map (inlet_horizon finished) stock.old.inputs.items)
+        stock.new.loops.items states.new (length code.now.loops)) }
 {
     // What a code keeps is known from here on.
     let _ = code.loops();
@@ -110,12 +113,16 @@ fn go_on_all(
     horizons: &[Option<i64>],
     finished: bool,
 ) -> Result<(), OutOfMemory>
-    requires loops { AreLoops code.now (map inlet_list stock.old.inputs.items) (map (inlet_horizon finished) stock.old.inputs.items)
-        stock.old.loops.items states.old 0 }
+    requires loops { (rows gone : List (List Snapshot))
+        × IsStockOf code.now rows gone (map (inlet_horizon finished) stock.old.inputs.items)
+        stock.old.inputs.items stock.old.loops.items states.old 0 }
     requires horizons { map horizon_by horizons.now ≡ code_horizons code.now (map (inlet_horizon finished) stock.old.inputs.items) }
     ensures inputs { stock.new.inputs.items ≡ stock.old.inputs.items }
-    ensures loops { OnOk result (AreLoops code.now (map inlet_list stock.old.inputs.items)
-        (map (inlet_horizon finished) stock.old.inputs.items) stock.new.loops.items states.new (length code.now.loops)) }
+    ensures loops { (rows gone : List (List Snapshot))
+        → IsStockOf code.now rows gone (map (inlet_horizon finished) stock.old.inputs.items)
+        stock.old.inputs.items stock.old.loops.items states.old 0
+        → OnOk result (AreLoops code.now rows gone (map (inlet_horizon finished) stock.old.inputs.items)
+        stock.new.loops.items states.new (length code.now.loops)) }
 {
     let inputs = code.inputs().len();
     for place in 0..code.loops().len() {

@@ -1,24 +1,21 @@
 // The engine.
-ghost use Rattle.std.specs.Prelude.{◌≡◌, ◌≢◌, ℕ, drop, length, map, replicate, slice_get, Some, IsErr, IfOk, OnErr, OnOk};
-ghost use Rattle.tilt_code.specs.Code.{CodeParts, LoopParts};
+ghost use Rattle.std.specs.Prelude.{◌≡◌, ◌≢◌, ℕ, drop, length, map, slice_get, IsErr, IfOk, OnErr, OnOk};
+ghost use Rattle.tilt_code.specs.Code.{CodeParts};
 ghost use Rattle.tilt_engine.specs.Engines.{HasTaken, IsCurrent, IsEngine, IsEngineOf, IsNextOf, IsRefused, begun_pair, finishes};
-ghost use Rattle.tilt_engine.specs.Engines.{given_after, horizons_of, last_horizon, run_at_rest};
+ghost use Rattle.tilt_engine.specs.Engines.{given_after, held_by, horizons_of, last_horizon, run_at_rest};
 ghost use Rattle.tilt_engine.specs.CodeHorizon.{horizon_by};
 ghost use Rattle.tilt_engine.specs.GoingOn.{IsNearCode};
-ghost use Rattle.tilt_engine.specs.Standing.{IsFresh};
-ghost use Rattle.tilt_engine.specs.Stock.{nothing_made, resting_inlet};
 ghost use Rattle.tilt_engine.specs.declared.status.Status.TheVariants.{Behind, Refused};
 ghost use Rattle.tilt_feed.specs.Events.{event_fault};
-ghost use Rattle.tilt_feed.specs.Feed.{Feed, empty_feed, unknown_input};
+ghost use Rattle.tilt_feed.specs.Feed.{Feed, empty_feed};
 ghost use Rattle.tilt_feed.specs.Horizon.{IsKnownAt};
 ghost use Rattle.tilt_feed.specs.Resting.{begun_next, ended_by};
-ghost use Rattle.tilt_turn.specs.declared.state.LoopState.{LoopState};
 
 use crate::advancing::{add_inputs, catch_up};
 use crate::events::{fault_of, take_event};
 use crate::fault::TakeError;
-use crate::inlet::Inlet;
-use crate::made::Made;
+use crate::forgetting::forget;
+use crate::starting::{new_states, new_stock};
 use crate::status::Status;
 use crate::stock::Stock;
 use std::alloc::{AllocError as OutOfMemory, Global};
@@ -39,7 +36,12 @@ pub struct Engine {
     status: Status,
     finished: bool,
     given: usize,
+    limit: u128,
+    alloc: Global,
 }
+
+// So much may be kept before it is looked for what isn't needed any more.
+const FEW: u128 = 1024;
 
 impl Engine {
     /// The engine of a code before the first event. `OutOfMemory` comes if memory is refused, and for no other reason.
@@ -57,6 +59,8 @@ impl Engine {
             status: Status::Behind,
             finished: false,
             given: 0,
+            limit: FEW,
+            alloc,
         })
     }
 
@@ -162,20 +166,79 @@ impl Engine {
         match self.status {
             Status::Refused => Err(OutOfMemory),
             Status::Current => Ok(()),
-            Status::Behind => {
-                // So it remains if memory is refused.
-                self.status = Status::Refused;
-                catch_up(
-                    &self.code,
-                    &mut self.stock,
-                    &mut self.states,
-                    &mut self.horizons,
-                    self.finished,
-                )?;
-                self.status = Status::Current;
-                Ok(())
-            }
+            Status::Behind => self.go_on(),
         }
+    }
+
+    // Has the loops make all that is known. If more is kept then than a limit, what isn't needed any more is let go.
+    fn go_on(&mut self) -> Result<(), OutOfMemory>
+        requires engine { IsEngine self.old }
+        requires behind { self.old.status ≡ Behind }
+        ensures engine { (code : CodeParts) (feed : Feed) (given : ℕ) → IsEngineOf self.old code feed given
+            → OnOk result (IsEngineOf self.new code feed given) }
+        ensures current { OnOk result (IsCurrent self.new) }
+        ensures refused { OnErr result (IsRefused self.new) }
+    {
+        self.catch_up()?;
+        if self.held() <= self.limit {
+            return Ok(());
+        }
+        self.forget()
+    }
+
+    // Has the loops make all that is known.
+    fn catch_up(&mut self) -> Result<(), OutOfMemory>
+        requires engine { IsEngine self.old }
+        requires behind { self.old.status ≡ Behind }
+        ensures engine { (code : CodeParts) (feed : Feed) (given : ℕ) → IsEngineOf self.old code feed given
+            → OnOk result (IsEngineOf self.new code feed given) }
+        ensures current { OnOk result (IsCurrent self.new) }
+        ensures refused { OnErr result (IsRefused self.new) }
+    {
+        // So it remains if memory is refused.
+        self.status = Status::Refused;
+        catch_up(
+            &self.code,
+            &mut self.stock,
+            &mut self.states,
+            &mut self.horizons,
+            self.finished,
+        )?;
+        self.status = Status::Current;
+        Ok(())
+    }
+
+    // Lets go what no next turn reads, and what was given. As much again may be kept before that is looked for again.
+    fn forget(&mut self) -> Result<(), OutOfMemory>
+        requires engine { (code : CodeParts) × (feed : Feed) × (given : ℕ) × IsEngineOf self.old code feed given }
+        requires current { IsCurrent self.old }
+        ensures engine { (code : CodeParts) (feed : Feed) (given : ℕ) → IsEngineOf self.old code feed given
+            → OnOk result (IsEngineOf self.new code feed given) }
+        ensures current { OnOk result (IsCurrent self.new) }
+        ensures refused { OnErr result (IsRefused self.new) }
+    {
+        // What a code keeps is known from here on.
+        let _ = self.code.loops();
+        // So it remains if memory is refused.
+        self.status = Status::Refused;
+        let gone = forget(
+            self.alloc,
+            &self.code,
+            &mut self.stock,
+            &mut self.states,
+            self.given,
+        )?;
+        self.given -= gone;
+        self.limit = self.held().saturating_mul(2).max(FEW);
+        self.status = Status::Current;
+        Ok(())
+    }
+
+    /// How many closed rows of inputs and settled snapshots of loops are kept. No memory is taken.
+    pub fn held(&self) -> u128
+        ensures { result ≡ held_by self.now }
+    {
+        self.stock.held()
     }
 }
 
@@ -198,49 +261,4 @@ fn behind(status: Status) -> Status
         Status::Refused => Status::Refused,
         _ => Status::Behind,
     }
-}
-
-// The inputs and the loops of a code before the first event.
-fn new_stock(alloc: Global, code: &Code) -> Result<Stock, OutOfMemory>
-    ensures inputs { IfOk result (λ stock. stock.inputs.items ≡ replicate (length code.now.inputs) (resting_inlet unknown_input)) }
-    ensures loops { IfOk result (λ stock. stock.loops.items ≡ map nothing_made code.now.loops) }
-{
-    let inputs = new_inputs(alloc, code.inputs().len())?;
-    let loops = new_loops(alloc, code)?;
-    Ok(Stock { inputs, loops })
-}
-
-// So many inputs of which nothing is known.
-fn new_inputs(alloc: Global, count: usize) -> Result<Vec<Inlet>, OutOfMemory>
-    ensures { IfOk result (λ inputs. inputs.items ≡ replicate count (resting_inlet unknown_input)) }
-{
-    let mut inputs = Vec::new(alloc);
-    for _ in 0..count {
-        inputs.push(Inlet::new(alloc))?;
-    }
-    Ok(inputs)
-}
-
-// The loops of a code, which have made nothing.
-fn new_loops(alloc: Global, code: &Code) -> Result<Vec<Made>, OutOfMemory>
-    ensures { IfOk result (λ loops. loops.items ≡ map nothing_made code.now.loops) }
-{
-    let mut loops = Vec::new(alloc);
-    for each in code.loops() {
-        loops.push(Made::new(alloc, each.lo, each.hi))?;
-    }
-    Ok(loops)
-}
-
-// The states of the loops of a code before their first turns.
-fn new_states(alloc: Global, code: &Code) -> Result<Vec<LoopState>, OutOfMemory>
-    ensures many { IfOk result (λ states. length states.items ≡ length code.now.loops) }
-    ensures fresh { IfOk result (λ states. (k : ℕ) (l : LoopParts) (state : LoopState) → slice_get code.now.loops k ≡ Some l
-        → slice_get states.items k ≡ Some state → IsFresh l state) }
-{
-    let mut states = Vec::new(alloc);
-    for each in code.loops() {
-        states.push(LoopState::new(alloc, each)?)?;
-    }
-    Ok(states)
 }

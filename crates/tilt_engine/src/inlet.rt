@@ -1,13 +1,16 @@
 // An input that is fed.
-ghost use Rattle.std.specs.Prelude.{◌≡◌, ◌<ℤ◌, None, OnErr, OnOk, false, slice_get};
+ghost use Rattle.std.specs.Prelude.{◌≡◌, ◌≤◌, ◌<ℤ◌, length, None, OnErr, OnOk, false, slice_get};
 ghost use Rattle.std.specs.Option.{ForSome};
+ghost use Rattle.tilt_engine.specs.Forgetting.{later_inlet};
 ghost use Rattle.tilt_engine.specs.Stock.{finished_inlet, resting_inlet};
 ghost use Rattle.tilt_feed.specs.Resting.{resting_end};
 ghost use Rattle.tilt_feed.specs.Events.{opened_by, update_fault, updated, watermark_after};
 ghost use Rattle.tilt_feed.specs.Laws.{IsInOrder};
 ghost use Rattle.tilt_feed.specs.Feed.{closed_at, unknown_input};
+ghost use Rattle.tilt_engine.specs.Wanted.{IsUnread};
 
 use crate::closing::{add_closed, ended};
+use crate::wanted::count_unread;
 use std::alloc::{AllocError as OutOfMemory, Global};
 use std::marker::Model;
 use tilt_base::{T, WIDE};
@@ -99,6 +102,31 @@ impl Inlet {
         add_closed(&mut self.rows, self.edge, update)?;
         self.edge = edge_after(self.edge, update);
         self.end = resting_end(self.edge);
+        Ok(())
+    }
+
+    // How many closed rows are kept.
+    pub(crate) fn kept(&self) -> usize
+        ensures { result ≡ length self.now.input.rows }
+    {
+        self.rows.len()
+    }
+
+    // How many of its closed rows no turn reads, of which the turns read a first tick, or nothing.
+    pub(crate) fn count_unread(&self, first: Option<i64>) -> usize
+        ensures { IsUnread first self.now.input.rows result }
+    {
+        count_unread(self.rows.as_slice(), first)
+    }
+
+    // Lets its first closed rows go, as many as that. If memory is refused, nothing changes.
+    pub(crate) fn forget(&mut self, alloc: Global, count: usize) -> Result<(), OutOfMemory>
+        requires { count ≤ length self.old.input.rows }
+        ensures { OnOk result (self.new ≡ later_inlet count self.old) }
+    {
+        let mut rest = Rows::new(alloc);
+        rest.append(&self.rows.as_slice()[count..])?;
+        self.rows = rest;
         Ok(())
     }
 

@@ -14,7 +14,10 @@
 //! The clause `next` matters most. Its proof rests on the law `buffers_go_on`: where the inputs of a code go on, so does each buffer, up to
 //! its own horizon. So a snapshot whose end is known stays, whatever comes later.
 //!
-//! If memory is refused in `next` or `begun`, each later call of them reports the same. All rows and all snapshots of all loops are kept.
+//! From time to time, rows and snapshots that no next turn reads are let go, and snapshots that were returned. `IsEngineOf` says which have
+//! gone of each buffer (`gone`): together with what is left they are the rows of the feed, so that no clause of a call speaks of them.
+//!
+//! If memory is refused in `next` or `begun`, each later call of them reports the same.
 #![tactic(auto)]
 
 mod advancing;
@@ -22,13 +25,16 @@ mod closing;
 mod engine;
 mod events;
 mod fault;
+mod forgetting;
 mod horizon;
 mod inlet;
 mod law;
 mod made;
+mod starting;
 mod status;
 mod stock;
 mod turning;
+mod wanted;
 
 pub use engine::Engine;
 pub use fault::TakeError;

@@ -1,8 +1,11 @@
 // What a loop has made while its rows come in.
 ghost use Rattle.std.specs.Prelude.{◌≡◌, ◌≤◌, ◌≤ℤ◌, neg_ℤ, [], None, OnErr, OnOk, length, slice_get};
 ghost use Rattle.tilt_base.specs.declared.limits.TheConstants.{WIDE};
+ghost use Rattle.tilt_engine.specs.Forgetting.{later_made};
 ghost use Rattle.tilt_engine.specs.Stock.{IsPieceOn, made_list, pieces, reached, restarted, with_settled, with_waiting};
+ghost use Rattle.tilt_engine.specs.Wanted.{IsUnread};
 
+use crate::wanted::count_unread;
 use std::alloc::{AllocError as OutOfMemory, Global};
 use std::marker::Model;
 use tilt_stream::{Buffer, Snap, SnapList};
@@ -138,7 +141,7 @@ impl Made {
         None
     }
 
-    // What stands for the rest of the stretch, at the place after the last snapshot.
+    // The null snapshot for the rest of the stretch, at the place after the last snapshot.
     #[inline]
     fn rest(&self, place: usize) -> Option<Snap>
         requires { length (pieces self.now) ≤ place }
@@ -153,6 +156,31 @@ impl Made {
         } else {
             None
         }
+    }
+
+    // How many settled snapshots are kept.
+    pub(crate) fn kept(&self) -> usize
+        ensures { result ≡ length self.now.made }
+    {
+        self.made.len()
+    }
+
+    // How many of its settled snapshots no turn reads, of which the turns read a first tick, or nothing.
+    pub(crate) fn count_unread(&self, first: Option<i64>) -> usize
+        ensures { IsUnread first self.now.made result }
+    {
+        count_unread(self.made.as_slice(), first)
+    }
+
+    // Lets its first settled snapshots go, as many as that. If memory is refused, nothing changes.
+    pub(crate) fn forget(&mut self, alloc: Global, count: usize) -> Result<(), OutOfMemory>
+        requires { count ≤ length self.old.made }
+        ensures { OnOk result (self.new ≡ later_made count self.old) }
+    {
+        let mut rest = SnapList::new(alloc);
+        rest.append(&self.made.as_slice()[count..])?;
+        self.made = rest;
+        Ok(())
     }
 
     // Lets the snapshot go whose end may still change.

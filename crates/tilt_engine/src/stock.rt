@@ -1,7 +1,10 @@
 // What the loops of an engine read.
-ghost use Rattle.std.specs.Prelude.{◌≡◌, ◌++◌, [], get_or, length, map, neg_ℤ, slice_get};
+ghost use Rattle.std.specs.Prelude.{◌≡◌, ◌≤◌, ◌*◌, ◌^◌, ◌++◌, [], get_or, length, map, neg_ℤ, slice_get};
 ghost use Rattle.tilt_base.specs.declared.limits.TheConstants.{WIDE};
+ghost use Rattle.tilt_engine.specs.Forgetting.{kept_lists};
 ghost use Rattle.tilt_engine.specs.Stock.{inlet_list, made_list};
+ghost use Rattle.tilt_pipe.specs.Rings.{held};
+ghost use Rattle.tilt_engine.specs.Wanted.{IsUnread};
 ghost use Rattle.tilt_stream.specs.Snap.{InOrder};
 
 use crate::inlet::Inlet;
@@ -47,6 +50,33 @@ impl Buffers for Stock {
 }
 
 impl Stock {
+    // How many snapshots of a buffer no turn reads, of which the turns read a first tick, or nothing.
+    pub(crate) fn count_unread(&self, number: usize, first: Option<i64>) -> usize
+        ensures { IsUnread first (get_or (kept_lists self.now.inputs.items self.now.loops.items) number []) result }
+    {
+        match self.inputs.get(number) {
+            Some(input) => input.count_unread(first),
+            None => self.loop_unread(number - self.inputs.len(), first),
+        }
+    }
+
+    // How many closed rows of inputs and settled snapshots of loops are kept.
+    pub(crate) fn held(&self) -> u128
+        ensures { result ≡ held (kept_lists self.now.inputs.items self.now.loops.items) }
+    {
+        rows_held(&self.inputs) + made_held(&self.loops)
+    }
+
+    // The same of a loop.
+    fn loop_unread(&self, place: usize, first: Option<i64>) -> usize
+        ensures { IsUnread first (get_or (map (λ m. m.made) self.now.loops.items) place []) result }
+    {
+        match self.loops.get(place) {
+            Some(made) => made.count_unread(first),
+            None => 0,
+        }
+    }
+
     // How many snapshots a turn reads of a loop.
     #[inline]
     fn loop_made(&self, place: usize) -> usize
@@ -67,4 +97,28 @@ impl Stock {
     {
         Buffer::at(self.loops.get(place)?, number)
     }
+}
+
+// How many closed rows of inputs are kept.
+fn rows_held(inputs: &[Inlet]) -> u128
+    ensures value { result ≡ held (map (λ i. i.input.rows) inputs.now) }
+    ensures few { result ≤ length inputs.now * 2 ^ 64 }
+{
+    let mut total = 0;
+    for input in inputs {
+        total += input.kept() as u128;
+    }
+    total
+}
+
+// How many settled snapshots of loops are kept.
+fn made_held(loops: &[Made]) -> u128
+    ensures value { result ≡ held (map (λ m. m.made) loops.now) }
+    ensures few { result ≤ length loops.now * 2 ^ 64 }
+{
+    let mut total = 0;
+    for made in loops {
+        total += made.kept() as u128;
+    }
+    total
 }

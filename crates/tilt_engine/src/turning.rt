@@ -1,9 +1,10 @@
 // The turns of an engine's loops.
-ghost use Rattle.std.specs.Prelude.{◌≡◌, ◌<◌, ◌↔◌, List, suc, map, length, slice_get, Some, IsTrue, OnOk};
+ghost use Rattle.std.specs.Prelude.{◌≡◌, ◌<◌, ◌↔◌, List, suc, length, slice_get, Some, IsTrue, OnOk};
 ghost use Rattle.tilt_engine.specs.CodeHorizon.{horizon_by};
-ghost use Rattle.tilt_engine.specs.Standing.{AreLoops, MayTurn, loop_at, turns_left, with_piece};
-ghost use Rattle.tilt_engine.specs.Stock.{IsPieceOn, MadeParts, inlet_list};
+ghost use Rattle.tilt_engine.specs.Standing.{AreLoops, IsStockOf, MayTurn, loop_at, turns_left, with_piece};
+ghost use Rattle.tilt_engine.specs.Stock.{IsPieceOn, MadeParts};
 ghost use Rattle.tilt_feed.specs.Horizon.{Horizon, is_known_at};
+ghost use Rattle.tilt_stream.specs.Snap.{Snapshot};
 
 use crate::horizon::is_known;
 use crate::made::Made;
@@ -22,14 +23,14 @@ pub(crate) fn go_on(
     horizon: Option<i64>,
 ) -> Result<(), OutOfMemory>
     requires there { place < length code.now.loops }
-    requires loops { (hs : List Horizon)
-        × AreLoops code.now (map inlet_list stock.old.inputs.items) hs stock.old.loops.items states.old place
+    requires loops { (rows gone : List (List Snapshot)) × (hs : List Horizon)
+        × IsStockOf code.now rows gone hs stock.old.inputs.items stock.old.loops.items states.old place
         × (horizon_by horizon ≡ loop_at code.now hs place) }
     ensures inputs { stock.new.inputs.items ≡ stock.old.inputs.items }
-    ensures loops { (hs : List Horizon)
-        → AreLoops code.now (map inlet_list stock.old.inputs.items) hs stock.old.loops.items states.old place
+    ensures loops { (rows gone : List (List Snapshot)) (hs : List Horizon)
+        → IsStockOf code.now rows gone hs stock.old.inputs.items stock.old.loops.items states.old place
         → horizon_by horizon ≡ loop_at code.now hs place
-        → OnOk result (AreLoops code.now (map inlet_list stock.old.inputs.items) hs stock.new.loops.items states.new (suc place)) }
+        → OnOk result (AreLoops code.now rows gone hs stock.new.loops.items states.new (suc place)) }
 {
     while may_turn(&stock.loops[place], horizon) {
         turn(code, stock, states, place, horizon)?;
@@ -56,15 +57,15 @@ fn turn(
     horizon: Option<i64>,
 ) -> Result<(), OutOfMemory>
     requires there { place < length code.now.loops }
-    requires loops { (hs : List Horizon)
-        × AreLoops code.now (map inlet_list stock.old.inputs.items) hs stock.old.loops.items states.old place
+    requires loops { (rows gone : List (List Snapshot)) × (hs : List Horizon)
+        × IsStockOf code.now rows gone hs stock.old.inputs.items stock.old.loops.items states.old place
         × (horizon_by horizon ≡ loop_at code.now hs place) }
     requires may { (m : MadeParts) → slice_get stock.old.loops.items place ≡ Some m → MayTurn (horizon_by horizon) m }
     ensures inputs { stock.new.inputs.items ≡ stock.old.inputs.items }
-    ensures loops { (hs : List Horizon)
-        → AreLoops code.now (map inlet_list stock.old.inputs.items) hs stock.old.loops.items states.old place
+    ensures loops { (rows gone : List (List Snapshot)) (hs : List Horizon)
+        → IsStockOf code.now rows gone hs stock.old.inputs.items stock.old.loops.items states.old place
         → horizon_by horizon ≡ loop_at code.now hs place
-        → OnOk result (AreLoops code.now (map inlet_list stock.old.inputs.items) hs stock.new.loops.items states.new place) }
+        → OnOk result (AreLoops code.now rows gone hs stock.new.loops.items states.new place) }
     ensures fewer { OnOk result (turns_left stock.new.loops.items place < turns_left stock.old.loops.items place) }
 {
     let start = stock.loops[place].settled();

@@ -174,7 +174,7 @@ module _ (live later : Live) (same : later.accepted ≡ live.accepted) (sound : 
       → HasTaken result event feed (λ next_feed. IsLiveOf later accepted next_feed given)
   live-taken event (Ok done) taken = (taken.0, live-after event taken.1)
   live-taken event (Err (Fault fault)) taken = (taken.0, live-later given taken.1 is.within)
-  live-taken event (Err OutOfMemory) taken = live-later given taken is.within
+  live-taken event (Err OutOfMemory) taken = (taken.0, live-later given taken.1 is.within)
 
   -- what its engine finds next is the next snapshot that may be printed
   pub live-next : {E : Type 0} (limit : ℤ) (result : Result (Option Snapshot) E) → limit ≡ horizon accepted.core feed
@@ -231,4 +231,4 @@ pub live-still-taken : (live later : Live) (event : Event) (result : Result (Uni
 live-still-taken live later event result same taken (inl refused) = inl (same ∙ refused)
 live-still-taken live later event (Ok done) same taken (inr some) = inr (some.0, after event some.1, some.2, (taken some.0 some.1 some.2 some.3).1)
 live-still-taken live later event (Err (Fault fault)) same taken (inr some) = inr (some.0, some.1, some.2, (taken some.0 some.1 some.2 some.3).1)
-live-still-taken live later event (Err OutOfMemory) same taken (inr some) = inr (some.0, some.1, some.2, taken some.0 some.1 some.2 some.3)
+live-still-taken live later event (Err OutOfMemory) same taken (inr some) = inr (some.0, some.1, some.2, (taken some.0 some.1 some.2 some.3).1)

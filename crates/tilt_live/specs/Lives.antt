@@ -6,7 +6,7 @@ use Rattle.tilt_compiler.specs.Accepted.{AcceptedParts, IsAccepted}
 use Rattle.tilt_compiler.specs.Compiled.{IsCodeOf}
 use Rattle.tilt_core.specs.Core.{CoreParts}
 use Rattle.tilt_core.specs.Meaning.{output_of}
-use Rattle.tilt_engine.specs.Engines.{IsEngineOf}
+use Rattle.tilt_engine.specs.Engines.{IsEngineOf, held_by}
 use Rattle.tilt_feed.specs.Feed.{Feed}
 use Rattle.tilt_feed.specs.Laws.{fed}
 use Rattle.tilt_feed.specs.Printed.{printed}
@@ -40,3 +40,7 @@ IsRefusedLive live = live.refused ≡ true
 abbrev pub IsLive : Live → Type 0
 IsLive live =
     IsRefusedLive live ⊎ ((accepted : AcceptedParts) × (feed : Feed) × (given : ℕ) × IsLiveOf live accepted feed given)
+
+-- how many rows and snapshots a live engine keeps
+abbrev pub held_by_live : Live → ℕ
+held_by_live live = held_by live.engine

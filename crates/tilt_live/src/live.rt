@@ -6,7 +6,7 @@ ghost use Rattle.tilt_feed.specs.Events.{event_fault};
 ghost use Rattle.tilt_feed.specs.Feed.{Feed, empty_feed};
 ghost use Rattle.tilt_feed.specs.Horizon.{horizon};
 ghost use Rattle.tilt_feed.specs.Printed.{begun, printed};
-ghost use Rattle.tilt_live.specs.Lives.{IsLive, IsLiveOf, IsRefusedLive};
+ghost use Rattle.tilt_live.specs.Lives.{IsLive, IsLiveOf, IsRefusedLive, held_by_live};
 
 use crate::horizon::query_horizon;
 use std::alloc::{AllocError as OutOfMemory, Global};
@@ -49,8 +49,8 @@ impl Live {
         self.engine.fault(event)
     }
 
-    /// Takes an event. `Fault` comes exactly if the event isn't allowed, unless memory is refused: it has the first rule that the event
-    /// breaks, and nothing changes. `OutOfMemory` comes if memory is refused, and nothing changes either.
+    /// Takes an event. `Fault` comes exactly if the event isn't allowed: it has the first rule that the event breaks, and nothing
+    /// changes. `OutOfMemory` comes if memory is refused for an event that is allowed, and nothing changes either.
     pub fn take(&mut self, event: Event) -> Result<(), TakeError>
         ensures taken { (accepted : AcceptedParts) (feed : Feed) (given : ℕ) → IsLiveOf self.old accepted feed given
             → HasTaken result event feed (λ later. IsLiveOf self.new accepted later given) }
@@ -105,6 +105,13 @@ impl Live {
                 Err(refused)
             }
         }
+    }
+
+    /// How many closed rows of inputs and final snapshots of definitions are kept. No memory is taken.
+    pub fn held(&self) -> u128
+        ensures { result ≡ held_by_live self.now }
+    {
+        self.engine.held()
     }
 
     // The next snapshot of what may be printed.

@@ -14,6 +14,7 @@ use tilt_testing::{Piece, core_of, piece_of};
 
 // What an event says of an input, which has a number: a row, a value from a tick on, or that it is known up to a tick; or that the feed is
 // finished.
+#[derive(Drop)]
 enum Said {
     Row(u32, i64, i64, i64),
     Value(u32, i64, i64),
@@ -470,4 +471,80 @@ fn an_event_that_is_late(rt: HostRuntime) -> Result<(), Fail> {
     let finished = live.take(event_of(&Said::Finish));
     assert!(&rt; finished == Err(TakeError::Fault(EventFault::Finished)));
     Ok(())
+}
+
+// The sum of the last three values.
+const SUMMED: &str = "input x;\nemit sum(x[t-3:t]) over (0, 100000];";
+
+// How many of the last hundred averages there are, each over sixty ticks.
+const MANY_AVERAGES: &str =
+    "input x;\nlet m = avg(x[t-60:t]) every 60;\nemit count(m[t-6000:t]) over (0, 60000] every 60;";
+
+// A live engine after a row of one tick whose value is its start, a number of ticks above 0: what comes out, and how much is kept.
+fn takes_row(
+    alloc: Global,
+    rt: &impl Abort,
+    live: &mut Live,
+    row: u32,
+    expected: Option<Piece>,
+) -> Result<(), Fail>
+    requires { IsLive live.old }
+    ensures { IsLive live.new }
+{
+    let start = i64::from(row);
+    take(live, &Said::Row(0, start, start + 1, start))?;
+    let pieces = drain(alloc, live)?;
+    match expected {
+        Some(piece) => assert_eq!(rt; pieces.as_slice(), [piece].as_slice()),
+        None => assert!(rt; pieces.is_empty()),
+    }
+    assert!(rt; live.held() <= 1024);
+    Ok(())
+}
+
+// The sum of the last three values, on the tick of the last of them.
+fn last_three(row: u32) -> Option<Piece> {
+    let value = i64::from(row);
+    let sum = value + (value - 1).max(0) + (value - 2).max(0);
+    Some((value, value + 1, Some(sum)))
+}
+
+// How many averages there are by then, after each sixty ticks.
+fn last_hundred(row: u32) -> Option<Piece> {
+    let end = i64::from(row) + 1;
+    if end % 60 == 0 {
+        Some((end - 60, end, Some((end / 60).min(100))))
+    } else {
+        None
+    }
+}
+
+// Rows of which each ends a snapshot.
+fn run_sums(alloc: Global, rt: &impl Abort, fuse: bool) -> Result<(), Fail> {
+    let mut live = live_of(alloc, SUMMED, fuse)?;
+    for row in 0..4000 {
+        takes_row(alloc, rt, &mut live, row, last_three(row))?;
+    }
+    Ok(())
+}
+
+// Rows of which each sixtieth ends a snapshot.
+fn run_averages(alloc: Global, rt: &impl Abort, fuse: bool) -> Result<(), Fail> {
+    let mut live = live_of(alloc, MANY_AVERAGES, fuse)?;
+    for row in 0..12000 {
+        takes_row(alloc, rt, &mut live, row, last_hundred(row))?;
+    }
+    Ok(())
+}
+
+#[test]
+fn old_rows_are_let_go(rt: HostRuntime) -> Result<(), Fail> {
+    run_sums(rt.alloc(), &rt, true)?;
+    run_sums(rt.alloc(), &rt, false)
+}
+
+#[test]
+fn old_rows_are_let_go_before_their_averages(rt: HostRuntime) -> Result<(), Fail> {
+    run_averages(rt.alloc(), &rt, true)?;
+    run_averages(rt.alloc(), &rt, false)
 }

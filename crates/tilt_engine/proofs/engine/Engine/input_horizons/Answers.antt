@@ -1,5 +1,5 @@
 use Rattle.std.proofs.Common.{◌∙◌, List, ap, map}
-use Rattle.tilt_engine.proofs.Taking.{engine-horizons}
+use Rattle.tilt_engine.proofs.Engined.{inlet-horizons}
 use Rattle.tilt_engine.specs.Stock.{InletParts, inlet_horizon}
 use Rattle.tilt_engine.proofs.engine.Engine.input_horizons.Goals as goal
 
@@ -8,4 +8,4 @@ returns c = λ code feed given is.
     let e = c.args.self.now in
     c.in_ok-add_inputs.ensures.value
     ∙ ap (λ (list : List InletParts). map (inlet_horizon e.finished) list) c.deref.ensures.value
-    ∙ engine-horizons e code feed given is
+    ∙ inlet-horizons e code feed given is

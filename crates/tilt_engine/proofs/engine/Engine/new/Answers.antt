@@ -15,6 +15,8 @@ returns c =
       status = Behind;
       finished = false;
       given = 0;
+      limit = 1024;
+      alloc = c.args.alloc;
     } in
     engine-new e (subst IsCode c.code.view_is c.code.invariant) c.requires refl refl refl c.in_ok-stock.ensures.inputs c.in_ok-stock.ensures.loops
     c.in_ok-states.ensures.many c.in_ok-states.ensures.fresh

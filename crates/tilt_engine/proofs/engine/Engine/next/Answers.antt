@@ -1,5 +1,5 @@
 -- What is given is the next snapshot of the run, if it ends at the limit or below it.
-use Rattle.std.proofs.Common.{◌<◌, inl, inr, ℕ, ◌<ℤ◌, ◌≤ℤ◌, Some, FitsSigned, to_z-of_z, w64, subst, ap, sym, arith, rules}
+use Rattle.std.proofs.Common.{◌<◌, inl, inr, ◌<ℤ◌, ◌≤ℤ◌, Some, FitsSigned, to_z-of_z, w64, subst, ap, arith, rules}
 use Rattle.std.proofs.lemmas.Int.{ints}
 use Rattle.tilt_code.specs.References.{IsCode}
 use Rattle.tilt_engine.proofs.Engined.{given-few, given-late, given-more, given-none, given-some}
@@ -31,7 +31,7 @@ few-by c (inr of) =
     let is = subst IsCode of.3.code_is c.loops.ensures.code in
     let at : IsNextOf of.0 of.1 of.2 (Some c.in-Some.snap) = subst (IsNextOf of.0 of.1 of.2) c.in-Some.is n.0 in
     let few = given-few of.0 of.1 of.2 c.in-Some.snap is at in
-    subst (λ (k : ℕ). k < 9223372036854775807) (sym n.1.given_is) few
+    omega (arith, few, n.1.given_is)
 
 pub overflow_add-self : goal.overflow_add-self
 overflow_add-self c = let few = few-by (goal.at.overflow_add-self c).In-Some c.requires in omega arith

@@ -1,7 +1,7 @@
 use Rattle.std.proofs.Common.{◌≡◌, ◌∙◌, List, None, ap, length, refl, sym}
 use Rattle.std.proofs.lemmas.List.{with_items_is}
 use Rattle.tilt_engine.proofs.InletPlaces.{fault-unfinished}
-use Rattle.tilt_engine.proofs.Taking.{IsBeside, at-ok, engine-fault, engine-taken}
+use Rattle.tilt_engine.proofs.Taking.{IsBeside, at-err, at-ok, engine-fault, engine-same, engine-taken}
 use Rattle.tilt_engine.specs.Inlets.{inlet_fault, inlets_after}
 use Rattle.std.specs.Vec.{with_items}
 use Rattle.tilt_engine.specs.Stock.{InletParts}
@@ -39,6 +39,8 @@ returns-clause-taken c = λ code feed given is.
       status = c.behind-self.result;
       finished = c.finishes-self.result;
       given = e.given;
+      limit = e.limit;
+      alloc = e.alloc;
     } in
     let of = λ (list : List InletParts). inlet_fault e.finished list event in
     let none : event_fault feed event ≡ None =
@@ -48,3 +50,28 @@ returns-clause-taken c = λ code feed given is.
     let all = with_items_is inputs items many ∙ made ∙ ap (inlets_after event) c.deref_mut.ensures.value in
     let beside : IsBeside e later = record { code = refl; given = refl; loops = refl; states = refl } in
     (none, engine-taken e later code feed given event beside c.finishes-self.ensures all (c.behind-self.ensures.behind is.sound) none is)
+
+pub returns-then-is_err-clause-taken : goal.returns-then-is_err-clause-taken
+returns-then-is_err-clause-taken c = λ code feed given is.
+    let e = c.args.self.now in
+    let inputs = e.stock.inputs in
+    let items = c.take_event.new.inputs in
+    let later : Engine = record {
+      code = e.code;
+      stock = record { inputs = with_items inputs items; loops = e.stock.loops };
+      states = e.states;
+      horizons = e.horizons;
+      status = e.status;
+      finished = e.finished;
+      given = e.given;
+      limit = e.limit;
+      alloc = e.alloc;
+    } in
+    let none : event_fault feed c.args.event ≡ None =
+    sym (engine-fault e code feed given c.args.event is) ∙ sym (ap (λ (list : List InletParts). inlet_fault e.finished list c.args.event) c.deref.ensures.value)
+    ∙ sym c.fault_of.ensures ∙ c.in_default.is in
+    let made : items ≡ c.deref_mut.result.now = at-err c.take_event.result c.if-is_err.ensures.value c.take_event.ensures.err in
+    let many : length items ≡ inputs.len = c.take_event.auto.inputs ∙ c.deref_mut.ensures.len in
+    let all = with_items_is inputs items many ∙ made ∙ c.deref_mut.ensures.value in
+    let beside : IsBeside e later = record { code = refl; given = refl; loops = refl; states = refl } in
+    (none, engine-same e later code feed given beside refl all refl is)

@@ -5,7 +5,7 @@ use Rattle.tilt_code.specs.Code.{LoopParts}
 use Rattle.tilt_engine.proofs.Beginning.{each-push}
 use Rattle.tilt_engine.specs.Standing.{IsFresh}
 use Rattle.tilt_turn.specs.declared.state.LoopState.{LoopState}
-use Rattle.tilt_engine.proofs.engine.new_states.Goals as goal
+use Rattle.tilt_engine.proofs.starting.new_states.Goals as goal
 
 pub loop-each-preserved : goal.loop-each-preserved
 loop-each-preserved c =
