@@ -1,0 +1,15 @@
+//! Runs feeds of a query, for the checks: what is final after each line, and what has begun.
+//!
+//! Its arguments are the file of the query, and `--plain` if the code isn't to be fused. Standard input has lines of feeds without keys; an
+//! empty line starts another feed. After each other line it prints each new snapshot as `start,end,value`, then what has begun as
+//! `start,,value`, and then `.`. If the event isn't allowed, it prints `!` and the rule that is broken in place of the snapshots.
+#![tactic(auto)]
+
+mod runner;
+
+use runner::run;
+use std::test::Fail;
+
+fn main(rt: HostRuntime) -> Result<(), Fail> {
+    run(&rt)
+}
