@@ -51,7 +51,7 @@ Sources = dict[str, str]
 
 REDUCERS_OF = {NUMBER: [reducer for reducer in REDUCERS if reducer not in ("any", "all")], TRUTH: ["any", "all", "first", "last"]}
 CONSTANTS = {NUMBER: ["0", "1", "2", "3", "9223372036854775807"], TRUTH: ["true", "false"]}
-# What an expression is made of: N stands for one of numbers, and B for one of truth values.
+# What an expression is made of. Each N is replaced by one of numbers, and each B by one of truth values.
 FORMS = {
     NUMBER: ["(N + N)", "(N - N)", "(N * N)", "(N / N)", "(N % N)", "(-N)", "ifnull(N, N)", "(if B then N else N)", "(N when B)"],
     TRUTH: ["(N == N)", "(N != N)", "(N < N)", "(N <= N)", "(N > N)", "(N >= N)", "(B == B)", "(not B)", "(B and B)", "(B or B)"]
