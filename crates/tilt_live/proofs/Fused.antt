@@ -18,7 +18,8 @@ use Rattle.tilt_core.specs.CoreTree as core
 use Rattle.tilt_core.specs.CoreTree.{CoreTree}
 use Rattle.tilt_core.specs.Needs.{Need}
 use Rattle.tilt_engine.specs.CodeHorizon.{instr_horizon, block_horizon}
-use Rattle.tilt_feed.proofs.Known.{IsNotAbove, above-refl, above-trans, known-below, known-both, known-earlier, known-first, known-later, known-point, known-second, point-known}
+use Rattle.tilt_feed.proofs.Known.{IsNotAbove, above-refl, above-trans, known-below, known-both, known-earlier, known-first, known-later, known-point, known-second}
+use Rattle.tilt_feed.proofs.Rising.{earlier-rises, moved-rises}
 use Rattle.tilt_feed.specs.Horizon.{Horizon, Until, ForEver, IsKnownAt, earlier, earlier_by, horizon_of, body_horizon, grid_horizon, over_horizon}
 use Rattle.tilt_fuse.proofs.Law.{only-parts}
 use Rattle.tilt_fuse.specs.FusedTree.{FusedTree}
@@ -29,9 +30,6 @@ use Rattle.tilt_fuse.specs.declared.reading.Reading.{Reading}
 use Rattle.tilt_lower.specs.Lowering.{registers, maps, result_at, block_of}
 
 -- a horizon that isn't above another stays so when both are moved, joined with others, or taken on a grid
-above-moved : (g h : Horizon) (offset : ℤ) → IsNotAbove g h → IsNotAbove (earlier_by g offset) (earlier_by h offset)
-above-moved g h offset above = record { all = λ tick known. known-earlier h offset tick (above.all (tick +ℤ offset) (known-later g offset tick known)) }
-
 above-both : (f g h : Horizon) → IsNotAbove f g → IsNotAbove f h → IsNotAbove f (earlier g h)
 above-both f g h first second = record { all = λ tick known. known-both g h tick (first.all tick known) (second.all tick known) }
 
@@ -41,16 +39,8 @@ above-first f g h above = record { all = λ tick known. above.all tick (known-fi
 above-second : (f g h : Horizon) → IsNotAbove g h → IsNotAbove (earlier f g) h
 above-second f g h above = record { all = λ tick known. above.all tick (known-second f g tick known) }
 
-above-earlier : (f g h i : Horizon) → IsNotAbove f h → IsNotAbove g i → IsNotAbove (earlier f g) (earlier h i)
-above-earlier f g h i first second = above-both (earlier f g) h i (above-first f g h first) (above-second f g i second)
-
 pub above-for_ever : (h : Horizon) → IsNotAbove h ForEver
 above-for_ever h = record { all = λ tick known. tt }
-
-pub above-grid : (grid : GridPoints) (g h : Horizon) → pos 1 ≤ℤ grid.period → IsNotAbove g h → IsNotAbove (grid_horizon grid g) (grid_horizon grid h)
-above-grid grid g h valid above = record {
-  all = λ tick known. point-known grid h tick valid (above.all (ceil grid tick) (known-point grid g tick valid known));
-}
 
 -- a grid makes no more ticks known
 pub grid-above : (grid : GridPoints) (h : Horizon) → pos 1 ≤ℤ grid.period → IsNotAbove (grid_horizon grid h) h
@@ -78,10 +68,10 @@ moved-twice h offset by = record {
 }
 
 moved-first : (g h : Horizon) (by : ℤ) → IsNotAbove (earlier_by (earlier g h) by) (earlier_by g by)
-moved-first g h by = above-moved (earlier g h) g by (above-first g h g (above-refl g))
+moved-first g h by = moved-rises (earlier g h) g by (above-first g h g (above-refl g))
 
 moved-second : (g h : Horizon) (by : ℤ) → IsNotAbove (earlier_by (earlier g h) by) (earlier_by h by)
-moved-second g h by = above-moved (earlier g h) h by (above-second g h h (above-refl h))
+moved-second g h by = moved-rises (earlier g h) h by (above-second g h h (above-refl h))
 
 -- a tree that is moved
 moved-reaches : (hs : List Horizon) (by : ℤ) (t : FusedTree) → IsNotAbove (earlier_by (fused_horizon hs t) by) (fused_horizon hs (moved by t))
@@ -154,12 +144,12 @@ module _ (hs : List Horizon) where
 module _ (gs ys : List Horizon) (below : (source : ℕ) → IsNotAbove (horizon_of gs source) (horizon_of ys source)) where
   read-reaches : (source : ℕ) (offset : ℤ) (of : Option FusedTree) → ((t : FusedTree) → of ≡ Some t → horizon_of ys source ≡ fused_horizon ys t)
       → IsNotAbove (earlier_by (horizon_of gs source) offset) (fused_horizon ys (reading_of of source offset))
-  read-reaches source offset None stand = above-moved (horizon_of gs source) (horizon_of ys source) offset (below source)
+  read-reaches source offset None stand = moved-rises (horizon_of gs source) (horizon_of ys source) offset (below source)
   read-reaches source offset (Some t) stand =
       let g = horizon_of gs source in
       let y = fused_horizon ys t in
       let above : IsNotAbove g y = subst (λ (h : Horizon). IsNotAbove g h) (stand t refl) (below source) in
-      above-trans (earlier_by g offset) (earlier_by y offset) (fused_horizon ys (moved offset t)) (above-moved g y offset above) (moved-reaches ys offset t)
+      above-trans (earlier_by g offset) (earlier_by y offset) (fused_horizon ys (moved offset t)) (moved-rises g y offset above) (moved-reaches ys offset t)
 
   port-moved : (g : Horizon) (t : FusedTree) (p : Reading) (to : ℤ) → IsNotAbove g (fused_horizon ys t) → first_port t ≡ Some p
       → IsNotAbove (earlier_by g to) (earlier_by (horizon_of ys p.source) (to +ℤ p.offset))
@@ -169,7 +159,7 @@ module _ (gs ys : List Horizon) (below : (source : ℕ) → IsNotAbove (horizon_
       let turned : p.offset +ℤ to ≡ to +ℤ p.offset = omega (arith, ints) in
       subst (λ (d : ℤ). IsNotAbove (earlier_by g to) (earlier_by y d)) turned
       (above-trans (earlier_by g to) (earlier_by port to) (earlier_by y (p.offset +ℤ to))
-      (above-moved g port to (above-trans g (fused_horizon ys t) port above (port-above ys t p first))) (moved-twice y p.offset to))
+      (moved-rises g port to (above-trans g (fused_horizon ys t) port above (port-above ys t p first))) (moved-twice y p.offset to))
 
   over-reaches : (g : Horizon) (t : FusedTree) (p : Reading) (alone : Bool) (reducer : Reducer) (from to : ℤ) → IsNotAbove g (fused_horizon ys t) → first_port t ≡ Some p
       → IsNotAbove (earlier_by g to)
@@ -190,7 +180,7 @@ module _ (gs ys : List Horizon) (below : (source : ℕ) → IsNotAbove (horizon_
   reduce-reaches : (reducer : Reducer) (source : ℕ) (from to : ℤ) (of : Option FusedTree) → ((t : FusedTree) → of ≡ Some t → horizon_of ys source ≡ fused_horizon ys t)
       → ((t : FusedTree) → of ≡ Some t → is_some (only_reading t) ≡ true)
       → IsNotAbove (earlier_by (horizon_of gs source) to) (fused_horizon ys (window_on of reducer source from to))
-  reduce-reaches reducer source from to None stand fits = above-moved (horizon_of gs source) (horizon_of ys source) to (below source)
+  reduce-reaches reducer source from to None stand fits = moved-rises (horizon_of gs source) (horizon_of ys source) to (below source)
   reduce-reaches reducer source from to (Some t) stand fits = window-reaches reducer source from to t (only_reading t) refl (fits t refl) (stand t refl)
 
   module _ (merged : List (Option FusedTree)) (stand : (source : ℕ) (t : FusedTree) → get_or merged source None ≡ Some t → horizon_of ys source ≡ fused_horizon ys t) where
@@ -205,14 +195,14 @@ module _ (gs ys : List Horizon) (below : (source : ℕ) → IsNotAbove (horizon_
         reduce-reaches reducer source from to (get_or merged source None) (stand source) (λ t is. fits source t is (same_number source))
     fused-reaches (expression.One op a) fits = fused-reaches a fits
     fused-reaches (expression.Two op a b) fits =
-        above-earlier (body_horizon gs a) (body_horizon gs b) (fused_horizon ys (fused merged a)) (fused_horizon ys (fused merged b))
+        earlier-rises (body_horizon gs a) (body_horizon gs b) (fused_horizon ys (fused merged a)) (fused_horizon ys (fused merged b))
         (fused-reaches a (λ s t is on. fits s t is (or_left (has_window_on a s) (has_window_on b s) on)))
         (fused-reaches b (λ s t is on. fits s t is (or_right (has_window_on a s) (has_window_on b s) on)))
     fused-reaches (expression.If c a b) fits =
-        above-earlier (body_horizon gs c) (earlier (body_horizon gs a) (body_horizon gs b))
+        earlier-rises (body_horizon gs c) (earlier (body_horizon gs a) (body_horizon gs b))
         (fused_horizon ys (fused merged c)) (earlier (fused_horizon ys (fused merged a)) (fused_horizon ys (fused merged b)))
         (fused-reaches c (λ s t is on. fits s t is (or_left (has_window_on c s) (has_window_on a s || has_window_on b s) on)))
-        (above-earlier (body_horizon gs a) (body_horizon gs b) (fused_horizon ys (fused merged a)) (fused_horizon ys (fused merged b))
+        (earlier-rises (body_horizon gs a) (body_horizon gs b) (fused_horizon ys (fused merged a)) (fused_horizon ys (fused merged b))
         (fused-reaches a (λ s t is on. fits s t is (or_right (has_window_on c s) (has_window_on a s || has_window_on b s) (or_left (has_window_on a s) (has_window_on b s) on))))
         (fused-reaches b (λ s t is on. fits s t is (or_right (has_window_on c s) (has_window_on a s || has_window_on b s) (or_right (has_window_on a s) (has_window_on b s) on)))))
 

@@ -13,6 +13,7 @@ use Rattle.tilt_compiler.specs.Accepted.{AcceptedParts, IsAccepted}
 use Rattle.tilt_compiler.specs.Compiled.{IsCodeOf}
 use Rattle.tilt_core.specs.Core.{CoreParts, emitted_number}
 use Rattle.tilt_core.specs.Meaning.{output_of}
+use Rattle.tilt_engine.proofs.Taking.{after_all-push}
 use Rattle.tilt_engine.specs.CodeHorizon.{horizon_by}
 use Rattle.tilt_engine.specs.Engines.{HasTaken, IsEngineOf, begun_pair, given_after, horizons_of, last_horizon, run_at_rest}
 use Rattle.tilt_engine.specs.declared.fault.TakeError.{TakeError}
@@ -21,7 +22,7 @@ use Rattle.tilt_feed.proofs.AllAtRest.{fed-begun_at_rest, fed-printed_at_rest}
 use Rattle.tilt_feed.proofs.Final.{fed-printed, output-is}
 use Rattle.tilt_feed.proofs.Following.{fed-length}
 use Rattle.tilt_feed.proofs.Known.{clipped-known}
-use Rattle.tilt_feed.specs.Events.{after, after_all}
+use Rattle.tilt_feed.specs.Events.{after}
 use Rattle.tilt_feed.specs.Feed.{Feed, InputFeed, empty_feed}
 use Rattle.tilt_feed.specs.Horizon.{IsKnownAt, clipped, horizon, horizon_of, horizons, input_horizon, output_domain, with_horizons}
 use Rattle.tilt_feed.specs.Laws.{ListGoesOn, fed}
@@ -44,13 +45,9 @@ given-within : (list : List Snapshot) (given : ℕ) (next : Option Snapshot) →
 given-within list given None within is = within
 given-within list given (Some s) within is = there-below list given s is
 
--- one event more
-after-more : (events : List Event) (event : Event) (feed : Feed) → after_all (events ++ event ∷ []) feed ≡ after event (after_all events feed)
-after-more [] event feed = refl
-after-more (e ∷ events) event feed = after-more events event (after e feed)
-
+-- what is fed, with one event more
 pub fed-more : (core : CoreParts) (events : List Event) (event : Event) (feed : Feed) → feed ≡ fed core events → after event feed ≡ fed core (events ++ event ∷ [])
-fed-more core events event feed is = ap (after event) is ∙ sym (after-more events event (empty_feed (length core.inputs)))
+fed-more core events event feed is = ap (after event) is ∙ sym (after_all-push events event (empty_feed (length core.inputs)))
 
 module _ (live : Live) (accepted : AcceptedParts) (feed : Feed) (given : ℕ) (is : IsLiveOf live accepted feed given) where
   -- there are as many inputs as the query has

@@ -18,10 +18,12 @@ use Rattle.tilt_code.specs.Code.{LoopParts}
 use Rattle.tilt_core.specs.Core.{CoreParts, IsDefinition}
 use Rattle.tilt_core.specs.CoreTree.{Definition}
 use Rattle.tilt_core.specs.Needs.{Need, no_margin, asked_by, body_need, asked_of, needs_from, needs}
-use Rattle.tilt_live.proofs.Fused.{above-for_ever, above-grid, grid-above, above-within, fused_horizon, fused-reaches, block-reaches}
+use Rattle.tilt_live.proofs.Fused.{above-for_ever, grid-above, above-within, fused_horizon, fused-reaches, block-reaches}
+use Rattle.tilt_live.proofs.Ticks.{horizon_of-last}
+use Rattle.tilt_engine.proofs.Readied.{horizons-long}
 use Rattle.tilt_engine.specs.CodeHorizon.{block_horizon, loop_horizon, with_loop_horizons}
 use Rattle.tilt_feed.proofs.Known.{IsNotAbove, above-refl, above-trans, known-over}
-use Rattle.tilt_feed.proofs.Rising.{AreNotAbove, rises-at}
+use Rattle.tilt_feed.proofs.Rising.{AreNotAbove, grid-rises, rises-at, rises-push}
 use Rattle.tilt_feed.specs.Horizon.{Horizon, ForEver, earlier, earlier_by, horizon_of, body_horizon, grid_horizon, over_horizon, definition_horizon, with_horizons}
 use Rattle.tilt_fuse.proofs.Asks.{NoWider, Serves, ServesAs, fused-asks, asks-weaker}
 use Rattle.tilt_fuse.proofs.Means.{definition-there}
@@ -41,32 +43,16 @@ horizon_of-front [] h i low = absurd (omega arith)
 horizon_of-front (g ∷ hs) h zero low = refl
 horizon_of-front (g ∷ hs) h (suc i) low = horizon_of-front hs h i (omega arith)
 
-pub horizon_of-last : (hs : List Horizon) (h : Horizon) → horizon_of (hs ++ h ∷ []) (length hs) ≡ h
-horizon_of-last [] h = refl
-horizon_of-last (g ∷ hs) h = horizon_of-last hs h
-
 -- the horizons of loops after others
 pub with_loop_horizons-last : (hs : List Horizon) (front : List LoopParts) (l : LoopParts)
     → with_loop_horizons hs (front ++ l ∷ []) ≡ with_loop_horizons hs front ++ loop_horizon (with_loop_horizons hs front) l ∷ []
 with_loop_horizons-last hs [] l = refl
 with_loop_horizons-last hs (k ∷ front) l = with_loop_horizons-last (hs ++ loop_horizon hs k ∷ []) front l
 
-pub length-with_loop_horizons : (hs : List Horizon) (loops : List LoopParts) → length (with_loop_horizons hs loops) ≡ length hs + length loops
-length-with_loop_horizons hs [] = omega arith
-length-with_loop_horizons hs (l ∷ loops) =
-    let h = loop_horizon hs l in
-    omega (arith, length-with_loop_horizons (hs ++ h ∷ []) loops, length-append hs (h ∷ []))
-
 -- lists of horizons of which none in the first is above that in the second
 not-above : (hs : List Horizon) → AreNotAbove hs hs
 not-above [] = tt
 not-above (h ∷ hs) = (above-refl h, not-above hs)
-
-above-push : (gs hs : List Horizon) (g h : Horizon) → AreNotAbove gs hs → IsNotAbove g h → AreNotAbove (gs ++ g ∷ []) (hs ++ h ∷ [])
-above-push [] [] g h all above = (above, tt)
-above-push [] (i ∷ hs) g h all above = absurd all
-above-push (f ∷ gs) [] g h all above = absurd all
-above-push (f ∷ gs) (i ∷ hs) g h all above = (all.0, above-push gs hs g h all.1 above)
 
 -- a tree has the same horizon over lists in which the sources that it reads have the same horizons
 fused_horizon-same : (xs ys : List Horizon) (n : Need) (t : FusedTree) → EachAsks (λ source asked. horizon_of xs source ≡ horizon_of ys source) n t → fused_horizon xs t ≡ fused_horizon ys t
@@ -140,7 +126,7 @@ module _ (query : CoreParts) (margins : MarginsParts) (lo hi : ℤ) (used : List
   buffers front = with_loop_horizons hs (map lower front)
 
   length-buffers : (front : List PlannedLoop) → length (buffers front) ≡ inputs + length front
-  length-buffers front = length-with_loop_horizons hs (map lower front) ∙ omega (arith, many, length-map front lower)
+  length-buffers front = horizons-long hs (map lower front) ∙ omega (arith, many, length-map front lower)
 
   buffers-more : (front : List PlannedLoop) (l : PlannedLoop) → buffers (front ++ l ∷ []) ≡ buffers front ++ loop_horizon (buffers front) (lower l) ∷ []
   buffers-more front l = ap (with_loop_horizons hs) (map-append lower front (l ∷ [])) ∙ with_loop_horizons-last hs (map lower front) (lower l)
@@ -256,7 +242,7 @@ module _ (query : CoreParts) (margins : MarginsParts) (lo hi : ℤ) (used : List
         ys_are = more_are;
         gs_are = omega (arith, s.gs_are, length-append s.gs (g ∷ []));
         rest = s.rest ∙ ap (with_horizons s.gs) (defs-from inputs defs place low def def_is);
-        below = above-push s.gs s.ys g y s.below above;
+        below = rises-push s.gs s.ys g y s.below above;
         have = λ source below. have-more source (below_or_at source number (omega arith));
         stand = merged-more (λ source u. horizon_of more source ≡ fused_horizon more u) s.merged number e s.as_many
             (λ source u at.
@@ -370,7 +356,7 @@ module _ (query : CoreParts) (margins : MarginsParts) (lo hi : ℤ) (used : List
           let read = asks-weaker P (λ source asked. horizon_of s.ys source ≡ horizon_of fs (buffer source)) (λ source asked h. h.1.0.1) w t this_asks in
           let above : IsNotAbove body block = above-trans body (fused_horizon s.ys t) block body-reaches (block-reaches s.ys fs buffer w t 0 0 read) in
           subst (λ (made : LoopParts). IsNotAbove g (loop_horizon fs made)) (sym lower-is)
-          (stretch-reaches fs buffer def t (grid_horizon def.grid body) (above-grid def.grid body block isdef.grid.period_low above) def.over (lo -ℤ n.back) (hi +ℤ n.ahead))
+          (stretch-reaches fs buffer def t (grid_horizon def.grid body) (grid-rises def.grid body block isdef.grid.period_low above) def.over (lo -ℤ n.back) (hi +ℤ n.ahead))
 
       buffer-this : buffer number ≡ length (buffers s.front)
       buffer-this =

@@ -19,7 +19,9 @@ use Rattle.tilt_core.proofs.Last.{domain_of-stretch, last-need}
 use Rattle.tilt_core.specs.Core.{CoreParts, IsCore, IsStretch, domain_of}
 use Rattle.tilt_core.specs.CoreTree.{Definition}
 use Rattle.tilt_core.specs.Needs.{Need, no_margin, needs_from, needs}
-use Rattle.tilt_live.proofs.Loops.{horizon_of-last, with_loop_horizons-last, length-with_loop_horizons, State, loop-reaches, state}
+use Rattle.tilt_live.proofs.Ticks.{horizon_of-last}
+use Rattle.tilt_engine.proofs.Readied.{horizons-long}
+use Rattle.tilt_live.proofs.Loops.{with_loop_horizons-last, State, loop-reaches, state}
 use Rattle.tilt_engine.specs.CodeHorizon.{loop_horizon, with_loop_horizons}
 use Rattle.tilt_live.specs.Laws.{EndsOn, Reaches}
 use Rattle.tilt_feed.proofs.Known.{IsNotAbove}
@@ -136,7 +138,7 @@ module _ (query : CoreParts) (margins : MarginsParts) (lo hi : ℤ) (is_core : I
   code-horizon =
       let front = map lower before.front in
       let at : inputs + (length (front ++ lower last ∷ []) - 1) ≡ length fs =
-      omega (arith, many, length-append front (lower last ∷ []), length-with_loop_horizons hs front) in
+      omega (arith, many, length-append front (lower last ∷ []), horizons-long hs front) in
       ap (λ (ls : List LoopParts). horizon_of (with_loop_horizons hs ls) (inputs + (length ls - 1))) lower-ends
       ∙ (λ i. horizon_of (with_loop_horizons-last hs front (lower last) i) (at i))
       ∙ horizon_of-last fs b

@@ -1,6 +1,6 @@
 -- Laws of horizons in memory, and how far from tick 0 they lie.
-use Rattle.std.proofs.Common.{◌≡◌, ℕ, zero, suc, ◌+◌, ◌^◌, ◌≤◌, ◌<◌, ℤ, ◌<ℤ◌, ◌≤ℤ◌, int_le, Bool, true, false, if◌then◌else◌}
-use Rattle.std.proofs.Common.{List, [], ◌∷◌, ◌++◌, length, map, Option, Some, None, refl, ap, sym, subst, ◌∙◌, arith, length-append, get_or}
+use Rattle.std.proofs.Common.{◌≡◌, ℕ, ◌+◌, ◌^◌, ◌≤◌, ◌<◌, ℤ, ◌<ℤ◌, ◌≤ℤ◌, int_le, Bool, true, false, if◌then◌else◌}
+use Rattle.std.proofs.Common.{List, [], ◌∷◌, ◌++◌, length, map, Option, Some, None, refl, ap, sym, subst, ◌∙◌, arith, length-append}
 use Rattle.std.specs.Bool.{⊤}
 use Rattle.std.specs.Int.{int_max}
 use Rattle.std.specs.List.{AllByRecursion}
@@ -14,17 +14,6 @@ use Rattle.tilt_core.specs.CoreTree.{Definition}
 use Rattle.tilt_feed.specs.Horizon.{Horizon, Until, ForEver, body_horizon, definition_horizon, grid_horizon, horizon_of, over_horizon, with_horizons}
 use Rattle.tilt_engine.specs.CodeHorizon.{horizon_by}
 use Rattle.tilt_live.specs.Ticks.{IsWithin, drift}
-
--- the horizon of a source that is there, and of one that isn't
-pub horizon-there : (hs : List (Option ℤ)) (number : ℕ) (h : Option ℤ) → number < length hs → h ≡ get_or hs number h → horizon_by h ≡ horizon_of (map horizon_by hs) number
-horizon-there [] number h low is = absurd (omega (arith, low))
-horizon-there (x ∷ hs) zero h low is = ap horizon_by is
-horizon-there (x ∷ hs) (suc number) h low is = horizon-there hs number h (omega (arith, low)) is
-
-pub horizon-past : (hs : List (Option ℤ)) (number : ℕ) → length hs ≤ number → ForEver ≡ horizon_of (map horizon_by hs) number
-horizon-past [] number high = refl
-horizon-past (x ∷ hs) zero high = absurd (omega (arith, high))
-horizon-past (x ∷ hs) (suc number) high = horizon-past hs number (omega (arith, high))
 
 -- a horizon within a lesser distance is within a greater one
 pub within-greater : (less more : ℕ) (h : Option ℤ) → less ≤ more → IsWithin less h → IsWithin more h
@@ -59,7 +48,7 @@ over-held : (span : Span) (h : Horizon) → span.start <ℤ span.end → IsHeld 
 over-held span ForEver forward = tt
 over-held span (Until last) forward = over-held_by span last (int_le span.end last) forward refl
 
-horizon_of-last : (hs : List Horizon) (h : Horizon) → horizon_of (hs ++ h ∷ []) (length hs) ≡ h
+pub horizon_of-last : (hs : List Horizon) (h : Horizon) → horizon_of (hs ++ h ∷ []) (length hs) ≡ h
 horizon_of-last [] h = refl
 horizon_of-last (g ∷ hs) h = horizon_of-last hs h
 

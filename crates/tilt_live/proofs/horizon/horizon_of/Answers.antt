@@ -1,4 +1,4 @@
-use Rattle.tilt_live.proofs.Ticks.{horizon-there, horizon-past}
+use Rattle.tilt_engine.proofs.BufferHorizons.{horizon-there, horizon-past}
 use Rattle.tilt_live.proofs.horizon.horizon_of.Goals as goal
 
 pub returns-in-Some-clause-value : goal.returns-in-Some-clause-value
