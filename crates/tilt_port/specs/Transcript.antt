@@ -1,0 +1,53 @@
+-- What was read and written through a port.
+use Rattle.std.specs.Prelude.{◌≡◌, ◌==◌, ℕ, Bool, List, [], ◌∷◌, ◌++◌, take, Result, Ok, Err, MatchResult, OnOk, OnErr}
+use Rattle.tilt_outside.specs.Faults.{HasCause}
+use Rattle.tilt_outside.specs.Written.{AppendsFront}
+use Rattle.tilt_outside.specs.declared.failed.Failed.{Failed}
+
+-- a moment at which more was asked for: what had been read and written by then, and how many of the written bytes weren't handed on
+pub record Moment : Type 0 where
+  pub read : List ℕ
+  pub written : List ℕ
+  pub held_back : ℕ
+
+-- what was read and written so far, how many of the written bytes aren't handed on, the moments at which more was asked for, whether the
+-- last read found the end, and how often a read, and how often a write or a flush, has failed
+pub record Transcript : Type 0 where
+  pub read : List ℕ
+  pub written : List ℕ
+  pub held_back : ℕ
+  pub asked : List Moment
+  pub ended : Bool
+  pub read_faults : ℕ
+  pub write_faults : ℕ
+
+-- this moment
+abbrev pub moment_of : Transcript → Moment
+moment_of t = record { read = t.read; written = t.written; held_back = t.held_back }
+
+-- a read: more was asked for, the first bytes of the room were read, and nothing was written
+pub record HasRead (old new : Transcript) (room : List ℕ) (result : Result ℕ Failed) : Type 0 where
+  pub asked : new.asked ≡ old.asked ++ moment_of old ∷ []
+  pub piece : MatchResult result (λ n. new.read ≡ old.read ++ take n room) (λ _. new.read ≡ old.read)
+  pub ended : MatchResult result (λ n. new.ended ≡ (n == 0)) (λ _. new.ended ≡ old.ended)
+  pub written : new.written ≡ old.written
+  pub held_back : new.held_back ≡ old.held_back
+
+-- nothing was read
+pub record ReadsNothing (old new : Transcript) : Type 0 where
+  pub read : new.read ≡ old.read
+  pub asked : new.asked ≡ old.asked
+  pub ended : new.ended ≡ old.ended
+
+-- nothing was read or written
+pub record Keeps (old new : Transcript) : Type 0 where
+  pub reads_nothing : ReadsNothing old new
+  pub written : new.written ≡ old.written
+
+-- bytes were written: all of them, or a prefix of them if a write failed; and nothing was read
+pub record Writes (tells : Type 0) (old new : Transcript) (bytes : List ℕ) (result : Result (Unit {0}) Failed) : Type 0 where
+  pub whole : tells → OnOk result (new.written ≡ old.written ++ bytes)
+  pub front : tells → OnErr result (AppendsFront old.written new.written bytes)
+  pub reads_nothing : tells → ReadsNothing old new
+  pub cause : HasCause old.write_faults new.write_faults result
+  pub reads : new.read_faults ≡ old.read_faults

@@ -1,0 +1,10 @@
+//! What a live program talks to: bytes come in piece by piece, and bytes go out, in one order.
+//!
+//! `Port` is the trait. The code above it is generic, and a clause of it can say what had been written at each moment at which more was
+//! read: its `transcript` has these moments. `StdPort` is made of a reader and a writer of the standard library, and says nothing of what
+//! goes through them. `MemPort` keeps all of it in memory, and fails at the calls that it is given.
+#![tactic(auto)]
+
+mod port;
+
+pub use port::Port;
