@@ -1,5 +1,5 @@
 -- What was read and written through a port.
-use Rattle.std.specs.Prelude.{◌≡◌, ◌==◌, ℕ, Bool, List, [], ◌∷◌, ◌++◌, take, Result, Ok, Err, MatchResult, OnOk, OnErr}
+use Rattle.std.specs.Prelude.{◌≡◌, ◌==◌, ℕ, Bool, List, [], ◌∷◌, ◌++◌, take, Result, MatchResult, OnOk, OnErr}
 use Rattle.tilt_outside.specs.Faults.{HasCause}
 use Rattle.tilt_outside.specs.Written.{AppendsFront}
 use Rattle.tilt_outside.specs.declared.failed.Failed.{Failed}
