@@ -4,14 +4,14 @@ use Rattle.tilt_outside.specs.Faults.{HasCause}
 use Rattle.tilt_outside.specs.Written.{AppendsFront}
 use Rattle.tilt_outside.specs.declared.failed.Failed.{Failed}
 
--- a moment at which more was asked for: what had been read and written by then, and how many of the written bytes weren't handed on
+-- a moment at which more was read: what had been read and written before it, and how many of the written bytes weren't handed on
 pub record Moment : Type 0 where
   pub read : List ℕ
   pub written : List ℕ
   pub held_back : ℕ
 
--- what was read and written so far, how many of the written bytes aren't handed on, the moments at which more was asked for, whether the
--- last read found the end, and how often a read, and how often a write or a flush, has failed
+-- what was read and written so far, how many of the written bytes aren't handed on, the moments at which more was read or the end was
+-- found, whether the last read found the end, and how often a read, and how often a write or a flush, has failed
 pub record Transcript : Type 0 where
   pub read : List ℕ
   pub written : List ℕ
@@ -25,9 +25,9 @@ pub record Transcript : Type 0 where
 abbrev pub moment_of : Transcript → Moment
 moment_of t = record { read = t.read; written = t.written; held_back = t.held_back }
 
--- a read: more was asked for, the first bytes of the room were read, and nothing was written
+-- a read: the first bytes of the room were read, at this moment, and nothing was written. A read that fails reads nothing, at no moment
 pub record HasRead (old new : Transcript) (room : List ℕ) (result : Result ℕ Failed) : Type 0 where
-  pub asked : new.asked ≡ old.asked ++ moment_of old ∷ []
+  pub asked : MatchResult result (λ _. new.asked ≡ old.asked ++ moment_of old ∷ []) (λ _. new.asked ≡ old.asked)
   pub piece : MatchResult result (λ n. new.read ≡ old.read ++ take n room) (λ _. new.read ≡ old.read)
   pub ended : MatchResult result (λ n. new.ended ≡ (n == 0)) (λ _. new.ended ≡ old.ended)
   pub written : new.written ≡ old.written
