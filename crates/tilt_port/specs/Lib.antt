@@ -1,1 +1,3 @@
+pub mod MemPort
+pub mod StdPort
 pub mod Transcript
