@@ -1,0 +1,72 @@
+// What a line says.
+ghost use Rattle.std.specs.Prelude.{◌≡◌, ◌<◌, ◌^◌, ◌||◌, length, IfOk, MatchOption, ⊤};
+ghost use Rattle.tilt_feed_line.specs.Lines.{Gives, IsOfInputs, line_said};
+ghost use Rattle.tilt_feed_text.specs.Said.{IsContent, content, is_blank, is_header, is_skipped, read_or_bad};
+ghost use Rattle.std.specs.Option.{IfSome};
+
+use crate::bad_line::{BadLine, ReadContentFault};
+use crate::pending::LINE;
+use tilt_feed_line::{Line, LineReader, ReadLineFault};
+use tilt_lexer::Name;
+
+/// What the line with a number says, which is how many lines are before it, of inputs with these names; `None` if it is skipped: a blank
+/// line, or a header that is the first line. `Bad` has the reason why it says nothing. `OutOfMemory` comes if memory is refused, and for
+/// no other reason. The line comes without its LF.
+pub fn read_content(
+    reader: &mut LineReader,
+    inputs: &[Name],
+    number: u64,
+    line: &[u8],
+) -> Result<Option<Line>, ReadContentFault>
+    requires { length inputs.now < 2 ^ 32 }
+    ensures content { IsContent result (content inputs.now number line.now) }
+    ensures input { IfOk result (λ said. MatchOption said ⊤ (IsOfInputs (length inputs.now))) }
+{
+    if line.len() > LINE {
+        return Err(ReadContentFault::Bad(BadLine::TooLong));
+    }
+    if is_skipped(number, line) {
+        return Ok(None);
+    }
+    read_said(reader, inputs, line)
+}
+
+// What a line says that isn't skipped.
+fn read_said(
+    reader: &mut LineReader,
+    inputs: &[Name],
+    line: &[u8],
+) -> Result<Option<Line>, ReadContentFault>
+    requires { length inputs.now < 2 ^ 32 }
+    ensures content { IsContent result (read_or_bad (line_said inputs.now line.now)) }
+    ensures input { IfOk result (λ said. MatchOption said ⊤ (IsOfInputs (length inputs.now))) }
+{
+    match reader.read_line(line, inputs) {
+        Ok(said) => Ok(Some(said)),
+        Err(ReadLineFault::BadLine(fault)) => {
+            Err(ReadContentFault::Bad(BadLine::Unreadable(fault)))
+        }
+        Err(ReadLineFault::OutOfMemory) => Err(ReadContentFault::OutOfMemory),
+    }
+}
+
+// Whether a line is skipped.
+fn is_skipped(number: u64, line: &[u8]) -> bool
+    ensures { result ≡ is_skipped number line.now }
+{
+    is_blank(line) || (number == 0 && is_header(line))
+}
+
+// Whether a line is blank.
+fn is_blank(line: &[u8]) -> bool
+    ensures { result ≡ is_blank line.now }
+{
+    line.is_empty() || line == b"\r".as_slice()
+}
+
+// Whether a line is a header.
+fn is_header(line: &[u8]) -> bool
+    ensures { result ≡ is_header line.now }
+{
+    line == b"name,start,end,value".as_slice() || line == b"name,start,end,value\r".as_slice()
+}
