@@ -14,6 +14,7 @@ use tilt_base::Cell;
 use tilt_compiler::Accepted;
 use tilt_engine::{Engine, TakeError};
 use tilt_feed::{Event, EventFault};
+use tilt_lexer::Name;
 use tilt_stream::Snap;
 
 /// The live engine of an accepted query: it takes the events of the query's feed, one after another, and returns each snapshot of the
@@ -39,6 +40,14 @@ impl Live {
             refused: false,
             alloc,
         })
+    }
+
+    /// The names of the inputs of its query, in order: the events number them so.
+    pub fn inputs(&self) -> &[Name]
+        ensures { (accepted : AcceptedParts) (feed : Feed) (given : ℕ) → IsLiveOf self.now accepted feed given
+            → result.now ≡ accepted.core.inputs }
+    {
+        self.accepted.core().inputs()
     }
 
     /// The first rule that an event breaks, or `None` if it is allowed.
