@@ -15,7 +15,7 @@ use Rattle.tilt_code.specs.References.{IsCode}
 use Rattle.tilt_engine.proofs.CodeHorizons.{horizon-at}
 use Rattle.tilt_engine.proofs.Gone.{all-left}
 use Rattle.tilt_engine.specs.CodeHorizon.{block_horizon, code_horizons, loop_horizon}
-use Rattle.tilt_engine.specs.Engines.{IsEngineOf, horizons_of}
+use Rattle.tilt_engine.specs.Engines.{IsEngineAt, horizons_of}
 use Rattle.tilt_engine.specs.GoingOn.{IsNearCode}
 use Rattle.tilt_engine.specs.Standing.{AreLoops, IsFresh, IsLoopAt, loop_at}
 use Rattle.tilt_engine.specs.Stock.{MadeParts, nothing_made, resting_inlet}
@@ -109,7 +109,7 @@ pub engine-new : (e : Engine) → IsCode e.code → IsNearCode e.code → e.give
     → e.stock.inputs.items ≡ replicate (length e.code.inputs) (resting_inlet unknown_input) → e.stock.loops.items ≡ map nothing_made e.code.loops
     → length e.states.items ≡ length e.code.loops
     → ((k : ℕ) (l : LoopParts) (state : LoopState) → slice_get e.code.loops k ≡ Some l → slice_get e.states.items k ≡ Some state → IsFresh l state)
-    → IsEngineOf e e.code (empty_feed (length e.code.inputs)) 0
+    → IsEngineAt e e.code (empty_feed (length e.code.inputs)) 0
 engine-new e valid near given finished status inputs loops many fresh =
     let n = length e.code.inputs in
     let feed = empty_feed n in

@@ -73,7 +73,7 @@ window-first : (point from : ℤ) → (point +ℤ (from +ℤ pos 1)) ≡ (point 
 window-first point from = omega (arith, ints)
 
 -- of each instruction, as of each read
-to-reads : (gone : List (List Snapshot)) (point : ℤ) (block : Block) → AllByRecursion (IsGoneFor gone point) block
+pub to-reads : (gone : List (List Snapshot)) (point : ℤ) (block : Block) → AllByRecursion (IsGoneFor gone point) block
     → AllGone gone point block
 to-reads gone point [] all = tt
 to-reads gone point (Const number ∷ block) all = to-reads gone point block all.1

@@ -13,7 +13,7 @@ use Rattle.tilt_engine.proofs.Feeding.{feed-goes_on, horizons-at_rest, lists-at_
 use Rattle.tilt_engine.proofs.Given.{begun-none, late-of, limited-none, limited-some, made-of, starts-low, HasMadeTo}
 use Rattle.tilt_engine.proofs.Ringed.{pieces-are, ring-is}
 use Rattle.tilt_engine.proofs.WholeFeeds.{whole-after_all, whole-begins, whole-horizons, whole-lefts}
-use Rattle.tilt_engine.specs.Engines.{AreInlets, IsCurrent, IsEngineOf, IsNextOf, horizons_of, last_horizon, run_at_rest}
+use Rattle.tilt_engine.specs.Engines.{AreInlets, IsCurrent, IsEngineAt, IsNextOf, horizons_of, last_horizon, run_at_rest}
 use Rattle.tilt_engine.specs.GoingOn.{AllGoOn, GoOn, IsNearCode}
 use Rattle.tilt_engine.specs.Gone.{BeginsWith, rests, whole_feed}
 use Rattle.tilt_engine.specs.Standing.{AreLoops, InletsGoOn, gone_at, ring_of}
@@ -44,7 +44,7 @@ pub record MayCatchUp (code : CodeParts) (finished : Bool) (inlets : List InletP
   pub are : AreLoops code rows gone hs loops states upto
   pub go : InletsGoOn code rows later gone hs finished inlets
 
-module _ (engine : Engine) (code : CodeParts) (feed : Feed) (given : ℕ) (of : IsEngineOf engine code feed given) where
+module _ (engine : Engine) (code : CodeParts) (feed : Feed) (given : ℕ) (of : IsEngineAt engine code feed given) where
   abbrev before : Feed
   before = whole_feed of.gone of.before
 
@@ -121,7 +121,7 @@ module _ (engine : Engine) (code : CodeParts) (feed : Feed) (given : ℕ) (of : 
       → new.stock.inputs.items ≡ engine.stock.inputs.items → new.status ≡ Current
       → AreLoops engine.code (all_resting feed) of.gone (map (inlet_horizon engine.finished) engine.stock.inputs.items)
       new.stock.loops.items new.states.items (length engine.code.loops)
-      → IsEngineOf new code feed given
+      → IsEngineAt new code feed given
   caught-up new code_is given_is finished_is inputs_is status are =
       let here : AreLoops code (all_resting feed) of.gone (horizons_of feed) new.stock.loops.items new.states.items (length code.loops) =
       subst (λ (x : CodeParts). AreLoops x (all_resting feed) of.gone (horizons_of feed) new.stock.loops.items new.states.items (length x.loops)) of.code_is
@@ -246,7 +246,7 @@ module _ (code : CodeParts) (feed : Feed) (is : IsCode code) (limit : ℤ) (know
       (λ on. on))
 
 -- an engine whose loops have made all that is known
-module _ (new : Engine) (code : CodeParts) (feed : Feed) (given : ℕ) (of : IsEngineOf new code feed given) (now : IsCurrent new) (is : IsCode new.code) where
+module _ (new : Engine) (code : CodeParts) (feed : Feed) (given : ℕ) (of : IsEngineAt new code feed given) (now : IsCurrent new) (is : IsCode new.code) where
   pub current-loops : AreLoops new.code (all_resting feed) of.gone (horizons_of feed) new.stock.loops.items new.states.items (length new.code.loops)
   current-loops =
       let c = of.current now in
@@ -268,8 +268,8 @@ module _ (new : Engine) (code : CodeParts) (feed : Feed) (given : ℕ) (of : IsE
       subst (λ (y : CodeParts). IsNextOf y feed given x) of.code_is (subst (λ (n : ℕ). IsNextOf new.code feed n x) count here)
 
 -- one more snapshot is given
-pub given-more : (engine : Engine) (code : CodeParts) (feed : Feed) (given : ℕ) → IsEngineOf engine code feed given
-    → IsEngineOf (record engine { given = engine.given + 1 }) code feed (given + 1)
+pub given-more : (engine : Engine) (code : CodeParts) (feed : Feed) (given : ℕ) → IsEngineAt engine code feed given
+    → IsEngineAt (record engine { given = engine.given + 1 }) code feed (given + 1)
 given-more engine code feed given of = record {
   code_is = of.code_is;
   near = of.near;

@@ -1,16 +1,22 @@
 -- An engine that has let the first snapshots of its buffers go is of the same feed.
-use Rattle.std.proofs.Common.{◌≡◌, ◌≤◌, ◌+◌, ◌-◌, ℕ, ℤ, Bool, true, false, List, [], ◌∷◌, ◌++◌, length, map, take, drop, get_or, refl, sym, ap, ◌∙◌, subst, arith}
+use Rattle.std.proofs.Common.{◌≡◌, ◌<◌, ◌≤◌, ◌+◌, ◌-◌, ℕ, zero, suc, ℤ, Bool, true, false, List, [], ◌∷◌, ◌++◌, length, map, take, drop, get_or, refl, sym, ap, ◌∙◌, subst, arith}
+use Rattle.std.proofs.Common.{append-nil, ◌*◌, min, max}
+use Rattle.std.proofs.Math.Nat.{le-max_left, le-max_right, le-min, max-le, min-le_left}
 use Rattle.std.proofs.lemmas.List.{append_assoc, length-append, length-map, length-take-le, map-id, take-append-drop}
 use Rattle.std.specs.List.{AllByRecursion}
 use Rattle.tilt_code.specs.Code.{CodeParts}
 use Rattle.tilt_code.specs.References.{IsCode}
 use Rattle.tilt_engine.proofs.Dropping.{added-at, heads-at}
 use Rattle.tilt_engine.proofs.Engined.{current-loops, inlet-lefts, order}
+use Rattle.tilt_engine.proofs.Needs.{AreRows, forgotten-fits}
 use Rattle.tilt_engine.proofs.Shorter.{each-long}
-use Rattle.tilt_engine.specs.Engines.{AreInlets, IsCurrent, IsEngineOf, horizons_of}
+use Rattle.tilt_engine.proofs.Sums.{Fits}
+use Rattle.tilt_engine.proofs.WholeFeeds.{whole-length}
+use Rattle.tilt_engine.specs.Engines.{AreInlets, IsCurrent, IsEngineAt, horizons_of}
 use Rattle.tilt_engine.specs.Forgetting.{HasForgotten, added, each_later, heads, kept_lists, later_inlet}
 use Rattle.tilt_engine.specs.Gone.{whole_feed, with_gone}
-use Rattle.tilt_engine.specs.Standing.{AreLoops, IsStockOf}
+use Rattle.tilt_engine.specs.Needed.{needed}
+use Rattle.tilt_engine.specs.Standing.{AreLoops, IsStockOf, gone_at}
 use Rattle.tilt_engine.specs.Stock.{InletParts, MadeParts, finished_inlet, resting_inlet}
 use Rattle.tilt_engine.specs.declared.engine.Engine.{Engine}
 use Rattle.tilt_engine.specs.declared.status.Status.TheVariants.{Current}
@@ -18,8 +24,10 @@ use Rattle.tilt_feed.specs.Events.{finished_input}
 use Rattle.tilt_feed.specs.Feed.{Feed, InputFeed, closed_at, rows_now}
 use Rattle.tilt_feed.specs.Laws.{IsInOrder}
 use Rattle.tilt_feed.specs.Resting.{all_resting}
+use Rattle.tilt_pipe.specs.Rings.{held}
 use Rattle.tilt_stream.proofs.Order.{InOrder-rest}
 use Rattle.tilt_stream.specs.Snap.{InOrder, Snapshot}
+use Rattle.tilt_turn.specs.declared.state.LoopState.{LoopState}
 
 -- an input of a feed without its first closed rows
 abbrev later_feed : ℕ → InputFeed → InputFeed
@@ -154,7 +162,7 @@ left-order (g ∷ gone) (a ∷ inputs) ordered = (
 )
 
 -- what an engine keeps whose loops have made all that is known
-pub stock-of : (e : Engine) (code : CodeParts) (feed : Feed) (given : ℕ) (of : IsEngineOf e code feed given) → IsCurrent e → IsCode e.code
+pub stock-of : (e : Engine) (code : CodeParts) (feed : Feed) (given : ℕ) (of : IsEngineAt e code feed given) → IsCurrent e → IsCode e.code
     → IsStockOf e.code (all_resting feed) of.gone (horizons_of feed) e.stock.inputs.items e.stock.loops.items e.states.items (length e.code.loops)
 stock-of e code feed given of now valid = record {
   left = inlet-lefts e code feed given of;
@@ -166,16 +174,16 @@ inlets-long false inputs inlets are = ap length are ∙ length-map inputs restin
 inlets-long true inputs inlets are =
     ap length are.2 ∙ length-map are.0 finished_inlet ∙ sym (ap length are.1 ∙ length-map are.0 finished_input)
 
-pub inputs-count : (e : Engine) (code : CodeParts) (feed : Feed) (given : ℕ) → IsEngineOf e code feed given
+pub inputs-count : (e : Engine) (code : CodeParts) (feed : Feed) (given : ℕ) → IsEngineAt e code feed given
     → length e.stock.inputs.items ≡ length e.code.inputs
 inputs-count e code feed given of =
     inlets-long of.left.finished of.left.inputs e.stock.inputs.items of.inlets ∙ of.many ∙ ap (λ (x : CodeParts). length x.inputs) (sym of.code_is)
 
 -- the engine then
-pub engine-forgot : (old new : Engine) (code : CodeParts) (feed : Feed) (given : ℕ) (counts : List ℕ) (last : ℕ) → IsEngineOf old code feed given
+pub engine-forgot : (old new : Engine) (code : CodeParts) (feed : Feed) (given : ℕ) (counts : List ℕ) (last : ℕ) → IsEngineAt old code feed given
     → IsCurrent old → IsCode old.code → HasForgotten old.code old.stock.inputs.items new.stock.inputs.items old.stock.loops.items new.stock.loops.items
-    new.states.items counts last → last ≤ old.given → new.code ≡ old.code → new.given ≡ old.given - last → new.finished ≡ old.finished
-    → new.status ≡ Current → IsEngineOf new code feed given
+    new.states.items counts old.given last → last ≤ old.given → new.code ≡ old.code → new.given ≡ old.given - last → new.finished ≡ old.finished
+    → new.status ≡ Current → IsEngineAt new code feed given
 engine-forgot old new code feed given counts last of now valid has few code_is given_is finished status =
     let inlets = old.stock.inputs.items in
     let made = old.stock.loops.items in
@@ -220,3 +228,93 @@ engine-forgot old new code feed given counts last of now valid has few code_is g
       current = λ _. (refl, refl);
       sound = λ no. absurd (cc (sym status ∙ no));
     }
+
+-- the closed rows of an input of a feed: what has gone, what is kept, and the last one if finishing the feed ended it
+with-rows : (gone : List (List Snapshot)) (inputs : List InputFeed) (number : ℕ) → number < length inputs
+    → get_or (map (λ (a : InputFeed). a.rows) (with_gone gone inputs)) number [] ≡ get_or gone number [] ++ get_or (map (λ (a : InputFeed). a.rows) inputs) number []
+with-rows [] inputs number within = refl
+with-rows (g ∷ gone) [] number within = absurd (omega arith)
+with-rows (g ∷ gone) (a ∷ inputs) zero within = refl
+with-rows (g ∷ gone) (a ∷ inputs) (suc number) within = with-rows gone inputs number (omega arith)
+
+last-rows : (before : List InputFeed) (number : ℕ) → number < length before
+    → (more : List Snapshot) × (get_or (map (λ (a : InputFeed). a.rows) (map finished_input before)) number [] ≡ get_or (map (λ (a : InputFeed). a.rows) before) number [] ++ more)
+last-rows [] number within = absurd (omega arith)
+last-rows (a ∷ before) zero within = (closed_at a.edge.watermark a.edge.open_row, refl)
+last-rows (a ∷ before) (suc number) within = last-rows before number (omega arith)
+
+-- of each input
+record RestsAt (finished : Bool) (inputs : List InputFeed) (inlets : List InletParts) (number : ℕ) : Type 0 where
+  more : List Snapshot
+  is : get_or (map (λ (a : InputFeed). a.rows) inputs) number [] ≡ get_or (map (λ (i : InletParts). i.input.rows) inlets) number [] ++ more
+  none : finished ≡ false → more ≡ []
+
+rests-by : (finished : Bool) (inputs : List InputFeed) (inlets : List InletParts) (number : ℕ) → number < length inputs → AreInlets finished inputs inlets
+    → RestsAt finished inputs inlets number
+rests-by false inputs inlets number within are =
+    let same : map (λ (i : InletParts). i.input.rows) inlets ≡ map (λ (a : InputFeed). a.rows) inputs =
+    ap (map (λ (i : InletParts). i.input.rows)) are ∙ resting-rows inputs in
+    let list : List Snapshot = get_or (map (λ (i : InletParts). i.input.rows) inlets) number [] in
+    record {
+      more = [];
+      is = ap (λ (lists : List (List Snapshot)). get_or lists number []) (sym same) ∙ sym (append-nil list);
+      none = λ _. refl;
+    }
+rests-by true inputs inlets number within are =
+    let before = are.0 in
+    let last = last-rows before number (omega (arith, within, ap length are.1, length-map before finished_input)) in
+    let same : map (λ (i : InletParts). i.input.rows) inlets ≡ map (λ (a : InputFeed). a.rows) before =
+    ap (map (λ (i : InletParts). i.input.rows)) are.2 ∙ finished-rows before in
+    record {
+      more = last.0;
+      is = ap (λ (list : List InputFeed). get_or (map (λ (a : InputFeed). a.rows) list) number []) are.1 ∙ last.1
+          ∙ ap (λ (lists : List (List Snapshot)). get_or lists number [] ++ last.0) (sym same);
+      none = λ no. absurd (cc no);
+    }
+
+-- what an engine keeps once it has forgotten is what is needed
+module _ (old : Engine) (code : CodeParts) (feed : Feed) (given : ℕ) (of : IsEngineAt old code feed given) (now : IsCurrent old) (valid : IsCode old.code) where
+  feed-long : length feed.inputs ≡ length old.code.inputs
+  feed-long =
+      ap (λ (f : Feed). length f.inputs) of.feed_is ∙ whole-length of.gone of.left.inputs ∙ of.many ∙ ap (λ (x : CodeParts). length x.inputs) (sym of.code_is)
+
+  rows-are : (number : ℕ) → number < length old.code.inputs → AreRows feed of.gone old.stock.inputs.items number
+  rows-are number within =
+      let below : number < length of.left.inputs = omega (arith, within, of.many, ap (λ (x : CodeParts). length x.inputs) of.code_is) in
+      let left = rests-by of.left.finished of.left.inputs old.stock.inputs.items number below of.inlets in
+      let g = get_or of.gone number [] in
+      record {
+        more = left.more;
+        is = ap (λ (f : Feed). get_or (map (λ (a : InputFeed). a.rows) f.inputs) number []) of.feed_is
+            ∙ with-rows of.gone of.left.inputs number below
+            ∙ ap (λ (list : List Snapshot). g ++ list) left.is
+            ∙ sym (append_assoc g (get_or (map (λ (i : InletParts). i.input.rows) old.stock.inputs.items) number []) left.more);
+        none = λ open_. left.none (ap (λ (f : Feed). f.finished) (sym of.feed_is) ∙ open_);
+      }
+
+  pub forgotten-needed : (inlets_then : List InletParts) (made_then : List MadeParts) (states_then : List LoopState) (counts : List ℕ) (last : ℕ)
+      → HasForgotten old.code old.stock.inputs.items inlets_then old.stock.loops.items made_then states_then counts old.given last
+      → Fits (feed.finished ≡ false) (held (kept_lists inlets_then made_then)) (needed code feed given)
+  forgotten-needed inlets_then made_then states_then counts last has =
+      let count : length (gone_at old.code of.gone (length old.code.loops - 1)) + old.given ≡ given =
+      ap (λ (x : CodeParts). length (gone_at x of.gone (length x.loops - 1)) + old.given) of.code_is ∙ of.given_is in
+      subst (λ (x : CodeParts). Fits (feed.finished ≡ false) (held (kept_lists inlets_then made_then)) (needed x feed given)) of.code_is
+      (forgotten-fits old.code feed of.gone old.stock.inputs.items old.stock.loops.items old.states.items valid (current-loops old code feed given of now valid)
+      (inputs-count old code feed given of) feed-long rows-are inlets_then made_then states_then counts given old.given last has count)
+
+-- how much may be kept before the engine forgets again
+module _ (kept twice room most : ℕ) (twice_is : twice ≡ min (kept * 2) most) (room_is : room ≡ max twice 1024) where
+  pub room-few : room ≤ max 1024 (2 * kept)
+  room-few =
+      let low = min-le_left (kept * 2) most in
+      let high = le-max_right 1024 (2 * kept) in
+      let least = le-max_left 1024 (2 * kept) in
+      let double : twice ≤ max 1024 (2 * kept) = omega (arith, low, high, twice_is) in
+      subst (λ (n : ℕ). n ≤ max 1024 (2 * kept)) (sym room_is) (max-le double least)
+
+  pub room-holds : kept ≤ most → kept ≤ room
+  room-holds fits =
+      let once : kept ≤ kept * 2 = omega arith in
+      let low : kept ≤ min (kept * 2) most = le-min once fits in
+      let high = le-max_left twice 1024 in
+      omega (arith, low, high, twice_is, room_is)

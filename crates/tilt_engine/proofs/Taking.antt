@@ -1,28 +1,34 @@
 -- What an event makes of an engine.
-use Rattle.std.proofs.Common.{◌≡◌, ℕ, ◌+◌, ◌-◌, Bool, true, false, List, [], ◌∷◌, ◌++◌, length, None, Result, Ok, Err, refl, sym, ap, ◌∙◌, subst}
+use Rattle.std.proofs.Common.{◌≡◌, ◌≤◌, ℕ, zero, suc, ℤ, ◌+◌, ◌-◌, Bool, true, false, if◌then◌else◌, List, [], ◌∷◌, ◌++◌, length, map, Option, Some, None, Result, Ok, Err, refl, sym, ap, ◌∙◌, subst, arith, length-append}
 use Rattle.std.specs.Result.{OnErr, OnOk, is_err}
 use Rattle.tilt_code.specs.Code.{CodeParts}
 use Rattle.tilt_engine.proofs.Feeding.{after-inlets, fault-is}
 use Rattle.tilt_engine.proofs.WholeFeeds.{whole-after, whole-fault}
-use Rattle.tilt_engine.specs.Engines.{AreInlets, IsEngineOf, finishes, horizons_of}
-use Rattle.tilt_engine.specs.Inlets.{inlet_fault, inlets_after}
+use Rattle.tilt_engine.specs.Engines.{AreInlets, IsEngineAt, IsEngineOf, finishes, held_by, horizons_of}
+use Rattle.tilt_engine.specs.Forgetting.{kept_lists}
+use Rattle.tilt_engine.specs.Inlets.{inlet_fault, inlets_after, updated_inlets}
 use Rattle.tilt_engine.specs.Gone.{whole_feed}
 use Rattle.tilt_engine.specs.Standing.{AreLoops, gone_at}
-use Rattle.tilt_engine.specs.Stock.{MadeParts}
+use Rattle.tilt_engine.specs.Stock.{InletParts, MadeParts, finished_inlet}
 use Rattle.tilt_engine.specs.declared.engine.Engine.{Engine}
 use Rattle.tilt_engine.specs.declared.status.Status.TheVariants.{Behind}
 use Rattle.tilt_feed.proofs.Following.{after_all-length}
-use Rattle.tilt_feed.specs.Events.{after, after_all, changed_by, event_fault}
-use Rattle.tilt_feed.specs.Feed.{Feed}
+use Rattle.tilt_feed.specs.Events.{after, after_all, changed_by, closed_by, continues, event_fault}
+use Rattle.tilt_feed.specs.Feed.{Feed, closed_at}
 use Rattle.tilt_feed.specs.Horizon.{Horizon}
 use Rattle.tilt_feed.specs.Resting.{all_resting}
+use Rattle.tilt_feed.specs.declared.edge.Edge.{Edge}
 use Rattle.tilt_feed.specs.declared.event.Event.{Event}
 use Rattle.tilt_feed.specs.declared.event.Event.TheVariants.{Input, Finish}
+use Rattle.tilt_feed.specs.declared.open_row.OpenRow.{OpenRow}
+use Rattle.tilt_feed.specs.declared.update.Update.{Update}
+use Rattle.tilt_feed.specs.declared.update.Update.TheVariants.{Row, Value, NoValue, KnownUpTo}
+use Rattle.tilt_pipe.specs.Rings.{held}
 use Rattle.tilt_stream.specs.Snap.{Snapshot}
 use Rattle.tilt_turn.specs.declared.state.LoopState.{LoopState}
 
 -- the first rule that an event breaks
-pub engine-fault : (e : Engine) (code : CodeParts) (feed : Feed) (given : ℕ) (event : Event) → IsEngineOf e code feed given
+pub engine-fault : (e : Engine) (code : CodeParts) (feed : Feed) (given : ℕ) (event : Event) → IsEngineAt e code feed given
     → inlet_fault e.finished e.stock.inputs.items event ≡ event_fault feed event
 engine-fault e code feed given event is =
     ap (λ (b : Bool). inlet_fault b e.stock.inputs.items event) is.finished_is ∙ fault-is is.left e.stock.inputs.items event is.inlets
@@ -68,7 +74,7 @@ loops-beside a b code rows gone hs upto beside are =
 -- after an event that is allowed
 pub engine-taken : (a b : Engine) (code : CodeParts) (feed : Feed) (given : ℕ) (event : Event) → IsBeside a b → b.finished ≡ finishes event
     → b.stock.inputs.items ≡ inlets_after event a.stock.inputs.items → b.status ≡ Behind → event_fault feed event ≡ None
-    → IsEngineOf a code feed given → IsEngineOf b code (after event feed) given
+    → IsEngineAt a code feed given → IsEngineAt b code (after event feed) given
 engine-taken a b code feed given event beside finished inputs status allowed is =
     let later = after event is.left in
     let own : event_fault is.left event ≡ None =
@@ -96,7 +102,7 @@ engine-taken a b code feed given event beside finished inputs status allowed is 
 
 -- an engine that differs in nothing that counts
 pub engine-same : (a b : Engine) (code : CodeParts) (feed : Feed) (given : ℕ) → IsBeside a b → b.finished ≡ a.finished
-    → b.stock.inputs.items ≡ a.stock.inputs.items → b.status ≡ a.status → IsEngineOf a code feed given → IsEngineOf b code feed given
+    → b.stock.inputs.items ≡ a.stock.inputs.items → b.status ≡ a.status → IsEngineAt a code feed given → IsEngineAt b code feed given
 engine-same a b code feed given beside finished inputs status is = record {
   code_is = beside.code ∙ is.code_is;
   near = is.near;
@@ -117,3 +123,57 @@ engine-same a b code feed given beside finished inputs status is = record {
   current = λ now. is.current (sym status ∙ now);
   sound = λ no. is.sound (sym status ∙ no);
 }
+
+pub engine-same-of : (a b : Engine) (code : CodeParts) (feed : Feed) (given : ℕ) → IsBeside a b → b.finished ≡ a.finished
+    → b.stock.inputs.items ≡ a.stock.inputs.items → b.status ≡ a.status → b.limit ≡ a.limit → IsEngineOf a code feed given → IsEngineOf b code feed given
+engine-same-of a b code feed given beside finished inputs status limit is = record {
+  at = engine-same a b code feed given beside finished inputs status is.at;
+  few = λ now.
+      let kept : held_by b ≡ held_by a = (λ i. held (kept_lists (inputs i) (beside.loops i))) in
+      let few = is.few (sym status ∙ now) in
+      omega (arith, kept, limit, few);
+}
+
+-- how many closed rows are kept after an event
+few-closed : (edge : Edge) (update : Update) → length (closed_by edge update) ≤ 2
+few-closed edge (Row start end value) = by (continues edge.open_row start value)
+  where
+    one : (tick : ℤ) (open_row : Option OpenRow) → length (closed_at tick open_row) ≤ 1
+    one tick None = omega arith
+    one tick (Some row) = omega arith
+
+    by : (b : Bool) → length (if b then closed_at end edge.open_row else closed_at start edge.open_row ++ record { start = start; end = end; value = value } ∷ []) ≤ 2
+    by true = let few = one end edge.open_row in omega arith
+    by false =
+        let few = one start edge.open_row in
+        let all = length-append (closed_at start edge.open_row) (record { start = start; end = end; value = value } ∷ []) in
+        omega (arith, all)
+few-closed edge (Value start value) = few-one start edge.open_row
+  where
+    few-one : (tick : ℤ) (open_row : Option OpenRow) → length (closed_at tick open_row) ≤ 2
+    few-one tick None = omega arith
+    few-one tick (Some row) = omega arith
+few-closed edge (NoValue start) = few-one start edge.open_row
+  where
+    few-one : (tick : ℤ) (open_row : Option OpenRow) → length (closed_at tick open_row) ≤ 2
+    few-one tick None = omega arith
+    few-one tick (Some row) = omega arith
+few-closed edge (KnownUpTo watermark) = omega arith
+
+few-updated : (number : ℕ) (update : Update) (inlets : List InletParts) (loops : List MadeParts)
+    → held (kept_lists (updated_inlets number update inlets) loops) ≤ held (kept_lists inlets loops) + 2
+few-updated number update [] loops = omega arith
+few-updated zero update (i ∷ inlets) loops =
+    let few = few-closed i.input.edge update in
+    let all = length-append i.input.rows (closed_by i.input.edge update) in
+    omega (arith, all)
+few-updated (suc number) update (i ∷ inlets) loops = let rest = few-updated number update inlets loops in omega arith
+
+same-finished : (inlets : List InletParts) (loops : List MadeParts) → held (kept_lists (map (λ (i : InletParts). finished_inlet i.input) inlets) loops) ≡ held (kept_lists inlets loops)
+same-finished [] loops = refl
+same-finished (i ∷ inlets) loops = ap (λ (n : ℕ). length i.input.rows + n) (same-finished inlets loops)
+
+pub few-more : (event : Event) (inlets : List InletParts) (loops : List MadeParts)
+    → held (kept_lists (inlets_after event inlets) loops) ≤ held (kept_lists inlets loops) + 2
+few-more (Input number update) inlets loops = few-updated number update inlets loops
+few-more Finish inlets loops = omega (arith, same-finished inlets loops)

@@ -1,5 +1,5 @@
 -- Which engine is one of a feed (our own rule).
-use Rattle.std.specs.Prelude.{◌≡◌, ◌≢◌, ◌⊎◌, ℕ, ◌+◌, ◌-◌, ℤ, pos, ◌+ℤ◌, Bool, true, false, List, length, map, slice_get, Option, Some, None, Result, Ok, Err}
+use Rattle.std.specs.Prelude.{◌≡◌, ◌≢◌, ◌≤◌, ◌⊎◌, ℕ, ◌+◌, ◌-◌, ℤ, pos, ◌+ℤ◌, Bool, true, false, List, length, map, slice_get, Option, Some, None, Result, Ok, Err}
 use Rattle.std.specs.List.{AllByRecursion}
 use Rattle.tilt_code.specs.Code.{CodeParts}
 use Rattle.tilt_code.specs.Run.{run_of}
@@ -32,9 +32,13 @@ AreInlets true inputs inlets = (before : List InputFeed) × (inputs ≡ map fini
 abbrev pub horizons_of : Feed → List Horizon
 horizons_of feed = map (λ input. input_horizon feed.finished input.edge) feed.inputs
 
+-- how many closed rows of inputs and settled snapshots of loops an engine keeps
+abbrev pub held_by : Engine → ℕ
+held_by engine = held (kept_lists engine.stock.inputs.items engine.stock.loops.items)
+
 -- an engine that runs a code, after a feed, and has given so many snapshots: of each of its buffers the first ones have gone. Its loops
--- stand where they stood after an earlier feed, from which this one follows by some events
-pub record IsEngineOf (engine : Engine) (code : CodeParts) (feed : Feed) (given : ℕ) : Type 0 where
+-- stand where they stood after an earlier feed, from which this one follows by some events. It may keep any number of snapshots
+pub record IsEngineAt (engine : Engine) (code : CodeParts) (feed : Feed) (given : ℕ) : Type 0 where
   pub code_is : engine.code ≡ code
   pub near : IsNearCode code
   pub gone : List (List Snapshot)
@@ -54,6 +58,11 @@ pub record IsEngineOf (engine : Engine) (code : CodeParts) (feed : Feed) (given 
       engine.stock.loops.items engine.states.items upto
   pub current : engine.status ≡ Current → (before ≡ left) × (upto ≡ length code.loops)
   pub sound : engine.status ≢ Refused
+
+-- the same of an engine that keeps no more than there is room for once its loops have made all that is known
+pub record IsEngineOf (engine : Engine) (code : CodeParts) (feed : Feed) (given : ℕ) : Type 0 where
+  pub at : IsEngineAt engine code feed given
+  pub few : engine.status ≡ Current → held_by engine ≤ engine.limit
 
 -- an engine whose loops were refused memory
 abbrev pub IsRefused : Engine → Type 0
@@ -102,7 +111,3 @@ begun_pair (Some b) = Some (b.start, b.value)
 abbrev pub finishes : Event → Bool
 finishes (Input number update) = false
 finishes Finish = true
-
--- how many closed rows of inputs and settled snapshots of loops an engine keeps
-abbrev pub held_by : Engine → ℕ
-held_by engine = held (kept_lists engine.stock.inputs.items engine.stock.loops.items)

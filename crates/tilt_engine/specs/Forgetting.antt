@@ -1,9 +1,11 @@
 -- What an engine is once it has let the first snapshots of its buffers go (our own rule). There is a number for each buffer.
-use Rattle.std.specs.Prelude.{◌≡◌, ◌≤◌, ℕ, ◌+◌, ◌-◌, List, [], ◌∷◌, ◌++◌, map, take, drop, get_or, length}
+use Rattle.std.specs.Prelude.{◌≡◌, ◌<◌, ◌≤◌, min, ℕ, ◌+◌, ◌-◌, List, [], ◌∷◌, ◌++◌, map, take, drop, get_or, length}
 use Rattle.tilt_code.specs.Code.{CodeParts}
 use Rattle.tilt_engine.specs.Standing.{AreLoops, IsStockOf}
 use Rattle.tilt_engine.specs.Stock.{InletParts, MadeParts}
+use Rattle.tilt_engine.specs.Wanted.{wanted}
 use Rattle.tilt_feed.specs.Horizon.{Horizon}
+use Rattle.tilt_pipe.specs.Rings.{let_go}
 use Rattle.tilt_stream.specs.Snap.{Snapshot}
 use Rattle.tilt_turn.specs.declared.state.LoopState.{LoopState}
 
@@ -37,12 +39,18 @@ later_inlet n i = record { input = record { rows = drop n i.input.rows; edge = i
 abbrev pub later_made : ℕ → MadeParts → MadeParts
 later_made n m = record { made = drop n m.made; settled = m.settled; waiting = m.waiting; hi = m.hi }
 
--- what is so once they have gone: the inputs are these, and the loops stand as they stood
+-- what is so once they have gone: the inputs and the loops are these, and the loops stand as they stood. Of the last loop no more go than
+-- were given, and of each other buffer all that no next turn reads
 pub record HasForgotten (code : CodeParts) (inlets inlets_then : List InletParts) (made made_then : List MadeParts)
-    (states : List LoopState) (counts : List ℕ) (last : ℕ) : Type 0 where
+    (states : List LoopState) (counts : List ℕ) (given last : ℕ) : Type 0 where
   pub inputs : inlets_then ≡ each_later later_inlet counts inlets
+  pub made_is : made_then ≡ each_later later_made (drop (length code.inputs) counts) made
   pub loops : (rows gone : List (List Snapshot)) (hs : List Horizon) (old : List LoopState)
       → IsStockOf code rows gone hs inlets made old (length code.loops)
       → AreLoops code rows (added gone (heads counts (kept_lists inlets made))) hs made_then states (length code.loops)
   pub last_is : get_or counts (length code.inputs + (length code.loops - 1)) 0 ≡ last
   pub within : last ≤ length (get_or (kept_lists inlets made) (length code.inputs + (length code.loops - 1)) [])
+  pub unread : (number : ℕ) → number < length code.inputs + (length code.loops - 1)
+      → get_or counts number 0 ≡ let_go (wanted number code.loops made) (get_or (kept_lists inlets made) number [])
+  pub returned : last ≡ min given (let_go (wanted (length code.inputs + (length code.loops - 1)) code.loops made)
+      (get_or (kept_lists inlets made) (length code.inputs + (length code.loops - 1)) []))

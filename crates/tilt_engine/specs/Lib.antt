@@ -4,7 +4,9 @@ pub mod Forgetting
 pub mod GoingOn
 pub mod Gone
 pub mod Inlets
+pub mod Keeping
 pub mod Looking
+pub mod Needed
 pub mod Standing
 pub mod Stock
 pub mod Wanted

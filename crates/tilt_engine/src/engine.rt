@@ -1,10 +1,12 @@
 // The engine.
-ghost use Rattle.std.specs.Prelude.{◌≡◌, ◌≢◌, ℕ, drop, length, map, slice_get, IsErr, IfOk, OnErr, OnOk};
+ghost use Rattle.std.specs.Prelude.{◌≡◌, ◌≢◌, ◌≤◌, ◌+◌, ℕ, drop, length, map, slice_get, IsErr, IfOk, OnErr, OnOk};
 ghost use Rattle.tilt_code.specs.Code.{CodeParts};
-ghost use Rattle.tilt_engine.specs.Engines.{HasTaken, IsCurrent, IsEngine, IsEngineOf, IsNextOf, IsRefused, begun_pair, finishes};
+ghost use Rattle.tilt_engine.specs.Engines.{HasTaken, IsCurrent, IsEngine, IsEngineAt, IsEngineOf, IsNextOf, IsRefused, begun_pair, finishes};
 ghost use Rattle.tilt_engine.specs.Engines.{given_after, held_by, horizons_of, last_horizon, run_at_rest};
 ghost use Rattle.tilt_engine.specs.CodeHorizon.{horizon_by};
 ghost use Rattle.tilt_engine.specs.GoingOn.{IsNearCode};
+ghost use Rattle.tilt_engine.specs.Keeping.{HasJustForgotten, KeepsFew, room_of};
+ghost use Rattle.tilt_engine.specs.declared.engine.TheConstants.{FEW};
 ghost use Rattle.tilt_engine.specs.declared.status.Status.TheVariants.{Behind, Refused};
 ghost use Rattle.tilt_feed.specs.Events.{event_fault};
 ghost use Rattle.tilt_feed.specs.Feed.{Feed, empty_feed};
@@ -40,14 +42,15 @@ pub struct Engine {
     alloc: Global,
 }
 
-// So much may be kept before it is looked for what isn't needed any more.
-const FEW: u128 = 1024;
+/// An engine that keeps no more than this never looks for what isn't needed any more.
+pub const FEW: u128 = 1024;
 
 impl Engine {
     /// The engine of a code before the first event. `OutOfMemory` comes if memory is refused, and for no other reason.
     pub fn new(alloc: Global, code: Code) -> Result<Engine, OutOfMemory>
         requires { IsNearCode code }
-        ensures { IfOk result (λ engine. IsEngineOf engine code (empty_feed (length code.inputs)) 0) }
+        ensures engine { IfOk result (λ engine. IsEngineOf engine code (empty_feed (length code.inputs)) 0) }
+        ensures room { IfOk result (λ engine. room_of engine ≡ FEW) }
     {
         let stock = new_stock(alloc, &code)?;
         let states = new_states(alloc, &code)?;
@@ -81,11 +84,14 @@ impl Engine {
         Ok(horizons)
     }
 
-    /// Takes an event. If it isn't allowed, the first rule that it breaks is returned, and nothing changes; if memory is refused, nothing
-    /// changes either. No loop makes a turn before the next snapshot is asked for.
+    /// Takes an event, which adds two rows at most. If it isn't allowed, the first rule that it breaks is returned, and nothing changes; if
+    /// memory is refused, nothing changes either. No loop makes a turn before the next snapshot is asked for.
     pub fn take(&mut self, event: Event) -> Result<(), TakeError>
         ensures taken { (code : CodeParts) (feed : Feed) (given : ℕ) → IsEngineOf self.old code feed given
             → HasTaken result event feed (λ later. IsEngineOf self.new code later given) }
+        ensures more { held_by self.new ≤ held_by self.old + 2 }
+        ensures no_more { OnErr result (held_by self.new ≡ held_by self.old) }
+        ensures room { room_of self.new ≡ room_of self.old }
         ensures for_good { IsRefused self.old → IsRefused self.new }
     {
         if let Some(fault) = fault_of(self.finished, &self.stock.inputs, event) {
@@ -107,6 +113,8 @@ impl Engine {
             → IsKnownAt (last_horizon code feed) limit
             → IfOk result (λ next. (next ≡ slice_get (ended_by limit (run_at_rest code feed)) given)
             × IsEngineOf self.new code feed (given_after given next)) }
+        ensures bounded { (code : CodeParts) (feed : Feed) (given : ℕ) → IsEngineOf self.old code feed given
+            → OnOk result (KeepsFew code feed given (room_of self.old) (held_by self.new) (room_of self.new)) }
         ensures refused { OnErr result (IsRefused self.new) }
         ensures for_good { IsRefused self.old → IsErr result }
     {
@@ -130,6 +138,8 @@ impl Engine {
             → IsKnownAt (last_horizon code feed) limit
             → IfOk result (λ begun. (begun ≡ begun_pair (begun_next limit (drop given (run_at_rest code feed))))
             × IsEngineOf self.new code feed given) }
+        ensures bounded { (code : CodeParts) (feed : Feed) (given : ℕ) → IsEngineOf self.old code feed given
+            → OnOk result (KeepsFew code feed given (room_of self.old) (held_by self.new) (room_of self.new)) }
         ensures refused { OnErr result (IsRefused self.new) }
         ensures for_good { IsRefused self.old → IsErr result }
     {
@@ -146,6 +156,8 @@ impl Engine {
         requires { IsEngine self.old }
         ensures next { (code : CodeParts) (feed : Feed) (given : ℕ) → IsEngineOf self.old code feed given
             → IfOk result (λ next. IsNextOf code feed given next × IsEngineOf self.new code feed given) }
+        ensures bounded { (code : CodeParts) (feed : Feed) (given : ℕ) → IsEngineOf self.old code feed given
+            → OnOk result (KeepsFew code feed given (room_of self.old) (held_by self.new) (room_of self.new)) }
         ensures refused { OnErr result (IsRefused self.new) }
         ensures for_good { IsRefused self.old → IsErr result }
     {
@@ -159,6 +171,8 @@ impl Engine {
         requires { IsEngine self.old }
         ensures engine { (code : CodeParts) (feed : Feed) (given : ℕ) → IsEngineOf self.old code feed given
             → OnOk result (IsEngineOf self.new code feed given) }
+        ensures bounded { (code : CodeParts) (feed : Feed) (given : ℕ) → IsEngineOf self.old code feed given
+            → OnOk result (KeepsFew code feed given (room_of self.old) (held_by self.new) (room_of self.new)) }
         ensures current { OnOk result (IsCurrent self.new) }
         ensures refused { OnErr result (IsRefused self.new) }
         ensures for_good { IsRefused self.old → IsErr result }
@@ -176,6 +190,8 @@ impl Engine {
         requires behind { self.old.status ≡ Behind }
         ensures engine { (code : CodeParts) (feed : Feed) (given : ℕ) → IsEngineOf self.old code feed given
             → OnOk result (IsEngineOf self.new code feed given) }
+        ensures bounded { (code : CodeParts) (feed : Feed) (given : ℕ) → IsEngineOf self.old code feed given
+            → OnOk result (KeepsFew code feed given (room_of self.old) (held_by self.new) (room_of self.new)) }
         ensures current { OnOk result (IsCurrent self.new) }
         ensures refused { OnErr result (IsRefused self.new) }
     {
@@ -190,8 +206,9 @@ impl Engine {
     fn catch_up(&mut self) -> Result<(), OutOfMemory>
         requires engine { IsEngine self.old }
         requires behind { self.old.status ≡ Behind }
-        ensures engine { (code : CodeParts) (feed : Feed) (given : ℕ) → IsEngineOf self.old code feed given
-            → OnOk result (IsEngineOf self.new code feed given) }
+        ensures engine { (code : CodeParts) (feed : Feed) (given : ℕ) → IsEngineAt self.old code feed given
+            → OnOk result (IsEngineAt self.new code feed given) }
+        ensures room { room_of self.new ≡ room_of self.old }
         ensures current { OnOk result (IsCurrent self.new) }
         ensures refused { OnErr result (IsRefused self.new) }
     {
@@ -210,10 +227,13 @@ impl Engine {
 
     // Lets go what no next turn reads, and what was given. As much again may be kept before that is looked for again.
     fn forget(&mut self) -> Result<(), OutOfMemory>
-        requires engine { (code : CodeParts) × (feed : Feed) × (given : ℕ) × IsEngineOf self.old code feed given }
+        requires engine { (code : CodeParts) × (feed : Feed) × (given : ℕ) × IsEngineAt self.old code feed given }
         requires current { IsCurrent self.old }
-        ensures engine { (code : CodeParts) (feed : Feed) (given : ℕ) → IsEngineOf self.old code feed given
-            → OnOk result (IsEngineOf self.new code feed given) }
+        ensures engine { (code : CodeParts) (feed : Feed) (given : ℕ) → IsEngineAt self.old code feed given
+            → OnOk result (IsEngineAt self.new code feed given) }
+        ensures forgotten { (code : CodeParts) (feed : Feed) (given : ℕ) → IsEngineAt self.old code feed given
+            → OnOk result (HasJustForgotten code feed given (held_by self.new) (room_of self.new)) }
+        ensures within { OnOk result (held_by self.new ≤ room_of self.new) }
         ensures current { OnOk result (IsCurrent self.new) }
         ensures refused { OnErr result (IsRefused self.new) }
     {

@@ -1,10 +1,11 @@
 // What no next turn reads is let go.
-ghost use Rattle.std.specs.Prelude.{◌≡◌, ◌<◌, ◌≤◌, ◌+◌, ◌-◌, ℕ, List, None, Some, get_or, length, slice_get, IfOk, OnOk, []};
+ghost use Rattle.std.specs.Prelude.{◌≡◌, ◌<◌, ◌≤◌, ◌+◌, ◌-◌, min, ℕ, List, None, Some, get_or, length, slice_get, IfOk, OnOk, []};
 ghost use Rattle.tilt_engine.specs.Forgetting.{HasForgotten, each_later, kept_lists, later_inlet, later_made};
 ghost use Rattle.tilt_engine.specs.Standing.{IsStockOf};
 ghost use Rattle.tilt_engine.specs.Stock.{InletParts, MadeParts};
 ghost use Rattle.tilt_engine.specs.Wanted.{IsUnread};
 ghost use Rattle.tilt_feed.specs.Horizon.{Horizon};
+ghost use Rattle.tilt_pipe.specs.Rings.{let_go};
 ghost use Rattle.tilt_stream.specs.Snap.{Snapshot};
 
 use crate::inlet::Inlet;
@@ -29,7 +30,7 @@ pub(crate) fn forget(
         × IsStockOf code.now rows gone hs stock.old.inputs.items stock.old.loops.items states.old.items (length code.now.loops) }
     requires many { length stock.old.inputs.items ≡ length code.now.inputs }
     ensures forgotten { IfOk result (λ last. (counts : List ℕ) × HasForgotten code.now stock.old.inputs.items stock.new.inputs.items
-        stock.old.loops.items stock.new.loops.items states.new.items counts last) }
+        stock.old.loops.items stock.new.loops.items states.new.items counts given last) }
     ensures few { IfOk result (λ last. last ≤ given) }
 {
     // What a code keeps is known from here on.
@@ -56,7 +57,9 @@ fn count_all(
         (get_or (kept_lists stock.now.inputs.items stock.now.loops.items) number []) (get_or counts.items number 0)) }
     ensures within { IfOk result (λ counts. (number : ℕ)
         → get_or counts.items number 0 ≤ length (get_or (kept_lists stock.now.inputs.items stock.now.loops.items) number [])) }
-    ensures few { IfOk result (λ counts. get_or counts.items (length firsts.now - 1) 0 ≤ given) }
+    ensures last { IfOk result (λ counts. get_or counts.items (length firsts.now - 1) 0
+        ≡ min given (let_go (get_or firsts.now (length firsts.now - 1) None)
+        (get_or (kept_lists stock.now.inputs.items stock.now.loops.items) (length firsts.now - 1) []))) }
 {
     let mut counts = count_unread(alloc, stock, firsts)?;
     // No loop reads the last one.

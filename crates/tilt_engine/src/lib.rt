@@ -17,6 +17,10 @@
 //! From time to time, rows and snapshots that no next turn reads are let go, and snapshots that were returned. `IsEngineOf` says which have
 //! gone of each buffer (`gone`): together with what is left they are the rows of the feed, so that no clause of a call speaks of them.
 //!
+//! `needed code feed given` of `specs/Needed` counts what has to be kept: what the next turns may read, and what wasn't returned. After a
+//! call of `next` or `begun` an engine keeps no more than its room (clause `bounded`). Its room is `FEW` at first, and changes only when it
+//! forgets: then it keeps what is needed at that moment, and its room is at most twice that, or `FEW`. An event adds at most two rows.
+//!
 //! If memory is refused in `next` or `begun`, each later call of them reports the same.
 #![tactic(auto)]
 
@@ -36,6 +40,6 @@ mod stock;
 mod turning;
 mod wanted;
 
-pub use engine::Engine;
+pub use engine::{Engine, FEW};
 pub use fault::TakeError;
 pub use law::buffers_go_on;

@@ -4,7 +4,7 @@ use Rattle.std.proofs.Common.{arith, inl, inr, length-append}
 use Rattle.std.proofs.lemmas.Int.{ints}
 use Rattle.std.proofs.lemmas.List.{length-map}
 use Rattle.std.proofs.lemmas.Option.{same_Some}
-use Rattle.std.specs.Prelude.{IfOk}
+use Rattle.std.specs.Prelude.{IfOk, OnOk}
 use Rattle.tilt_base.specs.declared.limits.TheConstants.{REACH}
 use Rattle.tilt_bounds.proofs.Margin.{margins-reach}
 use Rattle.tilt_code.specs.Code.{CodeParts}
@@ -16,6 +16,7 @@ use Rattle.tilt_core.specs.Meaning.{output_of}
 use Rattle.tilt_engine.proofs.Taking.{after_all-push}
 use Rattle.tilt_engine.specs.CodeHorizon.{horizon_by}
 use Rattle.tilt_engine.specs.Engines.{HasTaken, IsEngineOf, begun_pair, given_after, horizons_of, last_horizon, run_at_rest}
+use Rattle.tilt_engine.specs.Keeping.{KeepsFew}
 use Rattle.tilt_engine.specs.declared.fault.TakeError.{TakeError}
 use Rattle.tilt_engine.specs.declared.fault.TakeError.TheVariants.{Fault, OutOfMemory}
 use Rattle.tilt_feed.proofs.AllAtRest.{fed-begun_at_rest, fed-printed_at_rest}
@@ -30,7 +31,7 @@ use Rattle.tilt_feed.specs.Printed.{begun, printed}
 use Rattle.tilt_feed.specs.Resting.{LooksNear, all_resting, begun_next, ended_by, resting, whole}
 use Rattle.tilt_feed.specs.declared.event.Event.{Event}
 use Rattle.tilt_live.proofs.Reaching.{code-reaches}
-use Rattle.tilt_live.specs.Lives.{IsLive, IsLiveOf}
+use Rattle.tilt_live.specs.Lives.{IsLive, IsLiveOf, KeepsFewOf}
 use Rattle.tilt_live.specs.declared.live.Live.{Live}
 use Rattle.tilt_stream.specs.Snap.{Snapshot}
 
@@ -229,3 +230,9 @@ live-still-taken live later event result same taken (inl refused) = inl (same �
 live-still-taken live later event (Ok done) same taken (inr some) = inr (some.0, after event some.1, some.2, (taken some.0 some.1 some.2 some.3).1)
 live-still-taken live later event (Err (Fault fault)) same taken (inr some) = inr (some.0, some.1, some.2, (taken some.0 some.1 some.2 some.3).1)
 live-still-taken live later event (Err OutOfMemory) same taken (inr some) = inr (some.0, some.1, some.2, (taken some.0 some.1 some.2 some.3).1)
+
+-- what an engine keeps is what a live engine keeps
+pub live-few : {T E : Type 0} (live : Live) (accepted : AcceptedParts) (feed : Feed) (given before held room : ℕ) (result : Result T E) (is : IsLiveOf live accepted feed given)
+    → OnOk result (KeepsFew is.code feed given before held room) → OnOk result (KeepsFewOf accepted feed given before held room)
+live-few live accepted feed given before held room (Ok value) is few = record { code = is.code; code_is = is.code_is; few = few }
+live-few live accepted feed given before held room (Err fault) is few = tt

@@ -7,6 +7,7 @@ use Rattle.tilt_compiler.specs.Compiled.{IsCodeOf}
 use Rattle.tilt_core.specs.Core.{CoreParts}
 use Rattle.tilt_core.specs.Meaning.{output_of}
 use Rattle.tilt_engine.specs.Engines.{IsEngineOf, held_by}
+use Rattle.tilt_engine.specs.Keeping.{KeepsFew, room_of}
 use Rattle.tilt_feed.specs.Feed.{Feed}
 use Rattle.tilt_feed.specs.Laws.{fed}
 use Rattle.tilt_feed.specs.Printed.{printed}
@@ -44,3 +45,13 @@ IsLive live =
 -- how many rows and snapshots a live engine keeps
 abbrev pub held_by_live : Live → ℕ
 held_by_live live = held_by live.engine
+
+-- how much a live engine may keep before it forgets
+abbrev pub room_of_live : Live → ℕ
+room_of_live live = room_of live.engine
+
+-- so much is kept after a call, and so much may be, over the code of the query
+pub record KeepsFewOf (accepted : AcceptedParts) (feed : Feed) (given : ℕ) (room_before held room : ℕ) : Type 0 where
+  pub code : CodeParts
+  pub code_is : IsCodeOf accepted.core accepted.fuse code
+  pub few : KeepsFew code feed given room_before held room

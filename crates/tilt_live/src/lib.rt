@@ -16,6 +16,10 @@
 //! the whole output of the query once the feed is finished: these are laws of the definitions, which `tilt_feed` has as clauses
 //! (`known_is_final`, `all_is_printed`). After all of `printed`, `begun` returns the start and the value of the snapshot that has begun.
 //!
+//! After a call of `next` or `begun` no more is kept than there is room for. The room is `FEW` of `tilt_engine` at first, and changes only
+//! when the engine forgets: then it keeps what is needed at that moment (`needed` of `tilt_engine`), and its room is at most twice that, or
+//! `FEW` (clause `bounded`). An event adds at most two rows.
+//!
 //! If memory is refused in `next` or `begun`, each later call of them reports the same.
 #![tactic(auto)]
 

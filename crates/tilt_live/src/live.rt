@@ -1,12 +1,13 @@
 // The live engine of an accepted query. The first lines of `lib.rt` say what its clauses mean together.
-ghost use Rattle.std.specs.Prelude.{◌≡◌, ℕ, length, slice_get, IsErr, IfOk, OnErr};
+ghost use Rattle.std.specs.Prelude.{◌≡◌, ◌≤◌, ◌+◌, ℕ, length, slice_get, IsErr, IfOk, OnErr, OnOk};
 ghost use Rattle.tilt_compiler.specs.Accepted.{AcceptedParts};
 ghost use Rattle.tilt_engine.specs.Engines.{HasTaken, begun_pair, given_after};
+ghost use Rattle.tilt_engine.specs.declared.engine.TheConstants.{FEW};
 ghost use Rattle.tilt_feed.specs.Events.{event_fault};
 ghost use Rattle.tilt_feed.specs.Feed.{Feed, empty_feed};
 ghost use Rattle.tilt_feed.specs.Horizon.{horizon};
 ghost use Rattle.tilt_feed.specs.Printed.{begun, printed};
-ghost use Rattle.tilt_live.specs.Lives.{IsLive, IsLiveOf, IsRefusedLive, held_by_live};
+ghost use Rattle.tilt_live.specs.Lives.{IsLive, IsLiveOf, IsRefusedLive, KeepsFewOf, held_by_live, room_of_live};
 
 use crate::horizon::query_horizon;
 use std::alloc::{AllocError as OutOfMemory, Global};
@@ -14,6 +15,7 @@ use tilt_base::Cell;
 use tilt_compiler::Accepted;
 use tilt_engine::{Engine, TakeError};
 use tilt_feed::{Event, EventFault};
+use tilt_lexer::Name;
 use tilt_stream::Snap;
 
 /// The live engine of an accepted query: it takes the events of the query's feed, one after another, and returns each snapshot of the
@@ -29,7 +31,8 @@ pub struct Live {
 impl Live {
     /// The live engine of a query before the first event. `OutOfMemory` comes if memory is refused, and for no other reason.
     pub fn new(alloc: Global, accepted: Accepted) -> Result<Live, OutOfMemory>
-        ensures { IfOk result (λ live. IsLiveOf live accepted (empty_feed (length accepted.core.inputs)) 0) }
+        ensures live { IfOk result (λ live. IsLiveOf live accepted (empty_feed (length accepted.core.inputs)) 0) }
+        ensures room { IfOk result (λ live. room_of_live live ≡ FEW) }
     {
         let code = accepted.code(alloc)?;
         let engine = Engine::new(alloc, code)?;
@@ -39,6 +42,14 @@ impl Live {
             refused: false,
             alloc,
         })
+    }
+
+    /// The names of the inputs of its query, in order: the events number them so.
+    pub fn inputs(&self) -> &[Name]
+        ensures { (accepted : AcceptedParts) (feed : Feed) (given : ℕ) → IsLiveOf self.now accepted feed given
+            → result.now ≡ accepted.core.inputs }
+    {
+        self.accepted.core().inputs()
     }
 
     /// The first rule that an event breaks, or `None` if it is allowed.
@@ -54,6 +65,9 @@ impl Live {
     pub fn take(&mut self, event: Event) -> Result<(), TakeError>
         ensures taken { (accepted : AcceptedParts) (feed : Feed) (given : ℕ) → IsLiveOf self.old accepted feed given
             → HasTaken result event feed (λ later. IsLiveOf self.new accepted later given) }
+        ensures more { held_by_live self.new ≤ held_by_live self.old + 2 }
+        ensures no_more { OnErr result (held_by_live self.new ≡ held_by_live self.old) }
+        ensures room { room_of_live self.new ≡ room_of_live self.old }
         ensures for_good { IsRefusedLive self.old → IsRefusedLive self.new }
         ensures live { IsLive self.old → IsLive self.new }
     {
@@ -67,6 +81,8 @@ impl Live {
         ensures next { (accepted : AcceptedParts) (feed : Feed) (given : ℕ) → IsLiveOf self.old accepted feed given
             → IfOk result (λ next. (next ≡ slice_get (printed accepted.core feed) given)
             × IsLiveOf self.new accepted feed (given_after given next)) }
+        ensures bounded { (accepted : AcceptedParts) (feed : Feed) (given : ℕ) → IsLiveOf self.old accepted feed given
+            → OnOk result (KeepsFewOf accepted feed given (room_of_live self.old) (held_by_live self.new) (room_of_live self.new)) }
         ensures refused { OnErr result (IsRefusedLive self.new) }
         ensures for_good { IsRefusedLive self.old → IsErr result }
         ensures live { IsLive self.new }
@@ -91,6 +107,8 @@ impl Live {
         ensures begun { (accepted : AcceptedParts) (feed : Feed) (given : ℕ) → IsLiveOf self.old accepted feed given
             → IfOk result (λ found. (given ≡ length (printed accepted.core feed) → found ≡ begun_pair (begun accepted.core feed))
             × IsLiveOf self.new accepted feed given) }
+        ensures bounded { (accepted : AcceptedParts) (feed : Feed) (given : ℕ) → IsLiveOf self.old accepted feed given
+            → OnOk result (KeepsFewOf accepted feed given (room_of_live self.old) (held_by_live self.new) (room_of_live self.new)) }
         ensures refused { OnErr result (IsRefusedLive self.new) }
         ensures for_good { IsRefusedLive self.old → IsErr result }
         ensures live { IsLive self.new }
@@ -117,9 +135,11 @@ impl Live {
     // The next snapshot of what may be printed.
     fn find_next(&mut self) -> Result<Option<Snap>, OutOfMemory>
         requires { (accepted : AcceptedParts) × (feed : Feed) × (given : ℕ) × IsLiveOf self.old accepted feed given }
-        ensures { (accepted : AcceptedParts) (feed : Feed) (given : ℕ) → IsLiveOf self.old accepted feed given
+        ensures next { (accepted : AcceptedParts) (feed : Feed) (given : ℕ) → IsLiveOf self.old accepted feed given
             → IfOk result (λ next. (next ≡ slice_get (printed accepted.core feed) given)
             × IsLiveOf self.new accepted feed (given_after given next)) }
+        ensures bounded { (accepted : AcceptedParts) (feed : Feed) (given : ℕ) → IsLiveOf self.old accepted feed given
+            → OnOk result (KeepsFewOf accepted feed given (room_of_live self.old) (held_by_live self.new) (room_of_live self.new)) }
     {
         let horizon = self.horizon()?;
         self.engine.next(horizon)
@@ -128,9 +148,11 @@ impl Live {
     // What has begun after what may be printed, all of which was returned.
     fn find_begun(&mut self) -> Result<Option<(i64, Cell)>, OutOfMemory>
         requires { (accepted : AcceptedParts) × (feed : Feed) × (given : ℕ) × IsLiveOf self.old accepted feed given }
-        ensures { (accepted : AcceptedParts) (feed : Feed) (given : ℕ) → IsLiveOf self.old accepted feed given
+        ensures begun { (accepted : AcceptedParts) (feed : Feed) (given : ℕ) → IsLiveOf self.old accepted feed given
             → IfOk result (λ found. (given ≡ length (printed accepted.core feed) → found ≡ begun_pair (begun accepted.core feed))
             × IsLiveOf self.new accepted feed given) }
+        ensures bounded { (accepted : AcceptedParts) (feed : Feed) (given : ℕ) → IsLiveOf self.old accepted feed given
+            → OnOk result (KeepsFewOf accepted feed given (room_of_live self.old) (held_by_live self.new) (room_of_live self.new)) }
     {
         let horizon = self.horizon()?;
         self.engine.begun(horizon)

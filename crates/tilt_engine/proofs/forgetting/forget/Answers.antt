@@ -1,5 +1,6 @@
 -- What goes isn't read by any next turn, and the loops stand as they stood.
-use Rattle.std.proofs.Common.{◌≡◌, ◌∙◌, ◌≤◌, ◌+◌, ◌-◌, ℕ, ℤ, ◌≤ℤ◌, List, [], length, drop, take, get_or, slice_get, Option, Some, None, refl, sym, ap, subst, arith}
+use Rattle.std.proofs.Common.{◌≡◌, ◌∙◌, ◌<◌, ◌≤◌, ◌+◌, ◌-◌, min, ℕ, ℤ, ◌≤ℤ◌, List, [], length, drop, take, get_or, slice_get, Option, Some, None, refl, sym, ap, subst, arith}
+use Rattle.std.proofs.Math.Nat.{min-le_left}
 use Rattle.std.proofs.lemmas.List.{get_or-drop, take_rest, with_items_is}
 use Rattle.std.proofs.lemmas.Option.{get_or_from_slice_get, slice_get_read}
 use Rattle.tilt_code.specs.Code.{LoopParts}
@@ -8,6 +9,7 @@ use Rattle.tilt_engine.specs.Forgetting.{added, each_later, heads, kept_lists, l
 use Rattle.tilt_engine.specs.Standing.{AreLoops}
 use Rattle.tilt_engine.specs.Stock.{InletParts, MadeParts}
 use Rattle.tilt_engine.specs.Wanted.{wanted}
+use Rattle.tilt_pipe.specs.Rings.{let_go}
 use Rattle.tilt_engine.proofs.forgetting.forget.Goals as goal
 use Rattle.tilt_engine.proofs.forgetting.forget.Goals.{After-deref, After-deref-3}
 
@@ -73,13 +75,13 @@ returns-clause-forgotten c =
     let made_then = with_items_is stock.loops c.forget_made.new.loops (c.forget_made.auto.loops ∙ c.deref_mut-2.ensures.len)
     ∙ c.in_ok-forget_made.ensures ∙ ap (λ (list : List ℕ). each_later later_made list c.deref_mut-2.result.now) own
     ∙ ap (λ (list : List MadeParts). each_later later_made (drop (length code.inputs) counts) list) c.deref_mut-2.ensures.value in
-    let ends : EndUnread code inlets loops counts = λ number tick below want.
-    let long = c.in_ok-firsts.ensures.count in
-    let first : get_or c.deref-2.result.now number None ≡ Some tick =
+    let first_at : (number : ℕ) → get_or c.deref-2.result.now number None ≡ wanted number code.loops loops = λ number.
     ap (λ (list : List (Option ℤ)). get_or list number None) c.deref-2.ensures.value ∙ c.in_ok-firsts.ensures.firsts number
-    ∙ ap (λ (list : List MadeParts). wanted number code.loops list) c.deref.ensures.value ∙ want in
-    (c.in_ok-counts.ensures.each number (omega (arith, below, long, some, ap length c.deref-2.ensures.value))).past tick first in
+    ∙ ap (λ (list : List MadeParts). wanted number code.loops list) c.deref.ensures.value in
     let last = length code.inputs + (length code.loops - 1) in
+    let end : length c.deref-2.result.now - 1 ≡ last = omega (arith, c.in_ok-firsts.ensures.count, some, ap length c.deref-2.ensures.value) in
+    let ends : EndUnread code inlets loops counts = λ number tick below want.
+    (c.in_ok-counts.ensures.each number (omega (arith, below, end))).past tick (first_at number ∙ want) in
     let count : length counts ≡ length code.inputs + length code.loops =
     c.in_ok-counts.ensures.many ∙ ap length c.deref-2.ensures.value ∙ c.in_ok-firsts.ensures.count in
     let place : c.len.result - 1 ≡ last =
@@ -90,6 +92,7 @@ returns-clause-forgotten c =
       counts,
       record {
         inputs = rows_then;
+        made_is = made_then;
         loops = λ rows gone hs old from.
             subst (λ (list : List MadeParts). AreLoops code rows (added gone (heads counts (kept_lists inlets loops))) hs list
             c.in_ok-states.field-0.items (length code.loops)) (sym made_then)
@@ -97,5 +100,25 @@ returns-clause-forgotten c =
             c.in_ok-states.ensures.many c.in_ok-states.ensures.fresh);
         last_is = at;
         within = subst (λ (x : ℕ). x ≤ length (get_or (kept_lists inlets loops) last [])) at (c.in_ok-counts.ensures.within last);
+        unread = λ number below.
+            (c.in_ok-counts.ensures.each number (omega (arith, below, end))).is
+            ∙ ap (λ (first : Option ℤ). let_go first (get_or (kept_lists inlets loops) number [])) (first_at number);
+        returned = sym at ∙ ap (λ (n : ℕ). get_or counts n 0) (sym end) ∙ c.in_ok-counts.ensures.last
+            ∙ ap (λ (n : ℕ). min c.args.given (let_go (get_or c.deref-2.result.now n None) (get_or (kept_lists inlets loops) n []))) end
+            ∙ ap (λ (first : Option ℤ). min c.args.given (let_go first (get_or (kept_lists inlets loops) last []))) (first_at last);
       },
     )
+
+pub returns-clause-few : goal.returns-clause-few
+returns-clause-few c =
+    let counts = c.in_ok-counts.counts.items in
+    let some = c.loops.ensures.code.grammatical.some in
+    let many = c.in_ok-counts.ensures.many in
+    let long = c.len.ensures ∙ sym c.deref-3.ensures.len ∙ ap length c.deref-3.ensures.value in
+    let last = length c.deref-2.result.now - 1 in
+    let place : c.len.result - 1 ≡ last = omega (arith, long, many) in
+    let there : last < length counts = omega (arith, many, some, ap length c.deref-2.ensures.value ∙ c.in_ok-firsts.ensures.count) in
+    let at : get_or counts last 0 ≡ c.index.result.now =
+    get_or_from_slice_get counts last c.index.result.now 0 (slice_get_read counts (length counts) last c.index.result.now refl there
+    (subst (λ (x : ℕ). c.index.result.now ≡ get_or counts x c.index.result.now) place c.index.ensures)) in
+    subst (λ (n : ℕ). n ≤ c.args.given) (sym c.in_ok-counts.ensures.last ∙ at) (min-le_left c.args.given _)

@@ -34,5 +34,5 @@ returns-in_default-clause-begun c = λ code feed given of known.
 pub returns-in_default-2-clause-begun : goal.returns-in_default-2-clause-begun
 returns-in_default-2-clause-begun c = λ code feed given of known.
     let n = c.in_ok-snap.ensures.next code feed given of in
-    let is = subst IsCode of.code_is c.loops.ensures.code in
+    let is = subst IsCode of.at.code_is c.loops.ensures.code in
     (ap begun_pair (sym (begun-past_limit code feed is c.args.limit known given (subst (IsNextOf code feed given) c.in_default.is n.0))), n.1)

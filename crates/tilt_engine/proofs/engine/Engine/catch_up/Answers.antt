@@ -16,7 +16,7 @@ use Rattle.tilt_engine.proofs.engine.Engine.catch_up.Goals as goal
 may-by : (engine : Engine) → IsEngine engine → engine.status ≡ Behind
     → MayCatchUp engine.code engine.finished engine.stock.inputs.items engine.stock.loops.items engine.states.items
 may-by engine (inl refused) behind = absurd (cc (sym refused ∙ behind))
-may-by engine (inr of) behind = may-catch_up engine of.0 of.1 of.2 of.3
+may-by engine (inr of) behind = may-catch_up engine of.0 of.1 of.2 of.3.at
 
 pub catch_up-requires : goal.catch_up-requires
 catch_up-requires c =

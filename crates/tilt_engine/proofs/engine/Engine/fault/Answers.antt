@@ -9,4 +9,4 @@ returns c = λ code feed given is.
     let e = c.args.self.now in
     c.fault_of.ensures
     ∙ ap (λ (list : List InletParts). inlet_fault e.finished list c.args.event) c.deref.ensures.value
-    ∙ engine-fault e code feed given c.args.event is
+    ∙ engine-fault e code feed given c.args.event is.at

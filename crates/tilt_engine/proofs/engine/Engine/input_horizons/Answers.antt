@@ -8,4 +8,4 @@ returns c = λ code feed given is.
     let e = c.args.self.now in
     c.in_ok-add_inputs.ensures.value
     ∙ ap (λ (list : List InletParts). map (inlet_horizon e.finished) list) c.deref.ensures.value
-    ∙ inlet-horizons e code feed given is
+    ∙ inlet-horizons e code feed given is.at

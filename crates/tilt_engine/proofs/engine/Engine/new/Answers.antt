@@ -5,8 +5,8 @@ use Rattle.tilt_engine.specs.declared.engine.Engine.{Engine}
 use Rattle.tilt_engine.specs.declared.status.Status.TheVariants.{Behind}
 use Rattle.tilt_engine.proofs.engine.Engine.new.Goals as goal
 
-pub returns : goal.returns
-returns c =
+pub returns-clause-engine : goal.returns-clause-engine
+returns-clause-engine c =
     let e : Engine = record {
       code = c.args.code;
       stock = c.in_ok-stock.stock;
@@ -18,5 +18,8 @@ returns c =
       limit = 1024;
       alloc = c.args.alloc;
     } in
-    engine-new e (subst IsCode c.code.view_is c.code.invariant) c.requires refl refl refl c.in_ok-stock.ensures.inputs c.in_ok-stock.ensures.loops
-    c.in_ok-states.ensures.many c.in_ok-states.ensures.fresh
+    record {
+      at = engine-new e (subst IsCode c.code.view_is c.code.invariant) c.requires refl refl refl c.in_ok-stock.ensures.inputs c.in_ok-stock.ensures.loops
+          c.in_ok-states.ensures.many c.in_ok-states.ensures.fresh;
+      few = λ now. absurd (cc now);
+    }

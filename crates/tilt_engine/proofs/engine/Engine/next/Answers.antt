@@ -11,13 +11,13 @@ use Rattle.tilt_engine.proofs.engine.Engine.next.Goals.{In-Some}
 pub returns-in_default-clause-next : goal.returns-in_default-clause-next
 returns-in_default-clause-next c = λ code feed given of known.
     let n = c.in_ok-snap.ensures.next code feed given of in
-    let is = subst IsCode of.code_is c.loops.ensures.code in
+    let is = subst IsCode of.at.code_is c.loops.ensures.code in
     (given-none code feed is c.args.limit known given (subst (IsNextOf code feed given) c.in_default.is n.0), n.1)
 
 pub returns-then-limit-snap-clause-next : goal.returns-then-limit-snap-clause-next
 returns-then-limit-snap-clause-next c = λ code feed given of known.
     let n = c.in_ok-snap.ensures.next code feed given of in
-    let is = subst IsCode of.code_is c.loops.ensures.code in
+    let is = subst IsCode of.at.code_is c.loops.ensures.code in
     let fits : FitsSigned w64 c.snap.inside.end = search rules in
     let test = rw (to_z-of_z fits) at c.if-limit-snap.true in
     let end = ap (λ (s : Snapshot). s.end) c.snap.view_is in
@@ -28,10 +28,10 @@ few-by : (c : In-Some) → IsEngine c.args.self.now → c.peek.new.self.given < 
 few-by c (inl refused) = absurd (cc (c.in_ok-snap.ensures.for_good refused))
 few-by c (inr of) =
     let n = c.in_ok-snap.ensures.next of.0 of.1 of.2 of.3 in
-    let is = subst IsCode of.3.code_is c.loops.ensures.code in
+    let is = subst IsCode of.3.at.code_is c.loops.ensures.code in
     let at : IsNextOf of.0 of.1 of.2 (Some c.in-Some.snap) = subst (IsNextOf of.0 of.1 of.2) c.in-Some.is n.0 in
     let few = given-few of.0 of.1 of.2 c.in-Some.snap is at in
-    omega (arith, few, n.1.given_is)
+    omega (arith, few, n.1.at.given_is)
 
 pub overflow_add-self : goal.overflow_add-self
 overflow_add-self c = let few = few-by (goal.at.overflow_add-self c).In-Some c.requires in omega arith
@@ -39,11 +39,11 @@ overflow_add-self c = let few = few-by (goal.at.overflow_add-self c).In-Some c.r
 pub returns-clause-next : goal.returns-clause-next
 returns-clause-next c = λ code feed given of known.
     let n = c.in_ok-snap.ensures.next code feed given of in
-    let is = subst IsCode of.code_is c.loops.ensures.code in
+    let is = subst IsCode of.at.code_is c.loops.ensures.code in
     let fits : FitsSigned w64 c.snap.inside.end = search rules in
     let test = rw (to_z-of_z fits) at c.if-limit-snap.false in
     let end = ap (λ (s : Snapshot). s.end) c.snap.view_is in
     let low : c.in-Some.snap.end ≤ℤ c.args.limit = grind (arith, ints) in (
       given-some code feed is c.args.limit known given c.in-Some.snap (subst (IsNextOf code feed given) c.in-Some.is n.0) low,
-      given-more c.peek.new.self code feed given n.1,
+      record { at = given-more c.peek.new.self code feed given n.1.at; few = n.1.few },
     )

@@ -14,7 +14,7 @@ there : (c : After-loops) → IsEngine c.args.self.now → length c.loops.result
 there c (inl refused) = absurd (cc (c.in_ok-advance.ensures.for_good refused))
 there c (inr of) =
     let new = c.in_ok-advance.ensures.engine of.0 of.1 of.2 of.3 in
-    rw (place c) (last-there c.advance.new.self of.0 of.1 of.2 new c.in_ok-advance.ensures.current c.loops.ensures.code)
+    rw (place c) (last-there c.advance.new.self of.0 of.1 of.2 new.at c.in_ok-advance.ensures.current c.loops.ensures.code)
 
 pub index-requires : goal.index-requires
 index-requires c = let within = there (goal.at.index-requires c).After-loops c.requires in search rules
@@ -27,7 +27,8 @@ returns c =
           let new = c.in_ok-advance.ensures.engine code feed given of in
           let m = c.index.result.now in
           let at = subst (λ (n : ℕ). m ≡ get_or c.advance.new.self.stock.loops.items n m) (place b) c.index.ensures in
-          (peeked c.advance.new.self code feed given new c.in_ok-advance.ensures.current c.loops.ensures.code m at c.piece.result c.piece.ensures, new);
+          (peeked c.advance.new.self code feed given new.at c.in_ok-advance.ensures.current c.loops.ensures.code m at c.piece.result c.piece.ensures, new);
+      bounded = c.in_ok-advance.ensures.bounded;
       refused = tt;
       for_good = c.in_ok-advance.ensures.for_good;
     }

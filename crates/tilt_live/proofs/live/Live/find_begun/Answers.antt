@@ -1,13 +1,17 @@
 use Rattle.std.proofs.Common.{FitsSigned, to_z, of_z, to_z-of_z, w64, ◌∙◌, refl, rules}
-use Rattle.tilt_live.proofs.Lives.{live-begun}
+use Rattle.tilt_live.proofs.Lives.{live-few, live-begun}
 use Rattle.tilt_live.specs.declared.live.Live.{Live}
 use Rattle.tilt_live.proofs.live.Live.find_begun.Goals as goal
 
-pub returns : goal.returns
-returns c = λ accepted feed given is.
+pub returns-clause-begun : goal.returns-clause-begun
+returns-clause-begun c = λ accepted feed given is.
     let live = c.args.self.now in
     let later : Live = record { accepted = live.accepted; engine = c.begun.new.self; refused = live.refused; alloc = live.alloc } in
     let tick = c.in_ok-horizon.horizon in
     let fits : FitsSigned w64 tick = search rules in
     live-begun live later refl refl accepted feed given is (to_z w64 (of_z w64 tick)) c.begun.result (to_z-of_z fits ∙ c.in_ok-horizon.ensures accepted feed given is)
     (c.begun.ensures.begun is.code feed given is.runs)
+
+pub returns-clause-bounded : goal.returns-clause-bounded
+returns-clause-bounded c = λ accepted feed given is.
+    live-few c.args.self.now accepted feed given _ _ _ c.begun.result is (c.begun.ensures.bounded is.code feed given is.runs)

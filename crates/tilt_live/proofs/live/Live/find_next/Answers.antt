@@ -1,13 +1,17 @@
 use Rattle.std.proofs.Common.{FitsSigned, to_z, of_z, to_z-of_z, w64, ◌∙◌, refl, rules}
-use Rattle.tilt_live.proofs.Lives.{live-next}
+use Rattle.tilt_live.proofs.Lives.{live-few, live-next}
 use Rattle.tilt_live.specs.declared.live.Live.{Live}
 use Rattle.tilt_live.proofs.live.Live.find_next.Goals as goal
 
-pub returns : goal.returns
-returns c = λ accepted feed given is.
+pub returns-clause-next : goal.returns-clause-next
+returns-clause-next c = λ accepted feed given is.
     let live = c.args.self.now in
     let later : Live = record { accepted = live.accepted; engine = c.next.new.self; refused = live.refused; alloc = live.alloc } in
     let tick = c.in_ok-horizon.horizon in
     let fits : FitsSigned w64 tick = search rules in
     live-next live later refl refl accepted feed given is (to_z w64 (of_z w64 tick)) c.next.result (to_z-of_z fits ∙ c.in_ok-horizon.ensures accepted feed given is)
     (c.next.ensures.next is.code feed given is.runs)
+
+pub returns-clause-bounded : goal.returns-clause-bounded
+returns-clause-bounded c = λ accepted feed given is.
+    live-few c.args.self.now accepted feed given _ _ _ c.next.result is (c.next.ensures.bounded is.code feed given is.runs)
