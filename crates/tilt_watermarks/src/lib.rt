@@ -1,0 +1,14 @@
+//! The watermarks that people need, between the lines of a live feed and its events.
+#![tactic(auto)]
+
+mod fault;
+mod fault_of;
+mod following;
+mod less;
+mod options;
+mod raise;
+mod watermarks;
+
+pub use fault::{TakeError, TakeFault};
+pub use options::Options;
+pub use watermarks::Watermarks;
