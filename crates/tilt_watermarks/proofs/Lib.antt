@@ -1,2 +1,4 @@
+pub mod Going
 pub mod Places
+pub mod Stepping
 pub mod Taking

@@ -4,11 +4,13 @@
 mod fault;
 mod fault_of;
 mod following;
+mod law;
 mod less;
 mod options;
 mod raise;
 mod watermarks;
 
 pub use fault::{TakeError, TakeFault};
+pub use law::events_are_allowed;
 pub use options::Options;
 pub use watermarks::Watermarks;
