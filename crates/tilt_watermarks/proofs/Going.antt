@@ -1,14 +1,13 @@
 -- Events that a feed takes, one after another.
-use Rattle.std.proofs.Common.{◌≡◌, ◌<◌, ◌+◌, ℕ, zero, suc, ℤ, ◌≤ℤ◌, neg_ℤ, Bool, true, false, not, if◌then◌else◌, int_lt, List, [], ◌∷◌, ◌++◌, length, map, Option, Some, None, is_none}
+use Rattle.std.proofs.Common.{◌≡◌, ℕ, zero, suc, ℤ, Bool, true, false, if◌then◌else◌, int_lt, List, [], ◌∷◌, ◌++◌, length, map, Option, None, is_none}
 use Rattle.std.proofs.Common.{refl, sym, ap, subst, ◌∙◌, arith, append_assoc, length-append}
 use Rattle.std.proofs.lemmas.Int.{ints}
 use Rattle.tilt_feed.specs.Events.{after, after_all, changed_by, edge_of, event_fault, finished_input, is_time, update_fault, updated, updated_at}
-use Rattle.tilt_feed.specs.Feed.{Feed, InputFeed, unknown_input}
+use Rattle.tilt_feed.specs.Feed.{Feed, InputFeed}
 use Rattle.tilt_feed.specs.declared.edge.Edge.{Edge}
 use Rattle.tilt_feed.specs.declared.event.Event.{Event}
 use Rattle.tilt_feed.specs.declared.event.Event.TheVariants as event
 use Rattle.tilt_feed.specs.declared.fault.EventFault.{EventFault}
-use Rattle.tilt_feed.specs.declared.fault.EventFault.TheVariants.{Late, OutOfRange}
 use Rattle.tilt_feed.specs.declared.update.Update.{Update}
 use Rattle.tilt_feed.specs.declared.update.Update.TheVariants.{KnownUpTo}
 use Rattle.tilt_watermarks.specs.Laws.{AreAllowed}
@@ -118,5 +117,5 @@ raising-goes tick number front (input ∷ rest) time at =
     let at-first = append_assoc front (now ∷ []) rest in
     let at-last = append_assoc front (now ∷ []) (map (raised_input tick) rest) in
     let second = subst (λ (inputs : List InputFeed). Goes (raising (suc number) tick (edges_of rest)) (open_feed inputs) (open_feed (front ++ now ∷ map (raised_input tick) rest))) at-first
-        (subst (λ (inputs : List InputFeed). Goes (raising (suc number) tick (edges_of rest)) (open_feed ((front ++ now ∷ []) ++ rest)) (open_feed inputs)) at-last more) in
+    (subst (λ (inputs : List InputFeed). Goes (raising (suc number) tick (edges_of rest)) (open_feed ((front ++ now ∷ []) ++ rest)) (open_feed inputs)) at-last more) in
     goes-on (if b then event.Input number (KnownUpTo tick) ∷ [] else []) (raising (suc number) tick (edges_of rest)) _ _ _ first second

@@ -1,4 +1,5 @@
 pub mod Going
 pub mod Places
+pub mod Rising
 pub mod Stepping
 pub mod Taking

@@ -1,5 +1,5 @@
 -- What lines do to a feed, by the events that they hand on.
-use Rattle.std.proofs.Common.{◌≡◌, ℕ, zero, suc, ℤ, pos, ◌-ℤ◌, ◌≤ℤ◌, neg_ℤ, Bool, true, false, ◌&&◌, if◌then◌else◌, int_lt, int_le, List, [], ◌∷◌, ◌++◌, map, replicate, Option, Some, None, is_none}
+use Rattle.std.proofs.Common.{◌≡◌, ℕ, zero, suc, ℤ, pos, ◌-ℤ◌, ◌≤ℤ◌, neg_ℤ, Bool, true, false, if◌then◌else◌, int_le, List, [], ◌∷◌, map, replicate, Option, Some, None, is_none}
 use Rattle.std.proofs.Common.{refl, sym, ap, subst, ◌∙◌, arith}
 use Rattle.std.proofs.lemmas.Bool.{and_from}
 use Rattle.std.proofs.lemmas.Int.{ints, clamps}
@@ -8,19 +8,17 @@ use Rattle.std.specs.Int.{int_max}
 use Rattle.std.specs.Option.{ForSome}
 use Rattle.tilt_base.specs.declared.limits.TheConstants.{T}
 use Rattle.tilt_feed.proofs.Updates.{allowed-of, step-of}
-use Rattle.tilt_feed.specs.Events.{changed_by, edge_of, finished_input, is_time, update_fault, updated_at, watermark_after}
-use Rattle.tilt_feed.specs.Feed.{Feed, InputFeed, empty_feed, unknown_input}
+use Rattle.tilt_feed.specs.Events.{changed_by, edge_of, is_time, update_fault, watermark_after}
+use Rattle.tilt_feed.specs.Feed.{Feed, empty_feed, unknown_input}
 use Rattle.tilt_feed.specs.declared.edge.Edge.{Edge}
-use Rattle.tilt_feed.specs.declared.event.Event.{Event}
 use Rattle.tilt_feed.specs.declared.event.Event.TheVariants as event
-use Rattle.tilt_feed.specs.declared.fault.EventFault.{EventFault}
 use Rattle.tilt_feed.specs.declared.fault.EventFault.TheVariants.{Finished, OutOfRange}
 use Rattle.tilt_feed_line.specs.declared.line.Line.{Line}
 use Rattle.tilt_feed_line.specs.declared.line.Line.TheVariants as line
 use Rattle.tilt_watermarks.proofs.Going.{Goes, closed-same, edge-same, edges_of, goes-none, goes-on, goes-one, moved-same, open_feed, raised-same, raised_input, raising-goes}
 use Rattle.tilt_watermarks.proofs.Taking.{no-rule}
 use Rattle.tilt_watermarks.specs.Laws.{IsKeptOf, stepped, stepped_all}
-use Rattle.tilt_watermarks.specs.Steps.{Kept, Step, basic, closed, edge_at, fault_by, followed_by, greater, greatest_after, idle_tick, is_ahead, less, line_fault, moved_at, nothing_kept, raise, raised, raising, rule_broken, taken}
+use Rattle.tilt_watermarks.specs.Steps.{Kept, Step, basic, closed, edge_at, followed_by, greater, idle_tick, is_ahead, less, line_fault, moved_at, nothing_kept, raise, raised, raising, rule_broken, taken}
 use Rattle.tilt_watermarks.specs.declared.fault.TakeFault.{TakeFault}
 use Rattle.tilt_watermarks.specs.declared.options.Options.{Options}
 
@@ -104,7 +102,7 @@ basic-steps : (line : Line) (kept : Kept) (feed : Feed) → IsKeptOf kept feed �
 basic-steps (line.Update number update) kept feed keeps rule =
     let same-edge = edge-same feed.inputs number ∙ ap (λ (edges : List Edge). edge_at edges number) (sym keeps.edges) in
     let allowed = ap (λ (b : Bool). update_fault b (edge_of feed.inputs number) update) (sym keeps.finished)
-        ∙ ap (λ (edge : Edge). update_fault kept.finished edge update) same-edge ∙ rule in
+    ∙ ap (λ (edge : Edge). update_fault kept.finished edge update) same-edge ∙ rule in
     let step = step-of (edge_at kept.edges number) update (allowed-of kept.finished (edge_at kept.edges number) update rule).1 in
     record {
       later = changed_by (event.Input number update) feed.inputs;

@@ -1,12 +1,12 @@
 -- What the laws of watermarks say.
-use Rattle.std.specs.Prelude.{◌≡◌, ℕ, ℤ, ◌≤ℤ◌, if◌then◌else◌, List, [], ◌∷◌, map, Option, Some, None, is_none, ⊤}
+use Rattle.std.specs.Prelude.{◌≡◌, ◌<◌, ℕ, ℤ, pos, ◌-ℤ◌, ◌≤ℤ◌, false, if◌then◌else◌, List, [], ◌∷◌, length, map, Some, None, is_none, ⊤}
 use Rattle.std.specs.Option.{ForSome}
 use Rattle.tilt_base.specs.declared.limits.TheConstants.{T}
-use Rattle.tilt_feed.specs.Events.{after, after_all, event_fault}
-use Rattle.tilt_feed.specs.Feed.{Feed, empty_feed}
+use Rattle.tilt_feed.specs.Events.{after, event_fault}
+use Rattle.tilt_feed.specs.Feed.{Feed}
 use Rattle.tilt_feed.specs.declared.event.Event.{Event}
 use Rattle.tilt_feed_line.specs.declared.line.Line.{Line}
-use Rattle.tilt_watermarks.specs.Steps.{Kept, Step, edge_at, followed_by, less, line_fault, nothing_kept, taken}
+use Rattle.tilt_watermarks.specs.Steps.{Kept, Step, edge_at, followed_by, line_fault, nothing_kept, taken}
 use Rattle.tilt_watermarks.specs.declared.options.Options.{Options}
 
 -- what is kept after a line, and the events that it hands on: one that isn't taken changes nothing
@@ -36,3 +36,12 @@ pub record IsKeptOf (kept : Kept) (feed : Feed) : Type 0 where
 -- no watermark is lower later
 abbrev pub AreRising : Kept → Kept → Type 0
 AreRising kept later = (number : ℕ) → (edge_at kept.edges number).watermark ≤ℤ (edge_at later.edges number).watermark
+
+-- the least that `idle` promises: each input's watermark is at least so many ticks below the greatest one, unless the feed is finished
+abbrev pub AreNear : ℕ → Kept → Type 0
+AreNear ticks kept = (greatest : ℤ) (number : ℕ) → kept.finished ≡ false → kept.greatest ≡ Some greatest → number < length kept.edges
+    → (greatest -ℤ pos ticks) ≤ℤ (edge_at kept.edges number).watermark
+
+-- no option is given
+abbrev pub no_options : Options
+no_options = record { idle = None; ahead = None }

@@ -11,6 +11,6 @@ mod raise;
 mod watermarks;
 
 pub use fault::{TakeError, TakeFault};
-pub use law::events_are_allowed;
+pub use law::{basic_rule_holds, events_are_allowed, watermarks_rise};
 pub use options::Options;
 pub use watermarks::Watermarks;
