@@ -3,3 +3,4 @@ pub mod Places
 pub mod Rising
 pub mod Stepping
 pub mod Taking
+pub mod Worked
