@@ -1,7 +1,7 @@
 //! The watermarks that people need, between the lines of a live feed and its events.
 //!
-//! What comes in is what lines say, one after another, as `tilt_feed_line` reads them; what goes out is the events of the feed, or why a line
-//! isn't taken. `specs/Steps` defines it: `line_fault` says why a line isn't taken, and `taken` says what a line does that is. Without
+//! What comes in is what lines say, one after another, as `tilt_feed_line` reads them; what goes out is the events of the feed, or why a
+//! line isn't taken. `specs/Steps` defines it: `line_fault` says why a line isn't taken, and `taken` says what a line does that is. Without
 //! options that is the basic rule: an update is the event of its input, and "known up to" for all inputs is that of each input whose
 //! watermark is below it. With options, `M` is the greatest watermark that lines have given to any input:
 //!
