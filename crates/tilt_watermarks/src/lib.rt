@@ -11,8 +11,8 @@
 //!   first line may start anywhere.
 //!
 //! The clauses of `Watermarks::take` say that it is this definition, and that nothing changes if a line isn't taken or if memory is
-//! refused. The functions of `law` have the laws of the definition as clauses: each event that is handed on is allowed after those before it, so
-//! `tilt_feed` and `tilt_live` take every one of them; no watermark falls; and no input stays farther behind than `idle` allows.
+//! refused. The functions of `law` have the laws of the definition as clauses: each event that is handed on is allowed after those before
+//! it, so `tilt_feed` and `tilt_live` take every one of them; no watermark falls; and no input stays farther behind than `idle` allows.
 //!
 //! All of this depends on the lines alone, and on no clock: the same lines give the same events again. Nothing here reads or writes.
 #![tactic(auto)]
