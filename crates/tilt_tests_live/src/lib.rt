@@ -1,9 +1,12 @@
-//! Tests of the live engine: feeds, event by event, and what comes out after each; and lines of feeds.
+//! Tests of the live engine: feeds, event by event, and what comes out after each; lines of feeds; and watermarks.
 //!
-//! The expected values were worked out by hand from the rules of what is final after an event, and of what a line says.
+//! The expected values were worked out by hand from the rules of what is final after an event, of what a line says,
+//! and of watermarks.
 #![tactic(auto)]
 
 #[cfg(test)]
 mod feeds;
 #[cfg(test)]
 mod lines;
+#[cfg(test)]
+mod watermarks;

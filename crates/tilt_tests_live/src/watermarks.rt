@@ -1,0 +1,83 @@
+// Watermarks by example, worked out by hand, and the text of faults.
+use std::test::Fail;
+use tilt_feed::{Event, EventFault, Update};
+use tilt_feed_line::Line;
+use tilt_watermarks::{Options, TakeError, TakeFault, Watermarks};
+
+const OPTIONS: Options = Options {
+    idle: Some(10),
+    ahead: Some(50),
+};
+
+const ROW: Update = Update::Row {
+    start: 0,
+    end: 100,
+    value: Some(5),
+};
+
+// The line that a value of an input starts.
+fn value_line(input: u32, start: i64) -> Line {
+    Line::Update {
+        input,
+        update: Update::Value { start, value: 7 },
+    }
+}
+
+// The event that an input is known up to a tick.
+fn known(input: u32, watermark: i64) -> Event {
+    Event::Input {
+        input,
+        update: Update::KnownUpTo { watermark },
+    }
+}
+
+#[test]
+fn silent_inputs_follow(rt: HostRuntime) -> Result<(), Fail> {
+    let mut watermarks = Watermarks::new(rt.alloc(), OPTIONS, 3)?;
+    let mut events = Vec::new(rt.alloc());
+    let row = Line::Update {
+        input: 0,
+        update: ROW,
+    };
+    watermarks.take(row, &mut events)?;
+    watermarks.take(Line::AllKnownUpTo { watermark: 95 }, &mut events)?;
+    watermarks.take(Line::Finish, &mut events)?;
+    let expected = [
+        Event::Input {
+            input: 0,
+            update: ROW,
+        },
+        known(1, 90),
+        known(2, 90),
+        known(1, 95),
+        known(2, 95),
+        Event::Finish,
+    ];
+    assert_eq!(rt; events.as_slice(), expected.as_slice());
+    Ok(())
+}
+
+#[test]
+fn lines_that_are_not_taken_change_nothing(rt: HostRuntime) -> Result<(), Fail> {
+    let mut watermarks = Watermarks::new(rt.alloc(), OPTIONS, 2)?;
+    let mut events = Vec::new(rt.alloc());
+    watermarks.take(value_line(0, 1000), &mut events)?;
+    let late = TakeError::Fault(TakeFault::NotAllowed(EventFault::Late));
+    assert_eq!(rt; watermarks.take(value_line(1, 990), &mut events), Err(late));
+    let far = TakeError::Fault(TakeFault::Ahead);
+    assert_eq!(rt; watermarks.take(value_line(1, 1052), &mut events), Err(far));
+    assert_eq!(rt; watermarks.fault(value_line(1, 1051)), None);
+    assert_eq!(rt; events.len(), 2);
+    Ok(())
+}
+
+#[test]
+fn faults_say_what_is_wrong(rt: HostRuntime) -> Result<(), Fail> {
+    let late = TakeError::Fault(TakeFault::NotAllowed(EventFault::Late));
+    let text = format!(in rt.alloc(); "{late}; {}; {}", TakeFault::Ahead, TakeError::OutOfMemory)?;
+    assert_eq!(rt;
+        text.as_str(),
+        "it is before the watermark; it is too far ahead; out of memory"
+    );
+    Ok(())
+}
