@@ -1,13 +1,15 @@
-//! Tests of the outside: shelves and sinks, saves, and series files.
+//! Tests of the outside: shelves and sinks, saves, ports, and series files.
 //!
-//! The expected values were worked out by hand, and those of records are what the crate `csv` takes for one. What a shelf or a
-//! sink does when the system fails shows on stand-ins that fail where they are told to.
+//! The expected values were worked out by hand, and those of records are what the crate `csv` takes for one. What a shelf, a
+//! sink or a port does when the system fails shows on stand-ins that fail where they are told to.
 #![tactic(auto)]
 
 #[cfg(test)]
 mod faulty_files;
 #[cfg(test)]
 mod files_below;
+#[cfg(test)]
+mod ports;
 #[cfg(test)]
 mod saves;
 #[cfg(test)]
