@@ -104,7 +104,8 @@ wanted-gone buffer tick gone (l ∷ loops) [] all is = absurd (cc is)
 wanted-gone buffer tick gone (l ∷ loops) (m ∷ made) all is =
     either (wanted-gone buffer tick gone loops made (λ k. all (suc k))) (earlier-either (next_read buffer l m) (wanted buffer loops made) tick is)
   where
-    either : (wanted buffer loops made ≡ Some tick → AllByRecursion (EndsBelow tick) (get_or gone buffer [])) → (next_read buffer l m ≡ Some tick) ⊎ (wanted buffer loops made ≡ Some tick) → AllByRecursion (EndsBelow tick) (get_or gone buffer [])
+    either : (wanted buffer loops made ≡ Some tick → AllByRecursion (EndsBelow tick) (get_or gone buffer []))
+        → (next_read buffer l m ≡ Some tick) ⊎ (wanted buffer loops made ≡ Some tick) → AllByRecursion (EndsBelow tick) (get_or gone buffer [])
     either behind (inl own) = next-gone buffer tick gone l m (all 0 l m refl refl) own
     either behind (inr later) = behind later
 

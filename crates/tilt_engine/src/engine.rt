@@ -1,7 +1,8 @@
 // The engine.
 ghost use Rattle.std.specs.Prelude.{◌≡◌, ◌≢◌, ◌≤◌, ◌+◌, ℕ, drop, length, map, slice_get, IsErr, IfOk, OnErr, OnOk};
 ghost use Rattle.tilt_code.specs.Code.{CodeParts};
-ghost use Rattle.tilt_engine.specs.Engines.{HasTaken, IsCurrent, IsEngine, IsEngineAt, IsEngineOf, IsNextOf, IsRefused, begun_pair, finishes};
+ghost use Rattle.tilt_engine.specs.Engines.{HasTaken, IsCurrent, IsEngine, IsEngineAt, IsEngineOf, IsNextOf, IsRefused};
+ghost use Rattle.tilt_engine.specs.Engines.{begun_pair, finishes};
 ghost use Rattle.tilt_engine.specs.Engines.{given_after, held_by, horizons_of, last_horizon, run_at_rest};
 ghost use Rattle.tilt_engine.specs.CodeHorizon.{horizon_by};
 ghost use Rattle.tilt_engine.specs.GoingOn.{IsNearCode};

@@ -46,8 +46,9 @@ impl Live {
 
     /// The names of the inputs of its query, in order: the events number them so.
     pub fn inputs(&self) -> &[Name]
-        ensures { (accepted : AcceptedParts) (feed : Feed) (given : ℕ) → IsLiveOf self.now accepted feed given
+        ensures names { (accepted : AcceptedParts) (feed : Feed) (given : ℕ) → IsLiveOf self.now accepted feed given
             → result.now ≡ accepted.core.inputs }
+        ensures few { length result.now ≤ 256 }
     {
         self.accepted.core().inputs()
     }

@@ -6,4 +6,5 @@ use Rattle.tilt_feed_text.proofs.report.put_report.Goals as goal
 
 pub returns-in_err-put : goal.returns-in_err-put
 returns-in_err-put g c =
-    puts-short _ _ _ _ g.met.E.Sink.takes_fewer _ _ (codes "tilt: ") (bad_front c.args.why ++ (codes " line " ++ (decimal c.args.number ++ bad_reason c.args.why))) _ c.from_residual.result c.from_residual.ensures.0 c.in_err-put.ensures
+    puts-short _ _ _ _ g.met.E.Sink.takes_fewer _ _ (codes "tilt: ") (bad_front c.args.why ++ (codes " line " ++ (decimal c.args.number ++ bad_reason c.args.why))) _
+    c.from_residual.result c.from_residual.ensures.0 c.in_err-put.ensures
