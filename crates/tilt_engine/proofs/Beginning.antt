@@ -15,7 +15,8 @@ use Rattle.tilt_code.specs.References.{IsCode}
 use Rattle.tilt_engine.proofs.CodeHorizons.{horizon-at}
 use Rattle.tilt_engine.proofs.Gone.{all-left}
 use Rattle.tilt_engine.specs.CodeHorizon.{block_horizon, code_horizons, loop_horizon}
-use Rattle.tilt_engine.specs.Engines.{IsEngineAt, horizons_of}
+use Rattle.tilt_engine.specs.AtRest.{horizons_of}
+use Rattle.tilt_engine.specs.Engines.{IsEngineAt}
 use Rattle.tilt_engine.specs.GoingOn.{IsNearCode}
 use Rattle.tilt_engine.specs.Standing.{AreLoops, IsFresh, IsLoopAt, loop_at}
 use Rattle.tilt_engine.specs.Stock.{MadeParts, nothing_made, resting_inlet}

@@ -13,7 +13,8 @@ use Rattle.tilt_engine.proofs.Feeding.{feed-goes_on, horizons-at_rest, lists-at_
 use Rattle.tilt_engine.proofs.Given.{begun-none, late-of, limited-none, limited-some, made-of, starts-low, HasMadeTo}
 use Rattle.tilt_engine.proofs.Ringed.{pieces-are, ring-is}
 use Rattle.tilt_engine.proofs.WholeFeeds.{whole-after_all, whole-begins, whole-horizons, whole-lefts}
-use Rattle.tilt_engine.specs.Engines.{AreInlets, IsCurrent, IsEngineAt, IsNextOf, horizons_of, last_horizon, run_at_rest}
+use Rattle.tilt_engine.specs.AtRest.{horizons_of, last_horizon, run_at_rest}
+use Rattle.tilt_engine.specs.Engines.{AreInlets, IsCurrent, IsEngineAt, IsNextOf}
 use Rattle.tilt_engine.specs.GoingOn.{AllGoOn, GoOn, IsNearCode}
 use Rattle.tilt_engine.specs.Gone.{BeginsWith, rests, whole_feed}
 use Rattle.tilt_engine.specs.Standing.{AreLoops, InletsGoOn, gone_at, ring_of}

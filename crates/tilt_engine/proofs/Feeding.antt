@@ -2,7 +2,8 @@
 use Rattle.std.proofs.Common.{◌≡◌, ℕ, zero, suc, Bool, true, false, List, [], ◌∷◌, length, map, get_or, None, refl, sym, ap, ◌∙◌, subst, arith, append-nil}
 use Rattle.std.proofs.lemmas.List.{length-map}
 use Rattle.std.specs.List.{AllByRecursion}
-use Rattle.tilt_engine.specs.Engines.{AreInlets, horizons_of}
+use Rattle.tilt_engine.specs.AtRest.{horizons_of}
+use Rattle.tilt_engine.specs.Engines.{AreInlets}
 use Rattle.tilt_engine.specs.GoingOn.{AllGoOn, AllRise, GoOn, Rises}
 use Rattle.tilt_engine.specs.Inlets.{inlet_edge, inlet_fault, inlets_after, updated_inlets}
 use Rattle.tilt_engine.specs.Stock.{InletParts, finished_inlet, inlet_horizon, inlet_list, resting_inlet}

@@ -12,7 +12,8 @@ use Rattle.tilt_engine.proofs.Needs.{AreRows, forgotten-fits}
 use Rattle.tilt_engine.proofs.Shorter.{each-long}
 use Rattle.tilt_engine.proofs.Sums.{Fits}
 use Rattle.tilt_engine.proofs.WholeFeeds.{whole-length}
-use Rattle.tilt_engine.specs.Engines.{AreInlets, IsCurrent, IsEngineAt, horizons_of}
+use Rattle.tilt_engine.specs.AtRest.{horizons_of}
+use Rattle.tilt_engine.specs.Engines.{AreInlets, IsCurrent, IsEngineAt}
 use Rattle.tilt_engine.specs.Forgetting.{HasForgotten, added, each_later, heads, kept_lists, later_inlet}
 use Rattle.tilt_engine.specs.Gone.{whole_feed, with_gone}
 use Rattle.tilt_engine.specs.Needed.{needed}

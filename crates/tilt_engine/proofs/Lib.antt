@@ -23,6 +23,7 @@ pub mod Readied
 pub mod Restarting
 pub mod Ringed
 pub mod Rising
+mod Rooms
 pub mod Shorter
 mod Sums
 pub mod Taking

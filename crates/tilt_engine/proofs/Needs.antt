@@ -16,7 +16,7 @@ use Rattle.tilt_engine.proofs.Ringed.{rings-are}
 use Rattle.tilt_engine.proofs.Sums.{Fits, held-fits, kept-fits, kept-later}
 use Rattle.tilt_engine.proofs.Unreads.{StandsAt, reads-same, wanted-gone, wanted-none}
 use Rattle.tilt_engine.specs.CodeHorizon.{code_horizons}
-use Rattle.tilt_engine.specs.Engines.{horizons_of, last_horizon}
+use Rattle.tilt_engine.specs.AtRest.{horizons_of, last_horizon}
 use Rattle.tilt_engine.specs.Forgetting.{HasForgotten, each_later, kept_lists}
 use Rattle.tilt_engine.specs.Gone.{EndsBelow}
 use Rattle.tilt_engine.specs.Needed.{first_read, known_lists, known_part, known_stages, needed, unreturned}

@@ -4,10 +4,12 @@ use Rattle.std.specs.Result.{OnErr, OnOk, is_err}
 use Rattle.tilt_code.specs.Code.{CodeParts}
 use Rattle.tilt_engine.proofs.Feeding.{after-inlets, fault-is}
 use Rattle.tilt_engine.proofs.WholeFeeds.{whole-after, whole-fault}
-use Rattle.tilt_engine.specs.Engines.{AreInlets, IsEngineAt, IsEngineOf, finishes, held_by, horizons_of}
+use Rattle.tilt_engine.specs.AtRest.{horizons_of}
+use Rattle.tilt_engine.specs.Engines.{AreInlets, IsEngineAt, IsEngineOf, finishes, held_by}
 use Rattle.tilt_engine.specs.Forgetting.{kept_lists}
 use Rattle.tilt_engine.specs.Inlets.{inlet_fault, inlets_after, updated_inlets}
 use Rattle.tilt_engine.specs.Gone.{whole_feed}
+use Rattle.tilt_engine.specs.Rooms.{IsRoomOf}
 use Rattle.tilt_engine.specs.Standing.{AreLoops, gone_at}
 use Rattle.tilt_engine.specs.Stock.{InletParts, MadeParts, finished_inlet}
 use Rattle.tilt_engine.specs.declared.engine.Engine.{Engine}
@@ -132,6 +134,7 @@ engine-same-of a b code feed given beside finished inputs status limit is = reco
       let kept : held_by b ≡ held_by a = (λ i. held (kept_lists (inputs i) (beside.loops i))) in
       let few = is.few (sym status ∙ now) in
       omega (arith, kept, limit, few);
+  room = subst (IsRoomOf code feed given) (sym limit) is.room;
 }
 
 -- how many closed rows are kept after an event

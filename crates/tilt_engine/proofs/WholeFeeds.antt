@@ -2,7 +2,7 @@
 use Rattle.std.proofs.Common.{◌≡◌, ◌<◌, ℕ, zero, suc, Bool, true, false, List, [], ◌∷◌, ◌++◌, length, map, get_or, is_none, if◌then◌else◌, refl, ap, ◌∙◌, arith}
 use Rattle.std.proofs.lemmas.List.{append_assoc}
 use Rattle.tilt_engine.proofs.Gone.{drop-front}
-use Rattle.tilt_engine.specs.Engines.{horizons_of}
+use Rattle.tilt_engine.specs.AtRest.{horizons_of}
 use Rattle.tilt_engine.specs.Gone.{BeginsWith, rests, whole_feed, with_gone}
 use Rattle.tilt_feed.specs.Events.{after, after_all, changed_by, closed_by, edge_of, event_fault, finished_input, update_fault, updated_at}
 use Rattle.tilt_feed.specs.Feed.{Feed, InputFeed, closed_at}

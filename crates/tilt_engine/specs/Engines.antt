@@ -2,11 +2,12 @@
 use Rattle.std.specs.Prelude.{◌≡◌, ◌≢◌, ◌≤◌, ◌⊎◌, ℕ, ◌+◌, ◌-◌, ℤ, pos, ◌+ℤ◌, Bool, true, false, List, length, map, slice_get, Option, Some, None, Result, Ok, Err}
 use Rattle.std.specs.List.{AllByRecursion}
 use Rattle.tilt_code.specs.Code.{CodeParts}
-use Rattle.tilt_code.specs.Run.{run_of}
+use Rattle.tilt_engine.specs.AtRest.{horizons_of, last_horizon, run_at_rest}
 use Rattle.tilt_engine.specs.Forgetting.{kept_lists}
 use Rattle.tilt_engine.specs.GoingOn.{IsNearCode}
 use Rattle.tilt_engine.specs.Gone.{whole_feed, with_gone}
-use Rattle.tilt_engine.specs.Standing.{AreLoops, gone_at, loop_at}
+use Rattle.tilt_engine.specs.Rooms.{IsRoomOf}
+use Rattle.tilt_engine.specs.Standing.{AreLoops, gone_at}
 use Rattle.tilt_engine.specs.Stock.{InletParts, finished_inlet, resting_inlet}
 use Rattle.tilt_engine.specs.declared.engine.Engine.{Engine}
 use Rattle.tilt_engine.specs.declared.fault.TakeError.{TakeError}
@@ -14,7 +15,7 @@ use Rattle.tilt_engine.specs.declared.fault.TakeError.TheVariants.{Fault, OutOfM
 use Rattle.tilt_engine.specs.declared.status.Status.TheVariants.{Current, Refused}
 use Rattle.tilt_feed.specs.Events.{after, after_all, event_fault, finished_input}
 use Rattle.tilt_feed.specs.Feed.{Feed, InputFeed}
-use Rattle.tilt_feed.specs.Horizon.{Horizon, IsKnownAt, input_horizon}
+use Rattle.tilt_feed.specs.Horizon.{IsKnownAt}
 use Rattle.tilt_feed.specs.Laws.{IsInOrder}
 use Rattle.tilt_feed.specs.Printed.{Begun}
 use Rattle.tilt_feed.specs.Resting.{all_resting}
@@ -27,10 +28,6 @@ use Rattle.tilt_stream.specs.Snap.{Snapshot}
 abbrev pub AreInlets : Bool → List InputFeed → List InletParts → Type 0
 AreInlets false inputs inlets = inlets ≡ map resting_inlet inputs
 AreInlets true inputs inlets = (before : List InputFeed) × (inputs ≡ map finished_input before) × (inlets ≡ map finished_inlet before)
-
--- up to where each input of a feed is known
-abbrev pub horizons_of : Feed → List Horizon
-horizons_of feed = map (λ input. input_horizon feed.finished input.edge) feed.inputs
 
 -- how many closed rows of inputs and settled snapshots of loops an engine keeps
 abbrev pub held_by : Engine → ℕ
@@ -59,10 +56,15 @@ pub record IsEngineAt (engine : Engine) (code : CodeParts) (feed : Feed) (given 
   pub current : engine.status ≡ Current → (before ≡ left) × (upto ≡ length code.loops)
   pub sound : engine.status ≢ Refused
 
+-- how much an engine may keep before it forgets
+abbrev pub room_of : Engine → ℕ
+room_of engine = engine.limit
+
 -- the same of an engine that keeps no more than there is room for once its loops have made all that is known
 pub record IsEngineOf (engine : Engine) (code : CodeParts) (feed : Feed) (given : ℕ) : Type 0 where
   pub at : IsEngineAt engine code feed given
-  pub few : engine.status ≡ Current → held_by engine ≤ engine.limit
+  pub few : engine.status ≡ Current → held_by engine ≤ room_of engine
+  pub room : IsRoomOf code feed given (room_of engine)
 
 -- an engine whose loops were refused memory
 abbrev pub IsRefused : Engine → Type 0
@@ -73,14 +75,6 @@ abbrev pub HasTaken : Result (Unit {0}) TakeError → Event → Feed → (Feed �
 HasTaken (Ok _) event feed Is = (event_fault feed event ≡ None) × Is (after event feed)
 HasTaken (Err (Fault fault)) event feed Is = (event_fault feed event ≡ Some fault) × Is feed
 HasTaken (Err OutOfMemory) event feed Is = (event_fault feed event ≡ None) × Is feed
-
--- the run of a code on the rows of a feed at rest
-abbrev pub run_at_rest : CodeParts → Feed → List Snapshot
-run_at_rest code feed = run_of code (all_resting feed)
-
--- the horizon of a code's last loop
-abbrev pub last_horizon : CodeParts → Feed → Horizon
-last_horizon code feed = loop_at code (horizons_of feed) (length code.loops - 1)
 
 -- how many snapshots were given after a call
 abbrev pub given_after : ℕ → Option Snapshot → ℕ

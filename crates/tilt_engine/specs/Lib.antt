@@ -1,3 +1,4 @@
+pub mod AtRest
 pub mod CodeHorizon
 pub mod Engines
 pub mod Forgetting
@@ -7,6 +8,7 @@ pub mod Inlets
 pub mod Keeping
 pub mod Looking
 pub mod Needed
+pub mod Rooms
 pub mod Standing
 pub mod Stock
 pub mod Wanted

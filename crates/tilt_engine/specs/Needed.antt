@@ -3,7 +3,7 @@
 use Rattle.std.specs.Prelude.{ℕ, suc, ◌+◌, ◌-◌, ℤ, if◌then◌else◌, int_lt, List, [], ◌∷◌, ◌++◌, map, length, Option, None}
 use Rattle.tilt_code.specs.Code.{CodeParts}
 use Rattle.tilt_engine.specs.CodeHorizon.{code_horizons}
-use Rattle.tilt_engine.specs.Engines.{horizons_of, last_horizon, run_at_rest}
+use Rattle.tilt_engine.specs.AtRest.{horizons_of, last_horizon, run_at_rest}
 use Rattle.tilt_feed.specs.Feed.{Feed}
 use Rattle.tilt_feed.specs.Horizon.{Horizon, horizon_of, is_known_at}
 use Rattle.tilt_feed.specs.Resting.{all_resting}

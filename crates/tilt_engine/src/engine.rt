@@ -1,12 +1,12 @@
 // The engine.
 ghost use Rattle.std.specs.Prelude.{◌≡◌, ◌≢◌, ◌≤◌, ◌+◌, ℕ, drop, length, map, slice_get, IsErr, IfOk, OnErr, OnOk};
 ghost use Rattle.tilt_code.specs.Code.{CodeParts};
+ghost use Rattle.tilt_engine.specs.AtRest.{horizons_of, last_horizon, run_at_rest};
 ghost use Rattle.tilt_engine.specs.Engines.{HasTaken, IsCurrent, IsEngine, IsEngineAt, IsEngineOf, IsNextOf, IsRefused};
-ghost use Rattle.tilt_engine.specs.Engines.{begun_pair, finishes};
-ghost use Rattle.tilt_engine.specs.Engines.{given_after, held_by, horizons_of, last_horizon, run_at_rest};
+ghost use Rattle.tilt_engine.specs.Engines.{begun_pair, finishes, given_after, held_by, room_of};
 ghost use Rattle.tilt_engine.specs.CodeHorizon.{horizon_by};
 ghost use Rattle.tilt_engine.specs.GoingOn.{IsNearCode};
-ghost use Rattle.tilt_engine.specs.Keeping.{HasJustForgotten, KeepsFew, room_of};
+ghost use Rattle.tilt_engine.specs.Keeping.{HasJustForgotten, KeepsFew};
 ghost use Rattle.tilt_engine.specs.declared.engine.TheConstants.{FEW};
 ghost use Rattle.tilt_engine.specs.declared.status.Status.TheVariants.{Behind, Refused};
 ghost use Rattle.tilt_feed.specs.Events.{event_fault};

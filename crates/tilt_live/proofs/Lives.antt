@@ -15,7 +15,8 @@ use Rattle.tilt_core.specs.Core.{CoreParts, emitted_number}
 use Rattle.tilt_core.specs.Meaning.{output_of}
 use Rattle.tilt_engine.proofs.Taking.{after_all-push}
 use Rattle.tilt_engine.specs.CodeHorizon.{horizon_by}
-use Rattle.tilt_engine.specs.Engines.{HasTaken, IsEngineOf, begun_pair, given_after, horizons_of, last_horizon, run_at_rest}
+use Rattle.tilt_engine.specs.AtRest.{horizons_of, last_horizon, run_at_rest}
+use Rattle.tilt_engine.specs.Engines.{HasTaken, IsEngineOf, begun_pair, given_after}
 use Rattle.tilt_engine.specs.Keeping.{KeepsFew}
 use Rattle.tilt_engine.specs.declared.fault.TakeError.{TakeError}
 use Rattle.tilt_engine.specs.declared.fault.TakeError.TheVariants.{Fault, OutOfMemory}

@@ -6,8 +6,8 @@ use Rattle.tilt_compiler.specs.Accepted.{AcceptedParts, IsAccepted}
 use Rattle.tilt_compiler.specs.Compiled.{IsCodeOf}
 use Rattle.tilt_core.specs.Core.{CoreParts}
 use Rattle.tilt_core.specs.Meaning.{output_of}
-use Rattle.tilt_engine.specs.Engines.{IsEngineOf, held_by}
-use Rattle.tilt_engine.specs.Keeping.{KeepsFew, room_of}
+use Rattle.tilt_engine.specs.Engines.{IsEngineOf, held_by, room_of}
+use Rattle.tilt_engine.specs.Keeping.{KeepsFew}
 use Rattle.tilt_feed.specs.Feed.{Feed}
 use Rattle.tilt_feed.specs.Laws.{fed}
 use Rattle.tilt_feed.specs.Printed.{printed}

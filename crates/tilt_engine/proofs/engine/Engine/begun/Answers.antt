@@ -4,7 +4,8 @@ use Rattle.std.proofs.lemmas.Int.{ints}
 use Rattle.tilt_code.specs.References.{IsCode}
 use Rattle.tilt_engine.proofs.Engined.{begun-past_limit}
 use Rattle.tilt_engine.proofs.Given.{begun-there}
-use Rattle.tilt_engine.specs.Engines.{IsNextOf, begun_pair, run_at_rest}
+use Rattle.tilt_engine.specs.AtRest.{run_at_rest}
+use Rattle.tilt_engine.specs.Engines.{IsNextOf, begun_pair}
 use Rattle.tilt_stream.specs.Snap.{Snapshot}
 use Rattle.tilt_engine.proofs.engine.Engine.begun.Goals as goal
 

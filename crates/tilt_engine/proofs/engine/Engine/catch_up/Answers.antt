@@ -2,7 +2,8 @@
 use Rattle.std.proofs.Common.{◌≡◌, inl, inr, ◌∙◌, List, length, map, sym, subst, refl}
 use Rattle.std.proofs.lemmas.List.{with_items_is}
 use Rattle.tilt_engine.proofs.Engined.{MayCatchUp, caught-up, inlets-after, loops-before, may-catch_up}
-use Rattle.tilt_engine.specs.Engines.{IsEngine, horizons_of}
+use Rattle.tilt_engine.specs.AtRest.{horizons_of}
+use Rattle.tilt_engine.specs.Engines.{IsEngine}
 use Rattle.tilt_engine.specs.Gone.{whole_feed}
 use Rattle.tilt_feed.specs.Resting.{all_resting}
 use Rattle.tilt_engine.specs.Standing.{AreLoops}

@@ -1,7 +1,7 @@
 -- An engine whose loops have made all that is known may let go what isn't needed any more, and is one of the same feed.
 use Rattle.std.proofs.Common.{refl, ap, min, ◌*◌, ◌^◌, ◌-◌, ◌∙◌}
 use Rattle.tilt_engine.proofs.Forgot.{engine-forgot, forgotten-needed, inputs-count, room-few, stock-of}
-use Rattle.tilt_engine.specs.Engines.{horizons_of}
+use Rattle.tilt_engine.specs.AtRest.{horizons_of}
 use Rattle.tilt_feed.specs.Resting.{all_resting}
 use Rattle.tilt_engine.proofs.engine.Engine.forget.Goals as goal
 

@@ -2,6 +2,7 @@
 use Rattle.std.proofs.Common.{◌<◌, inl, inr, ◌<ℤ◌, ◌≤ℤ◌, Some, FitsSigned, to_z-of_z, w64, subst, ap, arith, rules}
 use Rattle.std.proofs.lemmas.Int.{ints}
 use Rattle.tilt_code.specs.References.{IsCode}
+use Rattle.tilt_engine.proofs.Rooms.{room-given}
 use Rattle.tilt_engine.proofs.Engined.{given-few, given-late, given-more, given-none, given-some}
 use Rattle.tilt_engine.specs.Engines.{IsEngine, IsNextOf}
 use Rattle.tilt_stream.specs.Snap.{Snapshot}
@@ -45,5 +46,5 @@ returns-clause-next c = λ code feed given of known.
     let end = ap (λ (s : Snapshot). s.end) c.snap.view_is in
     let low : c.in-Some.snap.end ≤ℤ c.args.limit = grind (arith, ints) in (
       given-some code feed is c.args.limit known given c.in-Some.snap (subst (IsNextOf code feed given) c.in-Some.is n.0) low,
-      record { at = given-more c.peek.new.self code feed given n.1.at; few = n.1.few },
+      record { at = given-more c.peek.new.self code feed given n.1.at; few = n.1.few; room = room-given code feed given _ n.1.room },
     )

@@ -1,6 +1,7 @@
 use Rattle.std.proofs.Common.{◌≡◌, ◌≤◌, ◌+◌, ◌∙◌, subst, List, None, ap, length, refl, sym}
 use Rattle.std.proofs.lemmas.List.{with_items_is}
 use Rattle.tilt_engine.proofs.InletPlaces.{fault-unfinished}
+use Rattle.tilt_engine.proofs.Rooms.{room-after}
 use Rattle.tilt_engine.proofs.Taking.{IsBeside, at-err, at-ok, engine-fault, engine-same-of, engine-taken, few-more}
 use Rattle.tilt_engine.specs.Engines.{held_by}
 use Rattle.tilt_engine.specs.Forgetting.{kept_lists}
@@ -57,6 +58,7 @@ returns-clause-taken c = λ code feed given is.
       record {
         at = engine-taken e later code feed given event beside c.finishes-self.ensures all behind none is.at;
         few = λ now. absurd (cc (now, behind));
+        room = room-after code feed given event e.limit is.room;
       },
     )
 
