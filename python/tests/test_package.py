@@ -24,9 +24,10 @@ pytestmark = pytest.mark.program
 
 
 def need_program() -> None:
-    """Leaves a test out if no program was built or released from the sources of this checkout: tools/package/debian.py and tools/package/install take one."""
-    if subprocess.run([str(TOP / "tools" / "package" / "program"), "--found"], capture_output=True).returncode:
-        pytest.skip("the program isn't built")
+    """Leaves a test out if a program wasn't built or released from the sources of this checkout: tools/package/debian.py and tools/package/install take each."""
+    for command in ("tilt", "tilt-live"):
+        if subprocess.run([str(TOP / "tools" / "package" / "program"), "--found", command], capture_output=True).returncode:
+            pytest.skip("the program isn't built")
 
 
 @pytest.fixture(scope="module")
@@ -104,10 +105,12 @@ def test_tilt_is_an_alternative(root):
 def test_what_is_in_it(root):
     for name in (
         "man/man1/tilt-stream.1.gz",
+        "man/man1/tilt-live.1.gz",
         "man/man1/tilt-data.1.gz",
         "doc/tilt-stream/copyright",
         "doc/tilt-stream/docs/DATA.md",
         "doc/tilt-stream/CHANGELOG.md",
+        "bash-completion/completions/tilt-live",
         "bash-completion/completions/tilt-data",
         "doc/tilt-stream/examples/sensors/raw/readings.csv",
     ):
@@ -144,12 +147,10 @@ def test_the_package_has_its_version(root):
     assert called(root, "tilt-data", "--version") == versions(root / "usr/bin/tilt-stream", found_here())
 
 
-def offered(root: pathlib.Path, *words: str) -> list[str]:
-    """What the completion for bash offers for the last of some words."""
+def offered(root: pathlib.Path, *words: str, by: str = "_tilt") -> list[str]:
+    """What the completion for bash offers for the last of some words, by one of its functions."""
     text = " ".join(shlex.quote(word) for word in words)
-    script = (
-        f". usr/share/bash-completion/completions/tilt; COMP_WORDS=({text}); COMP_CWORD={len(words) - 1}; _tilt; echo ${{COMPREPLY[*]}}"
-    )
+    script = f". usr/share/bash-completion/completions/tilt; COMP_WORDS=({text}); COMP_CWORD={len(words) - 1}; {by}; echo ${{COMPREPLY[*]}}"
     return subprocess.run(["bash", "-c", script], cwd=root, capture_output=True, text=True, check=True).stdout.split()
 
 
@@ -170,6 +171,10 @@ def test_the_completion_has_the_commands_and_their_options(root):
     assert len(commands) > 10 and set(offered(root, "tilt", "")) == set(commands)
     for command, options in commands.items():
         assert set(offered(root, "tilt", command, "--")) == options, command
+
+
+def test_the_completion_has_the_options_of_tilt_live(root):
+    assert offered(root, "tilt-live", "query.tilt", "--", by="_tilt_live") == ["--begun", "--plain", "--strict"]
 
 
 def test_it_goes_away_again(root):
@@ -198,7 +203,7 @@ def install(folder: pathlib.Path) -> subprocess.CompletedProcess[str]:
 def call_installed(prefix: pathlib.Path, command: str, folder: pathlib.Path) -> str:
     """What a command of the shell prints on both streams, with the folder's `bin` and the system's own programs alone on the path."""
     environment = {"PATH": f"{prefix}/bin:/usr/bin:/bin", "PYTHONDONTWRITEBYTECODE": "1", "LC_ALL": "C.UTF-8"}
-    for name in ("tilt", "tilt-data"):
+    for name in ("tilt", "tilt-live", "tilt-data"):
         assert shutil.which(name, path=environment["PATH"]) == f"{prefix}/bin/{name}"
     done = subprocess.run(["sh", "-c", command], cwd=folder, env=environment, capture_output=True, text=True)
     return done.stdout + done.stderr
@@ -214,7 +219,7 @@ def test_the_tutorials_last_command_runs_after_tools_install(prefix, tmp_path):
 
 
 def test_tools_install_brings_pages_and_completion(prefix):
-    for name in ("tilt", "tilt-data"):
+    for name in ("tilt", "tilt-live", "tilt-data"):
         assert (prefix / "share/man/man1" / f"{name}.1").read_bytes() == (TOP / "docs" / f"{name}.1").read_bytes()
         completion = (prefix / "share/bash-completion/completions" / name).read_text()
         assert re.search(rf"^complete .* {name}( |$)", completion, re.M)

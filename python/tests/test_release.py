@@ -1,5 +1,5 @@
-"""Which program `./tilt` runs: the one built here, the released one, or one that is proved and built first. Tried on a small checkout whose
-programs are shell scripts, with a toolchain that builds nothing."""
+"""Which program `./tilt` and `./tilt-live` run: the one built here, the released one, or one that is proved and built first. Tried on a small
+checkout whose programs are shell scripts, with a toolchain that builds nothing."""
 from __future__ import annotations
 
 import hashlib
@@ -14,23 +14,34 @@ import pytest
 
 from conftest import TOP
 
+# Files of the repository that are in the small checkout.
+COPIED = [
+    "tilt",
+    "tilt-live",
+    "tools/package/program",
+    "tools/package/programs",
+    "tools/package/prove.py",
+    "tools/package/sources",
+]
+CRATES = "# A comment: with a colon.\ntilt_base: itoa\ntilt: tilt_base\ntilt_live_program: tilt_base\ntilt_tests: tilt\n"
 DESCRIPTION = 'version = "9.8.7"\nsources = "{sources}"\ntoolchain = "none"\nprogram = "{program}"\n'
 
 
 class Checkout:
-    """A checkout with two crates of the program, one of tests, and a release that was built from its sources."""
+    """A checkout with two programs, a crate below both, one of tests, and a release that was built from its sources."""
 
     def __init__(self, folder: pathlib.Path) -> None:
         self.folder = folder
         shutil.copytree(TOP / "tools" / "shared", folder / "tools" / "shared", ignore=shutil.ignore_patterns("__pycache__"))
         (folder / "tools" / "package").mkdir()
-        for name in ("tilt", "tools/package/program", "tools/package/sources", "tools/package/prove.py"):
+        for name in COPIED:
             shutil.copy(TOP / name, folder / name)
-        self.write("crates.txt", "# A comment: with a colon.\ntilt_base: itoa\ntilt: tilt_base\ntilt_tests: tilt\n")
-        for crate in ("tilt_base", "tilt", "tilt_tests"):
+        self.write("crates.txt", CRATES)
+        for crate in ("tilt_base", "tilt", "tilt_live_program", "tilt_tests"):
             self.write(f"crates/{crate}/src/lib.rt", f"// {crate}\n")
         self.write("crates/tilt_base/specs/Lib.antt", "")
-        self.release("released")
+        self.release("tilt", "released")
+        self.release("tilt-live", "released live")
 
     def write(self, name: str, text: str) -> pathlib.Path:
         path = self.folder / name
@@ -43,16 +54,17 @@ class Checkout:
         path.chmod(0o755)
         return path
 
-    def sources(self) -> str:
-        return subprocess.run([self.folder / "tools/package/sources"], check=True, capture_output=True, text=True).stdout.strip()
+    def sources(self, command: str) -> str:
+        words = [self.folder / "tools/package/sources", command]
+        return subprocess.run(words, check=True, capture_output=True, text=True).stdout.strip()
 
-    def release(self, says: str) -> None:
-        program = self.script("release/tilt", says)
+    def release(self, command: str, says: str) -> None:
+        program = self.script(f"release/{command}", says)
         digest = hashlib.sha256(program.read_bytes()).hexdigest()
-        self.write("release/release.toml", DESCRIPTION.format(sources=self.sources(), program=digest))
+        self.write(f"release/{command}.toml", DESCRIPTION.format(sources=self.sources(command), program=digest))
 
-    def run(self, *arguments: str, toolchain: bool = False) -> tuple[int, str, str]:
-        """A call of ./tilt: its status, its output and its messages. The path has no `rt`, or one that fails."""
+    def run(self, *arguments: str, script: str = "tilt", toolchain: bool = False) -> tuple[int, str, str]:
+        """A call of ./tilt, or of another script: its status, its output and its messages. The path has no `rt`, or one that fails."""
         folder = self.folder / "path"
         folder.mkdir(exist_ok=True)
         for name in (
@@ -81,7 +93,7 @@ class Checkout:
         if toolchain:
             (folder / "rt").write_text("#!/bin/sh\nexit 1\n")
             (folder / "rt").chmod(0o755)
-        done = subprocess.run([self.folder / "tilt", *arguments], env={"PATH": str(folder)}, capture_output=True, text=True)
+        done = subprocess.run([self.folder / script, *arguments], env={"PATH": str(folder)}, capture_output=True, text=True)
         return done.returncode, done.stdout, done.stderr
 
 
@@ -92,6 +104,25 @@ def checkout(tmp_path: pathlib.Path) -> Checkout:
 
 def test_release_of_these_sources_is_run_without_a_message(checkout: Checkout) -> None:
     assert checkout.run("run", "a b") == (0, "released run a b\n", "")
+
+
+def test_each_command_runs_its_own_program(checkout: Checkout) -> None:
+    assert checkout.run("query", script="tilt-live") == (0, "released live query\n", "")
+    checkout.script("crates/tilt_live_program/out/tilt_live_program", "built live")
+    assert checkout.run("query", script="tilt-live") == (0, "built live query\n", "")
+    assert checkout.run("run") == (0, "released run\n", "")
+
+
+def test_there_is_no_other_program(checkout: Checkout) -> None:
+    assert checkout.run("tilt_base", script="tools/package/program") == (125, "", "tilt: there is no program tilt_base\n")
+
+
+@pytest.mark.parametrize("changed, statuses", [("tilt", (125, 0)), ("tilt_live_program", (0, 125)), ("tilt_base", (125, 125))])
+def test_a_change_ends_the_releases_of_the_programs_that_use_it(checkout: Checkout, changed: str, statuses: tuple[int, int]) -> None:
+    checkout.write(f"crates/{changed}/src/lib.rt", "// changed\n")
+    (tilt, _, _), (live, _, err) = checkout.run(), checkout.run(script="tilt-live")
+    assert (tilt, live) == statuses
+    assert live == 0 or "no rt in PATH; release/tilt-live is the last release (9.8.7)" in err
 
 
 def test_release_is_run_through_a_link(checkout: Checkout, tmp_path: pathlib.Path) -> None:
@@ -193,8 +224,10 @@ def test_python_takes_the_program_that_the_caller_names(checkout: Checkout) -> N
     assert found_in_python(checkout, TILT="/some/program") == "/some/program"
 
 
-def test_release_of_this_checkout_is_described() -> None:
-    text = (TOP / "release" / "release.toml").read_text()
-    digest = hashlib.sha256((TOP / "release" / "tilt").read_bytes()).hexdigest()
-    assert f'program = "{digest}"\n' in text
-    assert os.access(TOP / "release" / "tilt", os.X_OK)
+def test_releases_of_this_checkout_are_described() -> None:
+    released = [path for path in (TOP / "release").iterdir() if path.suffix == ""]
+    assert TOP / "release" / "tilt" in released
+    for path in released:
+        digest = hashlib.sha256(path.read_bytes()).hexdigest()
+        assert f'program = "{digest}"\n' in path.with_suffix(".toml").read_text()
+        assert os.access(path, os.X_OK)

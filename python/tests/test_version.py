@@ -33,8 +33,8 @@ class Versioned(Checkout):
         super().__init__(folder)
         shutil.copy(TOP / "tools/package/describe", folder / "tools/package/describe")
         shutil.copytree(TOP / "python" / "tilt_data", folder / "python" / "tilt_data", ignore=shutil.ignore_patterns("__pycache__"))
-        described = (folder / "release/release.toml").read_text()
-        self.write("release/release.toml", described.replace('toolchain = "none"', f'toolchain = "{TOOLCHAIN}"'))
+        described = (folder / "release/tilt.toml").read_text()
+        self.write("release/tilt.toml", described.replace('toolchain = "none"', f'toolchain = "{TOOLCHAIN}"'))
         self.write(".gitignore", "out/\n/path/\n__pycache__/\n")
         self.run()
         self.git("init", "-q")
@@ -93,18 +93,23 @@ def test_pages_show_the_version() -> None:
     assert f'\n "version": "{VERSION}",\n' in (TOP / "docs" / "DATA.md").read_text()
 
 
-def test_a_release_has_the_version(checkout: Versioned) -> None:
+@pytest.mark.parametrize("named", [["tilt"], ["tilt-live"], []])
+def test_a_release_has_the_version(checkout: Versioned, named: list[str]) -> None:
     shutil.copy(TOP / "tools/package/release", checkout.folder / "tools/package/release")
-    checkout.script("crates/tilt/out/tilt", "built")
+    built = {"tilt": "tilt", "tilt-live": "tilt_live_program"}
+    for crate in built.values():
+        checkout.script(f"crates/{crate}/out/{crate}", f"built {crate}")
     (checkout.folder / "path" / "rt").write_text(f"#!/bin/sh\necho {TOOLCHAIN}\n")
     (checkout.folder / "path" / "rt").chmod(0o755)
     for name in ("chmod", "cp", "mv"):
         (checkout.folder / "path" / name).symlink_to(f"/bin/{name}")
-    subprocess.run(
-        [checkout.folder / "tools/package/release"], env={"PATH": str(checkout.folder / "path")}, check=True, capture_output=True
-    )
-    release = tomllib.loads((checkout.folder / "release/release.toml").read_text())
-    assert release["version"] == VERSION and release["program"] == sha256(checkout.folder / "release/tilt")
+    words = [checkout.folder / "tools/package/release", *named]
+    subprocess.run(words, env={"PATH": str(checkout.folder / "path")}, check=True, capture_output=True)
+    for command, crate in built.items():
+        release = tomllib.loads((checkout.folder / f"release/{command}.toml").read_text())
+        assert release["program"] == sha256(checkout.folder / f"release/{command}")
+        assert (release["version"] == VERSION) == (named in ([command], []))
+        assert named not in ([command], []) or release["program"] == sha256(checkout.folder / f"crates/{crate}/out/{crate}")
 
 
 # What `--version` prints

@@ -50,7 +50,7 @@ from shared.tally import Tally
 EXAMPLES = ["sensors", "trading", "clinical", "fleet"]
 # These pages have commands; if one has none any more, that is a failure.
 WITH_COMMANDS = ["README.md"] + [f"docs/{name}.md" for name in ("TUTORIAL", "LANGUAGE", "COMMANDS", "PARTS", "DATA", "IDIOMS")]
-WITH_COMMANDS += [f"docs/{name}.md" for name in ("OPERATORS", "CORRECTIONS", "RUNNING_SESSIONS", "SESSIONS")]
+WITH_COMMANDS += [f"docs/{name}.md" for name in ("OPERATORS", "CORRECTIONS", "LIVE", "RUNNING_SESSIONS", "SESSIONS")]
 WITH_COMMANDS += [f"examples/{name}/README.md" for name in EXAMPLES]
 # What a command needs besides: a module of the system's Python, or a program.
 MODULES = {"tilt-data plot": "matplotlib", "python3 bakery.py": "pandas"}
@@ -66,7 +66,7 @@ MARK = "not run by the tests"
 # A line that shows a command: after settings such as `TILT=..`, a path or the name of a program. The first lines of a listing (`tilt 1`)
 # and of a checkpoint (`tilt checkpoint 2`) are none.
 PROGRAM_NAMES = (
-    "tilt-data|rt|sudo|apt|apt-get|dpkg|pip|pip3|python3?|git|sh|bash|cd|cp|mv|rm|mkdir|cat|head|tail|grep|sed|awk|printf|echo|export|for|"
+    "tilt-data|tilt-live|rt|sudo|apt|apt-get|dpkg|pip|pip3|python3?|git|sh|bash|cd|cp|mv|rm|mkdir|cat|head|tail|grep|sed|awk|printf|echo|export|for|"
     "while|man|sync|mosquitto_sub|kcat|duckdb|sqlite3|dask|dask-scheduler|dask-worker"
 )
 COMMAND = re.compile(rf"\$ |(?:\w+=\S* +)*(?:(?:\.{{0,2}}/|~/|\.ci/|tools/)\w|(?:{PROGRAM_NAMES}) \S|tilt [a-z]+ (?!\d+$)\S)|PATH=")
@@ -120,8 +120,9 @@ def commands(first: int, lines: Iterable[str]) -> list[tuple[int, str, str]]:
 
 def said(words: Sequence[str], folder: str) -> str:
     """What a command prints, as a page has it."""
-    # The system's Python comes before others, since it has the packages. The tools come last: one may have the name of another program.
-    path = os.pathsep.join([os.path.dirname(BUILT), "/usr/bin", os.environ.get("PATH", ""), os.path.join(TOOLS, "package")])
+    # The system's Python comes before others, since it has the packages. The tools come last: one may have the name of another program. After
+    # them comes the top, for its script `tilt-live`.
+    path = os.pathsep.join([os.path.dirname(BUILT), "/usr/bin", os.environ.get("PATH", ""), os.path.join(TOOLS, "package"), TOP])
     environment = {**os.environ, "PATH": path, "LC_ALL": "C", "PYTHONPATH": os.path.join(TOP, "python"), "PYTHONDONTWRITEBYTECODE": "1"}
     try:
         done = subprocess.run(words, cwd=folder, env=environment, stdin=subprocess.DEVNULL, capture_output=True, timeout=300)

@@ -1,8 +1,9 @@
 #!/usr/bin/env python3
-"""Compares the released program with the one that was built from the proved sources, byte by byte, if it was built from these sources.
+"""Compares each released program with the one that was built from the proved sources, byte by byte, if it was built from these sources.
 
-The SHA-256 in release/release.toml always has to be that of release/tilt. If the sources are others than those of the release, there is
-nothing to compare: that is printed, and is no failure. The last line is 'N passed, M failed', and the status is 1 if one failed."""
+The SHA-256 in release/COMMAND.toml always has to be that of release/COMMAND. If the sources are others than those of the release, or the
+program hasn't been released yet, there is nothing to compare: that is printed, and is no failure. The last line is 'N passed, M failed',
+and the status is 1 if one failed."""
 from __future__ import annotations
 
 import hashlib
@@ -14,9 +15,8 @@ import tomllib
 sys.path.insert(0, os.path.dirname(os.path.dirname(os.path.realpath(__file__))))
 
 from shared.paths import FIND_PROGRAM, TOOLS, TOP
+from shared.program import crates_of_programs
 from shared.tally import Tally
-
-RELEASED = os.path.join(TOP, "release", "tilt")
 
 
 def content(path: str) -> bytes:
@@ -33,24 +33,29 @@ def logic_of(toolchain: str) -> str:
     return toolchain.partition(" logic ")[2]
 
 
-def compare(description: dict[str, str], tally: Tally) -> None:
-    released = content(RELEASED)
+def compare(command: str, description: dict[str, str], tally: Tally) -> None:
+    """The released program of a command, beside the one that was built."""
+    released = content(os.path.join(TOP, "release", command))
     digest = hashlib.sha256(released).hexdigest()
-    tally.expect(digest == description["program"], f"release/tilt has the SHA-256 {digest}")
-    sources = printed(os.path.join(TOOLS, "package", "sources"))
+    tally.expect(digest == description["program"], f"release/{command} has the SHA-256 {digest}")
+    sources = printed(os.path.join(TOOLS, "package", "sources"), command)
     if sources != description["sources"]:
-        print(f"release/tilt ({description['version']}) was built from other sources: not compared")
+        print(f"release/{command} ({description['version']}) was built from other sources: not compared")
         return
-    built = content(printed(FIND_PROGRAM, "--built"))
-    tally.expect(built == released, "release/tilt isn't the program that was built from these sources")
+    built = content(printed(FIND_PROGRAM, "--built", command))
+    tally.expect(built == released, f"release/{command} isn't the program that was built from these sources")
     toolchain = printed("rt", "version")
     tally.expect(logic_of(toolchain) == logic_of(description["toolchain"]), f"the toolchain is {toolchain}")
 
 
 def main() -> int:
     tally = Tally()
-    with open(os.path.join(TOP, "release", "release.toml"), "rb") as file:
-        compare(tomllib.load(file), tally)
+    for command in crates_of_programs():
+        described = os.path.join(TOP, "release", f"{command}.toml")
+        if os.path.exists(described):
+            compare(command, tomllib.loads(content(described).decode()), tally)
+        else:
+            print(f"{command} hasn't been released yet: not compared")
     return tally.end()
 
 

@@ -1,8 +1,8 @@
 #!/usr/bin/env python3
 """Makes a package of Debian: `tools/package/debian.py [FOLDER]` puts tilt-stream_VERSION_ARCH.deb into the folder, `.` where none is given,
-and prints its path. It has the program as `tilt-stream`, and as `tilt` by update-alternatives; `tilt-data`; manual pages, pages, examples,
-completion for bash, and the licence. It exits with 1 if there is no program of these sources, built or released, or if dpkg-deb is
-missing."""
+and prints its path. It has the program `tilt` as `tilt-stream`, and by its own name by update-alternatives; the other programs of
+tools/package/programs; `tilt-data`; manual pages, pages, examples, completion for bash, and the licence. It exits with 1 if a program of
+these sources is missing, built or released, or if dpkg-deb is."""
 from __future__ import annotations
 
 import gzip
@@ -16,10 +16,13 @@ import tempfile
 sys.path.insert(0, os.path.dirname(os.path.dirname(os.path.realpath(__file__))))
 
 from shared.paths import FIND_PROGRAM, TOP
+from shared.program import crates_of_programs
 
 DOC = "usr/share/doc/tilt-stream"
 DESCRIBE = os.path.join(TOP, "tools", "package", "describe")
 MODULES = "usr/lib/python3/dist-packages/tilt_data"
+# Other software is named `tilt`.
+NAMES = {"tilt": "tilt-stream"}
 STARTER = '#!/usr/bin/python3\nimport sys\n\nfrom tilt_data.cli import main\n\nif __name__ == "__main__":\n    sys.exit(main())\n'
 
 
@@ -50,6 +53,11 @@ def manual(page: str) -> bytes:
     return gzip.compress(text_of("docs", page).encode(), 9, mtime=0)
 
 
+def found_program(command: str) -> str:
+    """The path of a program of these sources, or nothing; standard error then says why."""
+    return subprocess.run([FIND_PROGRAM, "--found", command], stdout=subprocess.PIPE, text=True).stdout.strip()
+
+
 def architecture() -> str:
     return subprocess.run(["dpkg", "--print-architecture"], capture_output=True, text=True, check=True).stdout.strip()
 
@@ -68,28 +76,31 @@ Priority: optional
 Description: queries over interval data, proved to print what they mean
  tilt compiles and runs queries over streams of readings: windows, joins,
  grids and limits. What it prints is proved to be what the query means.
+ tilt-live runs a query on readings as they come in.
  tilt-data makes its series of readings with dates and decimals, and tables
  and pictures of its output.
 """
 
 
-def lay_out(root: str, program: str) -> None:
+def lay_out(root: str, programs: dict[str, str]) -> None:
+    """The files of the package, of which these are the programs by their commands."""
     shutil.copytree(os.path.join(TOP, "python", "tilt_data"), os.path.join(root, MODULES), ignore=shutil.ignore_patterns("__pycache__"))
     shutil.copytree(os.path.join(TOP, "examples"), os.path.join(root, DOC, "examples"))
-    described = subprocess.run([DESCRIBE, program], capture_output=True, check=True)
+    described = subprocess.run([DESCRIBE, programs["tilt"]], capture_output=True, check=True)
     put(root, f"{MODULES}/described.toml", described.stdout)
-    with open(program, "rb") as file:
-        put(root, "usr/bin/tilt-stream", file.read(), 0o755)
+    for command, program in programs.items():
+        with open(program, "rb") as file:
+            put(root, f"usr/bin/{NAMES.get(command, command)}", file.read(), 0o755)
     put(root, "usr/bin/tilt-data", STARTER, 0o755)
-    put(root, "usr/share/man/man1/tilt-stream.1.gz", manual("tilt.1"))
-    put(root, "usr/share/man/man1/tilt-data.1.gz", manual("tilt-data.1"))
+    for command in [*programs, "tilt-data"]:
+        put(root, f"usr/share/man/man1/{NAMES.get(command, command)}.1.gz", manual(f"{command}.1"))
     put(root, f"{DOC}/copyright", text_of("LICENSE"))
     for page in ("README.md", "CHANGELOG.md"):
         put(root, f"{DOC}/{page}", text_of(page))
     for page in sorted(os.listdir(os.path.join(TOP, "docs"))):
         if page.endswith(".md"):
             put(root, f"{DOC}/docs/{page}", text_of("docs", page))
-    for name in ("tilt", "tilt-stream", "tilt-data"):
+    for name in [*programs, *NAMES.values(), "tilt-data"]:
         put(root, f"usr/share/bash-completion/completions/{name}", text_of("tools", "package", "completion"))
 
 
@@ -112,8 +123,8 @@ def main() -> int:
     if len(sys.argv) > 2 or sys.argv[1:2] and sys.argv[1].startswith("-"):
         print("usage: tools/package/debian.py [FOLDER]", file=sys.stderr)
         return 2
-    found = subprocess.run([FIND_PROGRAM, "--found"], stdout=subprocess.PIPE, text=True)
-    if found.returncode:
+    programs = {command: found_program(command) for command in crates_of_programs()}
+    if not all(programs.values()):
         return 1
     if shutil.which("dpkg-deb") is None:
         print("debian: dpkg-deb is missing", file=sys.stderr)
@@ -122,7 +133,7 @@ def main() -> int:
     package = os.path.join(target, f"tilt-stream_{version()}_{architecture()}.deb")
     time = moment()
     with tempfile.TemporaryDirectory() as root:
-        lay_out(root, found.stdout.strip())
+        lay_out(root, programs)
         finish(root, time)
         new = package + ".new"
         done = subprocess.run(

@@ -1,7 +1,7 @@
 #!/usr/bin/env python3
-"""Proves the crates that the program stands on, as many side by side as the machine serves, and builds the program. Each crate is told on
-standard error when its turn comes, as '12 of 26 tilt_turn'; all else goes to the file that is given, crate by crate. It ends with 1 where a
-crate isn't proved or the program isn't built.
+"""Proves the crates that a program stands on, as many side by side as the machine serves, and builds the program: `tools/package/prove.py
+CRATE LOG`. Each crate is printed on standard error when its turn comes, as '12 of 26 tilt_turn'; all else goes to the file LOG, crate by
+crate. It exits with 1 if a crate isn't proved or the program isn't built.
 
 Two runs of `rt` in one checkout wait for one another where they share a library. So each library is proved in a folder of its own, which
 gets its sources, those of the crates below it and what was built of them; what is made there is put into the checkout. `rt` knows what is
@@ -26,7 +26,6 @@ sys.path.insert(0, os.path.dirname(os.path.dirname(os.path.realpath(__file__))))
 from shared.crates import lines_of_crates
 from shared.paths import TOP
 
-PROGRAM = "tilt"
 SOURCES = ["src", "specs", "proofs"]
 SIGNALS = [signal.SIGHUP, signal.SIGINT, signal.SIGTERM]
 
@@ -143,10 +142,10 @@ def prove(order: list[str], lines: dict[str, str], room: str, log: BinaryIO) -> 
             it.end()
 
 
-def build(log: BinaryIO) -> bool:
+def build(program: str, log: BinaryIO) -> bool:
     """Proves and builds the program, and tells whether it is there. Without words it only tells its usage, so its status says nothing."""
-    subprocess.run(["rt", "run", "--"], cwd=f"{TOP}/crates/{PROGRAM}", stdin=subprocess.DEVNULL, stdout=log, stderr=subprocess.STDOUT)
-    return os.path.exists(f"{TOP}/crates/{PROGRAM}/out/{PROGRAM}")
+    subprocess.run(["rt", "run", "--"], cwd=f"{TOP}/crates/{program}", stdin=subprocess.DEVNULL, stdout=log, stderr=subprocess.STDOUT)
+    return os.path.exists(f"{TOP}/crates/{program}/out/{program}")
 
 
 def leave(*_: object) -> None:
@@ -157,9 +156,10 @@ def leave(*_: object) -> None:
 
 
 def main() -> int:
+    program, path = sys.argv[1:]
     lines = lines_of_crates()
-    order = lowest_first(PROGRAM, lines, [])
-    with open(sys.argv[1], "ab", buffering=0) as log:
+    order = lowest_first(program, lines, [])
+    with open(path, "ab", buffering=0) as log:
         for number in SIGNALS:
             if signal.getsignal(number) != signal.SIG_IGN:
                 signal.signal(number, leave)
@@ -177,8 +177,8 @@ def main() -> int:
                 return 1
         for crate in held:
             os.close(crate)
-        print(f"{len(order)} of {len(order)} {PROGRAM}", file=sys.stderr, flush=True)
-        return 0 if build(log) else 1
+        print(f"{len(order)} of {len(order)} {program}", file=sys.stderr, flush=True)
+        return 0 if build(program, log) else 1
 
 
 if __name__ == "__main__":

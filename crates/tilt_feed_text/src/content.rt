@@ -1,6 +1,7 @@
 // What a line says.
-ghost use Rattle.std.specs.Prelude.{◌≡◌, ◌<◌, ◌^◌, ◌||◌, length, IfOk, MatchOption, ⊤};
+ghost use Rattle.std.specs.Prelude.{◌≡◌, ◌≢◌, ◌<◌, ◌^◌, ◌||◌, length, IfOk, IsTrue, MatchOption, ⊤};
 ghost use Rattle.tilt_feed_line.specs.Lines.{Gives, IsOfInputs, line_said};
+ghost use Rattle.tilt_feed_line.specs.Plain.{is_plain, without_return};
 ghost use Rattle.tilt_feed_text.specs.Said.{IsContent, content, is_blank, is_header, is_skipped, read_or_bad};
 ghost use Rattle.std.specs.Option.{IfSome};
 
@@ -10,8 +11,8 @@ use tilt_feed_line::{Line, LineReader, ReadLineFault};
 use tilt_lexer::Name;
 
 /// What the line with a number says, which is how many lines are before it, of inputs with these names; `None` if it is skipped: a blank
-/// line, or a header that is the first line. `Bad` has the reason why it says nothing. `OutOfMemory` comes if memory is refused, and for
-/// no other reason. The line comes without its LF.
+/// line, or a header that is the first line. `Bad` has the reason why it says nothing. The line comes without its LF. `OutOfMemory` comes
+/// only for a line with a quote, an LF, or a CR before its end, or that starts with the byte 0xEF.
 pub fn read_content(
     reader: &mut LineReader,
     inputs: &[Name],
@@ -21,6 +22,7 @@ pub fn read_content(
     requires { length inputs.now < 2 ^ 32 }
     ensures content { IsContent result (content inputs.now number line.now) }
     ensures input { IfOk result (λ said. MatchOption said ⊤ (IsOfInputs (length inputs.now))) }
+    ensures memory { IsTrue (is_plain (without_return line.now)) → result ≢ Err ReadContentFault.OutOfMemory }
 {
     if line.len() > LINE {
         return Err(ReadContentFault::Bad(BadLine::TooLong));
@@ -40,6 +42,7 @@ fn read_said(
     requires { length inputs.now < 2 ^ 32 }
     ensures content { IsContent result (read_or_bad (line_said inputs.now line.now)) }
     ensures input { IfOk result (λ said. MatchOption said ⊤ (IsOfInputs (length inputs.now))) }
+    ensures memory { IsTrue (is_plain (without_return line.now)) → result ≢ Err ReadContentFault.OutOfMemory }
 {
     match reader.read_line(line, inputs) {
         Ok(said) => Ok(Some(said)),

@@ -1,0 +1,138 @@
+-- The last flush, after a feed was served.
+use Rattle.std.proofs.Common.{◌≡◌, ◌≤◌, ℕ, List, [], Result, Ok, Err, OnOk, OnErr, MatchResult, refl, sym, ◌∙◌, append-nil, arith}
+use Rattle.std.specs.Prelude.{⊤}
+use Rattle.tilt_core.specs.Core.{CoreParts}
+use Rattle.tilt_live_app.specs.Served.{HasServed, all_reports, end_with, output_for}
+use Rattle.tilt_live_app.specs.declared.failure.Halt.{Halt}
+use Rattle.tilt_live_app.specs.declared.failure.Halt.TheVariants as halt
+use Rattle.tilt_live_run.proofs.Reporting.{front-whole, rose_first}
+use Rattle.tilt_live_run.specs.Runs.{RunOptions}
+use Rattle.tilt_outside.proofs.Puts.{rose_from}
+use Rattle.tilt_outside.specs.Faults.{Rose}
+use Rattle.tilt_outside.specs.declared.failed.Failed.{Failed}
+use Rattle.tilt_port.specs.Transcript.{Keeps, Transcript}
+
+module _ (core : CoreParts) (options : RunOptions) {K : Type 0} (tells : Type 0) (old mid new : Transcript) (err_tells : Type 0) (err_written : K → List ℕ) (err_faults : K → ℕ)
+    (err err_then : K) (keeps : tells → Keeps mid new) (more : mid.write_faults ≤ new.write_faults) (same : new.read_faults ≡ mid.read_faults) where
+  -- nothing else changed
+  pub served-kept : (result : Result (Unit {0}) Halt) → HasServed core options tells old mid err_tells err_written err_faults err err_then result
+      → HasServed core options tells old new err_tells err_written err_faults err err_then result
+  served-kept (Ok u) served = record {
+    bytes = served.bytes;
+    moments = served.moments;
+    read = λ t. (keeps t).reads_nothing.read ∙ served.read t;
+    asked = λ t. (keeps t).reads_nothing.asked ∙ served.asked t;
+    punctual = served.punctual;
+    whole = λ t. (keeps t).written ∙ served.whole t;
+    front = λ _. tt;
+    reported = served.reported;
+    reported_front = tt;
+    ended = λ t. (keeps t).reads_nothing.ended ∙ served.ended t;
+    well = served.well;
+    badly = tt;
+    read_fault = tt;
+    write_fault = tt;
+    reads_kept = omega (arith, served.reads_kept, same);
+    writes_kept = omega (arith, served.writes_kept, more);
+  }
+  served-kept (Err why) served = record {
+    bytes = served.bytes;
+    moments = served.moments;
+    read = λ t. (keeps t).reads_nothing.read ∙ served.read t;
+    asked = λ t. (keeps t).reads_nothing.asked ∙ served.asked t;
+    punctual = served.punctual;
+    whole = λ t e. (keeps t).written ∙ served.whole t e;
+    front = λ t. record {
+      front = (served.front t).front;
+      rest = (served.front t).rest;
+      parts = (served.front t).parts;
+      appended = (keeps t).written ∙ (served.front t).appended;
+    };
+    reported = served.reported;
+    reported_front = served.reported_front;
+    ended = λ _. tt;
+    well = tt;
+    badly = served.badly;
+    read_fault = λ e. rw same (served.read_fault e);
+    write_fault = λ e. rose_first old.write_faults mid.write_faults new.write_faults served.writes_kept more (served.write_fault e);
+    reads_kept = omega (arith, served.reads_kept, same);
+    writes_kept = omega (arith, served.writes_kept, more);
+  }
+
+  -- it failed after all of the output had been written
+  pub served-unflushed : (end result : Result (Unit {0}) Halt) → result ≡ Err halt.WriteFault → MatchResult end (λ _. ⊤) (λ why. why ≡ halt.BadLine)
+      → Rose old.write_faults new.write_faults
+      → HasServed core options tells old mid err_tells err_written err_faults err err_then end
+      → HasServed core options tells old new err_tells err_written err_faults err err_then result
+  served-unflushed (Ok u) result is good rose served = rw is record {
+    bytes = served.bytes;
+    moments = served.moments;
+    read = λ t. (keeps t).reads_nothing.read ∙ served.read t;
+    asked = λ t. (keeps t).reads_nothing.asked ∙ served.asked t;
+    punctual = served.punctual;
+    whole = λ _ e. absurd (cc e);
+    front = λ t. record {
+      front = output_for core options served.bytes;
+      rest = [];
+      parts = sym (append-nil (output_for core options served.bytes));
+      appended = (keeps t).written ∙ served.whole t;
+    };
+    reported = λ e. absurd (cc e);
+    reported_front =
+        rw (← append-nil (all_reports core options served.bytes))
+        (front-whole err_tells err_written err_faults err err_then (all_reports core options served.bytes) [] served.reported);
+    ended = λ _. tt;
+    well = tt;
+    badly = λ e. absurd (cc e);
+    read_fault = λ e. absurd (cc e);
+    write_fault = λ _. rose;
+    reads_kept = omega (arith, served.reads_kept, same);
+    writes_kept = omega (arith, served.writes_kept, more);
+  }
+  served-unflushed (Err why) result is good rose served = rw is record {
+    bytes = served.bytes;
+    moments = served.moments;
+    read = λ t. (keeps t).reads_nothing.read ∙ served.read t;
+    asked = λ t. (keeps t).reads_nothing.asked ∙ served.asked t;
+    punctual = served.punctual;
+    whole = λ _ e. absurd (cc e);
+    front = λ t. record {
+      front = output_for core options served.bytes;
+      rest = [];
+      parts = sym (append-nil (output_for core options served.bytes));
+      appended = (keeps t).written ∙ served.whole t good;
+    };
+    reported = λ e. absurd (cc e);
+    reported_front = served.reported_front;
+    ended = λ _. tt;
+    well = tt;
+    badly = λ e. absurd (cc e);
+    read_fault = λ e. absurd (cc e);
+    write_fault = λ _. rose;
+    reads_kept = omega (arith, served.reads_kept, same);
+    writes_kept = omega (arith, served.writes_kept, more);
+  }
+
+  -- the end of the feed, whether it failed or not
+  pub served-flushed : (end : Result (Unit {0}) Halt) (flushed : Result (Unit {0}) Failed) → OnErr flushed (Rose mid.write_faults new.write_faults)
+      → HasServed core options tells old mid err_tells err_written err_faults err err_then end
+      → HasServed core options tells old new err_tells err_written err_faults err err_then (end_with end flushed)
+  served-flushed (Ok u) (Ok v) rose served = served-kept (Ok u) served
+  served-flushed (Ok u) (Err e) rose served =
+      served-unflushed (Ok u) (Err halt.WriteFault) refl tt (rose_from old.write_faults mid.write_faults new.write_faults served.writes_kept rose) served
+  served-flushed (Err halt.BadLine) (Ok v) rose served = served-kept (Err halt.BadLine) served
+  served-flushed (Err halt.BadLine) (Err e) rose served =
+      served-unflushed (Err halt.BadLine) (Err halt.WriteFault) refl refl (rose_from old.write_faults mid.write_faults new.write_faults served.writes_kept rose) served
+  served-flushed (Err halt.ReadFault) flushed rose served = served-kept (Err halt.ReadFault) served
+  served-flushed (Err halt.WriteFault) flushed rose served = served-kept (Err halt.WriteFault) served
+  served-flushed (Err halt.OutOfMemory) flushed rose served = served-kept (Err halt.OutOfMemory) served
+
+-- what is so after a flush that didn't fail is so at the end of a feed that ended well
+pub ok-flushed : (end : Result (Unit {0}) Halt) (flushed : Result (Unit {0}) Failed) (A : Type 0) → OnOk flushed A → OnOk (end_with end flushed) A
+ok-flushed (Ok u) (Ok v) A a = a
+ok-flushed (Ok u) (Err e) A a = tt
+ok-flushed (Err halt.BadLine) (Ok v) A a = tt
+ok-flushed (Err halt.BadLine) (Err e) A a = tt
+ok-flushed (Err halt.ReadFault) flushed A a = tt
+ok-flushed (Err halt.WriteFault) flushed A a = tt
+ok-flushed (Err halt.OutOfMemory) flushed A a = tt

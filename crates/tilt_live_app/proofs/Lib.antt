@@ -1,0 +1,4 @@
+pub mod Feeding
+pub mod Flushing
+pub mod Living
+pub mod Options

@@ -1,0 +1,40 @@
+use Rattle.std.proofs.Common.{◌∙◌, ap, refl, Err}
+use Rattle.std.proofs.lemmas.Result.{err_from_is_err_and}
+use Rattle.tilt_live_app.proofs.Feeding.{served-halted}
+use Rattle.tilt_live_app.specs.declared.failure.Halt.TheVariants as halt
+use Rattle.tilt_live_app.proofs.serve.serve_all.Goals as goal
+
+pub loop-init : goal.loop-init
+loop-init g c = record { takes = c.requires.lines; is = c.requires.is; of = λ accepted options old reports going. going }
+
+pub serve_more-requires-clause-lines : goal.serve_more-requires-clause-lines
+serve_more-requires-clause-lines g c = c.loop.invariant.takes
+
+pub serve_more-requires-clause-is : goal.serve_more-requires-clause-is
+serve_more-requires-clause-is g c = c.loop.invariant.is
+
+pub returns-in_err-serve_more-clause-served : goal.returns-in_err-serve_more-clause-served
+returns-in_err-serve_more-clause-served g c = λ accepted options old reports going.
+    let p = err_from_is_err_and c.from_residual.result c.from_residual.ensures.1 in
+    rw (p.1 ∙ ap Err p.2) (c.in_err-serve_more.ensures.stepped accepted options old reports (c.loop.invariant.of accepted options old reports going))
+
+pub returns-in-Ended-clause-served : goal.returns-in-Ended-clause-served
+returns-in-Ended-clause-served g c = λ accepted options old reports going.
+    rw c.in-Ended.is at (c.in_ok-serve_more.ensures.stepped accepted options old reports (c.loop.invariant.of accepted options old reports going))
+
+pub loop-preserved : goal.loop-preserved
+loop-preserved g c = record {
+  takes = c.serve_more.ensures.takes;
+  is = c.in_ok-serve_more.ensures.is c.in-More.is;
+  of = λ accepted options old reports going.
+      rw c.in-More.is at (c.in_ok-serve_more.ensures.stepped accepted options old reports (c.loop.invariant.of accepted options old reports going));
+}
+
+pub returns-clause-served : goal.returns-clause-served
+returns-clause-served g c = λ accepted options old reports going.
+    let here = c.loop.invariant.of accepted options old reports going in
+    served-halted accepted.core options _ _ _ _ old reports here.bytes here.moments _ c.loop.err halt.OutOfMemory _ refl (λ e. cc e) (λ e. absurd (cc e))
+    (λ e. absurd (cc e)) here.serving
+
+pub returns-clause-takes : goal.returns-clause-takes
+returns-clause-takes g c = c.loop.invariant.takes

@@ -1,0 +1,4 @@
+pub mod Arguments
+pub mod Lived
+pub mod Served
+pub mod Serving

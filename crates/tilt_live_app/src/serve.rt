@@ -1,0 +1,120 @@
+// The feed of a query, served from its first byte to its last.
+ghost use Rattle.std.specs.Prelude.{◌≡◌, ◌<◌, ◌++◌, ℕ, List, [], length, IfOk, OnOk, MatchResult};
+ghost use Rattle.tilt_compiler.specs.Accepted.{AcceptedParts};
+ghost use Rattle.tilt_live_app.specs.Served.{HasServed, end_with};
+ghost use Rattle.tilt_live_app.specs.Serving.{GoesOn, HasStepped};
+ghost use Rattle.tilt_live_run.specs.Runs.{IsRunOf, RunOptions};
+ghost use Rattle.tilt_port.specs.Transcript.{Moment, Transcript};
+
+use crate::arguments::Settings;
+use crate::failure::Halt;
+use std::alloc::{AllocError as OutOfMemory, Global};
+use tilt_compiler::Accepted;
+use tilt_live_run::LiveRun;
+use tilt_outside::{Failed, Sink};
+use tilt_port::Port;
+
+// How many bytes one read asks for at most.
+const PIECE: usize = 65536;
+
+// Whether there may be more of the feed.
+#[derive(Clone, Copy, Debug, PartialEq, Eq)]
+enum Progress {
+    More,
+    Ended,
+}
+
+// Serves the feed of a query.
+pub(crate) fn serve<P: Port, E: Sink>(
+    alloc: Global,
+    accepted: Accepted,
+    settings: Settings,
+    port: &mut P,
+    err: &mut E,
+) -> Result<(), Halt>
+    requires { (n : ℕ) → E.takes err.old n }
+    ensures served { HasServed accepted.core (record { with_begun = settings.begun; strict = settings.strict }) P.tells
+        (P.transcript port.old) (P.transcript port.new) E.tells E.written E.faults err.old err.new result }
+    ensures handed_on { OnOk result ((P.transcript port.new).held_back ≡ 0) }
+    ensures takes { (n : ℕ) → E.takes err.new n }
+{
+    let mut room = make_room(alloc, PIECE)?;
+    let mut run = LiveRun::start(alloc, accepted, settings.begun, settings.strict, port)?;
+    let end = serve_all(&mut run, &mut room, port, err);
+    let flushed = port.flush();
+    end_with(end, flushed)
+}
+
+// How a feed ends, if the last flush ended so: a fault of it counts unless something else halted the feed.
+fn end_with(end: Result<(), Halt>, flushed: Result<(), Failed>) -> Result<(), Halt>
+    ensures { result ≡ end_with end flushed }
+{
+    match (end, flushed) {
+        (Ok(()) | Err(Halt::BadLine), Err(_)) => Err(Halt::WriteFault),
+        _ => end,
+    }
+}
+
+// Memory that reads can fill.
+fn make_room(alloc: Global, size: usize) -> Result<Vec<u8>, OutOfMemory>
+    ensures { IfOk result (λ room. length room.items ≡ size) }
+{
+    vec![in alloc; 0u8; size]
+}
+
+// Serves what is left of a feed.
+fn serve_all<P: Port, E: Sink>(
+    run: &mut LiveRun,
+    room: &mut [u8],
+    port: &mut P,
+    err: &mut E,
+) -> Result<(), Halt>
+    requires space { 0 < length room.old }
+    requires lines { (n : ℕ) → E.takes err.old n }
+    requires is { (accepted : AcceptedParts) × (options : RunOptions) × (bytes : List ℕ) × IsRunOf run.old accepted options bytes }
+    ensures served { (accepted : AcceptedParts) (options : RunOptions) (old : Transcript) (reports : E)
+        → GoesOn accepted options P.tells old (P.transcript port.old) E.tells E.written E.faults reports err.old run.old
+        → HasServed accepted.core options P.tells old (P.transcript port.new) E.tells E.written E.faults reports err.new result }
+    ensures takes { (n : ℕ) → E.takes err.new n }
+{
+    for _ in 0..u64::MAX {
+        match serve_more(run, room, port, err)? {
+            Progress::More => {}
+            Progress::Ended => return Ok(()),
+        }
+    }
+    // No feed has so many pieces. If one did, the program would stop here.
+    Err(Halt::OutOfMemory)
+}
+
+// Hands on what was written, reads more, and takes it.
+fn serve_more<P: Port, E: Sink>(
+    run: &mut LiveRun,
+    room: &mut [u8],
+    port: &mut P,
+    err: &mut E,
+) -> Result<Progress, Halt>
+    requires space { 0 < length room.old }
+    requires lines { (n : ℕ) → E.takes err.old n }
+    requires is { (accepted : AcceptedParts) × (options : RunOptions) × (bytes : List ℕ) × IsRunOf run.old accepted options bytes }
+    ensures stepped { (accepted : AcceptedParts) (options : RunOptions) (old : Transcript) (reports : E)
+        → GoesOn accepted options P.tells old (P.transcript port.old) E.tells E.written E.faults reports err.old run.old
+        → HasStepped accepted options P.tells old (P.transcript port.new) E.tells E.written E.faults reports err.new run.new result }
+    ensures is { IfOk result (λ progress. progress ≡ Progress.More
+        → (accepted : AcceptedParts) × (options : RunOptions) × (bytes : List ℕ) × IsRunOf run.new accepted options bytes) }
+    ensures length { length room.new ≡ length room.old }
+    ensures takes { (n : ℕ) → E.takes err.new n }
+{
+    if port.flush().is_err() {
+        return Err(Halt::WriteFault);
+    }
+    let Ok(count) = port.read(room) else {
+        return Err(Halt::ReadFault);
+    };
+    if count == 0 {
+        run.end(err)?;
+        return Ok(Progress::Ended);
+    }
+    run.take(&room[..count], port, err)?;
+    Ok(Progress::More)
+}

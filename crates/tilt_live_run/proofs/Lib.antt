@@ -1,0 +1,10 @@
+pub mod Adding
+pub mod Beginning
+pub mod Lines
+pub mod Outputs
+pub mod Pieces
+pub mod Reporting
+pub mod Running
+pub mod Showing
+pub mod Taking
+pub mod Underway

@@ -1,0 +1,60 @@
+-- The run of a query after more bytes of its feed.
+use Rattle.std.proofs.Common.{◌≡◌, ◌≤◌, ℕ, ◌+◌, ◌==◌, Bool, ◌&&◌, MatchResult, Result, true, false, List, [], ◌++◌, length, sym, ap, ◌∙◌, take, arith, inl, inr}
+use Rattle.std.proofs.lemmas.Bool.{cases_Bool, eqb-true}
+use Rattle.std.proofs.lemmas.List.{length-take, nil_from_length}
+use Rattle.tilt_compiler.specs.Accepted.{AcceptedParts}
+use Rattle.tilt_core.specs.Core.{CoreParts}
+use Rattle.tilt_feed.specs.Feed.{empty_feed}
+use Rattle.tilt_feed_text.proofs.Cutting.{take-empty}
+use Rattle.tilt_feed_text.proofs.Saying.{after-lines, after_lines-append, number-append}
+use Rattle.tilt_feed_text.proofs.Splitting.{lines-append, unfinished-append}
+use Rattle.tilt_feed_text.specs.Said.{after_lines, number_after}
+use Rattle.tilt_feed_text.specs.Split.{unfinished, unfinished_after, whole_lines}
+use Rattle.tilt_feed_text.specs.declared.pending.TheConstants.{LINE}
+use Rattle.tilt_live_run.specs.Runs.{IsRunAfter, IsRunOf, RunOptions, feed_after, new_lines, number_of}
+use Rattle.tilt_live_run.specs.declared.live_run.LiveRun.{LiveRun}
+use Rattle.tilt_live_run.specs.declared.stop.Stop.{Stop}
+use Rattle.tilt_live_run.specs.declared.stop.Stop.TheVariants.{BadLine}
+
+pub number-more : (bytes piece : List ℕ) → number_of (bytes ++ piece) ≡ number_after (number_of bytes) (new_lines bytes piece)
+number-more bytes piece = rw (lines-append [] bytes piece) (number-append 0 (whole_lines bytes) (new_lines bytes piece))
+
+pub feed-more : (core : CoreParts) (bytes piece : List ℕ)
+    → feed_after core (bytes ++ piece) ≡ after_lines core.inputs (number_of bytes) (feed_after core bytes) (new_lines bytes piece)
+feed-more core bytes piece =
+    let feed = empty_feed (length core.inputs) in
+    let whole : feed_after core (bytes ++ piece) ≡ after_lines core.inputs 0 feed (whole_lines (bytes ++ piece)) =
+    after-lines core.inputs 0 feed (whole_lines (bytes ++ piece)) in
+    let before : feed_after core bytes ≡ after_lines core.inputs 0 feed (whole_lines bytes) = after-lines core.inputs 0 feed (whole_lines bytes) in
+    rw (whole, before, lines-append [] bytes piece) (after_lines-append core.inputs 0 feed (whole_lines bytes) (new_lines bytes piece))
+
+-- the run of a query after a piece
+pub run-more : (run : LiveRun) (accepted : AcceptedParts) (options : RunOptions) (bytes piece : List ℕ)
+    → IsRunAfter run accepted options (number_after (number_of bytes) (new_lines bytes piece))
+    (after_lines accepted.core.inputs (number_of bytes) (feed_after accepted.core bytes) (new_lines bytes piece)) (unfinished_after (unfinished bytes) piece)
+    → IsRunOf run accepted options (bytes ++ piece)
+run-more run accepted options bytes piece is =
+    rw (number-more bytes piece, feed-more accepted.core bytes piece, unfinished-append [] bytes piece) is
+
+-- the first bytes of a line, by the bytes of them that are kept
+pub none-kept : (front kept : List ℕ) → kept ≡ take (LINE + 1) front → (length kept == 0) ≡ true → front ≡ []
+none-kept front kept is none = take-empty front (sym is ∙ nil_from_length kept (eqb-true (length kept) 0 none))
+
+pub some-kept : (front kept : List ℕ) → kept ≡ take (LINE + 1) front → (length kept == 0) ≡ false → (length front == 0) ≡ false
+some-kept front kept is some =
+    elim (cases_Bool (length front == 0)) [
+      | inl none ↦
+          let e = is ∙ ap (take (LINE + 1)) (nil_from_length front (eqb-true (length front) 0 none)) in
+          absurd (cc (sym some ∙ ap (λ (t : List ℕ). length t == 0) e))
+      | inr there ↦ there
+    ]
+
+-- they are as many as a line may be kept of
+pub kept-few : (front kept : List ℕ) → kept ≡ take (LINE + 1) front → length kept ≤ LINE + 1
+kept-few front kept is = let len = length-take (LINE + 1) front in rw is (omega (arith, len))
+
+-- what ends a strict run, if a line has begun
+pub strict-same : (strict : Bool) (result : Result (Unit {0}) Stop) → MatchResult result (λ _. strict ≡ false) (λ stop. (stop ≡ BadLine) × (strict ≡ true))
+    → MatchResult result (λ _. (strict && true) ≡ false) (λ stop. (stop ≡ BadLine) × ((strict && true) ≡ true))
+strict-same true result e = e
+strict-same false result e = e

@@ -1,0 +1,5 @@
+pub mod Adds
+pub mod Output
+pub mod Reported
+pub mod Runs
+pub mod Taken

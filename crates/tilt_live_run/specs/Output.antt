@@ -1,0 +1,55 @@
+-- What is written for the lines of a feed (our own rule).
+use Rattle.std.specs.Prelude.{ℕ, ℤ, Bool, false, is_some, if◌then◌else◌, List, [], ◌∷◌, ◌++◌, length, drop, codes, Option, None, Some}
+use Rattle.std.specs.Fmt.{signed_decimal}
+use Rattle.std.specs.Ordering.{int_eq}
+use Rattle.tilt_core.specs.Core.{CoreParts}
+use Rattle.tilt_feed.specs.Feed.{Feed, empty_feed}
+use Rattle.tilt_feed.specs.Printed.{Begun, begun, printed}
+use Rattle.tilt_feed_text.specs.Said.{after_line, taken_from}
+use Rattle.tilt_outside.specs.Counts.{next_count}
+use Rattle.tilt_stream.specs.Text.{cell_text, lines_of}
+
+-- the line `start,,value` of what has begun, if its value isn't null
+abbrev pub begun_line : Begun → List ℕ
+begun_line b = if is_some b.value then signed_decimal b.start ++ codes ",," ++ cell_text b.value ++ codes "\n" else []
+
+-- where something has begun, if something has
+abbrev pub begun_start : Option Begun → Option ℤ
+begun_start None = None
+begun_start (Some b) = Some b.start
+
+-- whether it is this tick
+abbrev pub is_start : Option ℤ → ℤ → Bool
+is_start None tick = false
+is_start (Some start) tick = int_eq start tick
+
+-- the line of what has begun, if something else had begun before, or nothing
+abbrev pub begun_news : Option ℤ → Option Begun → List ℕ
+begun_news before None = []
+begun_news before (Some b) = if is_start before b.start then [] else begun_line b
+
+-- what is written when a feed goes on: the lines of what can be printed now and couldn't before, and then, if that is asked for, the line of
+-- what has begun
+abbrev pub news : Bool → CoreParts → Feed → Feed → List ℕ
+news with_begun core before after =
+    lines_of (drop (length (printed core before)) (printed core after))
+    ++ (if with_begun then begun_news (begun_start (begun core before)) (begun core after) else [])
+
+-- what is written before the first line: the header, and what can be printed by then
+abbrev pub first_news : Bool → CoreParts → List ℕ
+first_news with_begun core =
+    let feed = empty_feed (length core.inputs) in
+    codes "start,end,value\n" ++ (lines_of (printed core feed) ++ (if with_begun then begun_news None (begun core feed) else []))
+
+-- what is written for lines after such a feed, of which the first one has a number
+abbrev pub news_from : Bool → CoreParts → ℕ → Feed → List (List ℕ) → List ℕ
+news_from with_begun core number feed [] = []
+news_from with_begun core number feed (bytes ∷ lines) =
+    let after = after_line core.inputs number bytes feed in
+    news with_begun core feed after ++ news_from with_begun core (next_count number) after lines
+
+-- what is written for the lines of a feed; up to the first bad line if bad lines stop the run
+abbrev pub output : (with_begun strict : Bool) → CoreParts → List (List ℕ) → List ℕ
+output with_begun strict core lines =
+    let feed = empty_feed (length core.inputs) in
+    first_news with_begun core ++ news_from with_begun core 0 feed (taken_from strict core.inputs 0 feed lines)

@@ -1,0 +1,75 @@
+-- Which run is one of a query's feed, and what a piece of the feed adds (our own rule).
+use Rattle.std.specs.Prelude.{◌≡◌, ◌+◌, ◌==◌, ℕ, Bool, true, not, List, [], length, take, if◌then◌else◌}
+use Rattle.tilt_compiler.specs.Accepted.{AcceptedParts}
+use Rattle.tilt_core.specs.Core.{CoreParts}
+use Rattle.tilt_feed.specs.Feed.{Feed}
+use Rattle.tilt_feed.specs.Laws.{fed}
+use Rattle.tilt_feed.specs.Printed.{begun, printed}
+use Rattle.tilt_feed_text.specs.Report.{report, reports_from}
+use Rattle.tilt_feed_text.specs.Said.{events_of, number_after, stop_among, taken_from}
+use Rattle.tilt_feed_text.specs.Split.{lines_after, unfinished, whole_lines}
+use Rattle.tilt_feed_text.specs.declared.bad_line.BadLine.TheVariants.{NoEnd}
+use Rattle.tilt_feed_text.specs.declared.pending.TheConstants.{LINE}
+use Rattle.tilt_live.specs.Lives.{IsLiveOf}
+use Rattle.tilt_live_run.specs.Output.{begun_start, news_from}
+use Rattle.tilt_live_run.specs.declared.line_run.LineRun.{LineRun}
+use Rattle.tilt_live_run.specs.declared.live_run.LiveRun.{LiveRun}
+use Rattle.tilt_outside.specs.Counts.{next_count}
+
+-- the options of a run: whether it writes what has begun, and whether a bad line stops it
+pub record RunOptions : Type 0 where
+  pub with_begun : Bool
+  pub strict : Bool
+
+-- the run of a query with these options after so many lines, which made such a feed: all that can be printed was written
+pub record IsLineRunOf (run : LineRun) (accepted : AcceptedParts) (options : RunOptions) (number : ℕ) (feed : Feed) : Type 0 where
+  pub live : IsLiveOf run.live accepted feed (length (printed accepted.core feed))
+  pub number_is : run.number ≡ number
+  pub with_begun_is : run.with_begun ≡ options.with_begun
+  pub strict_is : run.strict ≡ options.strict
+  pub shown : options.with_begun ≡ true → run.shown ≡ begun_start (begun accepted.core feed)
+
+-- the same, and the first bytes of the next line
+pub record IsRunAfter (run : LiveRun) (accepted : AcceptedParts) (options : RunOptions) (number : ℕ) (feed : Feed) (front : List ℕ) : Type 0 where
+  pub line_run : IsLineRunOf run.run accepted options number feed
+  pub pending : run.pending.items ≡ take (LINE + 1) front
+
+-- how many lines bytes have, as far as the count goes
+abbrev pub number_of : List ℕ → ℕ
+number_of bytes = number_after 0 (whole_lines bytes)
+
+-- the feed of a query after bytes
+abbrev pub feed_after : CoreParts → List ℕ → Feed
+feed_after core bytes = fed core (events_of core.inputs (whole_lines bytes))
+
+-- the run of a query after bytes of its feed
+abbrev pub IsRunOf : LiveRun → AcceptedParts → RunOptions → List ℕ → Type 0
+IsRunOf run accepted options bytes = IsRunAfter run accepted options (number_of bytes) (feed_after accepted.core bytes) (unfinished bytes)
+
+-- the lines that end in a piece of the feed that comes after bytes
+abbrev pub new_lines : List ℕ → List ℕ → List (List ℕ)
+new_lines bytes piece = lines_after (unfinished bytes) piece
+
+-- what is written for them
+abbrev pub added : RunOptions → CoreParts → List ℕ → List ℕ → List ℕ
+added options core bytes piece =
+    news_from options.with_begun core (number_of bytes) (feed_after core bytes)
+    (taken_from options.strict core.inputs (number_of bytes) (feed_after core bytes) (new_lines bytes piece))
+
+-- what is reported of them
+abbrev pub reported : RunOptions → CoreParts → List ℕ → List ℕ → List ℕ
+reported options core bytes piece =
+    reports_from options.strict core.inputs (number_of bytes) (feed_after core bytes) (new_lines bytes piece)
+
+-- whether one of them stops the run
+abbrev pub is_stopped : RunOptions → CoreParts → List ℕ → List ℕ → Bool
+is_stopped options core bytes piece =
+    stop_among options.strict core.inputs (number_of bytes) (feed_after core bytes) (new_lines bytes piece)
+
+-- whether bytes end in the middle of a line
+abbrev pub is_unfinished : List ℕ → Bool
+is_unfinished bytes = not (length (unfinished bytes) == 0)
+
+-- the report of the line in the middle of which the feed ended, if it did
+abbrev pub end_report : List ℕ → List ℕ
+end_report bytes = if is_unfinished bytes then report (next_count (number_of bytes)) NoEnd else []

@@ -1,0 +1,152 @@
+// The run of a query, line by line.
+ghost use Rattle.std.specs.Prelude.{◌≡◌, ◌++◌, ℕ, [], None, true, false, length, drop, if◌then◌else◌, IfOk, IfErr, OnOk, MatchResult};
+ghost use Rattle.tilt_compiler.specs.Accepted.{AcceptedParts};
+ghost use Rattle.tilt_feed.specs.Feed.{Feed, empty_feed};
+ghost use Rattle.tilt_feed.specs.Printed.{begun, printed};
+ghost use Rattle.tilt_feed_text.specs.Report.{report};
+ghost use Rattle.tilt_feed_text.specs.Said.{after_line, line_fault};
+ghost use Rattle.tilt_live.specs.Lives.{IsLive, IsLiveOf};
+ghost use Rattle.tilt_live_run.specs.Adds.{Adds};
+ghost use Rattle.tilt_live_run.specs.Output.{begun_news, first_news};
+ghost use Rattle.tilt_live_run.specs.Reported.{Reported};
+ghost use Rattle.tilt_live_run.specs.Runs.{IsLineRunOf, RunOptions};
+ghost use Rattle.tilt_live_run.specs.Taken.{HasTakenLine};
+ghost use Rattle.tilt_outside.specs.Counts.{next_count};
+ghost use Rattle.tilt_stream.specs.Text.{lines_of};
+
+use crate::events::take_said;
+use crate::shown::{show_begun, show_final, write_header};
+use crate::stop::Stop;
+use std::alloc::{AllocError as OutOfMemory, Global};
+use tilt_compiler::Accepted;
+use tilt_feed_line::LineReader;
+use tilt_feed_text::{BadLine, ReadContentFault, put_report, read_content};
+use tilt_live::Live;
+use tilt_outside::Sink;
+use tilt_port::Port;
+
+// The live engine of a query, and what was taken and written by it.
+#[derive(Drop)]
+pub(crate) struct LineRun {
+    pub(crate) live: Live,
+    reader: LineReader,
+    // How many lines were taken, as far as the count goes.
+    pub(crate) number: u64,
+    with_begun: bool,
+    strict: bool,
+    // The start of the snapshot that had begun after the last line.
+    shown: Option<i64>,
+}
+
+impl LineRun {
+    // The run before the first line, of which nothing was written.
+    pub(crate) fn new(
+        alloc: Global,
+        accepted: Accepted,
+        with_begun: bool,
+        strict: bool,
+    ) -> Result<LineRun, OutOfMemory>
+        ensures live { IfOk result (λ run. IsLiveOf run.live accepted (empty_feed (length accepted.core.inputs)) 0) }
+        ensures is { IfOk result (λ run. (run.number ≡ 0) × (run.with_begun ≡ with_begun) × (run.strict ≡ strict) × (run.shown ≡ None)) }
+    {
+        let live = Live::new(alloc, accepted)?;
+        Ok(LineRun {
+            live,
+            reader: LineReader::new(alloc),
+            number: 0,
+            with_begun,
+            strict,
+            shown: None,
+        })
+    }
+
+    // Writes the header, and what can be printed before the first line.
+    pub(crate) fn begin<P: Port>(&mut self, port: &mut P) -> Result<(), Stop>
+        requires live { IsLive self.old.live }
+        ensures adds { (accepted : AcceptedParts) → IsLiveOf self.old.live accepted (empty_feed (length accepted.core.inputs)) 0
+            → self.old.shown ≡ None
+            → Adds P.tells (P.transcript port.old) (P.transcript port.new) (first_news self.old.with_begun accepted.core) result }
+        ensures goes_on { (accepted : AcceptedParts) → IsLiveOf self.old.live accepted (empty_feed (length accepted.core.inputs)) 0
+            → OnOk result (IsLineRunOf self.new accepted (record { with_begun = self.old.with_begun; strict = self.old.strict })
+            self.old.number (empty_feed (length accepted.core.inputs))) }
+        ensures no_bad_line { IfErr result (λ stop. stop ≡ Stop.BadLine → ⊥) }
+    {
+        write_header(port)?;
+        self.show(port)
+    }
+
+    // Takes a line without its LF: reports it if it is bad, and writes what it makes final.
+    pub(crate) fn take<P: Port, E: Sink>(
+        &mut self,
+        line: &[u8],
+        port: &mut P,
+        err: &mut E,
+    ) -> Result<(), Stop>
+        requires live { IsLive self.old.live }
+        requires lines { (n : ℕ) → E.takes err.old n }
+        ensures taken { (accepted : AcceptedParts) (options : RunOptions) (number : ℕ) (feed : Feed)
+            → IsLineRunOf self.old accepted options number feed
+            → HasTakenLine P.tells (P.transcript port.old) (P.transcript port.new) E.tells E.written E.faults err.old err.new
+            (λ n f. IsLineRunOf self.new accepted options n f) accepted.core options number feed line.now result }
+        ensures takes { (n : ℕ) → E.takes err.new n }
+    {
+        if let Some(why) = self.take_content(line)? {
+            self.report_next(why, err)?;
+        }
+        self.number = self.number.saturating_add(1);
+        self.show(port)
+    }
+
+    // Reports that the line after those that were taken is bad, which stops the run if bad lines do.
+    pub(crate) fn report_next<E: Sink>(&self, why: BadLine, err: &mut E) -> Result<(), Stop>
+        requires { (n : ℕ) → E.takes err.old n }
+        ensures reported { Reported E.tells E.written E.faults err.old err.new (report (next_count self.now.number) why) }
+        ensures result { MatchResult result (λ _. self.now.strict ≡ false) (λ stop. (stop ≡ Stop.BadLine) × (self.now.strict ≡ true)) }
+        ensures takes { (n : ℕ) → E.takes err.new n }
+    {
+        // A fault of the sink changes nothing.
+        let _ = put_report(err, self.number.saturating_add(1), why);
+        if self.strict {
+            Err(Stop::BadLine)
+        } else {
+            Ok(())
+        }
+    }
+
+    // Takes what the next line says, and returns why it is bad, if it is.
+    fn take_content(&mut self, line: &[u8]) -> Result<Option<BadLine>, OutOfMemory>
+        ensures taken { (accepted : AcceptedParts) (feed : Feed) (given : ℕ) → IsLiveOf self.old.live accepted feed given
+            → IfOk result (λ why. (why ≡ line_fault accepted.core.inputs feed self.old.number line.now)
+            × IsLiveOf self.new.live accepted (after_line accepted.core.inputs self.old.number line.now feed) given) }
+        ensures live { IsLive self.old.live → IsLive self.new.live }
+        ensures rest { (self.new.number ≡ self.old.number) × (self.new.with_begun ≡ self.old.with_begun)
+            × (self.new.strict ≡ self.old.strict) × (self.new.shown ≡ self.old.shown) }
+    {
+        let inputs = self.live.inputs();
+        let count = inputs.len() as u32;
+        match read_content(&mut self.reader, inputs, self.number, line) {
+            Ok(None) => Ok(None),
+            Ok(Some(said)) => take_said(&mut self.live, count, said),
+            Err(ReadContentFault::Bad(why)) => Ok(Some(why)),
+            Err(ReadContentFault::OutOfMemory) => Err(OutOfMemory),
+        }
+    }
+
+    // Writes what can be printed and wasn't, and then what has begun, if that is asked for.
+    fn show<P: Port>(&mut self, port: &mut P) -> Result<(), Stop>
+        requires live { IsLive self.old.live }
+        ensures adds { (accepted : AcceptedParts) (feed : Feed) (given : ℕ) → IsLiveOf self.old.live accepted feed given
+            → Adds P.tells (P.transcript port.old) (P.transcript port.new) (lines_of (drop given (printed accepted.core feed))
+            ++ (if self.old.with_begun then begun_news self.old.shown (begun accepted.core feed) else [])) result }
+        ensures goes_on { (accepted : AcceptedParts) (feed : Feed) (given : ℕ) → IsLiveOf self.old.live accepted feed given
+            → OnOk result (IsLineRunOf self.new accepted (record { with_begun = self.old.with_begun; strict = self.old.strict })
+            self.old.number feed) }
+        ensures no_bad_line { IfErr result (λ stop. stop ≡ Stop.BadLine → ⊥) }
+    {
+        show_final(&mut self.live, port)?;
+        if self.with_begun {
+            self.shown = show_begun(&mut self.live, self.shown, port)?;
+        }
+        Ok(())
+    }
+}
