@@ -91,3 +91,18 @@ def axis_of(clock: Clock | None, lo: int, hi: int, zone: datetime.tzinfo | None,
         part = slice(0, 10) if step >= DAY else slice(11, 16)
     day = first if first == last else f"{first} to {last}"
     return [(moment - begin) / clock.tick for moment in moments], [text[part] for text in texts], f"{day} ({zone_name})"
+
+
+def changes(begin: int, end: int, zone: datetime.tzinfo | None) -> list[tuple[int, int]]:
+    """How far the clocks of a zone are before UTC in nanoseconds, from the begin of a stretch on and from each change in it on. Two changes
+    in a day that cancel each other out aren't seen; in a stretch of more than 500 years, nor are such in a few days."""
+    found = [(begin, shift_at(begin, zone))]
+    step = max(DAY, (end - begin) // 200000)
+    while zone is not None and begin < end:
+        after = min(begin + step, end)
+        if shift_at(after, zone) != found[-1][1]:
+            moment = change(begin, after, zone)
+            found.append((moment, shift_at(moment, zone)))
+            after = moment
+        begin = after
+    return found
