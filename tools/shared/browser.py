@@ -2,6 +2,7 @@
 from __future__ import annotations
 
 import base64
+import contextlib
 import json
 import os
 import selectors
@@ -81,7 +82,9 @@ class Browser:
 
     def close(self) -> None:
         if self.process.poll() is None:
-            self.process.terminate()
+            self.session = None
+            with contextlib.suppress(BrowserError, OSError):
+                self.call("Browser.close")
             try:
                 self.process.wait(10)
             except subprocess.TimeoutExpired:
@@ -137,12 +140,13 @@ class Browser:
             self.loaded = True
 
     def open(self, path: str, place: str = "") -> None:
-        """Opens a file, and waits until it is loaded."""
-        self.loaded, self.requests = False, []
-        self.call("Page.navigate", url=f"file://{os.path.abspath(path)}{place}")
-        until = time.monotonic() + PATIENCE
-        while not self.loaded:
-            self.receive(until)
+        """Opens a file, and waits until it is loaded. An empty page comes between, so that another place in the same file is loaded too."""
+        for url in ("about:blank", f"file://{os.path.abspath(path)}{place}"):
+            self.loaded, self.requests = False, []
+            self.call("Page.navigate", url=url)
+            until = time.monotonic() + PATIENCE
+            while not self.loaded:
+                self.receive(until)
 
     def value(self, expression: str) -> Any:
         """The value of an expression of JavaScript, or of its promise."""
