@@ -165,6 +165,13 @@ def test_episodes_of_several_blocks_are_joined(told):
     assert fields_in()["episodes"] == wanted and [block[0] for block in fields_in()["series"][0]["blocks"]] == [BLOCK, 20000]
 
 
+def test_stretches_no_farther_apart_than_the_gap_are_one_episode(told):
+    put("alarm", "0,10,1\n40,50,1\n50,60,0\n81,90,1\n")
+    for words, wanted in (([], [(0, 10), (40, 50), (81, 90)]), (["--gap", "30s"], [(0, 50), (81, 90)]), (["--gap", "31s"], [(0, 90)])):
+        assert told("view", "band:alarm=alarm.csv", *words, "--out", "v.html") == (0, "", "")
+        assert fields_in()["episodes"] == [[0, str(start), str(end)] for start, end in wanted]
+
+
 def test_a_stretch_has_the_whole_rows_that_meet_it(told):
     put("x", "0,600,205\n600,1200,206\n1200,1800,207\n1800,2400,208\n")
     assert told("view", "x=x.csv", "--from", "700", "--to", "1970-01-01T00:30", "--out", "v.html") == (0, "", "")
@@ -196,6 +203,9 @@ def test_standard_input_is_drawn(told, monkeypatch):
         (["x=x.csv", "--from", "5", "--to", "5", "--out", "v.html"], "there is nothing between --from and --to"),
         (["x=x.csv", "+y=bad.csv", "--out", "v.html"], "bad.csv:3: a row start,end,value of whole numbers was expected"),
         (["x=x.csv", "--title", "a\x00b", "--out", "v.html"], r"'a\x00b': a text without control characters was expected"),
+        (["x=x.csv", "--gap", "5", "--out", "v.html"], "'5' is no duration"),
+        (["x=x.csv", "--gap", "1500ms", "--out", "v.html"], "--gap 1500ms is no whole number of ticks of 1s"),
+        (["plain=plain.csv", "--gap", "5s", "--out", "v.html"], "--gap 5s: no file has a clock"),
         (["x=far.csv", "--out", "v.html"], "the moment"),
         (["x=x.csv", "--out", "no/folder/v.html"], "no/folder/v.html: it can't be written"),
     ],
@@ -205,6 +215,7 @@ def test_what_is_refused(told, words, what):
     put("y", "0,5,1\n", origin=10**9)
     put("far", "0,4000000000000000000,1\n")
     pathlib.Path("bad.csv").write_text("start,end,value\n0,5,1\n5,6\n")
+    pathlib.Path("plain.csv").write_text("start,end,value\n0,5,1\n")
     status, out, err = told("view", *words)
     assert (status, out) == (1, "") and err.startswith(f"tilt-data: {what}") and err.count("\n") == 1
     assert not [name for name in os.listdir() if "html" in name]
@@ -472,6 +483,14 @@ def test_dark_light_narrow_and_print(recording, browser, tmp_path):
     browser.value(WAIT)
     assert browser.value("document.documentElement.scrollWidth") <= 390
     browser.size(1280, 800)
+    # On paper the colours are those of a light ground, also with the cursor, which is on the one canvas.
+    browser.press("n")
+    browser.call("Emulation.setEmulatedMedia", media="print", features=[{"name": "prefers-color-scheme", "value": "dark"}])
+    browser.value(WAIT)
+    assert browser.value("getComputedStyle(document.body).backgroundColor") == grounds[0]
+    assert browser.value("getComputedStyle(document.getElementById('overlay')).display") == "none"
+    assert browser.value("window.tiltView.page.chart.paper") is True
+    browser.call("Emulation.setEmulatedMedia", media="", features=[])
     pdf = base64.b64decode(browser.call("Page.printToPDF", landscape=True)["data"])
     assert pdf.startswith(b"%PDF") and browser.errors == []
 

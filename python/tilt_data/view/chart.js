@@ -1,6 +1,8 @@
 // What is drawn: panels of lines, dots, limits and bands above one axis of time.
 
 const TOP = 24, GAP = 14, BOTTOM = 40, RIGHT = 14, MARKS = 9;
+// How wide a line and how high a panel is at least, in pixels.
+const SEEN = 2.5, PANEL = 110;
 // Lines and dots of different names differ by their dashes and their marks too, and bands by their hatching.
 const DASHES = [[], [7, 3], [2, 3], [9, 3, 2, 3], [14, 4], [4, 2, 1, 2]];
 
@@ -39,14 +41,14 @@ class Traced {
     room[at + 5] = last;
   }
 
-  // The path of the steps. A stretch that is narrower than a pixel is as wide as one.
-  line(path, yOf) {
+  // The path of the steps. A stretch that is too narrow to be seen is drawn wider.
+  line(path, yOf, least) {
     const { room, count } = this;
     let begin = 0, end = 0;
     for (let at = 0; at < count * 6; at += 6) {
       const x0 = room[at], x1 = room[at + 1];
       if (at === 0 || x0 - end > 1) {
-        if (at && end - begin < 1) path.lineTo(begin + 1, yOf(room[at - 1]));
+        if (at && end - begin < least) path.lineTo(begin + least, yOf(room[at - 1]));
         path.moveTo(x0, yOf(room[at + 2]));
         begin = x0;
       } else {
@@ -60,7 +62,7 @@ class Traced {
       path.lineTo(x1, yOf(room[at + 5]));
       end = x1;
     }
-    if (count && end - begin < 1) path.lineTo(begin + 1, yOf(room[count * 6 - 1]));
+    if (count && end - begin < least) path.lineTo(begin + least, yOf(room[count * 6 - 1]));
   }
 
   dots(mark) {
@@ -97,12 +99,15 @@ class Chart {
     this.clock = clock;
     this.panels = page.panels.map((panel) => panel.map((one) => ({ ...one, scale: BigInt(one.scale), series: series[one.series] })));
     setDashes(this.panels);
-    this.resize(1);
+    canvas.parentElement.style.minHeight = `${Math.max(320, this.panels.length * PANEL + BOTTOM)}px`;
+    this.resize(false);
   }
 
-  // Takes over the size of the element and the colours of its style.
-  resize(least) {
-    const ratio = Math.max(window.devicePixelRatio || 1, least);
+  // Takes over the size of the element and the colours of its style. On paper it is drawn finer, and on one canvas: the upper one would
+  // cover the lower.
+  resize(paper) {
+    this.paper = paper;
+    const ratio = Math.max(window.devicePixelRatio || 1, paper ? 2 : 1);
     const { clientWidth, clientHeight } = this.canvas;
     for (const canvas of [this.canvas, this.overlay]) {
       canvas.width = Math.round(clientWidth * ratio);
@@ -255,7 +260,7 @@ class Chart {
       context.fill();
       return;
     }
-    traced.line(context, yOf);
+    traced.line(context, yOf, SEEN * ratio);
     this.setLine(context, one, traced.count);
     context.stroke();
     context.setLineDash([]);
@@ -271,23 +276,26 @@ class Chart {
     context.setLineDash(corners > 1500 ? [] : dash.map((length) => length * ratio));
   }
 
-  // The episodes of a band. None is narrower than a pixel; those within one are joined.
+  // The episodes of a band. None is narrower than two pixels; what is nearer is joined.
   drawBand(context, one, area, view, episodes, selected) {
     const { ratio } = this;
     const its = episodes.of(one.series.number);
     const from = Number(view.anchor - episodes.base) + view.lo;
     const first = Math.max(0, lastWhere(its.count, (at) => its.ends[at] <= from) + 1);
-    context.beginPath();
+    const bands = [];
     for (let at = first, until = -Infinity; at < its.count; at++) {
-      const x0 = (its.starts[at] - from) * view.scale, x1 = Math.max(x0 + ratio, (its.ends[at] - from) * view.scale);
+      const x0 = (its.starts[at] - from) * view.scale, x1 = Math.max(x0 + 2 * ratio, (its.ends[at] - from) * view.scale);
       if (x0 > view.width) break;
       if (x1 <= until) continue;
       const begin = Math.max(x0, until, -2);
       until = x1;
-      context.rect(this.left + begin, area.top, Math.min(x1, view.width + 2) - begin, area.height);
+      bands.push([this.left + begin, Math.min(x1, view.width + 2) - begin]);
     }
     context.fillStyle = this.filling(context, one);
-    context.fill();
+    for (const [x, width] of bands) context.fillRect(x, area.top, width, area.height);
+    // A strip in the full colour shows also what is short.
+    context.fillStyle = this.colourOf(one);
+    for (const [x, width] of bands) context.fillRect(x, area.top, width, 4 * ratio);
     if (selected !== null && selected.series === one.series.number) {
       const x0 = (selected.start - from) * view.scale, x1 = Math.max(x0 + ratio, (selected.end - from) * view.scale);
       context.strokeStyle = this.colours("--text");
@@ -389,8 +397,8 @@ class Chart {
 
   // Draws the cursor, and on it the values that are under it.
   drawCursor(tick, rows) {
-    const context = this.overlay.getContext("2d");
-    context.clearRect(0, 0, this.overlay.width, this.overlay.height);
+    const context = (this.paper ? this.canvas : this.overlay).getContext("2d");
+    if (!this.paper) context.clearRect(0, 0, this.overlay.width, this.overlay.height);
     if (tick === null || !this.places) return;
     const { ratio, view } = this;
     const xOf = (tick) => this.left + (Number(tick - view.anchor) - view.lo) * view.scale;

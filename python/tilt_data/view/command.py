@@ -9,7 +9,7 @@ import json
 from typing import IO, Any, Iterable, Iterator
 
 from ..axis import STEPS, changes
-from ..clock import TIMES, Clock, zone_of
+from ..clock import TIMES, Clock, duration_of, zone_of
 from ..drawn import Drawn, add_drawn, clock_of, copy_pipes, joined, met, numbers_of, panels_of, printable
 from ..drawn import stretch_given, stretch_of, widened, zone_name_of
 from ..errors import Refused
@@ -56,6 +56,7 @@ class Passing:
 def add(commands: Any) -> None:
     parser = commands.add_parser("view", help="a page to look around in: zoom, episodes, exact values", description=HELP)
     add_drawn(parser)
+    parser.add_argument("--gap", metavar="DURATION", help="stretches of a band no farther apart are one episode, as 30s")
     parser.add_argument("--out", metavar="FILE.html", required=True, help="the page")
     parser.set_defaults(main=main)
 
@@ -82,11 +83,12 @@ def write_page(file: IO[str], words: argparse.Namespace, panels: list[list[Drawn
     given = stretch_given(words, clock)
     before, after = asset("page.html").replace("{title}", html.escape(title)).split("{data}")
     file.write(before.replace("{style}", asset("page.css")))
+    gap = gap_of(words.gap, clock)
     written: dict[str, Written] = {}
     for one in (one for panel in panels for one in panel):
         if one.file not in written:
             is_band = any(other.form == "band" and other.file == one.file for panel in panels for other in panel)
-            written[one.file] = write_rows(file, one, len(written), given, is_band)
+            written[one.file] = write_rows(file, one, len(written), given, gap if is_band else None)
     extent = None
     for part in written.values():
         if part.extent is not None:
@@ -101,8 +103,8 @@ def element(name: str, text: str, kind: str = "text/plain") -> str:
     return f'<script type="{kind}" id="{name}">{text}</script>\n'
 
 
-def write_rows(file: IO[str], one: Drawn, number: int, given: tuple[int | None, int | None], is_band: bool) -> Written:
-    """Writes the rows of a file that meet the stretch, in blocks, and their summary."""
+def write_rows(file: IO[str], one: Drawn, number: int, given: tuple[int | None, int | None], gap: int | None) -> Written:
+    """Writes the rows of a file that meet the stretch, in blocks, and their summary. Its episodes are needed if there is a gap."""
     rows = Passing(shown(one.rows(), "rows"))
     summary, episodes = Summary(), list[tuple[int, int]]()
     blocks: list[tuple[int, int, int]] = []
@@ -111,17 +113,26 @@ def write_rows(file: IO[str], one: Drawn, number: int, given: tuple[int | None, 
         file.write(element(f"rows-{number}-{len(blocks)}", block.text()))
         blocks.append((len(block.starts), block.starts[0], block.values[0]))
         summary.take(block)
-        if is_band:
-            add_episodes(episodes, block)
+        if gap is not None:
+            add_episodes(episodes, block, gap)
     if blocks:
         file.write(element(f"summary-{number}", summary.text()))
     return Written(fields_of(blocks, summary), rows.extent, episodes)
 
 
-def add_episodes(episodes: list[tuple[int, int]], block: Block) -> None:
-    """Adds the stretches of a block that have a value other than 0; one that goes on from the block before is one with it."""
-    for start, end in joined(zip(block.starts, block.ends, block.values), 0):
-        if episodes and episodes[-1][1] == start:
+def gap_of(text: str | None, clock: Clock | None) -> int:
+    """How many ticks may be between two stretches of one episode."""
+    if text is None:
+        return 0
+    if clock is None:
+        raise Refused(f"--gap {text}: no file has a clock: --like SERIES names one")
+    return clock.ticks(duration_of(text), "--gap")
+
+
+def add_episodes(episodes: list[tuple[int, int]], block: Block, gap: int) -> None:
+    """Adds the stretches of a block that have a value other than 0; one that is near enough to the last of the block before is one with it."""
+    for start, end in joined(zip(block.starts, block.ends, block.values), gap):
+        if episodes and start - episodes[-1][1] <= gap:
             start = episodes.pop()[0]
         episodes.append((start, end))
 

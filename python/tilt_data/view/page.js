@@ -162,18 +162,17 @@ class Page {
     for (const one of this.shown) this.fillValue(one, rows.get(one));
   }
 
-  // The row of a series that holds in the tick that starts at a place; of events the nearest one within a few pixels.
+  // The row of a series that holds in the tick that starts at a place; of dots, else the nearest one within a few pixels.
   async rowAt(one, tick) {
     const { series } = one;
     const place = await series.placeAt(tick);
-    if (one.form !== "dots") {
-      const row = place && (await series.row(place));
-      return row && tick < row.end ? row : null;
-    }
+    const row = place && (await series.row(place));
+    if (row && tick < row.end) return row;
+    if (one.form !== "dots") return null;
     const near = [];
     for (const step of [0, 1]) {
-      const row = place ? await series.row([place[0], place[1] + step]) : series.count && step ? await series.row([0, 0]) : null;
-      if (row) near.push([Math.abs(Number(row.start - tick)), row]);
+      const other = place ? await series.row([place[0], place[1] + step]) : series.count && step ? await series.row([0, 0]) : null;
+      if (other) near.push([Math.abs(Number(other.start - tick)), other]);
     }
     near.sort(([one], [other]) => one - other);
     const room = Math.max(1, (6 * this.chart.ratio) / (this.chart.view ? this.chart.view.scale : 1));
@@ -285,8 +284,16 @@ class Page {
       link.closest("tr").toggleAttribute("aria-current", false);
       if (!current) continue;
       link.closest("tr").setAttribute("aria-current", "true");
-      link.closest("tr").scrollIntoView({ block: "nearest" });
+      this.scrollTo(link.closest("tr"));
     }
+  }
+
+  // Scrolls the table alone, so that a row is seen.
+  scrollTo(row) {
+    const table = document.querySelector("#episodes .scrolled"), head = table.querySelector("thead").offsetHeight;
+    const top = row.offsetTop - table.querySelector("table").offsetTop;
+    if (top - head < table.scrollTop) table.scrollTop = top - head;
+    else if (top + row.offsetHeight > table.scrollTop + table.clientHeight) table.scrollTop = top + row.offsetHeight - table.clientHeight;
   }
 
   goTo(number) {
@@ -296,6 +303,7 @@ class Page {
     const [from, to] = this.stretchOf(one);
     this.show(from, 0, Number(to - from));
     this.setCursor(one.start);
+    document.querySelector(".charts").scrollIntoView({ block: "nearest" });
     this.say(`Episode ${number + 1} of ${this.episodes.all.length}: from ${this.timeText(one.start)} to ${this.timeText(one.end)}`);
   }
 
@@ -363,15 +371,15 @@ class Page {
     });
     addEventListener("hashchange", () => this.goToAddress());
     this.listenToPointers();
-    const resized = (least) => {
-      this.chart.resize(least);
+    const paper = matchMedia("print");
+    const resized = () => {
+      this.chart.resize(paper.matches);
       this.draw();
     };
-    new ResizeObserver(() => resized(1)).observe(this.canvas);
-    matchMedia("(prefers-color-scheme: dark)").addEventListener("change", () => resized(1));
-    matchMedia("print").addEventListener("change", (event) => resized(event.matches ? 2 : 1));
-    addEventListener("beforeprint", () => resized(2));
-    addEventListener("afterprint", () => resized(1));
+    new ResizeObserver(resized).observe(this.canvas);
+    paper.addEventListener("change", resized);
+    matchMedia("(prefers-color-scheme: dark)").addEventListener("change", resized);
+    addEventListener("afterprint", resized);
   }
 
   moveInTable(from, by) {
