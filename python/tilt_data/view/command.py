@@ -19,10 +19,10 @@ from ..version import VERSION
 from .coding import Block, Summary, blocks_of, fields_of
 
 HELP = """Writes a page, one HTML file, to look around in series and outputs by mouse, touch or keyboard. It needs no network and no server.
-NAME=FILE has a panel of its own, and after it +NAME=FILE is drawn into the same panel, +limit:NAME=FILE as a dashed line, and +band:NAME=FILE
-as a shaded band where FILE has a value other than 0. Each stretch of a band is in a table of episodes, from which you go to it. The values
-under the pointer are exact. The clock and the scale are those of the JSON file beside each file, or of the series that --like names; if
-there is neither, the axis has ticks. One FILE can be - for standard input."""
+NAME=FILE has a panel of its own, and after it +NAME=FILE is drawn into the same panel, +limit:NAME=FILE as a dashed line, and
++band:NAME=FILE as a shaded band where FILE has a value other than 0. Each stretch of a band is in a table of episodes, from which you go
+to it. The values under the pointer are exact. The clock and the scale are those of the JSON file beside each file, or of the series that
+--like names; if there is neither, the axis has ticks. One FILE can be - for standard input."""
 # The scripts of the page, in order.
 SCRIPTS = ["numbers.js", "axis.js", "series.js", "chart.js", "page.js"]
 
@@ -130,7 +130,7 @@ def gap_of(text: str | None, clock: Clock | None) -> int:
 
 
 def add_episodes(episodes: list[tuple[int, int]], block: Block, gap: int) -> None:
-    """Adds the stretches of a block that have a value other than 0; one that is near enough to the last of the block before is one with it."""
+    """Adds the stretches of a block that have a value other than 0. One near enough to the last of the block before goes on with it."""
     for start, end in joined(zip(block.starts, block.ends, block.values), gap):
         if episodes and start - episodes[-1][1] <= gap:
             start = episodes.pop()[0]
