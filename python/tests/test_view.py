@@ -435,39 +435,55 @@ def test_64_bits_are_shown_exactly(told, browser):
     assert browser.errors == []
 
 
-def test_decimals_and_marks_are_those_of_python(told, browser):
-    begin, end = local("Europe/Zurich", 2026, 1, 1), local("Europe/Zurich", 2027, 1, 1)
-    pathlib.Path("x.csv").write_text(f"start,end,value\n0,{end - begin},1\n")
-    zone = zoneinfo.ZoneInfo("Europe/Zurich")
+def test_decimals_are_those_of_python(recording, browser):
+    draws = random.Random(5)
+    values = [0, 1, -1, LEAST, GREATEST, *(draws.randrange(-(10**6), 10**6) for _ in range(30))]
+    asked = [(draws.choice(values), draws.choice([1, 10, 1000, 3, 7, 60, 128, 10**19])) for _ in range(200)]
+    pairs = json.dumps([[str(one), str(scale)] for one, scale in asked])
+    texts = browser.value(f"{pairs}.map((pair) => window.tiltView.decimalText(...pair.map(BigInt)))")
+    assert texts == [decimal_text(*pair) for pair in asked]
+
+
+@pytest.mark.parametrize(
+    "zone, year, days",
+    [
+        ("Europe/Zurich", 2026, [(3, 29), (10, 25), (6, 10)]),
+        # A midnight that is left out, and one that is there twice.
+        ("America/Sao_Paulo", 2018, [(11, 4)]),
+        ("America/Havana", 2026, [(11, 1)]),
+    ],
+)
+def test_marks_of_time_are_those_of_a_picture(told, browser, zone, year, days):
+    begin, end = local(zone, year, 1, 1), local(zone, year + 1, 1, 1)
     clock = Clock(10**9, begin * 10**9)
-    pathlib.Path("x.json").write_text(Notes(clock, 10, zone=zone.key).text())
+    pathlib.Path("x.csv").write_text(f"start,end,value\n0,{end - begin},1\n")
+    pathlib.Path("x.json").write_text(Notes(clock, 10, zone=zone).text())
     assert told("view", "x=x.csv", "--out", "v.html") == (0, "", "")
     opened(browser)
-    draws = random.Random(5)
-    asked = [
-        (
-            draws.choice([0, 1, -1, LEAST, GREATEST, draws.randrange(-(10**6), 10**6)]),
-            draws.choice([1, 10, 1000, 3, 7, 60, 128, 10**19]),
-        )
-        for _ in range(200)
-    ]
-    texts = browser.value(
-        f"{json.dumps([[str(one), str(scale)] for one, scale in asked])}.map((pair) => window.tiltView.decimalText(...pair.map(BigInt)))"
-    )
-    assert texts == [decimal_text(*pair) for pair in asked]
     stretches = [(0, end - begin)]
-    for month, day in ((3, 29), (10, 25), (6, 10)):
-        middle = local(zone.key, 2026, month, day, 2) - begin
-        stretches += [(middle - span, middle + span + 1) for span in (3, 50, 700, 7200, 40000, 200000, 2000000)]
+    for month, day in days:
+        middle = local(zone, year, month, day, 2) - begin
+        stretches += [(middle - span, middle + span + 1) for span in (3, 50, 700, 7200, 40000, 200000, 300000, 2000000)]
     marks = browser.value(
         f"""{json.dumps(stretches)}.map(([lo, hi]) => {{
           const {{ clock }} = window.tiltView.page, {{ marks, label }} = clock.axis(clock.moment(BigInt(lo)), clock.moment(BigInt(hi)), 9);
-          return [marks.map((one) => Number((one.moment - clock.moment(BigInt(lo))) / clock.tick)), marks.map((one) => one.text), label];
+          return [marks.map((one) => Number(one.moment - clock.moment(BigInt(lo))) / Number(clock.tick)), marks.map((one) => one.text), label];
         }})"""
     )
     for (lo, hi), found in zip(stretches, marks):
-        places, shown, label = axis_of(clock, lo, hi, zone, zone.key)
-        assert (found[0], found[1], found[2]) == ([int(place) for place in places], shown, label), (lo, hi)
+        assert found == list(axis_of(clock, lo, hi, zoneinfo.ZoneInfo(zone), zone)), (lo, hi)
+
+
+def test_rows_at_the_edge_of_a_block_are_found(recording, browser):
+    values = {start: value for start, _, value in recording}
+    for tick in (0, BLOCK - 1, BLOCK, BLOCK + 1, 2 * BLOCK, 149999, 160000, 199999):
+        opened(browser, place=f"#from={tick - 50}&to={tick + 50}&at={tick}")
+        assert shown_values(browser)[0][1] == decimal_text(values[tick], 10)
+    opened(browser, place=f"#from={BLOCK - 50}&to={BLOCK + 50}&at={BLOCK - 1}")
+    for key, tick in (("ArrowRight", BLOCK), ("ArrowLeft", BLOCK - 1)):
+        browser.press(key, shift=True)
+        assert shown_values(browser)[0][1] == decimal_text(values[tick], 10)
+        assert browser.value("String(window.tiltView.page.cursor)") == str(tick)
 
 
 def test_dark_light_narrow_and_print(recording, browser, tmp_path):
