@@ -117,6 +117,19 @@ def fields_in(path: str = "v.html") -> dict[str, Any]:
     return fields
 
 
+def episodes_in(number: int, path: str = "v.html") -> list[tuple[int, int]]:
+    """The episodes of a series in a page."""
+    count, start = fields_in(path)["series"][number]["episodes"]
+    text = re.search(f'<script type="text/plain" id="episodes-{number}">(.*?)</script>', pathlib.Path(path).read_text())
+    assert text is not None
+    time, found = int(start), []
+    for gap, length in zip(*unpacked(text[1], 2)):
+        found.append((time + gap, time + gap + length))
+        time += gap + length
+    assert len(found) == count
+    return found
+
+
 def test_what_is_in_a_page(told):
     put("temp", "0,600,205\n600,1200,213\n1200,1800,\n1800,2400,220\n")
     put("trade", "30,31,200\n1500,1501,210\n", "event")
@@ -142,7 +155,7 @@ def test_what_is_in_a_page(told):
         [("trade", "dots", "", "10", 2), ("alarm", "band", "", "10", 1)],
     ]
     # Rows that touch are one episode, and 0 is none.
-    assert fields["episodes"] == [[1, "600", "1200"], [1, "2000", "2400"]]
+    assert episodes_in(1) == [(600, 1200), (2000, 2400)] and fields["series"][0]["episodes"] is None
     assert pathlib.Path("v.html").read_bytes() == pathlib.Path("w.html").read_bytes()
     assert not [name for name in os.listdir() if name.startswith(".")]
 
@@ -161,15 +174,17 @@ def test_episodes_of_several_blocks_are_joined(told):
     put("alarm", "".join(f"{start},{end},{value}\n" for start, end, value in rows))
     assert told("view", "band:alarm=alarm.csv", "--out", "v.html") == (0, "", "")
     edges = [0, *(edge for at in range(5000, len(rows), 10000) for edge in (at, at + 1)), len(rows)]
-    wanted = [[0, str(start), str(end)] for start, end in zip(edges[::2], edges[1::2])]
-    assert fields_in()["episodes"] == wanted and [block[0] for block in fields_in()["series"][0]["blocks"]] == [BLOCK, 20000]
+    assert episodes_in(0) == list(zip(edges[::2], edges[1::2])) and [block[0] for block in fields_in()["series"][0]["blocks"]] == [
+        BLOCK,
+        20000,
+    ]
 
 
 def test_stretches_no_farther_apart_than_the_gap_are_one_episode(told):
     put("alarm", "0,10,1\n40,50,1\n50,60,0\n81,90,1\n")
     for words, wanted in (([], [(0, 10), (40, 50), (81, 90)]), (["--gap", "30s"], [(0, 50), (81, 90)]), (["--gap", "31s"], [(0, 90)])):
         assert told("view", "band:alarm=alarm.csv", *words, "--out", "v.html") == (0, "", "")
-        assert fields_in()["episodes"] == [[0, str(start), str(end)] for start, end in wanted]
+        assert episodes_in(0) == wanted
 
 
 def test_a_stretch_has_the_whole_rows_that_meet_it(told):
@@ -413,6 +428,36 @@ def test_a_place_is_in_the_address(recording, browser):
     # What isn't a place changes nothing.
     opened(browser, place="#from=9x&to=%3Cb%3E&at=-")
     assert edges(browser) == (0, 200000)
+
+
+def test_episodes_of_several_bands_are_in_order_and_by_pages(told, browser):
+    far = 3 * 10**18
+    stretches = {
+        "one": [(far + 100 * at, far + 100 * at + 30) for at in range(300)],
+        "two": [(far + 150 * at + 50, far + 150 * at + 60) for at in range(200)],
+    }
+    for name, its in stretches.items():
+        pathlib.Path(f"{name}.csv").write_text("start,end,value\n" + "".join(f"{start},{end},1\n" for start, end in its))
+    assert told("view", "x=one.csv", "+band:one=one.csv", "+band:two=two.csv", "--out", "v.html") == (0, "", "")
+    opened(browser)
+    wanted = sorted(((start, end, name) for name, its in stretches.items() for start, end in its), key=lambda one: (one[0], one[2]))
+    listed = "Array.from(document.querySelectorAll('#episodes tbody tr'), (row) => Array.from(row.cells, (cell) => cell.textContent))"
+    found = []
+    for _ in range(3):
+        found += browser.value(listed)
+        browser.value("document.getElementById('later').click()")
+    assert browser.value("document.getElementById('later').disabled") is True
+    assert found == [[str(at), name, str(start), str(end), str(end - start)] for at, (start, end, name) in enumerate(wanted, 1)]
+    # The next episode after the place in view, on a page of the table that isn't shown.
+    opened(browser, place=f"#from={far + 15001}&to={far + 15100}")
+    browser.press("n")
+    number = next(at for at, (start, _, _) in enumerate(wanted) if start >= far + 15001)
+    browser.value(WAIT)
+    current = "document.querySelector('#episodes tr[aria-current] td').textContent"
+    assert browser.value(current) == str(number + 1) and browser.value("String(window.tiltView.page.cursor)") == str(wanted[number][0])
+    browser.press("p")
+    browser.press("p")
+    assert browser.value(current) == str(number - 1) and browser.errors == []
 
 
 EXACT = [9007199254740993, 9007199254740992, LEAST, GREATEST, 0, -1, 1234567890123456789]

@@ -3,6 +3,8 @@
 const TOP = 24, GAP = 14, BOTTOM = 40, RIGHT = 14, MARKS = 9;
 // How wide a line and how high a panel is at least, in pixels.
 const SEEN = 2.5, PANEL = 110;
+// So many dots have marks of their own, and a line of so many corners has no dashes: they couldn't be told.
+const MANY = 400, CORNERS = 1500;
 // Lines and dots of different names differ by their dashes and their marks too, and bands by their hatching.
 const DASHES = [[], [7, 3], [2, 3], [9, 3, 2, 3], [14, 4], [4, 2, 1, 2]];
 
@@ -254,9 +256,14 @@ class Chart {
     const { ratio } = this;
     context.beginPath();
     if (one.form === "dots") {
-      const size = (traced.count > 400 ? 1.4 : 2.6) * ratio;
-      traced.dots((x, value) => markAt(context, one.number, x, yOf(value), size));
       context.fillStyle = this.colourOf(one);
+      if (traced.count > MANY) {
+        // Many marks are small squares: one path of them all takes seconds.
+        const size = 2.4 * ratio;
+        traced.dots((x, value) => context.fillRect(x - size / 2, yOf(value) - size / 2, size, size));
+        return;
+      }
+      traced.dots((x, value) => markAt(context, one.number, x, yOf(value), 2.6 * ratio));
       context.fill();
       return;
     }
@@ -266,14 +273,13 @@ class Chart {
     context.setLineDash([]);
   }
 
-  // Dashes can't be told in a line with thousands of corners, and take long.
   setLine(context, one, corners) {
     const { ratio } = this;
     context.strokeStyle = this.colourOf(one);
     context.lineWidth = (one.form === "limit" ? 1.6 : one.dash ? 2 : 1.2) * ratio;
     context.lineJoin = "bevel";
     const dash = one.form === "limit" ? [6, 4] : DASHES[one.dash % 6];
-    context.setLineDash(corners > 1500 ? [] : dash.map((length) => length * ratio));
+    context.setLineDash(corners > CORNERS ? [] : dash.map((length) => length * ratio));
   }
 
   // The episodes of a band. None is narrower than two pixels; what is nearer is joined.
@@ -283,19 +289,17 @@ class Chart {
     const from = Number(view.anchor - episodes.base) + view.lo;
     const first = Math.max(0, lastWhere(its.count, (at) => its.ends[at] <= from) + 1);
     const bands = [];
-    for (let at = first, until = -Infinity; at < its.count; at++) {
+    for (let at = first, last = null; at < its.count; at++) {
       const x0 = (its.starts[at] - from) * view.scale, x1 = Math.max(x0 + 2 * ratio, (its.ends[at] - from) * view.scale);
       if (x0 > view.width) break;
-      if (x1 <= until) continue;
-      const begin = Math.max(x0, until, -2);
-      until = x1;
-      bands.push([this.left + begin, Math.min(x1, view.width + 2) - begin]);
+      if (last !== null && x0 <= last.end) last.end = Math.max(last.end, Math.min(x1, view.width + EDGE));
+      else bands.push((last = { start: Math.max(x0, -EDGE), end: Math.min(x1, view.width + EDGE) }));
     }
     context.fillStyle = this.filling(context, one);
-    for (const [x, width] of bands) context.fillRect(x, area.top, width, area.height);
+    for (const { start, end } of bands) context.fillRect(this.left + start, area.top, end - start, area.height);
     // A strip in the full colour shows also what is short.
     context.fillStyle = this.colourOf(one);
-    for (const [x, width] of bands) context.fillRect(x, area.top, width, 4 * ratio);
+    for (const { start, end } of bands) context.fillRect(this.left + start, area.top, end - start, 4 * ratio);
     if (selected !== null && selected.series === one.series.number) {
       const x0 = (selected.start - from) * view.scale, x1 = Math.max(x0 + ratio, (selected.end - from) * view.scale);
       context.strokeStyle = this.colours("--text");

@@ -42,6 +42,11 @@ def as_array(column: Sequence[int]) -> array.array[int]:
     return found
 
 
+def times_of(starts: Sequence[int], ends: Sequence[int]) -> tuple[list[int], list[int]]:
+    """Of each stretch how far it starts after the end of the one before, and its length."""
+    return [0, *map(operator.sub, starts[1:], ends)], list(map(operator.sub, ends, starts))
+
+
 @dataclasses.dataclass
 class Block:
     """Some rows of a series in order, as columns."""
@@ -52,9 +57,7 @@ class Block:
 
     def text(self) -> str:
         """Of each row how far it starts after the end of the one before, its length, and by how much its value is more."""
-        gaps = [0, *map(operator.sub, self.starts[1:], self.ends)]
-        changes = [0, *map(operator.sub, self.values[1:], self.values)]
-        return packed([gaps, list(map(operator.sub, self.ends, self.starts)), changes])
+        return packed([*times_of(self.starts, self.ends), [0, *map(operator.sub, self.values[1:], self.values)]])
 
     def buckets(self) -> Iterator[tuple[int, int]]:
         """Where the buckets of the block begin and end: none has more than BUCKET rows, and long rows and gaps are between two."""
@@ -101,10 +104,17 @@ class Summary:
     def text(self) -> str:
         """Of each bucket how far it starts after the one before, its length, its rows, how far its first value is above the last one before
         it, by how much its least and its greatest value differ from its first, and by how much the last is more than that."""
-        gaps = [0, *map(operator.sub, self.starts[1:], self.ends)]
-        lengths = list(map(operator.sub, self.ends, self.starts))
         changes = [0, *map(operator.sub, self.firsts[1:], self.lasts)]
-        return packed([gaps, lengths, self.counts, changes, self.below, self.above, list(map(operator.sub, self.lasts, self.firsts))])
+        return packed(
+            [
+                *times_of(self.starts, self.ends),
+                self.counts,
+                changes,
+                self.below,
+                self.above,
+                list(map(operator.sub, self.lasts, self.firsts)),
+            ]
+        )
 
 
 def blocks_of(rows: Iterable[Plain]) -> Iterator[Block]:
@@ -114,8 +124,13 @@ def blocks_of(rows: Iterable[Plain]) -> Iterator[Block]:
         yield Block(starts, ends, values)
 
 
-def fields_of(blocks: list[tuple[int, int, int]], summary: Summary) -> dict[str, Any]:
-    """What the page is told of a series beside its texts: of each block its rows, first start and first value; and its least value. Numbers
-    that JavaScript doesn't read exactly are texts."""
+def fields_of(blocks: list[tuple[int, int, int]], summary: Summary, episodes: list[tuple[int, int]]) -> dict[str, Any]:
+    """What the page has to know of a series beside its texts: of each block its rows, first start and first value; its least value; and of
+    its episodes, if it has any, how many there are and the first start. Numbers that JavaScript doesn't read exactly are texts."""
     least = min(map(operator.sub, summary.firsts, summary.below), default=0)
-    return {"rows": sum(summary.counts), "base": str(least), "blocks": [[rows, str(start), str(value)] for rows, start, value in blocks]}
+    return {
+        "rows": sum(summary.counts),
+        "base": str(least),
+        "blocks": [[rows, str(start), str(value)] for rows, start, value in blocks],
+        "episodes": [len(episodes), str(episodes[0][0])] if episodes else None,
+    }

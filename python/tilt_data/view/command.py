@@ -16,7 +16,7 @@ from ..errors import Refused
 from ..files import Row, scratch, writing
 from ..progress import shown
 from ..version import VERSION
-from .coding import Block, Summary, blocks_of, fields_of
+from .coding import Block, Summary, blocks_of, fields_of, packed, times_of
 
 HELP = """Writes a page, one HTML file, to look around in series and outputs by mouse, touch or keyboard. It needs no network and no server.
 NAME=FILE has a panel of its own, and after it +NAME=FILE is drawn into the same panel, +limit:NAME=FILE as a dashed line, and
@@ -29,11 +29,10 @@ SCRIPTS = ["numbers.js", "axis.js", "series.js", "chart.js", "page.js"]
 
 @dataclasses.dataclass
 class Written:
-    """A file that is in the page: its fields there, the extent of its rows, and its episodes, if it is drawn as a band."""
+    """A file that is in the page: its fields there, and the extent of its rows."""
 
     fields: dict[str, Any]
     extent: tuple[int, int] | None
-    episodes: list[tuple[int, int]]
 
 
 class Passing:
@@ -117,7 +116,9 @@ def write_rows(file: IO[str], one: Drawn, number: int, given: tuple[int | None, 
             add_episodes(episodes, block, gap)
     if blocks:
         file.write(element(f"summary-{number}", summary.text()))
-    return Written(fields_of(blocks, summary), rows.extent, episodes)
+    if episodes:
+        file.write(element(f"episodes-{number}", packed(times_of(*zip(*episodes)))))
+    return Written(fields_of(blocks, summary, episodes), rows.extent)
 
 
 def gap_of(text: str | None, clock: Clock | None) -> int:
@@ -165,7 +166,6 @@ def fields_of_page(
             ]
             for panel in panels
         ],
-        "episodes": [[places[name], str(start), str(end)] for name, part in written.items() for start, end in part.episodes],
     }
 
 

@@ -2,22 +2,46 @@
 
 const FAR = 2 ** 45, LEAST_SPAN = 3, ROWS = 200, READINGS = 60;
 
-// The episodes: in the table in the order of their starts, and of each series as numbers that are drawn.
+// The episodes: of each series in order, and of all together in the order of their starts.
 class Episodes {
-  constructor(fields, base) {
+  constructor(lists, base) {
     this.base = base;
-    this.all = fields.map(([series, start, end]) => ({ series, start: BigInt(start), end: BigInt(end) }));
-    this.all.sort((one, other) => (one.start < other.start ? -1 : one.start > other.start ? 1 : one.series - other.series));
-    this.bySeries = new Map();
-    for (const series of new Set(this.all.map((one) => one.series))) {
-      const its = this.all.filter((one) => one.series === series);
-      const numbers = (name) => Float64Array.from(its, (one) => Number(one[name] - base));
-      this.bySeries.set(series, { count: its.length, starts: numbers("start"), ends: numbers("end") });
-    }
+    this.lists = lists.map(([series, starts, ends]) => {
+      const numbers = (times) => {
+        const [offsets, shift] = times.from(base);
+        return shift ? offsets.map((offset) => offset + shift) : offsets;
+      };
+      return { series, exactStarts: starts, exactEnds: ends, starts: numbers(starts), ends: numbers(ends), count: numbers(starts).length };
+    });
+    this.count = this.lists.reduce((sum, { count }) => sum + count, 0);
+    this.order = this.lists.length > 1 ? this.merged() : null;
+  }
+
+  static async open(fields, base) {
+    const lists = fields.map((one, series) => ({ ...one, series })).filter((one) => one.episodes);
+    const found = lists.map(async ({ series, episodes: [, start] }) => {
+      const [gaps, lengths] = await columnsIn(`episodes-${series}`, 2);
+      return [series, ...timesOf(BigInt(start), gaps, lengths)];
+    });
+    return new Episodes(await Promise.all(found), base);
+  }
+
+  // The list and the place in it of each episode.
+  merged() {
+    const order = [];
+    this.lists.forEach((list) => {
+      for (let at = 0; at < list.count; at++) order.push([list, at]);
+    });
+    return order.sort(([one, at], [other, place]) => one.starts[at] - other.starts[place] || one.series - other.series);
+  }
+
+  at(number) {
+    const [list, at] = this.order ? this.order[number] : [this.lists[0], number];
+    return { series: list.series, start: list.exactStarts.at(at), end: list.exactEnds.at(at) };
   }
 
   of(series) {
-    return this.bySeries.get(series) || { count: 0 };
+    return this.lists.find((list) => list.series === series) || { count: 0 };
   }
 }
 
@@ -27,7 +51,8 @@ class Page {
     this.hi = BigInt(fields.hi);
     this.clock = fields.clock && new Clock(fields.clock, fields.steps);
     this.series = fields.series.map((one, number) => new Series(one, number, this.lo, () => this.redraw()));
-    this.episodes = new Episodes(fields.episodes, this.lo);
+    this.fields = fields;
+    this.episodes = new Episodes([], this.lo);
     this.canvas = document.getElementById("chart");
     this.chart = new Chart(this.canvas, document.getElementById("overlay"), fields, this.series, this.clock);
     this.shown = [];
@@ -43,7 +68,7 @@ class Page {
   }
 
   async open() {
-    await Promise.all(this.series.map((one) => one.open()));
+    [this.episodes] = await Promise.all([Episodes.open(this.fields.series, this.lo), ...this.series.map((one) => one.open())]);
     this.makeValues();
     this.fillEpisodes();
     this.goToAddress();
@@ -64,7 +89,7 @@ class Page {
 
   draw() {
     const { selected, episodes } = this;
-    const picked = selected === null ? null : episodes.all[selected];
+    const picked = selected === null ? null : episodes.at(selected);
     const place = picked && { series: picked.series, start: Number(picked.start - this.lo), end: Number(picked.end - this.lo) };
     this.chart.draw(this.view, episodes, place);
     this.chart.drawCursor(this.cursor, this.rows);
@@ -122,8 +147,8 @@ class Page {
     const [from, to, at] = ["from", "to", "at"].map(number);
     if (from !== null && to !== null && from < to) this.show(from, 0, Number(to - from));
     if (at !== null) {
-      const found = this.episodes.all.findIndex((one) => one.start === at);
-      this.select(found < 0 ? null : found);
+      const found = lastWhere(this.episodes.count, (number) => this.episodes.at(number).start <= at);
+      this.select(found >= 0 && this.episodes.at(found).start === at ? found : null);
       this.setCursor(at);
     }
   }
@@ -218,20 +243,20 @@ class Page {
   // The episodes.
 
   fillEpisodes() {
-    const { all } = this.episodes;
+    const { episodes } = this, { count } = episodes;
     const body = document.querySelector("#episodes tbody");
     const bands = new Map(this.chart.panels.flat().filter((one) => one.form === "band").map((one) => [one.series.number, one]));
     const several = bands.size > 1;
     document.getElementById("band").hidden = !several;
-    document.getElementById("episodes").hidden = !all.length;
-    for (const button of document.querySelectorAll("button.episode")) button.hidden = !all.length;
+    document.getElementById("episodes").hidden = !count;
+    for (const button of document.querySelectorAll("button.episode")) button.hidden = !count;
     const title = bands.size === 1 ? `Episodes of ${bands.values().next().value.name}` : "Episodes";
-    document.getElementById("listed").textContent = `${title}: ${all.length.toLocaleString("en")}`;
+    document.getElementById("listed").textContent = `${title}: ${count.toLocaleString("en")}`;
     if (this.clock) document.getElementById("length").textContent = "Length";
-    const end = Math.min(all.length, this.firstRow + ROWS);
+    const end = Math.min(count, this.firstRow + ROWS);
     body.replaceChildren();
     for (let at = this.firstRow; at < end; at++) {
-      const one = all[at], row = body.insertRow();
+      const one = episodes.at(at), row = body.insertRow();
       const band = bands.get(one.series);
       const link = document.createElement("a");
       const [from, to] = this.stretchOf(one);
@@ -248,10 +273,10 @@ class Page {
       length.className = "number";
       if (at === this.selected) row.setAttribute("aria-current", "true");
     }
-    document.querySelector(".pages").hidden = all.length <= ROWS;
+    document.querySelector(".pages").hidden = count <= ROWS;
     document.getElementById("which").textContent = `${this.firstRow + 1} to ${end}`;
     document.getElementById("earlier").disabled = this.firstRow === 0;
-    document.getElementById("later").disabled = end === all.length;
+    document.getElementById("later").disabled = end === count;
   }
 
   lengthText(ticks) {
@@ -297,26 +322,25 @@ class Page {
   }
 
   goTo(number) {
-    const one = this.episodes.all[number];
-    if (!one) return;
+    const one = this.episodes.at(number);
     this.select(number);
     const [from, to] = this.stretchOf(one);
     this.show(from, 0, Number(to - from));
     this.setCursor(one.start);
     document.querySelector(".charts").scrollIntoView({ block: "nearest" });
-    this.say(`Episode ${number + 1} of ${this.episodes.all.length}: from ${this.timeText(one.start)} to ${this.timeText(one.end)}`);
+    this.say(`Episode ${number + 1} of ${this.episodes.count}: from ${this.timeText(one.start)} to ${this.timeText(one.end)}`);
   }
 
   next(by) {
-    const { all } = this.episodes;
-    if (!all.length) return;
+    const { episodes } = this, { count } = episodes;
+    if (!count) return;
     if (this.selected !== null) {
-      this.goTo(Math.max(0, Math.min(all.length - 1, this.selected + by)));
+      this.goTo(Math.max(0, Math.min(count - 1, this.selected + by)));
       return;
     }
     const [from, to] = this.edges;
-    const found = by > 0 ? all.findIndex((one) => one.end > from) : lastWhere(all.length, (at) => all[at].start < to);
-    this.goTo(found < 0 ? 0 : found);
+    const found = by > 0 ? lastWhere(count, (at) => episodes.at(at).start < from) + 1 : lastWhere(count, (at) => episodes.at(at).start < to);
+    this.goTo(Math.max(0, Math.min(count - 1, found)));
   }
 
   // Keys and gestures.
