@@ -348,6 +348,32 @@ def test_the_wheel_zooms_at_the_pointer_and_dragging_moves(recording, browser):
     assert abs(edges(browser)[0] - (lo - 10000)) <= 300
 
 
+def test_one_finger_moves_and_two_zoom(recording, browser):
+    chart = chart_of(browser)
+
+    def touch(kind: str, *places: float) -> None:
+        points = [{"x": place, "y": chart["top"] + 20, "id": at} for at, place in enumerate(places)]
+        browser.call("Input.dispatchTouchEvent", type=kind, touchPoints=points)
+
+    browser.call("Emulation.setTouchEmulationEnabled", enabled=True, maxTouchPoints=2)
+    try:
+        middle, tenth = chart["left"] + chart["width"] / 2, chart["width"] / 10
+        touch("touchStart", middle - tenth, middle + tenth)
+        for step in range(1, 6):
+            touch("touchMove", middle - tenth * (1 + step / 5), middle + tenth * (1 + step / 5))
+        touch("touchEnd")
+        lo, hi = edges(browser)
+        # The fingers are twice as far from each other, around the middle.
+        assert abs(hi - lo - 100000) < 1500 and abs(lo - 50000) < 1500
+        touch("touchStart", middle)
+        for step in range(1, 6):
+            touch("touchMove", middle - tenth * step / 5)
+        touch("touchEnd")
+        assert abs(edges(browser)[0] - (lo + 10000)) < 1500 and edges(browser)[1] - edges(browser)[0] <= hi - lo + 1
+    finally:
+        browser.call("Emulation.setTouchEmulationEnabled", enabled=False)
+
+
 def test_values_under_the_pointer_are_those_of_the_file(recording, browser):
     draws, values = random.Random(7), {start: value for start, _, value in recording}
     chart = chart_of(browser)

@@ -444,12 +444,13 @@ class Page {
     }
   }
 
-  // One finger or the mouse moves the view, and two fingers zoom it too.
+  // One finger or the mouse moves the view, and two fingers zoom it too: what was between them stays there. It is zoomed first, since the
+  // whole can't be moved.
   follow(before, after, shareOf) {
     const middle = (places) => places.reduce((sum, place) => sum + place, 0) / places.length;
-    this.pan((-(middle(after) - middle(before)) * this.chart.ratio) / this.chart.width);
     const wide = (places) => Math.max(8, Math.abs(places[0] - places[1]));
-    if (before.length > 1) this.zoom(wide(before) / wide(after), Math.max(0, Math.min(1, shareOf(middle(after)))));
+    if (before.length > 1) this.zoom(wide(before) / wide(after), Math.max(0, Math.min(1, shareOf(middle(before)))));
+    this.pan((-(middle(after) - middle(before)) * this.chart.ratio) / this.chart.width);
   }
 
   // Points at a place of the chart.
