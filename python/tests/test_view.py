@@ -261,7 +261,7 @@ def chart_of(browser: Any) -> dict[str, float]:
 
 def shown_values(browser: Any) -> list[list[str]]:
     """The table of values, once it is filled."""
-    browser.value(WAIT)
+    browser.value("window.tiltView.page.reading")
     rows = "Array.from(document.querySelectorAll('#values tbody tr'), (row) => Array.from(row.cells, (cell) => cell.textContent))"
     found: list[list[str]] = browser.value(rows)
     return found

@@ -138,7 +138,11 @@ class Page {
     const [from, to] = this.edges;
     const at = this.cursor === null ? "" : `&at=${this.cursor}`;
     const place = from <= this.lo && to >= this.hi && !at ? location.pathname + location.search : addressOf(from, to) + at;
-    history.replaceState(null, "", place);
+    try {
+      history.replaceState(null, "", place);
+    } catch {
+      // A page within another one may have no address of its own.
+    }
   }
 
   goToAddress() {
@@ -167,8 +171,13 @@ class Page {
     }
   }
 
-  async setCursor(tick) {
+  // Puts the cursor to a place. `reading` is a promise that the values there are shown.
+  setCursor(tick) {
     this.cursor = tick;
+    return (this.reading = this.showValues(tick));
+  }
+
+  async showValues(tick) {
     if (tick === null) {
       this.rows = null;
       this.chart.drawCursor(null);
@@ -347,7 +356,7 @@ class Page {
 
   press(key, shift) {
     const steps = { ArrowLeft: -1, ArrowRight: 1 };
-    if (key in steps && shift) this.step(steps[key]);
+    if (key in steps && shift) this.reading = this.step(steps[key]);
     else if (key in steps) this.pan(steps[key] * 0.15);
     else if (key === "PageUp" || key === "PageDown") this.pan(key === "PageUp" ? -0.9 : 0.9);
     else if (key === "+" || key === "=") this.zoomHere(0.5);
