@@ -486,6 +486,30 @@ def test_episodes_of_several_bands_are_in_order_and_by_pages(told, browser):
     assert browser.value(current) == str(number - 1) and browser.errors == []
 
 
+@pytest.mark.parametrize(
+    "rows, words, shown",
+    [
+        ("", ["x=x.csv"], "no value"),
+        ("", ["band:x=x.csv"], "no value"),
+        ("5,6,7\n", ["x=x.csv"], "7"),
+        ("5,6,7\n", ["dots:x=x.csv"], "7"),
+        ("5,6,7\n", ["band:x=x.csv"], "7"),
+        ("5,900,7\n900,901,\n950,999,7\n", ["limit:x=x.csv"], "7"),
+        ("-4000000000000000000,4000000000000000000,7\n", ["x=x.csv"], "7"),
+    ],
+)
+def test_small_and_odd_series_are_drawn(told, browser, rows, words, shown):
+    pathlib.Path("x.csv").write_text("start,end,value\n" + rows)
+    assert told("view", *words, "--out", "v.html") == (0, "", "")
+    opened(browser, place=f"#at={rows.partition(',')[0] or 0}")
+    assert shown_values(browser)[0][1] == shown
+    for key in ("+", "+", "ArrowLeft", "-", "n", "p", "Home", "Escape"):
+        browser.press(key)
+    browser.press("ArrowRight", shift=True)
+    browser.value(WAIT)
+    assert browser.errors == []
+
+
 EXACT = [9007199254740993, 9007199254740992, LEAST, GREATEST, 0, -1, 1234567890123456789]
 
 
