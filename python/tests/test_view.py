@@ -572,9 +572,11 @@ def test_marks_of_time_are_those_of_a_picture(told, browser, zone, year, days):
 def test_rows_at_the_edge_of_a_block_are_found(recording, browser):
     values = {start: value for start, _, value in recording}
     for tick in (0, BLOCK - 1, BLOCK, BLOCK + 1, 2 * BLOCK, 149999, 160000, 199999):
-        opened(browser, place=f"#from={tick - 50}&to={tick + 50}&at={tick}")
+        browser.value(f"location.hash = 'from={tick - 50}&to={tick + 50}&at={tick}'")
+        browser.value(WAIT)
         assert shown_values(browser)[0][1] == decimal_text(values[tick], 10)
-    opened(browser, place=f"#from={BLOCK - 50}&to={BLOCK + 50}&at={BLOCK - 1}")
+    browser.value(f"location.hash = 'from={BLOCK - 50}&to={BLOCK + 50}&at={BLOCK - 1}'")
+    browser.value(WAIT)
     for key, tick in (("ArrowRight", BLOCK), ("ArrowLeft", BLOCK - 1)):
         browser.press(key, shift=True)
         assert shown_values(browser)[0][1] == decimal_text(values[tick], 10)

@@ -71,7 +71,7 @@ class Page {
     [this.episodes] = await Promise.all([Episodes.open(this.fields.series, this.lo), ...this.series.map((one) => one.open())]);
     this.makeValues();
     this.fillEpisodes();
-    this.goToAddress();
+    this.goToPlace(location.hash);
     this.listen();
     this.draw();
   }
@@ -145,8 +145,9 @@ class Page {
     }
   }
 
-  goToAddress() {
-    const words = new URLSearchParams(location.hash.slice(1));
+  // Goes to the place that an address names.
+  goToPlace(hash) {
+    const words = new URLSearchParams(hash.slice(1));
     const number = (name) => (/^-?\d{1,20}$/.test(words.get(name) || "") ? BigInt(words.get(name)) : null);
     const [from, to, at] = ["from", "to", "at"].map(number);
     if (from !== null && to !== null && from < to) this.show(from, 0, Number(to - from));
@@ -402,7 +403,8 @@ class Page {
       event.preventDefault();
       this.goTo(Number(row.querySelector("a").dataset.episode));
     });
-    addEventListener("hashchange", () => this.goToAddress());
+    // The address may have been noted anew since.
+    addEventListener("hashchange", (event) => this.goToPlace(new URL(event.newURL).hash));
     this.listenToPointers();
     const paper = matchMedia("print");
     const resized = () => {
