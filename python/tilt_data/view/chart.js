@@ -8,18 +8,21 @@ const MANY = 400, CORNERS = 1500;
 // Lines and dots of different names differ by their dashes and their marks too, and bands by their hatching.
 const DASHES = [[], [7, 3], [2, 3], [9, 3, 2, 3], [14, 4], [4, 2, 1, 2]];
 
+// How many numbers there are of each extent: from, to, the first, least, greatest and last value, and how many rows it has.
+const STRIDE = 7;
+
 // What is drawn of one series, joined by pixel: a line has a point for each extent, and breaks at gaps of more than a pixel.
 class Traced {
   constructor() {
-    this.room = new Float64Array(6 * 4096);
+    this.room = new Float64Array(STRIDE * 4096);
     this.count = 0;
     this.least = Infinity;
     this.greatest = -Infinity;
   }
 
-  take(x0, x1, first, least, greatest, last) {
+  take(x0, x1, first, least, greatest, last, rows) {
     let room = this.room;
-    const before = (this.count - 1) * 6;
+    const before = (this.count - 1) * STRIDE;
     this.least = Math.min(this.least, least);
     this.greatest = Math.max(this.greatest, greatest);
     if (this.count && x1 - x0 <= 1 && x0 - room[before + 1] <= 1 && x1 - room[before] <= 1) {
@@ -27,30 +30,32 @@ class Traced {
       room[before + 3] = Math.min(room[before + 3], least);
       room[before + 4] = Math.max(room[before + 4], greatest);
       room[before + 5] = last;
+      room[before + 6] += rows;
       return;
     }
-    if ((this.count + 1) * 6 > room.length) {
+    if ((this.count + 1) * STRIDE > room.length) {
       this.room = new Float64Array(room.length * 2);
       this.room.set(room);
       room = this.room;
     }
-    const at = this.count++ * 6;
+    const at = this.count++ * STRIDE;
     room[at] = x0;
     room[at + 1] = x1;
     room[at + 2] = first;
     room[at + 3] = least;
     room[at + 4] = greatest;
     room[at + 5] = last;
+    room[at + 6] = rows;
   }
 
   // The path of the steps. A stretch that is too narrow to be seen is drawn wider.
   line(path, yOf, least) {
     const { room, count } = this;
     let begin = 0, end = 0;
-    for (let at = 0; at < count * 6; at += 6) {
+    for (let at = 0; at < count * STRIDE; at += STRIDE) {
       const x0 = room[at], x1 = room[at + 1];
       if (at === 0 || x0 - end > 1) {
-        if (at && end - begin < least) path.lineTo(begin + least, yOf(room[at - 1]));
+        if (at && end - begin < least) path.lineTo(begin + least, yOf(room[at - STRIDE + 5]));
         path.moveTo(x0, yOf(room[at + 2]));
         begin = x0;
       } else {
@@ -64,12 +69,18 @@ class Traced {
       path.lineTo(x1, yOf(room[at + 5]));
       end = x1;
     }
-    if (count && end - begin < least) path.lineTo(begin + least, yOf(room[count * 6 - 1]));
+    if (count && end - begin < least) path.lineTo(begin + least, yOf(room[(count - 1) * STRIDE + 5]));
+  }
+
+  // Hands over the range of values of each place that has more rows than dots.
+  ranges(mark) {
+    const { room, count } = this;
+    for (let at = 0; at < count * STRIDE; at += STRIDE) if (room[at + 6] > 4) mark(room[at], room[at + 3], room[at + 4]);
   }
 
   dots(mark) {
     const { room, count } = this;
-    for (let at = 0; at < count * 6; at += 6) {
+    for (let at = 0; at < count * STRIDE; at += STRIDE) {
       const values = new Set([room[at + 2], room[at + 3], room[at + 4], room[at + 5]]);
       for (const value of values) mark(room[at], value);
     }
@@ -260,6 +271,9 @@ class Chart {
       if (traced.count > MANY) {
         // Many marks are small squares: one path of them all takes seconds.
         const size = 2.4 * ratio;
+        context.globalAlpha = 0.35;
+        traced.ranges((x, least, greatest) => context.fillRect(x - ratio / 2, yOf(greatest), ratio, yOf(least) - yOf(greatest)));
+        context.globalAlpha = 1;
         traced.dots((x, value) => context.fillRect(x - size / 2, yOf(value) - size / 2, size, size));
         return;
       }

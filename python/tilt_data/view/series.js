@@ -67,8 +67,8 @@ class Series {
     return { start: data.starts.at(at), end: data.ends.at(at), value: data.values.at(at) };
   }
 
-  // Hands to `take` what is drawn of the series in a view: extents in pixels from its left, and first, least, greatest and last offsets from
-  // the base. What is wider than a pixel is a row, or a bucket whose rows aren't unpacked yet.
+  // Hands to `take` what is drawn of the series in a view: extents in pixels from its left, first, least, greatest and last offsets from the
+  // base, and how many rows that are. What is wider than a pixel is a row, or a bucket whose rows aren't unpacked yet.
   walk(view, take) {
     if (this.levels.length) {
       const top = this.levels.length - 1;
@@ -94,7 +94,8 @@ class Series {
   }
 
   takeBucket(view, level, at, x0, x1, take) {
-    take(Math.max(x0, -EDGE), Math.min(x1, view.width + EDGE), level.first[at], level.least[at], level.greatest[at], level.last[at]);
+    const [left, right] = [Math.max(x0, -EDGE), Math.min(x1, view.width + EDGE)];
+    take(left, right, level.first[at], level.least[at], level.greatest[at], level.last[at], level.count[at]);
   }
 
   walkRows(view, data, first, count, take) {
@@ -104,7 +105,7 @@ class Series {
       const x0 = (starts[at] + shift - view.lo) * view.scale, x1 = (ends[at] + endShift - view.lo) * view.scale;
       if (x1 < 0 || x0 > view.width) continue;
       const value = values[at] + add;
-      take(Math.max(x0, -EDGE), Math.min(x1, view.width + EDGE), value, value, value, value);
+      take(Math.max(x0, -EDGE), Math.min(x1, view.width + EDGE), value, value, value, value, 1);
     }
   }
 }
@@ -170,6 +171,7 @@ function groupedLevel(lower) {
     for (let one = from; one < end; one++) {
       level.least[at] = Math.min(level.least[at], lower.least[one]);
       level.greatest[at] = Math.max(level.greatest[at], lower.greatest[one]);
+      level.count[at] += lower.count[one];
     }
   }
   return level;
