@@ -6,7 +6,7 @@ import os
 import pathlib
 import subprocess
 import sys
-from typing import Callable
+from typing import Callable, Iterator
 
 import pytest
 
@@ -15,13 +15,14 @@ TOP = PYTHON.parent
 PROGRAM = pathlib.Path(os.environ.get("TILT", TOP / "crates" / "tilt" / "out" / "tilt"))
 sys.path[:0] = [str(PYTHON), str(TOP / "tools")]
 
+from shared.browser import Browser, browser_path
 from tilt_data.cli import main
 
 
 def pytest_collection_modifyitems(items: list[pytest.Item]) -> None:
-    """A test that is handed the program has the mark `program`."""
+    """A test that is handed the program, or a browser, has the mark `program`."""
     for item in items:
-        if "tilt" in getattr(item, "fixturenames", ()):
+        if {"tilt", "browser"} & set(getattr(item, "fixturenames", ())):
             item.add_marker("program")
 
 
@@ -31,6 +32,15 @@ def tilt() -> str:
     if not os.access(PROGRAM, os.X_OK):
         pytest.skip("the program isn't built")
     return str(PROGRAM)
+
+
+@pytest.fixture(scope="session")
+def browser() -> Iterator[Browser]:
+    """A browser, without a window; a test that needs it is left out if none is installed."""
+    if browser_path() is None:
+        pytest.skip("no browser is installed: apt-get install chromium")
+    with Browser() as opened:
+        yield opened
 
 
 @pytest.fixture

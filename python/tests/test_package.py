@@ -94,6 +94,11 @@ def test_from_a_raw_file_to_a_table(root, tmp_path):
     assert out == (folder / "expected/desaturation.csv").read_text()
 
 
+def test_a_page_to_look_around_in_is_written(root, tmp_path):
+    called(root, "tilt-data", "view", f"x={TOP}/examples/first/x.csv", "--out", str(tmp_path / "page.html"), folder=root)
+    assert "</html>" in (tmp_path / "page.html").read_text()
+
+
 def test_tilt_is_an_alternative(root):
     if os.geteuid() != 0:
         pytest.skip("only root installs by dpkg")
@@ -286,6 +291,7 @@ def test_the_way_of_the_page_installs_by_pip_without_a_network(tilt, tmp_path):
         ["venv/bin/pip", *shlex.split(arguments), "--no-index"],
         ["venv/bin/python", "-c", asked],
         ["venv/bin/python", "-c", "import tilt_data, matplotlib; assert tilt_data.__file__.startswith(__import__('sys').prefix)"],
+        ["venv/bin/tilt-data", "view", f"x={first}/x.csv", "--out", "page.html"],
         ["venv/bin/tilt-data", "run", str(first / "query.tilt"), f"x={first}/x.csv"],
     ):
         done = subprocess.run(words, cwd=tmp_path, env=environment, capture_output=True, text=True)

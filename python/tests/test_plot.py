@@ -12,10 +12,12 @@ import xml.etree.ElementTree
 import zoneinfo
 
 import pytest
+from tilt_data.axis import axis_of
 from tilt_data.clock import Clock
+from tilt_data.drawn import Drawn, clipped, joined, numbers_of, thinned
 from tilt_data.errors import Refused
 from tilt_data.files import Notes
-from tilt_data.plot import BAND, LIMIT, Drawn, axis_of, bands, clipped, colours_of, joined, steps, thinned
+from tilt_data.plot import BAND, COLOURS, LIMIT, bands, steps
 
 MINUTE = 60 * 10**9
 
@@ -53,7 +55,7 @@ def test_thinned_rows_are_one_line_and_a_gap_stays_one():
     hour, day = 3600, 12 * 86400
     rows = [(at, at + 1, draws.randrange(80, 100)) for at in range(0, day, 6)]
     rows = [(start, start + 6, value) for start, _, value in rows if not day // 2 <= start < day // 2 + 2 * hour]
-    kept = list(thinned(rows, 0, day))
+    kept = list(thinned(rows, 0, day, 1800))
     assert len(kept) < len(rows) / 10
     times, values = steps(kept, 1, 0, day / 750)
     breaks = [at for at, value in enumerate(values) if value != value]
@@ -243,8 +245,8 @@ def test_one_name_has_one_colour_in_all_panels():
         return Drawn(name, f"{name}.csv", form, None, 1)
 
     panels = [[drawn("band", "band"), drawn("x"), drawn("limit", "limit")], [drawn("y", "dots"), drawn("x")], [drawn("z"), drawn("y")]]
-    colours = colours_of(panels)
-    assert sorted(colours) == [("x", True), ("y", True), ("z", True)] and len({*colours.values(), LIMIT, BAND}) == 5
+    assert numbers_of(panels) == {"x": 0, "y": 1, "z": 2}
+    assert len({*COLOURS, LIMIT, BAND}) == len(COLOURS) + 2
 
 
 def test_a_picture_without_a_clock_has_ticks(told):

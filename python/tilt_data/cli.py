@@ -11,11 +11,11 @@ import threading
 import traceback
 from typing import Iterator
 
-from . import by, follow, plot, scaling, series, table, ticks, why
+from . import by, follow, plot, scaling, series, table, ticks, view, why
 from .errors import Refused, printable
 from .version import ShowVersion
 
-COMMANDS = [series, table, why, ticks, by, scaling, follow, plot]
+COMMANDS = [series, table, why, ticks, by, scaling, follow, plot, view]
 
 
 def parser_of() -> argparse.ArgumentParser:

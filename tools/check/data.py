@@ -6,8 +6,8 @@ no program, and builds none; `with-program` runs the others. Which these are, py
 
 Packages of Debian that the tests and the pages need are installed by `apt-get` if they are missing, if this user may. Tests whose own
 package can't be had, and all of them if pytest can't be, are printed as left out, and never counted as passed. If the user is root and
-`apt-get` is there, a package that is missing all the same is a failure. The last line is 'N passed, M failed', and the status is 1 if one
-failed."""
+`apt-get` is there, a package that is missing all the same is a failure, except the browser, which not each system has. The last line is
+'N passed, M failed', and the status is 1 if one failed."""
 from __future__ import annotations
 
 import argparse
@@ -34,6 +34,8 @@ MODULES = {
     "python3-distributed": "distributed",
 }
 PROGRAMS = {"mosquitto": "mosquitto", "mosquitto-clients": "mosquitto_pub", "m4": "m4"}
+# Only the tests that `with-program` runs use it.
+BROWSER = {"chromium": "chromium"}
 # The tests that a word chooses, as pytest's option -m says it.
 CHOSEN = {"without-program": "not program", "with-program": "program"}
 NO_PROGRAM = os.path.join(os.sep, "there", "is", "no", "program")
@@ -41,7 +43,7 @@ NOT_BUILT = "the program isn't built"
 
 
 def is_there(package: str) -> bool:
-    return has_module(MODULES[package]) if package in MODULES else has_program(PROGRAMS[package])
+    return has_module(MODULES[package]) if package in MODULES else has_program({**PROGRAMS, **BROWSER}[package])
 
 
 def missing() -> list[str]:
@@ -103,7 +105,7 @@ def main(arguments: list[str]) -> int:
         build_program()
         if not os.access(BUILT, os.X_OK):
             tally.expect(False, NOT_BUILT)
-    install(missing())
+    install(missing() + [package for package in BROWSER if which != "without-program" and not is_there(package)])
     if missing() and may_install():
         tally.expect(False, f"it couldn't be installed: {', '.join(missing())}")
     if not is_there("python3-pytest"):

@@ -12,7 +12,8 @@ LIMITS = {
     "crates/*/src/**/*.rt": 140,
     "crates/*/specs/**/*.antt": 200,
     "crates/*/proofs/**/*.antt": 200,
-    "python/tilt_data/*.py": 140,
+    "python/tilt_data/**/*.py": 140,
+    "python/tilt_data/**/*.js": 160,
     "tools/**/*.py": 140,
 }
 UNBROKEN = re.compile(r'(pub )?use |\s*b?"([^"\\]|\\.)*"[,;]?$')

@@ -1,0 +1,226 @@
+"""What `plot` and `view` draw: their arguments, the files in panels, the stretch of time, and rows as they are drawn."""
+from __future__ import annotations
+
+import argparse
+import dataclasses
+import os
+import re
+from typing import Iterable, Iterator, Mapping
+
+from .clock import TIMES, Clock, Moments, zone_of
+from .errors import Refused
+from .files import Notes, Row, notes_of, reading, rows_of, spooled
+
+WORD = re.compile(r"(\+?)(?:(band|limit|dots):)?([^=]+)=(.+)")
+# What no XML file can have, and what no font shows; a line end is allowed.
+UNPRINTABLE = re.compile("[\x00-\x09\x0b-\x1f\x7f-\x9f\ud800-\udfff\ufffe\uffff]")
+
+
+@dataclasses.dataclass
+class Drawn:
+    """What is drawn: a name, its file, how (`step`, `dots`, `limit`, `band`), its clock and scale, its unit, the SHA-256 that its JSON file
+    has, and the copy of the file if it is a pipe."""
+
+    name: str
+    file: str
+    form: str
+    notes: Notes | None
+    scale: int
+    unit: str = ""
+    sha256: str | None = None
+    copy: str | None = None
+
+    def rows(self) -> Iterator[Row]:
+        """The rows of the file. One that the program rejects, and a file that isn't the one of its JSON file, is a Refused."""
+        with reading(self.copy or self.file, self.file, self.sha256) as opened:
+            yield from rows_of(self.file, opened)
+
+
+def add_drawn(parser: argparse.ArgumentParser) -> None:
+    """The arguments that say what is drawn."""
+    parser.add_argument("words", nargs="+", metavar="[+][band:|limit:|dots:]NAME=FILE")
+    parser.add_argument("--from", dest="begin", metavar="TIME", help="ISO 8601, or a tick")
+    parser.add_argument("--to", dest="end", metavar="TIME")
+    parser.add_argument("--like", metavar="SERIES", help="the series whose clock and scale the files without a JSON file have")
+    parser.add_argument("--scale", action="append", metavar="[NAME=]N", default=[], help="values are divided by N")
+    parser.add_argument("--unit", action="append", metavar="NAME=TEXT", default=[], help="the unit of values, as temperature=°C")
+    parser.add_argument("--zone", help="the time zone of the axis")
+    parser.add_argument("--title")
+
+
+def panels_of(words: argparse.Namespace) -> list[list[Drawn]]:
+    like = None if words.like is None else notes_of(words.like)
+    units, scales = units_of(words.unit), scales_of(words.scale)
+    panels: list[list[Drawn]] = []
+    for word in words.words:
+        found = WORD.fullmatch(word)
+        if found is None or found[1] and not panels:
+            raise Refused(f"{word!r}: NAME=FILE was expected, and + only after a panel")
+        own = notes_of(found[4])
+        notes = own or like
+        scale = scales.get(found[3], scales.get("", notes.scale if notes is not None else 1))
+        # What isn't the series itself has its clock alone, and holds.
+        form = found[2] or ("dots" if own is not None and own.kind == "event" else "step")
+        sha256 = None if own is None else own.sha256
+        drawn = Drawn(printable(found[3]), found[4], form, notes, scale, units.get(found[3], ""), sha256)
+        if found[1]:
+            panels[-1].append(drawn)
+        else:
+            panels.append([drawn])
+    check_names(panels, {"--scale": scales, "--unit": units})
+    return panels
+
+
+def units_of(words: list[str]) -> dict[str, str]:
+    wrong = next((word for word in words if "=" not in word), None)
+    if wrong is not None:
+        raise Refused(f"--unit {wrong}: NAME=TEXT was expected, as temperature=°C")
+    return {name: printable(text) for name, text in (word.split("=", 1) for word in words)}
+
+
+def scales_of(words: list[str]) -> dict[str, int]:
+    """The scale of each name; that of all others has the empty name."""
+    scales = {}
+    for word in words:
+        name, _, text = word.rpartition("=")
+        if not re.fullmatch("0*[1-9][0-9]{0,18}", text, re.ASCII):
+            raise Refused(f"--scale {printable(word)}: a whole number above 0 was expected, or NAME=N")
+        scales[name] = int(text)
+    return scales
+
+
+def check_names(panels: list[list[Drawn]], given: Mapping[str, Iterable[str]]) -> None:
+    """Rejects options for a name that isn't drawn: they would change nothing."""
+    names = {one.name for panel in panels for one in panel}
+    for option, named in given.items():
+        for name in named:
+            if name and name not in names:
+                raise Refused(f"{option} {name}=..: nothing that is drawn has this name; there are: {', '.join(sorted(names))}")
+
+
+def printable(text: str) -> str:
+    """A text that a picture can have."""
+    if UNPRINTABLE.search(text):
+        raise Refused(f"{text!r}: a text without control characters was expected")
+    return text
+
+
+def copy_pipes(panels: list[list[Drawn]], folder: str) -> None:
+    """Copies standard input and other pipes to the folder: a file can be read more than once."""
+    copies: dict[str, str] = {}
+    for one in (one for panel in panels for one in panel):
+        if one.file not in copies:
+            place = os.path.join(folder, str(len(copies)))
+            os.mkdir(place)
+            copies[one.file] = spooled(one.file, place)
+        one.copy = copies[one.file]
+
+
+def clock_of(panels: list[list[Drawn]]) -> Clock | None:
+    """The one clock of all files, or None where none is known."""
+    clocks = [one.notes.clock for panel in panels for one in panel if one.notes is not None]
+    if len({(clock.tick, clock.origin) for clock in clocks}) > 1:
+        raise Refused("these files have other ticks or origins: they have no common axis")
+    return clocks[0] if clocks else None
+
+
+def zone_name_of(words: argparse.Namespace, panels: list[list[Drawn]]) -> str | None:
+    """The name of the axis's time zone, or None for UTC: that of --zone, else of the notes."""
+    notes = next((one.notes for panel in panels for one in panel if one.notes is not None), None)
+    return words.zone or (notes.zone if notes is not None else None)
+
+
+def numbers_of(panels: list[list[Drawn]]) -> dict[str, int]:
+    """A number for each name that is drawn as a line or as dots, from 0: a name has one style in all panels."""
+    numbers: dict[str, int] = {}
+    for one in (one for panel in panels for one in panel if one.form in ("step", "dots")):
+        numbers.setdefault(one.name, len(numbers))
+    return numbers
+
+
+def stretch_given(words: argparse.Namespace, clock: Clock | None) -> tuple[int | None, int | None]:
+    """The ticks of --from and --to; None for one that isn't given."""
+    lo, hi = (None if text is None else tick_of(text, clock, words.zone) for text in (words.begin, words.end))
+    return lo, hi
+
+
+def stretch_of(given: tuple[int | None, int | None], extent: tuple[int, int] | None) -> tuple[int, int]:
+    """The stretch of ticks that is drawn: what is given, else the extent of all rows."""
+    lo, hi = given
+    lo = (extent[0] if extent is not None else 0) if lo is None else lo
+    hi = (extent[1] if extent is not None else lo + 1) if hi is None else hi
+    if lo >= hi:
+        raise Refused("there is nothing between --from and --to")
+    return lo, hi
+
+
+def widened(extent: tuple[int, int] | None, start: int, end: int) -> tuple[int, int]:
+    """An extent that has a row besides."""
+    return (start, end) if extent is None else (min(extent[0], start), max(extent[1], end))
+
+
+def tick_of(text: str, clock: Clock | None, zone: str | None) -> int:
+    if re.fullmatch("-?[0-9]+", text):
+        if len(text) > 20 or not -TIMES <= int(text) <= TIMES:
+            raise Refused(f"{text[:40]}: a tick from {-TIMES} to {TIMES} was expected")
+        return int(text)
+    if clock is None:
+        raise Refused(f"{text!r} is no tick, and no file has a clock: --like SERIES names one")
+    try:
+        return clock.start(Moments(None, zone_of(zone)).iso(text)) + (clock.closed == "right")
+    except ValueError as error:
+        raise Refused(str(error)) from error
+
+
+def met(rows: Iterable[Row], lo: int, hi: int) -> Iterator[tuple[int, int, int]]:
+    """The rows with a value that have a tick in `(lo, hi]`."""
+    for start, end, value in rows:
+        if start >= hi:
+            return
+        if end > lo and value is not None:
+            yield start, end, value
+
+
+def clipped(rows: Iterable[Row], lo: int, hi: int) -> Iterator[tuple[int, int, int]]:
+    """The parts of rows with a value that lie in `(lo, hi]`."""
+    for start, end, value in met(rows, lo, hi):
+        yield max(start, lo), min(end, hi), value
+
+
+def thinned(rows: Iterable[tuple[int, int, int]], lo: int, hi: int, pixels: int) -> Iterator[tuple[int, int, int]]:
+    """The rows, where some lie within one pixel only the first, the least, the greatest and the last of them."""
+    span = hi - lo
+    held: list[tuple[int, int, int]] = []
+    column = None
+    for row in rows:
+        its = (row[0] - lo) * pixels // span
+        if its != column or (row[1] - 1 - lo) * pixels // span != its:
+            yield from outline(held)
+            held, column = [], its
+        held.append(row)
+        if len(held) > 4:
+            held = outline(held)
+    yield from outline(held)
+
+
+def outline(rows: list[tuple[int, int, int]]) -> list[tuple[int, int, int]]:
+    if len(rows) <= 4:
+        return rows
+    least, greatest = min(rows, key=lambda row: row[2]), max(rows, key=lambda row: row[2])
+    return sorted({rows[0], least, greatest, rows[-1]})
+
+
+def joined(rows: Iterable[tuple[int, int, int]], near: float) -> Iterator[tuple[int, int]]:
+    """Stretches with a value other than 0, as bands; those that lie nearer than so many ticks are one."""
+    held: tuple[int, int] | None = None
+    for start, end, value in rows:
+        if value == 0:
+            continue
+        if held is not None and start - held[1] <= near:
+            held = held[0], end
+        else:
+            if held is not None:
+                yield held
+            held = start, end
+    if held is not None:
+        yield held
