@@ -1,6 +1,6 @@
 -- Without options, a line does what the basic rule says.
 use Rattle.std.proofs.Common.{◌≡◌, ℕ, zero, suc, ℤ, Bool, true, false, if◌then◌else◌, int_lt, List, [], ◌∷◌, ◌++◌, map, Option, Some, None, option_map}
-use Rattle.std.proofs.Common.{refl, sym, ap, subst, ◌∙◌, append-nil}
+use Rattle.std.proofs.Common.{refl, ap, ◌∙◌, append-nil}
 use Rattle.std.specs.List.{AllByRecursion}
 use Rattle.tilt_feed.specs.Events.{update_fault}
 use Rattle.tilt_feed.specs.declared.edge.Edge.{Edge}
@@ -14,7 +14,7 @@ use Rattle.tilt_feed_line.specs.declared.line.Line.TheVariants as line
 use Rattle.tilt_watermarks.specs.Basic.{basic_edges, basic_events, basic_fault, edge_at, moved_at, raised_edge, raising_edges}
 use Rattle.tilt_watermarks.specs.Held.{Waiting, bare, due, known, moved, moved_all, rising}
 use Rattle.tilt_watermarks.specs.Laws.{IsFit, edges_of, no_options}
-use Rattle.tilt_watermarks.specs.Steps.{Kept, closed, events_at, fault_by, followed, handed_at, input_at, inputs_after, inputs_entered, is_ahead, is_overlap, line_fault, overlaps_at, raised, raising, rule_broken, taken}
+use Rattle.tilt_watermarks.specs.Steps.{Kept, closed, events_at, fault_by, followed, handed_at, input_at, inputs_entered, line_fault, overlaps_at, raised, raising, rule_broken, taken}
 use Rattle.tilt_watermarks.specs.declared.fault.TakeFault.TheVariants.{NotAllowed}
 
 -- an input that holds nothing

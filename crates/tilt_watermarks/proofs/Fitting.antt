@@ -1,6 +1,6 @@
 -- Updates that are allowed one after another from a watermark.
-use Rattle.std.proofs.Common.{◌≡◌, ◌≤◌, ◌<◌, ◌+◌, ℕ, zero, suc, ℤ, pos, ◌+ℤ◌, ◌≤ℤ◌, ◌<ℤ◌, Bool, true, false, ◌&&◌, not, if◌then◌else◌, int_lt, int_le, List, [], ◌∷◌, ◌++◌, length, take, drop, insert, slice_get, get_or, Option, Some, None, is_none}
-use Rattle.std.proofs.Common.{refl, sym, ap, subst, ◌∙◌, inl, inr, arith}
+use Rattle.std.proofs.Common.{◌≡◌, ◌≤◌, ◌<◌, ℕ, zero, suc, ℤ, ◌≤ℤ◌, ◌<ℤ◌, Bool, true, false, ◌&&◌, if◌then◌else◌, int_lt, int_le, List, [], ◌∷◌, ◌++◌, length, take, drop, insert, slice_get, get_or, Option, Some, None, is_none}
+use Rattle.std.proofs.Common.{refl, ap, subst, ◌∙◌, inl, inr, arith}
 use Rattle.std.proofs.Math.Bool.{and-true}
 use Rattle.std.specs.List.Sorted.{IsPartitionPoint, IsPartitionedBy}
 use Rattle.std.proofs.lemmas.Bool.{and_parts, cases_Bool}
@@ -9,7 +9,7 @@ use Rattle.std.proofs.lemmas.Option.{same_Some}
 use Rattle.tilt_base.proofs.Comparisons.{lt_true}
 use Rattle.tilt_base.specs.declared.limits.TheConstants.{T}
 use Rattle.tilt_feed.proofs.Updates.{allowed-of, step-of, time-high}
-use Rattle.tilt_feed.specs.Events.{comes_at, continues, has_ticks, in_range, is_time, update_fault, watermark_after}
+use Rattle.tilt_feed.specs.Events.{comes_at, continues, has_ticks, in_range, update_fault, watermark_after}
 use Rattle.tilt_feed.specs.declared.edge.Edge.{Edge}
 use Rattle.tilt_feed.specs.declared.fault.EventFault.{EventFault}
 use Rattle.tilt_feed.specs.declared.update.Update.{Update}

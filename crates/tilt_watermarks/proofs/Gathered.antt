@@ -1,19 +1,17 @@
 -- The rows and values of an input among all events, line by line.
-use Rattle.std.proofs.Common.{◌≡◌, ◌≤◌, ◌<◌, ◌+◌, ℕ, zero, suc, ℤ, ◌≤ℤ◌, Bool, true, false, not, if◌then◌else◌, int_lt, List, [], ◌∷◌, ◌++◌, length, map, replicate, Option, Some, None, is_none, ◌==◌}
+use Rattle.std.proofs.Common.{◌≡◌, ◌<◌, ◌+◌, ℕ, zero, suc, ℤ, Bool, true, false, if◌then◌else◌, List, [], ◌∷◌, ◌++◌, length, map, replicate, Option, Some, None, is_none, ◌==◌}
 use Rattle.std.proofs.Common.{refl, sym, ap, subst, ◌∙◌, inl, inr, arith, append_assoc, append-nil}
-use Rattle.std.proofs.lemmas.Bool.{cases_Bool, eq-eqb, eqb-true, ne_eqb, not-false}
-use Rattle.std.proofs.lemmas.Int.{ints}
+use Rattle.std.proofs.lemmas.Bool.{cases_Bool, eq-eqb, eqb-true, ne_eqb}
 use Rattle.std.specs.List.{AllByRecursion}
 use Rattle.tilt_feed.specs.Events.{is_time, update_fault}
 use Rattle.tilt_feed.specs.Feed.{Feed}
-use Rattle.tilt_feed.specs.declared.edge.Edge.{Edge}
 use Rattle.tilt_feed.specs.declared.event.Event.{Event}
 use Rattle.tilt_feed.specs.declared.event.Event.TheVariants as event
 use Rattle.tilt_feed.specs.declared.update.Update.{Update}
 use Rattle.tilt_feed_line.specs.declared.line.Line.{Line}
 use Rattle.tilt_feed_line.specs.declared.line.Line.TheVariants as line
 use Rattle.tilt_watermarks.proofs.Fitting.{next-start}
-use Rattle.tilt_watermarks.proofs.Going.{Allowed, IsEnd, handed-allowed}
+use Rattle.tilt_watermarks.proofs.Going.{IsEnd, handed-allowed}
 use Rattle.tilt_watermarks.proofs.Near.{length-after, length-once, length-raised}
 use Rattle.tilt_watermarks.proofs.Sorted.{IsSorted, below-more, known-sorted, pieces-append, with-after, with-pieces}
 use Rattle.tilt_watermarks.proofs.Stepping.{Keeps, all-rule, followed-steps, idle-time, no-end, some-time, stepped-steps}
@@ -21,7 +19,7 @@ use Rattle.tilt_watermarks.proofs.Taking.{no-rule, rule-open}
 use Rattle.tilt_watermarks.proofs.Turning.{entered-allowed}
 use Rattle.tilt_watermarks.specs.Held.{Waiting, entered, given_by, known, left, turned, with_update}
 use Rattle.tilt_watermarks.specs.Laws.{IsFit, gathered, pieces, stepped, stepped_all, updates_of, with_line}
-use Rattle.tilt_watermarks.specs.Steps.{Kept, Step, closed, events_at, followed, handed_at, idle_tick, input_at, inputs_entered, judged_by, line_fault, overlaps, overlaps_at, raise, raised, raising, taken, unknown}
+use Rattle.tilt_watermarks.specs.Steps.{Kept, closed, events_at, followed, handed_at, idle_tick, input_at, inputs_entered, judged_by, line_fault, overlaps, overlaps_at, raise, raised, raising, taken, unknown}
 use Rattle.tilt_watermarks.specs.declared.fault.TakeFault.{TakeFault}
 use Rattle.tilt_watermarks.specs.declared.options.Options.{Options}
 

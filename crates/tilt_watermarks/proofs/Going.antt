@@ -1,7 +1,7 @@
 -- Events that a feed takes, one after another: the turns of inputs.
-use Rattle.std.proofs.Common.{◌≡◌, ◌≤◌, ◌+◌, ℕ, zero, suc, ℤ, ◌≤ℤ◌, Bool, true, false, if◌then◌else◌, int_lt, List, [], ◌∷◌, ◌++◌, length, map, Option, Some, None, is_none}
+use Rattle.std.proofs.Common.{◌≡◌, ◌≤◌, ℕ, zero, suc, ℤ, ◌≤ℤ◌, Bool, true, false, if◌then◌else◌, int_lt, List, [], ◌∷◌, ◌++◌, length, map, Option, Some, None, is_none}
 use Rattle.std.specs.Prelude.{⊤}
-use Rattle.std.proofs.Common.{refl, sym, ap, subst, ◌∙◌, inl, inr, arith, append_assoc, append-nil, length-append}
+use Rattle.std.proofs.Common.{refl, sym, ap, subst, ◌∙◌, inl, inr, arith, append_assoc, length-append}
 use Rattle.std.proofs.lemmas.Bool.{cases_Bool}
 use Rattle.std.proofs.lemmas.Int.{ints}
 use Rattle.std.specs.List.{AllByRecursion}
@@ -15,7 +15,7 @@ use Rattle.tilt_feed.specs.declared.event.Event.TheVariants as event
 use Rattle.tilt_feed.specs.declared.fault.EventFault.{EventFault}
 use Rattle.tilt_feed.specs.declared.update.Update.{Update}
 use Rattle.tilt_feed.specs.declared.update.Update.TheVariants.{KnownUpTo}
-use Rattle.tilt_watermarks.proofs.Fitting.{fits-parts, moved-append, next-allowed}
+use Rattle.tilt_watermarks.proofs.Fitting.{fits-parts, next-allowed}
 use Rattle.tilt_watermarks.specs.Held.{Waiting, due, fits, is_due, known, moved, moved_all, rising}
 use Rattle.tilt_watermarks.specs.Laws.{AreAllowed, IsFit}
 use Rattle.tilt_watermarks.specs.Steps.{closed, events_at, raised, raising}

@@ -1,11 +1,11 @@
 -- Inputs by their numbers, and how many updates they hold.
-use Rattle.std.proofs.Common.{◌≡◌, ◌≤◌, ◌<◌, ◌+◌, ℕ, zero, suc, ℤ, Bool, true, false, List, [], ◌∷◌, ◌++◌, length, map, replicate, take, drop, get_or, slice_get, slice_set, Option, Some, None}
+use Rattle.std.proofs.Common.{◌≡◌, ◌≤◌, ◌<◌, ◌+◌, ℕ, zero, suc, ℤ, false, List, [], ◌∷◌, ◌++◌, length, map, replicate, take, drop, get_or, slice_get, slice_set, Option, Some, None}
 use Rattle.std.proofs.Common.{refl, sym, ap, subst, ◌∙◌, arith, append_assoc, append-nil, drop-cons}
 use Rattle.std.proofs.lemmas.Option.{same_Some}
 use Rattle.tilt_feed.specs.declared.event.Event.{Event}
 use Rattle.tilt_feed.specs.declared.update.Update.{Update}
 use Rattle.tilt_watermarks.specs.Held.{Waiting, entered, known, turned}
-use Rattle.tilt_watermarks.specs.Steps.{closed, events_at, handed_at, held_count, input_at, inputs_entered, overlaps, overlaps_at, raised, raising, unknown}
+use Rattle.tilt_watermarks.specs.Steps.{closed, events_at, handed_at, held_count, input_at, inputs_entered, overlaps, overlaps_at, raising, unknown}
 
 -- the input with a number, and none
 pub input-at : (inputs : List Waiting) (number : ℕ) (input : Waiting) → slice_get inputs number ≡ Some input → input_at inputs number ≡ input

@@ -1,22 +1,19 @@
 -- Under lateness, the rows and values of an input come out in order of their starts.
-use Rattle.std.proofs.Common.{◌≡◌, ◌≤◌, ◌<◌, ◌+◌, ℕ, zero, suc, ℤ, ◌≤ℤ◌, Bool, true, false, if◌then◌else◌, int_lt, List, [], ◌∷◌, ◌++◌, length, map, replicate, Option, Some, None, is_none}
+use Rattle.std.proofs.Common.{◌≡◌, ℤ, ◌≤ℤ◌, Bool, true, false, if◌then◌else◌, int_lt, List, [], ◌∷◌, ◌++◌, Option, Some, None}
 use Rattle.std.specs.Prelude.{⊤}
 use Rattle.std.proofs.Common.{refl, sym, ap, subst, ◌∙◌, inl, inr, arith, append_assoc, append-nil}
-use Rattle.std.proofs.lemmas.Bool.{cases_Bool, not-false}
-use Rattle.std.proofs.lemmas.Int.{ints, clamps}
+use Rattle.std.proofs.lemmas.Bool.{cases_Bool}
+use Rattle.std.proofs.lemmas.Int.{ints}
 use Rattle.std.specs.List.{AllByRecursion}
-use Rattle.tilt_feed.proofs.Updates.{allowed-of, step-of}
-use Rattle.tilt_feed.specs.Events.{update_fault, watermark_after}
+use Rattle.tilt_feed.proofs.Updates.{allowed-of}
 use Rattle.tilt_feed.specs.declared.edge.Edge.{Edge}
-use Rattle.tilt_feed.specs.declared.event.Event.{Event}
-use Rattle.tilt_feed.specs.declared.event.Event.TheVariants as event
 use Rattle.tilt_feed.specs.declared.update.Update.{Update}
 use Rattle.tilt_feed.specs.declared.update.Update.TheVariants.{Row, Value, NoValue, KnownUpTo}
 use Rattle.tilt_watermarks.proofs.Fitting.{due-all, start-after}
 use Rattle.tilt_watermarks.proofs.Going.{Allowed, allowed-rise}
 use Rattle.tilt_watermarks.specs.Held.{Waiting, due, inserted, is_due, known, left, moved, moved_all, rising, start_of, with_update}
-use Rattle.tilt_watermarks.specs.Laws.{pieces, updates_of}
-use Rattle.tilt_watermarks.specs.Steps.{events_at, raised, raising}
+use Rattle.tilt_watermarks.specs.Laws.{pieces}
+use Rattle.tilt_watermarks.specs.Steps.{raised}
 
 -- rows and values: all but "known up to"
 abbrev pub IsPiece : Update → Type 0

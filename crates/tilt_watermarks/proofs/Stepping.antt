@@ -1,13 +1,13 @@
 -- What lines do to a feed, by the events that they hand on.
 use Rattle.std.proofs.Common.{◌≡◌, ◌≤◌, ◌+◌, ℕ, zero, suc, ℤ, ◌≤ℤ◌, Bool, true, false, if◌then◌else◌, List, [], ◌∷◌, ◌++◌, length, map, replicate, Option, Some, None, is_none}
-use Rattle.std.proofs.Common.{refl, sym, ap, subst, ◌∙◌, arith, append-nil, length-append}
+use Rattle.std.proofs.Common.{refl, sym, ap, subst, ◌∙◌, arith, length-append}
 use Rattle.std.proofs.lemmas.Int.{ints, clamps}
 use Rattle.std.proofs.lemmas.Option.{same_Some}
 use Rattle.std.specs.List.{AllByRecursion}
 use Rattle.std.specs.Option.{ForSome}
 use Rattle.tilt_base.specs.declared.limits.TheConstants.{T}
 use Rattle.tilt_feed.proofs.Updates.{time-high}
-use Rattle.tilt_feed.specs.Events.{changed_by, edge_of, finished_input, is_time, update_fault, watermark_after}
+use Rattle.tilt_feed.specs.Events.{changed_by, is_time, update_fault}
 use Rattle.tilt_feed.specs.Feed.{Feed, InputFeed, empty_feed, unknown_input}
 use Rattle.tilt_feed.specs.declared.edge.Edge.{Edge}
 use Rattle.tilt_feed.specs.declared.event.Event.{Event}
@@ -16,12 +16,12 @@ use Rattle.tilt_feed.specs.declared.fault.EventFault.TheVariants.{Finished, OutO
 use Rattle.tilt_feed.specs.declared.update.Update.{Update}
 use Rattle.tilt_feed_line.specs.declared.line.Line.{Line}
 use Rattle.tilt_feed_line.specs.declared.line.Line.TheVariants as line
-use Rattle.tilt_watermarks.proofs.Going.{Allowed, Goes, IsEnd, Match, all_updated, allowed-rise, closed-match, edge-past, goes-none, goes-on, goes-one, handed-allowed, length-one-more, match-edge, open_feed, raised-match, raising-goes, shifted, turn-goes, updated-past, updated_all}
+use Rattle.tilt_watermarks.proofs.Going.{Allowed, Goes, IsEnd, Match, all_updated, allowed-rise, closed-match, edge-past, goes-none, goes-on, goes-one, handed-allowed, match-edge, open_feed, raised-match, raising-goes, shifted, turn-goes, updated-past, updated_all}
 use Rattle.tilt_watermarks.proofs.Taking.{no-rule, rule-high, rule-open}
 use Rattle.tilt_watermarks.proofs.Turning.{all-closed-fit, all-raised-fit, entered-allowed, entered-fit, given-high, less-time}
 use Rattle.tilt_watermarks.specs.Held.{Waiting, entered, given_by, known, less, turned}
 use Rattle.tilt_watermarks.specs.Laws.{AreRising, IsFit, IsKeptOf, edges_of, stepped, stepped_all}
-use Rattle.tilt_watermarks.specs.Steps.{Kept, Step, closed, events_at, followed, followed_by, greater, handed_at, idle_tick, input_at, inputs_entered, judged_by, line_fault, nothing_kept, overlaps_at, raise, raised, raising, rule_broken, taken, unknown}
+use Rattle.tilt_watermarks.specs.Steps.{Kept, Step, closed, events_at, followed, followed_by, greater, handed_at, idle_tick, input_at, inputs_entered, judged_by, line_fault, nothing_kept, overlaps_at, raise, raised, raising, taken, unknown}
 use Rattle.tilt_watermarks.specs.declared.fault.TakeFault.{TakeFault}
 use Rattle.tilt_watermarks.specs.declared.options.Options.{Options}
 

@@ -1,5 +1,5 @@
 -- What is known of a line that is taken.
-use Rattle.std.proofs.Common.{◌≡◌, ℕ, ℤ, ◌≤ℤ◌, Bool, true, false, if◌then◌else◌, Option, Some, None, List, refl}
+use Rattle.std.proofs.Common.{◌≡◌, ◌≤ℤ◌, Bool, true, false, Option, Some, None, refl}
 use Rattle.tilt_base.specs.declared.limits.TheConstants.{T}
 use Rattle.tilt_feed.proofs.Updates.{allowed-of, step-of}
 use Rattle.tilt_feed.specs.Events.{in_range, update_fault, watermark_after}

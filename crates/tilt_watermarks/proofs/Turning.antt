@@ -1,6 +1,6 @@
 -- What an input holds after a turn is allowed.
-use Rattle.std.proofs.Common.{◌≡◌, ℕ, zero, suc, ℤ, pos, ◌-ℤ◌, ◌≤ℤ◌, neg_ℤ, Bool, true, false, not, if◌then◌else◌, int_lt, int_le, List, [], ◌∷◌, ◌++◌, map, Option, Some, None}
-use Rattle.std.proofs.Common.{refl, sym, ap, subst, ◌∙◌, arith}
+use Rattle.std.proofs.Common.{◌≡◌, ℕ, ℤ, pos, ◌-ℤ◌, ◌≤ℤ◌, neg_ℤ, Bool, true, false, if◌then◌else◌, int_lt, int_le, List, [], ◌∷◌, map, Option, Some, None}
+use Rattle.std.proofs.Common.{refl, sym, ap, subst, arith}
 use Rattle.std.proofs.lemmas.Bool.{and_from, not-false}
 use Rattle.std.proofs.lemmas.Int.{ints, clamps}
 use Rattle.std.proofs.lemmas.Option.{same_Some}
@@ -12,8 +12,8 @@ use Rattle.tilt_feed.specs.declared.edge.Edge.{Edge}
 use Rattle.tilt_feed.specs.declared.update.Update.{Update}
 use Rattle.tilt_feed.specs.declared.update.Update.TheVariants.{Row, Value, NoValue, KnownUpTo}
 use Rattle.tilt_watermarks.proofs.Fitting.{due-left, fits-at, fits-left, moved-append, moved-watermark, next-high, next-range}
-use Rattle.tilt_watermarks.proofs.Going.{Allowed, IsEnd, handed-allowed}
-use Rattle.tilt_watermarks.specs.Held.{Waiting, due, entered, fits, given_by, known, last_watermark, left, less, moved_all, rising, turned, with_update}
+use Rattle.tilt_watermarks.proofs.Going.{Allowed, handed-allowed}
+use Rattle.tilt_watermarks.specs.Held.{Waiting, due, entered, fits, given_by, left, less, moved_all, rising, turned, with_update}
 use Rattle.tilt_watermarks.specs.Laws.{IsFit}
 use Rattle.tilt_watermarks.specs.Steps.{closed, judged_by, overlaps, raised}
 

@@ -1,6 +1,6 @@
 -- The basic rule: what lines do without options.
-use Rattle.std.specs.Prelude.{◌≡◌, ℕ, zero, suc, ℤ, Bool, if◌then◌else◌, int_lt, List, [], ◌∷◌, ◌++◌, map, Option, Some, None}
-use Rattle.tilt_feed.specs.Events.{is_time, opened_by, update_fault, watermark_after}
+use Rattle.std.specs.Prelude.{ℕ, zero, suc, ℤ, Bool, if◌then◌else◌, int_lt, List, [], ◌∷◌, ◌++◌, map, Option, Some, None}
+use Rattle.tilt_feed.specs.Events.{is_time, update_fault}
 use Rattle.tilt_feed.specs.Feed.{unknown_input}
 use Rattle.tilt_feed.specs.declared.edge.Edge.{Edge}
 use Rattle.tilt_feed.specs.declared.event.Event.{Event}

@@ -1,5 +1,5 @@
 -- What an input hands on, one update after another.
-use Rattle.std.specs.Prelude.{◌≡◌, ◌+◌, ℤ, List, [], ◌∷◌, length, Option}
+use Rattle.std.specs.Prelude.{◌≡◌, ◌+◌, ℤ, [], ◌∷◌, length, Option}
 use Rattle.tilt_feed.specs.declared.update.Update.{Update}
 use Rattle.tilt_watermarks.specs.Held.{Waiting, due, left, moved}
 

@@ -1,5 +1,5 @@
 -- What is held of one input under lateness, and what the input hands on (our own rule).
-use Rattle.std.specs.Prelude.{ℕ, ℤ, pos, ◌+ℤ◌, ◌-ℤ◌, neg_ℤ, Bool, true, false, ◌&&◌, if◌then◌else◌, int_lt}
+use Rattle.std.specs.Prelude.{ℕ, ℤ, pos, ◌-ℤ◌, neg_ℤ, Bool, true, false, ◌&&◌, if◌then◌else◌, int_lt}
 use Rattle.std.specs.Prelude.{List, [], ◌∷◌, ◌++◌, Option, Some, None, is_none}
 use Rattle.std.specs.Int.{int_max}
 use Rattle.tilt_base.specs.declared.limits.TheConstants.{T}

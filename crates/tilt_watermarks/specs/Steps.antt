@@ -1,8 +1,8 @@
 -- What watermarks do with the lines of a live feed (our own rule). `taken` is the definition.
-use Rattle.std.specs.Prelude.{ℕ, zero, suc, ◌+◌, ℤ, Bool, true, false, ◌&&◌, not, if◌then◌else◌, int_lt}
+use Rattle.std.specs.Prelude.{ℕ, zero, suc, ◌+◌, ℤ, Bool, true, false, not, if◌then◌else◌, int_lt}
 use Rattle.std.specs.Prelude.{List, [], ◌∷◌, ◌++◌, length, map, replicate, Option, Some, None, option_map}
 use Rattle.std.specs.Int.{int_max}
-use Rattle.tilt_feed.specs.Events.{is_time, update_fault, watermark_after}
+use Rattle.tilt_feed.specs.Events.{is_time, update_fault}
 use Rattle.tilt_feed.specs.Feed.{unknown_input}
 use Rattle.tilt_feed.specs.declared.edge.Edge.{Edge}
 use Rattle.tilt_feed.specs.declared.event.Event.{Event}
@@ -12,7 +12,7 @@ use Rattle.tilt_feed.specs.declared.fault.EventFault.TheVariants.{Finished, OutO
 use Rattle.tilt_feed.specs.declared.update.Update.{Update}
 use Rattle.tilt_feed_line.specs.declared.line.Line.{Line}
 use Rattle.tilt_feed_line.specs.declared.line.Line.TheVariants as line
-use Rattle.tilt_watermarks.specs.Held.{Turn, Waiting, bare, entered, fits, given_by, known, less, moved_all, start_of, turned, with_update}
+use Rattle.tilt_watermarks.specs.Held.{Waiting, bare, entered, fits, given_by, known, less, start_of, turned, with_update}
 use Rattle.tilt_watermarks.specs.declared.fault.TakeFault.{TakeFault}
 use Rattle.tilt_watermarks.specs.declared.fault.TakeFault.TheVariants.{NotAllowed, Overlap, Ahead}
 use Rattle.tilt_watermarks.specs.declared.options.Options.{Options}

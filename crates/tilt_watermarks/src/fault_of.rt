@@ -11,11 +11,20 @@ use tilt_feed::{Edge, EventFault, update_fault};
 use tilt_feed_line::Line;
 
 // The first rule of feeds that a line breaks, or `None` if it breaks none.
-pub(crate) fn rule_broken(lateness: Option<u64>, finished: bool, lanes: &Lanes, line: Line) -> Option<EventFault>
+pub(crate) fn rule_broken(
+    lateness: Option<u64>,
+    finished: bool,
+    lanes: &Lanes,
+    line: Line,
+) -> Option<EventFault>
     ensures { result ≡ rule_broken lateness finished lanes.now.lanes.items line }
 {
     match line {
-        Line::Update { input, update } => update_fault(finished, judged_by(lateness, lanes.edge_at(input)), update),
+        Line::Update { input, update } => update_fault(
+            finished,
+            judged_by(lateness, lanes.edge_at(input)),
+            update,
+        ),
         Line::AllKnownUpTo { watermark } => {
             if finished {
                 Some(EventFault::Finished)

@@ -14,7 +14,12 @@ use tilt_feed_line::Line;
 
 // The inputs follow a line that fits and whose times are in range, by events for which there is room. If memory is refused, nothing
 // changes.
-pub(crate) fn follow(lateness: Option<u64>, lanes: &mut Lanes, line: Line, events: &mut Vec<Event>) -> Result<(), OutOfMemory>
+pub(crate) fn follow(
+    lateness: Option<u64>,
+    lanes: &mut Lanes,
+    line: Line,
+    events: &mut Vec<Event>,
+) -> Result<(), OutOfMemory>
     requires none { lateness ≡ None → held_count lanes.old.lanes.items ≡ 0 }
     requires fits { is_overlap lateness lanes.old.lanes.items line ≡ false }
     requires times { HasTimes line }
@@ -53,7 +58,11 @@ pub(crate) fn is_end(line: Line) -> bool
 }
 
 // The greatest watermark after a line whose times are in range.
-pub(crate) fn greatest_after(lateness: Option<u64>, line: Line, greatest: Option<i64>) -> Option<i64>
+pub(crate) fn greatest_after(
+    lateness: Option<u64>,
+    line: Line,
+    greatest: Option<i64>,
+) -> Option<i64>
     requires { HasTimes line }
     ensures { result ≡ greatest_after lateness line greatest }
 {

@@ -81,7 +81,8 @@ impl Lane {
         ensures place { (update : Update) → start_of update ≡ start
             → inserted update self.now.held ≡ insert self.now.held result update }
     {
-        self.held.partition_point(|update| start_of(*update) <= start)
+        self.held
+            .partition_point(|update| start_of(*update) <= start)
     }
 
     // Whether an update fits at a place among those that are held.
@@ -115,7 +116,13 @@ impl Lane {
     }
 
     // Takes an update under lateness, which has to fit. If memory is refused, nothing changes.
-    pub(crate) fn enter(&mut self, number: u32, ticks: u64, update: Update, events: &mut Vec<Event>) -> Result<(), OutOfMemory>
+    pub(crate) fn enter(
+        &mut self,
+        number: u32,
+        ticks: u64,
+        update: Update,
+        events: &mut Vec<Event>,
+    ) -> Result<(), OutOfMemory>
         requires fits { fits self.old.edge.watermark (with_update update self.old.held) ≡ true }
         requires times { in_range update ≡ true }
         requires room { vec_len events.old + length self.old.held + 1 < vec_capacity events.old }

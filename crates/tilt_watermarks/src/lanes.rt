@@ -71,7 +71,13 @@ impl Lanes {
     }
 
     // The input with a number takes an update that is allowed and fits. Without lateness nothing is held.
-    pub(crate) fn enter(&mut self, lateness: Option<u64>, number: u32, update: Update, events: &mut Vec<Event>) -> Result<(), OutOfMemory>
+    pub(crate) fn enter(
+        &mut self,
+        lateness: Option<u64>,
+        number: u32,
+        update: Update,
+        events: &mut Vec<Event>,
+    ) -> Result<(), OutOfMemory>
         requires none { lateness ≡ None → held_count self.old.lanes.items ≡ 0 }
         requires fits { overlaps_at lateness self.old.lanes.items number update ≡ false }
         requires times { in_range update ≡ true }
@@ -106,7 +112,13 @@ impl Lanes {
     }
 
     // The same under lateness, of an input that is there.
-    fn hold_at(&mut self, place: usize, ticks: u64, update: Update, events: &mut Vec<Event>) -> Result<(), OutOfMemory>
+    fn hold_at(
+        &mut self,
+        place: usize,
+        ticks: u64,
+        update: Update,
+        events: &mut Vec<Event>,
+    ) -> Result<(), OutOfMemory>
         requires there { place < length self.old.lanes.items }
         requires fits { overlaps_at (Some ticks) self.old.lanes.items place update ≡ false }
         requires times { in_range update ≡ true }
@@ -175,7 +187,13 @@ fn raise_each(lanes: &mut [Lane], held: &mut usize, end: Option<i64>, events: &m
 }
 
 // Makes the input with a number known up to an end at least, by events for which there is room, and counts what is held.
-fn raise_one(lane: &mut Lane, held: &mut usize, number: u32, end: Option<i64>, events: &mut Vec<Event>)
+fn raise_one(
+    lane: &mut Lane,
+    held: &mut usize,
+    number: u32,
+    end: Option<i64>,
+    events: &mut Vec<Event>,
+)
     requires some { length lane.old.held ≤ held.old }
     requires room { vec_len events.old + length lane.old.held < vec_capacity events.old }
     ensures lane { lane.new ≡ raised end lane.old }

@@ -19,7 +19,7 @@ pub fn events_are_allowed()
         → AreAllowed (watermarked options inputs lines).events (empty_feed inputs) }
     ensures kept { (options : Options) (inputs : ℕ) (lines : List Line)
         → IsKeptOf options.lateness (watermarked options inputs lines).kept
-            (after_all (watermarked options inputs lines).events (empty_feed inputs)) }
+        (after_all (watermarked options inputs lines).events (empty_feed inputs)) }
 {}
 
 /// This does nothing. Its clauses are laws of the definitions: without options, if nothing is held, a line does what the basic rule says,
@@ -50,7 +50,7 @@ pub fn lines_are_sorted()
     ensures sorted { (options : Options) (ticks inputs number : ℕ) (lines : List Line)
         → options.lateness ≡ Some ticks → number < inputs
         → pieces (updates_of number (watermarked options inputs lines).events)
-            ++ (input_at (watermarked options inputs lines).kept.inputs number).held
+        ++ (input_at (watermarked options inputs lines).kept.inputs number).held
         ≡ gathered options number lines (nothing_kept inputs) [] }
     ensures last { (options : Options) (inputs number : ℕ) (lines : List Line)
         → (watermarked options inputs lines).kept.finished ≡ true

@@ -54,7 +54,11 @@ impl Watermarks {
         let lateness = self.options.lateness;
         let rule = rule_broken(lateness, self.finished, &self.lanes, line);
         let overlap = is_overlap(lateness, &self.lanes, line);
-        fault_by(rule, overlap, is_ahead(self.options.ahead, self.latest, line))
+        fault_by(
+            rule,
+            overlap,
+            is_ahead(self.options.ahead, self.latest, line),
+        )
     }
 
     /// Takes a line, and appends the events that it hands on. `Fault` comes exactly if the line isn't taken, and nothing changes.

@@ -1,4 +1,4 @@
-use Rattle.std.proofs.Common.{◌≡◌, ◌∙◌, not, ap, sym}
+use Rattle.std.proofs.Common.{not, ap, sym}
 use Rattle.tilt_watermarks.proofs.lane.Lane.overlaps.Goals as goal
 
 pub returns-in-KnownUpTo : goal.returns-in-KnownUpTo

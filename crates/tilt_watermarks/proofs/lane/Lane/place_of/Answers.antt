@@ -1,4 +1,4 @@
-use Rattle.std.proofs.Common.{◌≡◌, ◌≤◌, length, ℤ, Bool, true, false, rules, subst, sym}
+use Rattle.std.proofs.Common.{◌≡◌, ◌≤◌, length, ℤ, true, false, rules, subst, sym}
 use Rattle.std.specs.List.Sorted.{IsPartitionPoint}
 use Rattle.std.proofs.lemmas.List.Sorted.{IsPartitionPoint-from_clause}
 use Rattle.tilt_feed.specs.declared.update.Update.{Update}

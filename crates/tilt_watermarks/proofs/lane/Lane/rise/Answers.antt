@@ -1,4 +1,4 @@
-use Rattle.std.proofs.Common.{◌≡◌, FitsSigned, w64, to_z-of_z, rules}
+use Rattle.std.proofs.Common.{FitsSigned, w64, to_z-of_z, rules}
 use Rattle.tilt_watermarks.proofs.Fitting.{fits-at}
 use Rattle.tilt_watermarks.proofs.lane.Lane.rise.Goals as goal
 

@@ -1,4 +1,4 @@
-use Rattle.std.proofs.Common.{◌≡◌, ◌≤◌, ◌∙◌, length, refl, sym, rules, w64}
+use Rattle.std.proofs.Common.{◌≤◌, ◌∙◌, length, refl, sym, rules, w64}
 use Rattle.std.proofs.lemmas.Int.{to_z-of_z}
 use Rattle.std.proofs.lemmas.Option.{slice_get_read}
 use Rattle.tilt_watermarks.proofs.Fitting.{takes-between, takes-last, takes-not}

@@ -1,10 +1,8 @@
-use Rattle.std.proofs.Common.{◌≡◌, ◌≤◌, ◌<◌, ◌∙◌, None, List, length, slice_set, refl, sym, ap, arith, rules}
+use Rattle.std.proofs.Common.{◌≤◌, ◌<◌, ◌∙◌, None, List, length, slice_set, refl, sym, ap, arith, rules}
 use Rattle.std.proofs.lemmas.Option.{slice_get_read}
-use Rattle.tilt_feed.specs.declared.event.Event.{Event}
 use Rattle.tilt_feed.specs.declared.update.Update.{Update}
 use Rattle.tilt_watermarks.proofs.Places.{count-none, count-set, entered-at, entered-past, handed-at, handed-past}
 use Rattle.tilt_watermarks.specs.Held.{Waiting, moved}
-use Rattle.tilt_watermarks.specs.Steps.{events_at}
 use Rattle.tilt_watermarks.proofs.lanes.Lanes.enter.Goals as goal
 
 pub returns-then-place-len-clause-lanes : goal.returns-then-place-len-clause-lanes

@@ -1,10 +1,8 @@
-use Rattle.std.proofs.Common.{◌≡◌, ◌≤◌, Some, length, not, refl, sym, ap, ◌∙◌, arith}
+use Rattle.std.proofs.Common.{Some, length, refl, sym, ◌∙◌, arith}
 use Rattle.std.proofs.lemmas.Bool.{not-false}
 use Rattle.std.proofs.lemmas.Option.{slice_get_read}
 use Rattle.tilt_watermarks.proofs.Places.{count-item, count-set, entered-at, handed-at, overlaps-at}
 use Rattle.tilt_watermarks.specs.Held.{fits, with_update}
-use Rattle.tilt_watermarks.specs.Steps.{events_at}
-use Rattle.tilt_feed.specs.declared.update.Update.{Update}
 use Rattle.tilt_watermarks.proofs.lanes.Lanes.hold_at.Goals as goal
 
 pub enter-requires-clause-fits : goal.enter-requires-clause-fits

@@ -1,7 +1,6 @@
-use Rattle.std.proofs.Common.{◌≡◌, ◌<◌, ◌^◌, ℕ, length, replicate, ap, subst, sym, ◌∙◌, arith, rules}
+use Rattle.std.proofs.Common.{◌≡◌, ℕ, length, replicate, ap, sym, ◌∙◌, arith}
 use Rattle.std.proofs.lemmas.List.{length-replicate}
 use Rattle.tilt_watermarks.proofs.Places.{count-unknown}
-use Rattle.tilt_watermarks.specs.Held.{Waiting}
 use Rattle.tilt_watermarks.specs.Steps.{unknown}
 use Rattle.tilt_watermarks.proofs.lanes.Lanes.new.Goals as goal
 

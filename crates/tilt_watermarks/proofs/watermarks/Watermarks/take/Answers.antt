@@ -1,4 +1,4 @@
-use Rattle.std.proofs.Common.{◌≡◌, ◌≤◌, ◌+◌, List, is_ok, length, vec_len, ap, ◌∙◌, arith, rules}
+use Rattle.std.proofs.Common.{◌≤◌, ◌+◌, List, is_ok, length, vec_len, ap, ◌∙◌, arith, rules}
 use Rattle.std.specs.Vec.{vec_capacity}
 use Rattle.tilt_watermarks.proofs.Near.{length-then}
 use Rattle.tilt_watermarks.specs.Held.{Waiting}
