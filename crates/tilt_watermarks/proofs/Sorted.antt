@@ -1,9 +1,9 @@
 -- Under lateness, the rows and values of an input come out in order of their starts.
-use Rattle.std.proofs.Common.{◌≡◌, ℤ, ◌≤ℤ◌, Bool, true, false, if◌then◌else◌, int_lt, List, [], ◌∷◌, ◌++◌, Option, Some, None}
+use Rattle.std.proofs.Common.{◌≡◌, ℤ, ◌≤ℤ◌, ◌<ℤ◌, ◌⊎◌, Bool, true, false, if◌then◌else◌, int_lt, List, [], ◌∷◌, ◌++◌, Option, Some, None}
 use Rattle.std.specs.Prelude.{⊤}
 use Rattle.std.proofs.Common.{refl, sym, ap, subst, ◌∙◌, inl, inr, arith, append_assoc, append-nil}
 use Rattle.std.proofs.lemmas.Bool.{cases_Bool}
-use Rattle.std.proofs.lemmas.Int.{ints}
+use Rattle.std.proofs.lemmas.Int.{ints, by_lt_z}
 use Rattle.std.specs.List.{AllByRecursion}
 use Rattle.tilt_feed.proofs.Updates.{allowed-of}
 use Rattle.tilt_feed.specs.declared.edge.Edge.{Edge}
@@ -149,3 +149,59 @@ known-sorted done all end input sorted allowed =
           (pieces-below high handed (allowed-below input.edge handed allowed));
       held = left-pieces end input.held sorted.held;
     }
+
+-- two updates with different starts may come in either order
+swap-below : (one two : Update) (updates : List Update) → start_of one <ℤ start_of two → inserted one (inserted two updates) ≡ inserted two (inserted one updates)
+swap-below one two [] low =
+    let up : int_lt (start_of one) (start_of two) ≡ true = grind (arith, ints) in
+    let down : int_lt (start_of two) (start_of one) ≡ false = grind (arith, ints) in
+    rw (up, down) refl
+swap-below one two (first ∷ rest) low =
+    let up : int_lt (start_of one) (start_of two) ≡ true = grind (arith, ints) in
+    let down : int_lt (start_of two) (start_of one) ≡ false = grind (arith, ints) in
+    elim (cases_Bool (int_lt (start_of two) (start_of first))) [
+      | inl here ↦ (let before : int_lt (start_of one) (start_of first) ≡ true = grind (arith, ints) in rw (here, before, up, down, here) refl)
+      | inr none ↦ elim (cases_Bool (int_lt (start_of one) (start_of first))) [
+        | inl before ↦ rw (none, before, down, none) refl
+        | inr after ↦ rw (none, after, none) (ap (λ (list : List Update). first ∷ list) (swap-below one two rest low))
+      ]
+    ]
+
+swap-inserted : (one two : Update) (updates : List Update) → (start_of one ≡ start_of two → ⊥) → inserted one (inserted two updates) ≡ inserted two (inserted one updates)
+swap-inserted one two updates not-same =
+    by_lt_z (start_of one) (start_of two) (λ low. swap-below one two updates low)
+    (λ high. sym (swap-below two one updates (above (start_of one) (start_of two) not-same high)))
+  where
+    above : (a b : ℤ) → (a ≡ b → ⊥) → b ≤ℤ a → b <ℤ a
+    above a b other low = by_lt_z b a (λ is. is) (λ is. absurd (other (omega (arith, ints))))
+
+-- "known up to" isn't held
+with-inserted : (update : Update) (updates : List Update) → IsPiece update → with_update update updates ≡ inserted update updates
+with-inserted (Row start end value) updates is = refl
+with-inserted (Value start value) updates is = refl
+with-inserted (NoValue start) updates is = refl
+with-inserted (KnownUpTo tick) updates is = absurd is
+
+pub swap-pieces : (one two : Update) (updates : List Update) → IsPiece one → IsPiece two → (start_of one ≡ start_of two → ⊥)
+    → with_update one (with_update two updates) ≡ with_update two (with_update one updates)
+swap-pieces one two updates first second not-same =
+    ap (with_update one) (with-inserted two updates second) ∙ with-inserted one (inserted two updates) first
+    ∙ swap-inserted one two updates not-same
+    ∙ sym (with-inserted two (inserted one updates) second) ∙ ap (with_update two) (sym (with-inserted one updates first))
+
+piece-cases : (update : Update) → IsPiece update ⊎ ((updates : List Update) → with_update update updates ≡ updates)
+piece-cases (Row start end value) = inl tt
+piece-cases (Value start value) = inl tt
+piece-cases (NoValue start) = inl tt
+piece-cases (KnownUpTo tick) = inr (λ updates. refl)
+
+pub swap-updates : (one two : Update) (updates : List Update) → (start_of one ≡ start_of two → ⊥)
+    → with_update one (with_update two updates) ≡ with_update two (with_update one updates)
+swap-updates one two updates not-same =
+    elim (piece-cases one) [
+      | inl first ↦ elim (piece-cases two) [
+        | inl second ↦ swap-pieces one two updates first second not-same
+        | inr same ↦ ap (with_update one) (same updates) ∙ sym (same (with_update one updates))
+      ]
+      | inr same ↦ same (with_update two updates) ∙ sym (ap (with_update two) (same updates))
+    ]

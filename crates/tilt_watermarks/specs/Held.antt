@@ -38,7 +38,8 @@ last_watermark watermark (update ∷ updates) = last_watermark (watermark_after 
 -- updates in order of their starts with one more; it comes after those that start where it starts
 abbrev pub inserted : Update → List Update → List Update
 inserted update [] = update ∷ []
-inserted update (first ∷ rest) = if int_lt (start_of update) (start_of first) then update ∷ first ∷ rest else first ∷ inserted update rest
+inserted update (first ∷ rest) =
+    if int_lt (start_of update) (start_of first) then update ∷ first ∷ rest else first ∷ inserted update rest
 
 -- what is held when an update comes; "known up to" isn't held
 abbrev pub with_update : Update → List Update → List Update

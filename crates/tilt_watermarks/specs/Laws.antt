@@ -74,7 +74,8 @@ pieces (KnownUpTo tick ∷ updates) = pieces updates
 -- the updates of the input with a number among events
 abbrev pub updates_of : ℕ → List Event → List Update
 updates_of number [] = []
-updates_of number (Input input update ∷ events) = if input == number then update ∷ updates_of number events else updates_of number events
+updates_of number (Input input update ∷ events) =
+    if input == number then update ∷ updates_of number events else updates_of number events
 updates_of number (Finish ∷ events) = updates_of number events
 
 -- updates in order of their starts with the one of a line, if it is of the input with a number

@@ -1,9 +1,11 @@
 // Laws of watermarks.
-ghost use Rattle.std.specs.Prelude.{◌≡◌, ◌<◌, ◌++◌, ℕ, List, [], Some, None, true, length, option_map};
+ghost use Rattle.std.specs.Prelude.{◌≡◌, ◌≢◌, ◌<◌, ◌++◌, ℕ, List, [], Some, None, true, length, option_map};
 ghost use Rattle.std.specs.List.{AllByRecursion};
 ghost use Rattle.tilt_feed.specs.Events.{after_all};
 ghost use Rattle.tilt_feed.specs.Feed.{empty_feed};
 ghost use Rattle.tilt_feed_line.specs.declared.line.Line.{Line};
+ghost use Rattle.tilt_feed.specs.declared.update.Update.{Update};
+ghost use Rattle.tilt_watermarks.specs.Held.{start_of, with_update};
 ghost use Rattle.tilt_watermarks.specs.Basic.{basic_edges, basic_events, basic_fault};
 ghost use Rattle.tilt_watermarks.specs.Laws.{AreAllowed, AreNear, AreRising, IsFit, IsKeptOf, edges_of, gathered};
 ghost use Rattle.tilt_watermarks.specs.Laws.{no_options, pieces, stepped_all, updates_of, watermarked};
@@ -44,8 +46,9 @@ pub fn watermarks_rise()
 {}
 
 /// This does nothing. Its clauses are laws of the definitions, for every list of lines under lateness: the rows and values of an input that
-/// were handed on, and then those that are held, are those of the lines that were taken, in order of their starts; and when the feed is
-/// finished, nothing is held. So nothing is lost, and the order in which lines come doesn't matter if all are taken.
+/// were handed on, and then those that are held, are those of the lines that were taken, in order of their starts. When the feed is
+/// finished, nothing is held. So nothing is lost. Two lines with different starts may come in either order: if both are taken, the rows and
+/// values in order are the same.
 pub fn lines_are_sorted()
     ensures sorted { (options : Options) (ticks inputs number : ℕ) (lines : List Line)
         → options.lateness ≡ Some ticks → number < inputs
@@ -55,4 +58,6 @@ pub fn lines_are_sorted()
     ensures last { (options : Options) (inputs number : ℕ) (lines : List Line)
         → (watermarked options inputs lines).kept.finished ≡ true
         → (input_at (watermarked options inputs lines).kept.inputs number).held ≡ [] }
+    ensures either { (one two : Update) (updates : List Update) → (start_of one ≢ start_of two)
+        → with_update one (with_update two updates) ≡ with_update two (with_update one updates) }
 {}

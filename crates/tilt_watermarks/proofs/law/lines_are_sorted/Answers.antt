@@ -2,6 +2,7 @@ use Rattle.std.proofs.Common.{◌≡◌, ◌<◌, ◌++◌, [], Option, Some, �
 use Rattle.std.proofs.lemmas.List.{length-replicate}
 use Rattle.tilt_feed.specs.Feed.{empty_feed}
 use Rattle.tilt_watermarks.proofs.Gathered.{all-ended, all-sorted, sorted-first, unknown-at}
+use Rattle.tilt_watermarks.proofs.Sorted.{swap-updates}
 use Rattle.tilt_watermarks.proofs.Stepping.{keeps-first}
 use Rattle.tilt_watermarks.specs.Held.{Waiting}
 use Rattle.tilt_watermarks.specs.Laws.{gathered, pieces, updates_of, watermarked}
@@ -19,3 +20,6 @@ returns-clause-sorted c options ticks inputs number lines is within =
 
 pub returns-clause-last : goal.returns-clause-last
 returns-clause-last c options inputs number lines = all-ended options lines (nothing_kept inputs) (λ n yes. ap (λ (i : Waiting). i.held) (unknown-at n inputs)) number
+
+pub returns-clause-either : goal.returns-clause-either
+returns-clause-either c one two updates not-same = swap-updates one two updates not-same
