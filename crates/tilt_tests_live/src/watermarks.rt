@@ -98,7 +98,10 @@ fn late_lines_come_out_in_order(rt: HostRuntime) -> Result<(), Fail> {
     watermarks.take(value_line(0, 16), &mut events)?;
     assert_eq!(rt; watermarks.held(), 2);
     let overlap = TakeError::Fault(TakeFault::Overlap);
-    assert_eq!(rt; watermarks.take(value_line(0, 16), &mut events), Err(overlap));
+    assert_eq!(rt;
+        watermarks.take(value_line(0, 16), &mut events),
+        Err(overlap)
+    );
     watermarks.take(Line::Finish, &mut events)?;
     let expected = [
         known(0, -4),
