@@ -7,6 +7,13 @@ use tilt_watermarks::{Options, TakeError, TakeFault, Watermarks};
 const OPTIONS: Options = Options {
     idle: Some(10),
     ahead: Some(50),
+    lateness: None,
+};
+
+const LATE: Options = Options {
+    idle: None,
+    ahead: None,
+    lateness: Some(10),
 };
 
 const ROW: Update = Update::Row {
@@ -18,6 +25,14 @@ const ROW: Update = Update::Row {
 // The line that a value of an input starts.
 fn value_line(input: u32, start: i64) -> Line {
     Line::Update {
+        input,
+        update: Update::Value { start, value: 7 },
+    }
+}
+
+// The event that a value of an input starts.
+fn value_event(input: u32, start: i64) -> Event {
+    Event::Input {
         input,
         update: Update::Value { start, value: 7 },
     }
@@ -71,13 +86,50 @@ fn lines_that_are_not_taken_change_nothing(rt: HostRuntime) -> Result<(), Fail> 
     Ok(())
 }
 
+// Each input gets its own lines in order. The value from 16 gives its input the watermark 7, and that from 30 gives the other one 21.
+#[test]
+fn late_lines_come_out_in_order(rt: HostRuntime) -> Result<(), Fail> {
+    let mut watermarks = Watermarks::new(rt.alloc(), LATE, 2)?;
+    let mut events = Vec::new(rt.alloc());
+    watermarks.take(value_line(0, 5), &mut events)?;
+    watermarks.take(value_line(1, 30), &mut events)?;
+    watermarks.take(value_line(0, 3), &mut events)?;
+    assert_eq!(rt; watermarks.held(), 3);
+    watermarks.take(value_line(0, 16), &mut events)?;
+    assert_eq!(rt; watermarks.held(), 2);
+    let overlap = TakeError::Fault(TakeFault::Overlap);
+    assert_eq!(rt;
+        watermarks.take(value_line(0, 16), &mut events),
+        Err(overlap)
+    );
+    watermarks.take(Line::Finish, &mut events)?;
+    let expected = [
+        known(0, -4),
+        known(1, 21),
+        value_event(0, 3),
+        value_event(0, 5),
+        known(0, 7),
+        value_event(0, 16),
+        value_event(1, 30),
+        Event::Finish,
+    ];
+    assert_eq!(rt; events.as_slice(), expected.as_slice());
+    assert_eq!(rt; watermarks.held(), 0);
+    Ok(())
+}
+
 #[test]
 fn faults_say_what_is_wrong(rt: HostRuntime) -> Result<(), Fail> {
     let late = TakeError::Fault(TakeFault::NotAllowed(EventFault::Late));
-    let text = format!(in rt.alloc(); "{late}; {}; {}", TakeFault::Ahead, TakeError::OutOfMemory)?;
+    let text = format!(in rt.alloc();
+        "{late}; {}; {}; {}",
+        TakeFault::Overlap,
+        TakeFault::Ahead,
+        TakeError::OutOfMemory
+    )?;
     assert_eq!(rt;
         text.as_str(),
-        "it is before the watermark; it is too far ahead; out of memory"
+        "it is before the watermark; it overlaps one that is held; it is too far ahead; out of memory"
     );
     Ok(())
 }

@@ -1,6 +1,11 @@
+pub mod BasicRule
+pub mod Fitting
+pub mod Gathered
 pub mod Going
+pub mod Near
 pub mod Places
-pub mod Rising
+pub mod Sorted
 pub mod Stepping
 pub mod Taking
+pub mod Turning
 pub mod Worked

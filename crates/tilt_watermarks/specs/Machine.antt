@@ -16,7 +16,12 @@ options_of watermarks = watermarks.options
 
 -- what they keep
 abbrev pub kept_by : Watermarks → Kept
-kept_by watermarks = record { edges = watermarks.edges.items; finished = watermarks.finished; greatest = watermarks.greatest }
+kept_by watermarks = record {
+  inputs = watermarks.lanes.lanes.items;
+  finished = watermarks.finished;
+  greatest = watermarks.greatest;
+  latest = watermarks.latest;
+}
 
 -- the result of a call that takes a line is its fault; only for a line that has none may memory be refused
 abbrev pub IsTaken : Result (Unit {0}) TakeError → Option TakeFault → Type 0

@@ -1,9 +1,8 @@
 -- What watermarks do with the lines of a live feed (our own rule). `taken` is the definition.
-use Rattle.std.specs.Prelude.{ℕ, zero, suc, ℤ, pos, ◌-ℤ◌, neg_ℤ, Bool, true, false, if◌then◌else◌, int_lt}
-use Rattle.std.specs.Prelude.{List, [], ◌∷◌, ◌++◌, map, replicate, Option, Some, None, option_map}
+use Rattle.std.specs.Prelude.{ℕ, zero, suc, ◌+◌, ℤ, Bool, true, false, not, if◌then◌else◌, int_lt}
+use Rattle.std.specs.Prelude.{List, [], ◌∷◌, ◌++◌, length, map, replicate, Option, Some, None, option_map}
 use Rattle.std.specs.Int.{int_max}
-use Rattle.tilt_base.specs.declared.limits.TheConstants.{T}
-use Rattle.tilt_feed.specs.Events.{is_time, opened_by, update_fault, watermark_after}
+use Rattle.tilt_feed.specs.Events.{is_time, update_fault}
 use Rattle.tilt_feed.specs.Feed.{unknown_input}
 use Rattle.tilt_feed.specs.declared.edge.Edge.{Edge}
 use Rattle.tilt_feed.specs.declared.event.Event.{Event}
@@ -11,110 +10,137 @@ use Rattle.tilt_feed.specs.declared.event.Event.TheVariants as event
 use Rattle.tilt_feed.specs.declared.fault.EventFault.{EventFault}
 use Rattle.tilt_feed.specs.declared.fault.EventFault.TheVariants.{Finished, OutOfRange}
 use Rattle.tilt_feed.specs.declared.update.Update.{Update}
-use Rattle.tilt_feed.specs.declared.update.Update.TheVariants.{Row, Value, NoValue, KnownUpTo}
 use Rattle.tilt_feed_line.specs.declared.line.Line.{Line}
 use Rattle.tilt_feed_line.specs.declared.line.Line.TheVariants as line
+use Rattle.tilt_watermarks.specs.Held.{Waiting, bare, entered, fits, given_by, known, less, start_of, turned, with_update}
 use Rattle.tilt_watermarks.specs.declared.fault.TakeFault.{TakeFault}
-use Rattle.tilt_watermarks.specs.declared.fault.TakeFault.TheVariants.{NotAllowed, Ahead}
+use Rattle.tilt_watermarks.specs.declared.fault.TakeFault.TheVariants.{NotAllowed, Overlap, Ahead}
 use Rattle.tilt_watermarks.specs.declared.options.Options.{Options}
 
--- what is kept: the edge of each input, whether the feed is finished, and the greatest watermark that lines have given to any input, if
--- they have given one
+-- what is kept: of each input; whether the feed is finished; the greatest watermark that lines have given to any input, if they have given
+-- one; and the same if the lateness isn't taken off
 pub record Kept : Type 0 where
-  pub edges : List Edge
+  pub inputs : List Waiting
   pub finished : Bool
   pub greatest : Option ℤ
+  pub latest : Option ℤ
 
 -- what is kept after a line, and the events that it hands on
 pub record Step : Type 0 where
   pub kept : Kept
   pub events : List Event
 
+-- an input of which nothing is known
+abbrev pub unknown : Waiting
+unknown = record { edge = unknown_input.edge; held = [] }
+
 -- what is kept of so many inputs before the first line
 abbrev pub nothing_kept : ℕ → Kept
-nothing_kept inputs = record { edges = replicate inputs unknown_input.edge; finished = false; greatest = None }
+nothing_kept inputs = record { inputs = replicate inputs unknown; finished = false; greatest = None; latest = None }
 
--- a tick less so many ticks, at least `-T`
-abbrev pub less : ℕ → ℤ → ℤ
-less ticks tick = int_max (neg_ℤ T) (tick -ℤ pos ticks)
+-- the input with a number, or an unknown one if there is none
+abbrev pub input_at : List Waiting → ℕ → Waiting
+input_at [] number = unknown
+input_at (input ∷ inputs) zero = input
+input_at (input ∷ inputs) (suc number) = input_at inputs number
 
--- the edge of the input with a number, and that of an unknown input if there is none
-abbrev pub edge_at : List Edge → ℕ → Edge
-edge_at [] number = unknown_input.edge
-edge_at (edge ∷ edges) zero = edge
-edge_at (edge ∷ edges) (suc number) = edge_at edges number
+-- how many updates are held
+abbrev pub held_count : List Waiting → ℕ
+held_count [] = 0
+held_count (input ∷ inputs) = length input.held + held_count inputs
+
+-- the edge by which an update is judged: under lateness an open row counts for nothing
+abbrev pub judged_by : Option ℕ → Edge → Edge
+judged_by None edge = edge
+judged_by (Some ticks) edge = bare edge.watermark
 
 -- the first rule of feeds that a line breaks; "known up to" for all inputs may be below the watermarks of some or all
-abbrev pub rule_broken : Bool → List Edge → Line → Option EventFault
-rule_broken finished edges (line.Update number update) = update_fault finished (edge_at edges number) update
-rule_broken finished edges (line.AllKnownUpTo tick) =
+abbrev pub rule_broken : Option ℕ → Bool → List Waiting → Line → Option EventFault
+rule_broken lateness finished inputs (line.Update number update) =
+    update_fault finished (judged_by lateness (input_at inputs number).edge) update
+rule_broken lateness finished inputs (line.AllKnownUpTo tick) =
     if finished then Some Finished else if is_time tick then None else Some OutOfRange
-rule_broken finished edges line.Finish = if finished then Some Finished else None
+rule_broken lateness finished inputs line.Finish = if finished then Some Finished else None
 
--- where an update starts
-abbrev pub start_of : Update → ℤ
-start_of (Row start end value) = start
-start_of (Value start value) = start
-start_of (NoValue start) = start
-start_of (KnownUpTo tick) = tick
+-- whether an update doesn't fit among those that its input holds
+abbrev pub overlaps : Option ℕ → Waiting → Update → Bool
+overlaps None input update = false
+overlaps (Some ticks) input update = not (fits input.edge.watermark (with_update update input.held))
 
--- whether a start is above the greatest watermark by more than so many ticks
+-- the same of the input with a number; one that isn't there holds nothing
+abbrev pub overlaps_at : Option ℕ → List Waiting → ℕ → Update → Bool
+overlaps_at lateness [] number update = false
+overlaps_at lateness (input ∷ inputs) zero update = overlaps lateness input update
+overlaps_at lateness (input ∷ inputs) (suc number) update = overlaps_at lateness inputs number update
+
+-- the same of a line
+abbrev pub is_overlap : Option ℕ → List Waiting → Line → Bool
+is_overlap lateness inputs (line.Update number update) = overlaps_at lateness inputs number update
+is_overlap lateness inputs (line.AllKnownUpTo tick) = false
+is_overlap lateness inputs line.Finish = false
+
+-- whether a start is above the latest watermark by more than so many ticks
 abbrev pub is_far : Option ℕ → Option ℤ → ℤ → Bool
-is_far None greatest start = false
+is_far None latest start = false
 is_far (Some ticks) None start = false
-is_far (Some ticks) (Some greatest) start = int_lt greatest (less ticks start)
+is_far (Some ticks) (Some latest) start = int_lt latest (less ticks start)
 
--- with `ahead`: whether a line starts too far above the greatest watermark; the first line never does
+-- with `ahead`: whether a line starts too far above the latest watermark; the first line never does
 abbrev pub is_ahead : Option ℕ → Option ℤ → Line → Bool
-is_ahead ahead greatest (line.Update number update) = is_far ahead greatest (start_of update)
-is_ahead ahead greatest (line.AllKnownUpTo tick) = is_far ahead greatest tick
-is_ahead ahead greatest line.Finish = false
+is_ahead ahead latest (line.Update number update) = is_far ahead latest (start_of update)
+is_ahead ahead latest (line.AllKnownUpTo tick) = is_far ahead latest tick
+is_ahead ahead latest line.Finish = false
 
--- a broken rule comes first
-abbrev pub fault_by : Option EventFault → Bool → Option TakeFault
-fault_by (Some rule) far = Some (NotAllowed rule)
-fault_by None far = if far then Some Ahead else None
+-- a broken rule comes first, and then an overlap
+abbrev pub fault_by : Option EventFault → Bool → Bool → Option TakeFault
+fault_by (Some rule) overlap far = Some (NotAllowed rule)
+fault_by None overlap far = if overlap then Some Overlap else if far then Some Ahead else None
 
 -- why a line isn't taken, if it isn't
 abbrev pub line_fault : Options → Kept → Line → Option TakeFault
-line_fault options kept line = fault_by (rule_broken kept.finished kept.edges line) (is_ahead options.ahead kept.greatest line)
+line_fault options kept line = fault_by (rule_broken options.lateness kept.finished kept.inputs line)
+    (is_overlap options.lateness kept.inputs line) (is_ahead options.ahead kept.latest line)
 
--- an edge after an update
-abbrev pub moved : Update → Edge → Edge
-moved update edge = record { open_row = opened_by edge update; watermark = watermark_after update }
+-- the events of updates of the input with a number
+abbrev pub events_at : ℕ → List Update → List Event
+events_at number updates = map (event.Input number) updates
 
--- the edges after an update of the input with a number
-abbrev pub moved_at : ℕ → Update → List Edge → List Edge
-moved_at number update [] = []
-moved_at zero update (edge ∷ edges) = moved update edge ∷ edges
-moved_at (suc number) update (edge ∷ edges) = edge ∷ moved_at number update edges
+-- the input with a number takes an update: the inputs after it,
+abbrev pub inputs_entered : Option ℕ → ℕ → Update → List Waiting → List Waiting
+inputs_entered lateness number update [] = []
+inputs_entered lateness zero update (input ∷ inputs) = turned (entered lateness update input) input.edge ∷ inputs
+inputs_entered lateness (suc number) update (input ∷ inputs) = input ∷ inputs_entered lateness number update inputs
 
--- an edge when nothing more comes
-abbrev pub closed : Edge → Edge
-closed edge = record { open_row = None; watermark = edge.watermark }
+-- and what it hands on; if there is no such input, nothing is held
+abbrev pub handed_at : Option ℕ → ℕ → Update → List Waiting → List Update
+handed_at lateness number update [] = update ∷ []
+handed_at lateness zero update (input ∷ inputs) = (entered lateness update input).handed
+handed_at lateness (suc number) update (input ∷ inputs) = handed_at lateness number update inputs
 
--- an edge that is known up to a tick at least
-abbrev pub raised : ℤ → Edge → Edge
-raised tick edge = if int_lt edge.watermark tick then moved (KnownUpTo tick) edge else edge
+-- all inputs become known up to an end: an input after it,
+abbrev pub raised : Option ℤ → Waiting → Waiting
+raised end input = turned (known end input) input.edge
 
--- the events by which inputs become known up to a tick at least, if they are counted from a number: "known up to" it for each input whose
--- watermark is below it
-abbrev pub raising : ℕ → ℤ → List Edge → List Event
-raising number tick [] = []
-raising number tick (edge ∷ edges) =
-    (if int_lt edge.watermark tick then event.Input number (KnownUpTo tick) ∷ [] else []) ++ raising (suc number) tick edges
+-- and the events of all, if inputs are counted from a number
+abbrev pub raising : ℕ → Option ℤ → List Waiting → List Event
+raising number end [] = []
+raising number end (input ∷ inputs) = events_at number (known end input).handed ++ raising (suc number) end inputs
 
--- the basic rule. The edges after a line:
-abbrev pub edges_after : Line → List Edge → List Edge
-edges_after (line.Update number update) edges = moved_at number update edges
-edges_after (line.AllKnownUpTo tick) edges = map (raised tick) edges
-edges_after line.Finish edges = map closed edges
+-- an input when nothing more comes
+abbrev pub closed : Waiting → Waiting
+closed input = record { edge = bare input.edge.watermark; held = input.held }
 
--- and its events: an update is the event of its input, and "known up to" for all inputs is that of each input whose watermark is below it
-abbrev pub events_of : Line → List Edge → List Event
-events_of (line.Update number update) edges = event.Input number update ∷ []
-events_of (line.AllKnownUpTo tick) edges = raising 0 tick edges
-events_of line.Finish edges = event.Finish ∷ []
+-- The inputs after a line:
+abbrev pub inputs_after : Option ℕ → Line → List Waiting → List Waiting
+inputs_after lateness (line.Update number update) inputs = inputs_entered lateness number update inputs
+inputs_after lateness (line.AllKnownUpTo tick) inputs = map (raised (Some tick)) inputs
+inputs_after lateness line.Finish inputs = map closed (map (raised None) inputs)
+
+-- and its events; the end of the feed hands on all that is held, in the order of the inputs
+abbrev pub events_of : Option ℕ → Line → List Waiting → List Event
+events_of lateness (line.Update number update) inputs = events_at number (handed_at lateness number update inputs)
+events_of lateness (line.AllKnownUpTo tick) inputs = raising 0 (Some tick) inputs
+events_of lateness line.Finish inputs = raising 0 None inputs ++ event.Finish ∷ []
 
 -- whether a line ends the feed
 abbrev pub is_end : Line → Bool
@@ -128,20 +154,21 @@ greater None tick = tick
 greater (Some greatest) tick = int_max greatest tick
 
 -- the greatest watermark after a line: an update gives a watermark to its input, and "known up to" to all inputs
-abbrev pub greatest_after : Line → Option ℤ → Option ℤ
-greatest_after (line.Update number update) greatest = Some (greater greatest (watermark_after update))
-greatest_after (line.AllKnownUpTo tick) greatest = Some (greater greatest tick)
-greatest_after line.Finish greatest = greatest
+abbrev pub greatest_after : Option ℕ → Line → Option ℤ → Option ℤ
+greatest_after lateness (line.Update number update) greatest = Some (greater greatest (given_by lateness update))
+greatest_after lateness (line.AllKnownUpTo tick) greatest = Some (greater greatest tick)
+greatest_after lateness line.Finish greatest = greatest
 
--- what a line does by the basic rule
-abbrev pub basic : Line → Kept → Step
-basic line kept = record {
+-- what a line does, `idle` aside
+abbrev pub followed : Option ℕ → Line → Kept → Step
+followed lateness line kept = record {
   kept = record {
-    edges = edges_after line kept.edges;
+    inputs = inputs_after lateness line kept.inputs;
     finished = is_end line;
-    greatest = greatest_after line kept.greatest;
+    greatest = greatest_after lateness line kept.greatest;
+    latest = greatest_after None line kept.latest;
   };
-  events = events_of line kept.edges;
+  events = events_of lateness line kept.inputs;
 }
 
 -- with `idle N`, up to where each input is known at least: `M - N`, for the greatest watermark `M`, unless the feed is finished
@@ -154,15 +181,20 @@ idle_tick (Some ticks) false greatest = option_map (less ticks) greatest
 abbrev pub raise : Option ℤ → Kept → Step
 raise None kept = record { kept = kept; events = [] }
 raise (Some tick) kept = record {
-  kept = record { edges = map (raised tick) kept.edges; finished = kept.finished; greatest = kept.greatest };
-  events = raising 0 tick kept.edges;
+  kept = record {
+    inputs = map (raised (Some tick)) kept.inputs;
+    finished = kept.finished;
+    greatest = kept.greatest;
+    latest = kept.latest;
+  };
+  events = raising 0 (Some tick) kept.inputs;
 }
 
 -- one step after another
 abbrev pub followed_by : (Kept → Step) → Step → Step
 followed_by next first = record { kept = (next first.kept).kept; events = first.events ++ (next first.kept).events }
 
--- what a line that is taken does: the basic rule, and then each input becomes known up to where `idle` says
+-- what a line that is taken does: first its own events, and then each input becomes known up to where `idle` says
 abbrev pub taken : Options → Line → Kept → Step
 taken options line kept =
-    followed_by (λ later. raise (idle_tick options.idle later.finished later.greatest) later) (basic line kept)
+    followed_by (λ later. raise (idle_tick options.idle later.finished later.greatest) later) (followed options.lateness line kept)

@@ -7,7 +7,10 @@ pub enum TakeFault {
     /// What it says isn't allowed: the first rule that it breaks.
     #[error("{0}")]
     NotAllowed(EventFault),
-    /// It starts too far above the greatest watermark.
+    /// It overlaps a row or a value of its input that is held.
+    #[error("it overlaps one that is held")]
+    Overlap,
+    /// It starts too far above the greatest end.
     #[error("it is too far ahead")]
     Ahead,
 }

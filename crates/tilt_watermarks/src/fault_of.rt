@@ -1,19 +1,30 @@
 // Why lines aren't taken.
 ghost use Rattle.std.specs.Prelude.{◌≡◌};
-ghost use Rattle.tilt_watermarks.specs.Steps.{edge_at, fault_by, is_ahead, is_far, rule_broken, start_of};
+ghost use Rattle.tilt_watermarks.specs.Steps.{fault_by, is_ahead, is_far, is_overlap, judged_by, rule_broken};
 
 use crate::fault::TakeFault;
+use crate::lanes::Lanes;
 use crate::less::less;
+use crate::updates::{bare, start_of};
 use tilt_base::T;
-use tilt_feed::{Edge, EventFault, Update, update_fault};
+use tilt_feed::{Edge, EventFault, update_fault};
 use tilt_feed_line::Line;
 
 // The first rule of feeds that a line breaks, or `None` if it breaks none.
-pub(crate) fn rule_broken(finished: bool, edges: &[Edge], line: Line) -> Option<EventFault>
-    ensures { result ≡ rule_broken finished edges.now line }
+pub(crate) fn rule_broken(
+    lateness: Option<u64>,
+    finished: bool,
+    lanes: &Lanes,
+    line: Line,
+) -> Option<EventFault>
+    ensures { result ≡ rule_broken lateness finished lanes.now.lanes.items line }
 {
     match line {
-        Line::Update { input, update } => update_fault(finished, edge_at(edges, input), update),
+        Line::Update { input, update } => update_fault(
+            finished,
+            judged_by(lateness, lanes.edge_at(input)),
+            update,
+        ),
         Line::AllKnownUpTo { watermark } => {
             if finished {
                 Some(EventFault::Finished)
@@ -33,58 +44,62 @@ pub(crate) fn rule_broken(finished: bool, edges: &[Edge], line: Line) -> Option<
     }
 }
 
-// The edge of an input, or that of an unknown one if there is no such input.
-fn edge_at(edges: &[Edge], number: u32) -> Edge
-    ensures { result ≡ edge_at edges.now number }
+// The edge by which an update is judged.
+fn judged_by(lateness: Option<u64>, edge: Edge) -> Edge
+    ensures { result ≡ judged_by lateness edge }
 {
-    match edges.get(number as usize) {
-        Some(edge) => *edge,
-        None => Edge {
-            open_row: None,
-            watermark: -T,
-        },
+    match lateness {
+        Some(_) => bare(edge.watermark),
+        None => edge,
     }
 }
 
-// Whether a line starts above the greatest watermark by more than `ahead` ticks.
-pub(crate) fn is_ahead(ahead: Option<u64>, greatest: Option<i64>, line: Line) -> bool
-    ensures { result ≡ is_ahead ahead greatest line }
+// Whether a line doesn't fit among the updates that its input holds.
+pub(crate) fn is_overlap(lateness: Option<u64>, lanes: &Lanes, line: Line) -> bool
+    ensures { result ≡ is_overlap lateness lanes.now.lanes.items line }
 {
     match line {
-        Line::Update { update, .. } => is_far(ahead, greatest, start_of(update)),
-        Line::AllKnownUpTo { watermark } => is_far(ahead, greatest, watermark),
+        Line::Update { input, update } => lanes.overlaps_at(lateness, input, update),
+        Line::AllKnownUpTo { .. } => false,
         Line::Finish => false,
     }
 }
 
-// Whether a start is above the greatest watermark by more than `ahead` ticks.
-fn is_far(ahead: Option<u64>, greatest: Option<i64>, start: i64) -> bool
-    ensures { result ≡ is_far ahead greatest start }
+// Whether a line starts above the latest watermark by more than `ahead` ticks.
+pub(crate) fn is_ahead(ahead: Option<u64>, latest: Option<i64>, line: Line) -> bool
+    ensures { result ≡ is_ahead ahead latest line }
 {
-    match (ahead, greatest) {
-        (Some(ticks), Some(greatest)) => greatest < less(ticks, start),
+    match line {
+        Line::Update { update, .. } => is_far(ahead, latest, start_of(update)),
+        Line::AllKnownUpTo { watermark } => is_far(ahead, latest, watermark),
+        Line::Finish => false,
+    }
+}
+
+// Whether a start is above the latest watermark by more than `ahead` ticks.
+fn is_far(ahead: Option<u64>, latest: Option<i64>, start: i64) -> bool
+    ensures { result ≡ is_far ahead latest start }
+{
+    match (ahead, latest) {
+        (Some(ticks), Some(latest)) => latest < less(ticks, start),
         _ => false,
     }
 }
 
-// Where an update starts.
-fn start_of(update: Update) -> i64
-    ensures { result ≡ start_of update }
-{
-    match update {
-        Update::Row { start, .. } => start,
-        Update::Value { start, .. } => start,
-        Update::NoValue { start } => start,
-        Update::KnownUpTo { watermark } => watermark,
-    }
-}
-
-// Why a line isn't taken: a broken rule comes first.
-pub(crate) fn fault_by(rule: Option<EventFault>, far: bool) -> Option<TakeFault>
-    ensures { result ≡ fault_by rule far }
+// Why a line isn't taken: a broken rule comes first, and then an overlap.
+pub(crate) fn fault_by(rule: Option<EventFault>, overlap: bool, far: bool) -> Option<TakeFault>
+    ensures { result ≡ fault_by rule overlap far }
 {
     match rule {
         Some(rule) => Some(TakeFault::NotAllowed(rule)),
-        None => { if far { Some(TakeFault::Ahead) } else { None } }
+        None => {
+            if overlap {
+                Some(TakeFault::Overlap)
+            } else if far {
+                Some(TakeFault::Ahead)
+            } else {
+                None
+            }
+        }
     }
 }

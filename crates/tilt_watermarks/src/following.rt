@@ -1,33 +1,47 @@
-// What lines do by the basic rule.
-ghost use Rattle.std.specs.Prelude.{◌≡◌, ◌<◌, ◌≤◌, ◌+◌, ◌++◌, ◌^◌, length, vec_len};
+// What a line does, `idle` aside.
+ghost use Rattle.std.specs.Prelude.{◌≡◌, ◌≤◌, ◌+◌, ◌++◌, false, if◌then◌else◌, is_ok, length, None, vec_len};
 ghost use Rattle.std.specs.Vec.{vec_capacity};
 ghost use Rattle.tilt_watermarks.specs.Machine.{HasTimes};
-ghost use Rattle.tilt_watermarks.specs.Steps.{edges_after, events_of, greater, greatest_after, idle_tick, is_end};
+ghost use Rattle.tilt_watermarks.specs.Steps.{events_of, greater, greatest_after, held_count, idle_tick, inputs_after};
+ghost use Rattle.tilt_watermarks.specs.Steps.{is_end, is_overlap};
 
+use crate::lanes::Lanes;
 use crate::less::less;
-use crate::raise::{close_all, move_at, raise_all, watermark_after};
-use tilt_feed::{Edge, Event};
+use crate::updates::given_by;
+use std::alloc::AllocError as OutOfMemory;
+use tilt_feed::Event;
 use tilt_feed_line::Line;
 
-// Moves the edges by a line whose times are in range, and hands on its events, for which there is room.
-pub(crate) fn follow(edges: &mut [Edge], line: Line, events: &mut Vec<Event>)
-    requires few { length edges.old < 2 ^ 32 }
+// The inputs follow a line that fits and whose times are in range, by events for which there is room. If memory is refused, nothing
+// changes.
+pub(crate) fn follow(
+    lateness: Option<u64>,
+    lanes: &mut Lanes,
+    line: Line,
+    events: &mut Vec<Event>,
+) -> Result<(), OutOfMemory>
+    requires none { lateness ≡ None → held_count lanes.old.lanes.items ≡ 0 }
+    requires fits { is_overlap lateness lanes.old.lanes.items line ≡ false }
     requires times { HasTimes line }
-    requires room { vec_len events.old + length edges.old < vec_capacity events.old }
-    ensures edges { edges.new ≡ edges_after line edges.old }
-    ensures events { events.new.items ≡ events.old.items ++ events_of line edges.old }
+    requires room { vec_len events.old + held_count lanes.old.lanes.items + length lanes.old.lanes.items + 2 ≤ vec_capacity events.old }
+    ensures lanes { lanes.new.lanes.items
+        ≡ (if is_ok result then inputs_after lateness line lanes.old.lanes.items else lanes.old.lanes.items) }
+    ensures events { events.new.items
+        ≡ (if is_ok result then events.old.items ++ events_of lateness line lanes.old.lanes.items else events.old.items) }
     ensures capacity { vec_capacity events.new ≡ vec_capacity events.old }
-    ensures len { vec_len events.new ≤ vec_len events.old + length edges.old + 1 }
+    ensures len { vec_len events.new + held_count lanes.new.lanes.items
+        ≤ vec_len events.old + held_count lanes.old.lanes.items + length lanes.old.lanes.items + 2 }
+    ensures none { lateness ≡ None → held_count lanes.new.lanes.items ≡ 0 }
 {
     match line {
-        Line::Update { input, update } => {
-            events.push_reserved(Event::Input { input, update });
-            move_at(edges, input, update);
+        Line::Update { input, update } => lanes.enter(lateness, input, update, events),
+        Line::AllKnownUpTo { watermark } => {
+            lanes.raise_all(Some(watermark), events);
+            Ok(())
         }
-        Line::AllKnownUpTo { watermark } => raise_all(edges, watermark, events),
         Line::Finish => {
-            events.push_reserved(Event::Finish);
-            close_all(edges);
+            lanes.finish(events);
+            Ok(())
         }
     }
 }
@@ -44,12 +58,16 @@ pub(crate) fn is_end(line: Line) -> bool
 }
 
 // The greatest watermark after a line whose times are in range.
-pub(crate) fn greatest_after(line: Line, greatest: Option<i64>) -> Option<i64>
+pub(crate) fn greatest_after(
+    lateness: Option<u64>,
+    line: Line,
+    greatest: Option<i64>,
+) -> Option<i64>
     requires { HasTimes line }
-    ensures { result ≡ greatest_after line greatest }
+    ensures { result ≡ greatest_after lateness line greatest }
 {
     match line {
-        Line::Update { update, .. } => Some(greater(greatest, watermark_after(update))),
+        Line::Update { update, .. } => Some(greater(greatest, given_by(lateness, update))),
         Line::AllKnownUpTo { watermark } => Some(greater(greatest, watermark)),
         Line::Finish => greatest,
     }

@@ -5,14 +5,18 @@
 //! options that is the basic rule: an update is the event of its input, and "known up to" for all inputs is that of each input whose
 //! watermark is below it. With options, `M` is the greatest watermark that lines have given to any input:
 //!
+//! - `lateness N`: lines may come out of order. Each input holds its rows and values, in order of their starts (`specs/Held`). A line that
+//!   ends at `e` gives its input the watermark `e - N`; then the input hands on what it holds below that. A line that starts below its
+//!   input's watermark is late, and one that overlaps what its input holds isn't taken.
 //! - `idle N`: after each line, each input becomes known up to `M - N` at least. So an input that is silent, or far behind, holds nothing
 //!   back for longer than that. Its own lines are late then if they start below `M - N`.
-//! - `ahead N`: a line that starts above `M` by more than `N` isn't taken. So one wrong clock doesn't make all lines after it late. The
-//!   first line may start anywhere.
+//! - `ahead N`: a line that starts above the greatest end that lines have given by more than `N` isn't taken. So one wrong clock doesn't
+//!   make all lines after it late. The first line may start anywhere.
 //!
 //! The clauses of `Watermarks::take` say that it is this definition, and that nothing changes if a line isn't taken or if memory is
 //! refused. The functions of `law` have the laws of the definition as clauses: each event that is handed on is allowed after those before
-//! it, so `tilt_feed` and `tilt_live` take every one of them; no watermark falls; and no input stays farther behind than `idle` allows.
+//! it, so `tilt_feed` and `tilt_live` take every one of them; no watermark falls; no input stays farther behind than `idle` allows; and
+//! under lateness the rows and values of an input come out in order of their starts, and none is lost.
 //!
 //! All of this depends on the lines alone, and on no clock: the same lines give the same events again. Nothing here reads or writes.
 #![tactic(auto)]
@@ -20,13 +24,15 @@
 mod fault;
 mod fault_of;
 mod following;
+mod lane;
+mod lanes;
 mod law;
 mod less;
 mod options;
-mod raise;
+mod updates;
 mod watermarks;
 
 pub use fault::{TakeError, TakeFault};
-pub use law::{basic_rule_holds, events_are_allowed, watermarks_rise};
+pub use law::{basic_rule_holds, events_are_allowed, lines_are_sorted, watermarks_rise};
 pub use options::Options;
 pub use watermarks::Watermarks;

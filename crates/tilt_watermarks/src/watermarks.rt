@@ -1,25 +1,25 @@
 // Watermarks between the lines of a live feed and its events.
-ghost use Rattle.std.specs.Prelude.{◌≡◌, ◌<◌, ◌++◌, ◌^◌, length, if◌then◌else◌, is_ok, IfOk};
-ghost use Rattle.tilt_watermarks.specs.Steps.{line_fault, nothing_kept, taken};
+ghost use Rattle.std.specs.Prelude.{◌≡◌, ◌++◌, None, if◌then◌else◌, is_ok, IfOk};
+ghost use Rattle.tilt_watermarks.specs.Steps.{held_count, line_fault, nothing_kept, taken};
 
 use crate::fault::{TakeError, TakeFault};
-use crate::fault_of::{fault_by, is_ahead, rule_broken};
+use crate::fault_of::{fault_by, is_ahead, is_overlap, rule_broken};
 use crate::following::{follow, greatest_after, idle_tick, is_end};
+use crate::lanes::Lanes;
 use crate::options::Options;
-use crate::raise::raise_all;
 use std::alloc::{AllocError as OutOfMemory, Global};
-use tilt_base::T;
-use tilt_feed::{Edge, Event};
+use tilt_feed::Event;
 use tilt_feed_line::Line;
 
 /// The watermarks of a live feed: they take its lines, one after another, and hand on its events.
 #[derive(Drop)]
 pub struct Watermarks {
     options: Options,
-    edges: Vec<Edge>,
+    lanes: Lanes,
     finished: bool,
     greatest: Option<i64>,
-    ghost few: { length edges.items < 2 ^ 32 },
+    latest: Option<i64>,
+    ghost none: { options.lateness ≡ None → held_count lanes.lanes.items ≡ 0 },
 }
 
 impl Watermarks {
@@ -30,25 +30,35 @@ impl Watermarks {
         ensures options { IfOk result (λ watermarks. options_of watermarks ≡ options) }
         ensures kept { IfOk result (λ watermarks. kept_by watermarks ≡ nothing_kept inputs) }
     {
-        let unknown = Edge {
-            open_row: None,
-            watermark: -T,
-        };
-        let edges = vec![in alloc; unknown; inputs as usize]?;
+        let lanes = Lanes::new(alloc, inputs)?;
         Ok(Watermarks {
             options,
-            edges,
+            lanes,
             finished: false,
             greatest: None,
+            latest: None,
         })
+    }
+
+    /// How many updates are held, of all inputs.
+    pub fn held(&self) -> usize
+        ensures { result ≡ held_count (kept_by self.now).inputs }
+    {
+        self.lanes.held()
     }
 
     /// Why a line isn't taken, or `None` if it is.
     pub fn fault(&self, line: Line) -> Option<TakeFault>
         ensures { result ≡ line_fault (options_of self.now) (kept_by self.now) line }
     {
-        let rule = rule_broken(self.finished, &self.edges, line);
-        fault_by(rule, is_ahead(self.options.ahead, self.greatest, line))
+        let lateness = self.options.lateness;
+        let rule = rule_broken(lateness, self.finished, &self.lanes, line);
+        let overlap = is_overlap(lateness, &self.lanes, line);
+        fault_by(
+            rule,
+            overlap,
+            is_ahead(self.options.ahead, self.latest, line),
+        )
     }
 
     /// Takes a line, and appends the events that it hands on. `Fault` comes exactly if the line isn't taken, and nothing changes.
@@ -65,14 +75,20 @@ impl Watermarks {
         if let Some(fault) = self.fault(line) {
             return Err(TakeError::Fault(fault));
         }
-        if events.reserve(2 * self.edges.len() + 1).is_err() {
+        let Some(room) = self.lanes.held().checked_add(2 * self.lanes.len() + 2) else {
+            return Err(TakeError::OutOfMemory);
+        };
+        if events.reserve(room).is_err() {
             return Err(TakeError::OutOfMemory);
         }
-        follow(&mut self.edges, line, events);
+        if follow(self.options.lateness, &mut self.lanes, line, events).is_err() {
+            return Err(TakeError::OutOfMemory);
+        }
         self.finished = is_end(line);
-        self.greatest = greatest_after(line, self.greatest);
+        self.greatest = greatest_after(self.options.lateness, line, self.greatest);
+        self.latest = greatest_after(None, line, self.latest);
         if let Some(tick) = idle_tick(self.options.idle, self.finished, self.greatest) {
-            raise_all(&mut self.edges, tick, events);
+            self.lanes.raise_all(Some(tick), events);
         }
         Ok(())
     }

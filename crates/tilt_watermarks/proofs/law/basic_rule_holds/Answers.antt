@@ -1,8 +1,11 @@
-use Rattle.tilt_watermarks.proofs.Rising.{basic-fault, basic-taken}
+use Rattle.tilt_watermarks.proofs.BasicRule.{basic-edges, basic-events, fault-same}
 use Rattle.tilt_watermarks.proofs.law.basic_rule_holds.Goals as goal
 
-pub returns-clause-taken : goal.returns-clause-taken
-returns-clause-taken c = basic-taken
+pub returns-clause-edges : goal.returns-clause-edges
+returns-clause-edges c = basic-edges
+
+pub returns-clause-events : goal.returns-clause-events
+returns-clause-events c = basic-events
 
 pub returns-clause-fault : goal.returns-clause-fault
-returns-clause-fault c = basic-fault
+returns-clause-fault c = fault-same
