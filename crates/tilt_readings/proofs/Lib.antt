@@ -1,0 +1,4 @@
+pub mod DigitLemmas
+pub mod ScaleLemmas
+pub mod TickLemmas
+pub mod WrittenLemmas

@@ -1,0 +1,4 @@
+pub mod Decimal
+pub mod Epoch
+pub mod Tick
+pub mod Written
