@@ -1,3 +1,4 @@
+pub mod DateLemmas
 pub mod DigitLemmas
 pub mod ScaleLemmas
 pub mod TickLemmas

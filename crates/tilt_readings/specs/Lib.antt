@@ -1,3 +1,4 @@
+pub mod Date
 pub mod Decimal
 pub mod Epoch
 pub mod Tick

@@ -6,6 +6,7 @@
 //! says which moments lie in a tick; the clause of `tick_of` says that it returns the tick of a moment, if there is one.
 #![tactic(auto)]
 
+mod date;
 mod decimal;
 mod digits;
 mod epoch;
@@ -14,9 +15,10 @@ mod law;
 mod tick;
 mod written;
 
+pub use date::read_date;
 pub use decimal::read_decimal;
 pub use epoch::{Unit, read_epoch};
-pub use fault::DecimalFault;
+pub use fault::{DateFault, DecimalFault};
 pub use law::{ticks_are_apart, written_decimals_are_read_back};
 pub use tick::{Clock, Closed, FARTHEST, moment_at, tick_of};
 pub use written::write_decimal;
