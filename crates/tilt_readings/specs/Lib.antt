@@ -1,4 +1,5 @@
 pub mod Date
+pub mod DateText
 pub mod Decimal
 pub mod Epoch
 pub mod Tick

@@ -1,5 +1,6 @@
 // Decimals, as whole numbers at a scale.
-ghost use Rattle.std.specs.Prelude.{◌≡◌, pos, negsuc, neg_ℤ, ◌≤ℤ◌, ◌<ℤ◌, ◌<◌, ◌-◌, ◌^◌, true, length, ◌+◌, MatchOption, if◌then◌else◌, nat_lt, ◌&&◌, Ok, Err, None};
+ghost use Rattle.std.specs.Prelude.{◌≡◌, pos, negsuc, neg_ℤ, ◌≤ℤ◌, ◌<ℤ◌, ◌<◌, ◌-◌, ◌^◌, true, length, ◌+◌};
+ghost use Rattle.std.specs.Prelude.{MatchOption, if◌then◌else◌, nat_lt, ◌&&◌, Ok, Err, None};
 ghost use Rattle.std.specs.Str.{all_ascii_digits};
 ghost use Rattle.tilt_readings.specs.Decimal.{bounded, halves, in_64_bits, is_negative, joined, number_at, unsigned};
 

@@ -16,8 +16,8 @@ pub enum Unit {
     Nanoseconds,
 }
 
-/// The moment that a number of a unit since 1970-01-01T00:00:00Z is, in nanoseconds. The number is a decimal as `read_decimal` reads it, with
-/// a point. The errors, in this order: `NotDecimal` for any other text, `NotWhole` if the moment isn't a whole number of nanoseconds,
+/// The moment that a number of a unit since 1970-01-01T00:00:00Z is, in nanoseconds. The number is a decimal as `read_decimal` reads it,
+/// with a point. The errors, in this order: `NotDecimal` for any other text, `NotWhole` if the moment isn't a whole number of nanoseconds,
 /// and `OutOfRange` if it is farther from 1970 than `FARTHEST`.
 pub fn read_epoch(text: &[u8], unit: Unit) -> Result<i128, DecimalFault>
     ensures { result ≡ bounded (neg_ℤ FARTHEST) FARTHEST (number_at 46 (nanoseconds unit) text.now) }

@@ -7,6 +7,7 @@
 #![tactic(auto)]
 
 mod date;
+mod date_text;
 mod decimal;
 mod digits;
 mod epoch;
@@ -16,6 +17,7 @@ mod tick;
 mod written;
 
 pub use date::read_date;
+pub use date_text::write_date;
 pub use decimal::read_decimal;
 pub use epoch::{Unit, read_epoch};
 pub use fault::{DateFault, DecimalFault};

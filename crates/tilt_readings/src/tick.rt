@@ -65,7 +65,8 @@ fn start_of(clock: Clock, moment: i128) -> Option<i128>
     Some(inside.div_euclid(i128::from(clock.length)))
 }
 
-/// The moment at which a tick ends and the next one starts. `moment_at(clock, start)` and `moment_at(clock, end)` are the two ends of a row.
+/// The moment at which a tick ends and the next one starts. The row `start,end` is the time from `moment_at(clock, start)` to
+/// `moment_at(clock, end)`.
 pub fn moment_at(clock: Clock, tick: i64) -> i128
     requires low { neg_ℤ FARTHEST ≤ℤ clock.origin }
     requires high { clock.origin ≤ℤ FARTHEST }
