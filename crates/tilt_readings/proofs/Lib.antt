@@ -1,4 +1,5 @@
 pub mod DateLemmas
+pub mod DayLemmas
 pub mod DigitLemmas
 pub mod ScaleLemmas
 pub mod TickLemmas

@@ -125,3 +125,10 @@ carry_stops ds at j scale carried n all next h none r =
 pub ten_low : (k : ℕ) → 0 < k → 10 ≤ 10 ^ k
 ten_low zero some = absurd (omega arith)
 ten_low (suc k) some = omega (arith, pow-suc 10 k, ten_pos k)
+
+-- nothing is rounded: what a decimal is at a scale is the one number whose multiple is the digits times the scale
+pub times_exact : (negative : Bool) (scale n : ℕ) (d : Decimal) → n * 10 ^ d.decimals ≡ d.digits * scale → times negative scale (Some d) ≡ Ok (signed negative n)
+times_exact negative scale n d e = rw (← e, mul-mod_left n (10 ^ d.decimals), mul-div_cancel n (ten_pos d.decimals)) refl
+
+pub times_lost : (negative : Bool) (scale n : ℕ) (d : Decimal) → times negative scale (Some d) ≡ Err NotWhole → n * 10 ^ d.decimals ≢ d.digits * scale
+times_lost negative scale n d lost e = let exact = times_exact negative scale n d e in cc

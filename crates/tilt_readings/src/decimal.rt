@@ -64,7 +64,8 @@ fn split_digits(text: &[u8], mark: u8) -> Option<(&[u8], &[u8])>
 
 // Whether both halves are digits, and there is at least one.
 fn are_halves(whole: &[u8], fraction: &[u8]) -> bool
-    ensures { result ≡ (nat_lt 0 (length whole.now + length fraction.now) && (all_ascii_digits whole.now && all_ascii_digits fraction.now)) }
+    ensures { result
+        ≡ (nat_lt 0 (length whole.now + length fraction.now) && (all_ascii_digits whole.now && all_ascii_digits fraction.now)) }
 {
     (!whole.is_empty() || !fraction.is_empty()) && (are_digits(whole) && are_digits(fraction))
 }
