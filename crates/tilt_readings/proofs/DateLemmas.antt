@@ -92,8 +92,8 @@ pub date_whole : (text : List ℕ) (seconds : ℤ) (n : ℕ) → is_date text �
 date_whole text seconds n form day clock same whole =
     ap (λ s. moment_of s (Ok (pos n))) same ∙ sym (ap (moment_of (seconds_of text)) whole)
     ∙ sym (ap (λ t. if t then date_moment text else Err NotDate) form
-        ∙ ap (λ t. if t && (has_time text && has_offset (zone_of text)) then moment_of (seconds_of text) (nanoseconds_of (fraction_of text)) else Err NoSuchTime) day
-        ∙ ap (λ t. if t then moment_of (seconds_of text) (nanoseconds_of (fraction_of text)) else Err NoSuchTime) clock)
+    ∙ ap (λ t. if t && (has_time text && has_offset (zone_of text)) then moment_of (seconds_of text) (nanoseconds_of (fraction_of text)) else Err NoSuchTime) day
+    ∙ ap (λ t. if t then moment_of (seconds_of text) (nanoseconds_of (fraction_of text)) else Err NoSuchTime) clock)
 
 pub seconds_is : (text zone : List ℕ) (days offset : ℤ) (time : ℕ) → days ≡ days_from_civil (pos (year_of text)) (pair_at text 5) (pair_at text 8)
     → time ≡ time_of text → offset ≡ offset_of zone → zone ≡ zone_of text → days *ℤ pos 86400 +ℤ pos time -ℤ offset ≡ seconds_of text

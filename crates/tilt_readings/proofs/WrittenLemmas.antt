@@ -90,11 +90,11 @@ times-power negative m k small =
     let count = length-last_digits k m in
     let value : digits_value 10 (decimal (m / p)) * 10 ^ length (last_digits k m) + digits_value 10 (last_digits k m) ≡ m =
     (let first = digits_value-decimal numerals (m / p) q_small in
-        let second = value-last_digits k m in
-        let split = div-add-mod' m p in
-        let power = ap (λ x. m / p * 10 ^ x) count in
-        let product = ap (λ x. x * 10 ^ length (last_digits k m)) first in
-        omega (arith, product, second, split, power)) in
+    let second = value-last_digits k m in
+    let split = div-add-mod' m p in
+    let power = ap (λ x. m / p * 10 ^ x) count in
+    let product = ap (λ x. x * 10 ^ length (last_digits k m)) first in
+    omega (arith, product, second, split, power)) in
     ap (times negative p) (joined_digits (decimal (m / p)) (last_digits k m) longer whole fraction)
     ∙ (λ i. times negative p (Some (record { digits = value i; decimals = count i }))) ∙ times-product negative m k
 

@@ -109,6 +109,6 @@ nanoseconds_of fraction = times false 1_000_000_000 (Some (fraction_spelled frac
 abbrev pub date_read : List ℕ → Result ℤ DateFault
 date_read text =
     if is_date text then
-        (if has_day (year_of text) (pair_at text 5) (pair_at text 8) && (has_time text && has_offset (zone_of text))
-         then moment_of (seconds_of text) (nanoseconds_of (fraction_of text)) else Err NoSuchTime)
+    (if has_day (year_of text) (pair_at text 5) (pair_at text 8) && (has_time text && has_offset (zone_of text))
+    then moment_of (seconds_of text) (nanoseconds_of (fraction_of text)) else Err NoSuchTime)
     else Err NotDate

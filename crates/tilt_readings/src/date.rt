@@ -30,7 +30,10 @@ pub fn read_date(text: &[u8]) -> Result<i128, DateFault>
     let Some(nanoseconds) = nanoseconds_of(fraction_of(text)) else {
         return Err(DateFault::TooFine);
     };
-    moment_of(seconds_at(days, time_of(text), offset_of(zone)), nanoseconds)
+    moment_of(
+        seconds_at(days, time_of(text), offset_of(zone)),
+        nanoseconds,
+    )
 }
 
 // Whether a text has the form of a date, a time of day, a fraction if there is one, and a zone.
@@ -43,7 +46,9 @@ fn is_date(text: &[u8]) -> bool
     if text.len() < 19 + zone_length(text) {
         return false;
     }
-    has_shape(b"0000-00-00T00:00:00", without_zone(text)) && is_fraction(fraction_of(text)) && is_zone(zone_of(text))
+    has_shape(b"0000-00-00T00:00:00", without_zone(text))
+        && is_fraction(fraction_of(text))
+        && is_zone(zone_of(text))
 }
 
 // A text up to the seconds.
@@ -109,7 +114,11 @@ fn fraction_of(text: &[u8]) -> &[u8]
 fn is_zone(zone: &[u8]) -> bool
     ensures { result ≡ is_zone zone.now }
 {
-    if zone.len() < 6 { has_shape(b"Z", zone) } else { has_shape(b"+00:00", zone) }
+    if zone.len() < 6 {
+        has_shape(b"Z", zone)
+    } else {
+        has_shape(b"+00:00", zone)
+    }
 }
 
 // Whether there is no fraction, or a mark and one or more digits.
@@ -118,7 +127,9 @@ fn is_fraction(fraction: &[u8]) -> bool
 {
     match fraction {
         [] => true,
-        [mark, digits @ ..] => (*mark == b'.' || *mark == b',') && !digits.is_empty() && are_digits(digits),
+        [mark, digits @ ..] => (*mark == b'.' || *mark == b',')
+            && !digits.is_empty()
+            && are_digits(digits),
     }
 }
 
@@ -166,7 +177,7 @@ fn days_of(year: u32, month: u32, day: u32) -> Option<i64>
     ensures { MatchOption result
         (has_day year month day ≡ false)
         (λ days. (has_day year month day ≡ true) × (days ≡ days_from_civil (pos year) month day)
-            × (neg_ℤ (pos 10_000_000) ≤ℤ days) × (days ≤ℤ pos 10_000_000)) }
+        × (neg_ℤ (pos 10_000_000) ≤ℤ days) × (days ≤ℤ pos 10_000_000)) }
 {
     if year < 1 || month < 1 || month > 12 || day < 1 || day > last_day(year, month) {
         return None;

@@ -8,6 +8,7 @@ use tilt_text::append;
 
 // The first moment of the year 1, and of the year 10000.
 const FIRST: i128 = -62_135_596_800_000_000_000;
+
 const END: i128 = 253_402_300_800_000_000_000;
 
 /// Writes the date and the time of day in UTC at a moment, with so many decimals of a second, as `2026-03-01T08:00:00.250Z`. Further
@@ -75,5 +76,10 @@ fn append_fraction(room: &mut [u8; 64], at: usize, nanoseconds: u32, decimals: u
         return at;
     }
     let point = append(room, at, b".");
-    append_digits(room, point, u64::from(nanoseconds / 10u32.pow(u32::from(9 - decimals))), decimals)
+    append_digits(
+        room,
+        point,
+        u64::from(nanoseconds / 10u32.pow(u32::from(9 - decimals))),
+        decimals,
+    )
 }

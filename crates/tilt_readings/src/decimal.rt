@@ -16,12 +16,24 @@ pub fn read_decimal(text: &[u8], mark: u8, scale: u64) -> Result<i64, DecimalFau
     requires { 0 < scale }
     ensures { result ≡ in_64_bits (number_at mark scale text.now) }
 {
-    let number = read_bounded(text, mark, scale, i128::from(i64::MIN), i128::from(i64::MAX))?;
+    let number = read_bounded(
+        text,
+        mark,
+        scale,
+        i128::from(i64::MIN),
+        i128::from(i64::MAX),
+    )?;
     Ok(number as i64)
 }
 
 /// The same within two limits.
-pub(crate) fn read_bounded(text: &[u8], mark: u8, scale: u64, low: i128, high: i128) -> Result<i128, DecimalFault>
+pub(crate) fn read_bounded(
+    text: &[u8],
+    mark: u8,
+    scale: u64,
+    low: i128,
+    high: i128,
+) -> Result<i128, DecimalFault>
     requires scale { 0 < scale }
     requires low { negsuc (2 ^ 127 - 1) <ℤ low }
     ensures { result ≡ bounded low high (number_at mark scale text.now) }
@@ -56,10 +68,14 @@ fn split_digits(text: &[u8], mark: u8) -> Option<(&[u8], &[u8])>
     ensures { MatchOption result
         (joined (halves mark text.now) ≡ None)
         (λ parts. (halves mark text.now ≡ (parts.0.now, parts.1.now)) × (0 < length parts.0.now + length parts.1.now)
-            × (all_ascii_digits parts.0.now ≡ true) × (all_ascii_digits parts.1.now ≡ true)) }
+        × (all_ascii_digits parts.0.now ≡ true) × (all_ascii_digits parts.1.now ≡ true)) }
 {
     let (whole, fraction) = halve(text, mark);
-    if are_halves(whole, fraction) { Some((whole, fraction)) } else { None }
+    if are_halves(whole, fraction) {
+        Some((whole, fraction))
+    } else {
+        None
+    }
 }
 
 // Whether both halves are digits, and there is at least one.

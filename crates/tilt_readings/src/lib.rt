@@ -24,6 +24,8 @@ pub use date_text::write_date;
 pub use decimal::read_decimal;
 pub use epoch::{Unit, read_epoch};
 pub use fault::{DateFault, DecimalFault};
-pub use law::{days_follow_one_another, decimals_are_exact, ticks_are_apart, written_decimals_are_read_back};
+pub use law::{
+    days_follow_one_another, decimals_are_exact, ticks_are_apart, written_decimals_are_read_back,
+};
 pub use tick::{Clock, Closed, FARTHEST, moment_at, tick_of};
 pub use written::write_decimal;

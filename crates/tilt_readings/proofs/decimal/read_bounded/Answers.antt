@@ -25,7 +25,7 @@ returns-in_default-total_of c =
     let whole = times_whole s.result.0 w f c.args.scale c.in-Some-carry_of.carried c.in-Some-carry_of.ensures.0 in
     let size = digits_value 10 w * c.args.scale + c.in-Some-carry_of.carried in
     sym (ap (bounded c.args.low c.args.high) (number ∙ whole)
-        ∙ too_large s.result.0 size c.args.low c.args.high c.in_default-total_of.ensures c.requires.low (omega (arith, ints)))
+    ∙ too_large s.result.0 size c.args.low c.args.high c.in_default-total_of.ensures c.requires.low (omega (arith, ints)))
 
 pub returns : goal.returns
 returns c =
