@@ -3,7 +3,8 @@ ghost use Rattle.std.specs.Prelude.{◌≡◌, ◌+◌, ◌*◌, ◌≤◌, ◌<
 ghost use Rattle.std.specs.Prelude.{length, take, drop, ◌&&◌, Ok, Err, MatchOption};
 ghost use Rattle.jiff_core.specs.Calendar.{days_from_civil, days_in_month};
 ghost use Rattle.tilt_readings.specs.Date.{date_read, fraction_of, has_day, has_offset, has_shape, has_time, is_date, is_fraction};
-ghost use Rattle.tilt_readings.specs.Date.{is_shaped, is_zone, moment_of, nanoseconds_of, offset_of, pair_at, time_of, year_of, zone_length, zone_of};
+ghost use Rattle.tilt_readings.specs.Date.{is_shaped, is_zone, moment_of, nanoseconds_of, offset_of, pair_at, time_of};
+ghost use Rattle.tilt_readings.specs.Date.{year_of, zone_length, zone_of};
 
 use crate::digits::{are_digits, carry_of};
 use crate::fault::{DateFault, DecimalFault};
