@@ -1,0 +1,6 @@
+pub mod DateLemmas
+pub mod DayLemmas
+pub mod DigitLemmas
+pub mod ScaleLemmas
+pub mod TickLemmas
+pub mod WrittenLemmas

@@ -1,0 +1,6 @@
+pub mod Date
+pub mod DateText
+pub mod Decimal
+pub mod Epoch
+pub mod Tick
+pub mod Written
