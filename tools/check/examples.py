@@ -66,8 +66,8 @@ MARK = "not run by the tests"
 # A line that shows a command: after settings such as `TILT=..`, a path or the name of a program. The first lines of a listing (`tilt 1`)
 # and of a checkpoint (`tilt checkpoint 2`) are none.
 PROGRAM_NAMES = (
-    "tilt-data|tilt-live|rt|sudo|apt|apt-get|dpkg|pip|pip3|python3?|git|sh|bash|cd|cp|mv|rm|mkdir|cat|head|tail|grep|sed|awk|printf|echo|export|for|"
-    "while|man|sync|mosquitto_sub|kcat|duckdb|sqlite3|dask|dask-scheduler|dask-worker"
+    "tilt-data|tilt-live|rt|sudo|apt|apt-get|dpkg|pip|pip3|python3?|git|sh|bash|cd|cp|mv|rm|mkdir|cat|head|tail|grep|sed|awk|printf|echo|"
+    "export|for|while|man|sync|mosquitto_sub|kcat|duckdb|sqlite3|dask|dask-scheduler|dask-worker"
 )
 COMMAND = re.compile(rf"\$ |(?:\w+=\S* +)*(?:(?:\.{{0,2}}/|~/|\.ci/|tools/)\w|(?:{PROGRAM_NAMES}) \S|tilt [a-z]+ (?!\d+$)\S)|PATH=")
 
@@ -120,9 +120,10 @@ def commands(first: int, lines: Iterable[str]) -> list[tuple[int, str, str]]:
 
 def said(words: Sequence[str], folder: str) -> str:
     """What a command prints, as a page has it."""
-    # The system's Python comes before others, since it has the packages. The tools come last: one may have the name of another program. After
-    # them comes the top, for its script `tilt-live`.
-    path = os.pathsep.join([os.path.dirname(BUILT), "/usr/bin", os.environ.get("PATH", ""), os.path.join(TOOLS, "package"), TOP])
+    # The system's Python comes before others, since it has the packages. The tools come last: one may have the name of another program. So
+    # does the top, for its script `tilt-live`.
+    folders = [os.path.dirname(BUILT), "/usr/bin", os.environ.get("PATH", ""), os.path.join(TOOLS, "package"), TOP]
+    path = os.pathsep.join(folders)
     environment = {**os.environ, "PATH": path, "LC_ALL": "C", "PYTHONPATH": os.path.join(TOP, "python"), "PYTHONDONTWRITEBYTECODE": "1"}
     try:
         done = subprocess.run(words, cwd=folder, env=environment, stdin=subprocess.DEVNULL, capture_output=True, timeout=300)
