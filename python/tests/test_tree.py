@@ -5,7 +5,7 @@ import pathlib
 from typing import Callable
 
 import pytest
-from check.tree import architecture, edits, lines, listed, python_files
+from check.tree import architecture, edits, lines, listed, python_files, style
 from shared import crates
 from shared.packages import has_module
 from shared.tally import Tally
@@ -280,6 +280,124 @@ def test_an_exception_of_the_list_is_taken_while_it_is_needed(tree):
 def test_a_line_that_is_too_long(tree, line, good):
     tree.write("crates/tilt_base/src/span.rt", f"// A line.\n{line}\n")
     assert tree.faults(lines.check_lines) == ([] if good else ["crates/tilt_base/src/span.rt:2: more than 140 characters"])
+
+
+PLAIN = """# A page
+
+You write a query, and `tilt` prints its output. The code `tells = but for`
+isn't text.
+
+```sh
+# It tells by the words what it comes to.
+```
+
+    puts what stood anew
+
+- An item.
+- The table stands for rows; put it down. It comes to an end. These are the words that we use.
+
+| `a|b` | means |
+|---|---|
+| words | what is put in quotes isn't code |
+"""
+
+
+def faults_of_style(tree: Tree, text: str) -> list[str]:
+    """What the check of a page with this text prints, if the page is in the list."""
+
+    def check(top: str, tally: Tally) -> None:
+        style.check_style(top, tally, ["docs/PAGE.md", "docs/PLAIN.md"])
+
+    tree.write("docs/PLAIN.md", "A page.\n")
+    tree.write("docs/PAGE.md", text)
+    return tree.faults(check)
+
+
+def test_a_page_in_plain_english(tree):
+    assert faults_of_style(tree, PLAIN.replace("is put in", "is in")) == []
+
+
+@pytest.mark.parametrize(
+    "words, instead",
+    [
+        ("tells", "prints, reports, shows or means"),
+        ("Told", "prints, reports, shows or means"),
+        ("the words", "arguments"),
+        ("same words", "arguments"),
+        ("stands", "is, is in or remains"),
+        ("stand in", "is, is in or remains"),
+        ("is put", "writes, appends, inserts or places"),
+        ("puts", "writes, appends, inserts or places"),
+        ("but for", "except"),
+        ("comes to", "is, gives or results in"),
+        ("some 2,300", "about and the number"),
+        ("for who", "if you .."),
+        ("who comes", "if you .."),
+        ("anew", "again"),
+        ("mended", "fix"),
+        ("reckon", "estimate"),
+        ("see to", "check, fix or ensure"),
+        ("throw away", "discard"),
+        ("Besides", "also"),
+        ("parted", "separated"),
+        ("taken away", "deleted"),
+        ("in any case", "always"),
+        ("want of memory", "out of memory"),
+        ("memory is wanting", "out of memory"),
+    ],
+)
+def test_words_that_a_page_doesnt_have(tree, words, instead):
+    line = f'docs/PAGE.md:3: "{words}": write {instead}'
+    for text in (f"A line\nand another\nthat {words} one.", f"\n\n- It {words} one.", f"\n\n> | a | b {words} c |", f"\n\n## It {words}"):
+        assert faults_of_style(tree, text + "\n") == [line]
+    assert faults_of_style(tree, f"A line `that {words} one`, `and\n{words}` one.\n```text\n{words}\n```\n") == []
+
+
+def test_words_on_two_lines_of_a_page(tree):
+    line = 'docs/PAGE.md:2: "comes to": write is, gives or results in'
+    assert faults_of_style(tree, "A list\nof them comes\nto one.\n") == [line]
+
+
+@pytest.mark.parametrize(
+    "text, words",
+    [
+        ("One " + "two " * 29 + "three.", 31),
+        ("One " + "two " * 28 + "three.", 0),
+        ("A first. One " + "two " * 28 + "three. Another.", 0),
+        # A span of code and a link's text count; what they lead to doesn't.
+        ("One " + "`two and more` " * 15 + "[two](docs/page.md) " * 15 + ".", 31),
+        ("One " + "two " * 20 + "such as 1, 2 .. Nine " + "two " * 10 + ".", 36),
+        ("| " + "two " * 30 + " | " + "two " * 30 + " |", 0),
+        ("- " + "two " * 30 + "\n- " + "two " * 30, 0),
+        ("two " * 30 + "\n\n" + "two " * 30, 0),
+    ],
+)
+def test_a_sentence_that_is_too_long(tree, text, words):
+    found = faults_of_style(tree, f"# A page\n\n{text}\n")
+    assert [fault.partition(" words, ")[0] for fault in found] == ([f"docs/PAGE.md:3: a sentence of {words}"] if words else [])
+
+
+def test_a_long_sentence_has_its_own_line(tree):
+    text = "A first one\nof two lines. Then a\nlong " + "one " * 30 + "ends.\n"
+    assert faults_of_style(tree, text) == ['docs/PAGE.md:2: a sentence of 34 words, "Then a long one one ..": split it']
+
+
+def test_pages_that_arent_in_the_list_are_counted(tree):
+    tally = Tally()
+    tree.write("docs/ARCHITECTURE.md", "It tells what stands.\n")
+    tree.write("docs/GOOD.md", "A page.\n")
+    tree.write("README.md", "A page.\n")
+    style.check_style(str(tree.top), tally, ["README.md"])
+    assert (tally.passed, tally.failed) == (1, 0)
+    assert tally.left_out == ["the style of 2 pages: 2 places to change (pages without any: 1)"]
+    assert tree.capsys.readouterr().out == ""
+
+
+def test_a_page_of_the_list_that_is_gone(tree):
+    tally = Tally()
+    style.check_style(str(tree.top), tally, ["docs/NONE.md"])
+    assert tally.failed == 1
+    assert tree.capsys.readouterr().out == "docs/NONE.md:1: there is no such page (PAGES in tools/check/tree/style.py)\n"
 
 
 CONFIGURATION = '[tool.black]\nline-length = 140\n[tool.mypy]\nstrict = true\nfiles = ["tools"]\n'

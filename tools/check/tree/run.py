@@ -6,6 +6,7 @@
 - crates.txt lists each crate with the libraries that it names, and with no others (`listed.py`).
 - Each edit that a proof has to refuse applies to the code, exactly once (`edits.py`).
 - No line is too long (`lines.py`).
+- The pages have no words of a list, and no long sentences (`style.py`).
 
 What is wrong is printed with its file and its line, and how long each of these takes. The Debian packages that are missing are installed,
 if this user may. The last line is 'N passed, M failed', and the status is 1 if one failed."""
@@ -23,6 +24,7 @@ from check.tree.edits import check_edits
 from check.tree.lines import check_lines
 from check.tree.listed import check_listed
 from check.tree.python_files import check_python
+from check.tree.style import check_style
 from shared.paths import TOP
 from shared.tally import Tally
 
@@ -31,6 +33,7 @@ CHECKS: dict[str, Callable[[str, Tally], None]] = {
     "map": check_map,
     "lines": check_lines,
     "crates.txt": check_listed,
+    "style": check_style,
     "Python": check_python,
 }
 
