@@ -1,10 +1,12 @@
 pub mod Adding
 pub mod Beginning
 pub mod Lines
+pub mod Newly
 pub mod Outputs
 pub mod Pieces
 pub mod Reporting
 pub mod Running
 pub mod Showing
+pub mod Stepping
 pub mod Taking
 pub mod Underway

@@ -7,14 +7,12 @@ use Rattle.tilt_feed.specs.Feed.{Feed}
 use Rattle.tilt_feed_text.proofs.Splitting.{lines-none, lines-until, unfinished-none, unfinished-until}
 use Rattle.tilt_feed_text.specs.Report.{report_of}
 use Rattle.tilt_feed_text.specs.Said.{after_line, content, line_fault, stops}
-use Rattle.tilt_live_run.proofs.Adding.{adds-none, adds-short, adds-stopped, adds-then}
 use Rattle.tilt_live_run.proofs.Reporting.{reports-none, reports-short, reports-stopped, reports-then}
 use Rattle.tilt_live_run.specs.Runs.{RunOptions}
 use Rattle.tilt_live_run.specs.Taken.{HasTakenLine, HasTakenPiece}
 use Rattle.tilt_live_run.specs.declared.stop.Stop.{Stop}
 use Rattle.tilt_live_run.specs.declared.stop.Stop.TheVariants as stop
 use Rattle.tilt_outside.specs.Counts.{next_count}
-use Rattle.tilt_port.specs.Transcript.{Transcript}
 use Rattle.tilt_text.specs.Cut.{until_at}
 
 -- what is so in any case
@@ -29,101 +27,100 @@ ok-into (Err e) A B f a = tt
 pub on-err : (result : Result (Unit {0}) Stop) (A : Type 0) (why : Stop) → result ≡ Err why → OnOk result A
 on-err result A why is = rw is tt
 
-module _ {K : Type 0} (port_tells tells : Type 0) (written : K → List ℕ) (faults : K → ℕ) (core : CoreParts) (options : RunOptions) where
+module _ {K : Type 0} (tells : Type 0) (written : K → List ℕ) (faults : K → ℕ) (core : CoreParts) (options : RunOptions) where
   -- a line that says the same
-  pub line-same : (port port_then : Transcript) (err err_then : K) (Is : ℕ → Feed → Type 0) (number : ℕ) (feed : Feed) (x y : List ℕ) (result : Result (Unit {0}) Stop)
+  pub line-same : (err err_then : K) (Is : ℕ → Feed → Type 0) (Holds : Feed → Type 0) (number : ℕ) (feed : Feed) (x y : List ℕ) (result : Result (Unit {0}) Stop)
       → content core.inputs number x ≡ content core.inputs number y
-      → HasTakenLine port_tells port port_then tells written faults err err_then Is core options number feed x result
-      → HasTakenLine port_tells port port_then tells written faults err err_then Is core options number feed y result
-  line-same port port_then err err_then Is number feed x y result e taken = record {
-    adds = rw e at taken.adds;
+      → HasTakenLine tells written faults err err_then Is Holds core options number feed x result
+      → HasTakenLine tells written faults err err_then Is Holds core options number feed y result
+  line-same err err_then Is Holds number feed x y result e taken = record {
     reports = rw e at taken.reports;
     goes_on = rw e at taken.goes_on;
+    held = taken.held;
     stop = rw e at taken.stop;
   }
 
   -- what the run is then, said otherwise
-  pub line-into : (port port_then : Transcript) (err err_then : K) (Is Then : ℕ → Feed → Type 0) (number : ℕ) (feed : Feed) (x : List ℕ) (result same : Result (Unit {0}) Stop)
+  pub line-into : (err err_then : K) (Is Then : ℕ → Feed → Type 0) (Holds : Feed → Type 0) (number : ℕ) (feed : Feed) (x : List ℕ) (result same : Result (Unit {0}) Stop)
       → same ≡ result → OnOk same ((n : ℕ) (f : Feed) → Is n f → Then n f)
-      → HasTakenLine port_tells port port_then tells written faults err err_then Is core options number feed x result
-      → HasTakenLine port_tells port port_then tells written faults err err_then Then core options number feed x same
-  line-into port port_then err err_then Is Then number feed x (Ok u) same is into taken = rw is record {
-    adds = taken.adds;
+      → HasTakenLine tells written faults err err_then Is Holds core options number feed x result
+      → HasTakenLine tells written faults err err_then Then Holds core options number feed x same
+  line-into err err_then Is Then Holds number feed x (Ok u) same is into taken = rw is record {
     reports = taken.reports;
     goes_on = (rw is at into) (next_count number) (after_line core.inputs number x feed) taken.goes_on;
+    held = tt;
     stop = taken.stop;
   }
-  line-into port port_then err err_then Is Then number feed x (Err e) same is into taken = rw is record {
-    adds = taken.adds;
+  line-into err err_then Is Then Holds number feed x (Err e) same is into taken = rw is record {
     reports = taken.reports;
     goes_on = tt;
+    held = taken.held;
     stop = taken.stop;
   }
 
   -- memory was refused before the line was taken
-  pub line-refused : (port : Transcript) (err : K) (Is : ℕ → Feed → Type 0) (number : ℕ) (feed : Feed) (x : List ℕ) (result : Result (Unit {0}) Stop)
-      → result ≡ Err stop.OutOfMemory → HasTakenLine port_tells port port tells written faults err err Is core options number feed x result
-  line-refused port err Is number feed x result is = record {
-    adds = adds-stopped port_tells port _ stop.OutOfMemory result is (λ e. cc e) (λ e. cc e);
+  pub line-refused : (err : K) (Is : ℕ → Feed → Type 0) (Holds : Feed → Type 0) (number : ℕ) (feed : Feed) (x : List ℕ) (result : Result (Unit {0}) Stop)
+      → result ≡ Err stop.OutOfMemory → HasTakenLine tells written faults err err Is Holds core options number feed x result
+  line-refused err Is Holds number feed x result is = record {
     reports = reports-stopped tells written faults err _ stop.OutOfMemory result is (λ e. cc e);
     goes_on = rw is tt;
+    held = rw is (λ e. absurd (cc e));
     stop = rw is (λ e. absurd (cc e));
   }
 
   -- The first line of a piece that has one.
   module _ (number : ℕ) (feed : Feed) (front piece line rest : List ℕ) (found : until_at 10 piece ≡ Some (line, rest)) where
     -- it was taken, and then the rest of the piece
-    pub piece-more : (port port_mid port_then : Transcript) (err err_mid err_then : K) (Mid : ℕ → Feed → Type 0) (Is : ℕ → Feed → List ℕ → Type 0) (result : Result (Unit {0}) Stop)
-        → HasTakenLine port_tells port port_mid tells written faults err err_mid Mid core options number feed (front ++ line) (Ok tt)
-        → HasTakenPiece port_tells port_mid port_then tells written faults err_mid err_then Is core options (next_count number)
+    pub piece-more : (err err_mid err_then : K) (Mid : ℕ → Feed → Type 0) (Stays Holds : Feed → Type 0) (Is : ℕ → Feed → List ℕ → Type 0) (result : Result (Unit {0}) Stop)
+        → HasTakenLine tells written faults err err_mid Mid Stays core options number feed (front ++ line) (Ok tt)
+        → HasTakenPiece tells written faults err_mid err_then Is Holds core options (next_count number)
         (after_line core.inputs number (front ++ line) feed) [] rest result
-        → HasTakenPiece port_tells port port_then tells written faults err err_then Is core options number feed front piece result
-    piece-more port port_mid port_then err err_mid err_then Mid Is result first later = record {
-      adds = rw (lines-until front piece line rest found, first.stop) (adds-then port_tells port port_mid port_then _ _ tt result (rw first.stop at first.adds) later.adds);
+        → HasTakenPiece tells written faults err err_then Is Holds core options number feed front piece result
+    piece-more err err_mid err_then Mid Stays Holds Is result first later = record {
       reports = rw (lines-until front piece line rest found, first.stop) (reports-then tells written faults err err_mid err_then _ _ tt result first.reports later.reports);
       goes_on = rw (lines-until front piece line rest found, unfinished-until front piece line rest found) later.goes_on;
+      held = rw (lines-until front piece line rest found, first.stop) later.held;
       stop = rw (lines-until front piece line rest found, first.stop) later.stop;
     }
 
     -- the run stopped at it
-    pub piece-stopped : (port port_then : Transcript) (err err_then : K) (Mid : ℕ → Feed → Type 0) (Is : ℕ → Feed → List ℕ → Type 0) (why : Stop) (result : Result (Unit {0}) Stop)
-        → result ≡ Err why → HasTakenLine port_tells port port_then tells written faults err err_then Mid core options number feed (front ++ line) (Err why)
-        → HasTakenPiece port_tells port port_then tells written faults err err_then Is core options number feed front piece result
-    piece-stopped port port_then err err_then Mid Is why result is first =
+    pub piece-stopped : (err err_then : K) (Mid : ℕ → Feed → Type 0) (Holds : Feed → Type 0) (Is : ℕ → Feed → List ℕ → Type 0) (why : Stop) (result : Result (Unit {0}) Stop)
+        → result ≡ Err why → HasTakenLine tells written faults err err_then Mid Holds core options number feed (front ++ line) (Err why)
+        → HasTakenPiece tells written faults err err_then Is Holds core options number feed front piece result
+    piece-stopped err err_then Mid Holds Is why result is first =
         elim (cases_Bool (stops options.strict core.inputs feed number (front ++ line))) [
           | inl stopped ↦ record {
-            adds = rw (is, lines-until front piece line rest found, stopped) (rw stopped at first.adds);
             reports = rw (is, lines-until front piece line rest found, stopped, append-nil (report_of number (line_fault core.inputs feed number (front ++ line)))) first.reports;
             goes_on = rw is tt;
+            held = rw (is, lines-until front piece line rest found, stopped) first.held;
             stop = rw (is, lines-until front piece line rest found, stopped) (λ e. refl);
           }
           | inr going ↦ record {
-            adds = rw (is, lines-until front piece line rest found, going)
-                (adds-short port_tells port port_then _ _ why (Err why) refl (λ e. absurd (cc (sym (first.stop e) ∙ going))) (rw going at first.adds));
             reports = rw (is, lines-until front piece line rest found, going)
                 (reports-short tells written faults err err_then _ _ why (Err why) refl (λ e. absurd (cc (sym (first.stop e) ∙ going))) first.reports);
             goes_on = rw is tt;
+            held = rw is (λ e. absurd (cc (sym (first.stop e) ∙ going)));
             stop = rw is (λ e. absurd (cc (sym (first.stop e) ∙ going)));
           }
         ]
 
-  -- A piece without a line was taken
-  pub piece-end : (port : Transcript) (err : K) (Is : ℕ → Feed → List ℕ → Type 0) (number : ℕ) (feed : Feed) (front piece : List ℕ)
+  -- a piece without a line was taken
+  pub piece-end : (err : K) (Is : ℕ → Feed → List ℕ → Type 0) (Holds : Feed → Type 0) (number : ℕ) (feed : Feed) (front piece : List ℕ)
       → until_at 10 piece ≡ None → Is number feed (front ++ piece)
-      → HasTakenPiece port_tells port port tells written faults err err Is core options number feed front piece (Ok tt)
-  piece-end port err Is number feed front piece none is = record {
-    adds = rw (lines-none front piece none) (adds-none port_tells port tt);
+      → HasTakenPiece tells written faults err err Is Holds core options number feed front piece (Ok tt)
+  piece-end err Is Holds number feed front piece none is = record {
     reports = rw (lines-none front piece none) (reports-none tells written faults err tt);
     goes_on = rw (lines-none front piece none, unfinished-none front piece none) is;
+    held = tt;
     stop = rw (lines-none front piece none) refl;
   }
 
   -- memory was refused before a piece without a line was taken
-  pub piece-refused : (port : Transcript) (err : K) (Is : ℕ → Feed → List ℕ → Type 0) (number : ℕ) (feed : Feed) (front piece : List ℕ) (result : Result (Unit {0}) Stop)
-      → result ≡ Err stop.OutOfMemory → HasTakenPiece port_tells port port tells written faults err err Is core options number feed front piece result
-  piece-refused port err Is number feed front piece result is = record {
-    adds = adds-stopped port_tells port _ stop.OutOfMemory result is (λ e. cc e) (λ e. cc e);
+  pub piece-refused : (err : K) (Is : ℕ → Feed → List ℕ → Type 0) (Holds : Feed → Type 0) (number : ℕ) (feed : Feed) (front piece : List ℕ) (result : Result (Unit {0}) Stop)
+      → result ≡ Err stop.OutOfMemory → HasTakenPiece tells written faults err err Is Holds core options number feed front piece result
+  piece-refused err Is Holds number feed front piece result is = record {
     reports = reports-stopped tells written faults err _ stop.OutOfMemory result is (λ e. cc e);
     goes_on = rw is tt;
+    held = rw is (λ e. absurd (cc e));
     stop = rw is (λ e. absurd (cc e));
   }

@@ -11,7 +11,7 @@ use Rattle.tilt_feed_text.proofs.Splitting.{lines-append, unfinished-append}
 use Rattle.tilt_feed_text.specs.Said.{after_lines, number_after}
 use Rattle.tilt_feed_text.specs.Split.{unfinished, unfinished_after, whole_lines}
 use Rattle.tilt_feed_text.specs.declared.pending.TheConstants.{LINE}
-use Rattle.tilt_live_run.specs.Runs.{IsRunAfter, IsRunOf, RunOptions, feed_after, new_lines, number_of}
+use Rattle.tilt_live_run.specs.Runs.{IsRunAfter, RunOptions, feed_after, new_lines, number_of}
 use Rattle.tilt_live_run.specs.declared.live_run.LiveRun.{LiveRun}
 use Rattle.tilt_live_run.specs.declared.stop.Stop.{Stop}
 use Rattle.tilt_live_run.specs.declared.stop.Stop.TheVariants.{BadLine}
@@ -29,11 +29,11 @@ feed-more core bytes piece =
     rw (whole, before, lines-append [] bytes piece) (after_lines-append core.inputs 0 feed (whole_lines bytes) (new_lines bytes piece))
 
 -- the run of a query after a piece
-pub run-more : (run : LiveRun) (accepted : AcceptedParts) (options : RunOptions) (bytes piece : List ℕ)
+pub run-more : (run : LiveRun) (accepted : AcceptedParts) (options : RunOptions) (bytes piece : List ℕ) (given : ℕ)
     → IsRunAfter run accepted options (number_after (number_of bytes) (new_lines bytes piece))
-    (after_lines accepted.core.inputs (number_of bytes) (feed_after accepted.core bytes) (new_lines bytes piece)) (unfinished_after (unfinished bytes) piece)
-    → IsRunOf run accepted options (bytes ++ piece)
-run-more run accepted options bytes piece is =
+    (after_lines accepted.core.inputs (number_of bytes) (feed_after accepted.core bytes) (new_lines bytes piece)) (unfinished_after (unfinished bytes) piece) given
+    → IsRunAfter run accepted options (number_of (bytes ++ piece)) (feed_after accepted.core (bytes ++ piece)) (unfinished (bytes ++ piece)) given
+run-more run accepted options bytes piece given is =
     rw (number-more bytes piece, feed-more accepted.core bytes piece, unfinished-append [] bytes piece) is
 
 -- the first bytes of a line, by the bytes of them that are kept

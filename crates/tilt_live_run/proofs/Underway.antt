@@ -3,6 +3,7 @@ use Rattle.std.proofs.Common.{◌≡◌, ◌<◌, ℕ, List, [], ◌∷◌, ◌+
 use Rattle.tilt_compiler.specs.Accepted.{AcceptedParts}
 use Rattle.tilt_feed.specs.Feed.{Feed}
 use Rattle.tilt_feed_text.specs.Said.{after_line}
+use Rattle.tilt_live.specs.Lives.{IsLiveOf}
 use Rattle.tilt_live_run.proofs.Pieces.{piece-end, piece-more, piece-refused, piece-stopped}
 use Rattle.tilt_live_run.specs.Runs.{IsRunAfter, RunOptions}
 use Rattle.tilt_live_run.specs.Taken.{HasTakenLine, HasTakenPiece}
@@ -10,7 +11,6 @@ use Rattle.tilt_live_run.specs.declared.live_run.LiveRun.{LiveRun}
 use Rattle.tilt_live_run.specs.declared.stop.Stop.{Stop}
 use Rattle.tilt_live_run.specs.declared.stop.Stop.TheVariants as stop
 use Rattle.tilt_outside.specs.Counts.{next_count}
-use Rattle.tilt_port.specs.Transcript.{Transcript}
 use Rattle.tilt_text.proofs.Words.{front-until}
 use Rattle.tilt_text.specs.Cut.{until_at}
 
@@ -21,37 +21,37 @@ rest-shorter piece line rest found =
     let len = length-append line (10 ∷ rest) in
     rw parts (rw len (omega arith))
 
-module _ {K : Type 0} (port_tells tells : Type 0) (written : K → List ℕ) (faults : K → ℕ) (accepted : AcceptedParts) (options : RunOptions) where
+module _ {K : Type 0} (tells : Type 0) (written : K → List ℕ) (faults : K → ℕ) (accepted : AcceptedParts) (options : RunOptions) (given : ℕ) where
   -- what taking a piece did, if the run is this one then
-  abbrev pub Piece : (port port_then : Transcript) (err err_then : K) (run : LiveRun) (number : ℕ) (feed : Feed) (front piece : List ℕ) → Result (Unit {0}) Stop → Type 0
-  Piece port port_then err err_then run number feed front piece result =
-      HasTakenPiece port_tells port port_then tells written faults err err_then (λ n f rest. IsRunAfter run accepted options n f rest) accepted.core options number feed front piece result
+  abbrev pub Piece : (err err_then : K) (run : LiveRun) (number : ℕ) (feed : Feed) (front piece : List ℕ) → Result (Unit {0}) Stop → Type 0
+  Piece err err_then run number feed front piece result =
+      HasTakenPiece tells written faults err err_then (λ n f rest. IsRunAfter run accepted options n f rest given) (λ f. IsLiveOf run.run.live accepted f given)
+      accepted.core options number feed front piece result
 
   -- what taking a line did
-  abbrev pub Line : (port port_then : Transcript) (err err_then : K) (run : LiveRun) (number : ℕ) (feed : Feed) (line : List ℕ) → Result (Unit {0}) Stop → Type 0
-  Line port port_then err err_then run number feed line result =
-      HasTakenLine port_tells port port_then tells written faults err err_then (λ n f. IsRunAfter run accepted options n f []) accepted.core options number feed line result
+  abbrev pub Line : (err err_then : K) (run : LiveRun) (number : ℕ) (feed : Feed) (line : List ℕ) → Result (Unit {0}) Stop → Type 0
+  Line err err_then run number feed line result =
+      HasTakenLine tells written faults err err_then (λ n f. IsRunAfter run accepted options n f [] given) (λ f. IsLiveOf run.run.live accepted f given)
+      accepted.core options number feed line result
 
-  -- From such a port and sink, number, feed and first bytes of a line on, the run took lines of a piece. It is at the rest of it, and what
-  -- it does with that it does with the piece.
-  module _ (old : Transcript) (err : K) (number : ℕ) (feed : Feed) (front piece : List ℕ) where
-    pub record IsUnderway (run : LiveRun) (port : Transcript) (sink : K) (rest : List ℕ) : Type 0 where
+  -- From such a sink, number, feed and first bytes of a line on, the run took lines of a piece. It is at the rest of it, and what it does
+  -- with that it does with the piece.
+  module _ (err : K) (number : ℕ) (feed : Feed) (front piece : List ℕ) where
+    pub record IsUnderway (run : LiveRun) (sink : K) (rest : List ℕ) : Type 0 where
       pub number_now : ℕ
       pub feed_now : Feed
       pub front_now : List ℕ
-      pub is : IsRunAfter run accepted options number_now feed_now front_now
-      pub onward : (later : LiveRun) (port_then : Transcript) (sink_then : K) (result : Result (Unit {0}) Stop)
-          → Piece port port_then sink sink_then later number_now feed_now front_now rest result
-          → Piece old port_then err sink_then later number feed front piece result
+      pub is : IsRunAfter run accepted options number_now feed_now front_now given
+      pub onward : (later : LiveRun) (sink_then : K) (result : Result (Unit {0}) Stop)
+          → Piece sink sink_then later number_now feed_now front_now rest result → Piece err sink_then later number feed front piece result
 
-    pub underway-first : (run : LiveRun) → IsRunAfter run accepted options number feed front → IsUnderway run old err piece
-    underway-first run is = record { number_now = number; feed_now = feed; front_now = front; is = is; onward = λ later port_then sink_then result taken. taken }
+    pub underway-first : (run : LiveRun) → IsRunAfter run accepted options number feed front given → IsUnderway run err piece
+    underway-first run is = record { number_now = number; feed_now = feed; front_now = front; is = is; onward = λ later sink_then result taken. taken }
 
     -- The next line, in any run that is this one.
-    module _ (run next : LiveRun) (port port_then : Transcript) (sink sink_then : K) (rest line after : List ℕ) (found : until_at 10 rest ≡ Some (line, after))
-        (underway : IsUnderway run port sink rest) where
-      pub underway-more : ((n : ℕ) (f : Feed) (x : List ℕ) → IsRunAfter run accepted options n f x → Line port port_then sink sink_then next n f (x ++ line) (Ok tt))
-          → IsUnderway next port_then sink_then after
+    module _ (run next : LiveRun) (sink sink_then : K) (rest line after : List ℕ) (found : until_at 10 rest ≡ Some (line, after)) (underway : IsUnderway run sink rest) where
+      pub underway-more : ((n : ℕ) (f : Feed) (x : List ℕ) → IsRunAfter run accepted options n f x given → Line sink sink_then next n f (x ++ line) (Ok tt))
+          → IsUnderway next sink_then after
       underway-more taken =
           let first = taken underway.number_now underway.feed_now underway.front_now underway.is in
           record {
@@ -59,33 +59,35 @@ module _ {K : Type 0} (port_tells tells : Type 0) (written : K → List ℕ) (fa
             feed_now = after_line accepted.core.inputs underway.number_now (underway.front_now ++ line) underway.feed_now;
             front_now = [];
             is = first.goes_on;
-            onward = λ later port_last sink_last result rest_taken.
-                underway.onward later port_last sink_last result
-                (piece-more port_tells tells written faults accepted.core options underway.number_now underway.feed_now underway.front_now rest line after found
-                port port_then port_last sink sink_then sink_last (λ n f. IsRunAfter next accepted options n f []) (λ n f x. IsRunAfter later accepted options n f x) result first rest_taken);
+            onward = λ later sink_last result rest_taken.
+                underway.onward later sink_last result
+                (piece-more tells written faults accepted.core options underway.number_now underway.feed_now underway.front_now rest line after found
+                sink sink_then sink_last (λ n f. IsRunAfter next accepted options n f [] given) (λ f. IsLiveOf next.run.live accepted f given)
+                (λ f. IsLiveOf later.run.live accepted f given) (λ n f x. IsRunAfter later accepted options n f x given) result first rest_taken);
           }
 
       pub underway-stopped : (why : Stop) (result : Result (Unit {0}) Stop) → result ≡ Err why
-          → ((n : ℕ) (f : Feed) (x : List ℕ) → IsRunAfter run accepted options n f x → Line port port_then sink sink_then next n f (x ++ line) (Err why))
-          → Piece old port_then err sink_then next number feed front piece result
+          → ((n : ℕ) (f : Feed) (x : List ℕ) → IsRunAfter run accepted options n f x given → Line sink sink_then next n f (x ++ line) (Err why))
+          → Piece err sink_then next number feed front piece result
       underway-stopped why result is taken =
-          underway.onward next port_then sink_then result
-          (piece-stopped port_tells tells written faults accepted.core options underway.number_now underway.feed_now underway.front_now rest line after found
-          port port_then sink sink_then (λ n f. IsRunAfter next accepted options n f []) (λ n f x. IsRunAfter next accepted options n f x) why result is
+          underway.onward next sink_then result
+          (piece-stopped tells written faults accepted.core options underway.number_now underway.feed_now underway.front_now rest line after found
+          sink sink_then (λ n f. IsRunAfter next accepted options n f [] given) (λ f. IsLiveOf next.run.live accepted f given)
+          (λ n f x. IsRunAfter next accepted options n f x given) why result is
           (taken underway.number_now underway.feed_now underway.front_now underway.is))
 
     -- No line is left.
-    module _ (run : LiveRun) (port : Transcript) (sink : K) (rest : List ℕ) (underway : IsUnderway run port sink rest) where
+    module _ (run : LiveRun) (sink : K) (rest : List ℕ) (underway : IsUnderway run sink rest) where
       pub underway-end : (last : LiveRun) → until_at 10 rest ≡ None
-          → ((n : ℕ) (f : Feed) (x : List ℕ) → IsRunAfter run accepted options n f x → IsRunAfter last accepted options n f (x ++ rest))
-          → Piece old port err sink last number feed front piece (Ok tt)
+          → ((n : ℕ) (f : Feed) (x : List ℕ) → IsRunAfter run accepted options n f x given → IsRunAfter last accepted options n f (x ++ rest) given)
+          → Piece err sink last number feed front piece (Ok tt)
       underway-end last none is =
-          underway.onward last port sink (Ok tt)
-          (piece-end port_tells tells written faults accepted.core options port sink (λ n f x. IsRunAfter last accepted options n f x) underway.number_now underway.feed_now
-          underway.front_now rest none (is underway.number_now underway.feed_now underway.front_now underway.is))
+          underway.onward last sink (Ok tt)
+          (piece-end tells written faults accepted.core options sink (λ n f x. IsRunAfter last accepted options n f x given) (λ f. IsLiveOf last.run.live accepted f given)
+          underway.number_now underway.feed_now underway.front_now rest none (is underway.number_now underway.feed_now underway.front_now underway.is))
 
-      pub underway-refused : (last : LiveRun) (result : Result (Unit {0}) Stop) → result ≡ Err stop.OutOfMemory → Piece old port err sink last number feed front piece result
+      pub underway-refused : (last : LiveRun) (result : Result (Unit {0}) Stop) → result ≡ Err stop.OutOfMemory → Piece err sink last number feed front piece result
       underway-refused last result is =
-          underway.onward last port sink result
-          (piece-refused port_tells tells written faults accepted.core options port sink (λ n f x. IsRunAfter last accepted options n f x) underway.number_now underway.feed_now
-          underway.front_now rest result is)
+          underway.onward last sink result
+          (piece-refused tells written faults accepted.core options sink (λ n f x. IsRunAfter last accepted options n f x given) (λ f. IsLiveOf last.run.live accepted f given)
+          underway.number_now underway.feed_now underway.front_now rest result is)

@@ -2,4 +2,5 @@ pub mod Adds
 pub mod Output
 pub mod Reported
 pub mod Runs
+pub mod Stepped
 pub mod Taken

@@ -6,7 +6,7 @@ use Rattle.tilt_feed.specs.Feed.{Feed}
 use Rattle.tilt_feed.specs.Laws.{fed}
 use Rattle.tilt_feed.specs.Printed.{begun, printed}
 use Rattle.tilt_feed_text.specs.Report.{report, reports_from}
-use Rattle.tilt_feed_text.specs.Said.{events_of, number_after, stop_among, taken_from}
+use Rattle.tilt_feed_text.specs.Said.{after_lines, events_of, number_after, stop_among, taken_from}
 use Rattle.tilt_feed_text.specs.Split.{lines_after, unfinished, whole_lines}
 use Rattle.tilt_feed_text.specs.declared.bad_line.BadLine.TheVariants.{NoEnd}
 use Rattle.tilt_feed_text.specs.declared.pending.TheConstants.{LINE}
@@ -21,18 +21,22 @@ pub record RunOptions : Type 0 where
   pub with_begun : Bool
   pub strict : Bool
 
--- the run of a query with these options after so many lines, which made such a feed: all that can be printed was written
-pub record IsLineRunOf (run : LineRun) (accepted : AcceptedParts) (options : RunOptions) (number : ℕ) (feed : Feed) : Type 0 where
-  pub live : IsLiveOf run.live accepted feed (length (printed accepted.core feed))
+-- the run of a query with these options after so many lines, which made such a feed; so many snapshots were written
+pub record IsLineRunOf (run : LineRun) (accepted : AcceptedParts) (options : RunOptions) (number : ℕ) (feed : Feed) (given : ℕ) : Type 0 where
+  pub live : IsLiveOf run.live accepted feed given
   pub number_is : run.number ≡ number
   pub with_begun_is : run.with_begun ≡ options.with_begun
   pub strict_is : run.strict ≡ options.strict
-  pub shown : options.with_begun ≡ true → run.shown ≡ begun_start (begun accepted.core feed)
 
 -- the same, and the first bytes of the next line
-pub record IsRunAfter (run : LiveRun) (accepted : AcceptedParts) (options : RunOptions) (number : ℕ) (feed : Feed) (front : List ℕ) : Type 0 where
-  pub line_run : IsLineRunOf run.run accepted options number feed
+pub record IsRunAfter (run : LiveRun) (accepted : AcceptedParts) (options : RunOptions) (number : ℕ) (feed : Feed) (front : List ℕ) (given : ℕ) : Type 0 where
+  pub line_run : IsLineRunOf run.run accepted options number feed given
   pub pending : run.pending.items ≡ take (LINE + 1) front
+
+-- all that can be printed was written, and what has begun
+pub record IsShown (run : LiveRun) (accepted : AcceptedParts) (options : RunOptions) (number : ℕ) (feed : Feed) (front : List ℕ) : Type 0 where
+  pub after : IsRunAfter run accepted options number feed front (length (printed accepted.core feed))
+  pub begun : options.with_begun ≡ true → run.run.shown ≡ begun_start (begun accepted.core feed)
 
 -- how many lines bytes have, as far as the count goes
 abbrev pub number_of : List ℕ → ℕ
@@ -44,7 +48,7 @@ feed_after core bytes = fed core (events_of core.inputs (whole_lines bytes))
 
 -- the run of a query after bytes of its feed
 abbrev pub IsRunOf : LiveRun → AcceptedParts → RunOptions → List ℕ → Type 0
-IsRunOf run accepted options bytes = IsRunAfter run accepted options (number_of bytes) (feed_after accepted.core bytes) (unfinished bytes)
+IsRunOf run accepted options bytes = IsShown run accepted options (number_of bytes) (feed_after accepted.core bytes) (unfinished bytes)
 
 -- the lines that end in a piece of the feed that comes after bytes
 abbrev pub new_lines : List ℕ → List ℕ → List (List ℕ)
@@ -54,6 +58,12 @@ new_lines bytes piece = lines_after (unfinished bytes) piece
 abbrev pub added : RunOptions → CoreParts → List ℕ → List ℕ → List ℕ
 added options core bytes piece =
     news_from options.with_begun core (number_of bytes) (feed_after core bytes)
+    (taken_from options.strict core.inputs (number_of bytes) (feed_after core bytes) (new_lines bytes piece))
+
+-- the feed after those of them that are taken
+abbrev pub feed_taken : RunOptions → CoreParts → List ℕ → List ℕ → Feed
+feed_taken options core bytes piece =
+    after_lines core.inputs (number_of bytes) (feed_after core bytes)
     (taken_from options.strict core.inputs (number_of bytes) (feed_after core bytes) (new_lines bytes piece))
 
 -- what is reported of them

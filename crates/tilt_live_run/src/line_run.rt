@@ -7,7 +7,7 @@ ghost use Rattle.tilt_feed_text.specs.Report.{report};
 ghost use Rattle.tilt_feed_text.specs.Said.{after_line, line_fault};
 ghost use Rattle.tilt_live.specs.Lives.{IsLive, IsLiveOf};
 ghost use Rattle.tilt_live_run.specs.Adds.{Adds};
-ghost use Rattle.tilt_live_run.specs.Output.{begun_news, first_news};
+ghost use Rattle.tilt_live_run.specs.Output.{begun_news, begun_start, first_news};
 ghost use Rattle.tilt_live_run.specs.Reported.{Reported};
 ghost use Rattle.tilt_live_run.specs.Runs.{IsLineRunOf, RunOptions};
 ghost use Rattle.tilt_live_run.specs.Taken.{HasTakenLine};
@@ -32,10 +32,10 @@ pub(crate) struct LineRun {
     reader: LineReader,
     // How many lines were taken, as far as the count goes.
     pub(crate) number: u64,
-    with_begun: bool,
+    pub(crate) with_begun: bool,
     strict: bool,
     // The start of the snapshot that had begun after the last line.
-    shown: Option<i64>,
+    pub(crate) shown: Option<i64>,
 }
 
 impl LineRun {
@@ -67,34 +67,35 @@ impl LineRun {
             → self.old.shown ≡ None
             → Adds P.tells (P.transcript port.old) (P.transcript port.new) (first_news self.old.with_begun accepted.core) result }
         ensures goes_on { (accepted : AcceptedParts) → IsLiveOf self.old.live accepted (empty_feed (length accepted.core.inputs)) 0
-            → OnOk result (IsLineRunOf self.new accepted (record { with_begun = self.old.with_begun; strict = self.old.strict })
-            self.old.number (empty_feed (length accepted.core.inputs))) }
+            → OnOk result (IsLiveOf self.new.live accepted (empty_feed (length accepted.core.inputs))
+            (length (printed accepted.core (empty_feed (length accepted.core.inputs))))) }
+        ensures begun { (accepted : AcceptedParts) → IsLiveOf self.old.live accepted (empty_feed (length accepted.core.inputs)) 0
+            → OnOk result (self.old.with_begun ≡ true
+            → self.new.shown ≡ begun_start (begun accepted.core (empty_feed (length accepted.core.inputs)))) }
+        ensures rest { (self.new.number ≡ self.old.number) × (self.new.with_begun ≡ self.old.with_begun)
+            × (self.new.strict ≡ self.old.strict) }
         ensures no_bad_line { IfErr result (λ stop. stop ≡ Stop.BadLine → ⊥) }
     {
         write_header(port)?;
         self.show(port)
     }
 
-    // Takes a line without its LF: reports it if it is bad, and writes what it makes final.
-    pub(crate) fn take<P: Port, E: Sink>(
-        &mut self,
-        line: &[u8],
-        port: &mut P,
-        err: &mut E,
-    ) -> Result<(), Stop>
-        requires live { IsLive self.old.live }
-        requires lines { (n : ℕ) → E.takes err.old n }
-        ensures taken { (accepted : AcceptedParts) (options : RunOptions) (number : ℕ) (feed : Feed)
-            → IsLineRunOf self.old accepted options number feed
-            → HasTakenLine P.tells (P.transcript port.old) (P.transcript port.new) E.tells E.written E.faults err.old err.new
-            (λ n f. IsLineRunOf self.new accepted options n f) accepted.core options number feed line.now result }
+    // Takes a line without its LF, and reports it if it is bad. Nothing is written yet.
+    pub(crate) fn take<E: Sink>(&mut self, line: &[u8], err: &mut E) -> Result<(), Stop>
+        requires { (n : ℕ) → E.takes err.old n }
+        ensures taken { (accepted : AcceptedParts) (options : RunOptions) (number : ℕ) (feed : Feed) (given : ℕ)
+            → IsLineRunOf self.old accepted options number feed given
+            → HasTakenLine E.tells E.written E.faults err.old err.new (λ n f. IsLineRunOf self.new accepted options n f given)
+            (λ f. IsLiveOf self.new.live accepted f given) accepted.core options number feed line.now result }
+        ensures kept { (self.new.shown ≡ self.old.shown) × (self.new.with_begun ≡ self.old.with_begun) }
+        ensures no_write_fault { IfErr result (λ stop. stop ≡ Stop.WriteFault → ⊥) }
         ensures takes { (n : ℕ) → E.takes err.new n }
     {
         if let Some(why) = self.take_content(line)? {
             self.report_next(why, err)?;
         }
         self.number = self.number.saturating_add(1);
-        self.show(port)
+        Ok(())
     }
 
     // Reports that the line after those that were taken is bad, which stops the run if bad lines do.
@@ -133,15 +134,18 @@ impl LineRun {
     }
 
     // Writes what can be printed and wasn't, and then what has begun, if that is asked for.
-    fn show<P: Port>(&mut self, port: &mut P) -> Result<(), Stop>
+    pub(crate) fn show<P: Port>(&mut self, port: &mut P) -> Result<(), Stop>
         requires live { IsLive self.old.live }
         ensures adds { (accepted : AcceptedParts) (feed : Feed) (given : ℕ) → IsLiveOf self.old.live accepted feed given
             → Adds P.tells (P.transcript port.old) (P.transcript port.new) (lines_of (drop given (printed accepted.core feed))
             ++ (if self.old.with_begun then begun_news self.old.shown (begun accepted.core feed) else [])) result }
         ensures goes_on { (accepted : AcceptedParts) (feed : Feed) (given : ℕ) → IsLiveOf self.old.live accepted feed given
-            → OnOk result (IsLineRunOf self.new accepted (record { with_begun = self.old.with_begun; strict = self.old.strict })
-            self.old.number feed) }
+            → OnOk result (IsLiveOf self.new.live accepted feed (length (printed accepted.core feed))) }
+        ensures begun { (accepted : AcceptedParts) (feed : Feed) (given : ℕ) → IsLiveOf self.old.live accepted feed given
+            → OnOk result (self.old.with_begun ≡ true → self.new.shown ≡ begun_start (begun accepted.core feed)) }
         ensures no_bad_line { IfErr result (λ stop. stop ≡ Stop.BadLine → ⊥) }
+        ensures rest { (self.new.number ≡ self.old.number) × (self.new.with_begun ≡ self.old.with_begun)
+            × (self.new.strict ≡ self.old.strict) }
     {
         show_final(&mut self.live, port)?;
         if self.with_begun {

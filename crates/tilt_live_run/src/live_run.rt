@@ -1,12 +1,15 @@
 // The run of a query, piece by piece.
-ghost use Rattle.std.specs.Prelude.{◌≡◌, ◌++◌, ◌&&◌, ℕ, List, [], true, false, length, IfOk, IfErr, OnOk, MatchResult};
+ghost use Rattle.std.specs.Prelude.{◌≡◌, ◌++◌, ◌&&◌, ℕ, List, [], true, false, ◌∷◌, None, Some, length, IfOk, IfErr, OnOk, MatchOption, MatchResult};
 ghost use Rattle.tilt_compiler.specs.Accepted.{AcceptedParts};
 ghost use Rattle.tilt_feed.specs.Feed.{Feed};
 ghost use Rattle.tilt_live_run.specs.Adds.{Adds};
 ghost use Rattle.tilt_live_run.specs.Output.{first_news};
 ghost use Rattle.tilt_live_run.specs.Reported.{Reported, Reports};
 ghost use Rattle.tilt_live_run.specs.Runs.{IsRunAfter, IsRunOf, RunOptions, added, end_report, is_stopped, is_unfinished, reported};
+ghost use Rattle.tilt_live_run.specs.Stepped.{HasStepped, HasTaken, is_lost};
 ghost use Rattle.tilt_live_run.specs.Taken.{HasTakenLine, HasTakenPiece};
+ghost use Rattle.tilt_live.specs.Lives.{IsLiveOf};
+ghost use Rattle.tilt_text.specs.Cut.{until_at};
 
 use crate::line_run::LineRun;
 use crate::stop::Stop;
@@ -69,28 +72,72 @@ impl LiveRun {
             (λ stop. stop ≡ Stop.BadLine → is_stopped options accepted.core bytes piece.now ≡ true) }
         ensures takes { (n : ℕ) → E.takes err.new n }
     {
-        self.take_piece(piece, port, err)
+        if !self.run.with_begun {
+            return self.step(piece, port, err);
+        }
+        self.take_lines(piece, port, err)
     }
 
-    // The same, said of any lines before the piece.
-    fn take_piece<P: Port, E: Sink>(
+    // The same, line by line: after each line what has begun is written too.
+    fn take_lines<P: Port, E: Sink>(
         &mut self,
         piece: &[u8],
         port: &mut P,
         err: &mut E,
     ) -> Result<(), Stop>
-        requires is { (accepted : AcceptedParts) × (options : RunOptions) × (number : ℕ) × (feed : Feed) × (front : List ℕ)
-            × IsRunAfter self.old accepted options number feed front }
+        requires is { (accepted : AcceptedParts) × (options : RunOptions) × (bytes : List ℕ) × IsRunOf self.old accepted options bytes }
         requires lines { (n : ℕ) → E.takes err.old n }
-        ensures taken { (accepted : AcceptedParts) (options : RunOptions) (number : ℕ) (feed : Feed) (front : List ℕ)
-            → IsRunAfter self.old accepted options number feed front
-            → HasTakenPiece P.tells (P.transcript port.old) (P.transcript port.new) E.tells E.written E.faults err.old err.new
-            (λ n f rest. IsRunAfter self.new accepted options n f rest) accepted.core options number feed front piece.now result }
+        ensures taken { (accepted : AcceptedParts) (options : RunOptions) (bytes : List ℕ) → IsRunOf self.old accepted options bytes
+            → HasTaken P.tells (P.transcript port.old) (P.transcript port.new) E.tells E.written E.faults err.old err.new
+            (λ later. IsRunOf self.new accepted options later) accepted.core options bytes piece.now result }
+        ensures takes { (n : ℕ) → E.takes err.new n }
+    {
+        let mut rest = piece;
+        while let Some((line, after)) = split_line(rest) {
+            self.step(line, port, err)?;
+            rest = after;
+        }
+        self.step(rest, port, err)
+    }
+
+    // Takes a piece, and then writes what all of its lines make final.
+    fn step<P: Port, E: Sink>(
+        &mut self,
+        piece: &[u8],
+        port: &mut P,
+        err: &mut E,
+    ) -> Result<(), Stop>
+        requires is { (accepted : AcceptedParts) × (options : RunOptions) × (bytes : List ℕ) × IsRunOf self.old accepted options bytes }
+        requires lines { (n : ℕ) → E.takes err.old n }
+        ensures stepped { (accepted : AcceptedParts) (options : RunOptions) (bytes : List ℕ) → IsRunOf self.old accepted options bytes
+            → HasStepped P.tells (P.transcript port.old) (P.transcript port.new) E.tells E.written E.faults err.old err.new
+            (λ later. IsRunOf self.new accepted options later) accepted.core options bytes piece.now result }
+        ensures takes { (n : ℕ) → E.takes err.new n }
+    {
+        let heard = self.take_piece(piece, err);
+        if is_lost(heard) {
+            return heard;
+        }
+        self.run.show(port)?;
+        heard
+    }
+
+    // Takes a piece, and writes nothing yet.
+    fn take_piece<E: Sink>(&mut self, piece: &[u8], err: &mut E) -> Result<(), Stop>
+        requires is { (accepted : AcceptedParts) × (options : RunOptions) × (number : ℕ) × (feed : Feed) × (front : List ℕ) × (given : ℕ)
+            × IsRunAfter self.old accepted options number feed front given }
+        requires lines { (n : ℕ) → E.takes err.old n }
+        ensures taken { (accepted : AcceptedParts) (options : RunOptions) (number : ℕ) (feed : Feed) (front : List ℕ) (given : ℕ)
+            → IsRunAfter self.old accepted options number feed front given
+            → HasTakenPiece E.tells E.written E.faults err.old err.new (λ n f rest. IsRunAfter self.new accepted options n f rest given)
+            (λ f. IsLiveOf self.new.run.live accepted f given) accepted.core options number feed front piece.now result }
+        ensures kept { (self.new.run.shown ≡ self.old.run.shown) × (self.new.run.with_begun ≡ self.old.run.with_begun) }
+        ensures no_write_fault { IfErr result (λ stop. stop ≡ Stop.WriteFault → ⊥) }
         ensures takes { (n : ℕ) → E.takes err.new n }
     {
         let mut rest = piece;
         while let Some((line, after)) = until(rest, b'\n') {
-            self.take_end(line, port, err)?;
+            self.take_end(line, err)?;
             rest = after;
         }
         append_cut(&mut self.pending, rest)?;
@@ -98,26 +145,23 @@ impl LiveRun {
     }
 
     // Takes the last bytes of a line, before its LF.
-    fn take_end<P: Port, E: Sink>(
-        &mut self,
-        end: &[u8],
-        port: &mut P,
-        err: &mut E,
-    ) -> Result<(), Stop>
-        requires is { (accepted : AcceptedParts) × (options : RunOptions) × (number : ℕ) × (feed : Feed) × (front : List ℕ)
-            × IsRunAfter self.old accepted options number feed front }
+    fn take_end<E: Sink>(&mut self, end: &[u8], err: &mut E) -> Result<(), Stop>
+        requires is { (accepted : AcceptedParts) × (options : RunOptions) × (number : ℕ) × (feed : Feed) × (front : List ℕ) × (given : ℕ)
+            × IsRunAfter self.old accepted options number feed front given }
         requires lines { (n : ℕ) → E.takes err.old n }
-        ensures taken { (accepted : AcceptedParts) (options : RunOptions) (number : ℕ) (feed : Feed) (front : List ℕ)
-            → IsRunAfter self.old accepted options number feed front
-            → HasTakenLine P.tells (P.transcript port.old) (P.transcript port.new) E.tells E.written E.faults err.old err.new
-            (λ n f. IsRunAfter self.new accepted options n f []) accepted.core options number feed (front ++ end.now) result }
+        ensures taken { (accepted : AcceptedParts) (options : RunOptions) (number : ℕ) (feed : Feed) (front : List ℕ) (given : ℕ)
+            → IsRunAfter self.old accepted options number feed front given
+            → HasTakenLine E.tells E.written E.faults err.old err.new (λ n f. IsRunAfter self.new accepted options n f [] given)
+            (λ f. IsLiveOf self.new.run.live accepted f given) accepted.core options number feed (front ++ end.now) result }
+        ensures kept { (self.new.run.shown ≡ self.old.run.shown) × (self.new.run.with_begun ≡ self.old.run.with_begun) }
+        ensures no_write_fault { IfErr result (λ stop. stop ≡ Stop.WriteFault → ⊥) }
         ensures takes { (n : ℕ) → E.takes err.new n }
     {
         if self.pending.is_empty() {
-            return self.run.take(end, port, err);
+            return self.run.take(end, err);
         }
         append_cut(&mut self.pending, end)?;
-        self.run.take(&self.pending, port, err)?;
+        self.run.take(&self.pending, err)?;
         self.pending.clear();
         Ok(())
     }
@@ -138,4 +182,20 @@ impl LiveRun {
         }
         self.run.report_next(BadLine::NoEnd, err)
     }
+}
+
+// Whether a run can't go on showing anything: it stopped, and not at a bad line.
+fn is_lost(heard: Result<(), Stop>) -> bool
+    ensures { result ≡ is_lost heard }
+{
+    matches!(heard, Err(Stop::WriteFault | Stop::OutOfMemory))
+}
+
+// The first line with its LF, and the rest; `None` if there is no LF.
+fn split_line(bytes: &[u8]) -> Option<(&[u8], &[u8])>
+    ensures { MatchOption result (until_at 10 bytes.now ≡ None)
+        (λ parts. (line : List ℕ) × (until_at 10 bytes.now ≡ Some (line, parts.1.now)) × (parts.0.now ≡ line ++ 10 ∷ [])) }
+{
+    let (line, _) = until(bytes, b'\n')?;
+    Some(bytes.split_at(line.len() + 1))
 }

@@ -17,3 +17,7 @@ returns-clause-adds g c = λ accepted is shown.
 pub returns-clause-goes_on : goal.returns-clause-goes_on
 returns-clause-goes_on g c = λ accepted is.
     c.show.ensures.goes_on accepted (empty_feed (length accepted.core.inputs)) 0 is
+
+pub returns-clause-begun : goal.returns-clause-begun
+returns-clause-begun g c = λ accepted is.
+    c.show.ensures.begun accepted (empty_feed (length accepted.core.inputs)) 0 is

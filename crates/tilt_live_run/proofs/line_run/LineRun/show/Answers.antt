@@ -1,4 +1,4 @@
-use Rattle.std.proofs.Common.{◌∙◌, ap, Err, refl}
+use Rattle.std.proofs.Common.{◌∙◌, ap, Err, sym}
 use Rattle.std.proofs.lemmas.List.{append-nil}
 use Rattle.std.proofs.lemmas.Result.{err_from_is_err_and}
 use Rattle.tilt_live_run.proofs.Adding.{adds-again, adds-short, adds-then, adds-value}
@@ -30,6 +30,11 @@ returns-else-self-clause-adds g c = λ accepted feed given is.
 
 pub returns-in_ok-self-clause-goes_on : goal.returns-in_ok-self-clause-goes_on
 returns-in_ok-self-clause-goes_on g c = λ accepted feed given is.
-    let later = c.in_ok-show_final.ensures.goes_on accepted feed given is in
-    let shown = c.in_ok-self.ensures.goes_on accepted feed later in
-    record { live = shown.1; number_is = refl; with_begun_is = refl; strict_is = refl; shown = λ _. shown.0 }
+    (c.in_ok-self.ensures.goes_on accepted feed (c.in_ok-show_final.ensures.goes_on accepted feed given is)).1
+
+pub returns-in_ok-self-clause-begun : goal.returns-in_ok-self-clause-begun
+returns-in_ok-self-clause-begun g c = λ accepted feed given is _.
+    (c.in_ok-self.ensures.goes_on accepted feed (c.in_ok-show_final.ensures.goes_on accepted feed given is)).0
+
+pub returns-else-self-clause-begun : goal.returns-else-self-clause-begun
+returns-else-self-clause-begun g c = λ accepted feed given is yes. absurd (cc (sym c.if-self.false ∙ yes))

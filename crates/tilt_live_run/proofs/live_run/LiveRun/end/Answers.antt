@@ -9,23 +9,23 @@ pub returns-then-is_empty-clause-reports : goal.returns-then-is_empty-clause-rep
 returns-then-is_empty-clause-reports g c = λ accepted options bytes is.
     let stored : vec_len c.args.self.now.pending ≡ length c.args.self.now.pending.items = search rules in
     let none = rw stored at (sym c.is_empty.ensures ∙ c.if-is_empty.true) in
-    rw (none-kept (unfinished bytes) c.args.self.now.pending.items is.pending none) (reported-none _ _ _ _)
+    rw (none-kept (unfinished bytes) c.args.self.now.pending.items is.after.pending none) (reported-none _ _ _ _)
 
 pub returns-then-is_empty-clause-stops : goal.returns-then-is_empty-clause-stops
 returns-then-is_empty-clause-stops g c = λ accepted options bytes is.
     let stored : vec_len c.args.self.now.pending ≡ length c.args.self.now.pending.items = search rules in
     let none = rw stored at (sym c.is_empty.ensures ∙ c.if-is_empty.true) in
-    rw (none-kept (unfinished bytes) c.args.self.now.pending.items is.pending none) (and-none options.strict)
+    rw (none-kept (unfinished bytes) c.args.self.now.pending.items is.after.pending none) (and-none options.strict)
 
 pub returns-clause-reports : goal.returns-clause-reports
 returns-clause-reports g c = λ accepted options bytes is.
     let stored : vec_len c.args.self.now.pending ≡ length c.args.self.now.pending.items = search rules in
     let some = rw stored at (sym c.is_empty.ensures ∙ c.if-is_empty.false) in
-    rw (some-kept (unfinished bytes) c.args.self.now.pending.items is.pending some) (rw is.line_run.number_is at c.report_next.ensures.reported)
+    rw (some-kept (unfinished bytes) c.args.self.now.pending.items is.after.pending some) (rw is.after.line_run.number_is at c.report_next.ensures.reported)
 
 pub returns-clause-stops : goal.returns-clause-stops
 returns-clause-stops g c = λ accepted options bytes is.
     let stored : vec_len c.args.self.now.pending ≡ length c.args.self.now.pending.items = search rules in
     let some = rw stored at (sym c.is_empty.ensures ∙ c.if-is_empty.false) in
-    rw (some-kept (unfinished bytes) c.args.self.now.pending.items is.pending some)
-    (strict-same options.strict c.report_next.result (rw is.line_run.strict_is at c.report_next.ensures.result))
+    rw (some-kept (unfinished bytes) c.args.self.now.pending.items is.after.pending some)
+    (strict-same options.strict c.report_next.result (rw is.after.line_run.strict_is at c.report_next.ensures.result))

@@ -1,4 +1,4 @@
-use Rattle.std.proofs.Common.{ℕ, List, length}
+use Rattle.std.proofs.Common.{◌≡◌, ℕ, List, length}
 use Rattle.tilt_compiler.specs.Accepted.{AcceptedParts}
 use Rattle.tilt_feed.specs.Feed.{Feed}
 use Rattle.tilt_live_run.proofs.Underway.{IsUnderway}
@@ -8,10 +8,11 @@ use Rattle.tilt_live_run.proofs.live_run.LiveRun.take_piece.Given as goal
 abbrev pub invariant-loop-line : goal.invariant-loop-line
 invariant-loop-line g l = record {
   takes : (n : ℕ) → g.E.Sink.takes l.err n;
-  of : (accepted : AcceptedParts) (options : RunOptions) (number : ℕ) (feed : Feed) (front : List ℕ)
-      → IsRunAfter l.fn.self accepted options number feed front
-      → IsUnderway g.P.Port.tells g.E.Sink.tells g.E.Sink.written g.E.Sink.faults accepted options (g.P.Port.transcript l.fn.port) l.fn.err number feed front l.fn.piece
-      l.self (g.P.Port.transcript l.port) l.err l.rest;
+  shown : l.self.run.shown ≡ l.fn.self.run.shown;
+  with_begun : l.self.run.with_begun ≡ l.fn.self.run.with_begun;
+  of : (accepted : AcceptedParts) (options : RunOptions) (number : ℕ) (feed : Feed) (front : List ℕ) (given : ℕ)
+      → IsRunAfter l.fn.self accepted options number feed front given
+      → IsUnderway g.E.Sink.tells g.E.Sink.written g.E.Sink.faults accepted options given l.fn.err number feed front l.fn.piece l.self l.err l.rest;
 }
 
 abbrev pub decreases-loop-line : goal.decreases-loop-line
