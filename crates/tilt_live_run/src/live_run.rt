@@ -1,5 +1,6 @@
 // The run of a query, piece by piece.
-ghost use Rattle.std.specs.Prelude.{◌≡◌, ◌++◌, ◌&&◌, ℕ, List, [], true, false, ◌∷◌, None, Some, length, IfOk, IfErr, OnOk, MatchOption, MatchResult};
+ghost use Rattle.std.specs.Prelude.{◌≡◌, ◌++◌, ◌&&◌, ℕ, List, [], true, false};
+ghost use Rattle.std.specs.Prelude.{◌∷◌, None, Some, length, IfOk, IfErr, OnOk, MatchOption, MatchResult};
 ghost use Rattle.tilt_compiler.specs.Accepted.{AcceptedParts};
 ghost use Rattle.tilt_feed.specs.Feed.{Feed};
 ghost use Rattle.tilt_live_run.specs.Adds.{Adds};
