@@ -32,9 +32,13 @@ use Rattle.tilt_feed.specs.Printed.{begun, printed}
 use Rattle.tilt_feed.specs.Resting.{LooksNear, all_resting, begun_next, ended_by, resting, whole}
 use Rattle.tilt_feed.specs.declared.event.Event.{Event}
 use Rattle.tilt_live.proofs.Reaching.{code-reaches}
-use Rattle.tilt_live.specs.Lives.{IsLive, IsLiveOf, KeepsFewOf}
+use Rattle.tilt_live.specs.Lives.{IsLive, IsLiveOf, KeepsFewOf, KeepsHorizon}
 use Rattle.tilt_live.specs.declared.live.Live.{Live}
 use Rattle.tilt_stream.specs.Snap.{Snapshot}
+
+-- a live engine that keeps no horizon
+no-horizon : (live : Live) (core : CoreParts) (feed : Feed) → live.known ≡ None → KeepsHorizon live core feed
+no-horizon live core feed none = λ tick e. absurd (cc (sym none ∙ e))
 
 -- a snapshot of a list that is there
 there-below : (list : List Snapshot) (place : ℕ) (s : Snapshot) → Some s ≡ slice_get list place → place + 1 ≤ length list
@@ -119,11 +123,11 @@ module _ (live : Live) (core : CoreParts) (core_is : core ≡ live.accepted.core
       found ∙ (λ i. clipped (output_domain (core_same i)).end (horizon_of (with_horizons (here i) (core_same i).defs) (emitted_number (core_same i))))
 
 -- the live engine before the first event
-pub new-live : (live : Live) (accepted : AcceptedParts) (code : CodeParts) → live.accepted ≡ accepted → live.refused ≡ false → IsAccepted accepted
+pub new-live : (live : Live) (accepted : AcceptedParts) (code : CodeParts) → live.accepted ≡ accepted → live.refused ≡ false → live.known ≡ None → IsAccepted accepted
     → IsCodeOf accepted.core accepted.fuse code
     → ((rows : List (List Snapshot)) → length rows ≡ length accepted.core.inputs → output_of accepted.core rows ≡ Some (run_of code rows))
     → code.inputs ≡ accepted.core.inputs → IsEngineOf live.engine code (empty_feed (length code.inputs)) 0 → IsLiveOf live accepted (empty_feed (length accepted.core.inputs)) 0
-new-live live accepted code accepted_is sound valid code_is means inputs runs = record {
+new-live live accepted code accepted_is sound none valid code_is means inputs runs = record {
   accepted_is = accepted_is;
   valid = valid;
   events = [];
@@ -134,14 +138,16 @@ new-live live accepted code accepted_is sound valid code_is means inputs runs = 
   runs = subst (λ (list : List (List ℕ)). IsEngineOf live.engine code (empty_feed (length list)) 0) inputs runs;
   within = omega arith;
   sound = sound;
+  known = no-horizon live accepted.core (empty_feed (length accepted.core.inputs)) none;
 }
 
 -- the same live engine, later
 module _ (live later : Live) (same : later.accepted ≡ live.accepted) (sound : later.refused ≡ live.refused) (accepted : AcceptedParts) (feed : Feed) (given : ℕ)
     (is : IsLiveOf live accepted feed given) where
   -- its engine has gone on
-  live-later : (more : ℕ) → IsEngineOf later.engine is.code feed more → more ≤ length (printed accepted.core feed) → IsLiveOf later accepted feed more
-  live-later more runs within = record {
+  pub live-later : (more : ℕ) → IsEngineOf later.engine is.code feed more → more ≤ length (printed accepted.core feed) → KeepsHorizon later accepted.core feed
+      → IsLiveOf later accepted feed more
+  live-later more runs within known = record {
     accepted_is = same ∙ is.accepted_is;
     valid = is.valid;
     events = is.events;
@@ -152,11 +158,12 @@ module _ (live later : Live) (same : later.accepted ≡ live.accepted) (sound : 
     runs = runs;
     within = within;
     sound = sound ∙ is.sound;
+    known = known;
   }
 
   -- after one event more
-  live-after : (event : Event) → IsEngineOf later.engine is.code (after event feed) given → IsLiveOf later accepted (after event feed) given
-  live-after event runs = record {
+  live-after : (event : Event) → later.known ≡ None → IsEngineOf later.engine is.code (after event feed) given → IsLiveOf later accepted (after event feed) given
+  live-after event none runs = record {
     accepted_is = same ∙ is.accepted_is;
     valid = is.valid;
     events = is.events ++ event ∷ [];
@@ -167,38 +174,39 @@ module _ (live later : Live) (same : later.accepted ≡ live.accepted) (sound : 
     runs = runs;
     within = omega (arith, is.within, printed-longer live accepted feed given is event);
     sound = sound ∙ is.sound;
+    known = no-horizon later accepted.core (after event feed) none;
   }
 
-  pub live-taken : (event : Event) (result : Result (Unit {0}) TakeError) → HasTaken result event feed (λ next_feed. IsEngineOf later.engine is.code next_feed given)
+  pub live-taken : (event : Event) (result : Result (Unit {0}) TakeError) → later.known ≡ None → HasTaken result event feed (λ next_feed. IsEngineOf later.engine is.code next_feed given)
       → HasTaken result event feed (λ next_feed. IsLiveOf later accepted next_feed given)
-  live-taken event (Ok done) taken = (taken.0, live-after event taken.1)
-  live-taken event (Err (Fault fault)) taken = (taken.0, live-later given taken.1 is.within)
-  live-taken event (Err OutOfMemory) taken = (taken.0, live-later given taken.1 is.within)
+  live-taken event (Ok done) none taken = (taken.0, live-after event none taken.1)
+  live-taken event (Err (Fault fault)) none taken = (taken.0, live-later given taken.1 is.within (no-horizon later accepted.core feed none))
+  live-taken event (Err OutOfMemory) none taken = (taken.0, live-later given taken.1 is.within (no-horizon later accepted.core feed none))
 
   -- what its engine finds next is the next snapshot that may be printed
-  pub live-next : {E : Type 0} (limit : ℤ) (result : Result (Option Snapshot) E) → limit ≡ horizon accepted.core feed
+  pub live-next : {E : Type 0} (limit : ℤ) (result : Result (Option Snapshot) E) → later.known ≡ live.known → limit ≡ horizon accepted.core feed
       → (IsKnownAt (last_horizon is.code feed) limit
       → IfOk result (λ next. (next ≡ slice_get (ended_by limit (run_at_rest is.code feed)) given) × IsEngineOf later.engine is.code feed (given_after given next)))
       → IfOk result (λ next. (next ≡ slice_get (printed accepted.core feed) given) × IsLiveOf later accepted feed (given_after given next))
-  live-next limit (Err fault) at found = tt
-  live-next limit (Ok next) at found =
+  live-next limit (Err fault) kept at found = tt
+  live-next limit (Ok next) kept at found =
       let known = subst (IsKnownAt (last_horizon is.code feed)) (sym at) (horizon-known live accepted feed given is) in
       let one = found known in
       let printed_are = ap (λ (tick : ℤ). ended_by tick (run_at_rest is.code feed)) at ∙ printed-is live accepted feed given is in
       let next_is : next ≡ slice_get (printed accepted.core feed) given = one.0 ∙ ap (λ (list : List Snapshot). slice_get list given) printed_are in
-      (next_is, live-later (given_after given next) one.1 (given-within (printed accepted.core feed) given next is.within next_is))
+      (next_is, live-later (given_after given next) one.1 (given-within (printed accepted.core feed) given next is.within next_is) (rw kept is.known))
 
   -- and what it finds begun is what has begun
-  pub live-begun : {E : Type 0} (limit : ℤ) (result : Result (Option (ℤ × Option ℤ)) E) → limit ≡ horizon accepted.core feed
+  pub live-begun : {E : Type 0} (limit : ℤ) (result : Result (Option (ℤ × Option ℤ)) E) → later.known ≡ live.known → limit ≡ horizon accepted.core feed
       → (IsKnownAt (last_horizon is.code feed) limit
       → IfOk result (λ found. (found ≡ begun_pair (begun_next limit (drop given (run_at_rest is.code feed)))) × IsEngineOf later.engine is.code feed given))
       → IfOk result (λ found. (given ≡ length (printed accepted.core feed) → found ≡ begun_pair (begun accepted.core feed)) × IsLiveOf later accepted feed given)
-  live-begun limit (Err fault) at found = tt
-  live-begun limit (Ok next) at found =
+  live-begun limit (Err fault) kept at found = tt
+  live-begun limit (Ok next) kept at found =
       let known = subst (IsKnownAt (last_horizon is.code feed)) (sym at) (horizon-known live accepted feed given is) in
       let one = found known in
       let at_rest = ap (λ (tick : ℤ). begun_next tick (drop given (run_at_rest is.code feed))) at in
-      (λ all. one.0 ∙ ap begun_pair (at_rest ∙ begun-is live accepted feed given is all), live-later given one.1 is.within)
+      (λ all. one.0 ∙ ap begun_pair (at_rest ∙ begun-is live accepted feed given is all), live-later given one.1 is.within (rw kept is.known))
 
 -- a live engine to which no memory was refused is one of some feed
 pub of-some-feed : (live : Live) → IsLive live → live.refused ≡ false → (accepted : AcceptedParts) × (feed : Feed) × (given : ℕ) × IsLiveOf live accepted feed given

@@ -1,5 +1,6 @@
 -- Which live engine is one of a feed (our own rule).
 use Rattle.std.specs.Prelude.{◌≡◌, ◌≤◌, ◌⊎◌, ℕ, true, false, List, length, Some}
+use Rattle.std.specs.Option.{ForSome}
 use Rattle.tilt_code.specs.Code.{CodeParts}
 use Rattle.tilt_code.specs.Run.{run_of}
 use Rattle.tilt_compiler.specs.Accepted.{AcceptedParts, IsAccepted}
@@ -9,6 +10,7 @@ use Rattle.tilt_core.specs.Meaning.{output_of}
 use Rattle.tilt_engine.specs.Engines.{IsEngineOf, held_by, room_of}
 use Rattle.tilt_engine.specs.Keeping.{KeepsFew}
 use Rattle.tilt_feed.specs.Feed.{Feed}
+use Rattle.tilt_feed.specs.Horizon.{horizon}
 use Rattle.tilt_feed.specs.Laws.{fed}
 use Rattle.tilt_feed.specs.Printed.{printed}
 use Rattle.tilt_feed.specs.declared.event.Event.{Event}
@@ -18,6 +20,10 @@ use Rattle.tilt_stream.specs.Snap.{Snapshot}
 -- the run of a code is what a query gives, whatever the rows are
 pub record IsMeant (core : CoreParts) (code : CodeParts) : Type 0 where
   pub on : (rows : List (List Snapshot)) → length rows ≡ length core.inputs → output_of core rows ≡ Some (run_of code rows)
+
+-- the horizon that is kept, if one is, is that of the feed
+abbrev pub KeepsHorizon : Live → CoreParts → Feed → Type 0
+KeepsHorizon live core feed = ForSome live.known (λ tick. tick ≡ horizon core feed)
 
 -- the live engine of an accepted query, after a feed, that has returned so many of the snapshots that may be printed: its engine runs the
 -- code of the query
@@ -32,6 +38,7 @@ pub record IsLiveOf (live : Live) (accepted : AcceptedParts) (feed : Feed) (give
   pub runs : IsEngineOf live.engine code feed given
   pub within : given ≤ length (printed accepted.core feed)
   pub sound : live.refused ≡ false
+  pub known : KeepsHorizon live accepted.core feed
 
 -- a live engine to which memory was refused while it looked for what comes next
 abbrev pub IsRefusedLive : Live → Type 0

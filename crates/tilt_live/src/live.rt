@@ -25,6 +25,8 @@ pub struct Live {
     accepted: Accepted,
     engine: Engine,
     refused: bool,
+    // Up to which tick the output is known, if it was looked for since the last event.
+    known: Option<i64>,
     alloc: Global,
 }
 
@@ -40,6 +42,7 @@ impl Live {
             accepted,
             engine,
             refused: false,
+            known: None,
             alloc,
         })
     }
@@ -72,6 +75,7 @@ impl Live {
         ensures for_good { IsRefusedLive self.old → IsRefusedLive self.new }
         ensures live { IsLive self.old → IsLive self.new }
     {
+        self.known = None;
         self.engine.take(event)
     }
 
@@ -159,8 +163,25 @@ impl Live {
         self.engine.begun(horizon)
     }
 
-    // Up to which tick the output is known.
-    fn horizon(&self) -> Result<i64, OutOfMemory>
+    // Up to which tick the output is known. It is looked for once after an event.
+    fn horizon(&mut self) -> Result<i64, OutOfMemory>
+        requires { (accepted : AcceptedParts) × (feed : Feed) × (given : ℕ) × IsLiveOf self.old accepted feed given }
+        ensures tick { (accepted : AcceptedParts) (feed : Feed) (given : ℕ) → IsLiveOf self.old accepted feed given
+            → IfOk result (λ tick. tick ≡ horizon accepted.core feed) }
+        ensures live { (accepted : AcceptedParts) (feed : Feed) (given : ℕ) → IsLiveOf self.old accepted feed given
+            → IsLiveOf self.new accepted feed given }
+        ensures engine { self.new.engine ≡ self.old.engine }
+    {
+        if let Some(tick) = self.known {
+            return Ok(tick);
+        }
+        let tick = self.find_horizon()?;
+        self.known = Some(tick);
+        Ok(tick)
+    }
+
+    // Looks up to which tick the output is known.
+    fn find_horizon(&self) -> Result<i64, OutOfMemory>
         requires { (accepted : AcceptedParts) × (feed : Feed) × (given : ℕ) × IsLiveOf self.now accepted feed given }
         ensures { IfOk result (λ tick. (accepted : AcceptedParts) (feed : Feed) (given : ℕ) → IsLiveOf self.now accepted feed given
             → tick ≡ horizon accepted.core feed) }

@@ -5,13 +5,15 @@ use Rattle.tilt_live.proofs.live.Live.find_next.Goals as goal
 
 pub returns-clause-next : goal.returns-clause-next
 returns-clause-next c = λ accepted feed given is.
-    let live = c.args.self.now in
-    let later : Live = record { accepted = live.accepted; engine = c.next.new.self; refused = live.refused; alloc = live.alloc } in
+    let live = c.horizon.new.self in
+    let now = c.horizon.ensures.live accepted feed given is in
+    let later : Live = record { accepted = live.accepted; engine = c.next.new.self; refused = live.refused; known = live.known; alloc = live.alloc } in
     let tick = c.in_ok-horizon.horizon in
     let fits : FitsSigned w64 tick = search rules in
-    live-next live later refl refl accepted feed given is (to_z w64 (of_z w64 tick)) c.next.result (to_z-of_z fits ∙ c.in_ok-horizon.ensures accepted feed given is)
-    (c.next.ensures.next is.code feed given is.runs)
+    live-next live later refl refl accepted feed given now (to_z w64 (of_z w64 tick)) c.next.result refl (to_z-of_z fits ∙ c.in_ok-horizon.ensures.tick accepted feed given is)
+    (c.next.ensures.next now.code feed given now.runs)
 
 pub returns-clause-bounded : goal.returns-clause-bounded
 returns-clause-bounded c = λ accepted feed given is.
-    live-few c.args.self.now accepted feed given _ _ _ c.next.result is (c.next.ensures.bounded is.code feed given is.runs)
+    let now = c.horizon.ensures.live accepted feed given is in
+    rw (← c.horizon.ensures.engine) (live-few c.horizon.new.self accepted feed given _ _ _ c.next.result now (c.next.ensures.bounded now.code feed given now.runs))

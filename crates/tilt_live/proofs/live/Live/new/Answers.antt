@@ -12,4 +12,4 @@ new-requires c =
 pub returns-clause-live : goal.returns-clause-live
 returns-clause-live c =
     let valid : IsAccepted c.args.accepted = rw (← c.accepted.view_is) c.accepted.invariant.0 in
-    new-live _ c.args.accepted c.in_ok-code.code refl refl valid c.in_ok-code.ensures.code c.in_ok-code.ensures.means c.in_ok-code.ensures.inputs c.in_ok-engine.ensures.engine
+    new-live _ c.args.accepted c.in_ok-code.code refl refl refl valid c.in_ok-code.ensures.code c.in_ok-code.ensures.means c.in_ok-code.ensures.inputs c.in_ok-engine.ensures.engine
