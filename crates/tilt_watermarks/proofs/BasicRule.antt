@@ -11,10 +11,11 @@ use Rattle.tilt_feed.specs.declared.update.Update.{Update}
 use Rattle.tilt_feed.specs.declared.update.Update.TheVariants.{KnownUpTo}
 use Rattle.tilt_feed_line.specs.declared.line.Line.{Line}
 use Rattle.tilt_feed_line.specs.declared.line.Line.TheVariants as line
+use Rattle.tilt_watermarks.proofs.Places.{overlaps-never}
 use Rattle.tilt_watermarks.specs.Basic.{basic_edges, basic_events, basic_fault, edge_at, moved_at, raised_edge, raising_edges}
 use Rattle.tilt_watermarks.specs.Held.{Waiting, bare, due, known, moved, moved_all, rising}
 use Rattle.tilt_watermarks.specs.Laws.{IsFit, edges_of, no_options}
-use Rattle.tilt_watermarks.specs.Steps.{Kept, closed, events_at, fault_by, followed, handed_at, input_at, inputs_entered, line_fault, overlaps_at, raised, raising, rule_broken, taken}
+use Rattle.tilt_watermarks.specs.Steps.{Kept, closed, events_at, fault_by, followed, handed_at, input_at, inputs_entered, line_fault, raised, raising, rule_broken, taken}
 use Rattle.tilt_watermarks.specs.declared.fault.TakeFault.TheVariants.{NotAllowed}
 
 -- an input that holds nothing
@@ -89,18 +90,13 @@ edge-same [] number = refl
 edge-same (input ∷ inputs) zero = refl
 edge-same (input ∷ inputs) (suc number) = edge-same inputs number
 
-never-overlaps : (inputs : List Waiting) (number : ℕ) (update : Update) → overlaps_at None inputs number update ≡ false
-never-overlaps [] number update = refl
-never-overlaps (input ∷ inputs) zero update = refl
-never-overlaps (input ∷ inputs) (suc number) update = never-overlaps inputs number update
-
 fault-near : (rule : Option EventFault) → fault_by rule false false ≡ option_map NotAllowed rule
 fault-near None = refl
 fault-near (Some rule) = refl
 
 pub fault-same : (kept : Kept) (line : Line) → line_fault no_options kept line ≡ option_map NotAllowed (basic_fault kept.finished (edges_of kept.inputs) line)
 fault-same kept (line.Update number update) =
-    ap (λ (overlap : Bool). fault_by (rule_broken None kept.finished kept.inputs (line.Update number update)) overlap false) (never-overlaps kept.inputs number update)
+    ap (λ (overlap : Bool). fault_by (rule_broken None kept.finished kept.inputs (line.Update number update)) overlap false) (overlaps-never kept.inputs number update)
     ∙ fault-near (rule_broken None kept.finished kept.inputs (line.Update number update))
     ∙ ap (λ (edge : Edge). option_map NotAllowed (update_fault kept.finished edge update)) (edge-same kept.inputs number)
 fault-same kept (line.AllKnownUpTo tick) = fault-near (rule_broken None kept.finished kept.inputs (line.AllKnownUpTo tick))

@@ -8,6 +8,7 @@ use Rattle.std.proofs.lemmas.Int.{ints, clamps}
 use Rattle.std.proofs.lemmas.Option.{same_Some}
 use Rattle.tilt_base.proofs.Comparisons.{lt_true}
 use Rattle.tilt_base.specs.declared.limits.TheConstants.{T}
+use Rattle.tilt_feed.proofs.Following.{none-is}
 use Rattle.tilt_feed.proofs.Updates.{allowed-of, step-of, time-high}
 use Rattle.tilt_feed.specs.Events.{comes_at, continues, has_ticks, in_range, update_fault, watermark_after}
 use Rattle.tilt_feed.specs.declared.edge.Edge.{Edge}
@@ -20,16 +21,12 @@ use Rattle.tilt_watermarks.specs.Held.{bare, due, fits, inserted, is_due, last_w
 abbrev pub IsNext : ℤ → Update → Type 0
 IsNext watermark update = update_fault false (bare watermark) update ≡ None
 
-pub none-of : (fault : Option EventFault) → is_none fault ≡ true → fault ≡ None
-none-of None is = refl
-none-of (Some fault) is = absurd (cc is)
-
 -- the first one of those that fit, and the others
 pub fits-parts : (watermark : ℤ) (update : Update) (updates : List Update) → fits watermark (update ∷ updates) ≡ true
     → IsNext watermark update × (fits (watermark_after update) updates ≡ true)
 fits-parts watermark update updates is =
     let both = and_parts (is_none (update_fault false (bare watermark) update)) (fits (watermark_after update) updates) is in
-    (none-of (update_fault false (bare watermark) update) both.0, both.1)
+    (none-is (update_fault false (bare watermark) update) both.0, both.1)
 
 pub fits-cons : (watermark : ℤ) (update : Update) (updates : List Update) → IsNext watermark update → fits (watermark_after update) updates ≡ true
     → fits watermark (update ∷ updates) ≡ true
