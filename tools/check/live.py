@@ -6,14 +6,15 @@ The text of a feed has bad lines, late lines, blank lines, headers, lines for al
 It goes to the program in random pieces through a pipe. After each piece the check waits until what the lines so far make final has come,
 before it sends more: a program that reads on first, or that holds output back, doesn't pass.
 
-What is expected is worked out from the bytes alone: of lines by `line_said` below, of rows by tools/check/feeds.py. Of each run that
-differs, the query, the feed and the difference are printed. The check stops after 20 of them, since each may have waited long. The last
+What is expected is worked out from the bytes alone: of lines by `line_said` below, of late lines, idle inputs and wrong clocks by
+tools/check/watermarks.py, of rows by tools/check/feeds.py. Of each run that differs, the query, the feed and the difference are printed. The check stops after 20 of them, since each may have waited long. The last
 line is 'N passed, M failed', and the status is 1 if one failed."""
 from __future__ import annotations
 
 import argparse
 import contextlib
 import dataclasses
+import itertools
 import os
 import random
 import re
@@ -27,16 +28,16 @@ from typing import IO, Iterator, Sequence
 
 sys.path.insert(0, os.path.dirname(os.path.dirname(os.path.realpath(__file__))))
 
-from check.feeds import FINISHED, LATE, NO_TICK, OUT_OF_RANGE, T, AllKnownUpTo, Begun, Change, Event, Feed, Finish, KnownUpTo, Line
-from check.feeds import NoValueFrom, Query, Update, ValueFrom, WholeRow, after, empty_feed, event_fault, line_text, printed_and_begun
-from check.feeds import query_of
+from check.feeds import FINISHED, LATE, NO_TICK, OUT_OF_RANGE, T, AllKnownUpTo, Begun, Change, Feed, Finish, KnownUpTo, Line, NoValueFrom
+from check.feeds import Query, Update, ValueFrom, WholeRow, line_text, printed_and_begun, query_of
 from check.random_feeds import random_feed, random_query
+from check.watermarks import AHEAD, OVERLAP, Watermarking, Watermarks
 from shared.program import built_program
 from shared.series import field
 from shared.tally import Tally
 
 SEED = 22
-QUERIES = 250
+QUERIES = 300
 FEEDS_OF_EACH_QUERY = 4
 # How long the program may take to answer, and to end.
 SECONDS = 20
@@ -56,11 +57,13 @@ BAD_END = "75 line {}: bad end"
 BAD_VALUE = "76 line {}: bad value"
 TOO_LONG = "77 line {}: too long"
 NO_END_OF_LINE = "78 line {}: no end of line"
-EVENT_REPORTS = {
+FAULT_REPORTS = {
     FINISHED: "80 line {}: after the end",
     OUT_OF_RANGE: "81 line {}: time out of range",
     LATE: "82 line {}: late",
     NO_TICK: "83 line {}: empty interval",
+    OVERLAP: "84 line {}: overlaps one that is held",
+    AHEAD: "85 line {}: too far ahead",
 }
 
 
@@ -147,31 +150,6 @@ def update_said(start: bytes, end: bytes, value: bytes) -> Update:
     return ValueFrom(first, number_of(value, BAD_VALUE)) if value else NoValueFrom(first)
 
 
-# What a line changes
-
-
-def taken(feed: Feed, line: Line) -> Feed:
-    """A feed after a line. One that isn't allowed is bad."""
-    if isinstance(line, AllKnownUpTo):
-        return raised(feed, line.tick)
-    fault = event_fault(feed, line)
-    if fault is not None:
-        raise BadLine(EVENT_REPORTS[fault])
-    return after(feed, line)
-
-
-def raised(feed: Feed, tick: int) -> Feed:
-    """A feed in which each input is known up to a tick, or up to a later one, as before."""
-    if feed.finished:
-        raise BadLine(EVENT_REPORTS[FINISHED])
-    if not -T <= tick <= T:
-        raise BadLine(EVENT_REPORTS[OUT_OF_RANGE])
-    below: list[Event] = [Change(name, KnownUpTo(tick)) for name, known in feed.inputs.items() if known.watermark < tick]
-    for event in below:
-        feed = after(feed, event)
-    return feed
-
-
 # What is expected
 
 
@@ -180,9 +158,15 @@ class Options:
     begun: bool
     plain: bool
     strict: bool
+    watermarking: Watermarking
 
-    def words(self) -> list[str]:
-        return [f"--{option}" for option, given in dataclasses.asdict(self).items() if given]
+    def words(self) -> list[list[str]]:
+        """The options, each with its value."""
+        flags = {"begun": self.begun, "plain": self.plain, "strict": self.strict}
+        ticks = dataclasses.asdict(self.watermarking)
+        return [[f"--{option}"] for option, given in flags.items() if given] + [
+            [f"--{option}", str(given)] for option, given in ticks.items() if given is not None
+        ]
 
 
 @dataclasses.dataclass
@@ -208,21 +192,29 @@ def text_of_output(query: Query, feed: Feed, given: int, begun: Begun | None, op
     return "".join(lines).encode(), len(printed), begun_now
 
 
+def take(watermarks: Watermarks, line: Line) -> None:
+    """Takes a line. One that has a fault is bad."""
+    fault = watermarks.fault(line)
+    if fault is not None:
+        raise BadLine(FAULT_REPORTS[fault])
+    watermarks.take(line)
+
+
 def is_skipped(line: bytes, number: int) -> bool:
     return line in (b"", b"\r") or number == 1 and line in (HEADER, HEADER + b"\r")
 
 
 def expected_of(query: Query, text: bytes, options: Options) -> Expected:
-    feed = empty_feed(query.inputs)
-    news, given, begun = text_of_output(query, feed, 0, None, options)
+    watermarks = Watermarks(query.inputs, options.watermarking)
+    news, given, begun = text_of_output(query, watermarks.feed, 0, None, options)
     expected = Expected([b"start,end,value\n" + news], [b""])
     *lines, rest = text.split(b"\n")
     for number, line in enumerate(lines, 1):
         news, reported = b"", b""
         try:
             if not is_skipped(line, number):
-                feed = taken(feed, line_said(line, query.inputs))
-                news, given, begun = text_of_output(query, feed, given, begun, options)
+                take(watermarks, line_said(line, query.inputs))
+                news, given, begun = text_of_output(query, watermarks.feed, given, begun, options)
         except BadLine as bad:
             reported = f"tilt: {str(bad).format(number)}\n".encode()
         expected.out.append(expected.out[-1] + news)
@@ -329,6 +321,24 @@ def random_lines(draw: random.Random, lines: Sequence[Line]) -> Iterator[bytes]:
         yield spelled(draw, line_text(line).encode())
     if draw.random() < 0.2:
         yield bad_line(draw, b"x,1,2,3")
+
+
+def disordered(draw: random.Random, lines: Sequence[Line], options: Options) -> list[Line]:
+    """Lines that come a little out of order, if they may."""
+    if options.watermarking.lateness is None:
+        return [*lines]
+    places = [at + draw.choice([0, 0, draw.uniform(0, 4)]) for at in range(len(lines))]
+    return [line for _, line in sorted(zip(places, lines), key=lambda pair: pair[0])]
+
+
+def random_options(draw: random.Random) -> Options:
+    """Options, half of the time with ticks of each kind."""
+
+    def ticks() -> int | None:
+        return draw.choice([None, None, draw.randint(0, 20), draw.choice([0, 1, 100, 2 * T])])
+
+    watermarking = Watermarking(ticks(), ticks(), ticks()) if draw.random() < 0.5 else Watermarking()
+    return Options(begun=draw.random() < 0.5, plain=draw.random() < 0.3, strict=draw.random() < 0.3, watermarking=watermarking)
 
 
 def random_text(draw: random.Random, lines: Sequence[Line]) -> bytes:
@@ -471,9 +481,9 @@ def check_query(draw: random.Random, program: str, tally: Tally) -> None:
         with open(os.path.join(folder, "query.tilt"), "w", encoding="ascii") as file:
             file.write(text)
         for _ in range(FEEDS_OF_EACH_QUERY):
-            feed = random_text(draw, random_feed(draw, query.inputs, base))
-            options = Options(begun=draw.random() < 0.5, plain=draw.random() < 0.3, strict=draw.random() < 0.3)
-            words = [program, "query.tilt", *draw.sample(options.words(), len(options.words()))]
+            options = random_options(draw)
+            feed = random_text(draw, disordered(draw, random_feed(draw, query.inputs, base), options))
+            words = [program, "query.tilt", *itertools.chain(*draw.sample(options.words(), len(options.words())))]
             wrong = difference(words, folder, random_pieces(draw, feed), expected_of(query, feed, options))
             tally.expect(wrong is None, f"{' '.join(words)}\n{text}{shown(feed)}\n{wrong}\n")
 

@@ -2,8 +2,8 @@ ghost use Rattle.std.specs.Prelude.{◌≡◌};
 
 use std::alloc::AllocError;
 use thiserror::Error;
-use tilt_feed::EventFault;
 use tilt_feed_line::LineFault;
+use tilt_watermarks::TakeFault;
 
 /// Why a line of a feed is bad. A bad line changes nothing.
 #[derive(Clone, Copy, Debug, PartialEq, Eq, Error)]
@@ -14,9 +14,9 @@ pub enum BadLine {
     /// It says nothing.
     #[error("{0}")]
     Unreadable(LineFault),
-    /// What it says isn't allowed after the lines before it.
+    /// The watermarks don't take what it says after the lines before it.
     #[error("{0}")]
-    NotAllowed(EventFault),
+    NotTaken(TakeFault),
     /// The feed ended before its LF.
     #[error("the line has no end")]
     NoEnd,

@@ -1,7 +1,8 @@
 // The lines that report bad lines. None takes memory.
 ghost use Rattle.std.specs.Prelude.{◌≡◌, ◌++◌, ℕ, codes};
 ghost use Rattle.std.specs.Fmt.{decimal};
-ghost use Rattle.tilt_feed_text.specs.Report.{bad_front, bad_reason, report, rule_front, rule_reason, unread_front, unread_reason};
+ghost use Rattle.tilt_feed_text.specs.Report.{bad_front, bad_reason, report, rule_front, rule_reason};
+ghost use Rattle.tilt_feed_text.specs.Report.{take_front, take_reason, unread_front, unread_reason};
 ghost use Rattle.tilt_outside.specs.Written.{Puts};
 
 use crate::bad_line::BadLine;
@@ -9,6 +10,7 @@ use itoa::Buffer;
 use tilt_feed::EventFault;
 use tilt_feed_line::LineFault;
 use tilt_outside::{Failed, Sink};
+use tilt_watermarks::TakeFault;
 
 /// Writes the line that reports a bad line, by its number from 1. It takes no memory.
 pub fn put_report<E: Sink>(err: &mut E, number: u64, why: BadLine) -> Result<(), Failed>
@@ -55,7 +57,7 @@ fn put_reason<E: Sink>(err: &mut E, why: BadLine) -> Result<(), Failed>
         BadLine::TooLong => put(err, b": too long\n"),
         BadLine::Unreadable(LineFault::FieldCount { expected }) => put_field_count(err, expected),
         BadLine::Unreadable(fault) => put(err, unread_reason(fault)),
-        BadLine::NotAllowed(rule) => put(err, rule_reason(rule)),
+        BadLine::NotTaken(fault) => put(err, take_reason(fault)),
         BadLine::NoEnd => put(err, b": no end of line\n"),
     }
 }
@@ -101,7 +103,7 @@ fn bad_front(why: BadLine) -> &'static [u8]
     match why {
         BadLine::TooLong => b"77",
         BadLine::Unreadable(fault) => unread_front(fault),
-        BadLine::NotAllowed(rule) => rule_front(rule),
+        BadLine::NotTaken(fault) => take_front(fault),
         BadLine::NoEnd => b"78",
     }
 }
@@ -134,6 +136,28 @@ fn unread_reason(fault: LineFault) -> &'static [u8]
         LineFault::BadStart => b": bad start\n",
         LineFault::BadEnd => b": bad end\n",
         LineFault::BadValue => b": bad value\n",
+    }
+}
+
+// The number of the reason why watermarks don't take it.
+fn take_front(fault: TakeFault) -> &'static [u8]
+    ensures { result.now ≡ take_front fault }
+{
+    match fault {
+        TakeFault::NotAllowed(rule) => rule_front(rule),
+        TakeFault::Overlap => b"84",
+        TakeFault::Ahead => b"85",
+    }
+}
+
+// The same in words.
+fn take_reason(fault: TakeFault) -> &'static [u8]
+    ensures { result.now ≡ take_reason fault }
+{
+    match fault {
+        TakeFault::NotAllowed(rule) => rule_reason(rule),
+        TakeFault::Overlap => b": overlaps one that is held\n",
+        TakeFault::Ahead => b": too far ahead\n",
     }
 }
 

@@ -2,9 +2,9 @@
 use Rattle.std.proofs.Common.{◌≡◌, ◌≤◌, ℕ, true, false, ◌&&◌, if◌then◌else◌, List, [], ◌∷◌, ◌++◌, length, take, Result, Ok, Err, OnOk, OnErr, MatchResult, refl, sym, is_err, ◌∙◌, append_assoc, append-nil, arith}
 use Rattle.std.specs.List.{AllByRecursion}
 use Rattle.tilt_core.specs.Core.{CoreParts}
-use Rattle.tilt_feed.specs.Feed.{empty_feed}
-use Rattle.tilt_feed_text.proofs.Saying.{after-lines, reports-append, stop-append}
+use Rattle.tilt_feed_text.proofs.Saying.{reports-append, stop-append}
 use Rattle.tilt_feed_text.proofs.Splitting.{lines-append}
+use Rattle.tilt_feed_text.specs.Said.{first_state}
 use Rattle.tilt_feed_text.specs.Split.{whole_lines}
 use Rattle.tilt_live_app.specs.Served.{HasServed, IsPunctual, IsServing, all_reports, halt_of, has_stop, line_reports, output_for}
 use Rattle.tilt_live_app.specs.declared.failure.Halt.{Halt}
@@ -14,7 +14,8 @@ use Rattle.tilt_live_run.proofs.Reporting.{front-behind, front-more, front-whole
 use Rattle.tilt_live_run.specs.Adds.{Adds}
 use Rattle.tilt_live_run.specs.Output.{first_news}
 use Rattle.tilt_live_run.specs.Reported.{Reported, Reports}
-use Rattle.tilt_live_run.specs.Runs.{RunOptions, added, end_report, is_stopped, is_unfinished, new_lines, reported}
+use Rattle.tilt_live_run.specs.Runs.{added, end_report, is_stopped, is_unfinished, new_lines, reported}
+use Rattle.tilt_live_run.specs.declared.run_options.RunOptions.{RunOptions}
 use Rattle.tilt_live_run.specs.declared.stop.Stop.{Stop}
 use Rattle.tilt_live_run.specs.declared.stop.Stop.TheVariants as stop
 use Rattle.tilt_outside.proofs.Puts.{front_behind, rose_from}
@@ -66,8 +67,7 @@ module _ (core : CoreParts) (options : RunOptions) where
   output-more bytes piece none =
       rw (
         lines-append [] bytes piece,
-        output-append options.with_begun options.strict core (whole_lines bytes) (new_lines bytes piece) none,
-        after-lines core.inputs 0 (empty_feed (length core.inputs)) (whole_lines bytes),
+        output-append options core (whole_lines bytes) (new_lines bytes piece) none,
       ) refl
 
   pub reports-more : (bytes piece : List ℕ) → has_stop core options bytes ≡ false
@@ -75,8 +75,7 @@ module _ (core : CoreParts) (options : RunOptions) where
   reports-more bytes piece none =
       rw (
         lines-append [] bytes piece,
-        reports-append options.strict core.inputs 0 (empty_feed (length core.inputs)) (whole_lines bytes) (new_lines bytes piece) none,
-        after-lines core.inputs 0 (empty_feed (length core.inputs)) (whole_lines bytes),
+        reports-append options.strict options.watermarks core.inputs 0 (first_state (length core.inputs)) (whole_lines bytes) (new_lines bytes piece) none,
       ) refl
 
   pub stop-more : (bytes piece : List ℕ) → has_stop core options bytes ≡ false
@@ -84,8 +83,7 @@ module _ (core : CoreParts) (options : RunOptions) where
   stop-more bytes piece none =
       rw (
         lines-append [] bytes piece,
-        stop-append options.strict core.inputs 0 (empty_feed (length core.inputs)) (whole_lines bytes) (new_lines bytes piece) none,
-        after-lines core.inputs 0 (empty_feed (length core.inputs)) (whole_lines bytes),
+        stop-append options.strict options.watermarks core.inputs 0 (first_state (length core.inputs)) (whole_lines bytes) (new_lines bytes piece) none,
       ) refl
 
   -- all reports, by whether a line stops the run
@@ -122,8 +120,10 @@ module _ (core : CoreParts) (options : RunOptions) where
       asked = λ told. (adds.reads_nothing told).asked ∙ sym (append-nil old.asked);
       punctual = λ _. tt;
       whole = λ _ e. absurd (good (halt-bad why e));
+      written_unread = λ _ e. absurd (halt-read why e);
       front = λ told. rw (append-nil (first_news options.with_begun core)) (adds.front told);
       reported = λ e. absurd (good (halt-bad why e));
+      reported_unread = λ e. absurd (halt-read why e);
       reported_front = front-whole err_tells err_written err_faults err err [] _ (reported-none err_tells err_written err_faults err);
       ended = λ _. tt;
       well = tt;
@@ -144,8 +144,10 @@ module _ (core : CoreParts) (options : RunOptions) where
       asked = λ _. sym (append-nil old.asked);
       punctual = λ _. tt;
       whole = λ _ e. absurd (cc e);
+      written_unread = λ _ e. absurd (cc e);
       front = λ _. record { front = []; rest = output_for core options []; parts = refl; appended = sym (append-nil old.written) };
       reported = λ e. absurd (cc e);
+      reported_unread = λ e. absurd (cc e);
       reported_front = front-whole err_tells err_written err_faults err err [] _ (reported-none err_tells err_written err_faults err);
       ended = λ _. tt;
       well = tt;
@@ -184,6 +186,7 @@ module _ (core : CoreParts) (options : RunOptions) where
         asked = serving.asked;
         punctual = serving.punctual;
         whole = λ _ e. absurd (good e);
+        written_unread = λ told _. serving.written told;
         front = λ told. record {
           front = output_for core options bytes;
           rest = [];
@@ -191,6 +194,7 @@ module _ (core : CoreParts) (options : RunOptions) where
           appended = serving.written told;
         };
         reported = λ e. absurd (good e);
+        reported_unread = λ _. serving.reported;
         reported_front = front-whole err_tells err_written err_faults err err_then _ _ serving.reported;
         ended = λ _. tt;
         well = tt;
@@ -229,8 +233,10 @@ module _ (core : CoreParts) (options : RunOptions) where
           asked = asked_now 0 read;
           punctual = punctual_now;
           whole = λ t. (read t).written ∙ serving.written t;
+          written_unread = λ _. tt;
           front = λ _. tt;
           reported = rw (all-ended bytes serving.no_stop) (reported-then err_tells err_written err_faults err err_mid err_then _ _ serving.reported told);
+          reported_unread = tt;
           reported_front = tt;
           ended = λ t. (read t).ended;
           well = rw (serving.no_stop, stops) refl;
@@ -247,6 +253,7 @@ module _ (core : CoreParts) (options : RunOptions) where
           asked = asked_now 0 read;
           punctual = punctual_now;
           whole = λ t _. (read t).written ∙ serving.written t;
+          written_unread = λ _ e. absurd (cc e);
           front = λ t. record {
             front = output_for core options bytes;
             rest = [];
@@ -254,6 +261,7 @@ module _ (core : CoreParts) (options : RunOptions) where
             appended = (read t).written ∙ serving.written t;
           };
           reported = λ _. rw (all-ended bytes serving.no_stop) (reported-then err_tells err_written err_faults err err_mid err_then _ _ serving.reported told);
+          reported_unread = λ e. absurd (cc e);
           reported_front = rw (all-ended bytes serving.no_stop, ← append-nil (line_reports core options bytes ++ end_report bytes))
               (front-whole err_tells err_written err_faults err err_then _ [] (reported-then err_tells err_written err_faults err err_mid err_then _ _ serving.reported told));
           ended = λ _. tt;
@@ -298,6 +306,7 @@ module _ (core : CoreParts) (options : RunOptions) where
             whole = λ t e.
                 adds.stopped t (halt-bad why e) ∙ rw (output-more bytes (take n room) serving.no_stop, (read t).written, serving.written t)
                 (append_assoc old.written (output_for core options bytes) (added options core bytes (take n room)));
+            written_unread = λ _ e. absurd (halt-read why e);
             front = λ t.
                 rw (output-more bytes (take n room) serving.no_stop)
                 (front_behind old.written new.written later.written (output_for core options bytes) (added options core bytes (take n room))
@@ -306,6 +315,7 @@ module _ (core : CoreParts) (options : RunOptions) where
                 let bad = stop-more bytes (take n room) serving.no_stop ∙ stops (halt-bad why e) in
                 rw (all-stopped (bytes ++ take n room) bad, reports-more bytes (take n room) serving.no_stop)
                 (reported-then err_tells err_written err_faults err err_mid err_then _ _ serving.reported (reports.stopped (halt-bad why e)));
+            reported_unread = λ e. absurd (halt-read why e);
             reported_front =
                 front-more err_tells err_written err_faults err err_then (line_reports core options (bytes ++ take n room))
                 (if has_stop core options (bytes ++ take n room) then [] else end_report (bytes ++ take n room))

@@ -1,12 +1,13 @@
 -- The last flush, after a feed was served.
-use Rattle.std.proofs.Common.{◌≡◌, ◌≤◌, ℕ, List, [], Result, Ok, Err, OnOk, OnErr, MatchResult, refl, sym, ◌∙◌, append-nil, arith}
+use Rattle.std.proofs.Common.{◌≡◌, ◌≤◌, ℕ, List, [], ◌++◌, Result, Ok, Err, OnOk, OnErr, MatchResult, refl, sym, ◌∙◌, append-nil, arith}
 use Rattle.std.specs.Prelude.{⊤}
 use Rattle.tilt_core.specs.Core.{CoreParts}
 use Rattle.tilt_live_app.specs.Served.{HasServed, all_reports, end_with, output_for}
 use Rattle.tilt_live_app.specs.declared.failure.Halt.{Halt}
 use Rattle.tilt_live_app.specs.declared.failure.Halt.TheVariants as halt
 use Rattle.tilt_live_run.proofs.Reporting.{front-whole, rose_first}
-use Rattle.tilt_live_run.specs.Runs.{RunOptions}
+use Rattle.tilt_live_run.specs.Reported.{ReportedFront}
+use Rattle.tilt_live_run.specs.declared.run_options.RunOptions.{RunOptions}
 use Rattle.tilt_outside.proofs.Puts.{rose_from}
 use Rattle.tilt_outside.specs.Faults.{Rose}
 use Rattle.tilt_outside.specs.declared.failed.Failed.{Failed}
@@ -24,8 +25,10 @@ module _ (core : CoreParts) (options : RunOptions) {K : Type 0} (tells : Type 0)
     asked = λ t. (keeps t).reads_nothing.asked ∙ served.asked t;
     punctual = served.punctual;
     whole = λ t. (keeps t).written ∙ served.whole t;
+    written_unread = λ _. tt;
     front = λ _. tt;
     reported = served.reported;
+    reported_unread = tt;
     reported_front = tt;
     ended = λ t. (keeps t).reads_nothing.ended ∙ served.ended t;
     well = served.well;
@@ -42,6 +45,7 @@ module _ (core : CoreParts) (options : RunOptions) {K : Type 0} (tells : Type 0)
     asked = λ t. (keeps t).reads_nothing.asked ∙ served.asked t;
     punctual = served.punctual;
     whole = λ t e. (keeps t).written ∙ served.whole t e;
+    written_unread = λ t e. (keeps t).written ∙ served.written_unread t e;
     front = λ t. record {
       front = (served.front t).front;
       rest = (served.front t).rest;
@@ -49,6 +53,7 @@ module _ (core : CoreParts) (options : RunOptions) {K : Type 0} (tells : Type 0)
       appended = (keeps t).written ∙ (served.front t).appended;
     };
     reported = served.reported;
+    reported_unread = served.reported_unread;
     reported_front = served.reported_front;
     ended = λ _. tt;
     well = tt;
@@ -60,58 +65,47 @@ module _ (core : CoreParts) (options : RunOptions) {K : Type 0} (tells : Type 0)
   }
 
   -- it failed after all of the output had been written
-  pub served-unflushed : (end result : Result (Unit {0}) Halt) → result ≡ Err halt.WriteFault → MatchResult end (λ _. ⊤) (λ why. why ≡ halt.BadLine)
+  unflushed : (end result : Result (Unit {0}) Halt) → result ≡ Err halt.WriteFault → Rose old.write_faults new.write_faults
+      → (served : HasServed core options tells old mid err_tells err_written err_faults err err_then end)
+      → (tells → mid.written ≡ old.written ++ output_for core options served.bytes)
+      → ReportedFront err_tells err_written err_faults err err_then (all_reports core options served.bytes)
+      → HasServed core options tells old new err_tells err_written err_faults err err_then result
+  unflushed end result is rose served wrote told = rw is record {
+    bytes = served.bytes;
+    moments = served.moments;
+    read = λ t. (keeps t).reads_nothing.read ∙ served.read t;
+    asked = λ t. (keeps t).reads_nothing.asked ∙ served.asked t;
+    punctual = served.punctual;
+    whole = λ _ e. absurd (cc e);
+    written_unread = λ _ e. absurd (cc e);
+    front = λ t. record {
+      front = output_for core options served.bytes;
+      rest = [];
+      parts = sym (append-nil (output_for core options served.bytes));
+      appended = (keeps t).written ∙ wrote t;
+    };
+    reported = λ e. absurd (cc e);
+    reported_unread = λ e. absurd (cc e);
+    reported_front = told;
+    ended = λ _. tt;
+    well = tt;
+    badly = λ e. absurd (cc e);
+    read_fault = λ e. absurd (cc e);
+    write_fault = λ _. rose;
+    reads_kept = omega (arith, served.reads_kept, same);
+    writes_kept = omega (arith, served.writes_kept, more);
+  }
+
+  served-unflushed : (end result : Result (Unit {0}) Halt) → result ≡ Err halt.WriteFault → MatchResult end (λ _. ⊤) (λ why. why ≡ halt.BadLine)
       → Rose old.write_faults new.write_faults
       → HasServed core options tells old mid err_tells err_written err_faults err err_then end
       → HasServed core options tells old new err_tells err_written err_faults err err_then result
-  served-unflushed (Ok u) result is good rose served = rw is record {
-    bytes = served.bytes;
-    moments = served.moments;
-    read = λ t. (keeps t).reads_nothing.read ∙ served.read t;
-    asked = λ t. (keeps t).reads_nothing.asked ∙ served.asked t;
-    punctual = served.punctual;
-    whole = λ _ e. absurd (cc e);
-    front = λ t. record {
-      front = output_for core options served.bytes;
-      rest = [];
-      parts = sym (append-nil (output_for core options served.bytes));
-      appended = (keeps t).written ∙ served.whole t;
-    };
-    reported = λ e. absurd (cc e);
-    reported_front =
-        rw (← append-nil (all_reports core options served.bytes))
-        (front-whole err_tells err_written err_faults err err_then (all_reports core options served.bytes) [] served.reported);
-    ended = λ _. tt;
-    well = tt;
-    badly = λ e. absurd (cc e);
-    read_fault = λ e. absurd (cc e);
-    write_fault = λ _. rose;
-    reads_kept = omega (arith, served.reads_kept, same);
-    writes_kept = omega (arith, served.writes_kept, more);
-  }
-  served-unflushed (Err why) result is good rose served = rw is record {
-    bytes = served.bytes;
-    moments = served.moments;
-    read = λ t. (keeps t).reads_nothing.read ∙ served.read t;
-    asked = λ t. (keeps t).reads_nothing.asked ∙ served.asked t;
-    punctual = served.punctual;
-    whole = λ _ e. absurd (cc e);
-    front = λ t. record {
-      front = output_for core options served.bytes;
-      rest = [];
-      parts = sym (append-nil (output_for core options served.bytes));
-      appended = (keeps t).written ∙ served.whole t good;
-    };
-    reported = λ e. absurd (cc e);
-    reported_front = served.reported_front;
-    ended = λ _. tt;
-    well = tt;
-    badly = λ e. absurd (cc e);
-    read_fault = λ e. absurd (cc e);
-    write_fault = λ _. rose;
-    reads_kept = omega (arith, served.reads_kept, same);
-    writes_kept = omega (arith, served.writes_kept, more);
-  }
+  served-unflushed (Ok u) result is good rose served =
+      unflushed (Ok u) result is rose served served.whole
+      (rw (← append-nil (all_reports core options served.bytes))
+      (front-whole err_tells err_written err_faults err err_then (all_reports core options served.bytes) [] served.reported))
+  served-unflushed (Err why) result is good rose served =
+      unflushed (Err why) result is rose served (λ t. served.whole t good) served.reported_front
 
   -- the end of the feed, whether it failed or not
   pub served-flushed : (end : Result (Unit {0}) Halt) (flushed : Result (Unit {0}) Failed) → OnErr flushed (Rose mid.write_faults new.write_faults)
@@ -127,12 +121,13 @@ module _ (core : CoreParts) (options : RunOptions) {K : Type 0} (tells : Type 0)
   served-flushed (Err halt.WriteFault) flushed rose served = served-kept (Err halt.WriteFault) served
   served-flushed (Err halt.OutOfMemory) flushed rose served = served-kept (Err halt.OutOfMemory) served
 
--- what is so after a flush that didn't fail is so at the end of a feed that ended well
-pub ok-flushed : (end : Result (Unit {0}) Halt) (flushed : Result (Unit {0}) Failed) (A : Type 0) → OnOk flushed A → OnOk (end_with end flushed) A
-ok-flushed (Ok u) (Ok v) A a = a
-ok-flushed (Ok u) (Err e) A a = tt
-ok-flushed (Err halt.BadLine) (Ok v) A a = tt
-ok-flushed (Err halt.BadLine) (Err e) A a = tt
-ok-flushed (Err halt.ReadFault) flushed A a = tt
-ok-flushed (Err halt.WriteFault) flushed A a = tt
-ok-flushed (Err halt.OutOfMemory) flushed A a = tt
+-- what is so after a flush that didn't fail is so at the end of a feed, unless a fault or refused memory halted it
+pub flushed-on : (end : Result (Unit {0}) Halt) (flushed : Result (Unit {0}) Failed) (A : Type 0) → OnOk flushed A
+    → MatchResult (end_with end flushed) (λ _. A) (λ why. why ≡ halt.BadLine → A)
+flushed-on (Ok u) (Ok v) A a = a
+flushed-on (Ok u) (Err e) A a = λ bad. absurd (cc bad)
+flushed-on (Err halt.BadLine) (Ok v) A a = λ _. a
+flushed-on (Err halt.BadLine) (Err e) A a = λ bad. absurd (cc bad)
+flushed-on (Err halt.ReadFault) flushed A a = λ bad. absurd (cc bad)
+flushed-on (Err halt.WriteFault) flushed A a = λ bad. absurd (cc bad)
+flushed-on (Err halt.OutOfMemory) flushed A a = λ bad. absurd (cc bad)

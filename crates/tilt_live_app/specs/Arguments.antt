@@ -3,9 +3,10 @@ use Rattle.std.specs.Prelude.{◌==◌, ℕ, Bool, true, false, ◌&&◌, not, i
 use Rattle.std.specs.Str.{bytes_eq}
 use Rattle.tilt_live_app.specs.declared.arguments.LiveCommand.{LiveCommand}
 use Rattle.tilt_live_app.specs.declared.arguments.Settings.{Settings}
-use Rattle.tilt_live_run.specs.Runs.{RunOptions}
+use Rattle.tilt_live_run.specs.declared.run_options.RunOptions.{RunOptions}
+use Rattle.tilt_watermarks.specs.Laws.{no_options as no_watermarks}
 
--- the file of the query, and which options are set
+-- the file of the query, whether no loops are merged, and the options of its run
 pub record CommandValue : Type 0 where
   pub query : List ℕ
   pub settings : Settings
@@ -45,4 +46,4 @@ command_said (query ∷ words) = if is_file query then command_with query (with_
 
 -- the options of its run
 abbrev pub run_options : CommandValue → RunOptions
-run_options command = record { with_begun = command.settings.begun; strict = command.settings.strict }
+run_options command = record { with_begun = command.settings.begun; strict = command.settings.strict; watermarks = no_watermarks }

@@ -1,5 +1,5 @@
 -- What the program does (our own rule).
-use Rattle.std.specs.Prelude.{◌≡◌, ℕ, List, [], codes, None, Some, Result, Ok, Err, OnOk}
+use Rattle.std.specs.Prelude.{◌≡◌, ℕ, List, [], codes, None, Some, Result, Ok, Err, MatchResult}
 use Rattle.tilt_core.specs.Core.{CoreParts}
 use Rattle.tilt_live_app.specs.Arguments.{CommandValue, command_said, run_options}
 use Rattle.tilt_live_app.specs.Served.{HasServed}
@@ -48,7 +48,8 @@ module _ {K : Type 0} (words : List (List ℕ)) (shelf_tells : Type 0) (files : 
     pub said : command_said words ≡ Some command
     pub taken : shelf_tells → TakesQuery (files command.query) core
     pub served : HasServed core (run_options command) tells old new err_tells err_written err_faults err err_then end
-    pub handed_on : OnOk end (new.held_back ≡ 0)
+    -- if it ended by itself or by a bad line, all of the output was handed on
+    pub handed_on : MatchResult end (λ _. new.held_back ≡ 0) (λ why. why ≡ halt.BadLine → new.held_back ≡ 0)
 
   -- what the program does, a case for each end: it reports why it doesn't begin the feed, and nothing is read or written; or it serves the
   -- feed, and reports the end of that

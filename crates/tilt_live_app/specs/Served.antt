@@ -2,15 +2,15 @@
 use Rattle.std.specs.Prelude.{◌≡◌, ◌≤◌, ℕ, Bool, true, false, ◌||◌, ◌&&◌, if◌then◌else◌, List, [], ◌++◌, length, Result, Ok, Err, OnOk, OnErr, IfErr, MatchResult}
 use Rattle.std.specs.List.{AllByRecursion}
 use Rattle.tilt_core.specs.Core.{CoreParts}
-use Rattle.tilt_feed.specs.Feed.{empty_feed}
 use Rattle.tilt_feed_text.specs.Report.{reports_from}
-use Rattle.tilt_feed_text.specs.Said.{stop_among}
+use Rattle.tilt_feed_text.specs.Said.{first_state, stop_among}
 use Rattle.tilt_feed_text.specs.Split.{whole_lines}
 use Rattle.tilt_live_app.specs.declared.failure.Halt.{Halt}
 use Rattle.tilt_live_app.specs.declared.failure.Halt.TheVariants as halt
 use Rattle.tilt_live_run.specs.Output.{output}
 use Rattle.tilt_live_run.specs.Reported.{Reported, ReportedFront}
-use Rattle.tilt_live_run.specs.Runs.{RunOptions, end_report, is_unfinished}
+use Rattle.tilt_live_run.specs.Runs.{end_report, is_unfinished}
+use Rattle.tilt_live_run.specs.declared.run_options.RunOptions.{RunOptions}
 use Rattle.tilt_live_run.specs.declared.stop.Stop.{Stop}
 use Rattle.tilt_live_run.specs.declared.stop.Stop.TheVariants as stop
 use Rattle.tilt_outside.specs.Faults.{Rose}
@@ -37,15 +37,15 @@ end_with (Err halt.OutOfMemory) flushed = Err halt.OutOfMemory
 module _ (core : CoreParts) (options : RunOptions) where
   -- what is written for the bytes of a feed
   abbrev pub output_for : List ℕ → List ℕ
-  output_for bytes = output options.with_begun options.strict core (whole_lines bytes)
+  output_for bytes = output options core (whole_lines bytes)
 
   -- whether one of its lines stops the run
   abbrev pub has_stop : List ℕ → Bool
-  has_stop bytes = stop_among options.strict core.inputs 0 (empty_feed (length core.inputs)) (whole_lines bytes)
+  has_stop bytes = stop_among options.strict options.watermarks core.inputs 0 (first_state (length core.inputs)) (whole_lines bytes)
 
   -- the reports of its lines
   abbrev pub line_reports : List ℕ → List ℕ
-  line_reports bytes = reports_from options.strict core.inputs 0 (empty_feed (length core.inputs)) (whole_lines bytes)
+  line_reports bytes = reports_from options.strict options.watermarks core.inputs 0 (first_state (length core.inputs)) (whole_lines bytes)
 
   -- all reports, if the feed ends with them: that of the line without an end too, if there is one
   abbrev pub all_reports : List ℕ → List ℕ
@@ -83,13 +83,15 @@ module _ (core : CoreParts) (options : RunOptions) where
       pub read : tells → new.read ≡ old.read ++ bytes
       pub asked : tells → new.asked ≡ old.asked ++ moments
       pub punctual : tells → AllByRecursion (IsPunctual old) moments
-      -- the output for these bytes was written; a prefix of it, if a fault or refused memory halted it
+      -- the output for these bytes was written; a prefix of it, if a write fault or refused memory halted it
       pub whole : tells → MatchResult result (λ _. new.written ≡ old.written ++ output_for bytes)
           (λ why. why ≡ halt.BadLine → new.written ≡ old.written ++ output_for bytes)
+      pub written_unread : tells → IfErr result (λ why. why ≡ halt.ReadFault → new.written ≡ old.written ++ output_for bytes)
       pub front : tells → OnErr result (AppendsFront old.written new.written (output_for bytes))
       -- the reports as well
       pub reported : MatchResult result (λ _. Reported err_tells err_written err_faults err err_then (all_reports bytes))
           (λ why. why ≡ halt.BadLine → Reported err_tells err_written err_faults err err_then (all_reports bytes))
+      pub reported_unread : IfErr result (λ why. why ≡ halt.ReadFault → Reported err_tells err_written err_faults err err_then (line_reports bytes))
       pub reported_front : OnErr result (ReportedFront err_tells err_written err_faults err err_then (all_reports bytes))
       -- each end has its cause
       pub ended : tells → OnOk result (new.ended ≡ true)

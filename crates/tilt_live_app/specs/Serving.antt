@@ -5,8 +5,9 @@ use Rattle.tilt_live_app.specs.Served.{HasServed, IsServing}
 use Rattle.tilt_live_app.specs.declared.failure.Halt.{Halt}
 use Rattle.tilt_live_app.specs.declared.serve.Progress.{Progress}
 use Rattle.tilt_live_app.specs.declared.serve.Progress.TheVariants.{Ended, More}
-use Rattle.tilt_live_run.specs.Runs.{IsRunOf, RunOptions}
+use Rattle.tilt_live_run.specs.Runs.{IsRunOf}
 use Rattle.tilt_live_run.specs.declared.live_run.LiveRun.{LiveRun}
+use Rattle.tilt_live_run.specs.declared.run_options.RunOptions.{RunOptions}
 use Rattle.tilt_port.specs.Transcript.{Moment, Transcript}
 
 -- after more bytes of the feed, it is served still, or it was served

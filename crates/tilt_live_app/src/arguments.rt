@@ -1,7 +1,11 @@
 // The arguments of the program.
 ghost use Rattle.std.specs.Prelude.{◌≡◌, ◌∷◌, List, MatchOption, option_map, length, drop};
 ghost use Rattle.tilt_cli.specs.Command.{texts};
+ghost use Rattle.tilt_watermarks.specs.Laws.{no_options as no_watermarks};
 ghost use Rattle.tilt_live_app.specs.Arguments.{command_said, command_value, with_option, with_options};
+
+use tilt_live_run::RunOptions;
+use tilt_watermarks::Options;
 
 // What the arguments ask for: the file of the query, whether no loops are merged, whether what has begun is written, and whether a bad
 // line stops the run.
@@ -17,6 +21,21 @@ pub(crate) struct Settings {
     pub(crate) plain: bool,
     pub(crate) begun: bool,
     pub(crate) strict: bool,
+}
+
+// The options of the run.
+pub(crate) fn run_options(settings: Settings) -> RunOptions
+    ensures { result ≡ record { with_begun = settings.begun; strict = settings.strict; watermarks = no_watermarks } }
+{
+    RunOptions {
+        with_begun: settings.begun,
+        strict: settings.strict,
+        watermarks: Options {
+            idle: None,
+            ahead: None,
+            lateness: None,
+        },
+    }
 }
 
 // The command that the arguments are, if they are one.

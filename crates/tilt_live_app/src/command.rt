@@ -7,7 +7,7 @@ ghost use Rattle.tilt_live_run.specs.Reported.{Reported};
 ghost use Rattle.tilt_outside.specs.Reads.{OnlyReads};
 ghost use Rattle.tilt_report.specs.Report.{line_of, report_of, status_of};
 
-use crate::arguments::read_command;
+use crate::arguments::{read_command, run_options};
 use crate::failure::{Failure, Halt};
 use crate::serve::serve;
 use std::alloc::Global;
@@ -65,7 +65,7 @@ fn run<'a, S: Shelf, P: Port, E: Sink>(
         return Err(Failure::Unbegun(Fault::Usage));
     };
     match load_query(alloc, shelf, command.query, !command.settings.plain) {
-        Ok(query) => match serve(alloc, query.accepted, command.settings, port, err) {
+        Ok(query) => match serve(alloc, query.accepted, run_options(command.settings), port, err) {
             Ok(()) => Ok(()),
             Err(halt) => Err(Failure::Halted(halt)),
         },

@@ -3,14 +3,13 @@ ghost use Rattle.std.specs.Prelude.{◌≡◌, ◌<◌, ◌++◌, ℕ, List, [],
 ghost use Rattle.tilt_compiler.specs.Accepted.{AcceptedParts};
 ghost use Rattle.tilt_live_app.specs.Served.{HasServed, end_with};
 ghost use Rattle.tilt_live_app.specs.Serving.{GoesOn, HasStepped};
-ghost use Rattle.tilt_live_run.specs.Runs.{IsRunOf, RunOptions};
+ghost use Rattle.tilt_live_run.specs.Runs.{IsRunOf};
 ghost use Rattle.tilt_port.specs.Transcript.{Moment, Transcript};
 
-use crate::arguments::Settings;
 use crate::failure::Halt;
 use std::alloc::{AllocError as OutOfMemory, Global};
 use tilt_compiler::Accepted;
-use tilt_live_run::LiveRun;
+use tilt_live_run::{LiveRun, RunOptions};
 use tilt_outside::{Failed, Sink};
 use tilt_port::Port;
 
@@ -28,18 +27,19 @@ enum Progress {
 pub(crate) fn serve<P: Port, E: Sink>(
     alloc: Global,
     accepted: Accepted,
-    settings: Settings,
+    options: RunOptions,
     port: &mut P,
     err: &mut E,
 ) -> Result<(), Halt>
     requires { (n : ℕ) → E.takes err.old n }
-    ensures served { HasServed accepted.core (record { with_begun = settings.begun; strict = settings.strict }) P.tells
+    ensures served { HasServed accepted.core options P.tells
         (P.transcript port.old) (P.transcript port.new) E.tells E.written E.faults err.old err.new result }
-    ensures handed_on { OnOk result ((P.transcript port.new).held_back ≡ 0) }
+    ensures handed_on { MatchResult result (λ _. (P.transcript port.new).held_back ≡ 0)
+        (λ why. why ≡ Halt.BadLine → (P.transcript port.new).held_back ≡ 0) }
     ensures takes { (n : ℕ) → E.takes err.new n }
 {
     let mut room = make_room(alloc, PIECE)?;
-    let mut run = LiveRun::start(alloc, accepted, settings.begun, settings.strict, port)?;
+    let mut run = LiveRun::start(alloc, accepted, options, port)?;
     let end = serve_all(&mut run, &mut room, port, err);
     let flushed = port.flush();
     end_with(end, flushed)

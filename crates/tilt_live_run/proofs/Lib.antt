@@ -8,5 +8,4 @@ pub mod Reporting
 pub mod Running
 pub mod Showing
 pub mod Stepping
-pub mod Taking
 pub mod Underway

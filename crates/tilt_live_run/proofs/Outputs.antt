@@ -1,37 +1,37 @@
 -- What is written for lines, one after another.
-use Rattle.std.proofs.Common.{◌≡◌, ℕ, Bool, false, List, [], ◌∷◌, ◌++◌, refl, sym, append_assoc, append-nil, length}
+use Rattle.std.proofs.Common.{◌≡◌, ℕ, false, List, [], ◌∷◌, ◌++◌, refl, sym, append_assoc, length}
 use Rattle.tilt_core.specs.Core.{CoreParts}
-use Rattle.tilt_feed.specs.Feed.{Feed, empty_feed}
-use Rattle.tilt_feed_text.proofs.Saying.{taken-append}
-use Rattle.tilt_feed_text.specs.Said.{after_line, after_lines, number_after, stop_among, taken_from}
+use Rattle.tilt_feed_text.proofs.Saying.{taken-all, taken-append}
+use Rattle.tilt_feed_text.specs.Said.{FeedState, after_line, after_lines, first_state, number_after, stop_among, taken_from}
 use Rattle.tilt_live_run.specs.Output.{first_news, news, news_from, output}
+use Rattle.tilt_live_run.specs.declared.run_options.RunOptions.{RunOptions}
 use Rattle.tilt_outside.specs.Counts.{next_count}
 
-pub news-append : (with_begun : Bool) (core : CoreParts) (number : ℕ) (feed : Feed) (xs ys : List (List ℕ))
-    → news_from with_begun core number feed (xs ++ ys)
-    ≡ news_from with_begun core number feed xs ++ news_from with_begun core (number_after number xs) (after_lines core.inputs number feed xs) ys
-news-append with_begun core number feed [] ys = refl
-news-append with_begun core number feed (x ∷ xs) ys =
-    let after = after_line core.inputs number x feed in
-    rw (news-append with_begun core (next_count number) after xs ys)
-    (sym (append_assoc (news with_begun core feed after) (news_from with_begun core (next_count number) after xs)
-    (news_from with_begun core (number_after (next_count number) xs) (after_lines core.inputs (next_count number) after xs) ys)))
+pub news-append : (options : RunOptions) (core : CoreParts) (number : ℕ) (state : FeedState) (xs ys : List (List ℕ))
+    → news_from options core number state (xs ++ ys)
+    ≡ news_from options core number state xs
+    ++ news_from options core (number_after number xs) (after_lines options.watermarks core.inputs number state xs) ys
+news-append options core number state [] ys = refl
+news-append options core number state (x ∷ xs) ys =
+    let after = after_line options.watermarks core.inputs number x state in
+    rw (news-append options core (next_count number) after xs ys)
+    (sym (append_assoc (news options.with_begun core state.feed after.feed) (news_from options core (next_count number) after xs)
+    (news_from options core (number_after (next_count number) xs) (after_lines options.watermarks core.inputs (next_count number) after xs) ys)))
 
 -- what is written for some lines and then more, if none of the first stops the run
-pub output-append : (with_begun strict : Bool) (core : CoreParts) (xs ys : List (List ℕ))
-    → stop_among strict core.inputs 0 (empty_feed (length core.inputs)) xs ≡ false
-    → output with_begun strict core (xs ++ ys)
-    ≡ output with_begun strict core xs ++ news_from with_begun core (number_after 0 xs) (after_lines core.inputs 0 (empty_feed (length core.inputs)) xs)
-    (taken_from strict core.inputs (number_after 0 xs) (after_lines core.inputs 0 (empty_feed (length core.inputs)) xs) ys)
-output-append with_begun strict core xs ys none =
-    let feed = empty_feed (length core.inputs) in
-    let whole = taken-append strict core.inputs 0 feed xs [] none in
-    let taken : taken_from strict core.inputs 0 feed xs ≡ xs = rw (append-nil xs) at whole in
+pub output-append : (options : RunOptions) (core : CoreParts) (xs ys : List (List ℕ))
+    → stop_among options.strict options.watermarks core.inputs 0 (first_state (length core.inputs)) xs ≡ false
+    → output options core (xs ++ ys)
+    ≡ (let after = after_lines options.watermarks core.inputs 0 (first_state (length core.inputs)) xs in
+    output options core xs ++ news_from options core (number_after 0 xs) after
+    (taken_from options.strict options.watermarks core.inputs (number_after 0 xs) after ys))
+output-append options core xs ys none =
+    let state = first_state (length core.inputs) in
+    let after = after_lines options.watermarks core.inputs 0 state xs in
+    let later = taken_from options.strict options.watermarks core.inputs (number_after 0 xs) after ys in
     rw (
-      taken-append strict core.inputs 0 feed xs ys none,
-      taken,
-      news-append with_begun core 0 feed xs (taken_from strict core.inputs (number_after 0 xs) (after_lines core.inputs 0 feed xs) ys),
+      taken-append options.strict options.watermarks core.inputs 0 state xs ys none,
+      taken-all options.strict options.watermarks core.inputs 0 state xs none,
+      news-append options core 0 state xs later,
     )
-    (sym (append_assoc (first_news with_begun core) (news_from with_begun core 0 feed xs)
-    (news_from with_begun core (number_after 0 xs) (after_lines core.inputs 0 feed xs)
-    (taken_from strict core.inputs (number_after 0 xs) (after_lines core.inputs 0 feed xs) ys))))
+    (sym (append_assoc (first_news options.with_begun core) (news_from options core 0 state xs) (news_from options core (number_after 0 xs) after later)))

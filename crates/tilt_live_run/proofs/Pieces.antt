@@ -3,13 +3,12 @@ use Rattle.std.proofs.Common.{◌≡◌, ℕ, List, [], ◌++◌, None, Some, Re
 use Rattle.std.proofs.lemmas.Bool.{cases_Bool}
 use Rattle.std.proofs.lemmas.List.{append-nil}
 use Rattle.tilt_core.specs.Core.{CoreParts}
-use Rattle.tilt_feed.specs.Feed.{Feed}
 use Rattle.tilt_feed_text.proofs.Splitting.{lines-none, lines-until, unfinished-none, unfinished-until}
 use Rattle.tilt_feed_text.specs.Report.{report_of}
-use Rattle.tilt_feed_text.specs.Said.{after_line, content, line_fault, stops}
+use Rattle.tilt_feed_text.specs.Said.{FeedState, after_line, content, line_fault, stops}
 use Rattle.tilt_live_run.proofs.Reporting.{reports-none, reports-short, reports-stopped, reports-then}
-use Rattle.tilt_live_run.specs.Runs.{RunOptions}
 use Rattle.tilt_live_run.specs.Taken.{HasTakenLine, HasTakenPiece}
+use Rattle.tilt_live_run.specs.declared.run_options.RunOptions.{RunOptions}
 use Rattle.tilt_live_run.specs.declared.stop.Stop.{Stop}
 use Rattle.tilt_live_run.specs.declared.stop.Stop.TheVariants as stop
 use Rattle.tilt_outside.specs.Counts.{next_count}
@@ -29,11 +28,11 @@ on-err result A why is = rw is tt
 
 module _ {K : Type 0} (tells : Type 0) (written : K → List ℕ) (faults : K → ℕ) (core : CoreParts) (options : RunOptions) where
   -- a line that says the same
-  pub line-same : (err err_then : K) (Is : ℕ → Feed → Type 0) (Holds : Feed → Type 0) (number : ℕ) (feed : Feed) (x y : List ℕ) (result : Result (Unit {0}) Stop)
+  pub line-same : (err err_then : K) (Is : ℕ → FeedState → Type 0) (Holds : FeedState → Type 0) (number : ℕ) (state : FeedState) (x y : List ℕ) (result : Result (Unit {0}) Stop)
       → content core.inputs number x ≡ content core.inputs number y
-      → HasTakenLine tells written faults err err_then Is Holds core options number feed x result
-      → HasTakenLine tells written faults err err_then Is Holds core options number feed y result
-  line-same err err_then Is Holds number feed x y result e taken = record {
+      → HasTakenLine tells written faults err err_then Is Holds core options number state x result
+      → HasTakenLine tells written faults err err_then Is Holds core options number state y result
+  line-same err err_then Is Holds number state x y result e taken = record {
     reports = rw e at taken.reports;
     goes_on = rw e at taken.goes_on;
     held = taken.held;
@@ -41,17 +40,17 @@ module _ {K : Type 0} (tells : Type 0) (written : K → List ℕ) (faults : K �
   }
 
   -- what the run is then, said otherwise
-  pub line-into : (err err_then : K) (Is Then : ℕ → Feed → Type 0) (Holds : Feed → Type 0) (number : ℕ) (feed : Feed) (x : List ℕ) (result same : Result (Unit {0}) Stop)
-      → same ≡ result → OnOk same ((n : ℕ) (f : Feed) → Is n f → Then n f)
-      → HasTakenLine tells written faults err err_then Is Holds core options number feed x result
-      → HasTakenLine tells written faults err err_then Then Holds core options number feed x same
-  line-into err err_then Is Then Holds number feed x (Ok u) same is into taken = rw is record {
+  pub line-into : (err err_then : K) (Is Then : ℕ → FeedState → Type 0) (Holds : FeedState → Type 0) (number : ℕ) (state : FeedState) (x : List ℕ) (result same : Result (Unit {0}) Stop)
+      → same ≡ result → OnOk same ((n : ℕ) (s : FeedState) → Is n s → Then n s)
+      → HasTakenLine tells written faults err err_then Is Holds core options number state x result
+      → HasTakenLine tells written faults err err_then Then Holds core options number state x same
+  line-into err err_then Is Then Holds number state x (Ok u) same is into taken = rw is record {
     reports = taken.reports;
-    goes_on = (rw is at into) (next_count number) (after_line core.inputs number x feed) taken.goes_on;
+    goes_on = (rw is at into) (next_count number) (after_line options.watermarks core.inputs number x state) taken.goes_on;
     held = tt;
     stop = taken.stop;
   }
-  line-into err err_then Is Then Holds number feed x (Err e) same is into taken = rw is record {
+  line-into err err_then Is Then Holds number state x (Err e) same is into taken = rw is record {
     reports = taken.reports;
     goes_on = tt;
     held = taken.held;
@@ -59,9 +58,9 @@ module _ {K : Type 0} (tells : Type 0) (written : K → List ℕ) (faults : K �
   }
 
   -- memory was refused before the line was taken
-  pub line-refused : (err : K) (Is : ℕ → Feed → Type 0) (Holds : Feed → Type 0) (number : ℕ) (feed : Feed) (x : List ℕ) (result : Result (Unit {0}) Stop)
-      → result ≡ Err stop.OutOfMemory → HasTakenLine tells written faults err err Is Holds core options number feed x result
-  line-refused err Is Holds number feed x result is = record {
+  pub line-refused : (err : K) (Is : ℕ → FeedState → Type 0) (Holds : FeedState → Type 0) (number : ℕ) (state : FeedState) (x : List ℕ) (result : Result (Unit {0}) Stop)
+      → result ≡ Err stop.OutOfMemory → HasTakenLine tells written faults err err Is Holds core options number state x result
+  line-refused err Is Holds number state x result is = record {
     reports = reports-stopped tells written faults err _ stop.OutOfMemory result is (λ e. cc e);
     goes_on = rw is tt;
     held = rw is (λ e. absurd (cc e));
@@ -69,13 +68,13 @@ module _ {K : Type 0} (tells : Type 0) (written : K → List ℕ) (faults : K �
   }
 
   -- The first line of a piece that has one.
-  module _ (number : ℕ) (feed : Feed) (front piece line rest : List ℕ) (found : until_at 10 piece ≡ Some (line, rest)) where
+  module _ (number : ℕ) (state : FeedState) (front piece line rest : List ℕ) (found : until_at 10 piece ≡ Some (line, rest)) where
     -- it was taken, and then the rest of the piece
-    pub piece-more : (err err_mid err_then : K) (Mid : ℕ → Feed → Type 0) (Stays Holds : Feed → Type 0) (Is : ℕ → Feed → List ℕ → Type 0) (result : Result (Unit {0}) Stop)
-        → HasTakenLine tells written faults err err_mid Mid Stays core options number feed (front ++ line) (Ok tt)
+    pub piece-more : (err err_mid err_then : K) (Mid : ℕ → FeedState → Type 0) (Stays Holds : FeedState → Type 0) (Is : ℕ → FeedState → List ℕ → Type 0) (result : Result (Unit {0}) Stop)
+        → HasTakenLine tells written faults err err_mid Mid Stays core options number state (front ++ line) (Ok tt)
         → HasTakenPiece tells written faults err_mid err_then Is Holds core options (next_count number)
-        (after_line core.inputs number (front ++ line) feed) [] rest result
-        → HasTakenPiece tells written faults err err_then Is Holds core options number feed front piece result
+        (after_line options.watermarks core.inputs number (front ++ line) state) [] rest result
+        → HasTakenPiece tells written faults err err_then Is Holds core options number state front piece result
     piece-more err err_mid err_then Mid Stays Holds Is result first later = record {
       reports = rw (lines-until front piece line rest found, first.stop) (reports-then tells written faults err err_mid err_then _ _ tt result first.reports later.reports);
       goes_on = rw (lines-until front piece line rest found, unfinished-until front piece line rest found) later.goes_on;
@@ -84,13 +83,13 @@ module _ {K : Type 0} (tells : Type 0) (written : K → List ℕ) (faults : K �
     }
 
     -- the run stopped at it
-    pub piece-stopped : (err err_then : K) (Mid : ℕ → Feed → Type 0) (Holds : Feed → Type 0) (Is : ℕ → Feed → List ℕ → Type 0) (why : Stop) (result : Result (Unit {0}) Stop)
-        → result ≡ Err why → HasTakenLine tells written faults err err_then Mid Holds core options number feed (front ++ line) (Err why)
-        → HasTakenPiece tells written faults err err_then Is Holds core options number feed front piece result
+    pub piece-stopped : (err err_then : K) (Mid : ℕ → FeedState → Type 0) (Holds : FeedState → Type 0) (Is : ℕ → FeedState → List ℕ → Type 0) (why : Stop) (result : Result (Unit {0}) Stop)
+        → result ≡ Err why → HasTakenLine tells written faults err err_then Mid Holds core options number state (front ++ line) (Err why)
+        → HasTakenPiece tells written faults err err_then Is Holds core options number state front piece result
     piece-stopped err err_then Mid Holds Is why result is first =
-        elim (cases_Bool (stops options.strict core.inputs feed number (front ++ line))) [
+        elim (cases_Bool (stops options.strict options.watermarks core.inputs state number (front ++ line))) [
           | inl stopped ↦ record {
-            reports = rw (is, lines-until front piece line rest found, stopped, append-nil (report_of number (line_fault core.inputs feed number (front ++ line)))) first.reports;
+            reports = rw (is, lines-until front piece line rest found, stopped, append-nil (report_of number (line_fault options.watermarks core.inputs state number (front ++ line)))) first.reports;
             goes_on = rw is tt;
             held = rw (is, lines-until front piece line rest found, stopped) first.held;
             stop = rw (is, lines-until front piece line rest found, stopped) (λ e. refl);
@@ -105,10 +104,10 @@ module _ {K : Type 0} (tells : Type 0) (written : K → List ℕ) (faults : K �
         ]
 
   -- a piece without a line was taken
-  pub piece-end : (err : K) (Is : ℕ → Feed → List ℕ → Type 0) (Holds : Feed → Type 0) (number : ℕ) (feed : Feed) (front piece : List ℕ)
-      → until_at 10 piece ≡ None → Is number feed (front ++ piece)
-      → HasTakenPiece tells written faults err err Is Holds core options number feed front piece (Ok tt)
-  piece-end err Is Holds number feed front piece none is = record {
+  pub piece-end : (err : K) (Is : ℕ → FeedState → List ℕ → Type 0) (Holds : FeedState → Type 0) (number : ℕ) (state : FeedState) (front piece : List ℕ)
+      → until_at 10 piece ≡ None → Is number state (front ++ piece)
+      → HasTakenPiece tells written faults err err Is Holds core options number state front piece (Ok tt)
+  piece-end err Is Holds number state front piece none is = record {
     reports = rw (lines-none front piece none) (reports-none tells written faults err tt);
     goes_on = rw (lines-none front piece none, unfinished-none front piece none) is;
     held = tt;
@@ -116,9 +115,9 @@ module _ {K : Type 0} (tells : Type 0) (written : K → List ℕ) (faults : K �
   }
 
   -- memory was refused before a piece without a line was taken
-  pub piece-refused : (err : K) (Is : ℕ → Feed → List ℕ → Type 0) (Holds : Feed → Type 0) (number : ℕ) (feed : Feed) (front piece : List ℕ) (result : Result (Unit {0}) Stop)
-      → result ≡ Err stop.OutOfMemory → HasTakenPiece tells written faults err err Is Holds core options number feed front piece result
-  piece-refused err Is Holds number feed front piece result is = record {
+  pub piece-refused : (err : K) (Is : ℕ → FeedState → List ℕ → Type 0) (Holds : FeedState → Type 0) (number : ℕ) (state : FeedState) (front piece : List ℕ) (result : Result (Unit {0}) Stop)
+      → result ≡ Err stop.OutOfMemory → HasTakenPiece tells written faults err err Is Holds core options number state front piece result
+  piece-refused err Is Holds number state front piece result is = record {
     reports = reports-stopped tells written faults err _ stop.OutOfMemory result is (λ e. cc e);
     goes_on = rw is tt;
     held = rw is (λ e. absurd (cc e));

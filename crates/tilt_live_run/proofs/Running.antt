@@ -4,37 +4,35 @@ use Rattle.std.proofs.lemmas.Bool.{cases_Bool, eqb-true}
 use Rattle.std.proofs.lemmas.List.{length-take, nil_from_length}
 use Rattle.tilt_compiler.specs.Accepted.{AcceptedParts}
 use Rattle.tilt_core.specs.Core.{CoreParts}
-use Rattle.tilt_feed.specs.Feed.{empty_feed}
 use Rattle.tilt_feed_text.proofs.Cutting.{take-empty}
-use Rattle.tilt_feed_text.proofs.Saying.{after-lines, after_lines-append, number-append}
+use Rattle.tilt_feed_text.proofs.Saying.{after_lines-append, number-append}
 use Rattle.tilt_feed_text.proofs.Splitting.{lines-append, unfinished-append}
-use Rattle.tilt_feed_text.specs.Said.{after_lines, number_after}
+use Rattle.tilt_feed_text.specs.Said.{after_lines, first_state, number_after}
 use Rattle.tilt_feed_text.specs.Split.{unfinished, unfinished_after, whole_lines}
 use Rattle.tilt_feed_text.specs.declared.pending.TheConstants.{LINE}
-use Rattle.tilt_live_run.specs.Runs.{IsRunAfter, RunOptions, feed_after, new_lines, number_of}
+use Rattle.tilt_live_run.specs.Runs.{IsRunAfter, new_lines, number_of, state_after}
 use Rattle.tilt_live_run.specs.declared.live_run.LiveRun.{LiveRun}
+use Rattle.tilt_live_run.specs.declared.run_options.RunOptions.{RunOptions}
 use Rattle.tilt_live_run.specs.declared.stop.Stop.{Stop}
 use Rattle.tilt_live_run.specs.declared.stop.Stop.TheVariants.{BadLine}
 
 pub number-more : (bytes piece : List ℕ) → number_of (bytes ++ piece) ≡ number_after (number_of bytes) (new_lines bytes piece)
 number-more bytes piece = rw (lines-append [] bytes piece) (number-append 0 (whole_lines bytes) (new_lines bytes piece))
 
-pub feed-more : (core : CoreParts) (bytes piece : List ℕ)
-    → feed_after core (bytes ++ piece) ≡ after_lines core.inputs (number_of bytes) (feed_after core bytes) (new_lines bytes piece)
-feed-more core bytes piece =
-    let feed = empty_feed (length core.inputs) in
-    let whole : feed_after core (bytes ++ piece) ≡ after_lines core.inputs 0 feed (whole_lines (bytes ++ piece)) =
-    after-lines core.inputs 0 feed (whole_lines (bytes ++ piece)) in
-    let before : feed_after core bytes ≡ after_lines core.inputs 0 feed (whole_lines bytes) = after-lines core.inputs 0 feed (whole_lines bytes) in
-    rw (whole, before, lines-append [] bytes piece) (after_lines-append core.inputs 0 feed (whole_lines bytes) (new_lines bytes piece))
+pub state-more : (options : RunOptions) (core : CoreParts) (bytes piece : List ℕ)
+    → state_after options core (bytes ++ piece)
+    ≡ after_lines options.watermarks core.inputs (number_of bytes) (state_after options core bytes) (new_lines bytes piece)
+state-more options core bytes piece =
+    rw (lines-append [] bytes piece)
+    (after_lines-append options.watermarks core.inputs 0 (first_state (length core.inputs)) (whole_lines bytes) (new_lines bytes piece))
 
 -- the run of a query after a piece
 pub run-more : (run : LiveRun) (accepted : AcceptedParts) (options : RunOptions) (bytes piece : List ℕ) (given : ℕ)
     → IsRunAfter run accepted options (number_after (number_of bytes) (new_lines bytes piece))
-    (after_lines accepted.core.inputs (number_of bytes) (feed_after accepted.core bytes) (new_lines bytes piece)) (unfinished_after (unfinished bytes) piece) given
-    → IsRunAfter run accepted options (number_of (bytes ++ piece)) (feed_after accepted.core (bytes ++ piece)) (unfinished (bytes ++ piece)) given
+    (after_lines options.watermarks accepted.core.inputs (number_of bytes) (state_after options accepted.core bytes) (new_lines bytes piece)) (unfinished_after (unfinished bytes) piece) given
+    → IsRunAfter run accepted options (number_of (bytes ++ piece)) (state_after options accepted.core (bytes ++ piece)) (unfinished (bytes ++ piece)) given
 run-more run accepted options bytes piece given is =
-    rw (number-more bytes piece, feed-more accepted.core bytes piece, unfinished-append [] bytes piece) is
+    rw (number-more bytes piece, state-more options accepted.core bytes piece, unfinished-append [] bytes piece) is
 
 -- the first bytes of a line, by the bytes of them that are kept
 pub none-kept : (front kept : List ℕ) → kept ≡ take (LINE + 1) front → (length kept == 0) ≡ true → front ≡ []

@@ -9,6 +9,7 @@ use Rattle.tilt_live_run.specs.declared.stop.Stop.TheVariants.{BadLine, WriteFau
 use Rattle.tilt_outside.specs.declared.failed.Failed.{Failed}
 use Rattle.tilt_port.proofs.Writing.{writes-none, writes-then}
 use Rattle.tilt_port.specs.Transcript.{Transcript, Writes}
+use Rattle.tilt_series.proofs.Writes.{lines_of-append}
 use Rattle.tilt_stream.specs.Snap.{Snapshot}
 use Rattle.tilt_stream.specs.Text.{lines_of, row_text}
 
@@ -19,14 +20,6 @@ lines-first s ss = by (is_some s.value)
     by : (some : Bool) → (if some then row_text s ++ lines_of ss else lines_of ss) ≡ (if some then row_text s ++ lines_of [] else lines_of []) ++ lines_of ss
     by true = sym (append_assoc (row_text s) [] (lines_of ss))
     by false = refl
-
--- the lines of snapshots and those of more
-pub lines-append : (xs ys : List Snapshot) → lines_of (xs ++ ys) ≡ lines_of xs ++ lines_of ys
-lines-append [] ys = refl
-lines-append (x ∷ xs) ys =
-    lines-first x (xs ++ ys)
-    ∙ rw (lines-append xs ys) (sym (append_assoc (lines_of (x ∷ [])) (lines_of xs) (lines_of ys)))
-    ∙ ap (λ (t : List ℕ). t ++ lines_of ys) (sym (lines-first x xs))
 
 -- what is left of a list begins with what comes next
 left_next : (list : List Snapshot) (given : ℕ) (s : Snapshot) → slice_get list given ≡ Some s → drop given list ≡ s ∷ drop (suc given) list
@@ -66,7 +59,7 @@ module _ (tells : Type 0) where
   shown-next old mid new list given place s before next write = record {
     shown = before.shown ++ s ∷ [];
     is = before.is ∙ rw (left-next list place s next) (sym (append_assoc before.shown (s ∷ []) (drop (place + 1) list)));
-    wrote = rw (lines-append before.shown (s ∷ [])) (writes-then tells old mid new (lines_of before.shown) (lines_of (s ∷ [])) (Ok (tt {0})) before.wrote write);
+    wrote = rw (lines_of-append before.shown (s ∷ [])) (writes-then tells old mid new (lines_of before.shown) (lines_of (s ∷ [])) (Ok (tt {0})) before.wrote write);
   }
 
   -- all of it was written
@@ -80,7 +73,7 @@ module _ (tells : Type 0) where
   pub shown-stopped : (old new : Transcript) (list : List Snapshot) (given place : ℕ) (why : Stop) (result : Result (Unit {0}) Stop) → result ≡ Err why
       → (why ≡ WriteFault → ⊥) → (why ≡ BadLine → ⊥) → IsShown old new list given place → Adds tells old new (lines_of (drop given list)) result
   shown-stopped old new list given place why result is other good before =
-      rw (before.is, lines-append before.shown (drop place list))
+      rw (before.is, lines_of-append before.shown (drop place list))
       (adds-then tells old new new (lines_of before.shown) (lines_of (drop place list)) (tt {0}) result (adds-write tells old new (lines_of before.shown) (tt {0}) before.wrote)
       (adds-stopped tells new (lines_of (drop place list)) why result is other (λ e. absurd (good e))))
 
@@ -89,7 +82,7 @@ module _ (tells : Type 0) where
       → result ≡ Err WriteFault → IsShown old mid list given place → slice_get list place ≡ Some s
       → Writes tells mid new (lines_of (s ∷ [])) (Err e) → Adds tells old new (lines_of (drop given list)) result
   shown-failed old mid new list given place s e result is before next write =
-      rw (before.is, lines-append before.shown (drop place list), left-next list place s next, lines-first s (drop (place + 1) list))
+      rw (before.is, lines_of-append before.shown (drop place list), left-next list place s next, lines-first s (drop (place + 1) list))
       (adds-then tells old mid new (lines_of before.shown) (lines_of (s ∷ []) ++ lines_of (drop (place + 1) list)) tt result
       (adds-write tells old mid (lines_of before.shown) (tt {0}) before.wrote)
       (adds-failed tells mid new (lines_of (s ∷ [])) (lines_of (drop (place + 1) list)) e result is write))

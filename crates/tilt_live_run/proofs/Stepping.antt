@@ -7,12 +7,10 @@ use Rattle.std.proofs.lemmas.List.{append-nil, take_at}
 use Rattle.std.proofs.lemmas.Option.{none-some, same_Some}
 use Rattle.tilt_compiler.specs.Accepted.{AcceptedParts}
 use Rattle.tilt_core.specs.Core.{CoreParts}
-use Rattle.tilt_feed.specs.Feed.{Feed}
 use Rattle.tilt_feed.specs.Printed.{begun, printed}
-use Rattle.tilt_feed_text.proofs.Saying.{reports-append, stop-append, taken-append}
+use Rattle.tilt_feed_text.proofs.Saying.{reports-append, reports-stop, stop-append, stop-stop, taken-all, taken-append, taken-stop}
 use Rattle.tilt_feed_text.proofs.Splitting.{lines-append, lines-none, lines-until, unfinished-append}
-use Rattle.tilt_feed_text.specs.Report.{reports_from}
-use Rattle.tilt_feed_text.specs.Said.{after_line, after_lines, number_after, stop_among, stops, taken_from}
+use Rattle.tilt_feed_text.specs.Said.{FeedState, after_line, after_lines, number_after, stops, taken_from}
 use Rattle.tilt_feed_text.specs.Split.{lines_after, unfinished, unfinished_after}
 use Rattle.tilt_feed_text.specs.declared.pending.TheConstants.{LINE}
 use Rattle.tilt_live.specs.Lives.{IsLiveOf}
@@ -20,14 +18,15 @@ use Rattle.tilt_live_run.proofs.Adding.{adds-none, adds-short, adds-stopped, add
 use Rattle.tilt_live_run.proofs.Newly.{news-same}
 use Rattle.tilt_live_run.proofs.Outputs.{news-append}
 use Rattle.tilt_live_run.proofs.Reporting.{reports-none, reports-short, reports-then, reports-whole}
-use Rattle.tilt_live_run.proofs.Running.{feed-more, number-more}
+use Rattle.tilt_live_run.proofs.Running.{number-more, state-more}
 use Rattle.tilt_live_run.specs.Adds.{Adds}
 use Rattle.tilt_live_run.specs.Output.{begun_start, news, news_from}
 use Rattle.tilt_live_run.specs.Reported.{Reports}
-use Rattle.tilt_live_run.specs.Runs.{IsRunAfter, IsRunOf, RunOptions, added, feed_after, feed_taken, is_stopped, new_lines, number_of, reported}
+use Rattle.tilt_live_run.specs.Runs.{IsRunAfter, IsRunOf, added, is_stopped, new_lines, number_of, reported, state_after, state_taken}
 use Rattle.tilt_live_run.specs.Stepped.{HasTaken, HasWritten, is_lost}
 use Rattle.tilt_live_run.specs.Taken.{HasTakenPiece}
 use Rattle.tilt_live_run.specs.declared.live_run.LiveRun.{LiveRun}
+use Rattle.tilt_live_run.specs.declared.run_options.RunOptions.{RunOptions}
 use Rattle.tilt_live_run.specs.declared.stop.Stop.{Stop}
 use Rattle.tilt_live_run.specs.declared.stop.Stop.TheVariants.{BadLine, OutOfMemory, WriteFault}
 use Rattle.tilt_outside.specs.Counts.{next_count}
@@ -37,6 +36,7 @@ use Rattle.tilt_text.proofs.Step.{bind_some}
 use Rattle.tilt_text.proofs.Words.{front-until, until-front}
 use Rattle.tilt_text.specs.Cut.{onto, until_at}
 use Rattle.tilt_text.specs.Step.{◌>>=◌}
+use Rattle.tilt_watermarks.specs.Machine.{kept_by, options_of}
 
 -- the bytes before a mark are without it
 lacks_head : (mark b : ℕ) (bs front rest : List ℕ) (here : Bool) → (b == mark) ≡ here → ((f r : List ℕ) → until_at mark bs ≡ Some (f, r) → Lacks mark f)
@@ -69,17 +69,17 @@ module _ (core : CoreParts) (options : RunOptions) (bytes : List ℕ) where
   pub added-more : (p q : List ℕ) → is_stopped options core bytes p ≡ false → added options core bytes (p ++ q) ≡ added options core bytes p ++ added options core (bytes ++ p) q
   added-more p q none =
       let n = number_of bytes in
-      let f = feed_after core bytes in
-      let whole = taken-append options.strict core.inputs n f (new_lines bytes p) [] none in
-      let all : taken_from options.strict core.inputs n f (new_lines bytes p) ≡ new_lines bytes p = rw (append-nil (new_lines bytes p)) at whole in
+      let s = state_after options core bytes in
+      let whole = taken-append options.strict options.watermarks core.inputs n s (new_lines bytes p) [] none in
+      let all : taken_from options.strict options.watermarks core.inputs n s (new_lines bytes p) ≡ new_lines bytes p = rw (append-nil (new_lines bytes p)) at whole in
       rw (
         lines_of_both p q,
-        taken-append options.strict core.inputs n f (new_lines bytes p) (new_lines (bytes ++ p) q) none,
+        taken-append options.strict options.watermarks core.inputs n s (new_lines bytes p) (new_lines (bytes ++ p) q) none,
         all,
-        news-append options.with_begun core n f (new_lines bytes p)
-            (taken_from options.strict core.inputs (number_after n (new_lines bytes p)) (after_lines core.inputs n f (new_lines bytes p)) (new_lines (bytes ++ p) q)),
+        news-append options core n s (new_lines bytes p)
+            (taken_from options.strict options.watermarks core.inputs (number_after n (new_lines bytes p)) (after_lines options.watermarks core.inputs n s (new_lines bytes p)) (new_lines (bytes ++ p) q)),
         number-more bytes p,
-        feed-more core bytes p,
+        state-more options core bytes p,
       ) refl
 
   pub reported-more : (p q : List ℕ) → is_stopped options core bytes p ≡ false
@@ -87,36 +87,36 @@ module _ (core : CoreParts) (options : RunOptions) (bytes : List ℕ) where
   reported-more p q none =
       rw (
         lines_of_both p q,
-        reports-append options.strict core.inputs (number_of bytes) (feed_after core bytes) (new_lines bytes p) (new_lines (bytes ++ p) q) none,
+        reports-append options.strict options.watermarks core.inputs (number_of bytes) (state_after options core bytes) (new_lines bytes p) (new_lines (bytes ++ p) q) none,
         number-more bytes p,
-        feed-more core bytes p,
+        state-more options core bytes p,
       ) refl
 
   pub stopped-more : (p q : List ℕ) → is_stopped options core bytes p ≡ false → is_stopped options core bytes (p ++ q) ≡ is_stopped options core (bytes ++ p) q
   stopped-more p q none =
       rw (
         lines_of_both p q,
-        stop-append options.strict core.inputs (number_of bytes) (feed_after core bytes) (new_lines bytes p) (new_lines (bytes ++ p) q) none,
+        stop-append options.strict options.watermarks core.inputs (number_of bytes) (state_after options core bytes) (new_lines bytes p) (new_lines (bytes ++ p) q) none,
         number-more bytes p,
-        feed-more core bytes p,
+        state-more options core bytes p,
       ) refl
 
   -- what is news of one line, and of no line
-  one_added : (n : ℕ) (f : Feed) (x : List ℕ) → news options.with_begun core f (after_lines core.inputs n f (taken_from options.strict core.inputs n f (x ∷ [])))
-      ≡ news_from options.with_begun core n f (taken_from options.strict core.inputs n f (x ∷ []))
-  one_added n f x =
-      elim (cases_Bool (stops options.strict core.inputs f n x)) [
-        | inl stopped ↦ rw stopped (news-same options.with_begun core f)
-        | inr going ↦ rw (going, append-nil (news options.with_begun core f (after_line core.inputs n x f))) refl
+  one_added : (n : ℕ) (s : FeedState) (x : List ℕ) → news options.with_begun core s.feed (after_lines options.watermarks core.inputs n s (taken_from options.strict options.watermarks core.inputs n s (x ∷ []))).feed
+      ≡ news_from options core n s (taken_from options.strict options.watermarks core.inputs n s (x ∷ []))
+  one_added n s x =
+      elim (cases_Bool (stops options.strict options.watermarks core.inputs s n x)) [
+        | inl stopped ↦ rw stopped (news-same options.with_begun core s.feed)
+        | inr going ↦ rw (going, append-nil (news options.with_begun core s.feed (after_line options.watermarks core.inputs n x s).feed)) refl
       ]
 
   pub line-added : (rest line after : List ℕ) → until_at 10 rest ≡ Some (line, after)
-      → news options.with_begun core (feed_after core bytes) (feed_taken options core bytes (line ++ 10 ∷ [])) ≡ added options core bytes (line ++ 10 ∷ [])
-  line-added rest line after found = rw (line-lines (unfinished bytes) rest line after found) (one_added (number_of bytes) (feed_after core bytes) (unfinished bytes ++ line))
+      → news options.with_begun core (state_after options core bytes).feed (state_taken options core bytes (line ++ 10 ∷ [])).feed ≡ added options core bytes (line ++ 10 ∷ [])
+  line-added rest line after found = rw (line-lines (unfinished bytes) rest line after found) (one_added (number_of bytes) (state_after options core bytes) (unfinished bytes ++ line))
 
   pub none-added : (rest : List ℕ) → until_at 10 rest ≡ None
-      → news options.with_begun core (feed_after core bytes) (feed_taken options core bytes rest) ≡ added options core bytes rest
-  none-added rest none = rw (lines-none (unfinished bytes) rest none) (news-same options.with_begun core (feed_after core bytes))
+      → news options.with_begun core (state_after options core bytes).feed (state_taken options core bytes rest).feed ≡ added options core bytes rest
+  none-added rest none = rw (lines-none (unfinished bytes) rest none) (news-same options.with_begun core (state_after options core bytes).feed)
 
 -- what was written whole, if the run stops for another reason then
 pub adds-bad : (tells : Type 0) (old new : Transcript) (bytes : List ℕ) (x : Unit {0}) → Adds tells old new bytes (Ok x) → Adds {T = Unit {0}} tells old new bytes (Err BadLine)
@@ -133,11 +133,11 @@ adds-bad tells old new bytes x adds = record {
 module _ {K : Type 0} (port_tells : Type 0) (port port_then : Transcript) (tells : Type 0) (written : K → List ℕ) (faults : K → ℕ) (err err_then : K)
     (Is : List ℕ → Type 0) (core : CoreParts) (options : RunOptions) (bytes piece : List ℕ) where
   -- a piece was taken, and then it was shown
-  pub shown-after : (wrote : List ℕ) (heard shown result : Result (Unit {0}) Stop) → MatchResult heard (λ _. ⊤) (λ why. why ≡ BadLine)
-      → Reports tells written faults err err_then (reported options core bytes piece) heard
-      → MatchResult heard (λ _. is_stopped options core bytes piece ≡ false) (λ stop. stop ≡ BadLine → is_stopped options core bytes piece ≡ true)
+  pub shown-after : (wrote : List ℕ) (outcome shown result : Result (Unit {0}) Stop) → MatchResult outcome (λ _. ⊤) (λ why. why ≡ BadLine)
+      → Reports tells written faults err err_then (reported options core bytes piece) outcome
+      → MatchResult outcome (λ _. is_stopped options core bytes piece ≡ false) (λ stop. stop ≡ BadLine → is_stopped options core bytes piece ≡ true)
       → Adds port_tells port port_then wrote shown → IfErr shown (λ why. why ≡ BadLine → ⊥)
-      → MatchResult shown (λ _. result ≡ heard) (λ why. result ≡ Err why) → OnOk result (Is (bytes ++ piece))
+      → MatchResult shown (λ _. result ≡ outcome) (λ why. result ≡ Err why) → OnOk result (Is (bytes ++ piece))
       → HasWritten port_tells port port_then tells written faults err err_then Is core options bytes piece result wrote
   shown-after wrote (Ok u) (Ok v) result bad reports stop adds good is on = record {
     adds = rw is adds;
@@ -165,110 +165,77 @@ module _ {K : Type 0} (port_tells : Type 0) (port port_then : Transcript) (tells
   }
 
 -- a run that isn't lost goes on or stopped at a bad line
-pub not-lost : (heard : Result (Unit {0}) Stop) → is_lost heard ≡ false → MatchResult heard (λ _. ⊤) (λ why. why ≡ BadLine)
+pub not-lost : (outcome : Result (Unit {0}) Stop) → is_lost outcome ≡ false → MatchResult outcome (λ _. ⊤) (λ why. why ≡ BadLine)
 not-lost (Ok u) e = tt
 not-lost (Err BadLine) e = refl
 not-lost (Err WriteFault) e = absurd (cc e)
 not-lost (Err OutOfMemory) e = absurd (cc e)
 
 -- and a lost one stopped for lack of memory, unless a write failed
-pub lost-memory : (heard : Result (Unit {0}) Stop) → is_lost heard ≡ true → IfErr heard (λ why. why ≡ WriteFault → ⊥) → heard ≡ Err OutOfMemory
+pub lost-memory : (outcome : Result (Unit {0}) Stop) → is_lost outcome ≡ true → IfErr outcome (λ why. why ≡ WriteFault → ⊥) → outcome ≡ Err OutOfMemory
 lost-memory (Ok u) e good = absurd (cc e)
 lost-memory (Err BadLine) e good = absurd (cc e)
 lost-memory (Err WriteFault) e good = absurd (good refl)
 lost-memory (Err OutOfMemory) e good = refl
 
--- if no line stops the run, all are taken
-pub taken-all : (strict : Bool) (inputs : List (List ℕ)) (n : ℕ) (f : Feed) (lines : List (List ℕ)) → stop_among strict inputs n f lines ≡ false
-    → taken_from strict inputs n f lines ≡ lines
-taken-all strict inputs n f lines none = rw (append-nil lines) at (taken-append strict inputs n f lines [] none)
-
 module _ {K : Type 0} (tells : Type 0) (written : K → List ℕ) (faults : K → ℕ) (err err_then : K) (accepted : AcceptedParts) (options : RunOptions) (bytes piece : List ℕ)
     (given : ℕ) (run : LiveRun) where
   -- what taking the piece did, before it is shown
-  abbrev pub Heard : Result (Unit {0}) Stop → Type 0
-  Heard heard =
-      HasTakenPiece tells written faults err err_then (λ n f rest. IsRunAfter run accepted options n f rest given) (λ f. IsLiveOf run.run.live accepted f given) accepted.core options
-      (number_of bytes) (feed_after accepted.core bytes) (unfinished bytes) piece heard
+  abbrev pub WasTaken : Result (Unit {0}) Stop → Type 0
+  WasTaken outcome =
+      HasTakenPiece tells written faults err err_then (λ n s rest. IsRunAfter run accepted options n s rest given) (λ s. IsLiveOf run.run.live accepted s.feed given) accepted.core options
+      (number_of bytes) (state_after options accepted.core bytes) (unfinished bytes) piece outcome
 
   -- the engine is that of the lines that are taken
-  pub heard-live : (heard : Result (Unit {0}) Stop) → MatchResult heard (λ _. ⊤) (λ why. why ≡ BadLine) → Heard heard
-      → IsLiveOf run.run.live accepted (feed_taken options accepted.core bytes piece) given
-  heard-live (Ok u) bad taken =
-      rw (taken-all options.strict accepted.core.inputs (number_of bytes) (feed_after accepted.core bytes) (new_lines bytes piece) taken.stop) taken.goes_on.line_run.live
-  heard-live (Err e) bad taken = taken.held bad
+  pub taken-live : (outcome : Result (Unit {0}) Stop) → MatchResult outcome (λ _. ⊤) (λ why. why ≡ BadLine) → WasTaken outcome
+      → IsLiveOf run.run.live accepted (state_taken options accepted.core bytes piece).feed given
+  taken-live (Ok u) bad taken =
+      rw (taken-all options.strict options.watermarks accepted.core.inputs (number_of bytes) (state_after options accepted.core bytes) (new_lines bytes piece) taken.stop) taken.goes_on.line_run.live
+  taken-live (Err e) bad taken = taken.held bad
 
   -- the run that has shown it goes on after it
-  pub heard-shown : (later : LiveRun) (heard : Result (Unit {0}) Stop) → Heard heard
-      → IsLiveOf later.run.live accepted (feed_taken options accepted.core bytes piece) (length (printed accepted.core (feed_taken options accepted.core bytes piece)))
-      → (options.with_begun ≡ true → later.run.shown ≡ begun_start (begun accepted.core (feed_taken options accepted.core bytes piece)))
-      → (later.run.number ≡ run.run.number) × (later.run.with_begun ≡ run.run.with_begun) × (later.run.strict ≡ run.run.strict) → later.pending.items ≡ run.pending.items
-      → OnOk heard (IsRunOf later accepted options (bytes ++ piece))
-  heard-shown later (Ok u) taken live begun_is same kept =
+  pub taken-shown : (later : LiveRun) (outcome : Result (Unit {0}) Stop) → WasTaken outcome
+      → (let after = state_taken options accepted.core bytes piece in IsLiveOf later.run.live accepted after.feed (length (printed accepted.core after.feed)))
+      → (options.with_begun ≡ true → later.run.shown ≡ begun_start (begun accepted.core (state_taken options accepted.core bytes piece).feed))
+      → (later.run.number ≡ run.run.number) × (later.run.with_begun ≡ run.run.with_begun) × (later.run.strict ≡ run.run.strict)
+      → (kept_by later.run.watermarks ≡ kept_by run.run.watermarks) × (options_of later.run.watermarks ≡ options_of run.run.watermarks)
+      → later.pending.items ≡ run.pending.items
+      → OnOk outcome (IsRunOf later accepted options (bytes ++ piece))
+  taken-shown later (Ok u) taken live begun_is same marks kept =
       let core = accepted.core in
-      let all : feed_taken options core bytes piece ≡ feed_after core (bytes ++ piece) =
-      rw (taken-all options.strict core.inputs (number_of bytes) (feed_after core bytes) (new_lines bytes piece) taken.stop) (sym (feed-more core bytes piece)) in
+      let all : state_taken options core bytes piece ≡ state_after options core (bytes ++ piece) =
+      rw (taken-all options.strict options.watermarks core.inputs (number_of bytes) (state_after options core bytes) (new_lines bytes piece) taken.stop) (sym (state-more options core bytes piece)) in
       record {
         after = record {
           line_run = record {
-            live = subst (λ (f : Feed). IsLiveOf later.run.live accepted f (length (printed core f))) all live;
+            live = subst (λ (s : FeedState). IsLiveOf later.run.live accepted s.feed (length (printed core s.feed))) all live;
+            kept_is = marks.0 ∙ taken.goes_on.line_run.kept_is ∙ ap (λ (s : FeedState). s.kept) (sym (state-more options core bytes piece));
+            watermarks_are = marks.1 ∙ taken.goes_on.line_run.watermarks_are;
             number_is = same.0 ∙ taken.goes_on.line_run.number_is ∙ sym (number-more bytes piece);
             with_begun_is = same.1 ∙ taken.goes_on.line_run.with_begun_is;
             strict_is = same.2 ∙ taken.goes_on.line_run.strict_is;
           };
           pending = kept ∙ taken.goes_on.pending ∙ ap (take (LINE + 1)) (sym (unfinished-append [] bytes piece));
         };
-        begun = λ yes. subst (λ (f : Feed). later.run.shown ≡ begun_start (begun core f)) all (begun_is yes);
+        begun = λ yes. subst (λ (s : FeedState). later.run.shown ≡ begun_start (begun core s.feed)) all (begun_is yes);
       }
-  heard-shown later (Err e) taken live begun_is same kept = tt
+  taken-shown later (Err e) taken live begun_is same marks kept = tt
 
 -- a run that is lost wrote nothing
 pub lost-written : {K : Type 0} (port_tells : Type 0) (port : Transcript) (tells : Type 0) (written : K → List ℕ) (faults : K → ℕ) (err err_then : K) (Is : List ℕ → Type 0)
-    (core : CoreParts) (options : RunOptions) (bytes piece wrote : List ℕ) (heard : Result (Unit {0}) Stop) → heard ≡ Err OutOfMemory
-    → Reports tells written faults err err_then (reported options core bytes piece) heard
-    → MatchResult heard (λ _. is_stopped options core bytes piece ≡ false) (λ stop. stop ≡ BadLine → is_stopped options core bytes piece ≡ true)
-    → HasWritten port_tells port port tells written faults err err_then Is core options bytes piece heard wrote
-lost-written port_tells port tells written faults err err_then Is core options bytes piece wrote heard is reports stop = record {
-  adds = adds-stopped port_tells port wrote OutOfMemory heard is (λ e. cc e) (λ e. absurd (cc e));
+    (core : CoreParts) (options : RunOptions) (bytes piece wrote : List ℕ) (outcome : Result (Unit {0}) Stop) → outcome ≡ Err OutOfMemory
+    → Reports tells written faults err err_then (reported options core bytes piece) outcome
+    → MatchResult outcome (λ _. is_stopped options core bytes piece ≡ false) (λ stop. stop ≡ BadLine → is_stopped options core bytes piece ≡ true)
+    → HasWritten port_tells port port tells written faults err err_then Is core options bytes piece outcome wrote
+lost-written port_tells port tells written faults err err_then Is core options bytes piece wrote outcome is reports stop = record {
+  adds = adds-stopped port_tells port wrote OutOfMemory outcome is (λ e. cc e) (λ e. absurd (cc e));
   reports = reports;
   goes_on = rw is tt;
   stops = stop;
 }
 
--- lines after one that stops the run aren't taken
-taken_stop : (strict : Bool) (inputs : List (List ℕ)) (n : ℕ) (f : Feed) (xs ys : List (List ℕ)) → stop_among strict inputs n f xs ≡ true
-    → taken_from strict inputs n f (xs ++ ys) ≡ taken_from strict inputs n f xs
-taken_stop strict inputs n f [] ys e = absurd (cc e)
-taken_stop strict inputs n f (x ∷ xs) ys e =
-    elim (cases_Bool (stops strict inputs f n x)) [
-      | inl stopped ↦ rw stopped refl
-      | inr going ↦
-          let later = rw going at e in
-          rw going (ap (λ (t : List (List ℕ)). x ∷ t) (taken_stop strict inputs (next_count n) (after_line inputs n x f) xs ys later))
-    ]
-
-reports_stop : (strict : Bool) (inputs : List (List ℕ)) (n : ℕ) (f : Feed) (xs ys : List (List ℕ)) → stop_among strict inputs n f xs ≡ true
-    → reports_from strict inputs n f (xs ++ ys) ≡ reports_from strict inputs n f xs
-reports_stop strict inputs n f [] ys e = absurd (cc e)
-reports_stop strict inputs n f (x ∷ xs) ys e =
-    elim (cases_Bool (stops strict inputs f n x)) [
-      | inl stopped ↦ rw stopped refl
-      | inr going ↦
-          let later = rw going at e in
-          rw (going, reports_stop strict inputs (next_count n) (after_line inputs n x f) xs ys later) refl
-    ]
-
-stop_stop : (strict : Bool) (inputs : List (List ℕ)) (n : ℕ) (f : Feed) (xs ys : List (List ℕ)) → stop_among strict inputs n f xs ≡ true
-    → stop_among strict inputs n f (xs ++ ys) ≡ true
-stop_stop strict inputs n f [] ys e = absurd (cc e)
-stop_stop strict inputs n f (x ∷ xs) ys e =
-    elim (cases_Bool (stops strict inputs f n x)) [
-      | inl stopped ↦ rw stopped refl
-      | inr going ↦ let later = rw going at e in rw going (stop_stop strict inputs (next_count n) (after_line inputs n x f) xs ys later)
-    ]
-
 module _ {K : Type 0} (port_tells : Type 0) (tells : Type 0) (written : K → List ℕ) (faults : K → ℕ) (accepted : AcceptedParts) (options : RunOptions) where
-  -- what taking a piece after bytes did
+  -- what outcome a piece after bytes did
   abbrev pub TakenPiece : (port port_then : Transcript) (err err_then : K) (run : LiveRun) (bytes piece : List ℕ) → Result (Unit {0}) Stop → Type 0
   TakenPiece port port_then err err_then run bytes piece result =
       HasTaken port_tells port port_then tells written faults err err_then (λ later. IsRunOf run accepted options later) accepted.core options bytes piece result
@@ -279,16 +246,16 @@ module _ {K : Type 0} (port_tells : Type 0) (tells : Type 0) (written : K → Li
   piece-short port port_then err err_then run bytes p q why result is taken =
       let core = accepted.core in
       let n = number_of bytes in
-      let f = feed_after core bytes in
+      let s = state_after options core bytes in
       elim (cases_Bool (is_stopped options core bytes p)) [
         | inl stopped ↦
             let both = lines-append (unfinished bytes) p q in
             let more = lines_after (unfinished_after (unfinished bytes) p) q in
             record {
-              adds = rw (is, both, taken_stop options.strict core.inputs n f (new_lines bytes p) more stopped) taken.adds;
-              reports = rw (is, both, reports_stop options.strict core.inputs n f (new_lines bytes p) more stopped) taken.reports;
+              adds = rw (is, both, taken-stop options.strict options.watermarks core.inputs n s (new_lines bytes p) more stopped) taken.adds;
+              reports = rw (is, both, reports-stop options.strict options.watermarks core.inputs n s (new_lines bytes p) more stopped) taken.reports;
               goes_on = rw is tt;
-              stops = rw (is, both, stop_stop options.strict core.inputs n f (new_lines bytes p) more stopped) (λ e. refl);
+              stops = rw (is, both, stop-stop options.strict options.watermarks core.inputs n s (new_lines bytes p) more stopped) (λ e. refl);
             }
         | inr going ↦ record {
           adds = rw (is, added-more core options bytes p q going)
@@ -320,7 +287,7 @@ module _ {K : Type 0} (port_tells : Type 0) (tells : Type 0) (written : K → Li
       reports = reports-none tells written faults err (tt {0});
     }
 
-    -- what taking the rest did is what taking the piece did
+    -- what outcome the rest did is what outcome the piece did
     pub along-end : (run later : LiveRun) (port port_then : Transcript) (sink sink_then : K) (rest : List ℕ) (result : Result (Unit {0}) Stop)
         (along : IsAlong run port sink rest) → TakenPiece port port_then sink sink_then later (bytes ++ along.done) rest result
         → TakenPiece old port_then err sink_then later bytes piece result

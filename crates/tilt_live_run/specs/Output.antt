@@ -5,7 +5,8 @@ use Rattle.std.specs.Ordering.{int_eq}
 use Rattle.tilt_core.specs.Core.{CoreParts}
 use Rattle.tilt_feed.specs.Feed.{Feed, empty_feed}
 use Rattle.tilt_feed.specs.Printed.{Begun, begun, printed}
-use Rattle.tilt_feed_text.specs.Said.{after_line, taken_from}
+use Rattle.tilt_feed_text.specs.Said.{FeedState, after_line, first_state, taken_from}
+use Rattle.tilt_live_run.specs.declared.run_options.RunOptions.{RunOptions}
 use Rattle.tilt_outside.specs.Counts.{next_count}
 use Rattle.tilt_stream.specs.Text.{cell_text, lines_of}
 
@@ -41,15 +42,16 @@ first_news with_begun core =
     let feed = empty_feed (length core.inputs) in
     codes "start,end,value\n" ++ (lines_of (printed core feed) ++ (if with_begun then begun_news None (begun core feed) else []))
 
--- what is written for lines after such a feed, of which the first one has a number
-abbrev pub news_from : Bool → CoreParts → ℕ → Feed → List (List ℕ) → List ℕ
-news_from with_begun core number feed [] = []
-news_from with_begun core number feed (bytes ∷ lines) =
-    let after = after_line core.inputs number bytes feed in
-    news with_begun core feed after ++ news_from with_begun core (next_count number) after lines
+-- what is written for lines after some, of which the first one has a number
+abbrev pub news_from : RunOptions → CoreParts → ℕ → FeedState → List (List ℕ) → List ℕ
+news_from options core number state [] = []
+news_from options core number state (bytes ∷ lines) =
+    let after = after_line options.watermarks core.inputs number bytes state in
+    news options.with_begun core state.feed after.feed ++ news_from options core (next_count number) after lines
 
 -- what is written for the lines of a feed; up to the first bad line if bad lines stop the run
-abbrev pub output : (with_begun strict : Bool) → CoreParts → List (List ℕ) → List ℕ
-output with_begun strict core lines =
-    let feed = empty_feed (length core.inputs) in
-    first_news with_begun core ++ news_from with_begun core 0 feed (taken_from strict core.inputs 0 feed lines)
+abbrev pub output : RunOptions → CoreParts → List (List ℕ) → List ℕ
+output options core lines =
+    let state = first_state (length core.inputs) in
+    first_news options.with_begun core
+    ++ news_from options core 0 state (taken_from options.strict options.watermarks core.inputs 0 state lines)

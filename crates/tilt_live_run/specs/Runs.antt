@@ -6,7 +6,7 @@ use Rattle.tilt_feed.specs.Feed.{Feed}
 use Rattle.tilt_feed.specs.Laws.{fed}
 use Rattle.tilt_feed.specs.Printed.{begun, printed}
 use Rattle.tilt_feed_text.specs.Report.{report, reports_from}
-use Rattle.tilt_feed_text.specs.Said.{after_lines, events_of, number_after, stop_among, taken_from}
+use Rattle.tilt_feed_text.specs.Said.{FeedState, after_lines, events_of, first_state, number_after, stop_among, taken_from}
 use Rattle.tilt_feed_text.specs.Split.{lines_after, unfinished, whole_lines}
 use Rattle.tilt_feed_text.specs.declared.bad_line.BadLine.TheVariants.{NoEnd}
 use Rattle.tilt_feed_text.specs.declared.pending.TheConstants.{LINE}
@@ -14,67 +14,75 @@ use Rattle.tilt_live.specs.Lives.{IsLiveOf}
 use Rattle.tilt_live_run.specs.Output.{begun_start, news_from}
 use Rattle.tilt_live_run.specs.declared.line_run.LineRun.{LineRun}
 use Rattle.tilt_live_run.specs.declared.live_run.LiveRun.{LiveRun}
+use Rattle.tilt_live_run.specs.declared.run_options.RunOptions.{RunOptions}
 use Rattle.tilt_outside.specs.Counts.{next_count}
+use Rattle.tilt_watermarks.specs.Machine.{kept_by, options_of}
 
--- the options of a run: whether it writes what has begun, and whether a bad line stops it
-pub record RunOptions : Type 0 where
-  pub with_begun : Bool
-  pub strict : Bool
-
--- the run of a query with these options after so many lines, which made such a feed; so many snapshots were written
-pub record IsLineRunOf (run : LineRun) (accepted : AcceptedParts) (options : RunOptions) (number : ℕ) (feed : Feed) (given : ℕ) : Type 0 where
-  pub live : IsLiveOf run.live accepted feed given
+-- the run of a query with these options after so many lines, after which its feed is there; so many snapshots were written
+pub record IsLineRunOf (run : LineRun) (accepted : AcceptedParts) (options : RunOptions) (number : ℕ) (state : FeedState) (given : ℕ) : Type 0 where
+  pub live : IsLiveOf run.live accepted state.feed given
+  pub kept_is : kept_by run.watermarks ≡ state.kept
+  pub watermarks_are : options_of run.watermarks ≡ options.watermarks
   pub number_is : run.number ≡ number
   pub with_begun_is : run.with_begun ≡ options.with_begun
   pub strict_is : run.strict ≡ options.strict
 
 -- the same, and the first bytes of the next line
-pub record IsRunAfter (run : LiveRun) (accepted : AcceptedParts) (options : RunOptions) (number : ℕ) (feed : Feed) (front : List ℕ) (given : ℕ) : Type 0 where
-  pub line_run : IsLineRunOf run.run accepted options number feed given
+pub record IsRunAfter (run : LiveRun) (accepted : AcceptedParts) (options : RunOptions) (number : ℕ) (state : FeedState) (front : List ℕ) (given : ℕ) : Type 0 where
+  pub line_run : IsLineRunOf run.run accepted options number state given
   pub pending : run.pending.items ≡ take (LINE + 1) front
 
 -- all that can be printed was written, and what has begun
-pub record IsShown (run : LiveRun) (accepted : AcceptedParts) (options : RunOptions) (number : ℕ) (feed : Feed) (front : List ℕ) : Type 0 where
-  pub after : IsRunAfter run accepted options number feed front (length (printed accepted.core feed))
-  pub begun : options.with_begun ≡ true → run.run.shown ≡ begun_start (begun accepted.core feed)
+pub record IsShown (run : LiveRun) (accepted : AcceptedParts) (options : RunOptions) (number : ℕ) (state : FeedState) (front : List ℕ) : Type 0 where
+  pub after : IsRunAfter run accepted options number state front (length (printed accepted.core state.feed))
+  pub begun : options.with_begun ≡ true → run.run.shown ≡ begun_start (begun accepted.core state.feed)
 
 -- how many lines bytes have, as far as the count goes
 abbrev pub number_of : List ℕ → ℕ
 number_of bytes = number_after 0 (whole_lines bytes)
 
--- the feed of a query after bytes
-abbrev pub feed_after : CoreParts → List ℕ → Feed
-feed_after core bytes = fed core (events_of core.inputs (whole_lines bytes))
+-- where the feed of a query is after bytes
+abbrev pub state_after : RunOptions → CoreParts → List ℕ → FeedState
+state_after options core bytes = after_lines options.watermarks core.inputs 0 (first_state (length core.inputs)) (whole_lines bytes)
+
+-- the feed of a query after the events of lines; up to the first bad line if bad lines stop the run
+abbrev pub feed_of_lines : RunOptions → CoreParts → List (List ℕ) → Feed
+feed_of_lines options core lines =
+    fed core (events_of options.watermarks core.inputs
+    (taken_from options.strict options.watermarks core.inputs 0 (first_state (length core.inputs)) lines))
 
 -- the run of a query after bytes of its feed
 abbrev pub IsRunOf : LiveRun → AcceptedParts → RunOptions → List ℕ → Type 0
-IsRunOf run accepted options bytes = IsShown run accepted options (number_of bytes) (feed_after accepted.core bytes) (unfinished bytes)
+IsRunOf run accepted options bytes =
+    IsShown run accepted options (number_of bytes) (state_after options accepted.core bytes) (unfinished bytes)
 
 -- the lines that end in a piece of the feed that comes after bytes
 abbrev pub new_lines : List ℕ → List ℕ → List (List ℕ)
 new_lines bytes piece = lines_after (unfinished bytes) piece
 
+-- of them, those that are taken: all, or those before the first bad one if bad lines stop the run
+abbrev pub taken_of : RunOptions → CoreParts → List ℕ → List ℕ → List (List ℕ)
+taken_of options core bytes piece =
+    taken_from options.strict options.watermarks core.inputs (number_of bytes) (state_after options core bytes) (new_lines bytes piece)
+
 -- what is written for them
 abbrev pub added : RunOptions → CoreParts → List ℕ → List ℕ → List ℕ
-added options core bytes piece =
-    news_from options.with_begun core (number_of bytes) (feed_after core bytes)
-    (taken_from options.strict core.inputs (number_of bytes) (feed_after core bytes) (new_lines bytes piece))
+added options core bytes piece = news_from options core (number_of bytes) (state_after options core bytes) (taken_of options core bytes piece)
 
--- the feed after those of them that are taken
-abbrev pub feed_taken : RunOptions → CoreParts → List ℕ → List ℕ → Feed
-feed_taken options core bytes piece =
-    after_lines core.inputs (number_of bytes) (feed_after core bytes)
-    (taken_from options.strict core.inputs (number_of bytes) (feed_after core bytes) (new_lines bytes piece))
+-- where the feed is after them
+abbrev pub state_taken : RunOptions → CoreParts → List ℕ → List ℕ → FeedState
+state_taken options core bytes piece =
+    after_lines options.watermarks core.inputs (number_of bytes) (state_after options core bytes) (taken_of options core bytes piece)
 
--- what is reported of them
+-- what is reported of the lines that end in it
 abbrev pub reported : RunOptions → CoreParts → List ℕ → List ℕ → List ℕ
 reported options core bytes piece =
-    reports_from options.strict core.inputs (number_of bytes) (feed_after core bytes) (new_lines bytes piece)
+    reports_from options.strict options.watermarks core.inputs (number_of bytes) (state_after options core bytes) (new_lines bytes piece)
 
 -- whether one of them stops the run
 abbrev pub is_stopped : RunOptions → CoreParts → List ℕ → List ℕ → Bool
 is_stopped options core bytes piece =
-    stop_among options.strict core.inputs (number_of bytes) (feed_after core bytes) (new_lines bytes piece)
+    stop_among options.strict options.watermarks core.inputs (number_of bytes) (state_after options core bytes) (new_lines bytes piece)
 
 -- whether bytes end in the middle of a line
 abbrev pub is_unfinished : List ℕ → Bool

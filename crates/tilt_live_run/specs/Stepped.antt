@@ -4,7 +4,8 @@ use Rattle.tilt_core.specs.Core.{CoreParts}
 use Rattle.tilt_live_run.specs.Adds.{Adds}
 use Rattle.tilt_live_run.specs.Output.{news}
 use Rattle.tilt_live_run.specs.Reported.{Reports}
-use Rattle.tilt_live_run.specs.Runs.{RunOptions, added, feed_after, feed_taken, is_stopped, reported}
+use Rattle.tilt_live_run.specs.Runs.{added, is_stopped, reported, state_after, state_taken}
+use Rattle.tilt_live_run.specs.declared.run_options.RunOptions.{RunOptions}
 use Rattle.tilt_live_run.specs.declared.stop.Stop.{Stop}
 use Rattle.tilt_live_run.specs.declared.stop.Stop.TheVariants.{BadLine, OutOfMemory, WriteFault}
 use Rattle.tilt_port.specs.Transcript.{Transcript}
@@ -28,7 +29,7 @@ module _ {K : Type 0} (port_tells : Type 0) (port port_then : Transcript) (tells
 
   -- what all of its lines make final was written at once
   abbrev pub HasStepped : Type 0
-  HasStepped = HasWritten (news options.with_begun core (feed_after core bytes) (feed_taken options core bytes piece))
+  HasStepped = HasWritten (news options.with_begun core (state_after options core bytes).feed (state_taken options core bytes piece).feed)
 
   -- what each of its lines adds was written
   abbrev pub HasTaken : Type 0

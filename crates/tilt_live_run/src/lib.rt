@@ -3,16 +3,20 @@
 //! What comes in is bytes of the feed, in pieces of any size; what goes out is what each line makes final, written to a port at once, and
 //! reports of bad lines. `IsRunOf run accepted bytes` of `specs/Runs` says that `run` is the run of a query after these bytes. The clauses
 //! of `LiveRun::take` say that after a piece it is the run after the bytes with the piece (`goes_on`), that exactly what the lines of the
-//! piece add was written (`adds`, by `specs/Output`), and that exactly the bad ones of them were reported (`reported`). So it doesn't
+//! piece add was written (`adds`, by `specs/Output`), and that exactly the bad ones of them were reported (`reports`). So it doesn't
 //! matter how the feed was cut into pieces.
 #![tactic(auto)]
 
 mod begun_text;
 mod events;
+mod law;
 mod line_run;
 mod live_run;
+mod run_options;
 mod shown;
 mod stop;
 
+pub use law::output_is_printed;
 pub use live_run::LiveRun;
+pub use run_options::RunOptions;
 pub use stop::Stop;

@@ -4,32 +4,40 @@ ghost use Rattle.tilt_compiler.specs.Accepted.{AcceptedParts};
 ghost use Rattle.tilt_feed.specs.Feed.{Feed, empty_feed};
 ghost use Rattle.tilt_feed.specs.Printed.{begun, printed};
 ghost use Rattle.tilt_feed_text.specs.Report.{report};
-ghost use Rattle.tilt_feed_text.specs.Said.{after_line, line_fault};
+ghost use Rattle.tilt_feed_text.specs.Said.{FeedState, after_line, first_state, line_fault};
 ghost use Rattle.tilt_live.specs.Lives.{IsLive, IsLiveOf};
 ghost use Rattle.tilt_live_run.specs.Adds.{Adds};
 ghost use Rattle.tilt_live_run.specs.Output.{begun_news, begun_start, first_news};
 ghost use Rattle.tilt_live_run.specs.Reported.{Reported};
-ghost use Rattle.tilt_live_run.specs.Runs.{IsLineRunOf, RunOptions};
+ghost use Rattle.tilt_live_run.specs.Runs.{IsLineRunOf};
 ghost use Rattle.tilt_live_run.specs.Taken.{HasTakenLine};
+ghost use Rattle.tilt_live_run.specs.declared.run_options.RunOptions.{RunOptions};
 ghost use Rattle.tilt_outside.specs.Counts.{next_count};
 ghost use Rattle.tilt_stream.specs.Text.{lines_of};
+ghost use Rattle.tilt_watermarks.specs.Machine.{kept_by, options_of};
 
 use crate::events::take_said;
+use crate::run_options::RunOptions;
 use crate::shown::{show_begun, show_final, write_header};
 use crate::stop::Stop;
 use std::alloc::{AllocError as OutOfMemory, Global};
 use tilt_compiler::Accepted;
+use tilt_feed::Event;
 use tilt_feed_line::LineReader;
 use tilt_feed_text::{BadLine, ReadContentFault, put_report, read_content};
 use tilt_live::Live;
 use tilt_outside::Sink;
 use tilt_port::Port;
+use tilt_watermarks::Watermarks;
 
 // The live engine of a query, and what was taken and written by it.
 #[derive(Drop)]
 pub(crate) struct LineRun {
     pub(crate) live: Live,
+    watermarks: Watermarks,
     reader: LineReader,
+    // Room for the events of a line.
+    events: Vec<Event>,
     // How many lines were taken, as far as the count goes.
     pub(crate) number: u64,
     pub(crate) with_begun: bool,
@@ -43,19 +51,21 @@ impl LineRun {
     pub(crate) fn new(
         alloc: Global,
         accepted: Accepted,
-        with_begun: bool,
-        strict: bool,
+        options: RunOptions,
     ) -> Result<LineRun, OutOfMemory>
-        ensures live { IfOk result (λ run. IsLiveOf run.live accepted (empty_feed (length accepted.core.inputs)) 0) }
-        ensures is { IfOk result (λ run. (run.number ≡ 0) × (run.with_begun ≡ with_begun) × (run.strict ≡ strict) × (run.shown ≡ None)) }
+        ensures is { IfOk result (λ run. IsLineRunOf run accepted options 0 (first_state (length accepted.core.inputs)) 0) }
+        ensures shown { IfOk result (λ run. run.shown ≡ None) }
     {
         let live = Live::new(alloc, accepted)?;
+        let inputs = live.inputs().len() as u32;
         Ok(LineRun {
             live,
+            watermarks: Watermarks::new(alloc, options.watermarks, inputs)?,
             reader: LineReader::new(alloc),
+            events: Vec::new(alloc),
             number: 0,
-            with_begun,
-            strict,
+            with_begun: options.with_begun,
+            strict: options.strict,
             shown: None,
         })
     }
@@ -74,6 +84,8 @@ impl LineRun {
             → self.new.shown ≡ begun_start (begun accepted.core (empty_feed (length accepted.core.inputs)))) }
         ensures rest { (self.new.number ≡ self.old.number) × (self.new.with_begun ≡ self.old.with_begun)
             × (self.new.strict ≡ self.old.strict) }
+        ensures watermarks { (kept_by self.new.watermarks ≡ kept_by self.old.watermarks)
+            × (options_of self.new.watermarks ≡ options_of self.old.watermarks) }
         ensures no_bad_line { IfErr result (λ stop. stop ≡ Stop.BadLine → ⊥) }
     {
         write_header(port)?;
@@ -83,10 +95,10 @@ impl LineRun {
     // Takes a line without its LF, and reports it if it is bad. Nothing is written yet.
     pub(crate) fn take<E: Sink>(&mut self, line: &[u8], err: &mut E) -> Result<(), Stop>
         requires { (n : ℕ) → E.takes err.old n }
-        ensures taken { (accepted : AcceptedParts) (options : RunOptions) (number : ℕ) (feed : Feed) (given : ℕ)
-            → IsLineRunOf self.old accepted options number feed given
-            → HasTakenLine E.tells E.written E.faults err.old err.new (λ n f. IsLineRunOf self.new accepted options n f given)
-            (λ f. IsLiveOf self.new.live accepted f given) accepted.core options number feed line.now result }
+        ensures taken { (accepted : AcceptedParts) (options : RunOptions) (number : ℕ) (state : FeedState) (given : ℕ)
+            → IsLineRunOf self.old accepted options number state given
+            → HasTakenLine E.tells E.written E.faults err.old err.new (λ n s. IsLineRunOf self.new accepted options n s given)
+            (λ s. IsLiveOf self.new.live accepted s.feed given) accepted.core options number state line.now result }
         ensures kept { (self.new.shown ≡ self.old.shown) × (self.new.with_begun ≡ self.old.with_begun) }
         ensures no_write_fault { IfErr result (λ stop. stop ≡ Stop.WriteFault → ⊥) }
         ensures takes { (n : ℕ) → E.takes err.new n }
@@ -116,18 +128,24 @@ impl LineRun {
 
     // Takes what the next line says, and returns why it is bad, if it is.
     fn take_content(&mut self, line: &[u8]) -> Result<Option<BadLine>, OutOfMemory>
-        ensures taken { (accepted : AcceptedParts) (feed : Feed) (given : ℕ) → IsLiveOf self.old.live accepted feed given
-            → IfOk result (λ why. (why ≡ line_fault accepted.core.inputs feed self.old.number line.now)
-            × IsLiveOf self.new.live accepted (after_line accepted.core.inputs self.old.number line.now feed) given) }
+        ensures taken { (accepted : AcceptedParts) (state : FeedState) (given : ℕ) → IsLiveOf self.old.live accepted state.feed given
+            → kept_by self.old.watermarks ≡ state.kept → let options = options_of self.old.watermarks in
+            IfOk result (λ why. (why ≡ line_fault options accepted.core.inputs state self.old.number line.now)
+            × (kept_by self.new.watermarks ≡ (after_line options accepted.core.inputs self.old.number line.now state).kept)
+            × IsLiveOf self.new.live accepted (after_line options accepted.core.inputs self.old.number line.now state).feed given) }
+        ensures watermarks { options_of self.new.watermarks ≡ options_of self.old.watermarks }
         ensures live { IsLive self.old.live → IsLive self.new.live }
         ensures rest { (self.new.number ≡ self.old.number) × (self.new.with_begun ≡ self.old.with_begun)
             × (self.new.strict ≡ self.old.strict) × (self.new.shown ≡ self.old.shown) }
     {
-        let inputs = self.live.inputs();
-        let count = inputs.len() as u32;
-        match read_content(&mut self.reader, inputs, self.number, line) {
+        match read_content(&mut self.reader, self.live.inputs(), self.number, line) {
             Ok(None) => Ok(None),
-            Ok(Some(said)) => take_said(&mut self.live, count, said),
+            Ok(Some(said)) => take_said(
+                &mut self.live,
+                &mut self.watermarks,
+                &mut self.events,
+                said,
+            ),
             Err(ReadContentFault::Bad(why)) => Ok(Some(why)),
             Err(ReadContentFault::OutOfMemory) => Err(OutOfMemory),
         }
@@ -146,6 +164,8 @@ impl LineRun {
         ensures no_bad_line { IfErr result (λ stop. stop ≡ Stop.BadLine → ⊥) }
         ensures rest { (self.new.number ≡ self.old.number) × (self.new.with_begun ≡ self.old.with_begun)
             × (self.new.strict ≡ self.old.strict) }
+        ensures watermarks { (kept_by self.new.watermarks ≡ kept_by self.old.watermarks)
+            × (options_of self.new.watermarks ≡ options_of self.old.watermarks) }
     {
         show_final(&mut self.live, port)?;
         if self.with_begun {

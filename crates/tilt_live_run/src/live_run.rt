@@ -2,17 +2,19 @@
 ghost use Rattle.std.specs.Prelude.{◌≡◌, ◌++◌, ◌&&◌, ℕ, List, [], true, false};
 ghost use Rattle.std.specs.Prelude.{◌∷◌, None, Some, length, IfOk, IfErr, OnOk, MatchOption, MatchResult};
 ghost use Rattle.tilt_compiler.specs.Accepted.{AcceptedParts};
-ghost use Rattle.tilt_feed.specs.Feed.{Feed};
+ghost use Rattle.tilt_feed_text.specs.Said.{FeedState};
 ghost use Rattle.tilt_live_run.specs.Adds.{Adds};
 ghost use Rattle.tilt_live_run.specs.Output.{first_news};
 ghost use Rattle.tilt_live_run.specs.Reported.{Reported, Reports};
-ghost use Rattle.tilt_live_run.specs.Runs.{IsRunAfter, IsRunOf, RunOptions, added, end_report, is_stopped, is_unfinished, reported};
+ghost use Rattle.tilt_live_run.specs.Runs.{IsRunAfter, IsRunOf, added, end_report, is_stopped, is_unfinished, reported};
 ghost use Rattle.tilt_live_run.specs.Stepped.{HasStepped, HasTaken, is_lost};
 ghost use Rattle.tilt_live_run.specs.Taken.{HasTakenLine, HasTakenPiece};
+ghost use Rattle.tilt_live_run.specs.declared.run_options.RunOptions.{RunOptions};
 ghost use Rattle.tilt_live.specs.Lives.{IsLiveOf};
 ghost use Rattle.tilt_text.specs.Cut.{until_at};
 
 use crate::line_run::LineRun;
+use crate::run_options::RunOptions;
 use crate::stop::Stop;
 use std::alloc::Global;
 use tilt_compiler::Accepted;
@@ -35,15 +37,14 @@ impl LiveRun {
     pub fn start<P: Port>(
         alloc: Global,
         accepted: Accepted,
-        with_begun: bool,
-        strict: bool,
+        options: RunOptions,
         port: &mut P,
     ) -> Result<LiveRun, Stop>
-        ensures adds { Adds P.tells (P.transcript port.old) (P.transcript port.new) (first_news with_begun accepted.core) result }
-        ensures is { IfOk result (λ run. IsRunOf run accepted (record { with_begun = with_begun; strict = strict }) []) }
+        ensures adds { Adds P.tells (P.transcript port.old) (P.transcript port.new) (first_news options.with_begun accepted.core) result }
+        ensures is { IfOk result (λ run. IsRunOf run accepted options []) }
         ensures no_bad_line { IfErr result (λ stop. stop ≡ Stop.BadLine → ⊥) }
     {
-        let mut run = LineRun::new(alloc, accepted, with_begun, strict)?;
+        let mut run = LineRun::new(alloc, accepted, options)?;
         run.begin(port)?;
         Ok(LiveRun {
             run,
@@ -115,23 +116,23 @@ impl LiveRun {
             (λ later. IsRunOf self.new accepted options later) accepted.core options bytes piece.now result }
         ensures takes { (n : ℕ) → E.takes err.new n }
     {
-        let heard = self.take_piece(piece, err);
-        if is_lost(heard) {
-            return heard;
+        let taken = self.take_piece(piece, err);
+        if is_lost(taken) {
+            return taken;
         }
         self.run.show(port)?;
-        heard
+        taken
     }
 
     // Takes a piece, and writes nothing yet.
     fn take_piece<E: Sink>(&mut self, piece: &[u8], err: &mut E) -> Result<(), Stop>
-        requires is { (accepted : AcceptedParts) × (options : RunOptions) × (number : ℕ) × (feed : Feed) × (front : List ℕ) × (given : ℕ)
-            × IsRunAfter self.old accepted options number feed front given }
+        requires is { (accepted : AcceptedParts) × (options : RunOptions) × (number : ℕ) × (state : FeedState) × (front : List ℕ) × (given : ℕ)
+            × IsRunAfter self.old accepted options number state front given }
         requires lines { (n : ℕ) → E.takes err.old n }
-        ensures taken { (accepted : AcceptedParts) (options : RunOptions) (number : ℕ) (feed : Feed) (front : List ℕ) (given : ℕ)
-            → IsRunAfter self.old accepted options number feed front given
-            → HasTakenPiece E.tells E.written E.faults err.old err.new (λ n f rest. IsRunAfter self.new accepted options n f rest given)
-            (λ f. IsLiveOf self.new.run.live accepted f given) accepted.core options number feed front piece.now result }
+        ensures taken { (accepted : AcceptedParts) (options : RunOptions) (number : ℕ) (state : FeedState) (front : List ℕ) (given : ℕ)
+            → IsRunAfter self.old accepted options number state front given
+            → HasTakenPiece E.tells E.written E.faults err.old err.new (λ n s rest. IsRunAfter self.new accepted options n s rest given)
+            (λ s. IsLiveOf self.new.run.live accepted s.feed given) accepted.core options number state front piece.now result }
         ensures kept { (self.new.run.shown ≡ self.old.run.shown) × (self.new.run.with_begun ≡ self.old.run.with_begun) }
         ensures no_write_fault { IfErr result (λ stop. stop ≡ Stop.WriteFault → ⊥) }
         ensures takes { (n : ℕ) → E.takes err.new n }
@@ -147,13 +148,13 @@ impl LiveRun {
 
     // Takes the last bytes of a line, before its LF.
     fn take_end<E: Sink>(&mut self, end: &[u8], err: &mut E) -> Result<(), Stop>
-        requires is { (accepted : AcceptedParts) × (options : RunOptions) × (number : ℕ) × (feed : Feed) × (front : List ℕ) × (given : ℕ)
-            × IsRunAfter self.old accepted options number feed front given }
+        requires is { (accepted : AcceptedParts) × (options : RunOptions) × (number : ℕ) × (state : FeedState) × (front : List ℕ) × (given : ℕ)
+            × IsRunAfter self.old accepted options number state front given }
         requires lines { (n : ℕ) → E.takes err.old n }
-        ensures taken { (accepted : AcceptedParts) (options : RunOptions) (number : ℕ) (feed : Feed) (front : List ℕ) (given : ℕ)
-            → IsRunAfter self.old accepted options number feed front given
-            → HasTakenLine E.tells E.written E.faults err.old err.new (λ n f. IsRunAfter self.new accepted options n f [] given)
-            (λ f. IsLiveOf self.new.run.live accepted f given) accepted.core options number feed (front ++ end.now) result }
+        ensures taken { (accepted : AcceptedParts) (options : RunOptions) (number : ℕ) (state : FeedState) (front : List ℕ) (given : ℕ)
+            → IsRunAfter self.old accepted options number state front given
+            → HasTakenLine E.tells E.written E.faults err.old err.new (λ n s. IsRunAfter self.new accepted options n s [] given)
+            (λ s. IsLiveOf self.new.run.live accepted s.feed given) accepted.core options number state (front ++ end.now) result }
         ensures kept { (self.new.run.shown ≡ self.old.run.shown) × (self.new.run.with_begun ≡ self.old.run.with_begun) }
         ensures no_write_fault { IfErr result (λ stop. stop ≡ Stop.WriteFault → ⊥) }
         ensures takes { (n : ℕ) → E.takes err.new n }
@@ -186,10 +187,10 @@ impl LiveRun {
 }
 
 // Whether a run can't go on showing anything: it stopped, and not at a bad line.
-fn is_lost(heard: Result<(), Stop>) -> bool
-    ensures { result ≡ is_lost heard }
+fn is_lost(taken: Result<(), Stop>) -> bool
+    ensures { result ≡ is_lost taken }
 {
-    matches!(heard, Err(Stop::WriteFault | Stop::OutOfMemory))
+    matches!(taken, Err(Stop::WriteFault | Stop::OutOfMemory))
 }
 
 // The first line with its LF, and the rest; `None` if there is no LF.

@@ -1,8 +1,7 @@
 use Rattle.std.proofs.Common.{◌∙◌, [], ap, Err}
 use Rattle.std.proofs.lemmas.Result.{err_from_is_err_and}
 use Rattle.tilt_live_app.proofs.Feeding.{served-none, served-refused, serving-begun}
-use Rattle.tilt_live_app.proofs.Flushing.{ok-flushed, served-flushed}
-use Rattle.tilt_live_run.specs.Runs.{RunOptions}
+use Rattle.tilt_live_app.proofs.Flushing.{flushed-on, served-flushed}
 use Rattle.tilt_live_app.proofs.serve.serve.Goals as goal
 
 pub returns-in_err-room-clause-served : goal.returns-in_err-room-clause-served
@@ -18,7 +17,7 @@ returns-in_err-run-clause-served g c =
 
 pub returns-clause-served : goal.returns-clause-served
 returns-clause-served g c =
-    let options : RunOptions = record { with_begun = c.args.settings.begun; strict = c.args.settings.strict } in
+    let options = c.args.options in
     rw c.end_with.ensures (served-flushed c.args.accepted.core options _ _ _ _ _ _ _ _ _ c.flush-flushed.ensures.keeps c.flush-flushed.ensures.cause.kept c.flush-flushed.ensures.reads
     c.serve_all-end.result c.flush-flushed.result c.flush-flushed.ensures.cause.rose
     (c.serve_all-end.ensures.served c.args.accepted options (g.P.Port.transcript c.args.port.now) c.args.err.now (record {
@@ -29,4 +28,4 @@ returns-clause-served g c =
     })))
 
 pub returns-clause-handed_on : goal.returns-clause-handed_on
-returns-clause-handed_on g c = rw c.end_with.ensures (ok-flushed c.serve_all-end.result c.flush-flushed.result _ c.flush-flushed.ensures.handed_on)
+returns-clause-handed_on g c = rw c.end_with.ensures (flushed-on c.serve_all-end.result c.flush-flushed.result _ c.flush-flushed.ensures.handed_on)

@@ -1,7 +1,8 @@
 use Rattle.std.proofs.Common.{ℕ, List}
 use Rattle.tilt_compiler.specs.Accepted.{AcceptedParts}
 use Rattle.tilt_live_app.specs.Serving.{GoesOn}
-use Rattle.tilt_live_run.specs.Runs.{IsRunOf, RunOptions}
+use Rattle.tilt_live_run.specs.Runs.{IsRunOf}
+use Rattle.tilt_live_run.specs.declared.run_options.RunOptions.{RunOptions}
 use Rattle.tilt_port.specs.Transcript.{Transcript}
 use Rattle.tilt_live_app.proofs.serve.serve_all.Given as goal
 

@@ -2,13 +2,13 @@ use Rattle.std.proofs.Common.{refl}
 use Rattle.tilt_live_run.proofs.line_run.LineRun.take_content.Goals as goal
 
 pub returns-in-Ok-Some-clause-taken : goal.returns-in-Ok-Some-clause-taken
-returns-in-Ok-Some-clause-taken c = λ accepted feed given is.
-    let names = c.inputs-inputs.ensures.names accepted feed given is in
+returns-in-Ok-Some-clause-taken c = λ accepted state given is kept.
+    let names = c.inputs.ensures.names accepted state.feed given is in
     let said = rw (c.in-Ok-Some.field-0-is, names) at c.in-Ok-Some.ensures.content in
-    rw said (rw names at (c.take_said.ensures.taken accepted feed given is))
+    rw (said, ← kept) (c.take_said.ensures.taken accepted state.feed given is)
 
 pub returns-in-Err-Bad-clause-taken : goal.returns-in-Err-Bad-clause-taken
-returns-in-Err-Bad-clause-taken c = λ accepted feed given is.
-    let names = c.inputs-inputs.ensures.names accepted feed given is in
+returns-in-Err-Bad-clause-taken c = λ accepted state given is kept.
+    let names = c.inputs.ensures.names accepted state.feed given is in
     let said = rw (c.in-Err-Bad.field-0-is, names) at c.in-Err-Bad.ensures.content in
-    (rw said refl, rw said is)
+    (rw said refl, rw said kept, rw said is)

@@ -8,9 +8,9 @@ returns-in_err-begin-clause-adds g c =
     let p = err_from_is_err_and c.from_residual-in_err-begin.result c.from_residual-in_err-begin.ensures.1 in
     let made = c.in_ok-run.ensures.is in
     adds-again _ _ _ _ c.in_err-begin.field-0.0 c.from_residual-in_err-begin.result (p.1 ∙ ap Err p.2)
-    (rw made.1 at (c.in_err-begin.ensures.adds c.args.accepted c.in_ok-run.ensures.live made.3))
+    (rw made.with_begun_is at (c.in_err-begin.ensures.adds c.args.accepted made.live c.in_ok-run.ensures.shown))
 
 pub returns-clause-adds : goal.returns-clause-adds
 returns-clause-adds g c =
     let made = c.in_ok-run.ensures.is in
-    adds-value _ _ _ _ _ _ (rw made.1 at (c.in_ok-begin.ensures.adds c.args.accepted c.in_ok-run.ensures.live made.3))
+    adds-value _ _ _ _ _ _ (rw made.with_begun_is at (c.in_ok-begin.ensures.adds c.args.accepted made.live c.in_ok-run.ensures.shown))

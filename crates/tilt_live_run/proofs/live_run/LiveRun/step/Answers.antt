@@ -3,60 +3,60 @@ use Rattle.std.proofs.lemmas.Result.{err_from_is_err_and}
 use Rattle.tilt_feed.specs.Printed.{printed}
 use Rattle.tilt_feed_text.specs.Split.{unfinished}
 use Rattle.tilt_live_run.proofs.Lines.{shown-news}
-use Rattle.tilt_live_run.proofs.Stepping.{heard-live, heard-shown, lost-memory, lost-written, not-lost, shown-after}
-use Rattle.tilt_live_run.specs.Runs.{feed_after, feed_taken, number_of}
+use Rattle.tilt_live_run.proofs.Stepping.{taken-live, taken-shown, lost-memory, lost-written, not-lost, shown-after}
+use Rattle.tilt_live_run.specs.Runs.{number_of, state_after, state_taken}
 use Rattle.tilt_live_run.proofs.live_run.LiveRun.step.Goals as goal
 
 pub returns-then-is_lost-clause-stepped : goal.returns-then-is_lost-clause-stepped
 returns-then-is_lost-clause-stepped g c = λ accepted options bytes is.
-    let taken = c.take_piece-heard.ensures.taken accepted options (number_of bytes) (feed_after accepted.core bytes) (unfinished bytes)
-    (length (printed accepted.core (feed_after accepted.core bytes))) is.after in
-    lost-written _ _ _ _ _ _ _ _ accepted.core options bytes c.args.piece.now _ c.take_piece-heard.result
-    (lost-memory c.take_piece-heard.result (sym c.if-is_lost.ensures) c.take_piece-heard.ensures.no_write_fault) taken.reports taken.stop
+    let taken = c.take_piece-taken.ensures.taken accepted options (number_of bytes) (state_after options accepted.core bytes) (unfinished bytes)
+    (length (printed accepted.core (state_after options accepted.core bytes).feed)) is.after in
+    lost-written _ _ _ _ _ _ _ _ accepted.core options bytes c.args.piece.now _ c.take_piece-taken.result
+    (lost-memory c.take_piece-taken.result (sym c.if-is_lost.ensures) c.take_piece-taken.ensures.no_write_fault) taken.reports taken.stop
 
 pub show-requires : goal.show-requires
 show-requires g c =
     let is = c.requires.is in
     let core = is.0.core in
-    let given = length (printed core (feed_after core is.2)) in
-    let taken = c.take_piece-heard.ensures.taken is.0 is.1 (number_of is.2) (feed_after core is.2) (unfinished is.2) given is.3.after in
+    let given = length (printed core (state_after is.1 core is.2).feed) in
+    let taken = c.take_piece-taken.ensures.taken is.0 is.1 (number_of is.2) (state_after is.1 core is.2) (unfinished is.2) given is.3.after in
     record {
       live = inr (
         is.0,
-        feed_taken is.1 core is.2 c.args.piece.now,
+        (state_taken is.1 core is.2 c.args.piece.now).feed,
         given,
-        heard-live _ _ _ _ _ is.0 is.1 is.2 c.args.piece.now given c.take_piece-heard.new.self c.take_piece-heard.result
-            (not-lost c.take_piece-heard.result (sym c.if-is_lost.ensures)) taken,
+        taken-live _ _ _ _ _ is.0 is.1 is.2 c.args.piece.now given c.take_piece-taken.new.self c.take_piece-taken.result
+            (not-lost c.take_piece-taken.result (sym c.if-is_lost.ensures)) taken,
       );
     }
 
 pub returns-in_err-show-clause-stepped : goal.returns-in_err-show-clause-stepped
 returns-in_err-show-clause-stepped g c = λ accepted options bytes is.
     let core = accepted.core in
-    let given = length (printed core (feed_after core bytes)) in
-    let after = feed_taken options core bytes c.args.piece.now in
+    let given = length (printed core (state_after options core bytes).feed) in
+    let after = (state_taken options core bytes c.args.piece.now).feed in
     let p = err_from_is_err_and c.from_residual.result c.from_residual.ensures.1 in
-    let taken = c.take_piece-heard.ensures.taken accepted options (number_of bytes) (feed_after core bytes) (unfinished bytes) given is.after in
-    let bad = not-lost c.take_piece-heard.result (sym c.if-is_lost.ensures) in
-    let live = heard-live _ _ _ _ _ accepted options bytes c.args.piece.now given c.take_piece-heard.new.self c.take_piece-heard.result bad taken in
-    let kept = c.take_piece-heard.ensures.kept in
+    let taken = c.take_piece-taken.ensures.taken accepted options (number_of bytes) (state_after options core bytes) (unfinished bytes) given is.after in
+    let bad = not-lost c.take_piece-taken.result (sym c.if-is_lost.ensures) in
+    let live = taken-live _ _ _ _ _ accepted options bytes c.args.piece.now given c.take_piece-taken.new.self c.take_piece-taken.result bad taken in
+    let kept = c.take_piece-taken.ensures.kept in
     let adds = rw (kept.1, is.after.line_run.with_begun_is, kept.0) at (c.in_err-show.ensures.adds accepted after given live) in
-    shown-after _ _ _ _ _ _ _ _ _ core options bytes c.args.piece.now _ c.take_piece-heard.result (Err c.in_err-show.field-0.0) c.from_residual.result bad taken.reports taken.stop
-    (rw (shown-news options.with_begun core (feed_after core bytes) after c.args.self.now.run.shown is.begun) at adds) c.in_err-show.ensures.no_bad_line (p.1 ∙ ap Err p.2)
+    shown-after _ _ _ _ _ _ _ _ _ core options bytes c.args.piece.now _ c.take_piece-taken.result (Err c.in_err-show.field-0.0) c.from_residual.result bad taken.reports taken.stop
+    (rw (shown-news options.with_begun core (state_after options core bytes).feed after c.args.self.now.run.shown is.begun) at adds) c.in_err-show.ensures.no_bad_line (p.1 ∙ ap Err p.2)
     (rw (p.1 ∙ ap Err p.2) tt)
 
 pub returns-clause-stepped : goal.returns-clause-stepped
 returns-clause-stepped g c = λ accepted options bytes is.
     let core = accepted.core in
-    let given = length (printed core (feed_after core bytes)) in
-    let after = feed_taken options core bytes c.args.piece.now in
-    let taken = c.take_piece-heard.ensures.taken accepted options (number_of bytes) (feed_after core bytes) (unfinished bytes) given is.after in
-    let bad = not-lost c.take_piece-heard.result (sym c.if-is_lost.ensures) in
-    let live = heard-live _ _ _ _ _ accepted options bytes c.args.piece.now given c.take_piece-heard.new.self c.take_piece-heard.result bad taken in
-    let kept = c.take_piece-heard.ensures.kept in
+    let given = length (printed core (state_after options core bytes).feed) in
+    let after = (state_taken options core bytes c.args.piece.now).feed in
+    let taken = c.take_piece-taken.ensures.taken accepted options (number_of bytes) (state_after options core bytes) (unfinished bytes) given is.after in
+    let bad = not-lost c.take_piece-taken.result (sym c.if-is_lost.ensures) in
+    let live = taken-live _ _ _ _ _ accepted options bytes c.args.piece.now given c.take_piece-taken.new.self c.take_piece-taken.result bad taken in
+    let kept = c.take_piece-taken.ensures.kept in
     let adds = rw (kept.1, is.after.line_run.with_begun_is, kept.0) at (c.in_ok-show.ensures.adds accepted after given live) in
-    shown-after _ _ _ _ _ _ _ _ _ core options bytes c.args.piece.now _ c.take_piece-heard.result (Ok tt) c.take_piece-heard.result bad taken.reports taken.stop
-    (rw (shown-news options.with_begun core (feed_after core bytes) after c.args.self.now.run.shown is.begun) at adds) tt refl
-    (heard-shown _ _ _ _ _ accepted options bytes c.args.piece.now given c.take_piece-heard.new.self _ c.take_piece-heard.result taken
+    shown-after _ _ _ _ _ _ _ _ _ core options bytes c.args.piece.now _ c.take_piece-taken.result (Ok tt) c.take_piece-taken.result bad taken.reports taken.stop
+    (rw (shown-news options.with_begun core (state_after options core bytes).feed after c.args.self.now.run.shown is.begun) at adds) tt refl
+    (taken-shown _ _ _ _ _ accepted options bytes c.args.piece.now given c.take_piece-taken.new.self _ c.take_piece-taken.result taken
     (c.in_ok-show.ensures.goes_on accepted after given live)
-    (λ yes. c.in_ok-show.ensures.begun accepted after given live (kept.1 ∙ is.after.line_run.with_begun_is ∙ yes)) c.show.ensures.rest refl)
+    (λ yes. c.in_ok-show.ensures.begun accepted after given live (kept.1 ∙ is.after.line_run.with_begun_is ∙ yes)) c.show.ensures.rest c.show.ensures.watermarks refl)

@@ -10,13 +10,13 @@ use Rattle.tilt_live_run.proofs.Running.{kept-few, none-kept}
 use Rattle.tilt_live_run.proofs.live_run.LiveRun.take_end.Goals as goal
 
 pub returns-then-is_empty-clause-taken : goal.returns-then-is_empty-clause-taken
-returns-then-is_empty-clause-taken g c = λ accepted options number feed front given is.
+returns-then-is_empty-clause-taken g c = λ accepted options number state front given is.
     let stored : vec_len c.args.self.now.pending ≡ length c.args.self.now.pending.items = search rules in
     let none = rw stored at (sym c.is_empty.ensures ∙ c.if-is_empty.true) in
     let kept : c.args.self.now.pending.items ≡ [] = nil_from_length c.args.self.now.pending.items (eqb-true _ 0 none) in
     rw (none-kept front c.args.self.now.pending.items is.pending none)
-    (line-into _ _ _ accepted.core options _ _ _ _ _ number feed c.args.end.now c.take.result c.take.result refl
-    (on-ok c.take.result _ (λ n f of. record { line_run = of; pending = kept })) (c.take.ensures.taken accepted options number feed given is.line_run))
+    (line-into _ _ _ accepted.core options _ _ _ _ _ number state c.args.end.now c.take.result c.take.result refl
+    (on-ok c.take.result _ (λ n s of. record { line_run = of; pending = kept })) (c.take.ensures.taken accepted options number state given is.line_run))
 
 pub append_cut-requires : goal.append_cut-requires
 append_cut-requires g c =
@@ -24,27 +24,27 @@ append_cut-requires g c =
     kept-few is.4 c.args.self.now.pending.items is.6.pending
 
 pub returns-in_err-append_cut-clause-taken : goal.returns-in_err-append_cut-clause-taken
-returns-in_err-append_cut-clause-taken g c = λ accepted options number feed front given is.
+returns-in_err-append_cut-clause-taken g c = λ accepted options number state front given is.
     let p = err_from_is_err_and c.from_residual.result c.from_residual.ensures.1 in
-    line-refused _ _ _ accepted.core options _ _ _ number feed (front ++ c.args.end.now) c.from_residual.result (p.1 ∙ ap Err p.2)
+    line-refused _ _ _ accepted.core options _ _ _ number state (front ++ c.args.end.now) c.from_residual.result (p.1 ∙ ap Err p.2)
 
 pub returns-in_err-take-clause-taken : goal.returns-in_err-take-clause-taken
-returns-in_err-take-clause-taken g c = λ accepted options number feed front given is.
+returns-in_err-take-clause-taken g c = λ accepted options number state front given is.
     let p = err_from_is_err_and c.from_residual-in_err-take.result c.from_residual-in_err-take.ensures.1 in
     let cut : c.append_cut.new.line.items ≡ take (LINE + 1) (front ++ c.args.end.now) =
     c.in_ok-append_cut.ensures.ok ∙ rw is.pending (cut_again (LINE + 1) front c.args.end.now) in
-    line-into _ _ _ accepted.core options _ _ _ _ _ number feed (front ++ c.args.end.now) _ c.from_residual-in_err-take.result (p.1 ∙ ap Err p.2)
+    line-into _ _ _ accepted.core options _ _ _ _ _ number state (front ++ c.args.end.now) _ c.from_residual-in_err-take.result (p.1 ∙ ap Err p.2)
     (on-err c.from_residual-in_err-take.result _ _ (p.1 ∙ ap Err p.2))
-    (line-same _ _ _ accepted.core options _ _ _ _ number feed (take (LINE + 1) (front ++ c.args.end.now)) (front ++ c.args.end.now) _
+    (line-same _ _ _ accepted.core options _ _ _ _ number state (take (LINE + 1) (front ++ c.args.end.now)) (front ++ c.args.end.now) _
     (content-cut accepted.core.inputs number (front ++ c.args.end.now))
-    (rw (c.deref.ensures.value ∙ cut) at (c.in_err-take.ensures.taken accepted options number feed given is.line_run)))
+    (rw (c.deref.ensures.value ∙ cut) at (c.in_err-take.ensures.taken accepted options number state given is.line_run)))
 
 pub returns-clause-taken : goal.returns-clause-taken
-returns-clause-taken g c = λ accepted options number feed front given is.
+returns-clause-taken g c = λ accepted options number state front given is.
     let cut : c.append_cut.new.line.items ≡ take (LINE + 1) (front ++ c.args.end.now) =
     c.in_ok-append_cut.ensures.ok ∙ rw is.pending (cut_again (LINE + 1) front c.args.end.now) in
-    line-into _ _ _ accepted.core options _ _ _ _ _ number feed (front ++ c.args.end.now) _ (Ok tt) refl
-    (λ n f of. record { line_run = of; pending = c.clear.ensures.items })
-    (line-same _ _ _ accepted.core options _ _ _ _ number feed (take (LINE + 1) (front ++ c.args.end.now)) (front ++ c.args.end.now) _
+    line-into _ _ _ accepted.core options _ _ _ _ _ number state (front ++ c.args.end.now) _ (Ok tt) refl
+    (λ n s of. record { line_run = of; pending = c.clear.ensures.items })
+    (line-same _ _ _ accepted.core options _ _ _ _ number state (take (LINE + 1) (front ++ c.args.end.now)) (front ++ c.args.end.now) _
     (content-cut accepted.core.inputs number (front ++ c.args.end.now))
-    (rw (c.deref.ensures.value ∙ cut) at (c.in_ok-take.ensures.taken accepted options number feed given is.line_run)))
+    (rw (c.deref.ensures.value ∙ cut) at (c.in_ok-take.ensures.taken accepted options number state given is.line_run)))

@@ -1,7 +1,8 @@
 use Rattle.std.proofs.Common.{ℕ, List, length}
 use Rattle.tilt_compiler.specs.Accepted.{AcceptedParts}
 use Rattle.tilt_live_run.proofs.Stepping.{IsAlong}
-use Rattle.tilt_live_run.specs.Runs.{IsRunOf, RunOptions}
+use Rattle.tilt_live_run.specs.Runs.{IsRunOf}
+use Rattle.tilt_live_run.specs.declared.run_options.RunOptions.{RunOptions}
 use Rattle.tilt_live_run.proofs.live_run.LiveRun.take_lines.Given as goal
 
 abbrev pub invariant-loop-line : goal.invariant-loop-line

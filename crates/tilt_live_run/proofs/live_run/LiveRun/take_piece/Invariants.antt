@@ -1,8 +1,9 @@
 use Rattle.std.proofs.Common.{◌≡◌, ℕ, List, length}
 use Rattle.tilt_compiler.specs.Accepted.{AcceptedParts}
-use Rattle.tilt_feed.specs.Feed.{Feed}
+use Rattle.tilt_feed_text.specs.Said.{FeedState}
 use Rattle.tilt_live_run.proofs.Underway.{IsUnderway}
-use Rattle.tilt_live_run.specs.Runs.{IsRunAfter, RunOptions}
+use Rattle.tilt_live_run.specs.Runs.{IsRunAfter}
+use Rattle.tilt_live_run.specs.declared.run_options.RunOptions.{RunOptions}
 use Rattle.tilt_live_run.proofs.live_run.LiveRun.take_piece.Given as goal
 
 abbrev pub invariant-loop-line : goal.invariant-loop-line
@@ -10,9 +11,9 @@ invariant-loop-line g l = record {
   takes : (n : ℕ) → g.E.Sink.takes l.err n;
   shown : l.self.run.shown ≡ l.fn.self.run.shown;
   with_begun : l.self.run.with_begun ≡ l.fn.self.run.with_begun;
-  of : (accepted : AcceptedParts) (options : RunOptions) (number : ℕ) (feed : Feed) (front : List ℕ) (given : ℕ)
-      → IsRunAfter l.fn.self accepted options number feed front given
-      → IsUnderway g.E.Sink.tells g.E.Sink.written g.E.Sink.faults accepted options given l.fn.err number feed front l.fn.piece l.self l.err l.rest;
+  of : (accepted : AcceptedParts) (options : RunOptions) (number : ℕ) (state : FeedState) (front : List ℕ) (given : ℕ)
+      → IsRunAfter l.fn.self accepted options number state front given
+      → IsUnderway g.E.Sink.tells g.E.Sink.written g.E.Sink.faults accepted options given l.fn.err number state front l.fn.piece l.self l.err l.rest;
 }
 
 abbrev pub decreases-loop-line : goal.decreases-loop-line
