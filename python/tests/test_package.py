@@ -114,6 +114,7 @@ def test_what_is_in_it(root):
         "man/man1/tilt-data.1.gz",
         "doc/tilt-stream/copyright",
         "doc/tilt-stream/docs/DATA.md",
+        "doc/tilt-stream/docs/internals/PROVED.md",
         "doc/tilt-stream/CHANGELOG.md",
         "bash-completion/completions/tilt-live",
         "bash-completion/completions/tilt-data",

@@ -64,7 +64,7 @@ tilt_tests: tilt_app
 """
 FILES = {
     "crates.txt": CRATES,
-    "docs/ARCHITECTURE.md": PAGE,
+    "docs/internals/ARCHITECTURE.md": PAGE,
     "crates/tilt_base/src/lib.rt": "mod cell;\nmod span;\n",
     "crates/tilt_base/src/cell.rt": "use itoa::Buffer;\npub fn cell(a: i64) -> i64 {\n    a + 1\n}\n",
     "crates/tilt_base/src/span.rt": "pub struct Span;\n",
@@ -135,7 +135,7 @@ def line_of(text: str) -> int:
 )
 def test_a_file_that_the_map_leaves_out(tree, name, text, line, fault):
     tree.write(name, text)
-    assert tree.faults(architecture.check_map) == [f"docs/ARCHITECTURE.md:{line_of(line)}: {fault}"]
+    assert tree.faults(architecture.check_map) == [f"docs/internals/ARCHITECTURE.md:{line_of(line)}: {fault}"]
 
 
 @pytest.mark.parametrize(
@@ -149,17 +149,17 @@ def test_a_file_that_the_map_leaves_out(tree, name, text, line, fault):
 )
 def test_a_file_of_the_map_that_is_gone(tree, name, line, fault):
     (tree.top / name).unlink()
-    assert tree.faults(architecture.check_map) == [f"docs/ARCHITECTURE.md:{line_of(line)}: {fault}"]
+    assert tree.faults(architecture.check_map) == [f"docs/internals/ARCHITECTURE.md:{line_of(line)}: {fault}"]
 
 
 def test_files_that_are_named_in_other_places_of_the_map(tree):
     (tree.top / "crates/tilt_base/specs/Cell.antt").unlink()
     (tree.top / "crates/tilt_app/src/run_command.rt").unlink()
     assert tree.faults(architecture.check_map) == [
-        f"docs/ARCHITECTURE.md:{line_of('| `cell`')}: tilt_base has no specs/Cell.antt",
-        f"docs/ARCHITECTURE.md:{line_of('| `NAME_command`')}: tilt_app has no src/NAME_command.rt",
-        f"docs/ARCHITECTURE.md:{line_of('| | `src/run')}: tilt_app has no src/run_command.rt",
-        f"docs/ARCHITECTURE.md:{line_of('| | `src/run')}: tilt_base has no specs/Cell.antt",
+        f"docs/internals/ARCHITECTURE.md:{line_of('| `cell`')}: tilt_base has no specs/Cell.antt",
+        f"docs/internals/ARCHITECTURE.md:{line_of('| `NAME_command`')}: tilt_app has no src/NAME_command.rt",
+        f"docs/internals/ARCHITECTURE.md:{line_of('| | `src/run')}: tilt_app has no src/run_command.rt",
+        f"docs/internals/ARCHITECTURE.md:{line_of('| | `src/run')}: tilt_base has no specs/Cell.antt",
     ]
 
 
@@ -180,12 +180,12 @@ def test_files_that_are_named_in_other_places_of_the_map(tree):
 )
 def test_a_list_of_crates_that_the_map_contradicts(tree, old, new, line, fault):
     tree.replace("crates.txt", old, new)
-    assert tree.faults(architecture.check_map) == [f"docs/ARCHITECTURE.md:{line_of(line)}: {fault}"]
+    assert tree.faults(architecture.check_map) == [f"docs/internals/ARCHITECTURE.md:{line_of(line)}: {fault}"]
 
 
 def test_a_crate_without_its_part_in_the_map(tree):
-    tree.replace("docs/ARCHITECTURE.md", "**tilt_core** is", "`tilt_core` is")
-    place = f"docs/ARCHITECTURE.md:{line_of('| `tilt_core`')}"
+    tree.replace("docs/internals/ARCHITECTURE.md", "**tilt_core** is", "`tilt_core` is")
+    place = f"docs/internals/ARCHITECTURE.md:{line_of('| `tilt_core`')}"
     assert tree.faults(architecture.check_map) == [f"{place}: tilt_core has no part that begins with its name in bold"]
 
 
@@ -384,7 +384,7 @@ def test_a_long_sentence_has_its_own_line(tree):
 
 def test_pages_that_arent_in_the_list_are_counted(tree):
     tally = Tally()
-    tree.write("docs/ARCHITECTURE.md", "It tells what stands.\n")
+    tree.write("docs/internals/ARCHITECTURE.md", "It tells what stands.\n")
     tree.write("docs/GOOD.md", "A page.\n")
     tree.write("README.md", "A page.\n")
     style.check_style(str(tree.top), tally, ["README.md"])

@@ -352,8 +352,8 @@ def test_what_would_steer_a_terminal_is_escaped_where_a_mistake_is(tilt, told):
 
 
 def causes() -> list[tuple[str, list[str], list[str]]]:
-    """The table of the causes of line 24 in docs/COMMANDS.md: each cause, what is wrong and what is right."""
-    lines = (TOP / "docs" / "COMMANDS.md").read_text().splitlines()
+    """The table of the causes of line 24 in docs/ERRORS.md: each cause, what is wrong and what is right."""
+    lines = (TOP / "docs" / "ERRORS.md").read_text().splitlines()
     begin = lines.index("| cause | wrong | right |") + 2
     rows = []
     for line in lines[begin : lines.index("", begin)]:

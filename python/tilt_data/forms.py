@@ -1,5 +1,5 @@
-"""Names, types, windows, spans and grids, and how far a query looks: the faults of docs/MEANING.md, "Well-formed queries", with their
-places."""
+"""Names, types, windows, spans and grids, and how far a query looks: the faults of docs/internals/MEANING.md, "Well-formed queries", with
+their places."""
 from __future__ import annotations
 
 import difflib

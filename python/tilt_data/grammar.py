@@ -1,4 +1,4 @@
-"""Reads a query into trees that keep their places, by the grammar of docs/MEANING.md, or tells its first fault as `tilt` does."""
+"""Reads a query into trees that keep their places, by the grammar of docs/internals/MEANING.md, or tells its first fault as `tilt` does."""
 from __future__ import annotations
 
 import dataclasses

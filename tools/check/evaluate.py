@@ -1,10 +1,10 @@
 #!/usr/bin/env python3
-"""Works out a query by the rules of docs/MEANING.md, without the program, plainly and slowly.
+"""Works out a query by the rules of docs/SEMANTICS.md, without the program, plainly and slowly.
 
 The words are QUERY NAME=FILE .., and it prints what `tilt run` has to print with them. With `--flow` before them the first is the
 file of a pipeline of operators, of which it prints what the pipeline gives, by lists of snapshots and their boundaries. It takes
 queries and pipelines that are accepted and series without faults; with others it ends with an error of Python and status 1, or with
-any output. Each part is named as in docs/MEANING.md."""
+any output. Each part is named as in docs/SEMANTICS.md."""
 from __future__ import annotations
 
 import bisect

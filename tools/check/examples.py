@@ -2,17 +2,17 @@
 """Runs the commands on the pages of the repository with the built program, and compares what they print, byte for byte:
 `tools/check/examples.py [PAGE ..]`. Without pages it checks all of them, and the files of the examples.
 
-In README.md, docs/*.md and examples/*/README.md, a fenced block ```console has lines `$ COMMAND`, each followed by exactly what it prints:
-its standard output, then its standard error, and a last line `[status N]` where its status isn't 0. A block ```file NAME has the content of
-a file that is written before the commands after it; the line of text before it has to name it, since a reader doesn't see what stands at a
-fence. Commands are run by `sh` in one folder for each page, which
+In README.md, docs/*.md, docs/internals/*.md and examples/*/README.md, a fenced block ```console has lines `$ COMMAND`, each followed by
+exactly what it prints: its standard output, then its standard error, and a last line `[status N]` where its status isn't 0. A block
+```file NAME has the content of a file that is written before the commands after it; the line of text before it has to name it, since a
+reader doesn't see what stands at a fence. Commands are run by `sh` in one folder for each page, which
 begins with a copy of `examples`, and of what is in the folder that a first line `<!-- check: FOLDER -->` names; `tilt` and the tools are on
 the path. A command whose own package is missing is skipped, and told.
 
-No other block may show a command unless the reader sees that it isn't run. Such a block is fenced ```sh, and the last line of text before
-it has the phrase "not run by the tests". A block fails if it is fenced ```sh and that phrase is missing, if it has another fence than those
-named here, ```text and ```rust, or if it shows a command, fenced or indented by four blanks. A command is a line that starts with `$ ` or
-with the name of a program that the pages use (`COMMAND` below).
+No other block may show a command unless the reader sees that it isn't run. Such a block is fenced ```sh, ```python, ```sql or ```ini, and
+the last line of text before it has the phrase "not run by the tests". A block fails if it is fenced so and that phrase is missing, if it
+has another fence than those named here, ```text and ```rust, or if it shows a command, fenced or indented by four blanks. A command is
+a line that starts with `$ ` or with the name of a program that the pages use (`COMMAND` below).
 
 What `tilt run` and `tilt flow` print is also compared with what tools/check/evaluate.py prints with the same words, but for --plain and
 --cut, which change nothing of it. That is so for each such call of a line that ends with status 0, whose commands have `;` or `&&` between
@@ -49,18 +49,18 @@ from shared.tally import Tally
 
 EXAMPLES = ["sensors", "trading", "clinical", "fleet"]
 # These pages have commands; if one has none any more, that is a failure.
-WITH_COMMANDS = ["README.md"] + [f"docs/{name}.md" for name in ("TUTORIAL", "LANGUAGE", "COMMANDS", "PARTS", "DATA", "IDIOMS")]
-WITH_COMMANDS += [f"docs/{name}.md" for name in ("OPERATORS", "CORRECTIONS", "LIVE", "RUNNING_SESSIONS", "SESSIONS")]
+WITH_COMMANDS = ["README.md"] + [f"docs/{name}.md" for name in ("TUTORIAL", "LANGUAGE", "COMMANDS", "ERRORS", "DATA", "COOKBOOK")]
+WITH_COMMANDS += [f"docs/{name}.md" for name in ("OPERATORS", "LIVE", "RUNNING_SESSIONS", "SCALE", "PYTHON")]
 WITH_COMMANDS += [f"examples/{name}/README.md" for name in EXAMPLES]
 # What a command needs besides: a module of the system's Python, or a program.
-MODULES = {"tilt-data plot": "matplotlib", "python3 bakery.py": "pandas"}
+MODULES = {"tilt-data plot": "matplotlib", "python3 bakery.py": "pandas", "python3 known.py": "pandas"}
 PROGRAMS = {"m4": "m4"}
 # A call of `run` or `flow`, wherever it stands in a line; and what the shell changes in a word.
 RUN = re.compile(r"(?<![\w./-])tilt (?:run|flow)\s")
 CHANGED = re.compile(r"[$`*?~\[]")
 SIGNS = "();<>|&"
-# What a fence may say besides `console` and `file`: a block of commands that aren't run, and texts without commands.
-NOT_RUN = "sh"
+# What a fence may say besides `console` and `file`: a block that isn't run, and texts without commands.
+NOT_RUN = ("sh", "python", "sql", "ini")
 TEXTS = ("text", "rust")
 MARK = "not run by the tests"
 # A line that shows a command: after settings such as `TILT=..`, a path or the name of a program. The first lines of a listing (`tilt 1`)
@@ -252,10 +252,10 @@ def hidden_commands(lines: Sequence[str]) -> Iterator[tuple[int, str]]:
     """Each place where a page shows a command that is neither run nor marked: the number of the line, and what is wrong."""
     for words, first, inside in blocks(lines):
         kind = words[0] if words else ""
-        if kind == NOT_RUN and MARK not in text_before(lines, first - 1).lower():
+        if kind in NOT_RUN and MARK not in text_before(lines, first - 1).lower():
             yield first - 1, f"the line before this block doesn't say `{MARK}`"
-        elif kind not in ("console", "file", NOT_RUN, *TEXTS):
-            yield first - 1, f"the fence isn't `console`, `file NAME`, `{NOT_RUN}` or one of {', '.join(TEXTS)}"
+        elif kind not in ("console", "file", *NOT_RUN, *TEXTS):
+            yield first - 1, f"the fence isn't `console`, `file NAME` or one of {', '.join((*NOT_RUN, *TEXTS))}"
         elif kind in TEXTS:
             yield from ((number, f"a command that isn't run: {line}") for number, line in enumerate(inside, first) if COMMAND.match(line))
     yield from ((number, f"a command that isn't run: {line}") for number, line in indented(lines) if COMMAND.match(line))
@@ -305,7 +305,7 @@ def check_made(tally: PageTally) -> None:
 def pages() -> list[str]:
     """The pages that there are, and after them those that have to be there."""
     there = []
-    for form in ("README.md", "docs/*.md", "examples/*/README.md"):
+    for form in ("README.md", "docs/*.md", "docs/internals/*.md", "examples/*/README.md"):
         there += [os.path.relpath(page, TOP) for page in sorted(glob.glob(os.path.join(TOP, form)))]
     return there + [page for page in WITH_COMMANDS if page not in there]
 

@@ -1,4 +1,5 @@
-"""What may be printed of a query while its rows arrive: docs/MEANING.md, "A feed", worked out plainly and slowly, without the program.
+"""What may be printed of a query while its rows arrive: docs/internals/MEANING.md, "A feed", worked out plainly and slowly, without the
+program.
 
 The meaning of a query on rows is that of tools/check/evaluate.py. What is here is what a feed knows of the rows: which events are allowed,
 the rows as they are now, the horizon of each source, the marks that are sure, and so what is printed and what has begun. Each part is named

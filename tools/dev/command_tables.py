@@ -2,9 +2,9 @@
 """Writes what is said of commands and options outside of the program, from the tables that the program reads them by.
 
 The tables are `OPTIONS` and `COMMANDS` in the sources of the crate that has `src/command_table.rt`. Written from them are the table at the
-top of docs/COMMANDS.md, the table of commands in docs/MEANING.md, the synopsis in docs/tilt.1, and the commands and options in
-tools/package/completion. With --check nothing is written: each file that differs is named, the last line is 'N passed, M failed', and the
-status is 1 if one failed."""
+top of docs/COMMANDS.md, the table of commands in docs/internals/MEANING.md, the synopsis in docs/tilt.1, and the commands and options in
+tools/package/completion. The options of `tilt-data` in docs/OPTIONS.md are written from its parsers. With --check nothing is written: each
+file that differs is named, the last line is 'N passed, M failed', and the status is 1 if one failed."""
 from __future__ import annotations
 
 import argparse
@@ -135,12 +135,53 @@ def listed(options: Iterable[str]) -> str:
 
 
 def meaning(found: Tables) -> str:
-    """The table of docs/MEANING.md."""
+    """The table of docs/internals/MEANING.md."""
     lines = [
         f"| `{row.word} {row.file}` | {listed(row.required)} | {listed(row.allowed)} | {'any number' if row.takes_binds else 'none'} |"
         for row in found.commands
     ]
     return "\n".join(["| command | options that it must have | options that it can have | binds |", "|---|---|---|---|", *lines, ""])
+
+
+def value_of(action: argparse.Action) -> str:
+    """What a page shows for the value of an option."""
+    if action.nargs == 0:
+        return ""
+    if action.choices is not None:
+        return " " + "|".join(str(choice) for choice in action.choices)
+    name = action.metavar if isinstance(action.metavar, str) else action.dest.upper()
+    return f" {name} .." if action.nargs == "+" else f" {name}"
+
+
+def cell(text: str) -> str:
+    return text.replace("|", r"\|")
+
+
+def options_of_command(command: str, parser: argparse.ArgumentParser) -> str:
+    """The part of docs/OPTIONS.md on a command of `tilt-data`."""
+    # The name and the help of an argument have no public list.
+    actions = [action for action in parser._actions if not isinstance(action, argparse._HelpAction)]
+    binds = " ".join(str(action.metavar or action.dest) for action in actions if not action.option_strings)
+    lines = [f"## `tilt-data {command}`", "", f"`tilt-data {command} {binds}` and these options:", "", "| option | meaning |", "|---|---|"]
+    for action in actions:
+        if action.option_strings:
+            name = ", ".join(action.option_strings) + value_of(action)
+            needed = "; required" if action.required else ""
+            lines.append(f"| `{cell(name)}` | {cell(action.help or '')}{needed} |")
+    return "\n".join([*lines, ""])
+
+
+def options_page(_: Tables) -> str:
+    """The options of each command of `tilt-data` that has some, by its parser."""
+    sys.path.insert(0, str(TOP / "python"))
+    from tilt_data.cli import parser_of
+
+    found = next(action for action in parser_of()._actions if isinstance(action, argparse._SubParsersAction)).choices
+    return "\n".join(
+        options_of_command(command, parser)
+        for command, parser in found.items()
+        if any(action.option_strings for action in parser._actions[1:])
+    )
 
 
 def roff(text: str) -> str:
@@ -209,7 +250,8 @@ def completed_options(found: Tables) -> str:
 # Of each file what is written, and where: the pattern matches once, and its group `made` is what is written.
 PLACES: tuple[tuple[str, str, Callable[[Tables], str]], ...] = (
     ("docs/COMMANDS.md", r"^(?P<made>\| command \| prints \|\n(?:\|.*\n)+)", reference),
-    ("docs/MEANING.md", r"^(?P<made>\| command \| options that .*\n(?:\|.*\n)+)", meaning),
+    ("docs/OPTIONS.md", r"^<!-- options -->\n(?P<made>(?:.*\n)*?)<!-- end of options -->$", options_page),
+    ("docs/internals/MEANING.md", r"^(?P<made>\| command \| options that .*\n(?:\|.*\n)+)", meaning),
     ("docs/tilt.1", r"^\.SH SYNOPSIS\n(?P<made>(?:.*\n)*?)\.SH DESCRIPTION$", synopsis),
     ("tools/package/completion", r'^_tilt\(\) \{\n(?:.*\n)*?.*compgen -W "(?P<made>[a-z ]+)"', completed_words),
     ("tools/package/completion", r"^        case \$command in\n(?P<made>(?:.*\n)*?)        esac$", completed_options),

@@ -2,13 +2,13 @@
 """Runs the built program on inputs by size, and tells how long each run takes and how much memory it has at its peak.
 
 Bad inputs come in three sizes, 16, 64 and 256 MB: texts of one byte again and again as a query, a pipeline, a series, corrections, a
-listing and a checkpoint, and long texts of good lines that aren't whole. Each has to end with the status and the line of docs/COMMANDS.md,
-its time has to grow no faster than its size, and its memory has to keep to what docs/RELIABILITY.md promises. Good inputs have the sizes
-that users have, and each has to end with status 0 and print the right bytes, which are worked out here.
+listing and a checkpoint, and long texts of good lines that aren't whole. Each has to end with the status and the line of docs/ERRORS.md,
+its time has to grow no faster than its size, and its memory has to keep to the bounds of docs/internals/MEASUREMENTS.md. Good inputs
+have the sizes that users have, and each has to end with status 0 and print the right bytes, which are worked out here.
 
 It isn't part of the gate: it takes some minutes, and it measures. Time is that of the processor; a run that is too slow is made three
 times, and the fastest counts. The last line is 'N passed, M failed', and the status is 1 where one failed. With --table its tables are put
-between the marks in docs/RELIABILITY.md."""
+between the marks in docs/internals/MEASUREMENTS.md."""
 from __future__ import annotations
 
 import argparse
@@ -30,7 +30,7 @@ from shared.program import build_program
 from shared.tables import markdown, write_table
 from shared.tally import Tally
 
-PAGE = os.path.join(TOP, "docs", "RELIABILITY.md")
+PAGE = os.path.join(TOP, "docs", "internals", "MEASUREMENTS.md")
 
 # The program of that name, and not a word of the shell.
 TIME = shutil.which("time")
@@ -476,7 +476,7 @@ def main() -> int:
     words.add_argument("--only", default="", help="only inputs whose name has this in it")
     words.add_argument("--memory", type=float, default=4.0, help="how many GB of memory a run may take")
     words.add_argument("--seconds", type=float, default=120.0, help="how long a run may take")
-    words.add_argument("--table", action="store_true", help="write the tables in docs/RELIABILITY.md")
+    words.add_argument("--table", action="store_true", help="write the tables in docs/internals/MEASUREMENTS.md")
     given = words.parse_args()
     if given.program is None:
         build_program()

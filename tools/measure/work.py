@@ -7,7 +7,8 @@ callgrind; and their time and memory are taken, and the time of awk, sqlite3 and
 work grows with the size of a query: with its readings, with the definitions that read one, and with its definitions.
 
 It isn't part of the gate: it takes some minutes, and it measures. The last line is 'N passed, M failed', and the status is 1 where one
-failed, that is, where two programs print other bytes. With --table its tables are put between the marks in docs/PERFORMANCE.md."""
+failed, that is, where two programs print other bytes. With --table its tables are put between the marks in
+docs/internals/MEASUREMENTS.md."""
 from __future__ import annotations
 
 import argparse
@@ -32,7 +33,7 @@ from shared.tables import markdown, write_table
 from shared.tally import Tally
 
 BENCH = os.path.join(TOP, "bench")
-PAGE = os.path.join(TOP, "docs", "PERFORMANCE.md")
+PAGE = os.path.join(TOP, "docs", "internals", "MEASUREMENTS.md")
 # The program of that name, and not a word of the shell.
 TIME = shutil.which("time")
 SMALL, LARGE = 25_000, 400_000
@@ -388,7 +389,7 @@ def words() -> argparse.Namespace:
     asked.add_argument("--only", default="", help="only works whose name has this in it, or `readings`, `loops` or `definitions`")
     asked.add_argument("--functions", type=int, default=0, help="tell for each work of how many functions the instructions are")
     asked.add_argument("--no-peers", action="store_true", help="leave out awk, sqlite3 and pandas")
-    asked.add_argument("--table", action="store_true", help="write the tables in docs/PERFORMANCE.md")
+    asked.add_argument("--table", action="store_true", help="write the tables in docs/internals/MEASUREMENTS.md")
     return asked.parse_args()
 
 

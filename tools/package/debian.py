@@ -97,9 +97,10 @@ def lay_out(root: str, programs: dict[str, str]) -> None:
     put(root, f"{DOC}/copyright", text_of("LICENSE"))
     for page in ("README.md", "CHANGELOG.md"):
         put(root, f"{DOC}/{page}", text_of(page))
-    for page in sorted(os.listdir(os.path.join(TOP, "docs"))):
-        if page.endswith(".md"):
-            put(root, f"{DOC}/docs/{page}", text_of("docs", page))
+    for folder in ("docs", os.path.join("docs", "internals")):
+        for page in sorted(os.listdir(os.path.join(TOP, folder))):
+            if page.endswith(".md"):
+                put(root, f"{DOC}/{folder}/{page}", text_of(folder, page))
     for name in [*programs, *NAMES.values(), "tilt-data"]:
         put(root, f"usr/share/bash-completion/completions/{name}", text_of("tools", "package", "completion"))
 

@@ -1,4 +1,4 @@
-"""What has to be left after a run, by the rules of docs/COMMANDS.md."""
+"""What has to be left after a run, by the rules of docs/ERRORS.md and docs/COMMANDS.md."""
 from __future__ import annotations
 
 import stat

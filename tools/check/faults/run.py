@@ -1,6 +1,6 @@
 #!/usr/bin/env python3
 """Runs the built program under `strace` once for each call to the system that it makes, and each time that call fails, or the program is
-killed at it; and looks after each run whether what stands is by the rules of docs/COMMANDS.md.
+killed at it; and looks after each run whether what stands is by the rules of docs/ERRORS.md and docs/COMMANDS.md.
 
 The commands are those of `cases_of`, on small files, each in a folder of its own. A first run without faults shows which calls there are,
 from the first on that opens a file of the case: those before it are the loader's, and left out. Then each call that has to do with files is
@@ -18,7 +18,7 @@ each call that asks for memory on, all memory is refused. Besides:
 What can't be tried here, for want of strace, of a C compiler or of rights, is told as left out, and never counted as passed. Where strace
 and the compiler are missing they are installed by `apt-get`, if this user may; where the user is root and `apt-get` is there, a kind of
 cases that is left out for want of them all the same is a failure. The last line is 'N passed, M failed', and the status is 1 where one
-failed. With --table its table is put between the two marks in docs/RELIABILITY.md."""
+failed. With --table its table is put between the two marks in docs/internals/MEASUREMENTS.md."""
 from __future__ import annotations
 
 import argparse
@@ -45,7 +45,7 @@ from shared.paths import BUILT, TOP
 from shared.program import build_program
 from shared.tables import write_table
 
-PAGE = os.path.join(TOP, "docs", "RELIABILITY.md")
+PAGE = os.path.join(TOP, "docs", "internals", "MEASUREMENTS.md")
 
 
 def missing() -> list[str]:
@@ -106,7 +106,7 @@ def main() -> int:
     words = argparse.ArgumentParser(description="Tries every fault of the system on the built program.")
     words.add_argument("--program", help="another program than the built one")
     words.add_argument("--jobs", type=int, default=len(os.sched_getaffinity(0)), help="how many runs go at once")
-    words.add_argument("--table", action="store_true", help="write the table in docs/RELIABILITY.md")
+    words.add_argument("--table", action="store_true", help="write the table in docs/internals/MEASUREMENTS.md")
     given = words.parse_args()
     if given.program is None:
         build_program()

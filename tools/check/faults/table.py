@@ -1,4 +1,4 @@
-"""What was seen, and its table in docs/RELIABILITY.md."""
+"""What was seen, and its table in docs/internals/MEASUREMENTS.md."""
 from __future__ import annotations
 
 from typing import Sequence

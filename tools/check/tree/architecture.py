@@ -1,4 +1,4 @@
-"""The map, docs/ARCHITECTURE.md: what it says of files is true of the tree, and it leaves out no file of code.
+"""The map, docs/internals/ARCHITECTURE.md: what it says of files is true of the tree, and it leaves out no file of code.
 
 - Each crate of crates.txt has a row in one of the two tables of crates, and what that row says the crate stands on is what crates.txt has.
 - The part of a crate begins with its name in bold. Each file of `src/` is named there, except `lib`, `main` and `fault`. The first column
@@ -17,7 +17,7 @@ from typing import Iterator
 from shared.crates import libraries_of_crates
 from shared.tally import Tally
 
-PAGE = os.path.join("docs", "ARCHITECTURE.md")
+PAGE = os.path.join("docs", "internals", "ARCHITECTURE.md")
 PREFIX = "tilt_"
 # These have no row: the first is what the crate consists of, and of the last the page speaks once for all crates.
 UNNAMED = ["lib", "main", "fault"]

@@ -2,7 +2,7 @@
 """Looks at the tree of files as it stands, in less than a minute, before anything is proved or run:
 
 - Python is laid out and named as its tools want it, has types, and its tests are found (`python_files.py`).
-- The map, docs/ARCHITECTURE.md, says of the files what is so, and leaves none out (`architecture.py`).
+- The map, docs/internals/ARCHITECTURE.md, says of the files what is so, and leaves none out (`architecture.py`).
 - crates.txt lists each crate with the libraries that it names, and with no others (`listed.py`).
 - Each edit that a proof has to refuse applies to the code, exactly once (`edits.py`).
 - No line is too long (`lines.py`).

@@ -13,11 +13,11 @@ from typing import Iterable, Iterator, NamedTuple
 from shared.tally import Tally
 
 PAGES = ["README.md", "CONTRIBUTING.md", "CHANGELOG.md"]
-PAGES += [f"docs/{name}.md" for name in ("COMMANDS", "COMPARED", "CORRECTIONS", "DATA", "GLOSSARY", "IDIOMS", "INSTALL")]
-PAGES += [f"docs/{name}.md" for name in ("LANGUAGE", "LIVE", "OPERATORS", "PARTS", "RELEASES")]
-PAGES += [f"docs/{name}.md" for name in ("RUNNING_SESSIONS", "SCALE", "SESSIONS", "TUTORIAL")]
+PAGES += [f"docs/{name}.md" for name in ("COMMANDS", "COMPARED", "COOKBOOK", "DATA", "ERRORS", "GLOSSARY", "INSTALL")]
+PAGES += [f"docs/{name}.md" for name in ("LANGUAGE", "LIVE", "OPERATORS", "PERFORMANCE", "PYTHON", "RELEASES", "RELIABILITY")]
+PAGES += [f"docs/{name}.md" for name in ("RUNNING_SESSIONS", "SCALE", "TUTORIAL")]
 PAGES += [f"examples/{name}/README.md" for name in ("clinical", "fleet", "sensors", "trading")]
-ALL_PAGES = ["*.md", "docs/*.md", "examples/*/README.md"]
+ALL_PAGES = ["*.md", "docs/*.md", "docs/internals/*.md", "examples/*/README.md"]
 MOST_WORDS = 30
 
 
