@@ -432,7 +432,7 @@ def test_a_decimal_comma(told):
         assert series(told, text.format("-2"), *common)[0] == [(1, 2, 15), (2, 3, -20)]
         pathlib.Path("temp.csv").unlink(), pathlib.Path("temp.json").unlink()
         # In such a file 1.500 is one and a half thousand.
-        wanted = "raw.csv:3: temp: '1.500' has a point, and --decimal says that ',' stands before the fraction"
+        wanted = "raw.csv:3: temp: '1.500' has a point, and --decimal says that ',' is before the fraction"
         assert refused(told, text.format("1.500"), *common) == wanted
         assert refused(told, text.format("1.500,5"), *common).startswith("raw.csv:3: temp: '1.500,5' has a point")
     for sign in ("", "5", "-", ",."):
@@ -633,7 +633,7 @@ def test_sorting_in_parts(tmp_path):
         ("", ["--tick", "1s"], "raw.csv:1: the column 'time' is not in the header"),
         ("time,temp\n", ["--tick", "1s", "--value", "hum"], "raw.csv:1: the column 'hum' is not in the header; there are: time, temp"),
         ("when,temp\n", ["--tick", "1s"], "raw.csv:1: the column 'time' is not in the header; there are: when, temp"),
-        ("time;temp\n2026-03-01;1\n", ["--tick", "1s"], "are its fields parted by ';'? --delimiter ';'"),
+        ("time;temp\n2026-03-01;1\n", ["--tick", "1s"], "are its fields separated by ';'? --delimiter ';'"),
         ('time,temp\n2026-03-01,"1,5"\n', ["--tick", "1s"], "for a decimal comma: --decimal ,"),
         ("time,time,temp\n", ["--tick", "1s"], "raw.csv:1: the column 'time' is more than once in the header"),
         ("time\n", ["--tick", "1s"], "raw.csv:1: no column of values"),
@@ -647,7 +647,7 @@ def test_sorting_in_parts(tmp_path):
         ('time,temp\n2026-03-01,1\n2026-03-02,"2\n2026-03-03,3\n', ["--tick", "1s"], "raw.csv:3: a record of CSV was expected"),
         ("time,temp\n2026-03-01,1\n", ["--tick", "1s", "--delimiter", "ab"], "--delimiter 'ab': one sign was expected, or \\t for a tab"),
         ("time,temp\n2026-03-01,1\n", ["--tick", "1s", "--delimiter", ""], "--delimiter '': one sign was expected"),
-        ("time\ttemp\n2026-03-01\t1\n", ["--tick", "1s"], "are its fields parted by '\\t'? --delimiter '\\t'"),
+        ("time\ttemp\n2026-03-01\t1\n", ["--tick", "1s"], "are its fields separated by '\\t'? --delimiter '\\t'"),
         (
             "time,temp,hum\n2026-03-01,1,2\n",
             ["--tick", "1s", "--max-age", "5s", "tmep=1min"],

@@ -20,9 +20,9 @@ from .program import program
 from .progress import shown
 from .why import bound, clashes, known_notes, refusal_of
 
-HELP = """Runs a query for each key. A word NAME=FILE whose FILE has {key} in it is another file for each key, as
-temperature=data/{key}/temperature.csv for what `tilt-data series --key` writes, or data/{key}_temperature.csv for --prefix; the keys are
-those for which the first such file is there. The other inputs are the same for all. The output has the key as its first column:
+HELP = """Runs a query for each key. An argument NAME=FILE with {key} in FILE names another file for each key. For what `tilt-data series
+--key` writes it is such as temperature=data/{key}/temperature.csv, and for --prefix data/{key}_temperature.csv. The keys are those for
+which the first such file exists. The other inputs are the same for all keys. The output has the key as its first column:
 key,start,end,value."""
 
 
@@ -40,10 +40,10 @@ class Done:
 def add(commands: Any) -> None:
     parser = commands.add_parser("by", help="one query for each key", description=HELP)
     parser.add_argument("query", metavar="QUERY")
-    parser.add_argument("binds", nargs="+", metavar="NAME=FILE", help="with {key} where the key stands")
-    parser.add_argument("--jobs", type=int, default=os.cpu_count() or 1, help="how many are run at a time (one for each processor)")
-    parser.add_argument("--keep-going", action="store_true", help="a key that is refused is told at the end, and the others are printed")
-    parser.add_argument("-o", "--out", metavar="FILE", help="where the output is written (standard output)")
+    parser.add_argument("binds", nargs="+", metavar="NAME=FILE", help="the series file of an input, with {key} in the place of the key")
+    parser.add_argument("--jobs", type=int, default=os.cpu_count() or 1, help="how many queries run at a time (one for each processor)")
+    parser.add_argument("--keep-going", action="store_true", help="report a key that is rejected at the end, and print the others")
+    parser.add_argument("-o", "--out", metavar="FILE", help="the file of the output (standard output)")
     parser.set_defaults(main=main)
 
 

@@ -39,13 +39,13 @@ class Drawn:
 def add_drawn(parser: argparse.ArgumentParser) -> None:
     """The arguments that say what is drawn."""
     parser.add_argument("words", nargs="+", metavar="[+][band:|limit:|dots:]NAME=FILE")
-    parser.add_argument("--from", dest="begin", metavar="TIME", help="ISO 8601, or a tick")
-    parser.add_argument("--to", dest="end", metavar="TIME")
+    parser.add_argument("--from", dest="begin", metavar="TIME", help="the begin of the picture: ISO 8601, or a tick")
+    parser.add_argument("--to", dest="end", metavar="TIME", help="its end")
     parser.add_argument("--like", metavar="SERIES", help="the series whose clock and scale the files without a JSON file have")
     parser.add_argument("--scale", action="append", metavar="[NAME=]N", default=[], help="values are divided by N")
-    parser.add_argument("--unit", action="append", metavar="NAME=TEXT", default=[], help="the unit of values, as temperature=°C")
+    parser.add_argument("--unit", action="append", metavar="NAME=TEXT", default=[], help="the unit of values, such as temperature=°C")
     parser.add_argument("--zone", help="the time zone of the axis")
-    parser.add_argument("--title")
+    parser.add_argument("--title", help="a title above it")
 
 
 def panels_of(words: argparse.Namespace) -> list[list[Drawn]]:

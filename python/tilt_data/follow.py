@@ -43,11 +43,11 @@ from .tokens import Faulty
 from .version import VERSION
 from .why import clashes, inputs_of
 
-HELP = """Runs a query over lines that keep coming on standard input, as from `mosquitto_sub` or `tail -F`: NAME,start,end,value with
-ticks, or NAME,time,value with readings, which become rows as `tilt-data series` has it. A session is run every --every, or after --rows
-lines; it is cut at the last moment that all inputs have reached. The lines that it decides are printed, and put to the end of output.csv
-in the folder --state. Killed at any moment and called again with the same options it goes on, and no line of output.csv is lost or doubled.
-Other options that would change rows are rejected. An argument NAME=FILE gives an input whole, from a series file."""
+HELP = """Runs a query over lines that keep coming on standard input, such as from `mosquitto_sub` or `tail -F`. A line is
+NAME,start,end,value with ticks, or NAME,time,value with a reading, which becomes a row as in `tilt-data series`. A session runs every
+--every, or after --rows lines. It ends at the last moment that all inputs have reached. Its final rows are printed, and appended to
+output.csv in the folder --state. If it is killed, call it again with the same options: it goes on, and no row of output.csv is lost or
+there twice. Other options that would change rows are rejected. An argument NAME=FILE gives an input whole, from a series file."""
 Taken = dict[str, Any]
 WHOLE = re.compile(r"[+-]?[0-9]+")
 BINDING = re.compile(r"[A-Za-z_]\w*=.+", re.ASCII | re.DOTALL)
@@ -63,22 +63,24 @@ STATE = re.compile(r"state\.(end|-?[0-9]+)")
 def add(commands: Any) -> None:
     parser = commands.add_parser("follow", help="a query over rows that keep coming", description=HELP)
     parser.add_argument("query", metavar="QUERY")
-    parser.add_argument("fixed", nargs="*", metavar="NAME=FILE", help="inputs that are there from the beginning")
-    parser.add_argument("--state", metavar="FOLDER", required=True, help="where all is kept")
+    parser.add_argument("fixed", nargs="*", metavar="NAME=FILE", help="an input that is known beforehand, from a series file")
+    parser.add_argument("--state", metavar="FOLDER", required=True, help="the folder of the state and of output.csv")
     parser.add_argument("--every", metavar="DURATION", default="60s", help="how often a session is run (60s)")
-    parser.add_argument("--rows", type=int, metavar="N", help="run one after so many lines too")
+    parser.add_argument("--rows", type=int, metavar="N", help="also run one after N lines")
     parser.add_argument(
         "--again",
         action="store_true",
-        help="the source starts with the same first line whenever this is called again, as "
-        "`tail -n +1 -F` of a file that isn't rotated: the lines taken before are passed over, and rejected if they differ",
+        help="standard input starts with the same first line at each call, as from `tail -n +1 -F` of a file that "
+        "isn't rotated. The lines that were taken before are skipped, and rejected if they differ",
     )
-    parser.add_argument("--end", action="store_true", help="where standard input ends, print all that is left: no more lines will come")
+    parser.add_argument("--end", action="store_true", help="no more lines will come: at the end of standard input, print all that is left")
     parser.add_argument(
         "--skip-bad", action="store_true", help="a line that can't be taken is reported, written to rejected.log in the folder, and skipped"
     )
     parser.add_argument("--quiet", action="store_true", help="print nothing: output.csv has it")
-    parser.add_argument("--unit", choices=["s", "ms", "us", "ns"], help="readings: as in `tilt-data series`, and so the options after it")
+    parser.add_argument(
+        "--unit", choices=["s", "ms", "us", "ns"], help="of readings: this option and the next ones are as in `tilt-data series`"
+    )
     for option in ("--zone", "--tick", "--origin", "--like", "--max-age", "--until"):
         parser.add_argument(option)
     parser.add_argument("--scale", type=int)

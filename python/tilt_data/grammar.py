@@ -158,7 +158,7 @@ class Reader:
         if expected == "`[`":
             return "a window is over one name: give the expression a name by `let` first"
         if token.kind == "over":
-            return "close the parenthesis before it" if expected == "`)`" else "`over` comes before `every`, and stands once"
+            return "close the parenthesis before it" if expected == "`)`" else "`over` comes before `every`, and only once"
         if token.kind == "every" and expected == "an operator or `over`":
             return "`over` comes before `every`: over (0, 100] every 10"
         return ""

@@ -15,11 +15,11 @@ from .files import scratch, taking
 from .progress import shown
 from .version import VERSION
 
-HELP = """Draws series and outputs. NAME=FILE has a panel of its own, and after it +NAME=FILE is drawn into the same panel,
-+limit:NAME=FILE as a dashed line, and +band:NAME=FILE as a shaded band where FILE has a value other than 0. A value that holds is a step,
-events are dots, and null is a gap. What is shorter than a pixel is drawn one pixel wide, and a gap that is shorter isn't drawn. One name
-has one colour in all panels. The clock and the scale are those of the JSON file beside each file, or of the series that --like names; if
-there is neither, the axis has ticks. One FILE can be - for standard input."""
+HELP = """Draws series and outputs. NAME=FILE starts a panel, and +NAME=FILE after it is drawn into the same panel. There +limit:NAME=FILE
+is a dashed line, +dots:NAME=FILE has dots, and +band:NAME=FILE is a shaded band where FILE has a value other than 0. A value that holds
+is a step, events are dots, and null is a gap. What is shorter than a pixel is drawn one pixel wide, and a gap that is shorter isn't drawn.
+One name has one colour in all panels. The clock and the scale are those of the JSON file beside each file, or of the series that --like
+names. If there is neither, the axis has ticks. One FILE can be - for standard input."""
 COLOURS = ["#1f5fa8", "#2a7f4f", "#7a3e9d", "#8a6d1d", "#137c86", "#5b5b5b"]
 LIMIT, BAND = "#b3261e", "#f2a33a"
 # The width of the picture in pixels, and how many of them the axes have at least.

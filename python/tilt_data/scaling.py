@@ -36,7 +36,7 @@ if TYPE_CHECKING:
 
 HELP = """Runs a query over files that are too many or too long for one run: for each key, and for parts of the output domain. The parts
 run on this machine, several at a time (--workers), or on the workers of a Dask scheduler (--scheduler). An argument NAME=FILES has {key} in
-the place of the key, and * and ? for other characters, as in temperature=data/{key}/day-*.csv; several arguments can have one NAME. The
+the place of the key, and * and ? for other characters, as in temperature=data/{key}/day-*.csv. Several arguments can have one NAME. The
 folder of --out gets KEY.csv for each key, or output.csv without keys: the bytes that one run over all rows prints. What is finished is
 kept, so that the same call continues after it was stopped."""
 WILD = re.compile(r"\{key\}|\*|\?")
@@ -50,7 +50,7 @@ def add(commands: Any) -> None:
     parser = commands.add_parser("scale", help="a query by keys and parts, several at a time", description=HELP)
     parser.add_argument("query", metavar="QUERY")
     parser.add_argument("binds", nargs="*", metavar="NAME=FILES", help="the series files of an input, with {key}, * and ?")
-    parser.add_argument("--out", metavar="FOLDER", required=True, help="where the outputs are written, and what is kept of a call")
+    parser.add_argument("--out", metavar="FOLDER", required=True, help="the folder of the outputs, and of what is kept of a call")
     parser.add_argument("--workers", type=int, metavar="N", help="how many parts run at a time on this machine (one for each processor)")
     parser.add_argument(
         "--scheduler",

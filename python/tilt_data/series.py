@@ -22,7 +22,7 @@ from .scales import Scale, digits_after_point, scale_of
 
 HELP = """Reads a CSV with a header: a column of times, and one column of values for each series (wide), or a column that names the series
 (tall, --name). It writes a series file NAME.csv for each, and beside it NAME.json with the length of a tick, the origin and the scale.
-Readings are in order of time, or --sort puts them in order. What was dropped, moved and scaled is told on standard error."""
+Readings must be in order of time, or --sort sorts them. What was dropped, moved and scaled is reported on standard error."""
 DECIMAL_COMMA = re.compile(r"[+-]?[0-9]+,[0-9]+")
 # The most bytes that the name of a file can have.
 LONGEST_NAME = 255
@@ -57,28 +57,28 @@ def add(commands: Any) -> None:
     add_source(parser)
     add_time(parser)
     add_convention(parser)
-    parser.add_argument("--key", metavar="COL", help="the column of a key, as a station or a patient: a folder of series for each key")
+    parser.add_argument("--key", metavar="COL", help="the column of a key, such as a station or a patient: a folder of series for each key")
     parser.add_argument("--prefix", action="store_true", help="KEY_NAME.csv in place of KEY/NAME.csv")
-    parser.add_argument("--out", metavar="FOLDER", default=".", help="where the files are written (.)")
+    parser.add_argument("--out", metavar="FOLDER", default=".", help="the folder of the files (.)")
     parser.add_argument("--force", action="store_true", help="replace files that `tilt-data` didn't write")
-    parser.add_argument("--sort", action="store_true", help="put the readings in order of time first")
+    parser.add_argument("--sort", action="store_true", help="sort the readings by time first")
     parser.set_defaults(main=main)
 
 
 def add_source(parser: argparse.ArgumentParser) -> None:
     parser.add_argument("file", metavar="FILE", help="the CSV, or - for standard input")
     parser.add_argument("--time", metavar="COL", help="the column of times")
-    parser.add_argument("--value", metavar="COL", nargs="+", action="extend", help="the columns of values; all others where it is left out")
+    parser.add_argument("--value", metavar="COL", nargs="+", action="extend", help="the columns of values (all others)")
     parser.add_argument("--name", metavar="COL", help="a tall file: the column that names the series; --value is then the one value column")
-    parser.add_argument("--delimiter", default=",", help="the sign that parts the fields; \\t is a tab (,)")
-    parser.add_argument("--decimal", default=".", help="what stands before the fraction of a value (.)")
+    parser.add_argument("--delimiter", default=",", help="the character between the fields; \\t is a tab (,)")
+    parser.add_argument("--decimal", default=".", help="the character before the fraction of a value (.)")
 
 
 def add_time(parser: argparse.ArgumentParser) -> None:
     parser.add_argument("--unit", choices=["s", "ms", "us", "ns"], help="times are numbers since 1970 in this unit, and not ISO 8601")
-    parser.add_argument("--zone", help="the zone of times without an offset, as Europe/Zurich (UTC)")
-    parser.add_argument("--tick", help="the length of a tick, as 1s, 1ms, 1min")
-    parser.add_argument("--origin", help="the moment at which the first tick begins (the midnight before the first reading)")
+    parser.add_argument("--zone", help="the zone of times without an offset, such as Europe/Zurich (UTC)")
+    parser.add_argument("--tick", help="the length of a tick, such as 1s, 1ms or 1min")
+    parser.add_argument("--origin", help="the moment at which the first tick starts (the midnight before the first reading)")
     parser.add_argument("--like", metavar="SERIES", help="take tick, origin and scale from the JSON file beside this series")
     parser.add_argument(
         "--scale",
@@ -90,14 +90,14 @@ def add_time(parser: argparse.ArgumentParser) -> None:
 
 
 def add_convention(parser: argparse.ArgumentParser) -> None:
-    parser.add_argument("--hold", choices=["next"], help="a reading holds until the next one (so it is where --event isn't given)")
+    parser.add_argument("--hold", choices=["next"], help="a reading holds until the next one (the default without --event)")
     parser.add_argument(
         "--max-age",
         nargs="+",
         action="extend",
         metavar="DURATION",
         default=[],
-        help="it holds no longer than this, " "such as 5min; NAME=5min for one series",
+        help="a reading holds no longer than this, " "such as 5min; NAME=5min for one series",
     )
     parser.add_argument("--until", metavar="TIME", help="until when the last reading holds (one tick, or --max-age)")
     parser.add_argument("--event", action="store_true", help="a reading is an event of one tick")
@@ -106,7 +106,7 @@ def add_convention(parser: argparse.ArgumentParser) -> None:
         "--ties",
         choices=TIES,
         default="refuse",
-        help="which of the readings in one tick stands: the last, the first, or " "each, in ticks one after another (refuse)",
+        help="which of the readings in one tick counts: the last, the first, or " "each, in ticks one after another (refuse)",
     )
     parser.add_argument(
         "--null",
@@ -115,7 +115,7 @@ def add_convention(parser: argparse.ArgumentParser) -> None:
         default=[],
         help="texts with commas between them that mean no value, " "such as NaN,-1; empty fields always do",
     )
-    parser.add_argument("--skip-empty", action="store_true", help="a field without a value is no reading at all")
+    parser.add_argument("--skip-empty", action="store_true", help="a field without a value is no reading, and doesn't end the one before")
 
 
 def delimiter_of(text: str) -> str:
@@ -144,7 +144,7 @@ def column(header: list[str], name: str, path: str) -> int:
         other = next((sign for sign in (";", "\t", "|") if len(header) == 1 and sign in header[0]), None)
         cure = f"there are: {', '.join(header)}"
         if other is not None:
-            cure = f"are its fields parted by {other!r}? --delimiter {shlex.quote(TAB if other == chr(9) else other)}"
+            cure = f"are its fields separated by {other!r}? --delimiter {shlex.quote(TAB if other == chr(9) else other)}"
         raise refused_at(path, 1, f"the column {name!r} is {many} in the header; {cure}")
     return header.index(name)
 
@@ -334,7 +334,7 @@ class Converting:
                 self.path,
                 line,
                 f"the name of a file has {LONGEST_NAME} bytes at most, and {notes_path(file)} is longer: "
-                f"take a shorter name than {name!r}, or a shorter key; each byte outside of ASCII counts as three",
+                f"take a shorter name than {name!r}, or a shorter key. Each byte outside of ASCII counts as three",
             )
         for one in (path, notes_path(path)):
             if same_file(one, self.path):
@@ -418,7 +418,7 @@ def pointed(text: str, sign: str) -> str:
     if sign == ".":
         return text
     if "." in text:
-        raise ValueError(f"{text!r} has a point, and --decimal says that {sign!r} stands before the fraction")
+        raise ValueError(f"{text!r} has a point, and --decimal says that {sign!r} is before the fraction")
     return text.replace(sign, ".")
 
 

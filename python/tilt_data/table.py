@@ -21,7 +21,7 @@ from .scales import decimal_text
 SCALE = re.compile(r"[0-9]{1,30}", re.ASCII)
 HELP = """Prints outputs of tilt, or series, with dates and decimals. The clock and the scale are those of the JSON file beside the file,
 or of the series that --like names. A row start,end is the stretch of time from the first to the second; which of its ends belongs to it is
-the `closed` of the series. Where a file begins with key,start,end,value, as of `tilt-data by`, the key stays the first column."""
+the `closed` of the series. If a file starts with key,start,end,value, as from `tilt-data by`, the key stays the first column."""
 
 
 @dataclasses.dataclass
@@ -49,7 +49,7 @@ def add(commands: Any) -> None:
     parser = commands.add_parser("table", help="outputs back to dates and decimals", description=HELP)
     parser.add_argument("files", nargs="+", metavar="[NAME=]FILE", help="outputs of tilt or series; - for standard input")
     parser.add_argument("--like", metavar="SERIES", help="the series whose clock and scale these files have")
-    parser.add_argument("--scale", action="append", metavar="[NAME=]N", default=[], help="values are divided by N, as 1 for a count")
+    parser.add_argument("--scale", action="append", metavar="[NAME=]N", default=[], help="values are divided by N, such as 1 for a count")
     parser.add_argument("--zone", help="the time zone of the dates (that of the series, or UTC)")
     parser.add_argument("--merge", action="store_true", help="join equal neighbours")
     parser.add_argument("--episodes", action="store_true", help="a row for each stretch of rows that follow one another")
@@ -60,10 +60,10 @@ def add(commands: Any) -> None:
         action="extend",
         metavar="NAME=FILE",
         default=[],
-        help="with --episodes: the least, greatest " "and mean value (weighted by time) of these in each episode",
+        help="with --episodes: the smallest, the largest " "and the mean value (weighted by time) of these in each episode",
     )
     parser.add_argument("--wide", action="store_true", help="several files side by side, cut where one of them changes")
-    parser.add_argument("-o", "--out", metavar="FILE", help="where the table is written (standard output)")
+    parser.add_argument("-o", "--out", metavar="FILE", help="the file of the table (standard output)")
     parser.set_defaults(main=main)
 
 
@@ -136,7 +136,7 @@ def main(words: argparse.Namespace) -> int:
     if words.of and not words.episodes or words.gap and not words.episodes:
         raise Refused("--of and --gap go with --episodes")
     if len(words.files) > 1 and not words.wide:
-        raise Refused("several files were named: --wide puts them side by side")
+        raise Refused("several files were named: --wide prints them side by side")
     looks = Looks(words)
     looks.check_names([*words.files, *words.of])
     with writing(words.out) as out:

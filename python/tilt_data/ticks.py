@@ -17,7 +17,7 @@ HELP = """Writes a helper series, with its JSON file beside, on the clock of the
 each: a row of 0 for each tick, so that avg of x + each is weighted by time.
 now: each tick as a value, so that now - last(when[t-100:t]) is an age.
 periods: a row for each period, its value the number of the period from 0.
-hours: 1 while trading is open, as by --open 09:30 --close 16:00 in a time zone, on --days, but for the days of --closed-on.
+hours: 1 while trading is open, such as --open 09:30 --close 16:00 in a time zone, on --days except those of --closed-on.
 weekdays: the day of the week in a time zone, from 1 (Monday) to 7."""
 DAYS = ("mon", "tue", "wed", "thu", "fri", "sat", "sun")
 # Days between these have a day before and two after them, in each zone.
@@ -35,14 +35,14 @@ def add(commands: Any) -> None:
     parser.add_argument("out", metavar="OUT.csv")
     parser.add_argument("--like", metavar="SERIES", required=True, help="the series whose clock it has")
     parser.add_argument("--from", dest="begin", metavar="TIME", required=True, help="ISO 8601, or a tick")
-    parser.add_argument("--to", dest="end", metavar="TIME", required=True)
+    parser.add_argument("--to", dest="end", metavar="TIME", required=True, help="ISO 8601, or a tick")
     parser.add_argument("--every", metavar="DURATION", help="periods: how long one is")
-    parser.add_argument("--open", metavar="HH:MM", help="hours")
-    parser.add_argument("--close", metavar="HH:MM", help="hours; 24:00 for midnight")
-    parser.add_argument("--days", action="append", help="hours: as mon-fri or mon,wed (mon-fri)")
+    parser.add_argument("--open", metavar="HH:MM", help="hours: when trading opens")
+    parser.add_argument("--close", metavar="HH:MM", help="hours: when it closes; 24:00 for midnight")
+    parser.add_argument("--days", action="append", help="hours: days such as mon-fri or mon,wed (mon-fri)")
     parser.add_argument("--closed-on", metavar="DATE", nargs="+", action="extend", default=[], help="hours: days without trading")
-    parser.add_argument("--zone", help="the time zone of hours and weekdays, as America/New_York (UTC)")
-    parser.add_argument("--force", action="store_true", help="replace OUT.csv and its JSON file also if `tilt-data` didn't write them")
+    parser.add_argument("--zone", help="the time zone of hours and weekdays, such as America/New_York (UTC)")
+    parser.add_argument("--force", action="store_true", help="replace OUT.csv and its JSON file even if `tilt-data` didn't write them")
     parser.set_defaults(main=main)
 
 

@@ -277,10 +277,10 @@ def add(commands: Any) -> None:
         "run",
         help="tilt run, and the place of a mistake",
         usage="tilt-data run QUERY NAME=FILE .. [--plain] [--cut TIME,..]",
-        description="Runs `tilt run` with the same words: its output, line and status. Where it refuses, the place stands after its line.",
+        description="Runs `tilt run` with the same arguments: its output, line and status. After an error the place and a fix follow.",
     )
     parser = commands.add_parser(
-        "why", help="why a query is refused", description="Tells why a query is refused, and where; else what " "`tilt explain` prints."
+        "why", help="why a query is rejected", description="Prints why a query is rejected, and where; else what `tilt explain` prints."
     )
     parser.add_argument("query", metavar="QUERY")
     parser.set_defaults(main=why)

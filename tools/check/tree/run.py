@@ -6,7 +6,7 @@
 - crates.txt lists each crate with the libraries that it names, and with no others (`listed.py`).
 - Each edit that a proof has to refuse applies to the code, exactly once (`edits.py`).
 - No line is too long (`lines.py`).
-- The pages have no words of a list, and no long sentences (`style.py`).
+- The pages have no words of a list, and no long sentences (`style.py`), and so have the manual pages, `--help` and messages (`texts.py`).
 
 What is wrong is printed with its file and its line, and how long each of these takes. The Debian packages that are missing are installed,
 if this user may. The last line is 'N passed, M failed', and the status is 1 if one failed."""
@@ -25,6 +25,7 @@ from check.tree.lines import check_lines
 from check.tree.listed import check_listed
 from check.tree.python_files import check_python
 from check.tree.style import check_style
+from check.tree.texts import check_texts
 from shared.paths import TOP
 from shared.tally import Tally
 
@@ -34,6 +35,7 @@ CHECKS: dict[str, Callable[[str, Tally], None]] = {
     "lines": check_lines,
     "crates.txt": check_listed,
     "style": check_style,
+    "texts": check_texts,
     "Python": check_python,
 }
 

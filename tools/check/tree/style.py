@@ -140,11 +140,15 @@ def long_sentences(piece: Piece) -> Iterator[Fault]:
             yield Fault(sentence.line, f"a sentence of {len(words)} words, \"{' '.join(words[:5])} ..\": split it")
 
 
+def faults_of_pieces(pieces: Iterable[Piece]) -> list[Fault]:
+    """What is wrong with pieces of text without code, line by line."""
+    return sorted(fault for piece in pieces for find in (words_of, long_sentences) for fault in find(piece))
+
+
 def faults_of(path: str) -> list[Fault]:
     """What is wrong with a page, line by line."""
     with open(path, encoding="utf-8") as file:
-        pieces = [Piece(piece.line, without_code(piece.text)) for piece in pieces_of(file.read().split("\n"))]
-    return sorted(fault for piece in pieces for find in (words_of, long_sentences) for fault in find(piece))
+        return faults_of_pieces(Piece(piece.line, without_code(piece.text)) for piece in pieces_of(file.read().split("\n")))
 
 
 def other_pages(top: str, pages: list[str]) -> list[str]:
