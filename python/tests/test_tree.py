@@ -5,7 +5,7 @@ import pathlib
 from typing import Callable
 
 import pytest
-from check.tree import architecture, edits, lines, listed, python_files, style
+from check.tree import architecture, edits, lines, listed, python_files, style, texts
 from shared import crates
 from shared.packages import has_module
 from shared.tally import Tally
@@ -398,6 +398,70 @@ def test_a_page_of_the_list_that_is_gone(tree):
     style.check_style(str(tree.top), tally, ["docs/NONE.md"])
     assert tally.failed == 1
     assert tree.capsys.readouterr().out == "docs/NONE.md:1: there is no such page (PAGES in tools/check/tree/style.py)\n"
+
+
+MANUAL = r""".TH A 1 2026-11-30
+.SH NAME
+a \- one
+.TP
+.B stands
+is a name, as
+.BR tells ,
+and
+.IB NAME = told
+.PP
+.nf
+It stands.
+.fi
+What was
+told \fBputs\fR.
+.RB anew puts
+"""
+
+
+def test_words_of_a_manual_page(tree):
+    tree.write("docs/b.1", ".SH B\nA text.\n")
+    tree.write("docs/a.1", MANUAL)
+    assert tree.faults(texts.check_texts) == [
+        'docs/a.1:15: "told": write prints, reports, shows or means',
+        'docs/a.1:16: "anew": write again',
+    ]
+
+
+def test_a_long_sentence_of_a_manual_page(tree):
+    tree.write("docs/b.1", ".SH B\nA text.\n")
+    tree.write("docs/a.1", ".SH A\nOne.\nThen\n" + ".B one\n" * 30 + ".PP\nLast.\n")
+    assert tree.faults(texts.check_texts) == ['docs/a.1:3: a sentence of 31 words, "Then CODE CODE CODE CODE ..": split it']
+
+
+MODULE = '''"""It tells what stands where."""
+HELP = """A text on
+what stands there."""
+
+
+def told(name):
+    """It tells what stands where."""
+    short = "it stands"
+    raise Refused(f"{short}: the file {name} " "stands elsewhere, and " + "what it tells is wrong")
+'''
+
+
+def test_words_of_a_module(tree):
+    tree.write("python/tilt_data/two.py", "two = 2\n")
+    tree.write("python/tilt_data/one.py", MODULE)
+    place = "python/tilt_data/one.py"
+    assert tree.faults(texts.check_texts) == [
+        f'{place}:3: "stands": write is, is in or remains',
+        f'{place}:9: "stands": write is, is in or remains',
+        f'{place}:9: "tells": write prints, reports, shows or means',
+    ]
+
+
+def test_lines_of_a_text_are_sentences(tree):
+    one = "one " * 20
+    tree.write("python/tilt_data/two.py", "two = 2\n")
+    tree.write("python/tilt_data/one.py", f'HELP = """each: {one}two.\nnow: {one}two.\nLast: {"one " * 31}"""\n')
+    assert [fault.partition(", ")[0] for fault in tree.faults(texts.check_texts)] == ["python/tilt_data/one.py:1: a sentence of 32 words"]
 
 
 CONFIGURATION = '[tool.black]\nline-length = 140\n[tool.mypy]\nstrict = true\nfiles = ["tools"]\n'

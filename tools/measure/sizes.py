@@ -488,9 +488,9 @@ def main() -> int:
     many = try_words(program, limits, tally) if given.only in "words" else []
     bad = [try_bad(each, program, sizes, limits, tally) for each in bad_inputs() if given.only in each.what]
     tables = {
-        "sizes words": markdown(["words", "told", "time and memory"], many),
+        "sizes words": markdown(["arguments", "reported", "time and memory"], many),
         "sizes good": markdown(["input", "its file", "command", "time and memory"], good),
-        "sizes bad": markdown(["input", "told", *(f"{size} MB" for size in sizes), "growth"], bad),
+        "sizes bad": markdown(["input", "reported", *(f"{size} MB" for size in sizes), "growth"], bad),
     }
     for name, table in tables.items():
         print(table)

@@ -12,7 +12,7 @@ HEADS = [
     "calls",
     "faults",
     "done all the same",
-    "told",
+    "reported",
     "memory refused",
     "kills",
     "old bytes after",
@@ -46,11 +46,11 @@ def row_of(name: str, clean: Clean, tally: FaultTally) -> list[str]:
     faults, survived, told, refusals, wanting, kills, old, new, wrong = (str(tally.seen.get((name, what), 0)) for what in SEEN)
     held_after = [old, new] if any(call.part == "save" for call in clean.calls) else ["", ""]
     calls = f"{len(clean.calls)}, {files} of files"
-    return [f"`{name}`", calls, faults, survived, told, f"{refusals}, {wanting} told", kills, *held_after, wrong]
+    return [f"`{name}`", calls, faults, survived, told, f"{refusals}, {wanting} reported", kills, *held_after, wrong]
 
 
 def table(cleans: dict[str, Clean], tally: FaultTally) -> str:
     cases = markdown(HEADS, [row_of(name, clean, tally) for name, clean in cleans.items()])
     besides = [[kind, str(len(ends)), str(sum(ends))] for kind, ends in sorted(tally.kinds.items()) if kind]
     all_cases = f"In all {tally.passed} cases passed, {tally.failed} failed, and {len(tally.left_out)} kinds of cases were left out.\n"
-    return "\n".join([cases, markdown(["besides", "cases", "passed"], besides), all_cases])
+    return "\n".join([cases, markdown(["also", "cases", "passed"], besides), all_cases])

@@ -14,8 +14,9 @@ from shared.tally import Tally
 
 PAGES = ["README.md", "CONTRIBUTING.md", "CHANGELOG.md"]
 PAGES += [f"docs/{name}.md" for name in ("COMMANDS", "COMPARED", "COOKBOOK", "DATA", "ERRORS", "GLOSSARY", "INSTALL")]
-PAGES += [f"docs/{name}.md" for name in ("LANGUAGE", "LIVE", "OPERATORS", "PERFORMANCE", "PYTHON", "RELEASES", "RELIABILITY")]
-PAGES += [f"docs/{name}.md" for name in ("RUNNING_SESSIONS", "SCALE", "TUTORIAL")]
+PAGES += [f"docs/{name}.md" for name in ("LANGUAGE", "LIVE", "OPERATORS", "OPTIONS", "PERFORMANCE", "PYTHON", "RELEASES")]
+PAGES += [f"docs/{name}.md" for name in ("RELIABILITY", "RUNNING_SESSIONS", "SCALE", "SEMANTICS", "TUTORIAL")]
+PAGES += [f"docs/internals/{name}.md" for name in ("EMBEDDING", "MEANING", "MEASUREMENTS")]
 PAGES += [f"examples/{name}/README.md" for name in ("clinical", "fleet", "sensors", "trading")]
 ALL_PAGES = ["*.md", "docs/*.md", "docs/internals/*.md", "examples/*/README.md"]
 MOST_WORDS = 30

@@ -40,7 +40,7 @@ def text_of(line: str) -> str:
     if macro in NAMES or macro not in ROMAN:
         return CODE
     shown = [unescaped(first or second) for first, second in ARGUMENT.findall(rest)]
-    return "".join(one if at % 2 == ROMAN[macro] else CODE for at, one in enumerate(shown))
+    return " ".join(one if at % 2 == ROMAN[macro] else CODE for at, one in enumerate(shown))
 
 
 def pieces_of_manual(text: str) -> Iterator[Piece]:
