@@ -115,6 +115,7 @@ def test_what_is_in_it(root):
         "doc/tilt-stream/copyright",
         "doc/tilt-stream/docs/DATA.md",
         "doc/tilt-stream/docs/internals/PROVED.md",
+        "doc/tilt-stream/docs/pictures/window.svg",
         "doc/tilt-stream/CHANGELOG.md",
         "bash-completion/completions/tilt-live",
         "bash-completion/completions/tilt-data",

@@ -101,6 +101,7 @@ def lay_out(root: str, programs: dict[str, str]) -> None:
         for page in sorted(os.listdir(os.path.join(TOP, folder))):
             if page.endswith(".md"):
                 put(root, f"{DOC}/{folder}/{page}", text_of(folder, page))
+    shutil.copytree(os.path.join(TOP, "docs", "pictures"), os.path.join(root, DOC, "docs", "pictures"))
     for name in [*programs, *NAMES.values(), "tilt-data"]:
         put(root, f"usr/share/bash-completion/completions/{name}", text_of("tools", "package", "completion"))
 
