@@ -78,16 +78,15 @@ def add(commands: Any) -> None:
         "--skip-bad", action="store_true", help="a line that can't be taken is reported, written to rejected.log in the folder, and skipped"
     )
     parser.add_argument("--quiet", action="store_true", help="print nothing: output.csv has it")
-    parser.add_argument(
-        "--unit", choices=["s", "ms", "us", "ns"], help="of readings: this option and the next ones are as in `tilt-data series`"
-    )
+    same = "of readings, as in `tilt-data series`"
+    parser.add_argument("--unit", choices=["s", "ms", "us", "ns"], help=same)
     for option in ("--zone", "--tick", "--origin", "--like", "--max-age", "--until"):
-        parser.add_argument(option)
-    parser.add_argument("--scale", type=int)
-    parser.add_argument("--event", action="store_true")
-    parser.add_argument("--closed", choices=["left", "right"])
-    parser.add_argument("--ties", choices=TIES, default="refuse")
-    parser.add_argument("--null", default="")
+        parser.add_argument(option, help=same)
+    parser.add_argument("--scale", type=int, help=f"{same}, but one whole number for all inputs")
+    parser.add_argument("--event", action="store_true", help=same)
+    parser.add_argument("--closed", choices=["left", "right"], help=same)
+    parser.add_argument("--ties", choices=TIES, default="refuse", help=same)
+    parser.add_argument("--null", default="", help=same)
     parser.set_defaults(main=main)
     parser.parse_known_args = functools.partial(with_later_files, parser.parse_known_args)
 

@@ -106,7 +106,8 @@ def add_convention(parser: argparse.ArgumentParser) -> None:
         "--ties",
         choices=TIES,
         default="refuse",
-        help="which of the readings in one tick counts: the last, the first, or " "each, in ticks one after another (refuse)",
+        help="which of the readings in one tick counts: the last, the first, or "
+        "each, in ticks one after another. With refuse they are an error (refuse)",
     )
     parser.add_argument(
         "--null",
