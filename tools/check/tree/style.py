@@ -12,7 +12,7 @@ from typing import Iterable, Iterator, NamedTuple
 
 from shared.tally import Tally
 
-PAGES = ["README.md", "CONTRIBUTING.md", "CHANGELOG.md"]
+PAGES = ["README.md", "CONTRIBUTING.md", "CHANGELOG.md", "docs/README.md"]
 PAGES += [f"docs/{name}.md" for name in ("COMMANDS", "COMPARED", "COOKBOOK", "DATA", "ERRORS", "GLOSSARY", "INSTALL")]
 PAGES += [f"docs/{name}.md" for name in ("LANGUAGE", "LIVE", "OPERATORS", "OPTIONS", "PERFORMANCE", "PYTHON", "RELEASES")]
 PAGES += [f"docs/{name}.md" for name in ("RELIABILITY", "RUNNING_SESSIONS", "SCALE", "SEMANTICS", "TUTORIAL")]
