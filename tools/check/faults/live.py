@@ -1,0 +1,251 @@
+#!/usr/bin/env python3
+"""Runs `tilt-live` under `strace` once for each call to the system that it makes, and each time that call fails, is interrupted, or the
+program is killed at it: `tools/check/faults/live.py [--program PATH] [--jobs N]`.
+
+The feed comes through a pipe whose packets are lines, so each line is a read of its own. What has to be left is that of docs/LIVE.md:
+
+- If a read of the feed fails, the status is 3, and exactly the output and the reports for the lines before it were written.
+- If a write or a flush of the output fails, the status is 4, and a prefix of the output was written, with all that was handed on before.
+- If a report can't be written, nothing else changes. What is interrupted is tried again.
+- If the query can't be read, the status is 3, and nothing is written.
+- If the program is killed, the output is a prefix, with all that the lines before the last read made final.
+- If there is no memory from a call on, the status is 5, or it was enough.
+
+Without strace, or if tracing isn't allowed, all cases are left out. The last line is 'N passed, M failed', and the status is 1 if one
+failed."""
+from __future__ import annotations
+
+import argparse
+import concurrent.futures
+import dataclasses
+import fcntl
+import os
+import signal
+import subprocess
+import sys
+import tempfile
+from functools import partial
+from typing import Callable, Iterator, Sequence
+
+sys.path.insert(0, os.path.dirname(os.path.dirname(os.path.dirname(os.path.realpath(__file__)))))
+
+from check.faults.calls import AGAIN, BEGINNING, MEMORY, OPENS, READS, WRITES, Numbered, numbered_calls
+from check.faults.run import missing, no_tracing
+from check.faults.running import SECONDS
+from shared.packages import install
+from shared.program import build_program, built_program
+from shared.tally import Tally
+
+QUERY = "input load;\ninput limit;\nemit load - limit over (0, 40];\n"
+LINES = ["load,0,4,3\n", "limit,0,,5\n", ",,4,\n", "lod,4,6,1\n", "load,4,,9\n", ",,12,\n", "load,2,3,1\n", "load,12,,2\n", ",,20,\n", ",,,\n"]
+OPTIONS = {"plain output": [], "with what has begun": ["--begun"]}
+ERRORS = ["EIO", "ENOSPC", "EINTR", "EMFILE"]
+
+
+@dataclasses.dataclass(frozen=True)
+class End:
+    """What a run leaves. The status is None if it took too long."""
+
+    status: int | None
+    out: str
+    err: str
+    trace: str
+
+
+@dataclasses.dataclass(frozen=True)
+class Call:
+    """A call of the program itself: its name, which one of this name it is, what it has to do with, and how many lines were read before."""
+
+    name: str
+    count: int
+    part: str
+    lines: int
+
+    def __str__(self) -> str:
+        return f"{self.name} {self.count} ({self.part or 'something else'}) after {self.lines} lines"
+
+
+@dataclasses.dataclass(frozen=True)
+class Clean:
+    """The runs of a case without faults: what is written for the first lines, as many as the place, and the calls of the last run."""
+
+    words: list[str]
+    out: list[str]
+    err: list[str]
+    calls: list[Call]
+    numbered: Numbered
+
+
+def run(words: Sequence[str], lines: Sequence[str], options: Sequence[str]) -> End:
+    """Runs the program under strace in a folder of its own. Each line is a packet of its pipe."""
+    with tempfile.TemporaryDirectory(prefix="faults.") as folder:
+        with open(os.path.join(folder, "q"), "w", encoding="ascii") as file:
+            file.write(QUERY)
+        source, sink = os.pipe2(os.O_DIRECT)
+        fcntl.fcntl(sink, fcntl.F_SETPIPE_SZ, 4096 * (len(lines) + 1))
+        for line in lines:
+            os.write(sink, line.encode())
+        os.close(sink)
+        trace = os.path.join(folder, "trace")
+        traced = ["strace", "-f", "-qq", "-y", "-o", trace, *options, "--", *words]
+        with open(source, "rb") as feed:
+            process = subprocess.Popen(traced, cwd=folder, stdin=feed, stdout=subprocess.PIPE, stderr=subprocess.PIPE, text=True)
+            try:
+                out, err = process.communicate(timeout=SECONDS)
+            except subprocess.TimeoutExpired:
+                process.kill()
+                return End(None, "", "", "")
+        with open(trace, encoding="utf-8", errors="replace") as file:
+            return End(process.returncode, out, err, file.read())
+
+
+def part_of(name: str, rest: str) -> str:
+    if name in OPENS and '"q"' in rest or name in READS and "/q>" in rest.split(",")[0]:
+        return "query"
+    parts = {"0<": "feed", "1<": "output", "2<": "reports"}
+    return next((part for start, part in parts.items() if name in READS + WRITES and rest.startswith(start)), "")
+
+
+def own_calls(numbered: Numbered) -> Iterator[Call]:
+    """The calls of the program itself, from the first one that opens the query on."""
+    first = next(at for at, (name, _, rest) in enumerate(numbered) if part_of(name, rest) == "query")
+    lines = 0
+    for name, count, rest in numbered[first:]:
+        part = part_of(name, rest)
+        yield Call(name, count, part, lines)
+        lines += part == "feed" and not rest.endswith(" = 0")
+
+
+def clean_of(words: list[str], tally: Tally) -> Clean | None:
+    ends = [run(words, LINES[:count], []) for count in range(len(LINES) + 1)]
+    wrong = [end for end in ends if end.status != 0]
+    tally.expect(not wrong, f"{words} without a fault: {wrong[:1]}")
+    if wrong:
+        return None
+    numbered = numbered_calls(ends[-1].trace)
+    return Clean(words, [end.out for end in ends], [end.err for end in ends], list(own_calls(numbered)), numbered)
+
+
+# What has to be left.
+
+
+def expected(clean: Clean, call: Call, error: str) -> str:
+    """The status, the output and standard error after a fault of a call, each as what it has to be."""
+    whole = (0, clean.out[-1], clean.err[-1])
+    if error == "EINTR" and call.name in AGAIN or call.part == "reports":
+        return shown(whole)
+    if call.part == "feed":
+        return shown((3, clean.out[call.lines], clean.err[call.lines] + "tilt: 4 read fault: -\n"))
+    if call.part == "query":
+        return shown((3, "", "tilt: 4 read fault: q\n"))
+    return shown(whole)
+
+
+def shown(end: tuple[int | None, str, str]) -> str:
+    return "status {}, output {!r}, errors {!r}".format(*end)
+
+
+def wrong_end(clean: Clean, call: Call, error: str, end: End) -> str | None:
+    """What is wrong with a run in which a call failed, or None."""
+    if "(INJECTED)" not in end.trace:
+        return "the fault didn't come"
+    if call.part == "output" and error != "EINTR":
+        return None if is_write_fault(clean, call, end) else f"a write fault: {shown((end.status, end.out, end.err))}"
+    if call.part == "reports" and error != "EINTR":
+        # The report itself is lost.
+        came = (end.status, end.out, end.err)
+        lost = [line for line in clean.err[-1].splitlines(True) if line not in end.err]
+        return None if came[:2] == (0, clean.out[-1]) and len(lost) <= 1 else f"came {shown(came)}"
+    came, wanted = shown((end.status, end.out, end.err)), expected(clean, call, error)
+    # What has to do with no file may fail as it likes, if it is reported.
+    if came == wanted or not call.part and end.status in (3, 4, 5) and clean.out[-1].startswith(end.out):
+        return None
+    return f"wanted {wanted}, came {came}"
+
+
+def is_write_fault(clean: Clean, call: Call, end: End) -> bool:
+    """Whether a run ended by a write fault after a prefix of the output: all that was handed on before the last line was read, at least."""
+    before = clean.out[max(call.lines - 1, 0)] if call.lines else ""
+    reported = end.err.endswith("tilt: 5 write fault\n") and clean.err[-1].startswith(end.err.removesuffix("tilt: 5 write fault\n"))
+    return end.status == 4 and clean.out[-1].startswith(end.out) and len(end.out) >= len(before) and reported
+
+
+# What is tried.
+
+
+def try_fault(clean: Clean, call: Call, error: str, tally: Tally) -> None:
+    end = run(clean.words, LINES, ["-e", f"inject={call.name}:error={error}:when={call.count}"])
+    wrong = wrong_end(clean, call, error, end)
+    tally.expect(wrong is None, f"{clean.words[1:]}: {error} at {call}: {wrong}")
+
+
+def try_kill(clean: Clean, call: Call, tally: Tally) -> None:
+    end = run(clean.words, LINES, ["-e", f"inject={call.name}:signal=KILL:when={call.count}"])
+    before = clean.out[max(call.lines - 1, 0)] if call.lines else ""
+    good = end.status in (-signal.SIGKILL, 128 + signal.SIGKILL)
+    good = good and clean.out[-1].startswith(end.out) and clean.err[-1].startswith(end.err) and len(end.out) >= len(before)
+    tally.expect(good, f"{clean.words[1:]}: killed at {call}: {shown((end.status, end.out, end.err))}")
+
+
+def try_no_memory(clean: Clean, counts: dict[str, int], tally: Tally) -> None:
+    """From the call on no memory is given."""
+    refusals = {name: f"{'retval=0' if name == 'brk' else 'error=ENOMEM'}:when={count}+" for name, count in counts.items()}
+    end = run(clean.words, LINES, [word for name, refusal in refusals.items() for word in ("-e", f"inject={name}:{refusal}")])
+    enough = (end.status, end.out, end.err) == (0, clean.out[-1], clean.err[-1])
+    # Before the program has begun it can't report anything.
+    early = end.status in (5, 7) and (end.out, end.err) == ("", "")
+    lacking = end.status == 5 and clean.out[-1].startswith(end.out) and end.err.endswith("tilt: 7 out of memory\n")
+    tally.expect(enough or early or lacking, f"{clean.words[1:]}: no memory from {counts} on: {shown((end.status, end.out, end.err))}")
+
+
+def demands_of(clean: Clean) -> Iterator[dict[str, int]]:
+    """For each call of the program itself that asks for memory: which call of each kind is the next one there."""
+    first = own = next(at for at, (name, _, rest) in enumerate(clean.numbered) if part_of(name, rest) == "query")
+    while first > 0 and clean.numbered[first - 1][0] in BEGINNING:
+        first -= 1
+    counts = {name: 1 + sum(other == name for other, _, _ in clean.numbered[:first]) for name in MEMORY}
+    for at, (name, _, _) in enumerate(clean.numbered[first:], first):
+        if name in MEMORY:
+            if at >= own:
+                yield dict(counts)
+            counts[name] += 1
+
+
+def trials_of(clean: Clean, tally: Tally) -> Iterator[Callable[[], None]]:
+    for counts in demands_of(clean):
+        yield partial(try_no_memory, clean, counts, tally)
+    for call in clean.calls:
+        if call.name == "exit_group":
+            continue
+        yield partial(try_kill, clean, call, tally)
+        if call.name in AGAIN:
+            for error in ERRORS:
+                yield partial(try_fault, clean, call, error, tally)
+
+
+def main() -> int:
+    words = argparse.ArgumentParser(description="Tries each fault of the system on tilt-live.")
+    words.add_argument("--program", help="another program than the built one")
+    words.add_argument("--jobs", type=int, default=len(os.sched_getaffinity(0)), help="how many runs go at once")
+    given = words.parse_args()
+    if given.program is None:
+        build_program("tilt-live")
+    program = os.path.abspath(given.program or built_program("tilt-live"))
+    tally = Tally()
+    install(missing())
+    why_not = no_tracing()
+    if why_not is not None:
+        print(f"left out: all faults of tilt-live: {why_not}")
+        return tally.end()
+    trials: list[Callable[[], None]] = []
+    for options in OPTIONS.values():
+        clean = clean_of([program, "q", *options], tally)
+        trials += [] if clean is None else trials_of(clean, tally)
+    with concurrent.futures.ThreadPoolExecutor(given.jobs) as pool:
+        for done in [pool.submit(trial) for trial in trials]:
+            done.result()
+    return tally.end()
+
+
+if __name__ == "__main__":
+    sys.exit(main())
