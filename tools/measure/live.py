@@ -1,6 +1,6 @@
 #!/usr/bin/env python3
-"""Counts the instructions of `tilt-live` for each row of a feed, beside those of `tilt run` on the same rows: `tools/measure/live.py [--table]
-[--only WORD] [--functions N]`.
+"""Counts the instructions of `tilt-live` for each row of a feed, beside those of `tilt run` on the same rows:
+`tools/measure/live.py [--table] [--only WORD] [--functions N]`.
 
 The works and their rows are those of tools/measure/work.py. The feed has the rows of all inputs in the order of their ends, and then `,,,`.
 `tilt run` reads and prints them too. It is also counted how the work grows with the width of a window, and if one input is far ahead of

@@ -77,7 +77,8 @@ module _ (core : CoreParts) (options : RunOptions) (bytes : List ℕ) where
         taken-append options.strict options.watermarks core.inputs n s (new_lines bytes p) (new_lines (bytes ++ p) q) none,
         all,
         news-append options core n s (new_lines bytes p)
-            (taken_from options.strict options.watermarks core.inputs (number_after n (new_lines bytes p)) (after_lines options.watermarks core.inputs n s (new_lines bytes p)) (new_lines (bytes ++ p) q)),
+            (taken_from options.strict options.watermarks core.inputs (number_after n (new_lines bytes p))
+            (after_lines options.watermarks core.inputs n s (new_lines bytes p)) (new_lines (bytes ++ p) q)),
         number-more bytes p,
         state-more options core bytes p,
       ) refl

@@ -126,8 +126,8 @@ impl LiveRun {
 
     // Takes a piece, and writes nothing yet.
     fn take_piece<E: Sink>(&mut self, piece: &[u8], err: &mut E) -> Result<(), Stop>
-        requires is { (accepted : AcceptedParts) × (options : RunOptions) × (number : ℕ) × (state : FeedState) × (front : List ℕ) × (given : ℕ)
-            × IsRunAfter self.old accepted options number state front given }
+        requires is { (accepted : AcceptedParts) × (options : RunOptions) × (number : ℕ) × (state : FeedState) × (front : List ℕ)
+            × (given : ℕ) × IsRunAfter self.old accepted options number state front given }
         requires lines { (n : ℕ) → E.takes err.old n }
         ensures taken { (accepted : AcceptedParts) (options : RunOptions) (number : ℕ) (state : FeedState) (front : List ℕ) (given : ℕ)
             → IsRunAfter self.old accepted options number state front given
@@ -148,8 +148,8 @@ impl LiveRun {
 
     // Takes the last bytes of a line, before its LF.
     fn take_end<E: Sink>(&mut self, end: &[u8], err: &mut E) -> Result<(), Stop>
-        requires is { (accepted : AcceptedParts) × (options : RunOptions) × (number : ℕ) × (state : FeedState) × (front : List ℕ) × (given : ℕ)
-            × IsRunAfter self.old accepted options number state front given }
+        requires is { (accepted : AcceptedParts) × (options : RunOptions) × (number : ℕ) × (state : FeedState) × (front : List ℕ)
+            × (given : ℕ) × IsRunAfter self.old accepted options number state front given }
         requires lines { (n : ℕ) → E.takes err.old n }
         ensures taken { (accepted : AcceptedParts) (options : RunOptions) (number : ℕ) (state : FeedState) (front : List ℕ) (given : ℕ)
             → IsRunAfter self.old accepted options number state front given

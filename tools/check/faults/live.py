@@ -37,8 +37,23 @@ from shared.program import build_program, built_program
 from shared.tally import Tally
 
 QUERY = "input load;\ninput limit;\nemit load - limit over (0, 40];\n"
-LINES = ["load,0,4,3\n", "limit,0,,5\n", ",,4,\n", "lod,4,6,1\n", "load,4,,9\n", ",,12,\n", "load,2,3,1\n", "load,12,,2\n", ",,20,\n", ",,,\n"]
-OPTIONS = {"plain output": [], "with what has begun": ["--begun"]}
+LINES = [
+    "load,0,4,3\n",
+    "limit,0,,5\n",
+    ",,4,\n",
+    "lod,4,6,1\n",
+    "load,4,,9\n",
+    ",,12,\n",
+    "load,2,3,1\n",
+    "load,12,,2\n",
+    ",,20,\n",
+    ",,,\n",
+]
+OPTIONS: dict[str, list[str]] = {
+    "plain output": [],
+    "with what has begun": ["--begun"],
+    "out of order": ["--lateness", "3", "--idle", "30"],
+}
 ERRORS = ["EIO", "ENOSPC", "EINTR", "EMFILE"]
 
 
@@ -142,7 +157,8 @@ def expected(clean: Clean, call: Call, error: str) -> str:
 
 
 def shown(end: tuple[int | None, str, str]) -> str:
-    return "status {}, output {!r}, errors {!r}".format(*end)
+    status, out, err = end
+    return f"status {status}, output {out!r}, errors {err!r}"
 
 
 def wrong_end(clean: Clean, call: Call, error: str, end: End) -> str | None:
@@ -156,11 +172,11 @@ def wrong_end(clean: Clean, call: Call, error: str, end: End) -> str | None:
         came = (end.status, end.out, end.err)
         lost = [line for line in clean.err[-1].splitlines(True) if line not in end.err]
         return None if came[:2] == (0, clean.out[-1]) and len(lost) <= 1 else f"came {shown(came)}"
-    came, wanted = shown((end.status, end.out, end.err)), expected(clean, call, error)
+    ended, wanted = shown((end.status, end.out, end.err)), expected(clean, call, error)
     # What has to do with no file may fail as it likes, if it is reported.
-    if came == wanted or not call.part and end.status in (3, 4, 5) and clean.out[-1].startswith(end.out):
+    if ended == wanted or not call.part and end.status in (3, 4, 5) and clean.out[-1].startswith(end.out):
         return None
-    return f"wanted {wanted}, came {came}"
+    return f"wanted {wanted}, came {ended}"
 
 
 def is_write_fault(clean: Clean, call: Call, end: End) -> bool:
@@ -240,7 +256,8 @@ def main() -> int:
     trials: list[Callable[[], None]] = []
     for options in OPTIONS.values():
         clean = clean_of([program, "q", *options], tally)
-        trials += [] if clean is None else trials_of(clean, tally)
+        if clean is not None:
+            trials += trials_of(clean, tally)
     with concurrent.futures.ThreadPoolExecutor(given.jobs) as pool:
         for done in [pool.submit(trial) for trial in trials]:
             done.result()

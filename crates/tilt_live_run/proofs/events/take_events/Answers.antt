@@ -17,7 +17,8 @@ loop-event-preserved c = record {
   of = λ accepted feed given is.
       let within : c.loop-event.event-index < length c.args.events.now = search rules in
       let before = c.loop-event.invariant.of accepted feed given is in
-      (_, c.in_ok-take_event.ensures.taken accepted before.0 given before.1, ap (λ (list : List Event). after_all list before.0) (sym (drop_more c.args.events.now c.loop-event.event-index _ within)) ∙ before.2);
+      let next = drop_more c.args.events.now c.loop-event.event-index _ within in
+      (_, c.in_ok-take_event.ensures.taken accepted before.0 given before.1, ap (λ (list : List Event). after_all list before.0) (sym next) ∙ before.2);
   live = λ is. c.take_event.ensures.live (c.loop-event.invariant.live is);
 }
 
