@@ -12,7 +12,7 @@ use Rattle.std.specs.Prelude.{option_and_then, option_map}
 use Rattle.tilt_cli.specs.Arguments.{ArgumentsValue, no_arguments, AreArguments}
 use Rattle.tilt_cli.specs.Command.{CommandValue, IsCommand, IsFile, IsFileCommand, IsTry, IsWithin, command_of, command_with, texts, with_file}
 use Rattle.tilt_cli.specs.Legal.{command_of_table}
-use Rattle.tilt_cli.specs.Tables.{CommandEntry}
+use Rattle.tilt_cli.specs.Tables.{CommandEntry, options}
 use Rattle.tilt_cli.proofs.Within.{within}
 use Rattle.tilt_cli.proofs.OneCommand.{called_with, one_command, only_try, only_file}
 
@@ -29,7 +29,7 @@ two_texts (w ∷ v ∷ ws) a b x y some p q e f =
     λ i. first i ∷ second i ∷ sym (ap texts rest) i
 
 -- no row of the table has the first word and can have the arguments: the words are no command that has a file
-pub not_called : (name file : List ℕ) (rest : List (List ℕ)) (given : ArgumentsValue) → AreArguments no_arguments rest given →
+pub not_called : (name file : List ℕ) (rest : List (List ℕ)) (given : ArgumentsValue) → AreArguments options no_arguments rest given →
     command_of_table name given ≡ None → (command : CommandValue) → IsFileCommand (name ∷ file ∷ rest) command → ⊥
 not_called name file rest given are none command is =
     let called = called_with name file rest given are command is in
@@ -37,7 +37,7 @@ not_called name file rest given are none command is =
 
 -- a row does: the words are the command that it makes
 pub called : (name file : List ℕ) (rest : List (List ℕ)) (given : ArgumentsValue) (row : CommandEntry) (result : Option Command) → IsFile file →
-    AreArguments no_arguments rest given → command_of_table name given ≡ Some row → option_map command_of result ≡ command_with row.form file given →
+    AreArguments options no_arguments rest given → command_of_table name given ≡ Some row → option_map command_of result ≡ command_with row.form file given →
     MatchResult (ok_or result Usage) (λ command. IsFileCommand (name ∷ file ∷ rest) (command_of command))
     (λ fault. fault ≡ Usage → (command : CommandValue) → ¬ (IsFileCommand (name ∷ file ∷ rest) command))
 called name file rest given row (Some command) is_file are named made = record {

@@ -9,7 +9,7 @@ use Rattle.tilt_cli.specs.Binding.{Binding, IsBinding, binding_spelled}
 use Rattle.tilt_cli.specs.Command.{CommandValue, IsCommand, IsFile, IsFileCommand, command_called, try, with_file, tries}
 use Rattle.tilt_cli.specs.Number.{IsNumber}
 use Rattle.tilt_cli.specs.Options.{IsValue, flag, is_set}
-use Rattle.tilt_cli.specs.Tables.{OptionEntry, option_of}
+use Rattle.tilt_cli.specs.Tables.{OptionEntry, option_of, options}
 use Rattle.tilt_cli.specs.declared.option_table.Shape.{Shape}
 use Rattle.tilt_cli.specs.declared.option_table.Shape.TheVariants as shape
 use Rattle.tilt_cli.proofs.Answered.{try_texts}
@@ -22,21 +22,21 @@ known_binding binding =
     known_as (λ (h : IsWord binding.name × (binding.file ≢ [])). record { named = h.0; file_named = h.1 }) (λ is. (is.named, is.file_named))
     (both (same_bools (is_word binding.name) true) (some_bytes binding.file))
 
-record Begun (old : ArgumentsValue) (words : List (List ℕ)) : Type 0 where
+record Begun (table : List OptionEntry) (old : ArgumentsValue) (words : List (List ℕ)) : Type 0 where
   new : ArgumentsValue
   rest : List (List ℕ)
-  begins : Begins old words new rest
+  begins : Begins table old words new rest
   shorter : length rest < length words
 
-abbrev MayBegin : ArgumentsValue → List (List ℕ) → Type 0
-MayBegin old words = Begun old words ⊎ ((new : ArgumentsValue) (rest : List (List ℕ)) → Begins old words new rest → ⊥)
+abbrev MayBegin : List OptionEntry → ArgumentsValue → List (List ℕ) → Type 0
+MayBegin table old words = Begun table old words ⊎ ((new : ArgumentsValue) (rest : List (List ℕ)) → Begins table old words new rest → ⊥)
 
 known_flag : (form : Shape) → Known (form ≡ shape.Flag)
 known_flag shape.Flag = inl refl
 known_flag form = inr (λ e. cc)
 
-module _ (old : ArgumentsValue) (word : List ℕ) where
-  by_bind : (tail : List (List ℕ)) → option_of word ≡ None → MayBegin old (word ∷ tail)
+module _ (table : List OptionEntry) (old : ArgumentsValue) (word : List ℕ) where
+  by_bind : (tail : List (List ℕ)) → option_of table word ≡ None → MayBegin table old (word ∷ tail)
   by_bind tail no_option =
       elim (known_binding (binding_spelled word)) [
         | inl is ↦ inl (record {
@@ -48,12 +48,12 @@ module _ (old : ArgumentsValue) (word : List ℕ) where
         | inr none ↦ inr (λ new rest begins. none (after_bind begins word tail refl no_option).0)
       ]
 
-  module _ (row : OptionEntry) (named : option_of word ≡ Some row) where
-    by_flag : (tail : List (List ℕ)) → is_set word old.settings ≡ false → row.shape ≡ shape.Flag → MayBegin old (word ∷ tail)
+  module _ (row : OptionEntry) (named : option_of table word ≡ Some row) where
+    by_flag : (tail : List (List ℕ)) → is_set word old.settings ≡ false → row.shape ≡ shape.Flag → MayBegin table old (word ∷ tail)
     by_flag tail fresh form =
         inl (record { new = with_setting old word flag; rest = tail; begins = argument.alone named fresh form; shorter = omega arith })
 
-    by_value : (tail : List (List ℕ)) → is_set word old.settings ≡ false → (row.shape ≡ shape.Flag → ⊥) → MayBegin old (word ∷ tail)
+    by_value : (tail : List (List ℕ)) → is_set word old.settings ≡ false → (row.shape ≡ shape.Flag → ⊥) → MayBegin table old (word ∷ tail)
     by_value [] fresh form =
         inr (λ new rest begins. elim (after_option begins word [] row refl named).gives [
           | inl alone ↦ form alone.is_flag
@@ -76,35 +76,36 @@ module _ (old : ArgumentsValue) (word : List ℕ) where
           ])
         ]
 
-    by_option : (tail : List (List ℕ)) → MayBegin old (word ∷ tail)
+    by_option : (tail : List (List ℕ)) → MayBegin table old (word ∷ tail)
     by_option tail =
         elim (same_bools (is_set word old.settings) false) [
           | inl fresh ↦ elim (known_flag row.shape) [ inl form ↦ by_flag tail fresh form | inr form ↦ by_value tail fresh form ]
           | inr set ↦ inr (λ new rest begins. set (after_option begins word tail row refl named).fresh)
         ]
 
-  by_row : (row : Option OptionEntry) (tail : List (List ℕ)) → option_of word ≡ row → MayBegin old (word ∷ tail)
+  by_row : (row : Option OptionEntry) (tail : List (List ℕ)) → option_of table word ≡ row → MayBegin table old (word ∷ tail)
   by_row None tail e = by_bind tail e
   by_row (Some row) tail e = by_option row e tail
 
-begun_or_none : (old : ArgumentsValue) (words : List (List ℕ)) → MayBegin old words
-begun_or_none old [] = inr (λ new rest begins. no_begins begins refl)
-begun_or_none old (word ∷ tail) = by_row old word (option_of word) tail refl
+begun_or_none : (table : List OptionEntry) (old : ArgumentsValue) (words : List (List ℕ)) → MayBegin table old words
+begun_or_none table old [] = inr (λ new rest begins. no_begins begins refl)
+begun_or_none table old (word ∷ tail) = by_row table old word (option_of table word) tail refl
 
-arguments_within : (most : ℕ) (old : ArgumentsValue) (words : List (List ℕ)) → length words ≤ most → Either (AreArguments old words)
-arguments_within most old [] fits = inl (old, argument.none)
-arguments_within zero old (word ∷ tail) fits = absurd (omega arith)
-arguments_within (suc most) old (word ∷ tail) fits =
-    elim (begun_or_none old (word ∷ tail)) [
-      | inl b ↦ elim (arguments_within most b.new b.rest (let shorter = b.shorter in omega arith)) [
+arguments_within : (table : List OptionEntry) (most : ℕ) (old : ArgumentsValue) (words : List (List ℕ)) → length words ≤ most
+    → Either (AreArguments table old words)
+arguments_within table most old [] fits = inl (old, argument.none)
+arguments_within table zero old (word ∷ tail) fits = absurd (omega arith)
+arguments_within table (suc most) old (word ∷ tail) fits =
+    elim (begun_or_none table old (word ∷ tail)) [
+      | inl b ↦ elim (arguments_within table most b.new b.rest (let shorter = b.shorter in omega arith)) [
         | inl s ↦ inl (s.0, argument.more b.begins s.1)
         | inr none ↦ inr (λ new are. none new (behind_first are b.begins))
       ]
       | inr none ↦ inr (λ new are. let empty : word ∷ tail ≡ [] = first_begins are none in cc)
     ]
 
-arguments_or_none : (words : List (List ℕ)) → Either (AreArguments no_arguments words)
-arguments_or_none words = arguments_within (length words) no_arguments words (omega arith)
+arguments_or_none : (table : List OptionEntry) (words : List (List ℕ)) → Either (AreArguments table no_arguments words)
+arguments_or_none table words = arguments_within table (length words) no_arguments words (omega arith)
 
 -- commands with a file
 known_file : (file : List ℕ) → Known (IsFile file)
@@ -126,7 +127,7 @@ some_or_none (Some x) = inl (x, refl)
 file_or_none : (name file : List ℕ) (rest : List (List ℕ)) → Either (IsFileCommand (name ∷ file ∷ rest))
 file_or_none name file rest =
     elim (known_file file) [
-      | inl is_file ↦ elim (arguments_or_none rest) [
+      | inl is_file ↦ elim (arguments_or_none options rest) [
         | inl given ↦ elim (some_or_none (command_called name file given.0)) [
           | inl called ↦ inl (
             called.0,

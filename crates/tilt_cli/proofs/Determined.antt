@@ -26,23 +26,25 @@ pub record GivesOption (old new : ArgumentsValue) (word : List ℕ) (row : Optio
   pub fresh : is_set word old.settings ≡ false
   pub gives : GivesAlone old new word row rest tail ⊎ GivesValue old new word row rest tail
 
-one_row : (x y : OptionEntry) (word other : List ℕ) → word ≡ other → option_of word ≡ Some x → option_of other ≡ Some y → x ≡ y
-one_row x y word other same a b = same_Some x y (sym a ∙ ap option_of same ∙ b)
+one_row : (table : List OptionEntry) (x y : OptionEntry) (word other : List ℕ) → word ≡ other → option_of table word ≡ Some x
+    → option_of table other ≡ Some y → x ≡ y
+one_row table x y word other same a b = same_Some x y (sym a ∙ ap (option_of table) same ∙ b)
 
-no_row : (x : OptionEntry) (word other : List ℕ) → word ≡ other → option_of word ≡ Some x → option_of other ≡ None → ⊥
-no_row x word other same a b = none-some x (sym b ∙ ap option_of (sym same) ∙ a)
+no_row : (table : List OptionEntry) (x : OptionEntry) (word other : List ℕ) → word ≡ other → option_of table word ≡ Some x
+    → option_of table other ≡ None → ⊥
+no_row table x word other same a b = none-some x (sym b ∙ ap (option_of table) (sym same) ∙ a)
 
 pub no_flag_value : (row : OptionEntry) (spelled : List ℕ) (value : OptionValue) → row.shape ≡ shape.Flag → IsValue row.shape spelled value → ⊥
 no_flag_value row spelled value e is = subst (λ form. IsValue form spelled value) e is
 
-pub after_option : {old new : ArgumentsValue} {words rest : List (List ℕ)} → Begins old words new rest → (word : List ℕ)
-    (tail : List (List ℕ)) (row : OptionEntry) → words ≡ word ∷ tail → option_of word ≡ Some row → GivesOption old new word row rest tail
+pub after_option : {table : List OptionEntry} {old new : ArgumentsValue} {words rest : List (List ℕ)} → Begins table old words new rest → (word : List ℕ)
+    (tail : List (List ℕ)) (row : OptionEntry) → words ≡ word ∷ tail → option_of table word ≡ Some row → GivesOption old new word row rest tail
 after_option (argument.bind {word = w} none is) word tail row e named =
     let same : word ≡ w = cc in
-    absurd (no_row row word w same named none)
+    absurd (no_row _ row word w same named none)
 after_option (argument.alone {old = old} {word = w} {rest = rest} {entry = r} is fresh form) word tail row e named =
     let same : w ≡ word = cc in
-    let rows = one_row r row w word same is named in
+    let rows = one_row _ r row w word same is named in
     let rests : rest ≡ tail = cc in
     record {
       fresh = subst (λ v. is_set v old.settings ≡ false) same fresh;
@@ -50,7 +52,7 @@ after_option (argument.alone {old = old} {word = w} {rest = rest} {entry = r} is
     }
 after_option (argument.valued {old = old} {word = w} {spelled = s} {rest = rest} {entry = r} value is fresh valued) word tail row e named =
     let same : w ≡ word = cc in
-    let rows = one_row r row w word same is named in
+    let rows = one_row _ r row w word same is named in
     let rests : tail ≡ s ∷ rest = cc in
     record {
       fresh = subst (λ v. is_set v old.settings ≡ false) same fresh;
@@ -64,22 +66,22 @@ after_option (argument.valued {old = old} {word = w} {spelled = s} {rest = rest}
     }
 
 -- what words give that start with no option
-pub after_bind : {old new : ArgumentsValue} {words rest : List (List ℕ)} → Begins old words new rest → (word : List ℕ)
-    (tail : List (List ℕ)) → words ≡ word ∷ tail → option_of word ≡ None →
+pub after_bind : {table : List OptionEntry} {old new : ArgumentsValue} {words rest : List (List ℕ)} → Begins table old words new rest → (word : List ℕ)
+    (tail : List (List ℕ)) → words ≡ word ∷ tail → option_of table word ≡ None →
     IsBinding (binding_spelled word) × (new ≡ record old { binds = old.binds ++ binding_spelled word ∷ [] }) × (rest ≡ tail)
 after_bind (argument.bind {old = old} {word = w} none is) word tail e no_option =
     let same : w ≡ word = cc in
     (subst (λ v. IsBinding (binding_spelled v)) same is, (cc), (cc))
 after_bind (argument.alone {word = w} {entry = r} is fresh form) word tail e no_option =
     let same : w ≡ word = cc in
-    absurd (no_row r w word same is no_option)
+    absurd (no_row _ r w word same is no_option)
 after_bind (argument.valued {word = w} {entry = r} value is fresh valued) word tail e no_option =
     let same : w ≡ word = cc in
-    absurd (no_row r w word same is no_option)
+    absurd (no_row _ r w word same is no_option)
 
 -- words start with one of them, and give one thing with it
-pub same_begins : {old new other : ArgumentsValue} {words rest others : List (List ℕ)} → Begins old words new rest →
-    Begins old words other others → (new ≡ other) × (rest ≡ others)
+pub same_begins : {table : List OptionEntry} {old new other : ArgumentsValue} {words rest others : List (List ℕ)} → Begins table old words new rest →
+    Begins table old words other others → (new ≡ other) × (rest ≡ others)
 same_begins (argument.bind {word = word} {rest = rest} none is) b = let g = after_bind b word rest refl none in (sym g.1, sym g.2)
 same_begins (argument.alone {word = word} {rest = rest} {entry = row} is fresh form) b =
     elim (after_option b word rest row refl is).gives [
@@ -98,31 +100,31 @@ same_begins {others = others} (argument.valued {old = old} {word = word} {spelle
     ]
 
 -- no words start with none
-pub no_begins : {old new : ArgumentsValue} {words rest : List (List ℕ)} → Begins old words new rest → words ≡ [] → ⊥
+pub no_begins : {table : List OptionEntry} {old new : ArgumentsValue} {words rest : List (List ℕ)} → Begins table old words new rest → words ≡ [] → ⊥
 no_begins (argument.bind none is) e = cc
 no_begins (argument.alone is fresh form) e = cc
 no_begins (argument.valued value is fresh valued) e = cc
 
 -- what no words give, and what words give after their first bind or option
-pub behind_none : {old new : ArgumentsValue} {words : List (List ℕ)} → AreArguments old words new → words ≡ [] → new ≡ old
+pub behind_none : {table : List OptionEntry} {old new : ArgumentsValue} {words : List (List ℕ)} → AreArguments table old words new → words ≡ [] → new ≡ old
 behind_none argument.none e = refl
 behind_none (argument.more b r) e = absurd (no_begins b e)
 
-pub behind_first : {old between new : ArgumentsValue} {words rest : List (List ℕ)} → AreArguments old words new →
-    Begins old words between rest → AreArguments between rest new
+pub behind_first : {table : List OptionEntry} {old between new : ArgumentsValue} {words rest : List (List ℕ)} → AreArguments table old words new →
+    Begins table old words between rest → AreArguments table between rest new
 behind_first argument.none b = absurd (no_begins b refl)
-behind_first {between = between} {new = new} {rest = rest} (argument.more {between = other} {rest = others} c r) b =
+behind_first {table = table} {between = between} {new = new} {rest = rest} (argument.more {between = other} {rest = others} c r) b =
     let same = same_begins c b in
-    subst (λ m. AreArguments m rest new) same.0 (subst (λ l. AreArguments other l new) same.1 r)
+    subst (λ m. AreArguments table m rest new) same.0 (subst (λ l. AreArguments table other l new) same.1 r)
 
 -- words that are arguments start with one
-pub first_begins : {old new : ArgumentsValue} {words : List (List ℕ)} → AreArguments old words new →
-    ((between : ArgumentsValue) (rest : List (List ℕ)) → Begins old words between rest → ⊥) → words ≡ []
+pub first_begins : {table : List OptionEntry} {old new : ArgumentsValue} {words : List (List ℕ)} → AreArguments table old words new →
+    ((between : ArgumentsValue) (rest : List (List ℕ)) → Begins table old words between rest → ⊥) → words ≡ []
 first_begins argument.none refused = refl
 first_begins (argument.more {between = between} {rest = rest} b r) refused = absurd (refused between rest b)
 
 -- words give one thing
-pub same_arguments : {old new other : ArgumentsValue} {words : List (List ℕ)} → AreArguments old words new → AreArguments old words other →
+pub same_arguments : {table : List OptionEntry} {old new other : ArgumentsValue} {words : List (List ℕ)} → AreArguments table old words new → AreArguments table old words other →
     new ≡ other
 same_arguments argument.none b = sym (behind_none b refl)
 same_arguments (argument.more b r) c = same_arguments r (behind_first c b)

@@ -10,7 +10,7 @@ use Rattle.tilt_cli.specs.Arguments.{ArgumentsValue, Begins, with_setting}
 use Rattle.tilt_cli.specs.Arguments as argument
 use Rattle.tilt_cli.specs.Command.{texts}
 use Rattle.tilt_cli.specs.Options.{IsValue, OptionValue, flag, is_set}
-use Rattle.tilt_cli.specs.Tables.{OptionEntry, option_of, options}
+use Rattle.tilt_cli.specs.Tables.{OptionEntry, option_of}
 use Rattle.tilt_cli.specs.declared.option_table.Shape.TheVariants as shape
 use Rattle.tilt_cli.proofs.Determined.{after_option}
 
@@ -21,10 +21,10 @@ first_text [] word text some is same = absurd (omega arith)
 first_text (w ∷ ws) word text some is same = λ i. (sym (ap string_bytes is) ∙ sym same) i ∷ texts ws
 
 -- the same words begin so, and give the same
-pub moved : {old new new' : ArgumentsValue} {words words' rest : List (List ℕ)} → Begins old words new rest → words' ≡ words →
-    new' ≡ new → Begins old words' new' rest
-moved {old} {new} {new'} {words} {words'} {rest} begins w n =
-    subst (λ v. Begins old v new' rest) (sym w) (subst (λ m. Begins old words m rest) (sym n) begins)
+pub moved : {table : List OptionEntry} {old new new' : ArgumentsValue} {words words' rest : List (List ℕ)} → Begins table old words new rest → words' ≡ words →
+    new' ≡ new → Begins table old words' new' rest
+moved {table} {old} {new} {new'} {words} {words'} {rest} begins w n =
+    subst (λ v. Begins table old v new' rest) (sym w) (subst (λ m. Begins table old words m rest) (sym n) begins)
 
 -- the option that is found is the word
 found_word : (entries : List OptionEntry) (word : List ℕ) (entry : OptionEntry) → find (λ (e : OptionEntry). bytes_eq e.word word) entries ≡ Some entry →
@@ -37,29 +37,29 @@ found_word (first ∷ entries) word entry e =
       | inr not ↦ found_word entries word entry (rw not at e)
     ]
 
-pub option_word : (word : List ℕ) (entry : OptionEntry) → option_of word ≡ Some entry → entry.word ≡ word
+pub option_word : (table : List OptionEntry) (word : List ℕ) (entry : OptionEntry) → option_of table word ≡ Some entry → entry.word ≡ word
 unfolding option_of
-option_word word entry e = found_word options word entry e
+option_word table word entry e = found_word table word entry e
 
 -- the words start with an option
-module _ (old : ArgumentsValue) (words : List (List ℕ)) (word : List ℕ) (tail : List (List ℕ)) (row : OptionEntry)
-    (front : words ≡ word ∷ tail) (named : option_of word ≡ Some row) where
+module _ (table : List OptionEntry) (old : ArgumentsValue) (words : List (List ℕ)) (word : List ℕ) (tail : List (List ℕ)) (row : OptionEntry)
+    (front : words ≡ word ∷ tail) (named : option_of table word ≡ Some row) where
   same_word : row.word ≡ word
-  same_word = option_word word row named
+  same_word = option_word table word row named
 
-  pub set_before : is_set row.word old.settings ≡ true → (new : ArgumentsValue) (rest : List (List ℕ)) → Begins old words new rest → ⊥
+  pub set_before : is_set row.word old.settings ≡ true → (new : ArgumentsValue) (rest : List (List ℕ)) → Begins table old words new rest → ⊥
   set_before set new rest begins =
       let fresh = (after_option begins word tail row front named).fresh in
       false≢true (sym fresh ∙ subst (λ w. is_set w old.settings ≡ true) same_word set)
 
   pub sets_flag : (new : ArgumentsValue) → is_set row.word old.settings ≡ false → row.shape ≡ shape.Flag →
-      new ≡ with_setting old row.word flag → Begins old words new tail
+      new ≡ with_setting old row.word flag → Begins table old words new tail
   sets_flag new fresh kind gives =
       moved (argument.alone named (subst (λ w. is_set w old.settings ≡ false) same_word fresh) kind) front
       (gives ∙ ap (λ w. with_setting old w flag) same_word)
 
   pub sets_value : (new : ArgumentsValue) (spelled : List ℕ) (more : List (List ℕ)) (value : OptionValue) → tail ≡ spelled ∷ more →
-      is_set row.word old.settings ≡ false → IsValue row.shape spelled value → new ≡ with_setting old row.word value → Begins old words new more
+      is_set row.word old.settings ≡ false → IsValue row.shape spelled value → new ≡ with_setting old row.word value → Begins table old words new more
   sets_value new spelled more value second fresh is gives =
       moved (argument.valued value named (subst (λ w. is_set w old.settings ≡ false) same_word fresh) is) (front ∙ ap (λ t. word ∷ t) second)
       (gives ∙ ap (λ w. with_setting old w value) same_word)

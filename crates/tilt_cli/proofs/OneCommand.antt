@@ -6,7 +6,7 @@ use Rattle.tilt_base.specs.Number.{integer_spelled}
 use Rattle.tilt_cli.specs.Arguments.{ArgumentsValue, no_arguments, AreArguments}
 use Rattle.tilt_cli.specs.Command.{CommandValue, IsCommand, IsFile, IsFileCommand, IsTry, command_called, command_with, with_file, tries, try}
 use Rattle.tilt_cli.specs.Legal.{command_of_table}
-use Rattle.tilt_cli.specs.Tables.{CommandEntry, commands}
+use Rattle.tilt_cli.specs.Tables.{CommandEntry, commands, options}
 use Rattle.tilt_cli.proofs.Determined.{same_arguments}
 
 -- `try` isn't in the table
@@ -20,7 +20,7 @@ pub record SameParts (name file : List ℕ) (rest : List (List ℕ)) (command : 
   pub named : is.name ≡ name
   pub filed : is.file ≡ file
   pub is_file : IsFile file
-  pub are : AreArguments no_arguments rest is.given
+  pub are : AreArguments options no_arguments rest is.given
 
 pub parts_same : (name file : List ℕ) (rest : List (List ℕ)) (command : CommandValue) → (is : IsFileCommand (name ∷ file ∷ rest) command) →
     SameParts name file rest command is
@@ -33,11 +33,11 @@ parts_same name file rest command is =
       named = names;
       filed = files;
       is_file = subst IsFile files is.is_file;
-      are = subst (λ r. AreArguments no_arguments r is.given) rests is.are_arguments;
+      are = subst (λ r. AreArguments options no_arguments r is.given) rests is.are_arguments;
     }
 
 -- it is the one that these arguments call
-pub called_with : (name file : List ℕ) (rest : List (List ℕ)) (given : ArgumentsValue) → AreArguments no_arguments rest given →
+pub called_with : (name file : List ℕ) (rest : List (List ℕ)) (given : ArgumentsValue) → AreArguments options no_arguments rest given →
     (command : CommandValue) → IsFileCommand (name ∷ file ∷ rest) command → command_called name file given ≡ Some command
 called_with name file rest given are command is =
     let same = parts_same name file rest command is in

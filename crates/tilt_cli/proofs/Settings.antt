@@ -15,7 +15,7 @@ use Rattle.std.specs.Borrow.{Bor}
 use Rattle.tilt_cli.specs.Arguments.{ArgumentsValue, arguments_of}
 use Rattle.tilt_cli.specs.Binding.{binding_of}
 use Rattle.tilt_cli.specs.Legal.{command_found, command_of_table, is_legal, is_listed}
-use Rattle.tilt_cli.specs.Tables.{CommandEntry, OptionEntry, command_entry, commands, option_entry, option_found, option_of, options}
+use Rattle.tilt_cli.specs.Tables.{CommandEntry, OptionEntry, command_entry, commands, option_entries, option_entry, option_found, option_of}
 use Rattle.tilt_cli.specs.declared.option_table.OptionRow.{OptionRow}
 use Rattle.tilt_cli.specs.declared.arguments.Arguments.{Arguments}
 use Rattle.tilt_cli.specs.declared.command_table.CommandRow.{CommandRow}
@@ -119,12 +119,11 @@ module _ (row : CommandRow) (arguments : Arguments) where
   by_binds has own allowed e = e ∙ sym (legal_seen ∙ (λ i. has i && own i && (row.takes_binds || length arguments.binds.items == 0)))
 
 -- a row that is found in the program's tables is found in the definition's
-pub option_seen : (rows : List OptionRow) (word : List ℕ) (found : Option OptionRow) → map option_entry rows ≡ options → found ≡ option_found rows word →
-    option_map option_entry found ≡ option_of word
+pub option_seen : (rows : List OptionRow) (word : List ℕ) (found : Option OptionRow) → found ≡ option_found rows word →
+    option_map option_entry found ≡ option_of (option_entries rows) word
 unfolding option_of option_found
-option_seen rows word found same is =
+option_seen rows word found is =
     ap (option_map option_entry) is ∙ sym (found_seen option_entry (λ (e : OptionEntry). bytes_eq e.word word) rows)
-    ∙ ap (find (λ (e : OptionEntry). bytes_eq e.word word)) same
 
 pub command_seen : (rows : List CommandRow) (word : List ℕ) (given : ArgumentsValue) (found : Option CommandRow) → map command_entry rows ≡ commands →
     found ≡ command_found rows word given → option_map command_entry found ≡ command_of_table word given

@@ -14,12 +14,12 @@ use Rattle.tilt_base.specs.declared.limits.TheConstants.{T}
 use Rattle.tilt_base.specs.Number.{integer_spelled}
 use Rattle.tilt_lexer.specs.Word.{IsWord, is_word}
 use Rattle.tilt_cli.specs.Number.{IsNumber, AreListed, AreRising, AreUpTo, before_comma, after_comma}
-use Rattle.tilt_cli.specs.Options.{IsValue, text, times, numbers, cuts}
+use Rattle.tilt_cli.specs.Options.{IsValue, text, times, numbers, cuts, span}
 use Rattle.tilt_cli.specs.Upto.{CutBinding, IsCutBinding, IsUpto, UptoValue, all, each, parts_of}
 use Rattle.tilt_cli.specs.declared.option_table.Shape.{Shape}
 use Rattle.tilt_cli.specs.declared.option_table.Shape.TheVariants as shape
 use Rattle.tilt_cli.proofs.Listed.{HasComma, IsPart, IsSpelling, IsTime, after_part, after_time, joined, others, no_first, no_last, parts_spelled, same_number, times_spelled, whole}
-use Rattle.tilt_cli.proofs.Values.{only_cuts, only_numbers, only_rising, only_text, only_times}
+use Rattle.tilt_cli.proofs.Values.{only_cuts, only_numbers, only_rising, only_text, only_ticks, only_times}
 
 -- something is so, or nothing is
 abbrev pub Either : {A : Type 0} → (A → Type 0) → Type 0
@@ -184,3 +184,8 @@ value_or_none shape.Numbers word =
     elim (parts_or_none word) [ inl x ↦ inl (numbers x.0, x.1) | inr none ↦ inr (λ value is. let p = only_numbers word value is in none p.0 p.1) ]
 value_or_none shape.Cuts word =
     elim (upto_or_none word) [ inl x ↦ inl (cuts x.0, x.1) | inr none ↦ inr (λ value is. let p = only_cuts word value is in none p.0 p.1) ]
+value_or_none shape.Ticks word =
+    elim (part_or_none 8000000000000000000 (pos 0) word) [
+      | inl x ↦ inl (span x.0, x.1)
+      | inr none ↦ inr (λ value is. let p = only_ticks word value is in none p.0 p.1)
+    ]

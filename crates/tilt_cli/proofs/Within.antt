@@ -62,7 +62,7 @@ flag_within kind e = subst (λ k. IsValueWithin k flag) (sym e) tt
 
 -- of what options are set to
 abbrev IsSettingWithin : SettingValue → Type 0
-IsSettingWithin setting = (row : OptionEntry) → option_of setting.option ≡ Some row → IsValueWithin row.shape setting.value
+IsSettingWithin setting = (row : OptionEntry) → option_of options setting.option ≡ Some row → IsValueWithin row.shape setting.value
 
 abbrev AreWithin : List SettingValue → Type 0
 AreWithin settings = AllByRecursion IsSettingWithin settings
@@ -71,37 +71,37 @@ one_more : (settings : List SettingValue) (setting : SettingValue) → AreWithin
 one_more [] setting all is = (is, tt)
 one_more (first ∷ settings) setting all is = (all.0, one_more settings setting all.1 is)
 
-named_within : (word : List ℕ) (value : OptionValue) (row : OptionEntry) → option_of word ≡ Some row → IsValueWithin row.shape value →
+named_within : (word : List ℕ) (value : OptionValue) (row : OptionEntry) → option_of options word ≡ Some row → IsValueWithin row.shape value →
     IsSettingWithin (record { option = word; value = value })
 named_within word value row named is =
     λ other e. subst (λ (r : OptionEntry). IsValueWithin r.shape value) (same_Some row other (sym named ∙ e)) is
 
-one_within : {old new : ArgumentsValue} {words rest : List (List ℕ)} → Begins old words new rest → AreWithin old.settings → AreWithin new.settings
+one_within : {old new : ArgumentsValue} {words rest : List (List ℕ)} → Begins options old words new rest → AreWithin old.settings → AreWithin new.settings
 one_within (argument.bind none is) before = before
 one_within (argument.alone {old = old} {word = word} {entry = row} named fresh kind) before =
     one_more old.settings (record { option = word; value = flag }) before (named_within word flag row named (flag_within row.shape kind))
 one_within (argument.valued {old = old} {word = word} {spelled = spelled} {entry = row} value named fresh is) before =
     one_more old.settings (record { option = word; value = value }) before (named_within word value row named (value_within row.shape spelled value is))
 
-all_within : {old new : ArgumentsValue} {words : List (List ℕ)} → AreArguments old words new → AreWithin old.settings → AreWithin new.settings
+all_within : {old new : ArgumentsValue} {words : List (List ℕ)} → AreArguments options old words new → AreWithin old.settings → AreWithin new.settings
 all_within argument.none before = before
 all_within (argument.more begins are) before = all_within are (one_within begins before)
 
 -- of what one option is set to
-found_within : (option : List ℕ) (row : OptionEntry) → option_of option ≡ Some row → (settings : List SettingValue) → AreWithin settings →
+found_within : (option : List ℕ) (row : OptionEntry) → option_of options option ≡ Some row → (settings : List SettingValue) → AreWithin settings →
     IfSome (set_to option settings) (IsValueWithin row.shape)
 found_within option row named [] all = tt
 found_within option row named (setting ∷ settings) all =
     elim (cases_Bool (bytes_eq setting.option option)) [
       | inl so ↦ let same : setting.option ≡ option = (bytes_eq-Decides setting.option option).0 so in
-          rw so (all.0 row (ap option_of same ∙ named))
+          rw so (all.0 row (ap (option_of options) same ∙ named))
       | inr not ↦ rw not (found_within option row named settings all.1)
     ]
 
 -- the options whose values have numbers
 record HasShape (word : List ℕ) (kind : Shape) : Type 0 where
   row : OptionEntry
-  named : option_of word ≡ Some row
+  named : option_of options word ≡ Some row
   is : row.shape ≡ kind
 
 cut_shape : HasShape (codes "--cut") shape.Times

@@ -12,6 +12,7 @@ use Rattle.tilt_cli.specs.Binding.{Binding, bindings_of}
 use Rattle.tilt_cli.specs.Legal.{command_of_table}
 use Rattle.tilt_cli.specs.Number.{IsNumber, RiseFrom, ClimbFrom}
 use Rattle.tilt_cli.specs.Options.{cuts_of, is_set, numbers_of, set_to, text_of, times_of}
+use Rattle.tilt_cli.specs.Tables.{options}
 use Rattle.tilt_cli.specs.Upto.{IsUptoWithin, UptoValue, upto_of}
 
 -- the bytes of each word
@@ -81,7 +82,7 @@ pub record IsFileCommand (words : List (List ℕ)) (command : CommandValue) : Ty
   pub given : ArgumentsValue
   pub words_are : words ≡ name ∷ file ∷ rest
   pub is_file : IsFile file
-  pub are_arguments : AreArguments no_arguments rest given
+  pub are_arguments : AreArguments options no_arguments rest given
   pub is_called : command_called name file given ≡ Some command
 
 -- the words are `try`, a seed and a count, both within their bounds

@@ -1,9 +1,9 @@
 -- What options are set to (our own rule).
-use Rattle.std.specs.Prelude.{◌≡◌, ◌≢◌, ℕ, ℤ, pos, neg_ℤ, Bool, false, List, [], Option, None, Some, find, map, option_map, string_bytes}
+use Rattle.std.specs.Prelude.{◌≡◌, ◌≢◌, ℕ, ℤ, pos, neg_ℤ, Bool, false, List, [], ◌+ℤ◌, Option, None, Some, find, map, option_map, string_bytes}
 use Rattle.std.specs.List.{list_any}
 use Rattle.std.specs.Str.{bytes_eq}
 use Rattle.tilt_base.specs.declared.limits.TheConstants.{T}
-use Rattle.tilt_cli.specs.Number.{AreRising, AreUpTo}
+use Rattle.tilt_cli.specs.Number.{AreRising, AreUpTo, IsNumber}
 use Rattle.tilt_cli.specs.Upto.{IsUpto, UptoValue, upto_of}
 use Rattle.tilt_cli.specs.declared.option_table.Shape.{Shape}
 use Rattle.tilt_cli.specs.declared.option_table.Shape.TheVariants as shape
@@ -18,6 +18,7 @@ pub data OptionValue : Type 0 where
   times : (ticks : List ℤ) → OptionValue
   numbers : (parts : List ℕ) → OptionValue
   cuts : (upto : UptoValue) → OptionValue
+  span : (ticks : ℕ) → OptionValue
 
 -- the word spells a value of this shape
 abbrev pub IsValue : Shape → List ℕ → OptionValue → Type 0
@@ -27,6 +28,7 @@ IsValue shape.Times word (times ticks) = AreRising (pos 0) (neg_ℤ T) T word ti
 IsValue shape.RisingTimes word (times ticks) = AreRising (pos 1) (neg_ℤ T) T word ticks
 IsValue shape.Numbers word (numbers parts) = AreUpTo 4294967295 word parts
 IsValue shape.Cuts word (cuts upto) = IsUpto word upto
+IsValue shape.Ticks word (span ticks) = IsNumber (pos 0) (T +ℤ T) word (pos ticks)
 IsValue form word value = ⊥
 
 -- an option, and what it is set to
@@ -42,7 +44,7 @@ is_set option settings = list_any (λ setting. bytes_eq setting.option option) s
 abbrev pub set_to : List ℕ → List SettingValue → Option OptionValue
 set_to option settings = option_map (λ setting. setting.value) (find (λ setting. bytes_eq setting.option option) settings)
 
--- the text, the cuts, the times and the numbers that an option is set to; no times and no numbers if it isn't set
+-- the text, the cuts, the number of ticks, the times and the numbers that an option is set to; no times and no numbers if it isn't set
 abbrev pub text_of : Option OptionValue → Option (List ℕ)
 text_of (Some (text bytes)) = Some bytes
 text_of value = None
@@ -50,6 +52,10 @@ text_of value = None
 abbrev pub cuts_of : Option OptionValue → Option UptoValue
 cuts_of (Some (cuts upto)) = Some upto
 cuts_of value = None
+
+abbrev pub ticks_of : Option OptionValue → Option ℕ
+ticks_of (Some (span ticks)) = Some ticks
+ticks_of value = None
 
 abbrev pub times_of : Option OptionValue → List ℤ
 times_of (Some (times ticks)) = ticks
@@ -70,6 +76,7 @@ value_of (variant.Text bytes) = text (string_bytes bytes)
 value_of (variant.Times ticks) = times ticks.items
 value_of (variant.Numbers parts) = numbers parts.items
 value_of (variant.Cuts upto) = cuts (upto_of upto)
+value_of (variant.Ticks ticks) = span ticks
 
 -- an option and what it is set to, as bytes and numbers
 abbrev pub setting_of : Setting → SettingValue

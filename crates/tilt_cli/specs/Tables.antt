@@ -1,4 +1,4 @@
--- The options and the commands of the command line, as two tables (our own rule).
+-- The options and the commands of the program `tilt`, as two tables (our own rule).
 use Rattle.std.specs.Prelude.{ℕ, Bool, true, false, List, [], ◌∷◌, Option, codes, find, map}
 use Rattle.std.specs.Str.{bytes_eq}
 use Rattle.tilt_cli.specs.declared.command_table.CommandRow.{CommandRow}
@@ -56,13 +56,17 @@ commands =
     ∷ command (codes "resume") form.ResumeEnd (codes "--end" ∷ []) (codes "--plain" ∷ []) true
     ∷ []
 
--- the option that is this word
-unfoldable pub option_of : List ℕ → Option OptionEntry
-option_of word = find (λ entry. bytes_eq entry.word word) options
+-- the option of a table that is this word
+unfoldable pub option_of : List OptionEntry → List ℕ → Option OptionEntry
+option_of table word = find (λ entry. bytes_eq entry.word word) table
 
 -- a row of the program's tables, as bytes
 abbrev pub option_entry : OptionRow → OptionEntry
 option_entry row = record { word = row.word.now; shape = row.shape }
+
+-- a table of options, as the program has it
+abbrev pub option_entries : List OptionRow → List OptionEntry
+option_entries rows = map option_entry rows
 
 abbrev pub command_entry : CommandRow → CommandEntry
 command_entry row = record {

@@ -1,40 +1,52 @@
-// The arguments after a command's file.
+// The arguments of a command line, by a table of options.
 ghost use Rattle.std.specs.Prelude.{◌≡◌, ◌<◌, ◌≤◌, ◌++◌, ◌∷◌, ℕ, List, [], false};
-ghost use Rattle.std.specs.Prelude.{length, drop, option_map, string_bytes, MatchResult, OnOk};
+ghost use Rattle.std.specs.Prelude.{length, drop, option_map, string_bytes, IfOk, MatchResult, OnOk};
 ghost use Rattle.std.specs.Str.{bytes_eq};
 ghost use Rattle.tilt_cli.specs.Arguments.{AreArguments, ArgumentsValue, Begins, arguments_of, no_arguments, with_setting};
 ghost use Rattle.tilt_cli.specs.Binding.{IsBinding, binding_spelled};
 ghost use Rattle.tilt_cli.specs.Command.{texts};
-ghost use Rattle.tilt_cli.specs.Options.{LeavesOthers, cuts_of, is_set, numbers_of, set_to, text_of, times_of, value_of};
+ghost use Rattle.tilt_cli.specs.Options.{LeavesOthers, cuts_of, is_set, numbers_of, set_to, text_of, ticks_of, times_of, value_of};
+ghost use Rattle.tilt_cli.specs.Tables.{option_entries};
 ghost use Rattle.tilt_cli.specs.Upto.{upto_of};
 
 use crate::bind::Bind;
 use crate::fault::WordsFault;
-use crate::option_table::{Shape, find_option};
+use crate::option_table::{OptionRow, Shape, find_option};
 use crate::setting::{Setting, is_among, place_of};
 use crate::upto::Upto;
 use crate::value::Value;
 use std::alloc::{AllocError, Global};
 
-// What the arguments after a command's file give it.
+/// What arguments give: binds, and what options are set to.
 #[derive(Drop)]
-pub(crate) struct Arguments {
-    pub(crate) binds: Vec<Bind>,
+pub struct Arguments {
+    /// The binds, in their order.
+    pub binds: Vec<Bind>,
     // Each option at most once.
     pub(crate) settings: Vec<Setting>,
 }
 
 impl Arguments {
-    // What all the arguments give.
-    pub(crate) fn read(alloc: Global, words: &[String]) -> Result<Arguments, WordsFault>
-        ensures { MatchResult result
-            (λ arguments. AreArguments no_arguments (texts words.now) (arguments_of arguments))
-            (λ fault. fault ≡ WordsFault.Usage → (new : ArgumentsValue) → ¬ (AreArguments no_arguments (texts words.now) new)) }
+    /// What all the arguments give: binds `NAME=FILE` and options of the table, in any order, each option at most once. `Usage` comes if
+    /// they are something else.
+    pub fn read(
+        alloc: Global,
+        options: &[OptionRow],
+        words: &[String],
+    ) -> Result<Arguments, WordsFault>
+        ensures is { MatchResult result
+            (λ arguments. AreArguments (option_entries options.now) no_arguments (texts words.now) (arguments_of arguments))
+            (λ fault. fault ≡ WordsFault.Usage → (new : ArgumentsValue)
+            → ¬ (AreArguments (option_entries options.now) no_arguments (texts words.now) new)) }
+
+        // Arguments give one thing at most.
+        ensures only { IfOk result (λ arguments. (new : ArgumentsValue)
+            → AreArguments (option_entries options.now) no_arguments (texts words.now) new → new ≡ arguments_of arguments) }
     {
         let mut arguments = Arguments::none(alloc);
         let mut at = 0;
         while at < words.len() {
-            at += arguments.take(alloc, &words[at..])?;
+            at += arguments.take(alloc, options, &words[at..])?;
         }
         Ok(arguments)
     }
@@ -50,16 +62,22 @@ impl Arguments {
     }
 
     // Takes the bind or the option that the words start with, and returns how many words it has.
-    fn take(&mut self, alloc: Global, words: &[String]) -> Result<usize, WordsFault>
+    fn take(
+        &mut self,
+        alloc: Global,
+        options: &[OptionRow],
+        words: &[String],
+    ) -> Result<usize, WordsFault>
         requires { 0 < length words.now }
         ensures { MatchResult result
             (λ count. (0 < count) × (count ≤ length words.now)
-            × Begins (arguments_of self.old) (texts words.now) (arguments_of self.new) (drop count (texts words.now)))
+            × Begins (option_entries options.now) (arguments_of self.old) (texts words.now) (arguments_of self.new)
+            (drop count (texts words.now)))
             (λ fault. fault ≡ WordsFault.Usage → (new : ArgumentsValue) (rest : List (List ℕ)) →
-            ¬ (Begins (arguments_of self.old) (texts words.now) new rest)) }
+            ¬ (Begins (option_entries options.now) (arguments_of self.old) (texts words.now) new rest)) }
     {
         let word = words[0].as_str();
-        let Some(row) = find_option(word) else {
+        let Some(row) = find_option(options, word) else {
             self.take_bind(alloc, word)?;
             return Ok(1);
         };
@@ -100,11 +118,19 @@ impl Arguments {
         Ok(())
     }
 
-    // Whether the option is set.
-    pub(crate) fn has(&self, word: &str) -> bool
+    /// Whether the option is set.
+    pub fn has(&self, word: &str) -> bool
         ensures { result ≡ is_set word.now (arguments_of self.now).settings }
     {
         is_among(&self.settings, word)
+    }
+
+    /// The number of ticks that the option is set to, if it is set to one.
+    pub fn ticks_of(&self, word: &str) -> Option<u64>
+        ensures { result ≡ ticks_of (set_to word.now (arguments_of self.now).settings) }
+    {
+        let place = place_of(&self.settings, word)?;
+        self.settings[place].value.ticks()
     }
 
     // Takes out what the option is set to.

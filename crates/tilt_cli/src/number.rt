@@ -30,6 +30,16 @@ pub(crate) fn read_up_to(word: &str, greatest: u32) -> Option<u32>
     u32::try_from(number).ok()
 }
 
+// The number of ticks that the word spells, if it isn't below 0 or above the largest distance of two times.
+pub(crate) fn read_ticks(word: &str) -> Option<u64>
+    ensures { MatchOption result
+        ((z : ℤ) → ¬ (IsNumber (pos 0) (T +ℤ T) word.now z))
+        (λ n. IsNumber (pos 0) (T +ℤ T) word.now (pos n)) }
+{
+    let number = read_within(word, 0, 2 * T)?;
+    u64::try_from(number).ok()
+}
+
 // The times that the word spells, one or more with commas between them, each no less than so many ticks after the one before it.
 pub(crate) fn read_rising(alloc: Global, word: &str, apart: i64) -> Result<Vec<i64>, WordsFault>
     requires { (pos 0 ≤ℤ apart) × (apart ≤ℤ pos 1) }

@@ -1,34 +1,36 @@
-// The options of the command line, as a table.
+// The options of a command line, as a table.
 ghost use Rattle.std.specs.Prelude.{◌≡◌, option_map};
-ghost use Rattle.tilt_cli.specs.Tables.{option_entry, option_found, option_of};
+ghost use Rattle.tilt_cli.specs.Tables.{option_entries, option_entry, option_found, option_of};
 
-// What the value of an option is.
+/// What the value of an option is. Times and ticks are whole numbers: digits, with or without a sign before them.
 #[derive(Clone, Copy, Debug, PartialEq, Eq)]
-pub(crate) enum Shape {
-    // There is none: the option is one argument.
+pub enum Shape {
+    /// There is none: the option is one argument.
     Flag,
-    // A text that isn't empty.
+    /// A text that isn't empty.
     Text,
-    // One or more times with commas between them, none below the one before it.
+    /// One or more times in `-T..=T` with commas between them, none below the one before it.
     Times,
-    // One or more times with commas between them, each above the one before it.
+    /// One or more times in `-T..=T` with commas between them, each above the one before it.
     RisingTimes,
-    // One or more 32-bit numbers with commas between them, in any order.
+    /// One or more 32-bit numbers with commas between them, in any order.
     Numbers,
-    // A cut of all inputs, or a cut of each input.
+    /// A cut of all inputs, or a cut of each input.
     Cuts,
+    /// A number of ticks, from 0 to `2T`: the largest distance of two times.
+    Ticks,
 }
 
-// An option.
+/// A row of a table of options. If two rows have the same word, the first counts.
 #[derive(Clone, Copy, Debug)]
-pub(crate) struct OptionRow {
-    // The option as an argument.
-    pub(crate) word: &'static str,
-    // Its value, the argument after it.
-    pub(crate) shape: Shape,
+pub struct OptionRow {
+    /// The option as an argument.
+    pub word: &'static str,
+    /// Its value, the argument after it.
+    pub shape: Shape,
 }
 
-// All options.
+// All options of `tilt`.
 pub(crate) const OPTIONS: [OptionRow; 8] = [
     OptionRow {
         word: "--plain",
@@ -64,11 +66,11 @@ pub(crate) const OPTIONS: [OptionRow; 8] = [
     },
 ];
 
-// The option that is this word.
-pub(crate) fn find_option(word: &str) -> Option<OptionRow>
-    ensures { option_map option_entry result ≡ option_of word.now }
+// The option of the table that is this word.
+pub(crate) fn find_option(options: &[OptionRow], word: &str) -> Option<OptionRow>
+    ensures { option_map option_entry result ≡ option_of (option_entries options.now) word.now }
 {
-    find_row(&OPTIONS, word)
+    find_row(options, word)
 }
 
 // The first of some rows that has this word.

@@ -1,12 +1,15 @@
 // The words of a command line as a command.
 ghost use Rattle.std.specs.Prelude.{◌≡◌, ◌↔◌, ◌∷◌, ℕ, codes, IfErr, IfOk, IsErr, IsTrue, MatchOption, MatchResult};
+ghost use Rattle.tilt_cli.specs.Arguments.{AreArguments, ArgumentsValue, arguments_of, no_arguments};
 ghost use Rattle.tilt_cli.specs.Command.{CommandValue, IsCommand, IsFile, IsFileCommand, IsTry, IsWithin, command_of, texts};
+ghost use Rattle.tilt_cli.specs.Tables.{options};
 
 use crate::arguments::Arguments;
 use crate::command::Command;
 use crate::command_table::find_command;
 use crate::fault::WordsFault;
 use crate::number::read_up_to;
+use crate::option_table::OPTIONS;
 use std::alloc::Global;
 
 // The greatest seed and the greatest count of `try`.
@@ -66,14 +69,23 @@ fn read_call(alloc: Global, name: &str, file: &str, rest: &[String]) -> Result<C
     if !is_file(file) {
         return Err(WordsFault::Usage);
     }
-    let arguments = Arguments::read(alloc, rest)?;
+    let arguments = read_arguments(alloc, rest)?;
     let row = find_command(name, &arguments).ok_or(WordsFault::Usage)?;
     let file = String::from_str(alloc, file)?;
     Command::new(alloc, row.form, file, arguments).ok_or(WordsFault::Usage)
 }
 
-// Whether the word may be the file after a command's first word.
-fn is_file(word: &str) -> bool
+// The arguments after the file, by the options of `tilt`.
+fn read_arguments(alloc: Global, words: &[String]) -> Result<Arguments, WordsFault>
+    ensures { MatchResult result
+        (λ arguments. AreArguments options no_arguments (texts words.now) (arguments_of arguments))
+        (λ fault. fault ≡ WordsFault.Usage → (new : ArgumentsValue) → ¬ (AreArguments options no_arguments (texts words.now) new)) }
+{
+    Arguments::read(alloc, &OPTIONS, words)
+}
+
+/// Whether the argument can name the file that a program reads first: it isn't empty and doesn't begin with `--`.
+pub fn is_file(word: &str) -> bool
     ensures { IsTrue result ↔ IsFile word.now }
 {
     !word.is_empty() && !word.starts_with("--")

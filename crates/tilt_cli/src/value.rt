@@ -1,10 +1,10 @@
 // What options are set to.
 ghost use Rattle.std.specs.Prelude.{◌≡◌, ◌≢◌, [], Some, MatchResult, option_map, string_bytes};
-ghost use Rattle.tilt_cli.specs.Options.{IsValue, OptionValue, cuts_of, numbers_of, text_of, times_of, value_of};
+ghost use Rattle.tilt_cli.specs.Options.{IsValue, OptionValue, cuts_of, numbers_of, text_of, ticks_of, times_of, value_of};
 ghost use Rattle.tilt_cli.specs.Upto.{upto_of};
 
 use crate::fault::WordsFault;
-use crate::number::{read_numbers, read_rising};
+use crate::number::{read_numbers, read_rising, read_ticks};
 use crate::option_table::Shape;
 use crate::upto::Upto;
 use std::alloc::Global;
@@ -17,6 +17,7 @@ pub(crate) enum Value {
     Times(Vec<i64>),
     Numbers(Vec<u32>),
     Cuts(Upto),
+    Ticks(u64),
 }
 
 impl Value {
@@ -33,6 +34,7 @@ impl Value {
             Shape::RisingTimes => Ok(Value::Times(read_rising(alloc, word, 1)?)),
             Shape::Numbers => Ok(Value::Numbers(read_numbers(alloc, word)?)),
             Shape::Cuts => Ok(Value::Cuts(Upto::read(alloc, word)?)),
+            Shape::Ticks => Ok(Value::Ticks(read_ticks(word).ok_or(WordsFault::Usage)?)),
         }
     }
 
@@ -52,6 +54,16 @@ impl Value {
     {
         match self {
             Value::Cuts(upto) => Some(upto),
+            _ => None,
+        }
+    }
+
+    // The number of ticks, if it is one.
+    pub(crate) fn ticks(&self) -> Option<u64>
+        ensures { result ≡ ticks_of (Some (value_of self.now)) }
+    {
+        match self {
+            Value::Ticks(ticks) => Some(*ticks),
             _ => None,
         }
     }
