@@ -6,6 +6,8 @@
 #[cfg(test)]
 mod made;
 #[cfg(test)]
+mod tables;
+#[cfg(test)]
 mod watch;
 #[cfg(test)]
 mod words;
