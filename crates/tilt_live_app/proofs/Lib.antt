@@ -1,4 +1,4 @@
 pub mod Feeding
 pub mod Flushing
 pub mod Living
-pub mod Options
+pub mod OneCommand

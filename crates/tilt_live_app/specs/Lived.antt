@@ -1,7 +1,7 @@
 -- What the program does (our own rule).
-use Rattle.std.specs.Prelude.{◌≡◌, ℕ, List, [], codes, None, Some, Result, Ok, Err, MatchResult}
+use Rattle.std.specs.Prelude.{◌≡◌, ℕ, List, [], codes, Result, Ok, Err, MatchResult}
 use Rattle.tilt_core.specs.Core.{CoreParts}
-use Rattle.tilt_live_app.specs.Arguments.{CommandValue, command_said, run_options}
+use Rattle.tilt_live_app.specs.Arguments.{CommandValue, IsLiveCommand}
 use Rattle.tilt_live_app.specs.Served.{HasServed}
 use Rattle.tilt_live_app.specs.declared.failure.Failure.{Failure}
 use Rattle.tilt_live_app.specs.declared.failure.Failure.TheVariants.{Halted, Unbegun}
@@ -35,19 +35,19 @@ module _ {K : Type 0} (words : List (List ℕ)) (shelf_tells : Type 0) (files : 
     (tells : Type 0) (old new : Transcript) (err_tells : Type 0) (err_written : K → List ℕ) (err_faults : K → ℕ) where
   -- why the feed wasn't begun
   pub data IsUnbegun : Report → Type 0 where
-    no_command : command_said words ≡ None → IsUnbegun usage
-    refused : {why : Reason} (command : CommandValue) → command_said words ≡ Some command
+    no_command : ((command : CommandValue) → ¬ (IsLiveCommand words command)) → IsUnbegun usage
+    refused : {why : Reason} (command : CommandValue) → IsLiveCommand words command
         → (shelf_tells → RefusesQuery command.query (files command.query) why) → IsUnbegun (refusal why)
-    unread : (command : CommandValue) → command_said words ≡ Some command → Rose reads reads_then → IsUnbegun (read_fault command.query)
+    unread : (command : CommandValue) → IsLiveCommand words command → Rose reads reads_then → IsUnbegun (read_fault command.query)
     no_memory : IsUnbegun out_of_memory
 
   -- the feed of the query in the file that the arguments name was served, to this end
   pub record IsServed (end : Result (Unit {0}) Halt) (err err_then : K) : Type 0 where
     pub command : CommandValue
     pub core : CoreParts
-    pub said : command_said words ≡ Some command
+    pub said : IsLiveCommand words command
     pub taken : shelf_tells → TakesQuery (files command.query) core
-    pub served : HasServed core (run_options command) tells old new err_tells err_written err_faults err err_then end
+    pub served : HasServed core command.options tells old new err_tells err_written err_faults err err_then end
     -- if it ended by itself or by a bad line, all of the output was handed on
     pub handed_on : MatchResult end (λ _. new.held_back ≡ 0) (λ why. why ≡ halt.BadLine → new.held_back ≡ 0)
 

@@ -1,89 +1,107 @@
 // The arguments of the program.
-ghost use Rattle.std.specs.Prelude.{◌≡◌, ◌∷◌, List, MatchOption, option_map, length, drop};
+ghost use Rattle.std.specs.Prelude.{◌≡◌, IfOk, MatchResult};
+ghost use Rattle.tilt_cli.specs.Arguments.{AreArguments, ArgumentsValue, arguments_of, no_arguments};
 ghost use Rattle.tilt_cli.specs.Command.{texts};
-ghost use Rattle.tilt_watermarks.specs.Laws.{no_options as no_watermarks};
-ghost use Rattle.tilt_live_app.specs.Arguments.{command_said, command_value, with_option, with_options};
+ghost use Rattle.tilt_cli.specs.declared.fault.WordsFault.TheVariants.{Usage};
+ghost use Rattle.tilt_live_app.specs.Arguments.{CommandValue, IsLiveCommand, command_value, live_options, run_options};
 
+use std::alloc::Global;
+use tilt_cli::{Arguments, OptionRow, Shape, WordsFault, is_file};
 use tilt_live_run::RunOptions;
 use tilt_watermarks::Options;
 
-// What the arguments ask for: the file of the query, whether no loops are merged, whether what has begun is written, and whether a bad
-// line stops the run.
+// What the arguments ask for.
 #[derive(Clone, Copy, Debug)]
 pub(crate) struct LiveCommand<'a> {
+    // The file of the query.
     pub(crate) query: &'a str,
-    pub(crate) settings: Settings,
-}
-
-// The options that are set.
-#[derive(Clone, Copy, Debug, PartialEq, Eq)]
-pub(crate) struct Settings {
+    // Whether no loops are merged.
     pub(crate) plain: bool,
-    pub(crate) begun: bool,
-    pub(crate) strict: bool,
+    // What is asked of the run.
+    pub(crate) options: RunOptions,
 }
 
-// The options of the run.
-pub(crate) fn run_options(settings: Settings) -> RunOptions
-    ensures { result ≡ record { with_begun = settings.begun; strict = settings.strict; watermarks = no_watermarks } }
+// All options, each with what it does.
+const LIVE_OPTIONS: [OptionRow; 6] = [
+    // prints also what has begun
+    OptionRow {
+        word: "--begun",
+        shape: Shape::Flag,
+    },
+    // stops at the first bad line
+    OptionRow {
+        word: "--strict",
+        shape: Shape::Flag,
+    },
+    // leaves out fusion, as for `tilt`; the output is the same
+    OptionRow {
+        word: "--plain",
+        shape: Shape::Flag,
+    },
+    // takes lines that come out of order by up to `N` ticks
+    OptionRow {
+        word: "--lateness",
+        shape: Shape::Ticks,
+    },
+    // lets no input be more than `N` ticks behind
+    OptionRow {
+        word: "--idle",
+        shape: Shape::Ticks,
+    },
+    // rejects a line that starts more than `N` ticks ahead
+    OptionRow {
+        word: "--ahead",
+        shape: Shape::Ticks,
+    },
+];
+
+// The command that the arguments are.
+pub(crate) fn read_command(alloc: Global, words: &[String]) -> Result<LiveCommand<'_>, WordsFault>
+    ensures is { MatchResult result
+        (λ command. IsLiveCommand (texts words.now) (command_value command))
+        (λ fault. fault ≡ Usage → (command : CommandValue) → ¬ (IsLiveCommand (texts words.now) command)) }
+
+    // Arguments are one command at most.
+    ensures only { IfOk result (λ command. (other : CommandValue) → IsLiveCommand (texts words.now) other → other ≡ command_value command) }
+{
+    let Some((first, rest)) = words.split_first() else {
+        return Err(WordsFault::Usage);
+    };
+    let query = first.as_str();
+    if !is_file(query) {
+        return Err(WordsFault::Usage);
+    }
+    let given = read_options(alloc, rest)?;
+    if !given.binds.is_empty() {
+        return Err(WordsFault::Usage);
+    }
+    Ok(LiveCommand {
+        query,
+        plain: given.has("--plain"),
+        options: run_options(&given),
+    })
+}
+
+// The arguments after the file of the query.
+fn read_options(alloc: Global, words: &[String]) -> Result<Arguments, WordsFault>
+    ensures { MatchResult result
+        (λ given. AreArguments live_options no_arguments (texts words.now) (arguments_of given))
+        (λ fault. fault ≡ Usage → (given : ArgumentsValue) → ¬ (AreArguments live_options no_arguments (texts words.now) given)) }
+{
+    Arguments::read(alloc, &LIVE_OPTIONS, words)
+}
+
+// What is asked of the run.
+fn run_options(given: &Arguments) -> RunOptions
+    ensures { result ≡ run_options (arguments_of given.now).settings }
 {
     RunOptions {
-        with_begun: settings.begun,
-        strict: settings.strict,
+        with_begun: given.has("--begun"),
+        strict: given.has("--strict"),
         watermarks: Options {
-            idle: None,
-            ahead: None,
-            lateness: None,
+            idle: given.ticks_of("--idle"),
+            ahead: given.ticks_of("--ahead"),
+            lateness: given.ticks_of("--lateness"),
         },
-    }
-}
-
-// The command that the arguments are, if they are one.
-pub(crate) fn read_command(words: &[String]) -> Option<LiveCommand<'_>>
-    ensures { option_map command_value result ≡ command_said (texts words.now) }
-{
-    let (first, rest) = words.split_first()?;
-    let query = first.as_str();
-    if query.is_empty() || query.starts_with("--") {
-        return None;
-    }
-    let none = Settings {
-        plain: false,
-        begun: false,
-        strict: false,
-    };
-    let settings = read_options(none, rest)?;
-    Some(LiveCommand { query, settings })
-}
-
-// Options, added to those that are set. Each is set once.
-fn read_options(given: Settings, words: &[String]) -> Option<Settings>
-    ensures { result ≡ with_options given (texts words.now) }
-{
-    let mut settings = given;
-    for word in words {
-        settings = add_option(settings, word.as_str())?;
-    }
-    Some(settings)
-}
-
-// The settings with one more option.
-fn add_option(given: Settings, word: &str) -> Option<Settings>
-    ensures { result ≡ with_option given word.now }
-{
-    match word {
-        "--plain" if !given.plain => Some(Settings {
-            plain: true,
-            ..given
-        }),
-        "--begun" if !given.begun => Some(Settings {
-            begun: true,
-            ..given
-        }),
-        "--strict" if !given.strict => Some(Settings {
-            strict: true,
-            ..given
-        }),
-        _ => None,
     }
 }

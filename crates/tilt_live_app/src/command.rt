@@ -1,13 +1,13 @@
 // The program's one call.
-ghost use Rattle.std.specs.Prelude.{◌≡◌, ℕ, Some};
+ghost use Rattle.std.specs.Prelude.{◌≡◌, ℕ};
 ghost use Rattle.tilt_cli.specs.Command.{texts};
-ghost use Rattle.tilt_live_app.specs.Arguments.{CommandValue, command_said};
+ghost use Rattle.tilt_live_app.specs.Arguments.{CommandValue, IsLiveCommand};
 ghost use Rattle.tilt_live_app.specs.Lived.{HasLived, HasRun};
 ghost use Rattle.tilt_live_run.specs.Reported.{Reported};
 ghost use Rattle.tilt_outside.specs.Reads.{OnlyReads};
 ghost use Rattle.tilt_report.specs.Report.{line_of, report_of, status_of};
 
-use crate::arguments::{read_command, run_options};
+use crate::arguments::read_command;
 use crate::failure::{Failure, Halt};
 use crate::serve::serve;
 use std::alloc::Global;
@@ -17,8 +17,9 @@ use tilt_port::Port;
 use tilt_report::Fault;
 
 /// Serves the feed of a query. The arguments are the file of the query and options, each at most once: `--plain` leaves out fusion,
-/// `--begun` writes what has begun, and with `--strict` the first bad line ends it. The feed is read from the port until its end, line by
-/// line; what each line makes final is written before more is read.
+/// `--begun` writes what has begun, and with `--strict` the first bad line ends it. `--lateness`, `--idle` and `--ahead`, each with a
+/// number of ticks, are the options of its watermarks. The feed is read from the port until its end, line by line; what each line makes
+/// final is written before more is read.
 ///
 /// The result is the status that the program exits with: 0 the feed ended; 1 the query is rejected, or a line is bad and `--strict` is
 /// given; 2 the arguments are no command; 3 a read failed; 4 a write or a flush failed; 5 there was no memory. A line on `err` reports each
@@ -30,7 +31,7 @@ pub fn live<S: Shelf, P: Port, E: Sink>(
     port: &mut P,
     err: &mut E,
 ) -> u8
-    requires lent { (command : CommandValue) → command_said (texts words.now) ≡ Some command → S.lends command.query }
+    requires lent { (command : CommandValue) → IsLiveCommand (texts words.now) command → S.lends command.query }
     requires lines { (n : ℕ) → E.takes err.old n }
     ensures is { HasLived (texts words.now) S.tells (S.files shelf.old) (S.read_faults shelf.old) (S.read_faults shelf.new) P.tells
         (P.transcript port.old) (P.transcript port.new) E.tells E.written E.faults err.old err.new result }
@@ -54,18 +55,19 @@ fn run<'a, S: Shelf, P: Port, E: Sink>(
     port: &mut P,
     err: &mut E,
 ) -> Result<(), Failure<'a>>
-    requires lent { (command : CommandValue) → command_said (texts words.now) ≡ Some command → S.lends command.query }
+    requires lent { (command : CommandValue) → IsLiveCommand (texts words.now) command → S.lends command.query }
     requires lines { (n : ℕ) → E.takes err.old n }
     ensures is { HasRun (texts words.now) S.tells (S.files shelf.old) (S.read_faults shelf.old) (S.read_faults shelf.new) P.tells
         (P.transcript port.old) (P.transcript port.new) E.tells E.written E.faults err.old err.new result }
     ensures rest { OnlyReads S.files S.read_faults S.save_faults S.takes shelf.old shelf.new }
     ensures takes { (n : ℕ) → E.takes err.new n }
 {
-    let Some(command) = read_command(words) else {
-        return Err(Failure::Unbegun(Fault::Usage));
+    let command = match read_command(alloc, words) {
+        Ok(command) => command,
+        Err(fault) => return Err(Failure::Unbegun(Fault::from(fault))),
     };
-    match load_query(alloc, shelf, command.query, !command.settings.plain) {
-        Ok(query) => match serve(alloc, query.accepted, run_options(command.settings), port, err) {
+    match load_query(alloc, shelf, command.query, !command.plain) {
+        Ok(query) => match serve(alloc, query.accepted, command.options, port, err) {
             Ok(()) => Ok(()),
             Err(halt) => Err(Failure::Halted(halt)),
         },

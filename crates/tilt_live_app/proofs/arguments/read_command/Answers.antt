@@ -1,0 +1,20 @@
+use Rattle.std.proofs.Common.{◌≡◌, ◌==◌, rules, length, refl, sym, ◌∙◌}
+use Rattle.tilt_cli.specs.Arguments.{arguments_of}
+use Rattle.tilt_cli.specs.Command.{texts}
+use Rattle.tilt_live_app.proofs.OneCommand.{front_texts, only_said, some_binds, with_binds}
+use Rattle.tilt_live_app.proofs.arguments.read_command.Goals as goal
+
+pub returns-then-not-is_empty-clause-is : goal.returns-then-not-is_empty-clause-is
+returns-then-not-is_empty-clause-is c =
+    let query = c.as_str-query.result.now in
+    let front = front_texts c.args.words.now c.in-Some.first.now c.in-Some.rest.now query c.in-Some.ensures.cases.0 c.as_str-query.ensures.value in
+    let binds = c.in_ok-given.given.binds.items in
+    let empty : c.is_empty.result ≡ (length binds == 0) = search rules in
+    λ usage. with_binds _ query (texts c.in-Some.rest.now) front (arguments_of c.in_ok-given.given) c.in_ok-given.ensures
+    (some_binds binds (sym empty ∙ c.if-not-is_empty.true))
+
+pub returns-clause-only : goal.returns-clause-only
+returns-clause-only c =
+    let query = c.as_str-query.result.now in
+    let front = front_texts c.args.words.now c.in-Some.first.now c.in-Some.rest.now query c.in-Some.ensures.cases.0 c.as_str-query.ensures.value in
+    only_said _ query (texts c.in-Some.rest.now) front (arguments_of c.in_ok-given.given) c.in_ok-given.ensures _ refl c.has.ensures c.run_options.ensures
