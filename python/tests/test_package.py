@@ -181,7 +181,8 @@ def test_the_completion_has_the_commands_and_their_options(root):
 
 
 def test_the_completion_has_the_options_of_tilt_live(root):
-    assert offered(root, "tilt-live", "query.tilt", "--", by="_tilt_live") == ["--begun", "--plain", "--strict"]
+    options = ["--begun", "--strict", "--plain", "--lateness", "--idle", "--ahead"]
+    assert offered(root, "tilt-live", "query.tilt", "--", by="_tilt_live") == options
 
 
 def test_it_goes_away_again(root):

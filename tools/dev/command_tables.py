@@ -1,10 +1,14 @@
 #!/usr/bin/env python3
-"""Writes what is said of commands and options outside of the program, from the tables that the program reads them by.
+"""Writes what is said of commands and options outside of the programs, from the tables that the programs read them by.
 
-The tables are `OPTIONS` and `COMMANDS` in the sources of the crate that has `src/command_table.rt`. Written from them are the table at the
-top of docs/COMMANDS.md, the table of commands in docs/internals/MEANING.md, the synopsis in docs/tilt.1, and the commands and options in
-tools/package/completion. The options of `tilt-data` in docs/OPTIONS.md are written from its parsers. With --check nothing is written: each
-file that differs is named, the last line is 'N passed, M failed', and the status is 1 if one failed."""
+The tables of `tilt` are `OPTIONS` and `COMMANDS` in the sources of the crate that has `src/command_table.rt`. Written from them are the
+table at the top of docs/COMMANDS.md, the table of commands in docs/internals/MEANING.md, the synopsis in docs/tilt.1, and the commands and
+options in tools/package/completion. The table of `tilt-live` is `LIVE_OPTIONS`. Written from it are the table of options in docs/LIVE.md,
+the synopsis in docs/tilt-live.1, and the options in the completion. docs/tilt-live.1 has to describe just these options, in their order.
+The options of `tilt-data` in docs/OPTIONS.md are written from its parsers.
+
+With --check nothing is written: each file that differs is named, the last line is 'N passed, M failed', and the status is 1 if one
+failed."""
 from __future__ import annotations
 
 import argparse
@@ -18,6 +22,7 @@ TOP = next(folder for folder in pathlib.Path(__file__).resolve().parents if (fol
 
 # What stands for a value in a synopsis, by its shape. A flag has none.
 VALUES = {"Flag": "", "Text": "FILE", "Times": "TIME,TIME,..", "RisingTimes": "TIME,TIME,..", "Numbers": "PART,PART,..", "Cuts": "CUTS"}
+VALUES["Ticks"] = "N"
 
 BIND = "NAME=FILE .."
 
@@ -43,10 +48,12 @@ class Command:
 
 @dataclasses.dataclass(frozen=True)
 class Tables:
-    """The two tables. `options` gives the shape of each option's value."""
+    """The tables. `options` and `live` give the shape of each option's value, and `does` what an option of `tilt-live` does."""
 
     options: dict[str, str]
     commands: tuple[Command, ...]
+    live: dict[str, str]
+    does: dict[str, str]
 
 
 def sources() -> pathlib.Path:
@@ -55,6 +62,14 @@ def sources() -> pathlib.Path:
     if len(found) != 1:
         raise Unreadable(f"{len(found)} crates have src/command_table.rt")
     return found[0].parent
+
+
+def live_source() -> pathlib.Path:
+    """The source file with the options of `tilt-live`."""
+    found = [path for path in sorted(TOP.glob("crates/*/src/*.rt")) if "const LIVE_OPTIONS: " in path.read_text()]
+    if len(found) != 1:
+        raise Unreadable(f"{len(found)} files have LIVE_OPTIONS")
+    return found[0]
 
 
 def rows(text: str, table: str, kind: str) -> list[str]:
@@ -93,18 +108,22 @@ def command(row: str) -> Command:
     )
 
 
+def shapes(found: list[str]) -> dict[str, str]:
+    """The options of a table, each with the shape of its value."""
+    return {field(row, r'word: "(--[a-z-]+)"'): field(row, r"shape: Shape::(\w+)") for row in found}
+
+
 def tables() -> Tables:
     folder = sources()
-    options = {
-        field(row, r'word: "(--[a-z-]+)"'): field(row, r"shape: Shape::(\w+)")
-        for row in rows((folder / "option_table.rt").read_text(), "OPTIONS", "OptionRow")
-    }
+    options = shapes(rows((folder / "option_table.rt").read_text(), "OPTIONS", "OptionRow"))
     commands = tuple(command(row) for row in rows((folder / "command_table.rt").read_text(), "COMMANDS", "CommandRow"))
     for row in commands:
         unknown = [option for option in row.required + row.allowed if option not in options]
         if unknown:
             raise Unreadable(f"{row.word} has {', '.join(unknown)}, which {'is' if len(unknown) == 1 else 'are'} not in OPTIONS")
-    return Tables(options, commands)
+    live = rows(live_source().read_text(), "LIVE_OPTIONS", "OptionRow")
+    does = [field(row, r"^    // (.+)\n") for row in live]
+    return Tables(options, commands, shapes(live), dict(zip(shapes(live), does)))
 
 
 def with_value(option: str, options: dict[str, str]) -> str:
@@ -247,6 +266,32 @@ def completed_options(found: Tables) -> str:
     )
 
 
+def live_options(found: Tables) -> str:
+    """The table of docs/LIVE.md."""
+    lines = [f"| `{with_value(option, found.live)}` | {found.does[option]} |" for option in found.live]
+    return "\n".join(["| option | does |", "|---|---|", *lines, ""])
+
+
+def live_synopsis(found: Tables) -> str:
+    """The part of docs/tilt-live.1 between its headings SYNOPSIS and DESCRIPTION."""
+    lines = [".B tilt-live", ".I QUERY"]
+    for option in found.live:
+        lines += roff_option(option, found.live, True)
+    return "\n".join([*lines, ""])
+
+
+def completed_live(found: Tables) -> str:
+    return " ".join(found.live)
+
+
+def undescribed(found: Tables) -> list[str]:
+    """What is wrong with the options that docs/tilt-live.1 describes: they have to be those of the table, in their order."""
+    options = (TOP / "docs/tilt-live.1").read_text().partition("\n.SH OPTIONS\n")[2].partition("\n.SH ")[0]
+    described = re.findall(r"^\.TP\n\.BI? (.+)$", options, re.M)
+    wanted = [f'{roff(option)} " {VALUES[shape]}"' if VALUES[shape] else roff(option) for option, shape in found.live.items()]
+    return [] if described == wanted else [f"docs/tilt-live.1 describes {', '.join(described)}, and LIVE_OPTIONS has {', '.join(wanted)}"]
+
+
 # Of each file what is written, and where: the pattern matches once, and its group `made` is what is written.
 PLACES: tuple[tuple[str, str, Callable[[Tables], str]], ...] = (
     ("docs/COMMANDS.md", r"^(?P<made>\| command \| prints \|\n(?:\|.*\n)+)", reference),
@@ -255,6 +300,9 @@ PLACES: tuple[tuple[str, str, Callable[[Tables], str]], ...] = (
     ("docs/tilt.1", r"^\.SH SYNOPSIS\n(?P<made>(?:.*\n)*?)\.SH DESCRIPTION$", synopsis),
     ("tools/package/completion", r'^_tilt\(\) \{\n(?:.*\n)*?.*compgen -W "(?P<made>[a-z ]+)"', completed_words),
     ("tools/package/completion", r"^        case \$command in\n(?P<made>(?:.*\n)*?)        esac$", completed_options),
+    ("docs/LIVE.md", r"^(?P<made>\| option \| does \|\n(?:\|.*\n)+)", live_options),
+    ("docs/tilt-live.1", r"^\.SH SYNOPSIS\n(?P<made>(?:.*\n)*?)\.SH DESCRIPTION$", live_synopsis),
+    ("tools/package/completion", r'^_tilt_live\(\) \{\n(?:.*\n)*?.*compgen -W "(?P<made>[a-z -]+)"', completed_live),
 )
 
 
@@ -275,15 +323,18 @@ def main() -> int:
     for name, pattern, make in PLACES:
         texts[name] = written(texts.get(name) or (TOP / name).read_text(), name, pattern, make(found))
     other = [name for name, text in texts.items() if (TOP / name).read_text() != text]
+    wrong = undescribed(found)
+    for line in wrong:
+        print(line)
     if check:
         for name in other:
             print(f"{name} isn't what the tables of commands and options say: call tools/dev/command_tables.py")
-        print(f"{len(texts) - len(other)} passed, {len(other)} failed")
-        return 1 if other else 0
+        print(f"{len(texts) + 1 - len(other) - len(wrong)} passed, {len(other) + len(wrong)} failed")
+        return 1 if other or wrong else 0
     for name in other:
         (TOP / name).write_text(texts[name])
         print(name)
-    return 0
+    return 1 if wrong else 0
 
 
 if __name__ == "__main__":
