@@ -6,16 +6,19 @@ import hashlib
 import json
 import os
 import pathlib
+import random
 import re
 import signal
 import subprocess
 import sys
 import tempfile
+import threading
 import time
+from typing import Any
 
 import pytest
 from conftest import PYTHON
-from tilt_data import table
+from tilt_data import files, table
 from tilt_data.clock import Clock
 from tilt_data.errors import Refused, printable
 from tilt_data.files import Digested, Notes, Outputs, notes_of, placed, reading, rows_of, safe, unsafe
@@ -538,3 +541,87 @@ def test_a_key_comes_back_from_its_name(text):
 @pytest.mark.parametrize("name", ["%41", "Zürich", "a%2fb", "100%", ".x"])
 def test_a_name_that_no_key_has_is_its_own_key(name):
     assert unsafe(name) == name
+
+
+FAR, LARGE = 4 * 10**18, 2**63 - 1
+# Lines that aren't read as plain rows are, or that no row is.
+ODD = """0,5,+1|5,9,|-5,-3,-0|"0",5,1|"0",5,"1|0,5| 0,5,1|0,5,1,2|1_0,20,3|٣,5,1|0,5,--1|5-,6,1|-,5,1|,5,1|0,,1|,,|5,5,1|6,5,1|0,5,x||0,5,1 |\ufeff0,5,1"""
+ODD_LINES = [
+    *ODD.split("|"),
+    "\0,1,2",
+    "0" * 5000 + "1,5,1",
+    "0,1," + "1" * 5000,
+    f"0,1,{LARGE + 1}",
+    f"0,1,{-LARGE - 2}",
+    f"{-FAR - 1},5,1",
+]
+FINE_LINES = [f"{FAR - 1},{FAR},{LARGE}", f"{FAR - 1},{FAR + 1},1", f"{-FAR},{1 - FAR},{-LARGE - 1}", "007,0009,-05", "start,end,value"]
+
+
+def made_file(draws: random.Random) -> bytes:
+    """A file of rows, some of them odd, with line ends of all kinds."""
+    time, lines = draws.choice([0, -50, 10**17]), [draws.choice(["start,end,value"] * 20 + ["start,end", "a,b,c", ""])]
+    for _ in range(draws.randrange(0, 60)):
+        start = time + draws.choice([0, 0, 3])
+        time = start + draws.choice([1, 7, 10**6])
+        lines.append(f"{start},{time},{draws.choice([0, -1, 10**17, LARGE, ''])}")
+    for _ in range(draws.choice([0, 0, 1, 2])):
+        lines.insert(draws.randrange(0, len(lines) + 1), draws.choice(ODD_LINES + FINE_LINES))
+    ends = draws.choice([["\n"], ["\r\n"], ["\n"] * 30 + ["\r", "\r\n", "\n\n", "\r\r\n"]])
+    data = bytearray(draws.choice(["", "", "\ufeff"]).encode())
+    for line in lines:
+        data += (line + draws.choice(ends)).encode()
+    if draws.random() < 0.3:
+        data = data.rstrip(b"\r\n")
+    if draws.random() < 0.1:
+        data.insert(draws.randrange(0, len(data) + 1), 0xFF)
+    return bytes(data)
+
+
+def taken(read: Any, path: str, sha256: str | None) -> tuple[list[Any], str]:
+    """The rows that a reader hands on, and its error."""
+    rows: list[Any] = []
+    try:
+        with reading(path, sha256=sha256) as file:
+            rows.extend(read(path, file))
+    except Refused as error:
+        return rows, str(error)
+    return rows, ""
+
+
+def test_rows_that_are_read_together_are_those_that_are_read_one_by_one(tmp_path, monkeypatch):
+    draws, path, errors = random.Random(11), str(tmp_path / "x.csv"), set()
+    for _ in range(600):
+        data = made_file(draws)
+        pathlib.Path(path).write_bytes(data)
+        monkeypatch.setattr(files, "AT_ONCE", draws.choice([1, 5, 40, 300, 1 << 16]))
+        sha256 = draws.choice([None, hashlib.sha256(data).hexdigest(), "0" * 64])
+        wanted = taken(files.rows_one_by_one, path, sha256)
+        assert taken(rows_of, path, sha256) == wanted, data
+        errors.add(re.sub(r"[0-9]+|,? not .*", "", wanted[1]))
+    # All kinds of errors have come, and rows without one.
+    assert "" in errors and len(errors) >= 8, errors
+
+
+def test_plain_rows_are_read_together(tmp_path, monkeypatch):
+    """Neither the sign of a minus, nor a value that is null, nor an end of a line of two signs needs a reader of records."""
+    text = "\ufeffstart,end,value\r\n" + "".join(f"{at},{at + 1},{'' if at % 50 == 7 else -at}\r\n" for at in range(-9000, 9000))
+    path = tmp_path / "x.csv"
+    path.write_bytes(text.encode()[:-2])
+    wanted = taken(files.rows_one_by_one, str(path), None)
+    monkeypatch.setattr(files, "records", None)
+    assert taken(rows_of, str(path), None) == wanted and len(wanted[0]) == 18000
+
+
+def test_rows_of_a_pipe_are_handed_on_as_they_come():
+    source, target = os.pipe()
+    with open(source, encoding="utf-8", newline="") as file, open(target, "w") as pipe:
+        # What waits for more than a row fails, and doesn't hang.
+        ending = threading.Timer(10, pipe.close)
+        ending.start()
+        rows = rows_of("x", file)
+        for number in range(3):
+            pipe.write(("" if number else "start,end,value\n") + f"{number},{number + 1},5\n")
+            pipe.flush()
+            assert next(rows) == (number, number + 1, 5)
+        ending.cancel()

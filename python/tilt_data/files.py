@@ -8,7 +8,9 @@ import dataclasses
 import errno
 import hashlib
 import io
+import itertools
 import json
+import operator
 import os
 import re
 import shutil
@@ -25,6 +27,8 @@ from .version import VERSION
 
 Row = tuple[int, int, "int | None"]
 HEADER = ["start", "end", "value"]
+# How many characters of rows are read at a time.
+AT_ONCE = 1 << 16
 # How the program spells a number, and the numbers that it takes (`read_number` of crates/tilt_base).
 WHOLE = re.compile(r"[+-]?[0-9]+", re.ASCII)
 SMALLEST, LARGEST = -(2**63), 2**63 - 1
@@ -61,6 +65,20 @@ class Digested(io.RawIOBase):
         self.digest.update(memoryview(buffer)[:count])
         self.ended = self.ended or not count
         return count
+
+    def fileno(self) -> int:
+        return self.raw.fileno()
+
+    def seekable(self) -> bool:
+        return True
+
+    def seek(self, offset: int, whence: int = os.SEEK_SET) -> int:
+        """Goes to the start, and the digest with it. Elsewhere it doesn't go, but says where it is."""
+        if (offset, whence) == (0, os.SEEK_SET):
+            self.digest, self.ended = hashlib.sha256(), False
+        elif (offset, whence) != (0, os.SEEK_CUR):
+            raise io.UnsupportedOperation("seek")
+        return self.raw.seek(offset, whence)
 
     def close(self) -> None:
         self.raw.close()
@@ -123,7 +141,7 @@ def undecodable(path: str) -> int | None:
     return None
 
 
-def records(path: str, file: IO[str], delimiter: str = ",") -> Iterator[tuple[int, list[str]]]:
+def records(path: str, file: Iterable[str], delimiter: str = ",") -> Iterator[tuple[int, list[str]]]:
     """Each record that isn't empty, with the number of the line on which it ends, from 1. One that is torn is told by the line on which it
     begins."""
     reader = csv.reader(file, delimiter=delimiter, strict=True)
@@ -139,7 +157,83 @@ def records(path: str, file: IO[str], delimiter: str = ",") -> Iterator[tuple[in
 
 def rows_of(path: str, file: IO[str]) -> Iterator[Row]:
     """The rows of a series or an output: start, end and value of each, in ticks and whole numbers; null is None. What the program rejects
-    is rejected here too, with its line."""
+    is rejected here too, with its line. A file that can be read again is read many rows at a time, until rows aren't spelled plainly; then
+    it is read again, row by row."""
+    count = 0
+    if is_regular(file):
+        try:
+            for rows in blocks_of_rows(file):
+                if rows is None:
+                    break
+                yield from rows
+                count += len(rows)
+            else:
+                return
+        except UnicodeDecodeError:
+            pass
+        file.seek(0)
+    yield from itertools.islice(rows_one_by_one(path, file), count, None)
+
+
+def is_regular(file: IO[str]) -> bool:
+    """Whether it is a file from whose start it can be read again. Rows of a pipe are handed on as they come."""
+    try:
+        return stat.S_ISREG(os.fstat(file.fileno()).st_mode) and file.seekable() and file.tell() == 0
+    except (OSError, ValueError):
+        return False
+
+
+def blocks_of_rows(file: IO[str]) -> Iterator[list[Row] | None]:
+    """The rows of a file, many at a time. The last block is None if row by row something else may be found."""
+    before, rest, is_first = -TIMES, "", True
+    while text := file.read(AT_ONCE):
+        block, end, rest = (rest + text).rpartition("\n")
+        if is_first and end:
+            header, _, block = block.partition("\n")
+            is_first = False
+            if header.removesuffix("\r") != ",".join(HEADER):
+                break
+        if block:
+            rows = plain_rows(block, before)
+            if rows is None:
+                break
+            yield rows
+            before = rows[-1][1]
+        if len(rest) > AT_ONCE:
+            break
+    else:
+        rows = plain_rows(rest, before) if rest else []
+        if rows is not None and not is_first:
+            yield rows
+            return
+    yield None
+
+
+def plain_rows(text: str, before: int) -> list[Row] | None:
+    """The rows of some lines, of which the last has no line end, after a row that ends at `before`. None if a row isn't spelled plainly, by
+    digits and a sign of minus, or isn't in order or too large: `row_of` knows then whether that is an error."""
+    if not text.isascii():
+        return None
+    text = text.replace("\r\n", "\n").removesuffix("\r") + "\n"
+    if text.encode().translate(None, b"0123456789-") != b",,\n" * text.count("\n"):
+        return None
+    fields = text.replace("\n", ",").split(",")
+    try:
+        starts, ends = list(map(int, fields[0:-1:3])), list(map(int, fields[1::3]))
+        known = list(map(int, filter(None, fields[2::3])))
+    except ValueError:
+        return None
+    values: list[Any] = known
+    if len(known) < len(starts):
+        values = [int(value) if value else None for value in fields[2::3]]
+    in_order = all(map(operator.lt, starts, ends)) and all(map(operator.le, ends, starts[1:]))
+    if not in_order or not before <= starts[0] or ends[-1] > TIMES or known and not SMALLEST <= min(known) <= max(known) <= LARGEST:
+        return None
+    return list(zip(starts, ends, values))
+
+
+def rows_one_by_one(path: str, file: Iterable[str]) -> Iterator[Row]:
+    """The rows of a series or an output, each by its record."""
     found = records(path, file)
     line, header = next(found, (1, []))
     if header != HEADER:
