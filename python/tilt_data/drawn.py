@@ -36,11 +36,13 @@ class Drawn:
             yield from rows_of(self.file, opened)
 
 
-def add_drawn(parser: argparse.ArgumentParser) -> None:
-    """The arguments that say what is drawn."""
+def add_drawn(parser: argparse.ArgumentParser, has_end: bool = True) -> None:
+    """The arguments that say what is drawn. What is still arriving has no end."""
     parser.add_argument("words", nargs="+", metavar="[+][band:|limit:|dots:]NAME=FILE")
     parser.add_argument("--from", dest="begin", metavar="TIME", help="the begin of the picture: ISO 8601, or a tick")
-    parser.add_argument("--to", dest="end", metavar="TIME", help="its end")
+    if has_end:
+        parser.add_argument("--to", dest="end", metavar="TIME", help="its end")
+    parser.set_defaults(end=None)
     parser.add_argument("--like", metavar="SERIES", help="the series whose clock and scale the files without a JSON file have")
     parser.add_argument("--scale", action="append", metavar="[NAME=]N", default=[], help="values are divided by N")
     parser.add_argument("--unit", action="append", metavar="NAME=TEXT", default=[], help="the unit of values, such as temperature=°C")

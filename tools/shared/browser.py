@@ -141,12 +141,16 @@ class Browser:
 
     def open(self, path: str, place: str = "") -> None:
         """Opens a file, and waits until it is loaded. An empty page comes between, so that another place in the same file is loaded too."""
-        for url in ("about:blank", f"file://{os.path.abspath(path)}{place}"):
-            self.loaded, self.requests = False, []
-            self.call("Page.navigate", url=url)
-            until = time.monotonic() + PATIENCE
-            while not self.loaded:
-                self.receive(until)
+        self.go("about:blank")
+        self.go(f"file://{os.path.abspath(path)}{place}")
+
+    def go(self, url: str) -> None:
+        """Goes to an address, and waits until it is loaded. `requests` has what was asked for since then."""
+        self.loaded, self.requests = False, []
+        self.call("Page.navigate", url=url)
+        until = time.monotonic() + PATIENCE
+        while not self.loaded:
+            self.receive(until)
 
     def value(self, expression: str) -> Any:
         """The value of an expression of JavaScript, or of its promise."""

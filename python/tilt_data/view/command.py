@@ -23,8 +23,9 @@ NAME=FILE starts a panel, and +NAME=FILE after it is drawn into the same panel. 
 has dots, and +band:NAME=FILE is a shaded band where FILE has a value other than 0. Each stretch of a band is in a table of episodes, from
 which you go to it. The values under the pointer are exact. The clock and the scale are those of the JSON file beside each file, or of the
 series that --like names. If there is neither, the axis has ticks. One FILE can be - for standard input."""
-# The scripts of the page, in order.
+# The scripts of the page, in order, and what a browser may run and load for it.
 SCRIPTS = ["numbers.js", "axis.js", "series.js", "chart.js", "page.js"]
+POLICY = "default-src 'none'; script-src 'unsafe-inline'; style-src 'unsafe-inline'"
 
 
 @dataclasses.dataclass
@@ -64,12 +65,18 @@ def main(words: argparse.Namespace) -> int:
     if not words.out.lower().endswith((".html", ".htm")):
         raise Refused(f"{words.out}: a name that ends in .html was expected")
     panels = panels_of(words)
-    title = printable(words.title or ", ".join(numbers_of(panels)) or "tilt-data view")
+    title = title_of(words, panels)
     with scratch() as folder:
         copy_pipes(panels, folder)
         with writing(words.out) as file:
             write_page(file, words, panels, title)
     return 0
+
+
+def title_of(words: argparse.Namespace, panels: list[list[Drawn]]) -> str:
+    """The title that is given, or the names of lines and dots, or of all if there are none."""
+    names = list(numbers_of(panels)) or [one.name for panel in panels for one in panel]
+    return printable(words.title or ", ".join(dict.fromkeys(names)))
 
 
 def asset(name: str) -> str:
@@ -80,22 +87,48 @@ def write_page(file: IO[str], words: argparse.Namespace, panels: list[list[Drawn
     """Writes the page: its head, the texts of each file as they are read, and then what they mean, and the scripts."""
     clock = clock_of(panels)
     given = stretch_given(words, clock)
-    before, after = asset("page.html").replace("{title}", html.escape(title)).split("{data}")
-    file.write(before.replace("{style}", asset("page.css")))
-    gap = gap_of(words.gap, clock)
+    before, after = frame_of(title, POLICY, SCRIPTS)
+    file.write(before)
     written: dict[str, Written] = {}
+    write_files(file, panels, given, gap_of(words.gap, clock), written)
+    fields = fields_of_page(words, panels, clock, stretch_of(given, extent_of(written)), written)
+    file.write(fields_element({"title": title, **fields}))
+    file.write(after)
+
+
+def frame_of(title: str, policy: str, scripts: list[str]) -> tuple[str, str]:
+    """The text of a page before its data, and the text after them."""
+    before, after = asset("page.html").split("{data}")
+    before = before.replace("{policy}", policy).replace("{style}", asset("page.css"))
+    return before.replace("{title}", html.escape(title)), after.replace("{script}", "\n".join(map(asset, scripts)))
+
+
+def write_files(
+    file: IO[str], panels: list[list[Drawn]], given: tuple[int | None, int | None], gap: int, written: dict[str, Written]
+) -> None:
+    """Writes the rows of each file that isn't among those that are written, and adds it to them."""
     for one in (one for panel in panels for one in panel):
         if one.file not in written:
-            is_band = any(other.form == "band" and other.file == one.file for panel in panels for other in panel)
-            written[one.file] = write_rows(file, one, len(written), given, gap if is_band else None)
+            written[one.file] = write_rows(file, one, len(written), given, gap if is_band(one.file, panels) else None)
+
+
+def is_band(file: str, panels: list[list[Drawn]]) -> bool:
+    """Whether a file is drawn as a band."""
+    return any(one.form == "band" and one.file == file for panel in panels for one in panel)
+
+
+def extent_of(written: dict[str, Written]) -> tuple[int, int] | None:
+    """The extent of all rows, or None if there is none."""
     extent = None
     for part in written.values():
         if part.extent is not None:
             extent = widened(extent, *part.extent)
-    page = fields_of_page(words, panels, clock, stretch_of(given, extent), written)
-    # A text can't end the element that it is in.
-    file.write(element("page", json.dumps({"title": title, **page}, ensure_ascii=False).replace("<", "\\u003c"), "application/json"))
-    file.write(after.replace("{script}", "\n".join(map(asset, SCRIPTS))))
+    return extent
+
+
+def fields_element(fields: dict[str, Any]) -> str:
+    """The element that has what the page has to know. A text can't end the element that it is in."""
+    return element("page", json.dumps(fields, ensure_ascii=False).replace("<", "\\u003c"), "application/json")
 
 
 def element(name: str, text: str, kind: str = "text/plain") -> str:

@@ -6,12 +6,14 @@ const FAR = 2 ** 45, LEAST_SPAN = 3, ROWS = 200, READINGS = 60;
 class Episodes {
   constructor(lists, base) {
     this.base = base;
-    this.lists = lists.map(([series, starts, ends]) => {
+    this.given = lists;
+    this.lists = lists.map(([series, starts, ends, lasts]) => {
       const numbers = (times) => {
         const [offsets, shift] = times.from(base);
         return shift ? offsets.map((offset) => offset + shift) : offsets;
       };
-      return { series, exactStarts: starts, exactEnds: ends, starts: numbers(starts), ends: numbers(ends), count: numbers(starts).length };
+      const from = numbers(starts);
+      return { series, lasts, exactStarts: starts, exactEnds: ends, starts: from, ends: numbers(ends), count: from.length };
     });
     this.count = this.lists.reduce((sum, { count }) => sum + count, 0);
     this.order = this.lists.length > 1 ? this.merged() : null;
@@ -37,7 +39,7 @@ class Episodes {
 
   at(number) {
     const [list, at] = this.order ? this.order[number] : [this.lists[0], number];
-    return { series: list.series, start: list.exactStarts.at(at), end: list.exactEnds.at(at) };
+    return { series: list.series, start: list.exactStarts.at(at), end: list.exactEnds.at(at), lasts: list.lasts && at + 1 === list.count };
   }
 
   of(series) {
@@ -50,7 +52,9 @@ class Page {
     this.lo = BigInt(fields.lo);
     this.hi = BigInt(fields.hi);
     this.clock = fields.clock && new Clock(fields.clock, fields.steps);
-    this.series = fields.series.map((one, number) => new Series(one, number, this.lo, () => this.redraw()));
+    this.series = fields.series.map((one, number) => {
+      return one.live ? new LiveSeries(one, number, fields.live) : new Series(one, number, this.lo, () => this.redraw());
+    });
     this.fields = fields;
     this.episodes = new Episodes([], this.lo);
     this.canvas = document.getElementById("chart");
@@ -65,6 +69,7 @@ class Page {
     this.selected = null;
     this.firstRow = 0;
     this.frame = null;
+    this.live = fields.live ? new Live(this, fields.live) : null;
   }
 
   async open() {
@@ -74,6 +79,7 @@ class Page {
     this.goToPlace(location.hash);
     this.listen();
     this.draw();
+    if (this.live) this.live.listen();
   }
 
   // What is in view.
@@ -90,13 +96,14 @@ class Page {
   draw() {
     const { selected, episodes } = this;
     const picked = selected === null ? null : episodes.at(selected);
-    const place = picked && { series: picked.series, start: Number(picked.start - this.lo), end: Number(picked.end - this.lo) };
-    this.chart.draw(this.view, episodes, place);
+    const offset = (tick) => Number(tick - episodes.base);
+    this.chart.draw(this.view, episodes, picked && { series: picked.series, start: offset(picked.start), end: offset(picked.end) });
     this.chart.drawCursor(this.cursor, this.rows);
+    if (this.live) document.getElementById("follow").setAttribute("aria-pressed", this.live.follows);
   }
 
-  // Shows a stretch that starts so many ticks after an anchor, as far as the page has it.
-  show(anchor, lo, span) {
+  // Shows a stretch that starts so many ticks after an anchor, as far as the page has it, and notes it in the address.
+  show(anchor, lo, span, isNoted = true) {
     const whole = Number(this.hi - this.lo);
     span = Math.min(whole, Math.max(Math.min(LEAST_SPAN, whole), span));
     const least = Number(this.lo - anchor), most = Number(this.hi - anchor) - span;
@@ -107,6 +114,7 @@ class Page {
     }
     this.view = { anchor, lo, span };
     this.redraw();
+    if (!isNoted) return;
     clearTimeout(this.noting);
     this.noting = setTimeout(() => this.noteAddress(), 150);
   }
@@ -117,10 +125,10 @@ class Page {
     this.show(anchor, lo + (span - later) * share, later);
   }
 
-  // Zooms around the cursor if it is in view, else around the middle.
+  // Zooms around the cursor if it is in view, else around the middle, or around the end that is followed.
   zoomHere(factor) {
     const share = this.cursor === null ? -1 : (Number(this.cursor - this.view.anchor) - this.view.lo) / this.view.span;
-    this.zoom(factor, share >= 0 && share <= 1 ? share : 0.5);
+    this.zoom(factor, share >= 0 && share <= 1 ? share : this.live && this.live.follows ? 1 : 0.5);
   }
 
   pan(share) {
@@ -137,7 +145,8 @@ class Page {
   noteAddress() {
     const [from, to] = this.edges;
     const at = this.cursor === null ? "" : `&at=${this.cursor}`;
-    const place = from <= this.lo && to >= this.hi && !at ? location.pathname + location.search : addressOf(from, to) + at;
+    const stretch = this.live && this.live.follows ? `#last=${to - from}` : addressOf(from, to);
+    const place = from <= this.lo && to >= this.hi && !at ? location.pathname + location.search : stretch + at;
     try {
       history.replaceState(null, "", place);
     } catch {
@@ -149,8 +158,9 @@ class Page {
   goToPlace(hash) {
     const words = new URLSearchParams(hash.slice(1));
     const number = (name) => (/^-?\d{1,20}$/.test(words.get(name) || "") ? BigInt(words.get(name)) : null);
-    const [from, to, at] = ["from", "to", "at"].map(number);
+    const [from, to, at, last] = ["from", "to", "at", "last"].map(number);
     if (from !== null && to !== null && from < to) this.show(from, 0, Number(to - from));
+    if (last !== null && last > 0n && this.live) this.live.follow(Number(last));
     if (at !== null) {
       const found = lastWhere(this.episodes.count, (number) => this.episodes.at(number).start <= at);
       this.select(found >= 0 && this.episodes.at(found).start === at ? found : null);
@@ -178,21 +188,23 @@ class Page {
     return (this.reading = this.showValues(tick));
   }
 
-  async showValues(tick) {
-    if (tick === null) {
+  // Without a cursor, the values are the newest ones if rows arrive.
+  async showValues(cursor) {
+    if (cursor === null && !this.live) {
       this.rows = null;
       this.chart.drawCursor(null);
       return;
     }
-    const asked = (this.asked = {});
+    const asked = (this.asked = {}), tick = cursor === null ? this.live.now - 1n : cursor;
     const rows = new Map();
     for (const one of this.chart.panels.flat()) rows.set(one, await this.rowAt(one, tick));
     // Another place may have been asked for since.
-    if (this.asked !== asked || this.cursor !== tick) return;
-    this.rows = rows;
-    this.chart.drawCursor(tick, rows);
+    if (this.asked !== asked || this.cursor !== cursor) return;
+    this.rows = cursor === null ? null : rows;
+    this.chart.drawCursor(cursor, rows);
     const moment = document.getElementById("moment");
-    moment.textContent = this.clock ? `${this.timeText(tick)}, tick ${tick + 1n}` : `tick ${tick + 1n}`;
+    const text = this.clock ? `${this.timeText(tick)}, tick ${tick + 1n}` : `tick ${tick + 1n}`;
+    moment.textContent = cursor === null ? `Newest: ${text}` : text;
     for (const element of [moment, document.getElementById("values")]) element.classList.add("set");
     for (const one of this.shown) this.fillValue(one, rows.get(one));
   }
@@ -217,17 +229,22 @@ class Page {
   fillValue(one, row) {
     const [value, times] = one.cells;
     value.textContent = row ? decimalText(row.value, one.scale) + (one.unit && ` ${one.unit}`) : "no value";
-    times.replaceChildren(...(row ? this.stretchText(row.start, row.end) : []));
+    times.replaceChildren(...(row ? this.stretchText(row) : []));
   }
 
   timeText(tick) {
     return this.clock ? this.clock.text(this.clock.moment(tick)) : String(tick);
   }
 
-  // From and to; the day isn't said again.
-  stretchText(start, end) {
+  // From and to.
+  stretchText(row) {
+    return [document.createTextNode(this.timeText(row.start)), " ", document.createTextNode(`\u2013 ${this.endText(row)}`)];
+  }
+
+  // The end of a row or an episode; the day isn't said again.
+  endText({ start, end, lasts }) {
     const from = this.timeText(start), to = this.timeText(end);
-    return [document.createTextNode(from), " ", document.createTextNode(`\u2013 ${this.clock && sameDay(from, to) ? to.slice(11) : to}`)];
+    return lasts ? "not over" : this.clock && sameDay(from, to) ? to.slice(11) : to;
   }
 
   // Goes from reading to reading of the first series that is a line or dots.
@@ -276,10 +293,9 @@ class Page {
       row.insertCell().textContent = at + 1;
       if (several) row.insertCell().append(swatchOf(band), band.name);
       row.insertCell().append(link);
-      const begun = this.timeText(one.start), ended = this.timeText(one.end);
-      row.insertCell().textContent = this.clock && sameDay(begun, ended) ? ended.slice(11) : ended;
+      row.insertCell().textContent = this.endText(one);
       const length = row.insertCell();
-      length.textContent = this.lengthText(one.end - one.start);
+      length.textContent = one.lasts ? "" : this.lengthText(one.end - one.start);
       length.className = "number";
       if (at === this.selected) row.setAttribute("aria-current", "true");
     }
@@ -287,6 +303,23 @@ class Page {
     document.getElementById("which").textContent = `${this.firstRow + 1} to ${end}`;
     document.getElementById("earlier").disabled = this.firstRow === 0;
     document.getElementById("later").disabled = end === count;
+  }
+
+  // Takes other episodes. The one that is selected stays so, and the table is filled again only if it changes.
+  replaceEpisodes(lists) {
+    const { selected, firstRow, episodes: before } = this, picked = selected === null ? null : before.at(selected);
+    const episodes = (this.episodes = new Episodes(lists, this.lo)), { count } = episodes;
+    const found = picked ? lastWhere(count, (at) => episodes.at(at).start <= picked.start) : -1;
+    this.selected = found < 0 ? null : found;
+    if (firstRow + ROWS >= before.count || firstRow >= count) this.firstRow = Math.floor(Math.max(0, count - 1) / ROWS) * ROWS;
+    const shown = Array.from({ length: Math.min(ROWS, count - this.firstRow) }, (_, at) => episodes.at(this.firstRow + at));
+    const listed = `${count} ${shown.map(({ series, start, end, lasts }) => [series, start, lasts ? "" : end])}`;
+    if (listed === this.listed) return;
+    this.listed = listed;
+    const focused = document.activeElement.dataset.episode;
+    this.fillEpisodes();
+    const link = focused && document.querySelector(`a[data-episode="${focused}"]`);
+    if (link) link.focus({ preventScroll: true });
   }
 
   lengthText(ticks) {
@@ -338,7 +371,7 @@ class Page {
     this.show(from, 0, Number(to - from));
     this.setCursor(one.start);
     document.querySelector(".charts").scrollIntoView({ block: "nearest" });
-    this.say(`Episode ${number + 1} of ${this.episodes.count}: from ${this.timeText(one.start)} to ${this.timeText(one.end)}`);
+    this.say(`Episode ${number + 1} of ${this.episodes.count}: from ${this.timeText(one.start)} ${one.lasts ? "on" : `to ${this.timeText(one.end)}`}`);
   }
 
   next(by) {
@@ -365,6 +398,7 @@ class Page {
     else if (key === "Home") this.whole();
     else if (key === "n" || key === "p") this.next(key === "n" ? 1 : -1);
     else if (key === "Escape") this.leave();
+    else if (key === "f" && this.live) this.live.follow(this.view.span);
     else return false;
     return true;
   }

@@ -1,0 +1,102 @@
+"""`tilt-data serve`: the page of `view` while rows arrive."""
+from __future__ import annotations
+
+import argparse
+import io
+import os
+import threading
+from typing import Any
+
+from .arrivals import Arrivals, note, read_arrivals
+from .drawn import Drawn, add_drawn, clock_of, panels_of, stretch_given, stretch_of, zone_name_of
+from .errors import Refused
+from .view.coding import Summary, fields_of
+from .view.command import POLICY, SCRIPTS, Written, extent_of, fields_element, fields_of_clock, fields_of_page
+from .view.command import frame_of, gap_of, is_band, title_of, write_files
+
+HELP = """Shows the page of `view` at an address of this machine while rows arrive, until Ctrl-C. A FILE that is - for standard input, or
+a named pipe, has lines as `tilt-live` prints them, with or without --begun, and each row is drawn as soon as it is there. Other files are
+read once, as by `view`. The lines of standard input are also printed."""
+# The scripts of the page, and what a browser may load for it: its rows too. Nothing may have it within another page.
+LIVE_SCRIPTS = [*SCRIPTS[:-1], "live.js", SCRIPTS[-1]]
+LIVE_POLICY = f"{POLICY}; connect-src 'self'"
+SERVED_POLICY = f"{LIVE_POLICY}; base-uri 'none'; form-action 'none'; frame-ancestors 'none'"
+# How many rows of each series are kept.
+KEPT = 100_000
+# A client has so many seconds to take what was sent before the command ends.
+LEAVING = 2.0
+# A page knows the changes of the clocks from 1970 to 2100, in nanoseconds since 1970.
+YEARS = 0, 4_102_444_800 * 10**9
+
+
+def add(commands: Any) -> None:
+    parser = commands.add_parser("serve", help="that page while rows arrive, for a browser of this machine", description=HELP)
+    add_drawn(parser, has_end=False)
+    parser.add_argument("--gap", metavar="DURATION", help="stretches of a band no farther apart are one episode, as 30s")
+    parser.add_argument(
+        "--keep", metavar="N", type=int, default=KEPT, help=f"how many rows of each live series are kept; {KEPT} without it"
+    )
+    parser.add_argument("--port", type=int, default=0, help="the port of the address; without it the system chooses one")
+    parser.add_argument("--quiet", action="store_true", help="don't print the lines of standard input")
+    parser.add_argument("--exit", action="store_true", help="end with the input, and not by Ctrl-C")
+    parser.set_defaults(main=main)
+
+
+def main(words: argparse.Namespace) -> int:
+    if words.keep < 1:
+        raise Refused("--keep: 1 or more was expected")
+    if not 0 <= words.port < 1 << 16:
+        raise Refused("--port: a number from 0 to 65535 was expected")
+    panels = panels_of(words)
+    live = list(dict.fromkeys(one.file for panel in panels for one in panel if is_live(one.file)))
+    if not live:
+        raise Refused("no rows arrive: - or a named pipe was expected as one FILE (`view` shows files alone)")
+    page = page_of(words, panels, live)
+    arrivals = Arrivals(len(live), words.keep)
+    # This module takes longer to import than most commands to start.
+    from .server import Server
+
+    try:
+        server = Server(words.port, page, SERVED_POLICY, arrivals)
+    except OSError as error:
+        raise Refused(f"--port {words.port}: {error.strerror}") from error
+    with server:
+        note(f"the page is {server.address} until Ctrl-C")
+        for number, file in enumerate(live):
+            is_printed = file == "-" and not words.quiet
+            threading.Thread(target=read_arrivals, args=(arrivals, number, file, is_printed), daemon=True).start()
+        arrivals.wait()
+        if not words.exit:
+            note("the input has ended; the page stays until Ctrl-C")
+            threading.Event().wait()
+        arrivals.wait_for_clients(LEAVING)
+    return 0
+
+
+def is_live(file: str) -> bool:
+    """Whether rows arrive in a file: it is standard input or a pipe."""
+    return file == "-" or os.path.exists(file) and not os.path.isfile(file)
+
+
+def page_of(words: argparse.Namespace, panels: list[list[Drawn]], live: list[str]) -> str:
+    """The text of the page. Files in which rows arrive are empty in it, and its first series, in order; the others are read now."""
+    clock = clock_of(panels)
+    given, gap = stretch_given(words, clock), gap_of(words.gap, clock)
+    empty = fields_of([], Summary(), [])
+    written = {file: Written({**empty, "live": {"band": is_band(file, panels)}}, None) for file in live}
+    before, after = frame_of(title_of(words, panels), LIVE_POLICY, LIVE_SCRIPTS)
+    text = io.StringIO()
+    text.write(before)
+    write_files(text, panels, given, gap, written)
+    extent = extent_of(written)
+    if extent is not None and given[0] is not None and extent[1] <= given[0]:
+        extent = None
+    stretch = stretch_of(given, extent)
+    fields: dict[str, Any] = {"title": title_of(words, panels), **fields_of_page(words, panels, clock, stretch, written)}
+    fields["live"] = {"keep": words.keep, "gap": str(gap), "known": extent is not None, "fixed": given[0] is not None}
+    if clock is not None:
+        years = min(stretch[0], clock.start(YEARS[0])), max(stretch[1], clock.start(YEARS[1]))
+        fields["clock"] = fields_of_clock(clock, years, zone_name_of(words, panels))
+    text.write(fields_element(fields))
+    text.write(after)
+    return text.getvalue()
