@@ -15,7 +15,7 @@ from .view.command import POLICY, SCRIPTS, Written, extent_of, fields_element, f
 from .view.command import frame_of, gap_of, is_band, title_of, write_files
 
 HELP = """Shows the page of `view` at an address of this machine while rows arrive, until Ctrl-C. A FILE that is - for standard input, or
-a named pipe, has lines as `tilt-live` prints them, with or without --begun, and each row is drawn as soon as it is there. Other files are
+a named pipe, has lines as `tilt-live` prints them, with or without --begun. Each row is drawn as soon as it is there. Other files are
 read once, as by `view`. The lines of standard input are also printed."""
 # The scripts of the page, and what a browser may load for it: its rows too. Nothing may have it within another page.
 LIVE_SCRIPTS = [*SCRIPTS[:-1], "live.js", SCRIPTS[-1]]

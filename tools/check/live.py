@@ -7,8 +7,9 @@ It goes to the program in random pieces through a pipe. After each piece the che
 before it sends more: a program that reads on first, or that holds output back, doesn't pass.
 
 What is expected is worked out from the bytes alone: of lines by `line_said` below, of late lines, idle inputs and wrong clocks by
-tools/check/watermarks.py, of rows by tools/check/feeds.py. Of each run that differs, the query, the feed and the difference are printed. The
-check stops after 20 of them, since each may have waited long. The last line is 'N passed, M failed', and the status is 1 if one failed."""
+tools/check/watermarks.py, of rows by tools/check/feeds.py. Of each run that differs, the query, the feed and the difference are printed.
+The check stops after 20 of them, since each may have waited long. The last line is 'N passed, M failed', and the status is 1 if one
+failed."""
 from __future__ import annotations
 
 import argparse

@@ -6,8 +6,8 @@ The works and their rows are those of tools/measure/work.py. The feed has the ro
 `tilt run` reads and prints them too. It is also counted how the work grows with the width of a window, and if one input is far ahead of
 another. Both programs have to print the same bytes.
 
-It isn't part of the gate: it takes some minutes, and it measures. It needs valgrind. The last line is 'N passed, M failed', and the status is
-1 if one failed. With --table its table is written to docs/internals/MEASUREMENTS.md."""
+It isn't part of the gate: it takes some minutes, and it measures. It needs valgrind. The last line is 'N passed, M failed', and the status
+is 1 if one failed. With --table its table is written to docs/internals/MEASUREMENTS.md."""
 from __future__ import annotations
 
 import argparse

@@ -29,7 +29,6 @@ use Rattle.tilt_live_run.specs.declared.live_run.LiveRun.{LiveRun}
 use Rattle.tilt_live_run.specs.declared.run_options.RunOptions.{RunOptions}
 use Rattle.tilt_live_run.specs.declared.stop.Stop.{Stop}
 use Rattle.tilt_live_run.specs.declared.stop.Stop.TheVariants.{BadLine, OutOfMemory, WriteFault}
-use Rattle.tilt_outside.specs.Counts.{next_count}
 use Rattle.tilt_port.specs.Transcript.{Transcript}
 use Rattle.tilt_text.proofs.Lacks.{Lacks, lacks-more}
 use Rattle.tilt_text.proofs.Step.{bind_some}
@@ -103,7 +102,8 @@ module _ (core : CoreParts) (options : RunOptions) (bytes : List ℕ) where
       ) refl
 
   -- what is news of one line, and of no line
-  one_added : (n : ℕ) (s : FeedState) (x : List ℕ) → news options.with_begun core s.feed (after_lines options.watermarks core.inputs n s (taken_from options.strict options.watermarks core.inputs n s (x ∷ []))).feed
+  one_added : (n : ℕ) (s : FeedState) (x : List ℕ)
+      → news options.with_begun core s.feed (after_lines options.watermarks core.inputs n s (taken_from options.strict options.watermarks core.inputs n s (x ∷ []))).feed
       ≡ news_from options core n s (taken_from options.strict options.watermarks core.inputs n s (x ∷ []))
   one_added n s x =
       elim (cases_Bool (stops options.strict options.watermarks core.inputs s n x)) [

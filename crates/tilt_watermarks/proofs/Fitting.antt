@@ -12,7 +12,6 @@ use Rattle.tilt_feed.proofs.Following.{none-is}
 use Rattle.tilt_feed.proofs.Updates.{allowed-of, step-of, time-high}
 use Rattle.tilt_feed.specs.Events.{comes_at, continues, has_ticks, in_range, update_fault, watermark_after}
 use Rattle.tilt_feed.specs.declared.edge.Edge.{Edge}
-use Rattle.tilt_feed.specs.declared.fault.EventFault.{EventFault}
 use Rattle.tilt_feed.specs.declared.update.Update.{Update}
 use Rattle.tilt_feed.specs.declared.update.Update.TheVariants.{Row, Value, NoValue, KnownUpTo}
 use Rattle.tilt_watermarks.specs.Held.{bare, due, fits, inserted, is_due, last_watermark, left, moved, moved_all, start_of}

@@ -1,4 +1,4 @@
-use Rattle.std.proofs.Common.{◌≡◌, ◌∙◌, ◌<◌, ◌≤◌, List, ap, length, refl, sym, subst, rules}
+use Rattle.std.proofs.Common.{◌∙◌, ◌<◌, ◌≤◌, List, ap, length, refl, sym, subst, rules}
 use Rattle.std.proofs.lemmas.List.{drop_all, drop_more}
 use Rattle.tilt_feed.specs.Events.{after_all}
 use Rattle.tilt_feed.specs.Feed.{Feed}
