@@ -58,7 +58,7 @@ def sources(folder: pathlib.Path, monkeypatch: pytest.MonkeyPatch, options: str,
 
 def test_the_pages_are_as_the_tables_say():
     done = subprocess.run([sys.executable, PATH, "--check"], capture_output=True, text=True)
-    assert (done.returncode, done.stdout) == (0, "5 passed, 0 failed\n"), done.stdout + done.stderr
+    assert (done.returncode, done.stdout) == (0, "8 passed, 0 failed\n"), done.stdout + done.stderr
 
 
 def test_a_command_is_its_file_its_binds_and_its_options(tmp_path, monkeypatch):
