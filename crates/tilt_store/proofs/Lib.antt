@@ -1,0 +1,4 @@
+mod Commits
+mod Moments
+mod Resuming
+mod Steps

@@ -1,0 +1,109 @@
+-- What crashes leave while a folder is opened.
+use Rattle.std.proofs.Common.{◌≡◌, ◌⊎◌, inl, inr, ⊎_elim, ℕ, ◌<◌, ◌≤◌, ◌^◌, min, List, [], ◌∷◌, ◌++◌, length, take, Option, Some, None, Ok, Err, IsErr, refl, sym, ◌∙◌, ap, subst, arith}
+use Rattle.std.proofs.lemmas.List.{length-take-le, take_all, take-take}
+use Rattle.tilt_store.specs.Commit.{Commit, commit_in, commit_of, committed, or_initial, resumed, spelled, unspelled}
+use Rattle.tilt_store.specs.Crash.{Follows, Only}
+use Rattle.tilt_store.specs.Kept.{Cut, Kept, Replaced}
+use Rattle.tilt_store.specs.Open.{HasCommitted, IsOpen, IsResumed, OpensSame, SameCommit}
+use Rattle.tilt_store.proofs.Commits.{Holds, is_held, same_front, spelled_for_all}
+
+-- an empty folder
+abbrev pub empty : Kept
+empty = record { output = []; state = [] }
+
+no_bytes : (bytes : List ℕ) → length bytes ≤ 0 → bytes ≡ []
+no_bytes [] none = refl
+no_bytes (byte ∷ bytes) none = absurd (omega arith)
+
+pub is_empty : (kept : Kept) (size : ℕ) → kept.state ≡ [] → size ≡ length kept.output → size ≤ 0 → kept ≡ empty
+is_empty kept size state counted none = λ i. record { output = no_bytes kept.output (omega (arith, counted, none)) i; state = state i }
+
+-- nothing has changed
+pub opens_same : (initial : List ℕ) (old c : Kept) → c ≡ old → OpensSame initial old c
+opens_same initial old c is = record { same = ap (resumed initial) is; untouched = λ fault. is }
+
+-- a folder with a commit still has it
+pub opens_commit : (initial : List ℕ) (commit : Commit) (old c : Kept) → committed old ≡ Ok (Some commit) → committed c ≡ Ok (Some commit) → OpensSame initial old c
+opens_commit initial commit old c there is = record {
+  same = ap (or_initial initial) (is ∙ sym there);
+  untouched = λ fault. absurd (cc (subst IsErr there fault));
+}
+
+-- a crash while the first state is written
+pub begins_same : (initial text : List ℕ) (seen : Kept) (old new : Kept → Type 0) → seen ≡ empty → text ≡ spelled 0 initial → Only seen old → Follows (Replaced text) old new
+    → (c : Kept) → new c → OpensSame initial seen c
+begins_same initial text seen old new none is only follows c left =
+    let from = follows c left in
+    let was : from.0 ≡ empty = only from.0 from.1 ∙ none in
+    let output : c.output ≡ [] = from.2.output ∙ ap (λ (k : Kept). k.output) was in
+    subst (λ (k : Kept). OpensSame initial k c) (sym none)
+    (⊎_elim
+    (λ same. opens_same initial empty c (λ i. record { output = output i; state = (same ∙ ap (λ (k : Kept). k.state) was) i }))
+    (λ replaced. record {
+      same = ap (resumed initial) (λ i. record { output = output i; state = (replaced ∙ is) i }) ∙ ap (or_initial initial) (spelled_for_all [] initial (omega arith));
+      untouched = λ fault. absurd (cc fault);
+    })
+    from.2.state)
+
+-- a folder that was opened
+pub is_resumed : (initial : List ℕ) (was now : Kept) (may_leave : Kept → Type 0) (state : List ℕ) → resumed initial was ≡ Ok (record { output = now.output; state = state })
+    → HasCommitted now.output state now → Only now may_leave → IsResumed initial was now may_leave state
+is_resumed initial was now may_leave state same there only = record {
+  same = same;
+  there = there;
+  durable = only;
+  is_open = record { commit = record { output = now.output; state = state }; there = there; left = λ c left. ap committed (only c left) ∙ there };
+}
+
+pub begun : (initial text state : List ℕ) (seen now : Kept) (may_leave : Kept → Type 0) → seen ≡ empty → text ≡ spelled 0 initial → state ≡ initial → now ≡ record seen { state = text } → Only now may_leave
+    → IsResumed initial seen now may_leave state
+begun initial text state seen now may_leave none is same replaced only =
+    let now_is : now ≡ record { output = []; state = spelled 0 initial } = replaced ∙ λ i. record { output = (none i).output; state = is i } in
+    subst (IsResumed initial seen now may_leave) (sym same)
+    (is_resumed initial seen now may_leave initial
+    (ap (resumed initial) none ∙ λ i. Ok (record { output = (sym now_is i).output; state = initial }))
+    (ap committed now_is ∙ (spelled_for_all [] initial (omega arith) ∙ λ i. Ok (Some (record { output = (sym now_is i).output; state = initial }))))
+    only)
+
+-- the commit of a folder whose state file spells a length within its output
+pub has_commit : (kept : Kept) (bytes rest : List ℕ) (end size : ℕ) → bytes ≡ kept.state → 0 < length bytes → unspelled bytes ≡ Some (end, rest) → size ≡ length kept.output → end ≤ size
+    → committed kept ≡ Ok (Some (record { output = take end kept.output; state = rest }))
+has_commit kept bytes rest end size is some mark counted within =
+    let long : end ≤ length kept.output = omega (arith, counted, within) in
+    let exact = length-take-le end kept.output long in
+    is_held (record { output = take end kept.output; state = rest }) kept.state kept.output (record {
+      some = omega (arith, ap length is, some);
+      mark = ap unspelled (sym is) ∙ mark ∙ λ i. Some (sym exact i, rest);
+      within = omega (arith, exact, long);
+      front = ap (λ (n : ℕ). take n kept.output) exact;
+    })
+
+-- a cut to the commit's end leaves the commit
+cut_keeps : (commit : Commit) (end : ℕ) (old new : Kept) → committed old ≡ Ok (Some commit) → end ≡ length commit.output → end ≤ length old.output → Cut end old new → committed new ≡ Ok (Some commit)
+cut_keeps commit end old new is exact within cut =
+    let long : length commit.output ≤ length new.output = omega (arith, exact, within, cut.no_shorter) in
+    same_front commit old new is cut.state long (ap (take (length commit.output)) cut.front ∙ take-take (length commit.output) (length new.output) old.output long)
+
+-- a crash while the output is cut
+pub cuts_same : (initial rest : List ℕ) (end : ℕ) (seen : Kept) (old new : Kept → Type 0) → end ≤ length seen.output
+    → committed seen ≡ Ok (Some (record { output = take end seen.output; state = rest })) → Only seen old → Follows (Cut end) old new → (c : Kept) → new c → OpensSame initial seen c
+cuts_same initial rest end seen old new within there only follows c left =
+    let from = follows c left in
+    let commit : Commit = record { output = take end seen.output; state = rest } in
+    let cut = subst (λ (k : Kept). Cut end k c) (only from.0 from.1) from.2 in
+    opens_commit initial commit seen c there (cut_keeps commit end seen c there (sym (length-take-le end seen.output within)) within cut)
+
+pub cut_back : (initial rest state : List ℕ) (end : ℕ) (seen now : Kept) (may_leave : Kept → Type 0) → end ≤ length seen.output
+    → committed seen ≡ Ok (Some (record { output = take end seen.output; state = rest })) → state ≡ rest → now ≡ record seen { output = take end seen.output } → Only now may_leave
+    → IsResumed initial seen now may_leave state
+cut_back initial rest state end seen now may_leave within there same is_cut only =
+    let commit : Commit = record { output = take end seen.output; state = rest } in
+    let exact : length (take end seen.output) ≡ end = length-take-le end seen.output within in
+    let output : take end seen.output ≡ now.output = ap (λ (k : Kept). k.output) (sym is_cut) in
+    let cut : Cut end seen (record seen { output = take end seen.output }) = record { no_shorter = omega (arith, exact); front = ap (λ (n : ℕ). take n seen.output) (sym exact); state = refl } in
+    let kept : committed now ≡ Ok (Some commit) = ap committed is_cut ∙ cut_keeps commit end seen (record seen { output = take end seen.output }) there (sym exact) within cut in
+    subst (IsResumed initial seen now may_leave) (sym same)
+    (is_resumed initial seen now may_leave rest
+    (ap (or_initial initial) there ∙ λ i. Ok (record { output = output i; state = rest }))
+    (kept ∙ λ i. Ok (Some (record { output = output i; state = rest })))
+    only)

@@ -1,0 +1,5 @@
+pub mod Commit
+pub mod Crash
+pub mod Errors
+pub mod Kept
+pub mod Open
