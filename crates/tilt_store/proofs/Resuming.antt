@@ -29,21 +29,30 @@ opens_commit initial commit old c there is = record {
   untouched = λ fault. absurd (cc (subst IsErr there fault));
 }
 
+-- the first state was written or not
+first_state : (initial text : List ℕ) (seen c : Kept) → seen ≡ empty → text ≡ spelled 0 initial → Replaced text seen c → OpensSame initial seen c
+first_state initial text seen c none is step =
+    let output : c.output ≡ [] = step.output ∙ ap (λ (k : Kept). k.output) none in
+    subst (λ (k : Kept). OpensSame initial k c) (sym none)
+    (⊎_elim
+    (λ same. opens_same initial empty c (λ i. record { output = output i; state = (same ∙ ap (λ (k : Kept). k.state) none) i }))
+    (λ replaced. record {
+      same = ap (resumed initial) (λ i. record { output = output i; state = (replaced ∙ is) i }) ∙ ap (or_initial initial) (spelled_for_all [] initial (omega arith));
+      untouched = λ fault. absurd (cc fault);
+    })
+    step.state)
+
 -- a crash while the first state is written
 pub begins_same : (initial text : List ℕ) (seen : Kept) (old new : Kept → Type 0) → seen ≡ empty → text ≡ spelled 0 initial → Only seen old → Follows (Replaced text) old new
     → (c : Kept) → new c → OpensSame initial seen c
 begins_same initial text seen old new none is only follows c left =
     let from = follows c left in
-    let was : from.0 ≡ empty = only from.0 from.1 ∙ none in
-    let output : c.output ≡ [] = from.2.output ∙ ap (λ (k : Kept). k.output) was in
-    subst (λ (k : Kept). OpensSame initial k c) (sym none)
-    (⊎_elim
-    (λ same. opens_same initial empty c (λ i. record { output = output i; state = (same ∙ ap (λ (k : Kept). k.state) was) i }))
-    (λ replaced. record {
-      same = ap (resumed initial) (λ i. record { output = output i; state = (replaced ∙ is) i }) ∙ ap (or_initial initial) (spelled_for_all [] initial (omega arith));
-      untouched = λ fault. absurd (cc fault);
-    })
-    from.2.state)
+    first_state initial text seen c none is (subst (λ (k : Kept). Replaced text k c) (only from.0 from.1) from.2)
+
+-- and after it is written
+pub begun_same : (initial text : List ℕ) (seen c : Kept) → seen ≡ empty → text ≡ spelled 0 initial → c ≡ record seen { state = text } → OpensSame initial seen c
+begun_same initial text seen c none is replaced =
+    first_state initial text seen c none is (record { output = ap (λ (k : Kept). k.output) replaced; state = inr (ap (λ (k : Kept). k.state) replaced) })
 
 -- a folder that was opened
 pub is_resumed : (initial : List ℕ) (was now : Kept) (may_leave : Kept → Type 0) (state : List ℕ) → resumed initial was ≡ Ok (record { output = now.output; state = state })
@@ -84,6 +93,11 @@ cut_keeps commit end old new is exact within cut =
     let long : length commit.output ≤ length new.output = omega (arith, exact, within, cut.no_shorter) in
     same_front commit old new is cut.state long (ap (take (length commit.output)) cut.front ∙ take-take (length commit.output) (length new.output) old.output long)
 
+whole_cut : (end : ℕ) (seen : Kept) → end ≤ length seen.output → Cut end seen (record seen { output = take end seen.output })
+whole_cut end seen within =
+    let exact : length (take end seen.output) ≡ end = length-take-le end seen.output within in
+    record { no_shorter = omega (arith, exact); front = ap (λ (n : ℕ). take n seen.output) (sym exact); state = refl }
+
 -- a crash while the output is cut
 pub cuts_same : (initial rest : List ℕ) (end : ℕ) (seen : Kept) (old new : Kept → Type 0) → end ≤ length seen.output
     → committed seen ≡ Ok (Some (record { output = take end seen.output; state = rest })) → Only seen old → Follows (Cut end) old new → (c : Kept) → new c → OpensSame initial seen c
@@ -93,6 +107,13 @@ cuts_same initial rest end seen old new within there only follows c left =
     let cut = subst (λ (k : Kept). Cut end k c) (only from.0 from.1) from.2 in
     opens_commit initial commit seen c there (cut_keeps commit end seen c there (sym (length-take-le end seen.output within)) within cut)
 
+-- and after it is cut
+pub cut_same : (initial rest : List ℕ) (end : ℕ) (seen c : Kept) → end ≤ length seen.output → committed seen ≡ Ok (Some (record { output = take end seen.output; state = rest }))
+    → c ≡ record seen { output = take end seen.output } → OpensSame initial seen c
+cut_same initial rest end seen c within there is_cut =
+    let commit : Commit = record { output = take end seen.output; state = rest } in
+    opens_commit initial commit seen c there (ap committed is_cut ∙ cut_keeps commit end seen (record seen { output = take end seen.output }) there (sym (length-take-le end seen.output within)) within (whole_cut end seen within))
+
 pub cut_back : (initial rest state : List ℕ) (end : ℕ) (seen now : Kept) (may_leave : Kept → Type 0) → end ≤ length seen.output
     → committed seen ≡ Ok (Some (record { output = take end seen.output; state = rest })) → state ≡ rest → now ≡ record seen { output = take end seen.output } → Only now may_leave
     → IsResumed initial seen now may_leave state
@@ -100,8 +121,7 @@ cut_back initial rest state end seen now may_leave within there same is_cut only
     let commit : Commit = record { output = take end seen.output; state = rest } in
     let exact : length (take end seen.output) ≡ end = length-take-le end seen.output within in
     let output : take end seen.output ≡ now.output = ap (λ (k : Kept). k.output) (sym is_cut) in
-    let cut : Cut end seen (record seen { output = take end seen.output }) = record { no_shorter = omega (arith, exact); front = ap (λ (n : ℕ). take n seen.output) (sym exact); state = refl } in
-    let kept : committed now ≡ Ok (Some commit) = ap committed is_cut ∙ cut_keeps commit end seen (record seen { output = take end seen.output }) there (sym exact) within cut in
+    let kept : committed now ≡ Ok (Some commit) = ap committed is_cut ∙ cut_keeps commit end seen (record seen { output = take end seen.output }) there (sym exact) within (whole_cut end seen within) in
     subst (IsResumed initial seen now may_leave) (sym same)
     (is_resumed initial seen now may_leave rest
     (ap (or_initial initial) there ∙ λ i. Ok (record { output = output i; state = rest }))

@@ -46,3 +46,11 @@ replace_leaves seen old new state text short is only follows c left =
     (λ same. inl (ap committed (λ i. record { output = output i; state = (same ∙ ap (λ (k : Kept). k.state) was) i })))
     (λ replaced. inr (replaced_commits seen c state text short is (λ i. record { output = output i; state = replaced i })))
     from.2.state
+
+-- a crash before the state is replaced
+pub unreplaced : (seen : Kept) (old : Kept → Type 0) (output state : List ℕ) → IsOpen seen old → (c : Kept) → old c → SameCommit seen c ⊎ HasCommitted output state c
+unreplaced seen old output state ready c left = inl (ready.left c left ∙ sym ready.there)
+
+-- and if nothing has changed
+pub unchanged : (seen c : Kept) (output state : List ℕ) → c ≡ seen → SameCommit seen c ⊎ HasCommitted output state c
+unchanged seen c output state is = inl (ap committed is)

@@ -10,6 +10,10 @@ Follows step old new = (c : Kept) → new c → (d : Kept) × old d × step d c
 abbrev pub NoMore : (Kept → Type 0) → (Kept → Type 0) → Type 0
 NoMore old new = (c : Kept) → new c → old c
 
+-- there is no new outcome of a crash but this
+abbrev pub NoneBut : Kept → (Kept → Type 0) → (Kept → Type 0) → Type 0
+NoneBut kept old new = (c : Kept) → new c → old c ⊎ (c ≡ kept)
+
 -- a crash leaves this and nothing else
 abbrev pub Only : Kept → (Kept → Type 0) → Type 0
 Only kept outcomes = (c : Kept) → outcomes c → c ≡ kept

@@ -1,6 +1,6 @@
 // A folder with an output file and a state file: what is in it, and what a crash can leave.
 ghost use Rattle.std.specs.Prelude.{◌≡◌, ◌≤◌, ◌<◌, ◌^◌, ◌++◌, ℕ, length, take, IfOk, OnOk};
-ghost use Rattle.tilt_store.specs.Crash.{Elapses, Follows, NoMore, Only};
+ghost use Rattle.tilt_store.specs.Crash.{Elapses, Follows, NoMore, NoneBut, Only};
 ghost use Rattle.tilt_store.specs.Errors.{HasCause};
 ghost use Rattle.tilt_store.specs.Kept.{Cut, Kept, Replaced, Torn};
 
@@ -64,7 +64,7 @@ pub trait Folder {
     fn sync(&mut self) -> Result<(), FolderError>
         ensures durable { tells → OnOk result (Only (seen self.new) (may_leave self.new)) }
         ensures same { tells → seen self.new ≡ seen self.old }
-        ensures crash { tells → NoMore (may_leave self.old) (may_leave self.new) }
+        ensures crash { tells → NoneBut (seen self.old) (may_leave self.old) (may_leave self.new) }
         ensures time { tells → Elapses (moment self.old) (moment self.new) (left_since self.old) (left_since self.new) (may_leave self.new) }
         ensures cause { HasCause (faults self.old) (faults self.new) result };
 

@@ -1,8 +1,8 @@
-use Rattle.std.proofs.Common.{rules, ◌≡◌, ◌∙◌, ap, arith, subst}
+use Rattle.std.proofs.Common.{rules, ⊎_elim, ◌≡◌, ◌∙◌, ap, arith, subst}
 use Rattle.tilt_store.specs.Kept.{Kept}
 use Rattle.tilt_store.specs.Open.{OpensSame}
 use Rattle.tilt_store.proofs.Moments.{goes_on, started}
-use Rattle.tilt_store.proofs.Resuming.{begins_same, begun, is_empty, opens_same}
+use Rattle.tilt_store.proofs.Resuming.{begins_same, begun, begun_same, is_empty, opens_same}
 use Rattle.tilt_store.proofs.opening.begin.Goals as goal
 
 pub returns-in_err-replace_state-clause-any_moment : goal.returns-in_err-replace_state-clause-any_moment
@@ -26,7 +26,8 @@ returns-in_err-sync-clause-any_moment g c told =
     let at_start = started g.F.Folder.moment g.F.Folder.left_since old P (λ k left. opens_same _ seen k (only k (g.met.F.Folder.only_now old k left))) in
     let same = begins_same c.args.initial.now _ seen _ _ none (c.deref.ensures.value ∙ c.in_ok-text.ensures) only (c.replace_state.ensures.crash told) in
     let replaced = goes_on g.F.Folder.moment g.F.Folder.left_since old old c.replace_state.new.self P _ at_start (c.replace_state.ensures.time told) same in
-    goes_on g.F.Folder.moment g.F.Folder.left_since old c.replace_state.new.self c.sync.new.self P _ replaced (c.sync.ensures.time told) (λ k left. same k (c.sync.ensures.crash told k left))
+    goes_on g.F.Folder.moment g.F.Folder.left_since old c.replace_state.new.self c.sync.new.self P _ replaced (c.sync.ensures.time told)
+    (λ k left. ⊎_elim (same k) (λ is. begun_same c.args.initial.now _ seen k none (c.deref.ensures.value ∙ c.in_ok-text.ensures) (is ∙ c.in_ok-replace_state.ensures.replaced told)) (c.sync.ensures.crash told k left))
 
 pub returns-clause-any_moment : goal.returns-clause-any_moment
 returns-clause-any_moment g c told =
@@ -38,7 +39,8 @@ returns-clause-any_moment g c told =
     let at_start = started g.F.Folder.moment g.F.Folder.left_since old P (λ k left. opens_same _ seen k (only k (g.met.F.Folder.only_now old k left))) in
     let same = begins_same c.args.initial.now _ seen _ _ none (c.deref.ensures.value ∙ c.in_ok-text.ensures) only (c.replace_state.ensures.crash told) in
     let replaced = goes_on g.F.Folder.moment g.F.Folder.left_since old old c.replace_state.new.self P _ at_start (c.replace_state.ensures.time told) same in
-    goes_on g.F.Folder.moment g.F.Folder.left_since old c.replace_state.new.self c.sync.new.self P _ replaced (c.sync.ensures.time told) (λ k left. same k (c.sync.ensures.crash told k left))
+    goes_on g.F.Folder.moment g.F.Folder.left_since old c.replace_state.new.self c.sync.new.self P _ replaced (c.sync.ensures.time told)
+    (λ k left. ⊎_elim (same k) (λ is. begun_same c.args.initial.now _ seen k none (c.deref.ensures.value ∙ c.in_ok-text.ensures) (is ∙ c.in_ok-replace_state.ensures.replaced told)) (c.sync.ensures.crash told k left))
 
 pub returns-clause-resumed : goal.returns-clause-resumed
 returns-clause-resumed g c told =

@@ -1,8 +1,8 @@
-use Rattle.std.proofs.Common.{rules, ◌≡◌, ◌∙◌, ◌≤◌, ap, arith, length, subst}
+use Rattle.std.proofs.Common.{rules, ⊎_elim, ◌≡◌, ◌∙◌, ◌≤◌, ap, arith, length, subst}
 use Rattle.tilt_store.specs.Kept.{Kept}
 use Rattle.tilt_store.specs.Open.{OpensSame}
 use Rattle.tilt_store.proofs.Moments.{goes_on, started}
-use Rattle.tilt_store.proofs.Resuming.{cut_back, cuts_same, has_commit, opens_same}
+use Rattle.tilt_store.proofs.Resuming.{cut_back, cut_same, cuts_same, has_commit, opens_same}
 use Rattle.tilt_store.proofs.opening.resume.Goals as goal
 
 pub returns-clause-any_moment : goal.returns-clause-any_moment
@@ -16,7 +16,8 @@ returns-clause-any_moment g c told =
     let at_start = started g.F.Folder.moment g.F.Folder.left_since old P (λ k left. opens_same _ seen k (only k (g.met.F.Folder.only_now old k left))) in
     let same = cuts_same c.args.initial.now c.in-Some.rest.now c.in-Some.end seen _ _ within there only (c.cut.ensures.crash told) in
     let is_cut = goes_on g.F.Folder.moment g.F.Folder.left_since old old c.cut.new.self P _ at_start (c.cut.ensures.time told) same in
-    goes_on g.F.Folder.moment g.F.Folder.left_since old c.cut.new.self c.sync.new.self P _ is_cut (c.sync.ensures.time told) (λ k left. same k (c.sync.ensures.crash told k left))
+    goes_on g.F.Folder.moment g.F.Folder.left_since old c.cut.new.self c.sync.new.self P _ is_cut (c.sync.ensures.time told)
+    (λ k left. ⊎_elim (same k) (λ is. cut_same c.args.initial.now c.in-Some.rest.now c.in-Some.end seen k within there (is ∙ c.in_ok-cut.ensures.cut told)) (c.sync.ensures.crash told k left))
 
 pub returns-clause-resumed : goal.returns-clause-resumed
 returns-clause-resumed g c told =
