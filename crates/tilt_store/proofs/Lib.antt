@@ -1,3 +1,4 @@
+mod Changing
 mod Commits
 mod Moments
 mod Resuming

@@ -7,14 +7,20 @@
 //! `any_moment` that a crash at any moment of a call leaves the commit from before the call, or the new one.
 #![tactic(auto)]
 
+mod change;
+mod contents;
 mod folder;
 mod folder_error;
 mod ledger;
 mod mark;
+mod mem_folder;
 mod open_error;
 mod opening;
+mod tear;
 
 pub use folder::Folder;
 pub use folder_error::FolderError;
 pub use ledger::{Ledger, Opened};
+pub use mem_folder::MemFolder;
 pub use open_error::OpenError;
+pub use tear::Tear;

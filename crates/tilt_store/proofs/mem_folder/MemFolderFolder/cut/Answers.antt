@@ -1,0 +1,8 @@
+use Rattle.tilt_store.proofs.Changing.{noted_elapses, noted_follows}
+use Rattle.tilt_store.proofs.mem_folder.MemFolderFolder.cut.Goals as goal
+
+pub returns-clause-crash : goal.returns-clause-crash
+returns-clause-crash c _ = noted_follows _ _ _ _ c.in_ok-note_cut.ensures.noted
+
+pub returns-clause-time : goal.returns-clause-time
+returns-clause-time c _ = noted_elapses _ _ _ _ c.in_ok-note_cut.ensures.noted
