@@ -4,7 +4,7 @@ use Rattle.std.proofs.lemmas.List.{length-take-le, take_all, take-take}
 use Rattle.tilt_store.specs.Commit.{Commit, commit_in, commit_of, committed, or_initial, resumed, spelled, unspelled}
 use Rattle.tilt_store.specs.Crash.{Follows, Only}
 use Rattle.tilt_store.specs.Kept.{Cut, Kept, Replaced}
-use Rattle.tilt_store.specs.Open.{HasCommitted, IsOpen, IsResumed, OpensSame, SameCommit}
+use Rattle.tilt_store.specs.Open.{HasCommitted, IsOpen, IsReopened, IsSettled, OpensSame, SameCommit}
 use Rattle.tilt_store.proofs.Commits.{Holds, is_held, same_front, spelled_for_all}
 
 -- an empty folder
@@ -54,25 +54,22 @@ pub begun_same : (initial text : List ℕ) (seen c : Kept) → seen ≡ empty �
 begun_same initial text seen c none is replaced =
     first_state initial text seen c none is (record { output = ap (λ (k : Kept). k.output) replaced; state = inr (ap (λ (k : Kept). k.state) replaced) })
 
--- a folder that was opened
-pub is_resumed : (initial : List ℕ) (was now : Kept) (may_leave : Kept → Type 0) (state : List ℕ) → resumed initial was ≡ Ok (record { output = now.output; state = state })
-    → HasCommitted now.output state now → Only now may_leave → IsResumed initial was now may_leave state
-is_resumed initial was now may_leave state same there only = record {
-  same = same;
-  there = there;
+-- a commit that is there, and nothing else
+pub settled : (commit : Commit) (seen : Kept) (may_leave : Kept → Type 0) → committed seen ≡ Ok (Some commit) → Only seen may_leave → IsSettled seen may_leave
+settled commit seen may_leave there only = record {
   durable = only;
-  is_open = record { commit = record { output = now.output; state = state }; there = there; left = λ c left. ap committed (only c left) ∙ there };
+  is_open = record { commit = commit; there = there; left = λ c left. ap committed (only c left) ∙ there };
 }
 
-pub begun : (initial text state : List ℕ) (seen now : Kept) (may_leave : Kept → Type 0) → seen ≡ empty → text ≡ spelled 0 initial → state ≡ initial → now ≡ record seen { state = text } → Only now may_leave
-    → IsResumed initial seen now may_leave state
-begun initial text state seen now may_leave none is same replaced only =
+pub begun : (initial text state : List ℕ) (seen now : Kept) → seen ≡ empty → text ≡ spelled 0 initial → state ≡ initial → now ≡ record seen { state = text }
+    → IsReopened initial seen now state
+begun initial text state seen now none is same replaced =
     let now_is : now ≡ record { output = []; state = spelled 0 initial } = replaced ∙ λ i. record { output = (none i).output; state = is i } in
-    subst (IsResumed initial seen now may_leave) (sym same)
-    (is_resumed initial seen now may_leave initial
-    (ap (resumed initial) none ∙ λ i. Ok (record { output = (sym now_is i).output; state = initial }))
-    (ap committed now_is ∙ (spelled_for_all [] initial (omega arith) ∙ λ i. Ok (Some (record { output = (sym now_is i).output; state = initial }))))
-    only)
+    subst (IsReopened initial seen now) (sym same)
+    (record {
+      same = ap (resumed initial) none ∙ λ i. Ok (record { output = (sym now_is i).output; state = initial });
+      committed = ap committed now_is ∙ (spelled_for_all [] initial (omega arith) ∙ λ i. Ok (Some (record { output = (sym now_is i).output; state = initial })));
+    })
 
 -- the commit of a folder whose state file spells a length within its output
 pub has_commit : (kept : Kept) (bytes rest : List ℕ) (end size : ℕ) → bytes ≡ kept.state → 0 < length bytes → unspelled bytes ≡ Some (end, rest) → size ≡ length kept.output → end ≤ size
@@ -114,16 +111,16 @@ cut_same initial rest end seen c within there is_cut =
     let commit : Commit = record { output = take end seen.output; state = rest } in
     opens_commit initial commit seen c there (ap committed is_cut ∙ cut_keeps commit end seen (record seen { output = take end seen.output }) there (sym (length-take-le end seen.output within)) within (whole_cut end seen within))
 
-pub cut_back : (initial rest state : List ℕ) (end : ℕ) (seen now : Kept) (may_leave : Kept → Type 0) → end ≤ length seen.output
-    → committed seen ≡ Ok (Some (record { output = take end seen.output; state = rest })) → state ≡ rest → now ≡ record seen { output = take end seen.output } → Only now may_leave
-    → IsResumed initial seen now may_leave state
-cut_back initial rest state end seen now may_leave within there same is_cut only =
+pub cut_back : (initial rest state : List ℕ) (end : ℕ) (seen now : Kept) → end ≤ length seen.output
+    → committed seen ≡ Ok (Some (record { output = take end seen.output; state = rest })) → state ≡ rest → now ≡ record seen { output = take end seen.output }
+    → IsReopened initial seen now state
+cut_back initial rest state end seen now within there same is_cut =
     let commit : Commit = record { output = take end seen.output; state = rest } in
-    let exact : length (take end seen.output) ≡ end = length-take-le end seen.output within in
     let output : take end seen.output ≡ now.output = ap (λ (k : Kept). k.output) (sym is_cut) in
+    let exact : length (take end seen.output) ≡ end = length-take-le end seen.output within in
     let kept : committed now ≡ Ok (Some commit) = ap committed is_cut ∙ cut_keeps commit end seen (record seen { output = take end seen.output }) there (sym exact) within (whole_cut end seen within) in
-    subst (IsResumed initial seen now may_leave) (sym same)
-    (is_resumed initial seen now may_leave rest
-    (ap (or_initial initial) there ∙ λ i. Ok (record { output = output i; state = rest }))
-    (kept ∙ λ i. Ok (Some (record { output = output i; state = rest })))
-    only)
+    subst (IsReopened initial seen now) (sym same)
+    (record {
+      same = ap (or_initial initial) there ∙ λ i. Ok (record { output = output i; state = rest });
+      committed = kept ∙ λ i. Ok (Some (record { output = output i; state = rest }));
+    })

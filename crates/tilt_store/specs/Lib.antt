@@ -6,3 +6,4 @@ pub mod Kept
 pub mod MemFolder
 pub mod MemLaws
 pub mod Open
+pub mod Runs

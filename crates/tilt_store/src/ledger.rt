@@ -1,10 +1,10 @@
 // An output that is appended to and committed together with a state.
-ghost use Rattle.std.specs.Prelude.{◌≡◌, ◌⊎◌, ◌≤◌, ◌++◌, length, IfErr, IfOk, MatchResult, OnOk};
+ghost use Rattle.std.specs.Prelude.{◌≡◌, ◌⊎◌, ◌≤◌, IfErr, IfOk, MatchResult, OnOk};
 ghost use Rattle.tilt_outside.specs.Faults.{Rose};
-ghost use Rattle.tilt_store.specs.Commit.{committed, spelled};
+ghost use Rattle.tilt_store.specs.Commit.{committed};
 ghost use Rattle.tilt_store.specs.Crash.{LeavesOnly, Only};
 ghost use Rattle.tilt_store.specs.Errors.{HasCause, OpensNot};
-ghost use Rattle.tilt_store.specs.Open.{HasCommitted, IsOpen, IsResumed, OpensSame, SameCommit};
+ghost use Rattle.tilt_store.specs.Open.{HasCommitted, IsAppended, IsCommitted, IsOpen, IsReopened, IsSettled, OpensSame, SameCommit};
 
 use crate::folder::Folder;
 use crate::folder_error::FolderError;
@@ -33,8 +33,9 @@ impl<F: Folder> Ledger<F> {
     /// as it is. An `Err` gives the folder back.
     pub fn open(alloc: Global, mut folder: F, initial: &[u8]) -> Result<Opened<F>, (OpenError, F)>
         requires { F.tells → Only (F.seen folder) (F.may_leave folder) }
-        ensures resumed { F.tells → IfOk result (λ opened. IsResumed initial.now (F.seen folder)
-            (F.seen opened.ledger.folder) (F.may_leave opened.ledger.folder) opened.state.items) }
+        ensures reopened { F.tells → IfOk result (λ opened.
+            IsReopened initial.now (F.seen folder) (F.seen opened.ledger.folder) opened.state.items) }
+        ensures settled { F.tells → IfOk result (λ opened. IsSettled (F.seen opened.ledger.folder) (F.may_leave opened.ledger.folder)) }
         ensures any_moment { F.tells → IfOk result (λ opened. LeavesOnly F.moment F.left_since folder opened.ledger.folder
             (OpensSame initial.now (F.seen folder))) }
         ensures any_moment_err { F.tells → IfErr result (λ e. LeavesOnly F.moment F.left_since folder e.1
@@ -57,9 +58,7 @@ impl<F: Folder> Ledger<F> {
     pub fn append(&mut self, bytes: &[u8]) -> Result<(), FolderError>
         requires { F.tells → IsOpen (F.seen self.old.folder) (F.may_leave self.old.folder) }
         ensures is_open { F.tells → OnOk result (IsOpen (F.seen self.new.folder) (F.may_leave self.new.folder)) }
-        ensures appended { F.tells → OnOk result (F.seen self.new.folder
-            ≡ record (F.seen self.old.folder) { output = (F.seen self.old.folder).output ++ bytes.now }) }
-        ensures uncommitted { F.tells → OnOk result (SameCommit (F.seen self.old.folder) (F.seen self.new.folder)) }
+        ensures appended { F.tells → OnOk result (IsAppended bytes.now (F.seen self.old.folder) (F.seen self.new.folder)) }
         ensures any_moment { F.tells → LeavesOnly F.moment F.left_since self.old.folder self.new.folder
             (SameCommit (F.seen self.old.folder)) }
         ensures cause { HasCause (F.faults self.old.folder) (F.faults self.new.folder) result }
@@ -72,11 +71,8 @@ impl<F: Folder> Ledger<F> {
     /// again.
     pub fn commit(&mut self, alloc: Global, state: &[u8]) -> Result<(), FolderError>
         requires { F.tells → IsOpen (F.seen self.old.folder) (F.may_leave self.old.folder) }
-        ensures is_open { F.tells → OnOk result (IsOpen (F.seen self.new.folder) (F.may_leave self.new.folder)) }
-        ensures written { F.tells → OnOk result (F.seen self.new.folder
-            ≡ record (F.seen self.old.folder) { state = spelled (length (F.seen self.old.folder).output) state.now }) }
-        ensures committed { F.tells → OnOk result (HasCommitted (F.seen self.old.folder).output state.now (F.seen self.new.folder)) }
-        ensures durable { F.tells → OnOk result (Only (F.seen self.new.folder) (F.may_leave self.new.folder)) }
+        ensures committed { F.tells → OnOk result (IsCommitted state.now (F.seen self.old.folder) (F.seen self.new.folder)) }
+        ensures settled { F.tells → OnOk result (IsSettled (F.seen self.new.folder) (F.may_leave self.new.folder)) }
         ensures any_moment { F.tells → LeavesOnly F.moment F.left_since self.old.folder self.new.folder (λ c.
             SameCommit (F.seen self.old.folder) c ⊎ HasCommitted (F.seen self.old.folder).output state.now c) }
         ensures cause { HasCause (F.faults self.old.folder) (F.faults self.new.folder) result }
@@ -86,6 +82,7 @@ impl<F: Folder> Ledger<F> {
         // The output has to be on the disk before a state counts it.
         self.folder.sync()?;
         self.folder.replace_state(&text)?;
+        // And the new state has to be there before the commit counts as made.
         self.folder.sync()
     }
 }

@@ -1,10 +1,10 @@
 // How a folder is opened: its output is cut to the last commit.
-ghost use Rattle.std.specs.Prelude.{◌≡◌, ◌<◌, ◌≤◌, [], length, IfErr, IfOk, IsErrOf};
+ghost use Rattle.std.specs.Prelude.{◌≡◌, ◌<◌, ◌≤◌, [], length, IfErr, IfOk, IsErrOf, OnOk};
 ghost use Rattle.tilt_outside.specs.Faults.{Rose};
 ghost use Rattle.tilt_store.specs.Commit.{committed};
 ghost use Rattle.tilt_store.specs.Crash.{LeavesOnly, Only};
 ghost use Rattle.tilt_store.specs.Errors.{OpensNot};
-ghost use Rattle.tilt_store.specs.Open.{IsResumed, OpensSame};
+ghost use Rattle.tilt_store.specs.Open.{IsReopened, IsSettled, OpensSame};
 
 use crate::folder::Folder;
 use crate::mark::{spell, unspell};
@@ -19,8 +19,8 @@ pub(crate) fn recover<F: Folder>(
     initial: &[u8],
 ) -> Result<Vec<u8>, OpenError>
     requires { F.tells → Only (F.seen folder.old) (F.may_leave folder.old) }
-    ensures resumed { F.tells → IfOk result (λ state.
-        IsResumed initial.now (F.seen folder.old) (F.seen folder.new) (F.may_leave folder.new) state.items) }
+    ensures reopened { F.tells → IfOk result (λ state. IsReopened initial.now (F.seen folder.old) (F.seen folder.new) state.items) }
+    ensures settled { F.tells → OnOk result (IsSettled (F.seen folder.new) (F.may_leave folder.new)) }
     ensures any_moment { F.tells → LeavesOnly F.moment F.left_since folder.old folder.new (OpensSame initial.now (F.seen folder.old)) }
     ensures error { F.tells → IfErr result (OpensNot (committed (F.seen folder.old))) }
     ensures failed { IsErrOf result OpenError.Failed → Rose (F.faults folder.old) (F.faults folder.new) }
@@ -44,8 +44,8 @@ fn begin<F: Folder>(
     requires only { F.tells → Only (F.seen folder.old) (F.may_leave folder.old) }
     requires empty { F.tells → (F.seen folder.old).state ≡ [] }
     requires counted { F.tells → size ≡ length (F.seen folder.old).output }
-    ensures resumed { F.tells → IfOk result (λ state.
-        IsResumed initial.now (F.seen folder.old) (F.seen folder.new) (F.may_leave folder.new) state.items) }
+    ensures reopened { F.tells → IfOk result (λ state. IsReopened initial.now (F.seen folder.old) (F.seen folder.new) state.items) }
+    ensures settled { F.tells → OnOk result (IsSettled (F.seen folder.new) (F.may_leave folder.new)) }
     ensures any_moment { F.tells → LeavesOnly F.moment F.left_since folder.old folder.new (OpensSame initial.now (F.seen folder.old)) }
     ensures error { F.tells → IfErr result (OpensNot (committed (F.seen folder.old))) }
     ensures failed { IsErrOf result OpenError.Failed → Rose (F.faults folder.old) (F.faults folder.new) }
@@ -73,8 +73,8 @@ fn resume<F: Folder>(
     requires read { F.tells → bytes.now ≡ (F.seen folder.old).state }
     requires some { 0 < length bytes.now }
     requires counted { F.tells → size ≡ length (F.seen folder.old).output }
-    ensures resumed { F.tells → IfOk result (λ state.
-        IsResumed initial.now (F.seen folder.old) (F.seen folder.new) (F.may_leave folder.new) state.items) }
+    ensures reopened { F.tells → IfOk result (λ state. IsReopened initial.now (F.seen folder.old) (F.seen folder.new) state.items) }
+    ensures settled { F.tells → OnOk result (IsSettled (F.seen folder.new) (F.may_leave folder.new)) }
     ensures any_moment { F.tells → LeavesOnly F.moment F.left_since folder.old folder.new (OpensSame initial.now (F.seen folder.old)) }
     ensures error { F.tells → IfErr result (OpensNot (committed (F.seen folder.old))) }
     ensures failed { IsErrOf result OpenError.Failed → Rose (F.faults folder.old) (F.faults folder.new) }

@@ -15,6 +15,11 @@ returns-clause-is_open g c told =
       left = λ k left. keeps k left ∙ ready.there;
     }) (c.append.ensures.appended told)
 
+pub returns-clause-appended : goal.returns-clause-appended
+returns-clause-appended g c told =
+    let ready = c.requires told in
+    on_ok_weaker c.append.result (λ appended. record { appended = appended; same = appended_keeps ready.commit _ _ _ ready.there appended ∙ sym ready.there }) (c.append.ensures.appended told)
+
 pub returns-clause-any_moment : goal.returns-clause-any_moment
 returns-clause-any_moment g c told =
     let ready = c.requires told in

@@ -1,10 +1,11 @@
-use Rattle.std.proofs.Common.{inr, ⊎_elim, ◌≡◌, ◌⊎◌, ◌<◌, ◌^◌, ◌∙◌, ap, subst}
+use Rattle.std.proofs.Common.{inr, ⊎_elim, ◌≡◌, ◌⊎◌, ◌<◌, ◌^◌, ◌∙◌, ap, List, ℕ, subst}
 use Rattle.std.proofs.lemmas.Result.{on_ok_weaker}
 use Rattle.tilt_store.specs.Commit.{committed, spelled}
 use Rattle.tilt_store.specs.Crash.{Only}
 use Rattle.tilt_store.specs.Kept.{Kept}
 use Rattle.tilt_store.specs.Open.{HasCommitted, SameCommit}
 use Rattle.tilt_store.proofs.Moments.{goes_on, started}
+use Rattle.tilt_store.proofs.Resuming.{settled}
 use Rattle.tilt_store.proofs.Steps.{replace_leaves, replaced_commits, unchanged, unreplaced}
 use Rattle.tilt_store.proofs.ledger.Ledger.commit.Goals as goal
 
@@ -83,10 +84,10 @@ returns-clause-committed g c told =
     let text = c.deref.ensures.value ∙ (c.in_ok-text.ensures ∙ ap (λ n. spelled n c.args.state.now) counted) in
     let replaced = c.sync-2.ensures.same told ∙ (c.in_ok-replace_state.ensures.replaced told ∙ ap (λ (k : Kept). record k { state = c.deref.result.now }) was) in
     let there = replaced_commits seen (g.F.Folder.seen c.sync-2.new.self) c.args.state.now _ short text replaced in
-    on_ok_weaker c.sync-2.result (λ _. there) (c.sync-2.ensures.durable told)
+    on_ok_weaker c.sync-2.result (λ _. record { written = replaced ∙ ap (λ (t : List ℕ). record seen { state = t }) text; committed = there }) (c.sync-2.ensures.durable told)
 
-pub returns-clause-is_open : goal.returns-clause-is_open
-returns-clause-is_open g c told =
+pub returns-clause-settled : goal.returns-clause-settled
+returns-clause-settled g c told =
     let seen = g.F.Folder.seen c.args.self.now.folder in
     let was = c.sync.ensures.same told ∙ c.output_length.ensures.same told in
     let counted = c.in_ok-length.ensures.length told in
@@ -94,8 +95,4 @@ returns-clause-is_open g c told =
     let text = c.deref.ensures.value ∙ (c.in_ok-text.ensures ∙ ap (λ n. spelled n c.args.state.now) counted) in
     let replaced = c.sync-2.ensures.same told ∙ (c.in_ok-replace_state.ensures.replaced told ∙ ap (λ (k : Kept). record k { state = c.deref.result.now }) was) in
     let there = replaced_commits seen (g.F.Folder.seen c.sync-2.new.self) c.args.state.now _ short text replaced in
-    on_ok_weaker c.sync-2.result (λ only. record {
-      commit = record { output = seen.output; state = c.args.state.now };
-      there = there;
-      left = λ k left. ap committed (only k left) ∙ there;
-    }) (c.sync-2.ensures.durable told)
+    on_ok_weaker c.sync-2.result (settled _ _ _ there) (c.sync-2.ensures.durable told)
