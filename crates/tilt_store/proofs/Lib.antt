@@ -2,4 +2,5 @@ mod Changing
 mod Commits
 mod Moments
 mod Resuming
+mod Running
 mod Steps

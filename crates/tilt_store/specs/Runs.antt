@@ -55,3 +55,8 @@ last_state state (Crash (Some next) ∷ events) = last_state next events
 abbrev pub ExactlyOnce : List ℕ → Kept → List Event → Type 0
 ExactlyOnce initial first events = (state : List ℕ) (start end c : Kept) → IsReopened initial first start state → Run initial events start end → SameCommit end c
     → resumed initial c ≡ Ok (record { output = start.output ++ committed_bytes events; state = last_state state events })
+
+-- the same if the folder was empty at first
+abbrev pub ExactlyOnceFromNothing : List ℕ → List Event → Type 0
+ExactlyOnceFromNothing initial events = (state : List ℕ) (start end c : Kept) → IsReopened initial (record { output = []; state = [] }) start state → Run initial events start end → SameCommit end c
+    → resumed initial c ≡ Ok (record { output = committed_bytes events; state = last_state initial events })

@@ -11,6 +11,7 @@ mod change;
 mod contents;
 mod folder;
 mod folder_error;
+mod law;
 mod ledger;
 mod mark;
 mod mem_folder;
@@ -20,6 +21,7 @@ mod tear;
 
 pub use folder::Folder;
 pub use folder_error::FolderError;
+pub use law::exactly_once;
 pub use ledger::{Ledger, Opened};
 pub use mem_folder::MemFolder;
 pub use open_error::OpenError;
