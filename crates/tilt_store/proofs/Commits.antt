@@ -1,6 +1,6 @@
 -- What folders hold as committed.
-use Rattle.std.proofs.Common.{◌≡◌, ℕ, ℤ, pos, negsuc, ◌+◌, ◌<◌, ◌≤◌, ◌^◌, nat_le, Bool, true, false, if◌then◌else◌, List, [], ◌∷◌, ◌++◌, length, take, length-append}
-use Rattle.std.proofs.Common.{Option, Some, None, Result, Ok, Err, refl, sym, ◌∙◌, ap, arith, FitsSigned}
+use Rattle.std.proofs.Common.{◌≡◌, ℕ, pos, ◌<◌, ◌≤◌, ◌^◌, nat_le, Bool, true, false, if◌then◌else◌, List, [], ◌∷◌, length, take, length-append}
+use Rattle.std.proofs.Common.{Option, Some, None, Result, Ok, Err, refl, sym, ◌∙◌, ap, arith}
 use Rattle.std.proofs.lemmas.Bool.Decides.{nat_tests}
 use Rattle.std.proofs.Math.Seq.{take-length}
 use Rattle.std.proofs.lemmas.List.{length-take-le}
@@ -8,7 +8,6 @@ use Rattle.std.specs.Fmt.{decimal}
 use Rattle.tilt_text.proofs.Lacks.{decimal_lacks}
 use Rattle.tilt_text.proofs.Numbers.{shortest-signed}
 use Rattle.tilt_text.proofs.Words.{until-front}
-use Rattle.tilt_text.specs.Cut.{until_at}
 use Rattle.tilt_store.specs.Commit.{Commit, commit_in, commit_of, committed, spelled, unspelled}
 use Rattle.tilt_store.specs.Kept.{Kept}
 use Rattle.tilt_store.specs.declared.open_error.OpenError.{OpenError}

@@ -1,11 +1,11 @@
 -- What crashes leave while a folder is opened.
-use Rattle.std.proofs.Common.{◌≡◌, ◌⊎◌, inl, inr, ⊎_elim, ℕ, ◌<◌, ◌≤◌, ◌^◌, min, List, [], ◌∷◌, ◌++◌, length, take, Option, Some, None, Ok, Err, IsErr, refl, sym, ◌∙◌, ap, subst, arith}
-use Rattle.std.proofs.lemmas.List.{length-take-le, take_all, take-take}
-use Rattle.tilt_store.specs.Commit.{Commit, commit_in, commit_of, committed, or_initial, resumed, spelled, unspelled}
+use Rattle.std.proofs.Common.{◌≡◌, inr, ⊎_elim, ℕ, ◌<◌, ◌≤◌, List, [], ◌∷◌, length, take, Some, Ok, IsErr, refl, sym, ◌∙◌, ap, subst, arith}
+use Rattle.std.proofs.lemmas.List.{length-take-le, take-take}
+use Rattle.tilt_store.specs.Commit.{Commit, committed, or_initial, resumed, spelled, unspelled}
 use Rattle.tilt_store.specs.Crash.{Follows, Only}
 use Rattle.tilt_store.specs.Kept.{Cut, Kept, Replaced}
-use Rattle.tilt_store.specs.Open.{HasCommitted, IsOpen, IsReopened, IsSettled, OpensSame, SameCommit}
-use Rattle.tilt_store.proofs.Commits.{Holds, is_held, same_front, spelled_for_all}
+use Rattle.tilt_store.specs.Open.{IsReopened, IsSettled, OpensSame}
+use Rattle.tilt_store.proofs.Commits.{is_held, same_front, spelled_for_all}
 
 -- an empty folder
 abbrev pub empty : Kept

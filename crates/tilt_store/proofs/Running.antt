@@ -1,9 +1,9 @@
 -- Runs with crashes keep each committed piece once.
-use Rattle.std.proofs.Common.{◌≡◌, ℕ, Bool, true, false, if◌then◌else◌, List, [], ◌∷◌, ◌++◌, Option, Some, None, Result, Ok, Err, refl, sym, ◌∙◌, ap, append_assoc}
+use Rattle.std.proofs.Common.{◌≡◌, ℕ, Bool, true, false, if◌then◌else◌, List, [], ◌∷◌, ◌++◌, Some, None, Result, Ok, Err, refl, sym, ◌∙◌, ap, append_assoc}
 use Rattle.std.proofs.lemmas.List.{append-nil}
 use Rattle.tilt_store.specs.Commit.{Commit, committed, or_initial, resumed}
 use Rattle.tilt_store.specs.Kept.{Kept}
-use Rattle.tilt_store.specs.Open.{IsReopened, SameCommit}
+use Rattle.tilt_store.specs.Open.{IsReopened}
 use Rattle.tilt_store.specs.Runs.{Event, Append, Commit_returns, Crash, ExactlyOnce, ExactlyOnceFromNothing, Run, committed_bytes, is_committed, last_state}
 use Rattle.tilt_store.specs.declared.open_error.OpenError.{OpenError}
 
@@ -55,13 +55,13 @@ runs initial (Commit_returns state ∷ events) commit pending start end there ou
     let same : mid.output ≡ start.output ++ [] = ap (λ (k : Kept). k.output) returned.written ∙ sym (append-nil start.output) in
     runs initial events new [] mid end returned.committed same more
     ∙ λ i. Ok (Some (record { output = (none_pending (is_committed events) start.output (committed_bytes events) ∙ ap (λ (l : List ℕ). l ++ committed_bytes events) output) i; state = last_state state events }))
-runs initial (Crash None ∷ events) commit pending start end there output (mid, (c, left, state, reopened), more) =
-    let now = opened initial commit c mid state (ap (or_initial initial) (left ∙ there)) reopened in
+runs initial (Crash None ∷ events) commit pending start end there output (mid, (c, d, left, again, state, reopened), more) =
+    let now = opened initial commit d mid state (again ∙ ap (or_initial initial) (left ∙ there)) reopened in
     runs initial events commit [] mid end now.there (now.output ∙ sym (append-nil commit.output)) more
     ∙ λ i. Ok (Some (record { output = (none_pending (is_committed events) commit.output (committed_bytes events) ∙ ap (λ (l : List ℕ). l ++ committed_bytes events) (sym (append-nil commit.output))) i; state = last_state commit.state events }))
-runs initial (Crash (Some state) ∷ events) commit pending start end there output (mid, (c, left, again, reopened), more) =
+runs initial (Crash (Some state) ∷ events) commit pending start end there output (mid, (c, d, left, same, again, reopened), more) =
     let new : Commit = record { output = start.output; state = state } in
-    let now = opened initial new c mid again (ap (or_initial initial) left) reopened in
+    let now = opened initial new d mid again (same ∙ ap (or_initial initial) left) reopened in
     runs initial events new [] mid end now.there (now.output ∙ sym (append-nil start.output)) more
     ∙ λ i. Ok (Some (record { output = (none_pending (is_committed events) start.output (committed_bytes events) ∙ ap (λ (l : List ℕ). l ++ committed_bytes events) output) i; state = last_state state events }))
 

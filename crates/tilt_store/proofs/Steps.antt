@@ -3,7 +3,7 @@ use Rattle.std.proofs.Common.{◌≡◌, ◌⊎◌, inl, inr, ⊎_elim, ℕ, ◌
 use Rattle.std.proofs.lemmas.List.{take-append-le, take-take}
 use Rattle.tilt_store.specs.Commit.{Commit, committed, spelled}
 use Rattle.tilt_store.specs.Crash.{Follows, Only}
-use Rattle.tilt_store.specs.Kept.{Cut, Kept, Replaced, Torn}
+use Rattle.tilt_store.specs.Kept.{Kept, Replaced, Torn}
 use Rattle.tilt_store.specs.Open.{HasCommitted, IsOpen, SameCommit}
 use Rattle.tilt_store.proofs.Commits.{holds, same_front, spelled_for_all}
 

@@ -1,5 +1,5 @@
 -- The laws of a folder in memory.
-use Rattle.std.specs.Prelude.{◌≤◌, ℕ, zero, suc, List, [], ◌∷◌, drop, length, take}
+use Rattle.std.specs.Prelude.{◌≤◌, ℕ, zero, suc, List, [], ◌∷◌, length}
 use mathlib.Core.Logic.{inr}
 use Rattle.tilt_store.specs.Kept.{Kept}
 use Rattle.tilt_store.specs.MemFolder.{after, after_all, at_first, left_during, left_since, mem_left_since, mem_may_leave}

@@ -1,6 +1,6 @@
 -- Runs of a program with crashes, and what they leave.
 use Rattle.std.specs.Prelude.{◌≡◌, ℕ, Bool, true, false, if◌then◌else◌, List, [], ◌∷◌, ◌++◌, Option, Some, None, Ok}
-use Rattle.tilt_store.specs.Commit.{Commit, resumed}
+use Rattle.tilt_store.specs.Commit.{resumed}
 use Rattle.tilt_store.specs.Kept.{Kept}
 use Rattle.tilt_store.specs.Open.{HasCommitted, IsAppended, IsCommitted, IsReopened, SameCommit}
 
@@ -16,11 +16,13 @@ abbrev pub IsLeft : Option (List ℕ) → Kept → Kept → Type 0
 IsLeft None old c = SameCommit old c
 IsLeft (Some state) old c = HasCommitted old.output state c
 
--- the folder before and after an event, as the clauses of the calls say it
+-- the folder before and after an event, as the clauses of the calls say it. While the folder is opened after a crash, it can crash too,
+-- any number of times
 abbrev pub Happens : List ℕ → Event → Kept → Kept → Type 0
 Happens initial (Append bytes) old new = IsAppended bytes old new
 Happens initial (Commit_returns state) old new = IsCommitted state old new
-Happens initial (Crash took_effect) old new = (c : Kept) × IsLeft took_effect old c × (state : List ℕ) × IsReopened initial c new state
+Happens initial (Crash took_effect) old new =
+    (c : Kept) × (d : Kept) × IsLeft took_effect old c × (resumed initial d ≡ resumed initial c) × (state : List ℕ) × IsReopened initial d new state
 
 -- a run
 abbrev pub Run : List ℕ → List Event → Kept → Kept → Type 0

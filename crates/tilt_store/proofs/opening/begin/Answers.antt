@@ -1,5 +1,4 @@
-use Rattle.std.proofs.Common.{rules, ⊎_elim, ◌≡◌, ◌∙◌, ap, arith, subst}
-use Rattle.tilt_store.specs.Kept.{Kept}
+use Rattle.std.proofs.Common.{rules, ⊎_elim, ◌≡◌, ◌∙◌, arith}
 use Rattle.tilt_store.specs.Open.{OpensSame}
 use Rattle.tilt_store.proofs.Moments.{goes_on, started}
 use Rattle.tilt_store.proofs.Resuming.{begins_same, begun, begun_same, is_empty, opens_same, settled}

@@ -1,5 +1,4 @@
-use Rattle.std.proofs.Common.{rules, ⊎_elim, ◌≡◌, ◌∙◌, ◌≤◌, ap, arith, length, subst}
-use Rattle.tilt_store.specs.Kept.{Kept}
+use Rattle.std.proofs.Common.{rules, ⊎_elim, ◌≡◌, ◌∙◌, ◌≤◌, arith, length}
 use Rattle.tilt_store.specs.Open.{OpensSame}
 use Rattle.tilt_store.proofs.Moments.{goes_on, started}
 use Rattle.tilt_store.proofs.Resuming.{cut_back, cut_same, cuts_same, has_commit, opens_same, settled}

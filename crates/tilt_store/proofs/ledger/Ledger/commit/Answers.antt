@@ -1,6 +1,6 @@
 use Rattle.std.proofs.Common.{inr, ⊎_elim, ◌≡◌, ◌⊎◌, ◌<◌, ◌^◌, ◌∙◌, ap, List, ℕ, subst}
 use Rattle.std.proofs.lemmas.Result.{on_ok_weaker}
-use Rattle.tilt_store.specs.Commit.{committed, spelled}
+use Rattle.tilt_store.specs.Commit.{spelled}
 use Rattle.tilt_store.specs.Crash.{Only}
 use Rattle.tilt_store.specs.Kept.{Kept}
 use Rattle.tilt_store.specs.Open.{HasCommitted, SameCommit}
