@@ -25,7 +25,8 @@ during-more leaves [] x c left = inl left
 during-more leaves (y ∷ ys) x c (inl now) = inl now
 during-more leaves (y ∷ ys) x c (inr then) = inr (during-more (after leaves y) ys x c then)
 
-since-last : (leaves : Kept → Type 0) (xs : List Change) (x : Change) (t : ℕ) (c : Kept) → t ≤ length xs → left_since leaves (xs ++ x ∷ []) t c → left_since leaves xs t c ⊎ after_all leaves (xs ++ x ∷ []) c
+since-last : (leaves : Kept → Type 0) (xs : List Change) (x : Change) (t : ℕ) (c : Kept) → t ≤ length xs → left_since leaves (xs ++ x ∷ []) t c
+    → left_since leaves xs t c ⊎ after_all leaves (xs ++ x ∷ []) c
 since-last leaves xs x zero c le left = during-last leaves xs x c left
 since-last leaves [] x (suc t) c le left = absurd (omega arith)
 since-last leaves (y ∷ ys) x (suc t) c le left = since-last (after leaves y) ys x t c (omega arith) left
@@ -41,14 +42,16 @@ noted_follows leaves step old new noted c left =
     let from = after-last leaves old noted.change c (subst (λ (l : List Change). after_all leaves l c) noted.added left) in
     (from.0, from.1, noted.means from.0 c from.2)
 
-elapses_last : (leaves : Kept → Type 0) (xs : List Change) (x : Change) → Elapses (length xs) (length (xs ++ x ∷ [])) (left_since leaves xs) (left_since leaves (xs ++ x ∷ [])) (after_all leaves (xs ++ x ∷ []))
+elapses_last : (leaves : Kept → Type 0) (xs : List Change) (x : Change)
+    → Elapses (length xs) (length (xs ++ x ∷ [])) (left_since leaves xs) (left_since leaves (xs ++ x ∷ [])) (after_all leaves (xs ++ x ∷ []))
 elapses_last leaves xs x = record {
   later = omega (arith, length-append xs (x ∷ []));
   nothing_else = λ t c le left. since-last leaves xs x t c le left;
   keeps = λ t c le left. since-more leaves xs x t c le left;
 }
 
-pub noted_elapses : (leaves : Kept → Type 0) (step : Kept → Kept → Type 0) (old new : List Change) → HasNoted step old new → Elapses (length old) (length new) (left_since leaves old) (left_since leaves new) (after_all leaves new)
+pub noted_elapses : (leaves : Kept → Type 0) (step : Kept → Kept → Type 0) (old new : List Change) → HasNoted step old new
+    → Elapses (length old) (length new) (left_since leaves old) (left_since leaves new) (after_all leaves new)
 noted_elapses leaves step old new noted =
     subst (λ (l : List Change). Elapses (length old) (length l) (left_since leaves old) (left_since leaves l) (after_all leaves l)) (sym noted.added) (elapses_last leaves old noted.change)
 

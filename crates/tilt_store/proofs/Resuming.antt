@@ -109,7 +109,8 @@ pub cut_same : (initial rest : List ℕ) (end : ℕ) (seen c : Kept) → end ≤
     → c ≡ record seen { output = take end seen.output } → OpensSame initial seen c
 cut_same initial rest end seen c within there is_cut =
     let commit : Commit = record { output = take end seen.output; state = rest } in
-    opens_commit initial commit seen c there (ap committed is_cut ∙ cut_keeps commit end seen (record seen { output = take end seen.output }) there (sym (length-take-le end seen.output within)) within (whole_cut end seen within))
+    let kept = cut_keeps commit end seen (record seen { output = take end seen.output }) there (sym (length-take-le end seen.output within)) within (whole_cut end seen within) in
+    opens_commit initial commit seen c there (ap committed is_cut ∙ kept)
 
 pub cut_back : (initial rest state : List ℕ) (end : ℕ) (seen now : Kept) → end ≤ length seen.output
     → committed seen ≡ Ok (Some (record { output = take end seen.output; state = rest })) → state ≡ rest → now ≡ record seen { output = take end seen.output }
@@ -118,7 +119,8 @@ cut_back initial rest state end seen now within there same is_cut =
     let commit : Commit = record { output = take end seen.output; state = rest } in
     let output : take end seen.output ≡ now.output = ap (λ (k : Kept). k.output) (sym is_cut) in
     let exact : length (take end seen.output) ≡ end = length-take-le end seen.output within in
-    let kept : committed now ≡ Ok (Some commit) = ap committed is_cut ∙ cut_keeps commit end seen (record seen { output = take end seen.output }) there (sym exact) within (whole_cut end seen within) in
+    let kept : committed now ≡ Ok (Some commit) =
+    ap committed is_cut ∙ cut_keeps commit end seen (record seen { output = take end seen.output }) there (sym exact) within (whole_cut end seen within) in
     subst (IsReopened initial seen now) (sym same)
     (record {
       same = ap (or_initial initial) there ∙ λ i. Ok (record { output = output i; state = rest });

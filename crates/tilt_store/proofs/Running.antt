@@ -27,13 +27,18 @@ opened initial commit was now state is reopened =
     }
 
 -- a piece counts where what follows it is committed
-piece : (counts : Bool) (old pending bytes rest : List ℕ) → (old ++ (if counts then pending ++ bytes else [])) ++ rest ≡ (old ++ (if counts then pending else [])) ++ ((if counts then bytes else []) ++ rest)
+piece : (counts : Bool) (old pending bytes rest : List ℕ)
+    → (old ++ (if counts then pending ++ bytes else [])) ++ rest ≡ (old ++ (if counts then pending else [])) ++ ((if counts then bytes else []) ++ rest)
 piece true old pending bytes rest = ap (λ (l : List ℕ). l ++ rest) (sym (append_assoc old pending bytes)) ∙ append_assoc (old ++ pending) bytes rest
 piece false old pending bytes rest = refl
 
 none_pending : (counts : Bool) (old rest : List ℕ) → (old ++ (if counts then [] else [])) ++ rest ≡ old ++ rest
 none_pending true old rest = ap (λ (l : List ℕ). l ++ rest) (append-nil old)
 none_pending false old rest = ap (λ (l : List ℕ). l ++ rest) (append-nil old)
+
+-- all of the output counts
+counted : (counts : Bool) (all old pending rest : List ℕ) → all ≡ old ++ pending → (all ++ (if counts then [] else [])) ++ rest ≡ (old ++ pending) ++ rest
+counted counts all old pending rest is = none_pending counts all rest ∙ ap (λ (l : List ℕ). l ++ rest) is
 
 -- the commit after a run from one with bytes pending behind it
 abbrev after_run : Commit → List ℕ → List Event → Commit
@@ -54,16 +59,16 @@ runs initial (Commit_returns state ∷ events) commit pending start end there ou
     let new : Commit = record { output = start.output; state = state } in
     let same : mid.output ≡ start.output ++ [] = ap (λ (k : Kept). k.output) returned.written ∙ sym (append-nil start.output) in
     runs initial events new [] mid end returned.committed same more
-    ∙ λ i. Ok (Some (record { output = (none_pending (is_committed events) start.output (committed_bytes events) ∙ ap (λ (l : List ℕ). l ++ committed_bytes events) output) i; state = last_state state events }))
+    ∙ λ i. Ok (Some (record { output = counted (is_committed events) start.output commit.output pending (committed_bytes events) output i; state = last_state state events }))
 runs initial (Crash None ∷ events) commit pending start end there output (mid, (c, d, left, again, state, reopened), more) =
     let now = opened initial commit d mid state (again ∙ ap (or_initial initial) (left ∙ there)) reopened in
     runs initial events commit [] mid end now.there (now.output ∙ sym (append-nil commit.output)) more
-    ∙ λ i. Ok (Some (record { output = (none_pending (is_committed events) commit.output (committed_bytes events) ∙ ap (λ (l : List ℕ). l ++ committed_bytes events) (sym (append-nil commit.output))) i; state = last_state commit.state events }))
+    ∙ λ i. Ok (Some (record { output = counted (is_committed events) commit.output commit.output [] (committed_bytes events) (sym (append-nil commit.output)) i; state = last_state commit.state events }))
 runs initial (Crash (Some state) ∷ events) commit pending start end there output (mid, (c, d, left, same, again, reopened), more) =
     let new : Commit = record { output = start.output; state = state } in
     let now = opened initial new d mid again (same ∙ ap (or_initial initial) left) reopened in
     runs initial events new [] mid end now.there (now.output ∙ sym (append-nil start.output)) more
-    ∙ λ i. Ok (Some (record { output = (none_pending (is_committed events) start.output (committed_bytes events) ∙ ap (λ (l : List ℕ). l ++ committed_bytes events) output) i; state = last_state state events }))
+    ∙ λ i. Ok (Some (record { output = counted (is_committed events) start.output commit.output pending (committed_bytes events) output i; state = last_state state events }))
 
 pub once : (initial : List ℕ) (first : Kept) (events : List Event) → ExactlyOnce initial first events
 once initial first events state start end c reopened run same =

@@ -36,7 +36,8 @@ replaced_commits seen new state text short is replaced =
     ap committed replaced ∙ ap (λ (t : List ℕ). committed (record seen { state = t })) is ∙ spelled_for_all seen.output state short
 
 -- a crash while the state is replaced leaves the old commit or the new one
-pub replace_leaves : (seen : Kept) (old new : Kept → Type 0) (state text : List ℕ) → length seen.output < 2 ^ 63 → text ≡ spelled (length seen.output) state → Only seen old → Follows (Replaced text) old new
+pub replace_leaves : (seen : Kept) (old new : Kept → Type 0) (state text : List ℕ) → length seen.output < 2 ^ 63 → text ≡ spelled (length seen.output) state → Only seen old
+    → Follows (Replaced text) old new
     → (c : Kept) → new c → SameCommit seen c ⊎ HasCommitted seen.output state c
 replace_leaves seen old new state text short is only follows c left =
     let from = follows c left in

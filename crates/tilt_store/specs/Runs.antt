@@ -22,7 +22,8 @@ abbrev pub Happens : List ℕ → Event → Kept → Kept → Type 0
 Happens initial (Append bytes) old new = IsAppended bytes old new
 Happens initial (Commit_returns state) old new = IsCommitted state old new
 Happens initial (Crash took_effect) old new =
-    (c : Kept) × (d : Kept) × IsLeft took_effect old c × (resumed initial d ≡ resumed initial c) × (state : List ℕ) × IsReopened initial d new state
+    (c : Kept) × (d : Kept) × IsLeft took_effect old c × (resumed initial d ≡ resumed initial c)
+    × (state : List ℕ) × IsReopened initial d new state
 
 -- a run
 abbrev pub Run : List ℕ → List Event → Kept → Kept → Type 0
@@ -55,10 +56,13 @@ last_state state (Crash (Some next) ∷ events) = last_state next events
 -- a folder was opened, a run followed, and the folder holds what was there at first with each committed piece once, and the last
 -- commit's state: whatever a crash leaves of it then, a start goes on from just this
 abbrev pub ExactlyOnce : List ℕ → Kept → List Event → Type 0
-ExactlyOnce initial first events = (state : List ℕ) (start end c : Kept) → IsReopened initial first start state → Run initial events start end → SameCommit end c
+ExactlyOnce initial first events =
+    (state : List ℕ) (start end c : Kept) → IsReopened initial first start state → Run initial events start end → SameCommit end c
     → resumed initial c ≡ Ok (record { output = start.output ++ committed_bytes events; state = last_state state events })
 
 -- the same if the folder was empty at first
 abbrev pub ExactlyOnceFromNothing : List ℕ → List Event → Type 0
-ExactlyOnceFromNothing initial events = (state : List ℕ) (start end c : Kept) → IsReopened initial (record { output = []; state = [] }) start state → Run initial events start end → SameCommit end c
+ExactlyOnceFromNothing initial events =
+    (state : List ℕ) (start end c : Kept) → IsReopened initial (record { output = []; state = [] }) start state
+    → Run initial events start end → SameCommit end c
     → resumed initial c ≡ Ok (record { output = committed_bytes events; state = last_state initial events })

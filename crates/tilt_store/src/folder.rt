@@ -33,7 +33,8 @@ pub trait Folder {
         ensures bytes { tells → IfOk result (λ bytes. bytes.items ≡ (seen self.old).state) }
         ensures same { tells → seen self.new ≡ seen self.old }
         ensures crash { tells → NoMore (may_leave self.old) (may_leave self.new) }
-        ensures time { tells → Elapses (moment self.old) (moment self.new) (left_since self.old) (left_since self.new) (may_leave self.new) }
+        ensures time { tells → Elapses (moment self.old) (moment self.new)
+            (left_since self.old) (left_since self.new) (may_leave self.new) }
         ensures cause { HasCause (faults self.old) (faults self.new) result };
 
     /// How many bytes the output has, which are fewer than 2^63. A longer output is a fault.
@@ -42,14 +43,18 @@ pub trait Folder {
         ensures short { IfOk result (λ n. n < 2 ^ 63) }
         ensures same { tells → seen self.new ≡ seen self.old }
         ensures crash { tells → NoMore (may_leave self.old) (may_leave self.new) }
-        ensures time { tells → Elapses (moment self.old) (moment self.new) (left_since self.old) (left_since self.new) (may_leave self.new) }
+        ensures time { tells → Elapses (moment self.old) (moment self.new)
+            (left_since self.old) (left_since self.new) (may_leave self.new) }
         ensures cause { HasCause (faults self.old) (faults self.new) result };
 
     /// Appends bytes to the output. Until the next `sync`, a crash can leave any bytes in their place, and fewer of them.
     fn append(&mut self, bytes: &[u8]) -> Result<(), FolderError>
-        ensures appended { tells → OnOk result (seen self.new ≡ record (seen self.old) { output = (seen self.old).output ++ bytes.now }) }
-        ensures crash { tells → Follows (Torn (length (seen self.old).output) (length bytes.now)) (may_leave self.old) (may_leave self.new) }
-        ensures time { tells → Elapses (moment self.old) (moment self.new) (left_since self.old) (left_since self.new) (may_leave self.new) }
+        ensures appended { tells → OnOk result
+            (seen self.new ≡ record (seen self.old) { output = (seen self.old).output ++ bytes.now }) }
+        ensures crash { tells → Follows (Torn (length (seen self.old).output) (length bytes.now))
+            (may_leave self.old) (may_leave self.new) }
+        ensures time { tells → Elapses (moment self.old) (moment self.new)
+            (left_since self.old) (left_since self.new) (may_leave self.new) }
         ensures cause { HasCause (faults self.old) (faults self.new) result };
 
     /// Cuts the output to a length. Until the next `sync`, a crash can leave any length between.
@@ -57,7 +62,8 @@ pub trait Folder {
         requires { tells → len ≤ length (seen self.old).output }
         ensures cut { tells → OnOk result (seen self.new ≡ record (seen self.old) { output = take len (seen self.old).output }) }
         ensures crash { tells → Follows (Cut len) (may_leave self.old) (may_leave self.new) }
-        ensures time { tells → Elapses (moment self.old) (moment self.new) (left_since self.old) (left_since self.new) (may_leave self.new) }
+        ensures time { tells → Elapses (moment self.old) (moment self.new)
+            (left_since self.old) (left_since self.new) (may_leave self.new) }
         ensures cause { HasCause (faults self.old) (faults self.new) result };
 
     /// After `Ok`, a crash leaves exactly what is seen.
@@ -65,14 +71,16 @@ pub trait Folder {
         ensures durable { tells → OnOk result (Only (seen self.new) (may_leave self.new)) }
         ensures same { tells → seen self.new ≡ seen self.old }
         ensures crash { tells → NoneBut (seen self.old) (may_leave self.old) (may_leave self.new) }
-        ensures time { tells → Elapses (moment self.old) (moment self.new) (left_since self.old) (left_since self.new) (may_leave self.new) }
+        ensures time { tells → Elapses (moment self.old) (moment self.new)
+            (left_since self.old) (left_since self.new) (may_leave self.new) }
         ensures cause { HasCause (faults self.old) (faults self.new) result };
 
     /// Replaces the state's bytes. A crash leaves the old state or the new one, whole; which of them is known after the next `sync`.
     fn replace_state(&mut self, bytes: &[u8]) -> Result<(), FolderError>
         ensures replaced { tells → OnOk result (seen self.new ≡ record (seen self.old) { state = bytes.now }) }
         ensures crash { tells → Follows (Replaced bytes.now) (may_leave self.old) (may_leave self.new) }
-        ensures time { tells → Elapses (moment self.old) (moment self.new) (left_since self.old) (left_since self.new) (may_leave self.new) }
+        ensures time { tells → Elapses (moment self.old) (moment self.new)
+            (left_since self.old) (left_since self.new) (may_leave self.new) }
         ensures cause { HasCause (faults self.old) (faults self.new) result };
 
     /// This moment is one of those since an earlier one.

@@ -42,7 +42,8 @@ impl<F: Folder> Ledger<F> {
             (OpensSame initial.now (F.seen folder))) }
         ensures error { F.tells → IfErr result (λ e. OpensNot (committed (F.seen folder)) e.0) }
         ensures failed { IfErr result (λ e. e.0 ≡ OpenError.Failed → Rose (F.faults folder) (F.faults e.1)) }
-        ensures faults { MatchResult result (λ opened. F.faults folder ≤ F.faults opened.ledger.folder) (λ e. F.faults folder ≤ F.faults e.1) }
+        ensures faults { MatchResult result
+            (λ opened. F.faults folder ≤ F.faults opened.ledger.folder) (λ e. F.faults folder ≤ F.faults e.1) }
     {
         match recover(alloc, &mut folder, initial) {
             Ok(state) => Ok(Opened {

@@ -26,7 +26,8 @@ returns-in_err-sync-clause-any_moment g c told =
     let same = begins_same c.args.initial.now _ seen _ _ none (c.deref.ensures.value ∙ c.in_ok-text.ensures) only (c.replace_state.ensures.crash told) in
     let replaced = goes_on g.F.Folder.moment g.F.Folder.left_since old old c.replace_state.new.self P _ at_start (c.replace_state.ensures.time told) same in
     goes_on g.F.Folder.moment g.F.Folder.left_since old c.replace_state.new.self c.sync.new.self P _ replaced (c.sync.ensures.time told)
-    (λ k left. ⊎_elim (same k) (λ is. begun_same c.args.initial.now _ seen k none (c.deref.ensures.value ∙ c.in_ok-text.ensures) (is ∙ c.in_ok-replace_state.ensures.replaced told)) (c.sync.ensures.crash told k left))
+    (λ k left. ⊎_elim (same k) (λ is. begun_same c.args.initial.now _ seen k none (c.deref.ensures.value ∙ c.in_ok-text.ensures) (is ∙ c.in_ok-replace_state.ensures.replaced told))
+    (c.sync.ensures.crash told k left))
 
 pub returns-clause-any_moment : goal.returns-clause-any_moment
 returns-clause-any_moment g c told =
@@ -39,7 +40,8 @@ returns-clause-any_moment g c told =
     let same = begins_same c.args.initial.now _ seen _ _ none (c.deref.ensures.value ∙ c.in_ok-text.ensures) only (c.replace_state.ensures.crash told) in
     let replaced = goes_on g.F.Folder.moment g.F.Folder.left_since old old c.replace_state.new.self P _ at_start (c.replace_state.ensures.time told) same in
     goes_on g.F.Folder.moment g.F.Folder.left_since old c.replace_state.new.self c.sync.new.self P _ replaced (c.sync.ensures.time told)
-    (λ k left. ⊎_elim (same k) (λ is. begun_same c.args.initial.now _ seen k none (c.deref.ensures.value ∙ c.in_ok-text.ensures) (is ∙ c.in_ok-replace_state.ensures.replaced told)) (c.sync.ensures.crash told k left))
+    (λ k left. ⊎_elim (same k) (λ is. begun_same c.args.initial.now _ seen k none (c.deref.ensures.value ∙ c.in_ok-text.ensures) (is ∙ c.in_ok-replace_state.ensures.replaced told))
+    (c.sync.ensures.crash told k left))
 
 pub returns-clause-reopened : goal.returns-clause-reopened
 returns-clause-reopened g c told =

@@ -11,7 +11,8 @@ returns-clause-any_moment g c told =
     let only = c.requires.only told in
     let P = OpensSame c.args.initial.now seen in
     let within : c.in-Some.end ≤ length seen.output = omega (arith, c.if-end-size.false, c.requires.counted told) in
-    let there = has_commit seen c.args.bytes.now c.in-Some.rest.now c.in-Some.end c.args.size (c.requires.read told) c.requires.some c.in-Some.ensures (c.requires.counted told) (omega (arith, c.if-end-size.false)) in
+    let there = has_commit seen c.args.bytes.now c.in-Some.rest.now c.in-Some.end c.args.size (c.requires.read told) c.requires.some c.in-Some.ensures (c.requires.counted told)
+    (omega (arith, c.if-end-size.false)) in
     let at_start = started g.F.Folder.moment g.F.Folder.left_since old P (λ k left. opens_same _ seen k (only k (g.met.F.Folder.only_now old k left))) in
     let same = cuts_same c.args.initial.now c.in-Some.rest.now c.in-Some.end seen _ _ within there only (c.cut.ensures.crash told) in
     let is_cut = goes_on g.F.Folder.moment g.F.Folder.left_since old old c.cut.new.self P _ at_start (c.cut.ensures.time told) same in
@@ -22,7 +23,8 @@ pub returns-clause-reopened : goal.returns-clause-reopened
 returns-clause-reopened g c told =
     let seen = g.F.Folder.seen c.args.folder.now in
     let within : c.in-Some.end ≤ length seen.output = omega (arith, c.if-end-size.false, c.requires.counted told) in
-    let there = has_commit seen c.args.bytes.now c.in-Some.rest.now c.in-Some.end c.args.size (c.requires.read told) c.requires.some c.in-Some.ensures (c.requires.counted told) (omega (arith, c.if-end-size.false)) in
+    let there = has_commit seen c.args.bytes.now c.in-Some.rest.now c.in-Some.end c.args.size (c.requires.read told) c.requires.some c.in-Some.ensures (c.requires.counted told)
+    (omega (arith, c.if-end-size.false)) in
     let copied : c.in_ok-state.state.items ≡ c.in-Some.rest.now = search rules in
     cut_back c.args.initial.now c.in-Some.rest.now _ c.in-Some.end seen _ within there copied (c.sync.ensures.same told ∙ c.in_ok-cut.ensures.cut told)
 
