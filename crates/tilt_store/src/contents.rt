@@ -1,8 +1,8 @@
 // What is in a folder in memory.
-use std::alloc::{AllocError as OutOfMemory, Global};
-
 ghost use Rattle.std.specs.Prelude.{◌≡◌, IfOk};
 ghost use Rattle.tilt_store.specs.MemFolder.{kept_of};
+
+use std::alloc::{AllocError as OutOfMemory, Global};
 
 /// The bytes of an output file and a state file.
 #[derive(Drop)]

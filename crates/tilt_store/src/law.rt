@@ -9,5 +9,4 @@ ghost use Rattle.tilt_store.specs.Runs.{Event, ExactlyOnce, ExactlyOnceFromNothi
 pub fn exactly_once()
     ensures runs { (initial : List ℕ) (first : Kept) (events : List Event) → ExactlyOnce initial first events }
     ensures from_nothing { (initial : List ℕ) (events : List Event) → ExactlyOnceFromNothing initial events }
-{
-}
+{}

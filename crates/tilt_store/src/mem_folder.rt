@@ -26,15 +26,26 @@ pub struct MemFolder {
 
 impl MemFolder {
     /// A folder with these bytes, all of them on the disk. After so many calls each further one fails.
-    pub fn new(alloc: Global, output: &[u8], state: &[u8], calls: u64) -> Result<MemFolder, OutOfMemory>
+    pub fn new(
+        alloc: Global,
+        output: &[u8],
+        state: &[u8],
+        calls: u64,
+    ) -> Result<MemFolder, OutOfMemory>
         ensures seen { IfOk result (λ folder. mem_seen folder ≡ record { output = output.now; state = state.now }) }
         ensures only { IfOk result (λ folder. Only (mem_seen folder) (mem_may_leave folder)) }
     {
         Ok(MemFolder {
             alloc,
-            first: Contents { output: output.to_vec(alloc)?, state: state.to_vec(alloc)? },
+            first: Contents {
+                output: output.to_vec(alloc)?,
+                state: state.to_vec(alloc)?,
+            },
             changes: Vec::new(alloc),
-            current: Contents { output: output.to_vec(alloc)?, state: state.to_vec(alloc)? },
+            current: Contents {
+                output: output.to_vec(alloc)?,
+                state: state.to_vec(alloc)?,
+            },
             calls_left: calls,
             faults: 0,
         })
@@ -42,7 +53,13 @@ impl MemFolder {
 
     /// What a crash leaves of the folder, seen after a restart. `tear` says what it leaves of changes of the output that no sync
     /// followed, and `is_replaced` whether it leaves such replacements of the state. After so many calls each further one fails.
-    pub fn crash(&self, alloc: Global, tear: Tear, is_replaced: bool, calls: u64) -> Result<MemFolder, OutOfMemory>
+    pub fn crash(
+        &self,
+        alloc: Global,
+        tear: Tear,
+        is_replaced: bool,
+        calls: u64,
+    ) -> Result<MemFolder, OutOfMemory>
         ensures left { IfOk result (λ next. mem_may_leave self.now (mem_seen next)) }
         ensures only { IfOk result (λ next. Only (mem_seen next) (mem_may_leave next)) }
     {
@@ -117,7 +134,12 @@ impl Folder for MemFolder {
     }
 
     fn append(&mut self, bytes: &[u8]) -> Result<(), FolderError> {
-        note_append(self.alloc, &mut self.changes, self.current.output.len(), bytes)?;
+        note_append(
+            self.alloc,
+            &mut self.changes,
+            self.current.output.len(),
+            bytes,
+        )?;
         self.current.output.extend_from_slice(bytes)?;
         spend(&mut self.calls_left, &mut self.faults)
     }

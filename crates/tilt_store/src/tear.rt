@@ -91,7 +91,12 @@ fn make_zeros(alloc: Global, count: usize) -> Result<Vec<u8>, OutOfMemory>
 }
 
 // Appends a piece of an append of so many bytes at a place, unless more is there than before that append.
-fn append_torn(output: &mut Vec<u8>, at: usize, count: usize, piece: &[u8]) -> Result<(), OutOfMemory>
+fn append_torn(
+    output: &mut Vec<u8>,
+    at: usize,
+    count: usize,
+    piece: &[u8],
+) -> Result<(), OutOfMemory>
     requires { length piece.now ≤ count }
     ensures { OnOk result ((state : List ℕ) → Torn at count
         (record { output = output.old.items; state = state }) (record { output = output.new.items; state = state })) }

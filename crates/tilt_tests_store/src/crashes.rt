@@ -11,6 +11,7 @@ use tilt_store::{FolderError, Ledger, MemFolder, OpenError, Tear};
 
 // What the program writes, a line at a time. It commits after the second line, the fourth and the last, with how many lines there are.
 const LINES: [&str; 5] = ["a\n", "bb\n", "ccc\n", "dddd\n", "eeeee\n"];
+
 const ALL: &[u8] = b"a\nbb\nccc\ndddd\neeeee\n";
 
 // What is in the output with so many lines.
@@ -36,7 +37,11 @@ struct Left {
 }
 
 // Writes the lines after the first `count`, until a call fails.
-fn write_lines(alloc: Global, ledger: &mut Ledger<MemFolder>, count: usize) -> Result<(), FolderError>
+fn write_lines(
+    alloc: Global,
+    ledger: &mut Ledger<MemFolder>,
+    count: usize,
+) -> Result<(), FolderError>
     requires { IsOpen (mem_seen ledger.old.folder) (mem_may_leave ledger.old.folder) }
 {
     for (place, line) in LINES.iter().enumerate() {
@@ -82,7 +87,10 @@ fn run<R: Abort>(alloc: Global, rt: &R, folder: MemFolder) -> Result<Left, Fail>
     match Ledger::open(alloc, folder, &[0]) {
         Ok(mut opened) => {
             let count = count_in(&opened.state);
-            assert_eq!(rt; Some(opened.ledger.folder.output()), FIRST.get(count).copied());
+            assert_eq!(rt;
+                Some(opened.ledger.folder.output()),
+                FIRST.get(count).copied()
+            );
             let is_done = write_lines(alloc, &mut opened.ledger, count).is_ok();
             Ok(Left {
                 folder: opened.ledger.folder,
@@ -109,8 +117,16 @@ fn crash_twice<R: Abort>(
 ) -> Result<(), Fail> {
     let first = run(alloc, rt, MemFolder::new(alloc, b"", b"", calls)?)?;
     assert_eq!(rt; first.is_done, calls >= CALLS);
-    let second = run(alloc, rt, first.folder.crash(alloc, tear, is_replaced, calls)?)?;
-    let last = run(alloc, rt, second.folder.crash(alloc, tear, is_replaced, u64::MAX)?)?;
+    let second = run(
+        alloc,
+        rt,
+        first.folder.crash(alloc, tear, is_replaced, calls)?,
+    )?;
+    let last = run(
+        alloc,
+        rt,
+        second.folder.crash(alloc, tear, is_replaced, u64::MAX)?,
+    )?;
     assert!(rt; last.is_done);
     let left = last.folder.crash(alloc, Tear::Nothing, false, 0)?;
     assert_eq!(rt; left.output(), ALL);

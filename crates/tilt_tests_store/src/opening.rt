@@ -15,8 +15,16 @@ const UNFIT: [(&[u8], &[u8], OpenError); 10] = [
     (b"abc", b"03\nstate", OpenError::BrokenState),
     (b"abc", b"-1\nstate", OpenError::BrokenState),
     (b"abc", b" 3\nstate", OpenError::BrokenState),
-    (b"abc", b"9223372036854775808\nstate", OpenError::BrokenState),
-    (b"abc", b"9223372036854775807\nstate", OpenError::OutputTooShort),
+    (
+        b"abc",
+        b"9223372036854775808\nstate",
+        OpenError::BrokenState,
+    ),
+    (
+        b"abc",
+        b"9223372036854775807\nstate",
+        OpenError::OutputTooShort,
+    ),
     (b"abc", b"4\nstate", OpenError::OutputTooShort),
 ];
 
@@ -42,7 +50,11 @@ fn is_unfit<R: Abort>(alloc: Global, rt: &R, case: &(&[u8], &[u8], OpenError)) -
     Ok(())
 }
 
-fn is_fit<R: Abort>(alloc: Global, rt: &R, case: &(&[u8], &[u8], &[u8], &[u8])) -> Result<(), Fail> {
+fn is_fit<R: Abort>(
+    alloc: Global,
+    rt: &R,
+    case: &(&[u8], &[u8], &[u8], &[u8]),
+) -> Result<(), Fail> {
     let folder = MemFolder::new(alloc, case.0, case.1, 9)?;
     match Ledger::open(alloc, folder, b"first") {
         Ok(opened) => {
