@@ -1,14 +1,17 @@
 -- Lists of turns, and the feed of their updates.
 use Rattle.std.specs.Prelude.{⊤, is_some}
-use Rattle.std.proofs.Common.{◌≡◌, ℕ, ℤ, pos, ◌+ℤ◌, ◌-ℤ◌, ◌≤ℤ◌, ◌<ℤ◌, neg_ℤ, Bool, true, false, if◌then◌else◌, List, [], ◌∷◌, ◌++◌, Option, Some, None, is_none, map}
+use Rattle.std.proofs.Common.{◌≡◌, ℕ, ℤ, pos, ◌+ℤ◌, ◌-ℤ◌, ◌≤ℤ◌, ◌<ℤ◌, neg_ℤ, Bool, true, false, if◌then◌else◌, List, [], ◌∷◌, ◌++◌, Option, Some, None, is_none, map, option_map, length}
 use Rattle.std.proofs.Common.{refl, sym, ap, subst, ◌∙◌, arith, append-nil, append_assoc}
 use Rattle.std.proofs.lemmas.Int.{ints, clamps}
 use Rattle.tilt_base.specs.declared.limits.TheConstants.{T}
-use Rattle.tilt_conventions.proofs.Delayed.{Delayed, delayed-cut, delayed-ends, delayed-rows, known-follows, reading-follows, to_last}
+use Rattle.tilt_conventions.proofs.Delayed.{Delayed, delayed-cut, delayed-ends, delayed-latest, delayed-rows, known-follows, reading-follows, to_last}
+use Rattle.tilt_conventions.proofs.Numbering.{Counts}
 use Rattle.tilt_conventions.proofs.Prompt.{Prompt, known-goes, prompt-cut, prompt-ends, prompt-rows, reading-goes}
 use Rattle.tilt_conventions.proofs.Showing.{Allowed, Closes, Shows, allowed-append, moved-append, updated-append, updated-edge, updated_all}
 use Rattle.tilt_conventions.proofs.Taking.{timely}
-use Rattle.tilt_conventions.specs.Laws.{AreAllowed, HoldsATick, converted, cut_of, end_of, events_of, feed_of, last_start, meant, reached, readings_of, stepped, stepped_all, taken_from, taken_turns, updates_at_last, updates_now}
+use Rattle.tilt_conventions.proofs.Telling.{cells}
+use Rattle.tilt_conventions.specs.Cells.{AreAfter, last_by, value_at}
+use Rattle.tilt_conventions.specs.Laws.{AreAllowed, HoldsATick, converted, cut_of, end_of, events_of, feed_of, last_start, last_tick, meant, reached, readings_of, stepped, stepped_all, taken_from, taken_turns, updates_at_last, updates_now}
 use Rattle.tilt_conventions.specs.Rows.{age_of, counted, rows_of}
 use Rattle.tilt_conventions.specs.Steps.{Kept, Step, is_in_range, last_updates, nothing_kept, taken, turn_fault}
 use Rattle.tilt_conventions.specs.declared.fault.TurnFault.{TurnFault}
@@ -27,7 +30,11 @@ use Rattle.tilt_feed.specs.declared.edge.Edge.{Edge}
 use Rattle.tilt_feed.specs.declared.event.Event.TheVariants.{Input, Finish}
 use Rattle.tilt_feed.specs.declared.fault.EventFault.{EventFault}
 use Rattle.tilt_feed.specs.declared.update.Update.{Update}
-use Rattle.tilt_stream.specs.Snap.{Snapshot}
+use Rattle.tilt_feed.proofs.Ordered.{fed-order}
+use Rattle.tilt_feed.specs.Laws.{IsInOrder}
+use Rattle.std.specs.List.{AllByRecursion}
+use Rattle.tilt_stream.specs.Snap.{InOrder, Snapshot}
+use Rattle.tilt_stream.specs.Stream.{cell_at}
 
 -- the options with a convention and ties
 abbrev pub by : Convention → Ties → Options
@@ -126,7 +133,7 @@ shows-none Event None = record { low = omega (arith, ints); high = grind (arith,
 shows-none Event (Some age) = record { low = omega (arith, ints); high = grind (arith, ints); young = tt; kind = refl; rows = λ cut on. refl }
 
 keeps-first : (convention : Convention) (ties : Ties) → Keeps convention ties [] nothing_kept unknown_input
-keeps-first convention First = record { edge = refl; mark = refl; low = omega (arith, ints); high = grind (arith, ints); latest = refl; near = tt; at = refl; shows = shows-none convention (age_of convention) }
+keeps-first convention First = record { edge = refl; mark = refl; low = omega (arith, ints); high = grind (arith, ints); latest = refl; near = tt; at = refl; shows = shows-none convention (age_of convention); apart = tt; counts = record { few = omega arith; is = refl } }
 keeps-first convention Last = record {
   edge = refl;
   mark = refl;
@@ -134,9 +141,10 @@ keeps-first convention Last = record {
   high = grind (arith, ints);
   at = refl;
   stays = record { none = refl; shows = shows-none convention (age_of convention) };
+  counts = record { few = omega arith; is = refl };
 }
-keeps-first convention Refuse = record { edge = refl; mark = refl; low = omega (arith, ints); high = grind (arith, ints); latest = refl; near = tt; at = refl; shows = shows-none convention (age_of convention) }
-keeps-first convention Spread = record { edge = refl; mark = refl; low = omega (arith, ints); high = grind (arith, ints); latest = refl; near = tt; at = refl; shows = shows-none convention (age_of convention) }
+keeps-first convention Refuse = record { edge = refl; mark = refl; low = omega (arith, ints); high = grind (arith, ints); latest = refl; near = tt; at = refl; shows = shows-none convention (age_of convention); apart = tt; counts = record { few = omega arith; is = refl } }
+keeps-first convention Spread = record { edge = refl; mark = refl; low = omega (arith, ints); high = grind (arith, ints); latest = refl; near = tt; at = refl; shows = shows-none convention (age_of convention); apart = tt; counts = record { few = omega arith; is = refl } }
 
 pub from-first : (options : Options) (turns : List Turn) → HoldsATick options.convention
     → Goes options.convention options.ties (taken_turns options turns) (converted options turns) unknown_input
@@ -156,6 +164,24 @@ keeps-rows convention First turns kept input keeps = prompt-rows (by convention 
 keeps-rows convention Last turns kept input keeps = delayed-rows convention turns kept input keeps
 keeps-rows convention Refuse turns kept input keeps = prompt-rows (by convention Refuse) turns kept input keeps
 keeps-rows convention Spread turns kept input keeps = prompt-rows (by convention Spread) turns kept input keeps
+
+-- what is kept
+pub record IsKeptOf (ties : Ties) (turns : List Turn) (kept : Kept) : Type 0 where
+  pub mark : kept.mark ≡ last_start (neg_ℤ T) turns
+  pub latest : option_map (λ r. r.tick) kept.latest ≡ last_tick None (counted ties (readings_of turns))
+  pub apart : AreAfter None (counted ties (readings_of turns))
+  pub counts : Counts (length (readings_of turns)) (length (counted ties (readings_of turns))) kept.skipped
+
+kept-prompt : (options : Options) (turns : List Turn) (kept : Kept) (input : InputFeed) → Prompt options turns kept input → IsKeptOf options.ties turns kept
+kept-prompt options turns kept input keeps = record { mark = keeps.mark; latest = keeps.latest; apart = keeps.apart; counts = keeps.counts }
+
+keeps-kept : (convention : Convention) (ties : Ties) (turns : List Turn) (kept : Kept) (input : InputFeed) → Keeps convention ties turns kept input → IsKeptOf ties turns kept
+keeps-kept convention First turns kept input keeps = kept-prompt (by convention First) turns kept input keeps
+keeps-kept convention Last turns kept input keeps =
+    let latest = delayed-latest convention turns kept input keeps in
+    record { mark = keeps.mark; latest = latest.0; apart = latest.1; counts = keeps.counts }
+keeps-kept convention Refuse turns kept input keeps = kept-prompt (by convention Refuse) turns kept input keeps
+keeps-kept convention Spread turns kept input keeps = kept-prompt (by convention Spread) turns kept input keeps
 
 keeps-ends : (convention : Convention) (ties : Ties) (turns : List Turn) (kept : Kept) (input : InputFeed) → HoldsATick convention → Keeps convention ties turns kept input
     → Closes (age_of convention) (counted ties (readings_of turns)) (reached ties turns) (last_updates (by convention ties) kept) input
@@ -224,3 +250,30 @@ end-fed options turns holds =
 
 pub allowed-fed : (options : Options) (turns : List Turn) → HoldsATick options.convention → AreAllowed (events_of (updates_at_last options turns) ++ Finish ∷ []) (empty_feed 1)
 allowed-fed options turns holds = (is-fed (updates_at_last options turns) unknown_input (last-fed options turns holds).allowed).allowed
+
+pub kept-of : (options : Options) (turns : List Turn) → HoldsATick options.convention → IsKeptOf options.ties (taken_turns options turns) (converted options turns).kept
+kept-of options turns holds =
+    let goes = from-first options turns holds in
+    keeps-kept options.convention options.ties (taken_turns options turns) (converted options turns).kept (updated_all (updates_now options turns) unknown_input) goes.keeps
+
+pub cells-of : (options : Options) (turns : List Turn) (cut tick : ℤ) → HoldsATick options.convention → tick ≤ℤ cut
+    → cell_at (meant options (taken_turns options turns) cut) tick
+    ≡ value_at (age_of options.convention) tick (last_by tick (counted options.ties (readings_of (taken_turns options turns))))
+cells-of options turns cut tick holds under =
+    cells (age_of options.convention) None (counted options.ties (readings_of (taken_turns options turns))) cut tick (kept-of options turns holds).apart under
+
+-- the rows are in order
+pub order-fed : (options : Options) (turns : List Turn) → HoldsATick options.convention
+    → InOrder (neg_ℤ T) (cut_of options.ties (taken_turns options turns)) (meant options (taken_turns options turns) (cut_of options.ties (taken_turns options turns)))
+order-fed options turns holds =
+    let all = taken_turns options turns in
+    let kept = (converted options turns).kept in
+    let goes = from-first options turns holds in
+    let updates = updates_now options turns in
+    let input = updated_all updates unknown_input in
+    let fed = (is-fed updates unknown_input goes.allowed).is in
+    let ordered = subst (λ (f : Feed). AllByRecursion IsInOrder f.inputs) fed (fed-order 1 (events_of updates)) in
+    let rows = keeps-rows options.convention options.ties all kept input goes.keeps in
+    let cut = keeps-cut options.convention options.ties all kept input goes.keeps in
+    subst (λ (list : List Snapshot). InOrder (neg_ℤ T) (cut_of options.ties all) list) rows
+    (subst (λ (w : ℤ). InOrder (neg_ℤ T) w (rows_now input)) cut ordered.0.rows)

@@ -1,6 +1,6 @@
 -- Readings that wait until their tick has ended: what a turn keeps of the feed.
 use Rattle.std.specs.Prelude.{⊤, is_some}
-use Rattle.std.proofs.Common.{◌≡◌, ℕ, ℤ, pos, ◌+ℤ◌, ◌-ℤ◌, ◌≤ℤ◌, ◌<ℤ◌, neg_ℤ, Bool, true, false, not, ◌&&◌, if◌then◌else◌, int_lt, int_le, List, [], ◌∷◌, ◌++◌, Option, Some, None, option_map}
+use Rattle.std.proofs.Common.{◌≡◌, ℕ, ℤ, pos, ◌+ℤ◌, ◌-ℤ◌, ◌≤ℤ◌, ◌<ℤ◌, neg_ℤ, Bool, true, false, not, ◌&&◌, if◌then◌else◌, int_lt, int_le, List, [], ◌∷◌, ◌++◌, Option, Some, None, option_map, length, ◌+◌}
 use Rattle.std.proofs.Common.{refl, sym, ap, subst, ◌∙◌, arith, append-nil, inl, inr}
 use Rattle.std.proofs.lemmas.Int.{ints, clamps}
 use Rattle.std.specs.Int.{int_min, int_max}
@@ -8,8 +8,11 @@ use Rattle.std.specs.Option.{ForSome}
 use Rattle.std.specs.Ordering.{int_eq}
 use Rattle.tilt_base.specs.declared.limits.TheConstants.{T}
 use Rattle.tilt_conventions.proofs.Listing.{last-more, lasts-more, rows-more}
+use Rattle.tilt_conventions.proofs.Numbering.{Counts, counted-one, length-one, skipped-more}
 use Rattle.tilt_conventions.proofs.Showing.{Allowed, Closes, Does, Ends, Says, Shows, Knows, allowed-append, closes, does-more, ends, hands, knows, now, updated-append, updated-edge, updated_all}
 use Rattle.tilt_conventions.proofs.Taking.{IsTimely, last-start, reading-times, readings-known, readings-more, time-high, time-low}
+use Rattle.tilt_conventions.proofs.Telling.{after-more, after-other}
+use Rattle.tilt_conventions.specs.Cells.{AreAfter, IsAfter}
 use Rattle.tilt_conventions.specs.Laws.{HoldsATick, at_least, last_start, last_tick, reached, readings_of}
 use Rattle.tilt_conventions.specs.Rows.{age_of, counted, end_by_age, is_at, lasts, row_on, rows_of, start_of}
 use Rattle.tilt_conventions.specs.Steps.{Kept, Step, aged_at_last, due, handed, is_reading_time, is_tie, known, last_updates, latest_after, moved_all, one_more, placed, read, settled, step_to, taken, takes_last, turn_start, unended, waiting}
@@ -33,6 +36,7 @@ pub record IsLatest (convention : Convention) (readings : List Reading) (mark : 
   pub on : start_of reading ≤ℤ mark
   pub waits : start_of reading ≡ mark → Shows convention (age_of convention) (lasts front (Some reading.tick)) input
   pub over : start_of reading <ℤ mark → Shows convention (age_of convention) (lasts front (Some reading.tick) ++ reading ∷ []) input
+  pub apart : AreAfter None (lasts front (Some reading.tick) ++ reading ∷ [])
 
 pub record IsEmpty (convention : Convention) (readings : List Reading) (input : InputFeed) : Type 0 where
   pub none : readings ≡ []
@@ -50,6 +54,7 @@ pub record Delayed (convention : Convention) (turns : List Turn) (kept : Kept) (
   pub high : kept.mark ≤ℤ T
   pub at : input.edge.watermark ≡ kept.mark
   pub stays : Stays convention (readings_of turns) kept.mark kept.latest input
+  pub counts : Counts (length (readings_of turns)) (length (lasts (readings_of turns) None)) kept.skipped
 
 -- an input that is known up to a tick: the feed shows the latest reading if its tick has ended there
 pub record IsShown (convention : Convention) (front : List Reading) (tick : ℤ) (reading : Reading) (input : InputFeed) : Type 0 where
@@ -172,6 +177,7 @@ moves-known convention readings mark (Some reading) tick input holds stays at on
         on = omega (arith, ints, below, on);
         waits = there.shown.waits;
         over = there.shown.over;
+        apart = stays.apart;
       };
     }
 
@@ -191,6 +197,15 @@ shown-then false convention front last reading input shown on is =
     let before : start_of last <ℤ start_of reading = grind (arith, ints, is, on) in
     shown.over before
 
+apart-then : (b : Bool) (list : List Reading) (last reading : Reading) → AreAfter None (list ++ last ∷ []) → start_of last ≤ℤ start_of reading → is_at (Some reading.tick) last ≡ b
+    → AreAfter None ((list ++ (if b then [] else last ∷ [])) ++ reading ∷ [])
+apart-then true list last reading apart on is =
+    let same : last.tick ≡ reading.tick = grind (arith, ints, is) in
+    subst (λ (front : List Reading). AreAfter None (front ++ reading ∷ [])) (sym (append-nil list)) (after-other None list last reading same apart)
+apart-then false list last reading apart on is =
+    let before : last.tick <ℤ reading.tick = grind (arith, ints, is, on) in
+    after-more None (list ++ last ∷ []) reading apart (subst (λ (t : Option ℤ). IsAfter t reading.tick) (sym (last-more None list last)) before)
+
 moves-read : (convention : Convention) (readings : List Reading) (mark : ℤ) (latest : Option Reading) (reading : Reading) (input : InputFeed) → HoldsATick convention
     → Stays convention readings mark latest input → input.edge.watermark ≡ mark → mark ≤ℤ start_of reading → start_of reading ≤ℤ T → is_reading_time reading.tick ≡ true
     → Moves convention (readings ++ reading ∷ []) (start_of reading) (Some reading) (settled_by convention (start_of reading) input.edge (unended mark latest)) input
@@ -207,6 +222,7 @@ moves-read convention readings mark None reading input holds stays at on high ti
         on = omega (arith, ints);
         waits = λ same. subst (λ (list : List Reading). Shows convention (age_of convention) (lasts list (Some reading.tick)) (updated_all updates input)) (sym stays.none) settles.does.shows;
         over = λ before. absurd (omega (arith, ints, before));
+        apart = subst (λ (list : List Reading). AreAfter None (lasts list (Some reading.tick) ++ reading ∷ [])) (sym stays.none) (tt, tt);
       };
     }
 moves-read convention readings mark (Some last) reading input holds stays at on high time =
@@ -226,8 +242,49 @@ moves-read convention readings mark (Some last) reading input holds stays at on 
         on = omega (arith, ints);
         waits = λ now. subst (λ (list : List Reading). Shows convention (age_of convention) list (updated_all updates input)) (sym same) shows;
         over = λ before. absurd (omega (arith, ints, before));
+        apart = subst (λ (list : List Reading). AreAfter None (list ++ reading ∷ [])) (sym same)
+          (apart-then (is_at (Some reading.tick) last) (lasts stays.front (Some last.tick)) last reading stays.apart (omega (arith, ints, below, on)) refl);
       };
     }
+
+-- how many were skipped
+swap-eq : (b : Bool) (one other : ℤ) → int_eq one other ≡ b → int_eq other one ≡ b
+swap-eq true one other is = grind (arith, ints, is)
+swap-eq false one other is = grind (arith, ints, is)
+
+all-lasts : (front : List Reading) (reading : Reading) → lasts (front ++ reading ∷ []) None ≡ lasts front (Some reading.tick) ++ reading ∷ []
+all-lasts front reading = lasts-more front reading None
+
+counts-then : (tie : Bool) (readings list : List Reading) (last reading : Reading) (skipped : ℕ) → Counts (length readings) (length (list ++ last ∷ [])) skipped
+    → Counts (length (readings ++ reading ∷ [])) (length ((list ++ (if tie then [] else last ∷ [])) ++ reading ∷ [])) (if tie then one_more skipped else skipped)
+counts-then true readings list last reading skipped counts =
+    let same : length ((list ++ []) ++ reading ∷ []) ≡ length (list ++ last ∷ []) =
+      length-one (list ++ []) reading ∙ ap (λ (l : List Reading). length l + 1) (append-nil list) ∙ sym (length-one list last) in
+    subst (λ (n : ℕ). Counts (length (readings ++ reading ∷ [])) n (one_more skipped)) (sym same)
+    (skipped-more (length readings) (length (list ++ last ∷ [])) skipped (length (readings ++ reading ∷ [])) (length-one readings reading) counts)
+counts-then false readings list last reading skipped counts =
+    counted-one (length readings) (length (list ++ last ∷ [])) skipped (length (readings ++ reading ∷ [])) (length ((list ++ last ∷ []) ++ reading ∷ []))
+    (length-one readings reading) (length-one (list ++ last ∷ []) reading) counts
+
+counts-read : (convention : Convention) (readings : List Reading) (mark : ℤ) (latest : Option Reading) (reading : Reading) (skipped : ℕ) (input : InputFeed)
+    → Stays convention readings mark latest input → Counts (length readings) (length (lasts readings None)) skipped
+    → Counts (length (readings ++ reading ∷ [])) (length (lasts (readings ++ reading ∷ []) None)) (if is_tie Last latest reading then one_more skipped else skipped)
+counts-read convention readings mark None reading skipped input stays counts =
+    let none = subst (λ (list : List Reading). Counts (length list) (length (lasts list None)) skipped) stays.none counts in
+    subst (λ (list : List Reading). Counts (length (list ++ reading ∷ [])) (length (lasts (list ++ reading ∷ []) None)) skipped) (sym stays.none)
+    (counted-one 0 0 skipped 1 1 refl refl none)
+counts-read convention readings mark (Some last) reading skipped input stays counts =
+    let list = lasts stays.front (Some last.tick) in
+    let now : lasts readings None ≡ list ++ last ∷ [] = ap (λ (l : List Reading). lasts l None) stays.is ∙ all-lasts stays.front last in
+    let tie = is_tie Last (Some last) reading in
+    let at = swap-eq tie last.tick reading.tick refl in
+    let then_all : lasts (readings ++ reading ∷ []) None ≡ (list ++ (if tie then [] else last ∷ [])) ++ reading ∷ [] =
+      all-lasts readings reading
+      ∙ ap (λ (l : List Reading). lasts l (Some reading.tick) ++ reading ∷ []) stays.is
+      ∙ ap (λ (l : List Reading). l ++ reading ∷ []) (more-lasts stays.front last reading tie at) in
+    let old = subst (λ (l : List Reading). Counts (length readings) (length l) skipped) now counts in
+    subst (λ (l : List Reading). Counts (length (readings ++ reading ∷ [])) (length l) (if tie then one_more skipped else skipped)) (sym then_all)
+    (counts-then tie readings list last reading skipped old)
 
 -- turns under `last`
 abbrev pub to_last : Convention → Options
@@ -239,8 +296,8 @@ pub record Follows (convention : Convention) (turns : List Turn) (step : Step) (
 
 follows-to : (convention : Convention) (turns : List Turn) (readings : List Reading) (kept : Kept) (input : InputFeed) (updates : List Update) (tick : ℤ) (latest : Option Reading) (skipped : ℕ)
     → kept.edge ≡ input.edge → readings_of turns ≡ readings → tick ≡ last_start (neg_ℤ T) turns → neg_ℤ T ≤ℤ tick → tick ≤ℤ T → Moves convention readings tick latest updates input
-    → Follows convention turns (step_to updates tick latest skipped kept.edge) input
-follows-to convention turns readings kept input updates tick latest skipped edge is start low high moves =
+    → Counts (length readings) (length (lasts readings None)) skipped → Follows convention turns (step_to updates tick latest skipped kept.edge) input
+follows-to convention turns readings kept input updates tick latest skipped edge is start low high moves counts =
     let all : Follows convention turns (step_to updates tick latest skipped input.edge) input = record {
       allowed = moves.allowed;
       keeps = record {
@@ -250,6 +307,7 @@ follows-to convention turns readings kept input updates tick latest skipped edge
         high = high;
         at = moves.at;
         stays = subst (λ (list : List Reading). Stays convention list tick latest (updated_all updates input)) (sym is) moves.stays;
+        counts = subst (λ (list : List Reading). Counts (length list) (length (lasts list None)) skipped) (sym is) counts;
       };
     } in
     subst (λ (e : Edge). Follows convention turns (step_to updates tick latest skipped e) input) (sym edge) all
@@ -261,7 +319,7 @@ known-follows convention turns kept input tick holds keeps on high =
     let later = turns ++ turn.KnownUpTo tick ∷ [] in
     let moves = moves-known convention (readings_of turns) kept.mark kept.latest tick input holds keeps.stays keeps.at on high in
     let all = follows-to convention later (readings_of turns) kept input (settled_by convention tick input.edge (unended kept.mark kept.latest)) tick kept.latest kept.skipped keeps.edge
-      (readings-known turns tick) (sym (last-start (neg_ℤ T) turns (turn.KnownUpTo tick))) (omega (arith, ints, low, on)) high moves in
+      (readings-known turns tick) (sym (last-start (neg_ℤ T) turns (turn.KnownUpTo tick))) (omega (arith, ints, low, on)) high moves keeps.counts in
     subst (λ (e : Edge). Follows convention later (step_to (settled_by convention tick e (unended kept.mark kept.latest)) tick kept.latest kept.skipped kept.edge) input) (sym keeps.edge) all
 
 pub reading-follows : (convention : Convention) (turns : List Turn) (kept : Kept) (input : InputFeed) (reading : Reading) → HoldsATick convention → Delayed convention turns kept input
@@ -276,7 +334,8 @@ reading-follows convention turns kept input reading holds keeps timely =
     let skipped = if is_tie Last kept.latest reading then one_more kept.skipped else kept.skipped in
     let moves = moves-read convention (readings_of turns) kept.mark kept.latest reading input holds keeps.stays keeps.at on (omega (arith, ints, top)) time in
     let all = follows-to convention later (readings_of turns ++ reading ∷ []) kept input (settled_by convention (start_of reading) input.edge (unended kept.mark kept.latest)) (start_of reading)
-      (Some reading) skipped keeps.edge (readings-more turns reading) (sym (last-start (neg_ℤ T) turns (turn.Reading reading))) (omega (arith, ints, low, on)) (omega (arith, ints, top)) moves in
+      (Some reading) skipped keeps.edge (readings-more turns reading) (sym (last-start (neg_ℤ T) turns (turn.Reading reading))) (omega (arith, ints, low, on)) (omega (arith, ints, top)) moves
+      (counts-read convention (readings_of turns) kept.mark kept.latest reading kept.skipped input keeps.stays keeps.counts) in
     subst (λ (e : Edge). Follows convention later (step_to (settled_by convention (start_of reading) e (unended kept.mark kept.latest)) (start_of reading) (Some reading) skipped kept.edge) input)
       (sym keeps.edge) all
 
@@ -308,9 +367,6 @@ latest-rows false convention readings mark reading input latest at is =
     let before : start_of reading <ℤ mark = grind (arith, ints, is, below) in
     now convention age (lasts latest.front (Some reading.tick) ++ reading ∷ []) input (latest.over before)
     ∙ ap (λ (cut : ℤ). rows_of age (lasts latest.front (Some reading.tick) ++ reading ∷ []) cut) at
-
-all-lasts : (front : List Reading) (reading : Reading) → lasts (front ++ reading ∷ []) None ≡ lasts front (Some reading.tick) ++ reading ∷ []
-all-lasts front reading = lasts-more front reading None
 
 stays-rows : (convention : Convention) (readings : List Reading) (mark : ℤ) (latest : Option Reading) (input : InputFeed) → Stays convention readings mark latest input → input.edge.watermark ≡ mark
     → rows_now input ≡ rows_of (age_of convention) (lasts readings None) mark
@@ -385,3 +441,16 @@ delayed-ends convention turns kept input holds keeps =
     let cut = subst (λ (m : ℤ). Closes (age_of convention) (lasts readings None) (at_least (last_tick None (lasts readings None)) m) (ending convention input.edge (unended kept.mark kept.latest)) input)
       keeps.mark all in
     subst (λ (e : Edge). Closes (age_of convention) (lasts readings None) (reached Last turns) (ending convention e (unended kept.mark kept.latest)) input) (sym keeps.edge) cut
+
+-- what is kept: the tick of the latest reading, and readings on ticks of their own
+stays-latest : (convention : Convention) (readings : List Reading) (mark : ℤ) (latest : Option Reading) (input : InputFeed) → Stays convention readings mark latest input
+    → (option_map (λ r. r.tick) latest ≡ last_tick None (lasts readings None)) × AreAfter None (lasts readings None)
+stays-latest convention readings mark None input stays =
+    (ap (λ (list : List Reading). last_tick None (lasts list None)) (sym stays.none), subst (λ (list : List Reading). AreAfter None (lasts list None)) (sym stays.none) tt)
+stays-latest convention readings mark (Some reading) input stays =
+    let same : lasts readings None ≡ lasts stays.front (Some reading.tick) ++ reading ∷ [] = ap (λ (l : List Reading). lasts l None) stays.is ∙ all-lasts stays.front reading in
+    (sym (ap (λ (l : List Reading). last_tick None l) same ∙ last-more None (lasts stays.front (Some reading.tick)) reading), subst (λ (l : List Reading). AreAfter None l) (sym same) stays.apart)
+
+pub delayed-latest : (convention : Convention) (turns : List Turn) (kept : Kept) (input : InputFeed) → Delayed convention turns kept input
+    → (option_map (λ r. r.tick) kept.latest ≡ last_tick None (lasts (readings_of turns) None)) × AreAfter None (lasts (readings_of turns) None)
+delayed-latest convention turns kept input keeps = stays-latest convention (readings_of turns) kept.mark kept.latest input keeps.stays

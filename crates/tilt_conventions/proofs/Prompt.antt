@@ -1,6 +1,6 @@
 -- Readings that are handed on at once: what a turn keeps of the feed.
 use Rattle.std.specs.Prelude.{⊤}
-use Rattle.std.proofs.Common.{◌≡◌, ℕ, ℤ, pos, ◌+ℤ◌, ◌-ℤ◌, ◌≤ℤ◌, ◌<ℤ◌, neg_ℤ, Bool, true, false, not, ◌&&◌, if◌then◌else◌, int_lt, int_le, List, [], ◌∷◌, ◌++◌, Option, Some, None, option_map}
+use Rattle.std.proofs.Common.{◌≡◌, ℕ, ℤ, pos, ◌+ℤ◌, ◌-ℤ◌, ◌≤ℤ◌, ◌<ℤ◌, neg_ℤ, Bool, true, false, not, ◌&&◌, if◌then◌else◌, int_lt, int_le, List, [], ◌∷◌, ◌++◌, Option, Some, None, option_map, length, ◌+◌}
 use Rattle.std.proofs.Common.{refl, sym, ap, subst, ◌∙◌, arith}
 use Rattle.std.proofs.lemmas.Int.{ints, clamps}
 use Rattle.std.specs.Int.{int_min, int_max}
@@ -8,8 +8,11 @@ use Rattle.std.specs.Option.{ForSome}
 use Rattle.std.specs.Ordering.{int_eq}
 use Rattle.tilt_base.specs.declared.limits.TheConstants.{T}
 use Rattle.tilt_conventions.proofs.Listing.{counted-more, last-more}
+use Rattle.tilt_conventions.proofs.Numbering.{Counts, counted-one, length-one, skipped-more}
 use Rattle.tilt_conventions.proofs.Showing.{Allowed, Closes, Does, Says, Shows, Knows, closes, hands, knows, now, updated-edge, updated_all}
 use Rattle.tilt_conventions.proofs.Taking.{IsTimely, last-start, reading-times, readings-known, readings-more, time-high, time-low}
+use Rattle.tilt_conventions.proofs.Telling.{after-more}
+use Rattle.tilt_conventions.specs.Cells.{AreAfter, IsAfter}
 use Rattle.tilt_conventions.specs.Laws.{HoldsATick, at_least, last_start, last_tick, reached, readings_of}
 use Rattle.tilt_conventions.specs.Rows.{age_of, counted, is_at, rows_of, start_of}
 use Rattle.tilt_conventions.specs.Steps.{Kept, Step, aged_at_last, due, handed, is_reading_time, is_tie, known, last_updates, latest_after, moved_all, one_more, placed, read, settled, step_to, taken, takes_last, turn_start, unended, waiting}
@@ -44,6 +47,8 @@ pub record Prompt (options : Options) (turns : List Turn) (kept : Kept) (input :
   pub near : IsNear options.ties kept.mark (tick_of kept.latest)
   pub at : input.edge.watermark ≡ at_least (tick_of kept.latest) kept.mark
   pub shows : Shows options.convention (age_of options.convention) (counted options.ties (readings_of turns)) input
+  pub apart : AreAfter None (counted options.ties (readings_of turns))
+  pub counts : Counts (length (readings_of turns)) (length (counted options.ties (readings_of turns))) kept.skipped
 
 -- updates are allowed, and what is kept after them is that of the feed
 pub record Goes (options : Options) (turns : List Turn) (step : Step) (input : InputFeed) : Type 0 where
@@ -77,8 +82,9 @@ module _ (options : Options) (before turns : List Turn) (kept : Kept) (input : I
   goes-to : (updates : List Update) (mark : ℤ) (latest : Option Reading) (skipped : ℕ) (readings : List Reading) → counted options.ties (readings_of turns) ≡ readings
       → mark ≡ last_start (neg_ℤ T) turns → kept.mark ≤ℤ mark → mark ≤ℤ T → tick_of latest ≡ last_tick None readings → IsNear options.ties mark (tick_of latest)
       → Does options.convention (age_of options.convention) readings updates input → (updated_all updates input).edge.watermark ≡ at_least (tick_of latest) mark
+      → AreAfter None readings → Counts (length (readings_of turns)) (length readings) skipped
       → Goes options turns (step_to updates mark latest skipped kept.edge) input
-  goes-to updates mark latest skipped readings is start on high last near does at =
+  goes-to updates mark latest skipped readings is start on high last near does at apart counts =
       let low = keeps.low in
       let all : Goes options turns (step_to updates mark latest skipped input.edge) input = record {
         allowed = does.allowed;
@@ -91,6 +97,8 @@ module _ (options : Options) (before turns : List Turn) (kept : Kept) (input : I
           near = near;
           at = at;
           shows = subst (λ (list : List Reading). Shows options.convention (age_of options.convention) list (updated_all updates input)) (sym is) does.shows;
+          apart = subst (λ (list : List Reading). AreAfter None list) (sym is) apart;
+          counts = subst (λ (list : List Reading). Counts (length (readings_of turns)) (length list) skipped) (sym is) counts;
         };
       } in
       subst (λ (e : Edge). Goes options turns (step_to updates mark latest skipped e) input) (sym keeps.edge) all
@@ -107,7 +115,8 @@ known-goes options turns kept input tick eager keeps on high =
       knows-it.at ∙ ap (λ (w : ℤ). int_max w tick) keeps.at ∙ over-mark (tick_of kept.latest) kept.mark tick on in
     let near = near-later options.ties (tick_of kept.latest) kept.mark tick on keeps.near in
     let all = goes-to options turns later kept input keeps (known age tick input.edge) tick kept.latest kept.skipped readings same
-      (sym (last-start (neg_ℤ T) turns (turn.KnownUpTo tick))) on high keeps.latest near knows-it.does at in
+      (sym (last-start (neg_ℤ T) turns (turn.KnownUpTo tick))) on high keeps.latest near knows-it.does at keeps.apart
+      (subst (λ (list : List Reading). Counts (length list) (length readings) kept.skipped) (sym (readings-known turns tick)) keeps.counts) in
     let updates : settled options tick kept ≡ known age tick input.edge =
       settled-by options.convention tick kept.edge (waiting options.ties kept) (no-wait options.ties kept eager) ∙ ap (λ (e : Edge). known age tick e) keeps.edge in
     subst (λ (list : List Update). Goes options later (step_to list tick kept.latest kept.skipped kept.edge) input) (sym updates) all
@@ -148,6 +157,13 @@ placed-over Refuse latest reading = omega (arith, ints)
 placed-over Spread None reading = omega (arith, ints)
 placed-over Spread (Some last) reading = grind (arith, ints, clamps)
 
+fresh-after : (tick : Option ℤ) (mark : ℤ) (reading : Reading) → at_least tick mark ≤ℤ start_of reading → IsAfter tick reading.tick
+fresh-after None mark reading over = tt
+fresh-after (Some tick) mark reading over = omega (arith, ints, clamps, over)
+
+more-length : (turns : List Turn) (reading : Reading) → length (readings_of (turns ++ turn.Reading reading ∷ [])) ≡ length (readings_of turns) + 1
+more-length turns reading = ap (λ (list : List Reading). length list) (readings-more turns reading) ∙ length-one (readings_of turns) reading
+
 -- what a reading does, by whether it is skipped
 abbrev pub prompt_step : Bool → Options → Reading → Kept → Step
 prompt_step tie options reading kept = step_to (if tie then [] else handed options.convention (placed options.ties kept.latest reading) kept.edge) (start_of reading)
@@ -171,7 +187,8 @@ reading-goes-by true options turns kept input reading eager holds keeps timely t
     let at : input.edge.watermark ≡ at_least (tick_of kept.latest) (start_of reading) = keeps.at ∙ ap (λ (m : ℤ). at_least (tick_of kept.latest) m) (sym start) in
     goes-to options turns later kept input keeps [] (start_of reading) kept.latest (one_more kept.skipped) readings same
       (sym (last-start (neg_ℤ T) turns (turn.Reading reading))) on (omega (arith, ints, high)) keeps.latest near
-      (record { allowed = tt; shows = keeps.shows }) at
+      (record { allowed = tt; shows = keeps.shows }) at keeps.apart
+      (skipped-more (length (readings_of turns)) (length readings) kept.skipped (length (readings_of later)) (more-length turns reading) keeps.counts)
 reading-goes-by false options turns kept input reading eager holds keeps timely tie =
     let age = age_of options.convention in
     let readings = counted options.ties (readings_of turns) in
@@ -192,7 +209,9 @@ reading-goes-by false options turns kept input reading eager holds keeps timely 
     let at : (updated_all (handed options.convention one input.edge) input).edge.watermark ≡ int_max (start_of reading) one.tick = says.at ∙ omega (arith, ints, clamps, over) in
     let all = goes-to options turns later kept input keeps (handed options.convention one input.edge) (start_of reading) (Some one) kept.skipped (readings ++ one ∷ []) same
       (sym (last-start (neg_ℤ T) turns (turn.Reading reading))) on (omega (arith, ints, high)) (sym (last-more None readings one))
-      (placed-near options.ties kept.latest reading) says.does at in
+      (placed-near options.ties kept.latest reading) says.does at
+      (after-more None readings one keeps.apart (subst (λ (t : Option ℤ). IsAfter t one.tick) keeps.latest (fresh-after (tick_of kept.latest) kept.mark one fresh)))
+      (counted-one (length (readings_of turns)) (length readings) kept.skipped (length (readings_of later)) (length (readings ++ one ∷ [])) (more-length turns reading) (length-one readings one) keeps.counts) in
     subst (λ (e : Edge). Goes options later (step_to (handed options.convention one e) (start_of reading) (Some one) kept.skipped kept.edge) input) (sym keeps.edge) all
 
 prompt-step : (options : Options) (reading : Reading) (kept : Kept) → takes_last options.ties ≡ false
