@@ -1,18 +1,18 @@
 -- Lists of turns, and the feed of their updates.
-use Rattle.std.specs.Prelude.{⊤, is_some}
-use Rattle.std.proofs.Common.{◌≡◌, ℕ, ℤ, pos, ◌+ℤ◌, ◌-ℤ◌, ◌≤ℤ◌, ◌<ℤ◌, neg_ℤ, Bool, true, false, if◌then◌else◌, List, [], ◌∷◌, ◌++◌, Option, Some, None, is_none, map, option_map, length}
+use Rattle.std.proofs.Common.{◌≡◌, ℕ, ℤ, ◌≤ℤ◌, neg_ℤ, true, false, if◌then◌else◌, List, [], ◌∷◌, ◌++◌, Option, Some, None, is_none, option_map, length}
 use Rattle.std.proofs.Common.{refl, sym, ap, subst, ◌∙◌, arith, append-nil, append_assoc}
-use Rattle.std.proofs.lemmas.Int.{ints, clamps}
+use Rattle.std.proofs.lemmas.Int.{ints}
 use Rattle.tilt_base.specs.declared.limits.TheConstants.{T}
-use Rattle.tilt_conventions.proofs.Delayed.{Delayed, delayed-cut, delayed-ends, delayed-latest, delayed-rows, known-follows, reading-follows, to_last}
+use Rattle.tilt_conventions.proofs.Delayed.{Delayed, delayed-cut, delayed-ends, delayed-latest, delayed-rows, known-follows, reading-follows}
 use Rattle.tilt_conventions.proofs.Numbering.{Counts}
-use Rattle.tilt_conventions.proofs.Prompt.{Prompt, known-goes, prompt-cut, prompt-ends, prompt-rows, reading-goes}
-use Rattle.tilt_conventions.proofs.Showing.{Allowed, Closes, Shows, allowed-append, moved-append, updated-append, updated-edge, updated_all}
+use Rattle.tilt_conventions.proofs.Prompt.{IsNear, Prompt, known-goes, prompt-cut, prompt-ends, prompt-rows, reading-goes}
+use Rattle.tilt_conventions.proofs.Showing.{Allowed, Closes, Shows, allowed-append, updated-append, updated-edge, updated_all}
 use Rattle.tilt_conventions.proofs.Taking.{timely}
 use Rattle.tilt_conventions.proofs.Telling.{cells}
 use Rattle.tilt_conventions.specs.Cells.{AreAfter, last_by, value_at}
-use Rattle.tilt_conventions.specs.Laws.{AreAllowed, HoldsATick, converted, cut_of, end_of, events_of, feed_of, last_start, last_tick, meant, reached, readings_of, stepped, stepped_all, taken_from, taken_turns, updates_at_last, updates_now}
-use Rattle.tilt_conventions.specs.Rows.{age_of, counted, rows_of}
+use Rattle.tilt_conventions.specs.Laws.{AreAllowed, HoldsATick, converted, cut_of, end_of, events_of, feed_of, last_start, last_tick, meant, reached, readings_of}
+use Rattle.tilt_conventions.specs.Laws.{stepped, stepped_all, taken_from, taken_turns, updates_at_last, updates_now}
+use Rattle.tilt_conventions.specs.Rows.{age_of, counted}
 use Rattle.tilt_conventions.specs.Steps.{Kept, Step, is_in_range, last_updates, nothing_kept, taken, turn_fault}
 use Rattle.tilt_conventions.specs.declared.fault.TurnFault.{TurnFault}
 use Rattle.tilt_conventions.specs.declared.options.Convention.{Convention}
@@ -23,10 +23,9 @@ use Rattle.tilt_conventions.specs.declared.options.Ties.TheVariants.{First, Last
 use Rattle.tilt_conventions.specs.declared.turn.Reading.{Reading}
 use Rattle.tilt_conventions.specs.declared.turn.Turn.{Turn}
 use Rattle.tilt_conventions.specs.declared.turn.Turn.TheVariants as turn
-use Rattle.tilt_feed.specs.Events.{after, after_all, event_fault, is_time, update_fault, updated}
+use Rattle.tilt_feed.specs.Events.{after, after_all, updated}
 use Rattle.tilt_feed.specs.Feed.{Feed, InputFeed, all_rows_now, closed_rows, empty_feed, rows_now, unknown_input, watermarks}
 use Rattle.tilt_feed.specs.declared.edge.Edge.{Edge}
-
 use Rattle.tilt_feed.specs.declared.event.Event.TheVariants.{Input, Finish}
 use Rattle.tilt_feed.specs.declared.fault.EventFault.{EventFault}
 use Rattle.tilt_feed.specs.declared.update.Update.{Update}
@@ -122,7 +121,7 @@ all-go convention ties (turn ∷ more) before kept input holds keeps =
     record {
       allowed = allowed-append input.edge step.updates last.updates goes.allowed (subst (λ (e : Edge). Allowed e last.updates) (updated-edge step.updates input) rest.allowed);
       keeps = subst (λ (i : InputFeed). Keeps convention ties (before ++ (one ++ taken_from options more step.kept)) last.kept i) (sym (updated-append step.updates last.updates input))
-        (subst (λ (list : List Turn). Keeps convention ties list last.kept (updated_all last.updates later)) (append_assoc before one (taken_from options more step.kept)) rest.keeps);
+          (subst (λ (list : List Turn). Keeps convention ties list last.kept (updated_all last.updates later)) (append_assoc before one (taken_from options more step.kept)) rest.keeps);
     }
 
 -- before the first turn
@@ -132,8 +131,22 @@ shows-none (Hold max_age) (Some age) = record { low = omega (arith, ints); high 
 shows-none Event None = record { low = omega (arith, ints); high = grind (arith, ints); young = tt; kind = refl; rows = λ cut on. refl }
 shows-none Event (Some age) = record { low = omega (arith, ints); high = grind (arith, ints); young = tt; kind = refl; rows = λ cut on. refl }
 
+prompt-first : (convention : Convention) (ties : Ties) → counted ties [] ≡ [] → IsNear ties (neg_ℤ T) None → Prompt (by convention ties) [] nothing_kept unknown_input
+prompt-first convention ties none near = record {
+  edge = refl;
+  mark = refl;
+  low = omega (arith, ints);
+  high = grind (arith, ints);
+  latest = ap (λ (list : List Reading). last_tick None list) (sym none);
+  near = near;
+  at = refl;
+  shows = subst (λ (list : List Reading). Shows convention (age_of convention) list unknown_input) (sym none) (shows-none convention (age_of convention));
+  apart = subst (λ (list : List Reading). AreAfter None list) (sym none) tt;
+  counts = subst (λ (list : List Reading). Counts 0 (length list) 0) (sym none) (record { few = omega arith; is = refl });
+}
+
 keeps-first : (convention : Convention) (ties : Ties) → Keeps convention ties [] nothing_kept unknown_input
-keeps-first convention First = record { edge = refl; mark = refl; low = omega (arith, ints); high = grind (arith, ints); latest = refl; near = tt; at = refl; shows = shows-none convention (age_of convention); apart = tt; counts = record { few = omega arith; is = refl } }
+keeps-first convention First = prompt-first convention First refl tt
 keeps-first convention Last = record {
   edge = refl;
   mark = refl;
@@ -143,8 +156,8 @@ keeps-first convention Last = record {
   stays = record { none = refl; shows = shows-none convention (age_of convention) };
   counts = record { few = omega arith; is = refl };
 }
-keeps-first convention Refuse = record { edge = refl; mark = refl; low = omega (arith, ints); high = grind (arith, ints); latest = refl; near = tt; at = refl; shows = shows-none convention (age_of convention); apart = tt; counts = record { few = omega arith; is = refl } }
-keeps-first convention Spread = record { edge = refl; mark = refl; low = omega (arith, ints); high = grind (arith, ints); latest = refl; near = tt; at = refl; shows = shows-none convention (age_of convention); apart = tt; counts = record { few = omega arith; is = refl } }
+keeps-first convention Refuse = prompt-first convention Refuse refl tt
+keeps-first convention Spread = prompt-first convention Spread refl tt
 
 pub from-first : (options : Options) (turns : List Turn) → HoldsATick options.convention
     → Goes options.convention options.ties (taken_turns options turns) (converted options turns) unknown_input
@@ -203,7 +216,7 @@ is-fed [] input is = record { allowed = (refl, tt); is = refl }
 is-fed (update ∷ updates) input is =
     let event = Input 0 update in
     let next : after event (one_feed input) ≡ one_feed (updated update input) =
-      ap (λ (fault : Option EventFault). if is_none fault then one_feed (updated update input) else one_feed input) is.0 in
+    ap (λ (fault : Option EventFault). if is_none fault then one_feed (updated update input) else one_feed input) is.0 in
     let rest = is-fed updates (updated update input) is.1 in
     record {
       allowed = (is.0, subst (λ (f : Feed). AreAllowed (events_of updates ++ Finish ∷ []) f) (sym next) rest.allowed);

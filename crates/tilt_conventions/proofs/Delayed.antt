@@ -1,25 +1,22 @@
 -- Readings that wait until their tick has ended: what a turn keeps of the feed.
-use Rattle.std.specs.Prelude.{⊤, is_some}
-use Rattle.std.proofs.Common.{◌≡◌, ℕ, ℤ, pos, ◌+ℤ◌, ◌-ℤ◌, ◌≤ℤ◌, ◌<ℤ◌, neg_ℤ, Bool, true, false, not, ◌&&◌, if◌then◌else◌, int_lt, int_le, List, [], ◌∷◌, ◌++◌, Option, Some, None, option_map, length, ◌+◌}
-use Rattle.std.proofs.Common.{refl, sym, ap, subst, ◌∙◌, arith, append-nil, inl, inr}
+use Rattle.std.proofs.Common.{◌≡◌, ℕ, ℤ, pos, ◌+ℤ◌, ◌≤ℤ◌, ◌<ℤ◌, neg_ℤ, Bool, true, false, if◌then◌else◌, int_lt, List, [], ◌∷◌, ◌++◌, Option, Some, None, option_map, length, ◌+◌}
+use Rattle.std.proofs.Common.{refl, sym, ap, subst, ◌∙◌, arith, append-nil}
 use Rattle.std.proofs.lemmas.Int.{ints, clamps}
 use Rattle.std.specs.Int.{int_min, int_max}
-use Rattle.std.specs.Option.{ForSome}
 use Rattle.std.specs.Ordering.{int_eq}
 use Rattle.tilt_base.specs.declared.limits.TheConstants.{T}
 use Rattle.tilt_conventions.proofs.Listing.{last-more, lasts-more, rows-more}
 use Rattle.tilt_conventions.proofs.Numbering.{Counts, counted-one, length-one, skipped-more}
-use Rattle.tilt_conventions.proofs.Showing.{Allowed, Closes, Does, Ends, Says, Shows, Knows, allowed-append, closes, does-more, ends, hands, knows, now, updated-append, updated-edge, updated_all}
-use Rattle.tilt_conventions.proofs.Taking.{IsTimely, last-start, reading-times, readings-known, readings-more, time-high, time-low}
+use Rattle.tilt_conventions.proofs.Showing.{Allowed, Closes, Does, Shows, closes, does-more, hands, knows, now, updated-append, updated-edge, updated_all}
+use Rattle.tilt_conventions.proofs.Taking.{IsTimely, last-start, reading-times, readings-known, readings-more, time-high}
 use Rattle.tilt_conventions.proofs.Telling.{after-more, after-other}
 use Rattle.tilt_conventions.specs.Cells.{AreAfter, IsAfter}
 use Rattle.tilt_conventions.specs.Laws.{HoldsATick, at_least, last_start, last_tick, reached, readings_of}
-use Rattle.tilt_conventions.specs.Rows.{age_of, counted, end_by_age, is_at, lasts, row_on, rows_of, start_of}
-use Rattle.tilt_conventions.specs.Steps.{Kept, Step, aged_at_last, due, handed, is_reading_time, is_tie, known, last_updates, latest_after, moved_all, one_more, placed, read, settled, step_to, taken, takes_last, turn_start, unended, waiting}
+use Rattle.tilt_conventions.specs.Rows.{age_of, end_by_age, is_at, lasts, row_on, rows_of, start_of}
+use Rattle.tilt_conventions.specs.Steps.{Kept, Step, aged_at_last, due, handed, is_reading_time, is_tie, known, last_updates, moved_all, one_more, step_to, taken, unended}
 use Rattle.tilt_conventions.specs.declared.options.Convention.{Convention}
 use Rattle.tilt_conventions.specs.declared.options.Options.{Options}
-use Rattle.tilt_conventions.specs.declared.options.Ties.{Ties}
-use Rattle.tilt_conventions.specs.declared.options.Ties.TheVariants.{First, Last, Refuse, Spread}
+use Rattle.tilt_conventions.specs.declared.options.Ties.TheVariants.{Last}
 use Rattle.tilt_conventions.specs.declared.turn.Reading.{Reading}
 use Rattle.tilt_conventions.specs.declared.turn.Turn.{Turn}
 use Rattle.tilt_conventions.specs.declared.turn.Turn.TheVariants as turn
@@ -137,8 +134,8 @@ reaches-by true convention readings mark reading tick input holds latest at on h
     reaches-due (int_lt (start_of reading) tick) convention latest.front reading tick input holds (latest.waits same) (at ∙ sym same) (omega (arith, ints, same, on)) high refl
 reaches-by false convention readings mark reading tick input holds latest at on high is =
     let before : start_of reading <ℤ mark =
-      let below = latest.on in
-      grind (arith, ints, is, below) in
+    let below = latest.on in
+    grind (arith, ints, is, below) in
     let settles = settles-none convention (lasts latest.front (Some reading.tick) ++ reading ∷ []) tick input (latest.over before) (omega (arith, ints, at, on)) high in
     record {
       allowed = settles.does.allowed;
@@ -231,7 +228,7 @@ moves-read convention readings mark (Some last) reading input holds stays at on 
     let below = stays.on in
     let shows = shown-then (is_at (Some reading.tick) last) convention stays.front last reading (updated_all updates input) there.shown (omega (arith, ints, below, on)) refl in
     let same : lasts readings (Some reading.tick) ≡ lasts stays.front (Some last.tick) ++ (if is_at (Some reading.tick) last then [] else last ∷ []) =
-      ap (λ (list : List Reading). lasts list (Some reading.tick)) stays.is ∙ more-lasts stays.front last reading (is_at (Some reading.tick) last) refl in
+    ap (λ (list : List Reading). lasts list (Some reading.tick)) stays.is ∙ more-lasts stays.front last reading (is_at (Some reading.tick) last) refl in
     record {
       allowed = there.allowed;
       at = there.at;
@@ -243,7 +240,7 @@ moves-read convention readings mark (Some last) reading input holds stays at on 
         waits = λ now. subst (λ (list : List Reading). Shows convention (age_of convention) list (updated_all updates input)) (sym same) shows;
         over = λ before. absurd (omega (arith, ints, before));
         apart = subst (λ (list : List Reading). AreAfter None (list ++ reading ∷ [])) (sym same)
-          (apart-then (is_at (Some reading.tick) last) (lasts stays.front (Some last.tick)) last reading stays.apart (omega (arith, ints, below, on)) refl);
+            (apart-then (is_at (Some reading.tick) last) (lasts stays.front (Some last.tick)) last reading stays.apart (omega (arith, ints, below, on)) refl);
       };
     }
 
@@ -259,7 +256,7 @@ counts-then : (tie : Bool) (readings list : List Reading) (last reading : Readin
     → Counts (length (readings ++ reading ∷ [])) (length ((list ++ (if tie then [] else last ∷ [])) ++ reading ∷ [])) (if tie then one_more skipped else skipped)
 counts-then true readings list last reading skipped counts =
     let same : length ((list ++ []) ++ reading ∷ []) ≡ length (list ++ last ∷ []) =
-      length-one (list ++ []) reading ∙ ap (λ (l : List Reading). length l + 1) (append-nil list) ∙ sym (length-one list last) in
+    length-one (list ++ []) reading ∙ ap (λ (l : List Reading). length l + 1) (append-nil list) ∙ sym (length-one list last) in
     subst (λ (n : ℕ). Counts (length (readings ++ reading ∷ [])) n (one_more skipped)) (sym same)
     (skipped-more (length readings) (length (list ++ last ∷ [])) skipped (length (readings ++ reading ∷ [])) (length-one readings reading) counts)
 counts-then false readings list last reading skipped counts =
@@ -279,9 +276,9 @@ counts-read convention readings mark (Some last) reading skipped input stays cou
     let tie = is_tie Last (Some last) reading in
     let at = swap-eq tie last.tick reading.tick refl in
     let then_all : lasts (readings ++ reading ∷ []) None ≡ (list ++ (if tie then [] else last ∷ [])) ++ reading ∷ [] =
-      all-lasts readings reading
-      ∙ ap (λ (l : List Reading). lasts l (Some reading.tick) ++ reading ∷ []) stays.is
-      ∙ ap (λ (l : List Reading). l ++ reading ∷ []) (more-lasts stays.front last reading tie at) in
+    all-lasts readings reading
+    ∙ ap (λ (l : List Reading). lasts l (Some reading.tick) ++ reading ∷ []) stays.is
+    ∙ ap (λ (l : List Reading). l ++ reading ∷ []) (more-lasts stays.front last reading tie at) in
     let old = subst (λ (l : List Reading). Counts (length readings) (length l) skipped) now counts in
     subst (λ (l : List Reading). Counts (length (readings ++ reading ∷ [])) (length l) (if tie then one_more skipped else skipped)) (sym then_all)
     (counts-then tie readings list last reading skipped old)
@@ -319,7 +316,7 @@ known-follows convention turns kept input tick holds keeps on high =
     let later = turns ++ turn.KnownUpTo tick ∷ [] in
     let moves = moves-known convention (readings_of turns) kept.mark kept.latest tick input holds keeps.stays keeps.at on high in
     let all = follows-to convention later (readings_of turns) kept input (settled_by convention tick input.edge (unended kept.mark kept.latest)) tick kept.latest kept.skipped keeps.edge
-      (readings-known turns tick) (sym (last-start (neg_ℤ T) turns (turn.KnownUpTo tick))) (omega (arith, ints, low, on)) high moves keeps.counts in
+    (readings-known turns tick) (sym (last-start (neg_ℤ T) turns (turn.KnownUpTo tick))) (omega (arith, ints, low, on)) high moves keeps.counts in
     subst (λ (e : Edge). Follows convention later (step_to (settled_by convention tick e (unended kept.mark kept.latest)) tick kept.latest kept.skipped kept.edge) input) (sym keeps.edge) all
 
 pub reading-follows : (convention : Convention) (turns : List Turn) (kept : Kept) (input : InputFeed) (reading : Reading) → HoldsATick convention → Delayed convention turns kept input
@@ -334,10 +331,10 @@ reading-follows convention turns kept input reading holds keeps timely =
     let skipped = if is_tie Last kept.latest reading then one_more kept.skipped else kept.skipped in
     let moves = moves-read convention (readings_of turns) kept.mark kept.latest reading input holds keeps.stays keeps.at on (omega (arith, ints, top)) time in
     let all = follows-to convention later (readings_of turns ++ reading ∷ []) kept input (settled_by convention (start_of reading) input.edge (unended kept.mark kept.latest)) (start_of reading)
-      (Some reading) skipped keeps.edge (readings-more turns reading) (sym (last-start (neg_ℤ T) turns (turn.Reading reading))) (omega (arith, ints, low, on)) (omega (arith, ints, top)) moves
-      (counts-read convention (readings_of turns) kept.mark kept.latest reading kept.skipped input keeps.stays keeps.counts) in
+    (Some reading) skipped keeps.edge (readings-more turns reading) (sym (last-start (neg_ℤ T) turns (turn.Reading reading))) (omega (arith, ints, low, on)) (omega (arith, ints, top)) moves
+    (counts-read convention (readings_of turns) kept.mark kept.latest reading kept.skipped input keeps.stays keeps.counts) in
     subst (λ (e : Edge). Follows convention later (step_to (settled_by convention (start_of reading) e (unended kept.mark kept.latest)) (start_of reading) (Some reading) skipped kept.edge) input)
-      (sym keeps.edge) all
+    (sym keeps.edge) all
 
 -- the rows now: a reading that waits has no row yet
 no-row : (age : Option ℕ) (start cut : ℤ) (value : Option ℤ) → start ≡ cut → row_on start (end_by_age age start cut) value ≡ []
@@ -416,7 +413,7 @@ ends-latest false convention readings mark reading input holds latest at is =
     let before : start_of reading <ℤ mark = grind (arith, ints, is, below) in
     let next : mark ≡ int_max mark reading.tick = omega (arith, ints, clamps, before) in
     closes convention (age_of convention) (lasts latest.front (Some reading.tick) ++ reading ∷ []) (int_max mark reading.tick) [] input
-      (record { allowed = tt; shows = latest.over before }) (at ∙ next)
+    (record { allowed = tt; shows = latest.over before }) (at ∙ next)
 
 ends-stays : (convention : Convention) (readings : List Reading) (mark : ℤ) (latest : Option Reading) (input : InputFeed) → HoldsATick convention → Stays convention readings mark latest input
     → input.edge.watermark ≡ mark
@@ -438,8 +435,8 @@ pub delayed-ends : (convention : Convention) (turns : List Turn) (kept : Kept) (
 delayed-ends convention turns kept input holds keeps =
     let readings = readings_of turns in
     let all = ends-stays convention readings kept.mark kept.latest input holds keeps.stays keeps.at in
-    let cut = subst (λ (m : ℤ). Closes (age_of convention) (lasts readings None) (at_least (last_tick None (lasts readings None)) m) (ending convention input.edge (unended kept.mark kept.latest)) input)
-      keeps.mark all in
+    let list = lasts readings None in
+    let cut = subst (λ (m : ℤ). Closes (age_of convention) list (at_least (last_tick None list) m) (ending convention input.edge (unended kept.mark kept.latest)) input) keeps.mark all in
     subst (λ (e : Edge). Closes (age_of convention) (lasts readings None) (reached Last turns) (ending convention e (unended kept.mark kept.latest)) input) (sym keeps.edge) cut
 
 -- what is kept: the tick of the latest reading, and readings on ticks of their own

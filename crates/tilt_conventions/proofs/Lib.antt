@@ -6,3 +6,4 @@ pub mod Prompt
 pub mod Showing
 pub mod Taking
 pub mod Telling
+pub mod Worked

@@ -1,9 +1,7 @@
 -- One more reading at the end of a list: which ones count then, and which rows they have.
-use Rattle.std.proofs.Common.{◌≡◌, ℕ, ℤ, pos, ◌+ℤ◌, Bool, true, false, if◌then◌else◌, List, [], ◌∷◌, ◌++◌, Option, Some, None, option_map}
+use Rattle.std.proofs.Common.{◌≡◌, ℕ, ℤ, Bool, true, false, if◌then◌else◌, List, [], ◌∷◌, ◌++◌, Option, Some, None, option_map}
 use Rattle.std.proofs.Common.{refl, sym, ap, ◌∙◌, append_assoc, append-nil, arith}
-use Rattle.std.proofs.lemmas.Int.{ints, clamps}
-use Rattle.std.specs.Int.{int_max}
-use Rattle.std.specs.Ordering.{int_eq}
+use Rattle.std.proofs.lemmas.Int.{ints}
 use Rattle.tilt_conventions.specs.Laws.{last_tick}
 use Rattle.tilt_conventions.specs.Rows.{counted, firsts, is_at, lasts, moved_past, next_start, next_tick, row_of, rows_of, spread, start_of}
 use Rattle.tilt_conventions.specs.Steps.{is_tie, placed, takes_last}

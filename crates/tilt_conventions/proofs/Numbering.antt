@@ -1,5 +1,5 @@
 -- How many readings were skipped.
-use Rattle.std.proofs.Common.{◌≡◌, ◌≤◌, ◌+◌, ◌-◌, ◌^◌, min, ℕ, suc, refl, sym, ap, subst, ◌∙◌, arith, List, [], ◌∷◌, ◌++◌, length, length-append}
+use Rattle.std.proofs.Common.{◌≡◌, ◌≤◌, ◌+◌, ◌-◌, ◌^◌, min, ℕ, sym, ap, ◌∙◌, arith, List, [], ◌∷◌, ◌++◌, length, length-append}
 use Rattle.tilt_conventions.specs.Steps.{one_more}
 use Rattle.tilt_conventions.specs.declared.turn.Reading.{Reading}
 
@@ -28,7 +28,7 @@ counted-one readings counted skipped more also is too counts =
     record {
       few = omega (arith, is, too, few);
       is = counts.is ∙ same-skipped readings counted (2 ^ 64 - 1)
-        ∙ ap (λ (n : ℕ). min (n - (counted + 1)) (2 ^ 64 - 1)) (sym is) ∙ ap (λ (n : ℕ). min (more - n) (2 ^ 64 - 1)) (sym too);
+          ∙ ap (λ (n : ℕ). min (n - (counted + 1)) (2 ^ 64 - 1)) (sym is) ∙ ap (λ (n : ℕ). min (more - n) (2 ^ 64 - 1)) (sym too);
     }
 
 pub length-one : (list : List Reading) (reading : Reading) → length (list ++ reading ∷ []) ≡ length list + 1

@@ -1,21 +1,19 @@
 -- Readings that are handed on at once: what a turn keeps of the feed.
 use Rattle.std.specs.Prelude.{⊤}
-use Rattle.std.proofs.Common.{◌≡◌, ℕ, ℤ, pos, ◌+ℤ◌, ◌-ℤ◌, ◌≤ℤ◌, ◌<ℤ◌, neg_ℤ, Bool, true, false, not, ◌&&◌, if◌then◌else◌, int_lt, int_le, List, [], ◌∷◌, ◌++◌, Option, Some, None, option_map, length, ◌+◌}
+use Rattle.std.proofs.Common.{◌≡◌, ℕ, ℤ, pos, ◌+ℤ◌, ◌≤ℤ◌, neg_ℤ, Bool, true, false, not, ◌&&◌, if◌then◌else◌, List, [], ◌∷◌, ◌++◌, Option, Some, None, option_map, length, ◌+◌}
 use Rattle.std.proofs.Common.{refl, sym, ap, subst, ◌∙◌, arith}
 use Rattle.std.proofs.lemmas.Int.{ints, clamps}
-use Rattle.std.specs.Int.{int_min, int_max}
-use Rattle.std.specs.Option.{ForSome}
-use Rattle.std.specs.Ordering.{int_eq}
+use Rattle.std.specs.Int.{int_max}
 use Rattle.tilt_base.specs.declared.limits.TheConstants.{T}
 use Rattle.tilt_conventions.proofs.Listing.{counted-more, last-more}
 use Rattle.tilt_conventions.proofs.Numbering.{Counts, counted-one, length-one, skipped-more}
-use Rattle.tilt_conventions.proofs.Showing.{Allowed, Closes, Does, Says, Shows, Knows, closes, hands, knows, now, updated-edge, updated_all}
-use Rattle.tilt_conventions.proofs.Taking.{IsTimely, last-start, reading-times, readings-known, readings-more, time-high, time-low}
+use Rattle.tilt_conventions.proofs.Showing.{Allowed, Closes, Does, Shows, closes, hands, knows, now, updated-edge, updated_all}
+use Rattle.tilt_conventions.proofs.Taking.{IsTimely, last-start, reading-times, readings-known, readings-more, time-high}
 use Rattle.tilt_conventions.proofs.Telling.{after-more}
 use Rattle.tilt_conventions.specs.Cells.{AreAfter, IsAfter}
 use Rattle.tilt_conventions.specs.Laws.{HoldsATick, at_least, last_start, last_tick, reached, readings_of}
-use Rattle.tilt_conventions.specs.Rows.{age_of, counted, is_at, rows_of, start_of}
-use Rattle.tilt_conventions.specs.Steps.{Kept, Step, aged_at_last, due, handed, is_reading_time, is_tie, known, last_updates, latest_after, moved_all, one_more, placed, read, settled, step_to, taken, takes_last, turn_start, unended, waiting}
+use Rattle.tilt_conventions.specs.Rows.{age_of, counted, rows_of, start_of}
+use Rattle.tilt_conventions.specs.Steps.{Kept, Step, aged_at_last, due, handed, is_tie, known, last_updates, moved_all, one_more, placed, settled, step_to, taken, takes_last, unended, waiting}
 use Rattle.tilt_conventions.specs.declared.options.Convention.{Convention}
 use Rattle.tilt_conventions.specs.declared.options.Options.{Options}
 use Rattle.tilt_conventions.specs.declared.options.Ties.{Ties}
@@ -112,13 +110,13 @@ known-goes options turns kept input tick eager keeps on high =
     let same = ap (λ (list : List Reading). counted options.ties list) (readings-known turns tick) in
     let knows-it = knows options.convention age readings tick input keeps.shows high in
     let at : (updated_all (known age tick input.edge) input).edge.watermark ≡ at_least (tick_of kept.latest) tick =
-      knows-it.at ∙ ap (λ (w : ℤ). int_max w tick) keeps.at ∙ over-mark (tick_of kept.latest) kept.mark tick on in
+    knows-it.at ∙ ap (λ (w : ℤ). int_max w tick) keeps.at ∙ over-mark (tick_of kept.latest) kept.mark tick on in
     let near = near-later options.ties (tick_of kept.latest) kept.mark tick on keeps.near in
     let all = goes-to options turns later kept input keeps (known age tick input.edge) tick kept.latest kept.skipped readings same
-      (sym (last-start (neg_ℤ T) turns (turn.KnownUpTo tick))) on high keeps.latest near knows-it.does at keeps.apart
-      (subst (λ (list : List Reading). Counts (length list) (length readings) kept.skipped) (sym (readings-known turns tick)) keeps.counts) in
+    (sym (last-start (neg_ℤ T) turns (turn.KnownUpTo tick))) on high keeps.latest near knows-it.does at keeps.apart
+    (subst (λ (list : List Reading). Counts (length list) (length readings) kept.skipped) (sym (readings-known turns tick)) keeps.counts) in
     let updates : settled options tick kept ≡ known age tick input.edge =
-      settled-by options.convention tick kept.edge (waiting options.ties kept) (no-wait options.ties kept eager) ∙ ap (λ (e : Edge). known age tick e) keeps.edge in
+    settled-by options.convention tick kept.edge (waiting options.ties kept) (no-wait options.ties kept eager) ∙ ap (λ (e : Edge). known age tick e) keeps.edge in
     subst (λ (list : List Update). Goes options later (step_to list tick kept.latest kept.skipped kept.edge) input) (sym updates) all
 
 -- a reading that is skipped
@@ -180,15 +178,15 @@ reading-goes-by true options turns kept input reading eager holds keeps timely t
     let high = time-high reading.tick times.0 in
     let start = tie-start options.ties kept.latest reading kept.mark tie keeps.near on in
     let same : counted options.ties (readings_of later) ≡ readings =
-      ap (λ (list : List Reading). counted options.ties list) (readings-more turns reading)
-      ∙ counted-more options.ties kept.latest (readings_of turns) reading eager keeps.latest
-      ∙ ap (λ (b : Bool). if b then readings else readings ++ placed options.ties kept.latest reading ∷ []) tie in
+    ap (λ (list : List Reading). counted options.ties list) (readings-more turns reading)
+    ∙ counted-more options.ties kept.latest (readings_of turns) reading eager keeps.latest
+    ∙ ap (λ (b : Bool). if b then readings else readings ++ placed options.ties kept.latest reading ∷ []) tie in
     let near = near-later options.ties (tick_of kept.latest) kept.mark (start_of reading) on keeps.near in
     let at : input.edge.watermark ≡ at_least (tick_of kept.latest) (start_of reading) = keeps.at ∙ ap (λ (m : ℤ). at_least (tick_of kept.latest) m) (sym start) in
     goes-to options turns later kept input keeps [] (start_of reading) kept.latest (one_more kept.skipped) readings same
-      (sym (last-start (neg_ℤ T) turns (turn.Reading reading))) on (omega (arith, ints, high)) keeps.latest near
-      (record { allowed = tt; shows = keeps.shows }) at keeps.apart
-      (skipped-more (length (readings_of turns)) (length readings) kept.skipped (length (readings_of later)) (more-length turns reading) keeps.counts)
+    (sym (last-start (neg_ℤ T) turns (turn.Reading reading))) on (omega (arith, ints, high)) keeps.latest near
+    (record { allowed = tt; shows = keeps.shows }) at keeps.apart
+    (skipped-more (length (readings_of turns)) (length readings) kept.skipped (length (readings_of later)) (more-length turns reading) keeps.counts)
 reading-goes-by false options turns kept input reading eager holds keeps timely tie =
     let age = age_of options.convention in
     let readings = counted options.ties (readings_of turns) in
@@ -199,19 +197,20 @@ reading-goes-by false options turns kept input reading eager holds keeps timely 
     let high = time-high reading.tick times.0 in
     let one_high = time-high one.tick times.1 in
     let same : counted options.ties (readings_of later) ≡ readings ++ one ∷ [] =
-      ap (λ (list : List Reading). counted options.ties list) (readings-more turns reading)
-      ∙ counted-more options.ties kept.latest (readings_of turns) reading eager keeps.latest
-      ∙ ap (λ (b : Bool). if b then readings else readings ++ one ∷ []) tie in
+    ap (λ (list : List Reading). counted options.ties list) (readings-more turns reading)
+    ∙ counted-more options.ties kept.latest (readings_of turns) reading eager keeps.latest
+    ∙ ap (λ (b : Bool). if b then readings else readings ++ one ∷ []) tie in
     let fresh = fresh-start options.ties kept.latest reading kept.mark tie keeps.near on in
     let start : input.edge.watermark ≤ℤ start_of one = subst (λ (w : ℤ). w ≤ℤ start_of one) (sym keeps.at) fresh in
     let says = hands options.convention readings one input keeps.shows start (omega (arith, ints, one_high)) holds in
     let over = placed-over options.ties kept.latest reading in
     let at : (updated_all (handed options.convention one input.edge) input).edge.watermark ≡ int_max (start_of reading) one.tick = says.at ∙ omega (arith, ints, clamps, over) in
     let all = goes-to options turns later kept input keeps (handed options.convention one input.edge) (start_of reading) (Some one) kept.skipped (readings ++ one ∷ []) same
-      (sym (last-start (neg_ℤ T) turns (turn.Reading reading))) on (omega (arith, ints, high)) (sym (last-more None readings one))
-      (placed-near options.ties kept.latest reading) says.does at
-      (after-more None readings one keeps.apart (subst (λ (t : Option ℤ). IsAfter t one.tick) keeps.latest (fresh-after (tick_of kept.latest) kept.mark one fresh)))
-      (counted-one (length (readings_of turns)) (length readings) kept.skipped (length (readings_of later)) (length (readings ++ one ∷ [])) (more-length turns reading) (length-one readings one) keeps.counts) in
+    (sym (last-start (neg_ℤ T) turns (turn.Reading reading))) on (omega (arith, ints, high)) (sym (last-more None readings one))
+    (placed-near options.ties kept.latest reading) says.does at
+    (after-more None readings one keeps.apart (subst (λ (t : Option ℤ). IsAfter t one.tick) keeps.latest (fresh-after (tick_of kept.latest) kept.mark one fresh)))
+    (counted-one (length (readings_of turns)) (length readings) kept.skipped (length (readings_of later)) (length (readings ++ one ∷ []))
+    (more-length turns reading) (length-one readings one) keeps.counts) in
     subst (λ (e : Edge). Goes options later (step_to (handed options.convention one e) (start_of reading) (Some one) kept.skipped kept.edge) input) (sym keeps.edge) all
 
 prompt-step : (options : Options) (reading : Reading) (kept : Kept) → takes_last options.ties ≡ false
@@ -220,7 +219,7 @@ prompt-step options reading kept eager =
     let tie = is_tie options.ties kept.latest reading in
     let one = placed options.ties kept.latest reading in
     ap (λ (b : Bool). step_to (if b then settled options (start_of reading) kept else if tie then [] else handed options.convention one kept.edge) (start_of reading)
-      (if not b && tie then kept.latest else Some one) (if tie then one_more kept.skipped else kept.skipped) kept.edge) eager
+    (if not b && tie then kept.latest else Some one) (if tie then one_more kept.skipped else kept.skipped) kept.edge) eager
 
 pub reading-goes : (options : Options) (turns : List Turn) (kept : Kept) (input : InputFeed) (reading : Reading) → takes_last options.ties ≡ false → HoldsATick options.convention
     → Prompt options turns kept input → IsTimely options.ties kept (turn.Reading reading)

@@ -1,24 +1,21 @@
 -- The feed of an input shows the rows of readings: what each update that is handed on keeps of that.
-use Rattle.std.proofs.Common.{◌≡◌, ◌<◌, ◌≤◌, ℕ, ℤ, pos, ◌+ℤ◌, ◌-ℤ◌, ◌≤ℤ◌, ◌<ℤ◌, neg_ℤ, Bool, true, false, if◌then◌else◌, int_lt, int_le, List, [], ◌∷◌, ◌++◌, Option, Some, None}
+use Rattle.std.proofs.Common.{◌≡◌, ◌<◌, ℕ, ℤ, pos, ◌+ℤ◌, ◌≤ℤ◌, ◌<ℤ◌, neg_ℤ, Bool, true, false, if◌then◌else◌, int_lt, List, [], ◌∷◌, ◌++◌, Option, Some, None}
 use Rattle.std.specs.Prelude.{⊤, is_some}
 use Rattle.std.specs.Option.{ForSome}
-use Rattle.std.proofs.Common.{refl, sym, ap, subst, ◌∙◌, append_assoc, append-nil, arith, inl, inr}
-use Rattle.std.proofs.lemmas.Bool.{cases_Bool}
+use Rattle.std.proofs.Common.{refl, sym, ap, subst, ◌∙◌, append_assoc, append-nil, arith}
 use Rattle.std.proofs.lemmas.Int.{ints, clamps}
 use Rattle.std.specs.Int.{int_min, int_max}
-use Rattle.std.specs.Ordering.{int_eq}
 use Rattle.tilt_base.specs.declared.limits.TheConstants.{T}
 use Rattle.tilt_conventions.proofs.Listing.{rows-more}
 use Rattle.tilt_conventions.specs.Laws.{HoldsATick}
-use Rattle.tilt_conventions.specs.Rows.{age_of, end_by_age, row_of, row_on, rows_of, start_of}
-use Rattle.tilt_conventions.specs.Steps.{aged, aged_at_last, handed, is_reading_time, known, moved, moved_all, rising, said}
+use Rattle.tilt_conventions.specs.Rows.{age_of, end_by_age, row_on, rows_of, start_of}
+use Rattle.tilt_conventions.specs.Steps.{aged, aged_at_last, handed, known, moved, moved_all, rising, said}
 use Rattle.tilt_conventions.specs.declared.options.Convention.{Convention}
 use Rattle.tilt_conventions.specs.declared.options.Convention.TheVariants.{Hold, Event}
 use Rattle.tilt_conventions.specs.declared.turn.Reading.{Reading}
-use Rattle.tilt_feed.specs.Events.{closed_by, comes_at, continues, has_ticks, in_range, is_time, opened_by, update_fault, updated, watermark_after}
+use Rattle.tilt_feed.specs.Events.{closed_by, comes_at, continues, has_ticks, in_range, is_time, update_fault, updated}
 use Rattle.tilt_feed.specs.Feed.{InputFeed, closed_at, rows_now}
 use Rattle.tilt_feed.specs.declared.edge.Edge.{Edge}
-use Rattle.tilt_feed.specs.declared.fault.EventFault.{EventFault}
 use Rattle.tilt_feed.specs.declared.open_row.OpenRow.{OpenRow}
 use Rattle.tilt_feed.specs.declared.update.Update.{Update}
 use Rattle.tilt_feed.specs.declared.update.Update.TheVariants.{Row, Value, NoValue, KnownUpTo}
@@ -45,10 +42,6 @@ updated-append (update ∷ first) second input = updated-append first second (up
 pub updated-edge : (updates : List Update) (input : InputFeed) → (updated_all updates input).edge ≡ moved_all updates input.edge
 updated-edge [] input = refl
 updated-edge (update ∷ updates) input = updated-edge updates (updated update input)
-
-pub moved-append : (first second : List Update) (edge : Edge) → moved_all (first ++ second) edge ≡ moved_all second (moved_all first edge)
-moved-append [] second edge = refl
-moved-append (update ∷ first) second edge = moved-append first second (moved update edge)
 
 -- an open row isn't older than the age at a tick
 abbrev pub IsYoung : Option ℕ → ℤ → Option OpenRow → Type 0
@@ -142,10 +135,10 @@ ages-by true convention age readings tick rows row watermark shows high is =
           young = tt;
           kind = kind-none convention;
           rows = λ cut over.
-            let past : end ≤ℤ cut = omega (arith, ints, next, over) in
-            append-nil (rows ++ record { start = row.start; end = end; value = Some row.value } ∷ [])
-            ∙ ap (λ (e : ℤ). rows ++ record { start = row.start; end = e; value = Some row.value } ∷ []) (sym (end-over cut end past))
-            ∙ shows.rows cut (omega (arith, ints));
+              let past : end ≤ℤ cut = omega (arith, ints, next, over) in
+              append-nil (rows ++ record { start = row.start; end = end; value = Some row.value } ∷ [])
+              ∙ ap (λ (e : ℤ). rows ++ record { start = row.start; end = e; value = Some row.value } ∷ []) (sym (end-over cut end past))
+              ∙ shows.rows cut (omega (arith, ints));
         };
       };
       low = omega (arith, ints, next);
@@ -173,17 +166,19 @@ rises-by true convention age readings tick input shows young high is =
     let low = shows.low in
     let below : input.edge.watermark <ℤ tick = grind (arith, ints) in
     let time : is_time tick ≡ true = in-time tick (omega (arith, ints)) high in
-    let late : int_lt tick input.edge.watermark ≡ false = grind (arith, ints) in
-    (record {
-      allowed = (no-fault input.edge (KnownUpTo tick) time late refl, tt);
-      shows = record {
-        low = omega (arith, ints);
-        high = high;
-        young = young;
-        kind = shows.kind;
-        rows = λ cut over. ap (λ (rows : List Snapshot). rows ++ open_until age cut input.edge.open_row) (append-nil input.rows) ∙ shows.rows cut (omega (arith, ints));
-      };
-    }, grind (arith, ints, clamps))
+    let late : int_lt tick input.edge.watermark ≡ false = grind (arith, ints) in (
+      record {
+        allowed = (no-fault input.edge (KnownUpTo tick) time late refl, tt);
+        shows = record {
+          low = omega (arith, ints);
+          high = high;
+          young = young;
+          kind = shows.kind;
+          rows = λ cut over. ap (λ (rows : List Snapshot). rows ++ open_until age cut input.edge.open_row) (append-nil input.rows) ∙ shows.rows cut (omega (arith, ints));
+        };
+      },
+      grind (arith, ints, clamps),
+    )
 
 -- an input becomes known up to a tick
 pub record Knows (convention : Convention) (age : Option ℕ) (readings : List Reading) (tick : ℤ) (updates : List Update) (input : InputFeed) : Type 0 where
@@ -307,7 +302,7 @@ module _ (convention : Convention) (age : Option ℕ) (readings : List Reading) 
             young = young-next age start value holds;
             kind = kind;
             rows = λ cut over. rows-then cut (Some value) (record { start = start; end = end_by_age age start cut; value = Some value } ∷ []) is
-              (sym (row-there start (end_by_age age start cut) value (some-ticks age start cut holds (omega (arith, ints)))));
+                (sym (row-there start (end_by_age age start cut) value (some-ticks age start cut holds (omega (arith, ints)))));
           };
         };
         at = refl;
@@ -346,11 +341,11 @@ module _ (readings : List Reading) (reading : Reading) (input : InputFeed) (show
       let both : in_range (Row start end (Some value)) ≡ true = rw (time, end_time) refl in
       let none = not-open input.edge.open_row start (Some value) shows.kind in
       let first : int_lt (comes_at input.edge (Row start end (Some value))) input.edge.watermark ≡ false =
-        ap (λ (t : ℤ). int_lt t input.edge.watermark) (comes-first (continues input.edge.open_row start (Some value)) start end none) ∙ late in
+      ap (λ (t : ℤ). int_lt t input.edge.watermark) (comes-first (continues input.edge.open_row start (Some value)) start end none) ∙ late in
       let some : int_lt start end ≡ true = grind (arith, ints) in
       let row : Snapshot = record { start = start; end = end; value = Some value } in
       let closes : closed_by input.edge (Row start end (Some value)) ≡ closed_at start input.edge.open_row ++ row ∷ [] =
-        by-none (continues input.edge.open_row start (Some value)) (closed_at end input.edge.open_row) (closed_at start input.edge.open_row ++ row ∷ []) none in
+      by-none (continues input.edge.open_row start (Some value)) (closed_at end input.edge.open_row) (closed_at start input.edge.open_row ++ row ∷ []) none in
       record {
         does = record {
           allowed = (no-fault input.edge (Row start end (Some value)) both first some, tt);
@@ -360,10 +355,10 @@ module _ (readings : List Reading) (reading : Reading) (input : InputFeed) (show
             young = tt;
             kind = refl;
             rows = λ cut over.
-              append-nil (input.rows ++ closed_by input.edge (Row start end (Some value)))
-              ∙ ap (λ (rows : List Snapshot). input.rows ++ rows) closes
-              ∙ sym (append_assoc input.rows (closed_at start input.edge.open_row) (row ∷ []))
-              ∙ rows-then Event (Some 1) readings reading input shows on high young holds-one cut (Some value) (row ∷ []) is
+                append-nil (input.rows ++ closed_by input.edge (Row start end (Some value)))
+                ∙ ap (λ (rows : List Snapshot). input.rows ++ rows) closes
+                ∙ sym (append_assoc input.rows (closed_at start input.edge.open_row) (row ∷ []))
+                ∙ rows-then Event (Some 1) readings reading input shows on high young holds-one cut (Some value) (row ∷ []) is
                 (sym (row-there start end value (omega (arith, ints))) ∙ ap (λ (e : ℤ). row_on start e (Some value)) (sym (end-next start cut over)));
           };
         };

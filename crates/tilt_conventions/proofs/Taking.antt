@@ -1,13 +1,11 @@
 -- What is known of a turn that is taken, and of lists with one more turn.
-use Rattle.std.proofs.Common.{◌≡◌, ℤ, pos, ◌+ℤ◌, ◌≤ℤ◌, ◌<ℤ◌, neg_ℤ, Bool, true, false, not, ◌&&◌, if◌then◌else◌, int_lt, int_le, List, [], ◌∷◌, ◌++◌, Option, Some, None}
-use Rattle.std.proofs.Common.{refl, sym, ap, ◌∙◌, arith}
+use Rattle.std.proofs.Common.{◌≡◌, ℤ, ◌≤ℤ◌, Bool, true, false, not, if◌then◌else◌, int_lt, List, [], ◌∷◌, ◌++◌, Some, None}
+use Rattle.std.proofs.Common.{refl, ap, arith}
 use Rattle.std.proofs.lemmas.Bool.{and_parts}
 use Rattle.std.proofs.lemmas.Int.{ints}
 use Rattle.tilt_base.specs.declared.limits.TheConstants.{T}
 use Rattle.tilt_conventions.specs.Laws.{last_start, readings_of}
-use Rattle.tilt_conventions.specs.Rows.{start_of}
 use Rattle.tilt_conventions.specs.Steps.{Kept, is_in_range, is_reading_time, is_refused, placed, turn_fault, turn_start}
-use Rattle.tilt_conventions.specs.declared.fault.TurnFault.{TurnFault}
 use Rattle.tilt_conventions.specs.declared.fault.TurnFault.TheVariants.{OutOfRange, Late, Tie}
 use Rattle.tilt_conventions.specs.declared.options.Ties.{Ties}
 use Rattle.tilt_conventions.specs.declared.turn.Reading.{Reading}
@@ -51,9 +49,6 @@ timely ties kept turn is =
 pub reading-times : (ties : Ties) (kept : Kept) (reading : Reading) → IsTimely ties kept (turn.Reading reading)
     → (is_reading_time reading.tick ≡ true) × (is_reading_time (placed ties kept.latest reading).tick ≡ true)
 reading-times ties kept reading is = and_parts (is_reading_time reading.tick) (is_reading_time (placed ties kept.latest reading).tick) is.range
-
-pub time-low : (tick : ℤ) → is_reading_time tick ≡ true → neg_ℤ T <ℤ tick
-time-low tick is = grind (arith, ints)
 
 pub time-high : (tick : ℤ) → is_reading_time tick ≡ true → tick ≤ℤ T
 time-high tick is = grind (arith, ints)

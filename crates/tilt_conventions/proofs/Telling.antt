@@ -1,10 +1,8 @@
 -- What holds at a tick by rows is what the last reading up to it says.
-use Rattle.std.specs.Prelude.{⊤}
-use Rattle.std.specs.Option.{ForSome}
-use Rattle.std.proofs.Common.{◌≡◌, ◌<◌, ℕ, ℤ, pos, ◌+ℤ◌, ◌-ℤ◌, ◌≤ℤ◌, ◌<ℤ◌, Bool, true, false, ◌&&◌, if◌then◌else◌, int_lt, int_le, List, [], ◌∷◌, ◌++◌, Option, Some, None}
+use Rattle.std.proofs.Common.{◌≡◌, ℕ, ℤ, pos, ◌+ℤ◌, ◌≤ℤ◌, ◌<ℤ◌, Bool, true, false, if◌then◌else◌, int_lt, int_le, List, [], ◌∷◌, ◌++◌, Option, Some, None}
 use Rattle.std.proofs.Common.{refl, sym, ap, ◌∙◌, arith, inl, inr, ◌⊎◌}
 use Rattle.std.proofs.lemmas.Int.{ints, clamps}
-use Rattle.std.specs.Int.{int_min, int_max}
+use Rattle.std.specs.Int.{int_min}
 use Rattle.tilt_conventions.specs.Cells.{AreAfter, IsAfter, NeverAges, last_by, later_one, value_at}
 use Rattle.tilt_conventions.specs.Laws.{last_tick}
 use Rattle.tilt_conventions.specs.Rows.{end_by_age, next_start, row_of, row_on, rows_of, start_of}

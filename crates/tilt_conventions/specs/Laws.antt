@@ -1,10 +1,10 @@
 -- What the laws of conventions say.
-use Rattle.std.specs.Prelude.{◌≡◌, ◌<◌, ◌+◌, ◌-◌, ◌^◌, min, ℕ, ℤ, pos, neg_ℤ, ◌+ℤ◌, ◌≤ℤ◌, ◌<ℤ◌, Bool, if◌then◌else◌, int_le, int_lt, List, [], ◌∷◌, ◌++◌}
-use Rattle.std.specs.Prelude.{length, map, Option, Some, None, is_none, is_some, ⊤}
+use Rattle.std.specs.Prelude.{◌≡◌, ◌<◌, ℤ, neg_ℤ, if◌then◌else◌, List, [], ◌∷◌, ◌++◌}
+use Rattle.std.specs.Prelude.{map, Option, Some, None, is_none, is_some, ⊤}
 use Rattle.std.specs.Int.{int_max}
 use Rattle.std.specs.Option.{ForSome}
 use Rattle.tilt_base.specs.declared.limits.TheConstants.{T}
-use Rattle.tilt_conventions.specs.Rows.{age_of, counted, next_start, rows_of, start_of}
+use Rattle.tilt_conventions.specs.Rows.{age_of, counted, rows_of}
 use Rattle.tilt_conventions.specs.Steps.{Kept, Step, last_updates, nothing_kept, taken, takes_last, turn_fault, turn_start}
 use Rattle.tilt_conventions.specs.declared.options.Convention.{Convention}
 use Rattle.tilt_conventions.specs.declared.options.Options.{Options}
@@ -25,7 +25,8 @@ HoldsATick convention = ForSome (age_of convention) (λ age. 0 < age)
 
 -- what is kept after turns, one after another, and the updates that they hand on: a turn that isn't taken changes nothing
 abbrev pub stepped : Options → Turn → Kept → Step
-stepped options turn kept = if is_none (turn_fault options.ties kept turn) then taken options turn kept else record { kept = kept; updates = [] }
+stepped options turn kept =
+    if is_none (turn_fault options.ties kept turn) then taken options turn kept else record { kept = kept; updates = [] }
 
 abbrev pub stepped_all : Options → List Turn → Kept → Step
 stepped_all options [] kept = record { kept = kept; updates = [] }

@@ -1,6 +1,5 @@
 -- What a converter keeps, as the definition of a step has it (our own rule).
-use Rattle.std.specs.Prelude.{◌≡◌, ◌<◌, ℕ, Option, Some, None, Result, Ok, Err, ⊤}
-use Rattle.tilt_conventions.specs.Rows.{age_of}
+use Rattle.std.specs.Prelude.{◌≡◌, Option, Some, None, Result, Ok, Err}
 use Rattle.tilt_conventions.specs.Steps.{Kept}
 use Rattle.tilt_conventions.specs.declared.converter.Converter.{Converter}
 use Rattle.tilt_conventions.specs.declared.fault.TakeError.{TakeError}

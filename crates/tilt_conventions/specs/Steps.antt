@@ -168,8 +168,8 @@ step_to updates mark latest skipped edge = record {
 
 -- what a turn that is taken does
 abbrev pub taken : Options → Turn → Kept → Step
-taken options (turn.Reading reading) kept = step_to (read options reading kept) (start_of reading) (latest_after options.ties reading kept.latest)
-    (if is_tie options.ties kept.latest reading then one_more kept.skipped else kept.skipped) kept.edge
+taken options (turn.Reading reading) kept = step_to (read options reading kept) (start_of reading)
+    (latest_after options.ties reading kept.latest) (if is_tie options.ties kept.latest reading then one_more kept.skipped else kept.skipped) kept.edge
 taken options (turn.KnownUpTo watermark) kept = step_to (settled options watermark kept) watermark kept.latest kept.skipped kept.edge
 
 -- the open row ends by its age, at `T` at the latest
@@ -182,4 +182,5 @@ aged_at_last (Some age) (Some row) = NoValue (int_min T (row.start +ℤ pos age)
 abbrev pub last_updates : Options → Kept → List Update
 last_updates options kept =
     due options.convention T kept.edge (waiting options.ties kept)
-    ++ aged_at_last (age_of options.convention) (moved_all (due options.convention T kept.edge (waiting options.ties kept)) kept.edge).open_row
+    ++ aged_at_last (age_of options.convention)
+    (moved_all (due options.convention T kept.edge (waiting options.ties kept)) kept.edge).open_row

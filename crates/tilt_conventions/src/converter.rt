@@ -125,7 +125,9 @@ impl Converter {
         requires times { is_in_range (options_of self.old).ties (kept_by self.old).latest (turn.Reading reading) ≡ true }
         requires room { vec_len updates.old + 4 ≤ vec_capacity updates.old }
         ensures kept { kept_by self.new
-            ≡ record (kept_by self.old) { edge = moved_all (read (options_of self.old) reading (kept_by self.old)) (kept_by self.old).edge } }
+            ≡ record (kept_by self.old) {
+              edge = moved_all (read (options_of self.old) reading (kept_by self.old)) (kept_by self.old).edge;
+            } }
         ensures updates { updates.new.items ≡ updates.old.items ++ read (options_of self.old) reading (kept_by self.old) }
         ensures options { options_of self.new ≡ options_of self.old }
     {
@@ -145,7 +147,9 @@ impl Converter {
         requires times { tick ≤ℤ T }
         requires room { vec_len updates.old + 4 ≤ vec_capacity updates.old }
         ensures kept { kept_by self.new
-            ≡ record (kept_by self.old) { edge = moved_all (settled (options_of self.old) tick (kept_by self.old)) (kept_by self.old).edge } }
+            ≡ record (kept_by self.old) {
+              edge = moved_all (settled (options_of self.old) tick (kept_by self.old)) (kept_by self.old).edge;
+            } }
         ensures updates { updates.new.items ≡ updates.old.items ++ settled (options_of self.old) tick (kept_by self.old) }
         ensures options { options_of self.new ≡ options_of self.old }
     {

@@ -6,7 +6,7 @@ pub enum TurnFault {
     /// The tick of a reading, or the one that it moves to, isn't in `1 - T..=T`; or a watermark isn't in `-T..=T`.
     #[error("a time is out of range")]
     OutOfRange,
-    /// Its tick is before that of a reading that was taken, or it isn't above a watermark that was; or a watermark is below one of these.
+    /// It starts before the turn that was taken last. A reading starts at the tick before its own, and a watermark at itself.
     #[error("it is before what is known")]
     Late,
     /// It is a second reading in one tick, and such readings are refused.

@@ -1,5 +1,5 @@
 // What is handed on.
-ghost use Rattle.std.specs.Prelude.{◌≡◌, ◌≤◌, ◌+◌, ◌++◌, ◌≤ℤ◌, ◌-ℤ◌, pos, true, vec_len};
+ghost use Rattle.std.specs.Prelude.{◌≡◌, ◌≤◌, ◌+◌, ◌++◌, ◌≤ℤ◌, true, vec_len};
 ghost use Rattle.std.specs.Option.{ForSome};
 ghost use Rattle.std.specs.Vec.{vec_capacity};
 ghost use Rattle.tilt_base.specs.declared.limits.TheConstants.{T};
@@ -123,12 +123,7 @@ pub(crate) fn hand_on_due(
 }
 
 // The input becomes known up to a tick at least.
-pub(crate) fn raise(
-    convention: Convention,
-    tick: i64,
-    edge: &mut Edge,
-    updates: &mut Vec<Update>,
-)
+pub(crate) fn raise(convention: Convention, tick: i64, edge: &mut Edge, updates: &mut Vec<Update>)
     requires times { tick ≤ℤ T }
     requires room { vec_len updates.old + 2 ≤ vec_capacity updates.old }
     ensures edge { edge.new ≡ moved_all (known (age_of convention) tick edge.old) edge.old }

@@ -48,9 +48,9 @@ pub fn readings_hold()
         → rows_of (Some age) readings cut ≡ rows_of None readings cut }
 {}
 
-/// This does nothing. Its clauses are laws of the definitions, for every list of turns: what decides whether the next turn is taken is where
-/// the last turn that was taken starts, and the tick of the last reading that counts. And the readings that don't count are skipped, and
-/// counted up to `u64::MAX`.
+/// This does nothing. Its clauses are laws of the definitions, for every list of turns. What decides whether the next turn is taken is
+/// where the last turn that was taken starts, and the tick of the last reading that counts. The readings that don't count were skipped, and
+/// they are counted up to `u64::MAX`.
 pub fn turns_are_kept()
     ensures mark { (options : Options) (turns : List Turn) → HoldsATick options.convention
         → (converted options turns).kept.mark ≡ last_start (neg_ℤ T) (taken_turns options turns) }
@@ -59,5 +59,6 @@ pub fn turns_are_kept()
         ≡ last_tick None (counted options.ties (readings_of (taken_turns options turns))) }
     ensures skipped { (options : Options) (turns : List Turn) → HoldsATick options.convention
         → (converted options turns).kept.skipped
-        ≡ min (length (readings_of (taken_turns options turns)) - length (counted options.ties (readings_of (taken_turns options turns)))) (2 ^ 64 - 1) }
+        ≡ min (length (readings_of (taken_turns options turns))
+        - length (counted options.ties (readings_of (taken_turns options turns)))) (2 ^ 64 - 1) }
 {}
