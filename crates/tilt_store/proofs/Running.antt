@@ -63,7 +63,10 @@ runs initial (Commit_returns state ∷ events) commit pending start end there ou
 runs initial (Crash None ∷ events) commit pending start end there output (mid, (c, d, left, again, state, reopened), more) =
     let now = opened initial commit d mid state (again ∙ ap (or_initial initial) (left ∙ there)) reopened in
     runs initial events commit [] mid end now.there (now.output ∙ sym (append-nil commit.output)) more
-    ∙ λ i. Ok (Some (record { output = counted (is_committed events) commit.output commit.output [] (committed_bytes events) (sym (append-nil commit.output)) i; state = last_state commit.state events }))
+    ∙ λ i. Ok (Some (record {
+      output = counted (is_committed events) commit.output commit.output [] (committed_bytes events) (sym (append-nil commit.output)) i;
+      state = last_state commit.state events;
+    }))
 runs initial (Crash (Some state) ∷ events) commit pending start end there output (mid, (c, d, left, same, again, reopened), more) =
     let new : Commit = record { output = start.output; state = state } in
     let now = opened initial new d mid again (same ∙ ap (or_initial initial) left) reopened in
