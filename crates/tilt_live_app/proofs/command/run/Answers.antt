@@ -10,8 +10,8 @@ returns-in-Err-clause-is g c = (rw c.from.ensures (words-unbegun _ _ _ _ _ _ _ _
 pub load_query-requires : goal.load_query-requires
 load_query-requires g c = c.requires.lent (command_value c.in-Ok.command) c.in-Ok.ensures.is
 
-pub returns-in-Err-load_query-clause-is : goal.returns-in-Err-load_query-clause-is
-returns-in-Err-load_query-clause-is g c = (
+pub returns-clause-is : goal.returns-clause-is
+returns-clause-is g c = (
   load-unbegun _ _ _ _ _ _ _ _ _ _ _ (command_value c.in-Ok.command) (report_of c.in-Err-load_query.fault) c.in-Ok.ensures.is c.in-Err-load_query.ensures.fault,
   refl,
   refl,
