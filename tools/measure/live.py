@@ -74,7 +74,7 @@ def cases() -> Iterator[Case]:
 
 
 def instructions(words: Sequence[str], feed: str | None, out: str, folder: str) -> int:
-    """How many instructions the words take from their beginning to their end, by callgrind."""
+    """How many instructions a command takes from its start to its end, by callgrind."""
     counts = os.path.join(folder, "counts")
     with open(feed or os.devnull, "rb") as file, open(out, "wb") as to:
         counted = ["valgrind", "-q", "--tool=callgrind", f"--callgrind-out-file={counts}", *words]
