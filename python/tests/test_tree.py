@@ -14,11 +14,11 @@ PAGE = """# The map
 
 ## The crates
 
-| crate | the one contract it gives upward | stands on |
+| crate | the one contract it gives upward | uses |
 |---|---|---|
 | `tilt_base` | numbers | `itoa` |
 | `tilt_core` | cores | base, `thiserror` |
-| `tilt_app` | all | what core stands on, but `thiserror`; core, |
+| `tilt_app` | all | what core uses, except `thiserror`; core, |
 | | and more | `itoa` |
 
 **tilt_base**: bytes come in.
@@ -39,7 +39,7 @@ PAGE = """# The map
 
 ## Where tests lie
 
-| crate | tests | stands on |
+| crate | tests | uses |
 |---|---|---|
 | `tilt_tests` | all of it | app |
 

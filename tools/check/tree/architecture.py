@@ -1,10 +1,10 @@
 """The map, docs/internals/ARCHITECTURE.md: what it says of files is true of the tree, and it leaves out no file of code.
 
-- Each crate of crates.txt has a row in one of the two tables of crates, and what that row says the crate stands on is what crates.txt has.
+- Each crate of crates.txt has a row in one of the two tables of crates, with the libraries that it uses, as in crates.txt.
 - The part of a crate begins with its name in bold. Each file of `src/` is named there, except `lib`, `main` and `fault`. The first column
   of its table names files that exist: of `src/`, or after the word `specs` or `proofs` of that folder. So do words such as `specs/Cut` and
   `src/cut.rt`.
-- In "A new command" such words are of the crate that was named last before them, or by `of` right after.
+- In the recipes such words are of the crate that was named last before them, or by `of` right after.
 - A table whose first head is "file of `FOLDER`" names each file below that folder, except `__init__.py`, and each file that it names
   exists."""
 from __future__ import annotations
@@ -24,6 +24,7 @@ UNNAMED = ["lib", "main", "fault"]
 QUOTED = re.compile(r"`([^`]+)`")
 # A quoted word that is a file of a crate, and the crate if it follows.
 FILE = re.compile(r"`(src|specs|proofs)/(\w+(?:/\w+)*)(?:\.rt|\.antt)?`(?: of `(tilt\w*)`)?")
+RECIPES = ["## A new command", "## A new option", "## A new reducer"]
 SUFFIX = {"src": ".rt", "specs": ".antt", "proofs": ".antt"}
 # A line of the page, and its number.
 Line = tuple[int, str]
@@ -80,7 +81,7 @@ def part_below(lines: list[Line], title: str) -> list[Line]:
     return found
 
 
-# What a crate stands on.
+# What a crate uses.
 
 
 def crate_of(word: str) -> str:
@@ -92,11 +93,11 @@ def words_of(text: str) -> list[str]:
     return [word for word in re.split(r",\s*|\s+and\s+", text.strip()) if word]
 
 
-def stands_on(text: str, libraries: dict[str, list[str]]) -> set[str]:
-    """The libraries of the last column: words with commas between, or `what NAME stands on, but WORDS`; several such with `;` between."""
+def used_by(text: str, libraries: dict[str, list[str]]) -> set[str]:
+    """The libraries of the last column: words with commas between, or `what NAME uses, except WORDS`; several such with `;` between."""
     found: set[str] = set()
     for piece in text.split(";"):
-        like = re.fullmatch(r"what (\w+) stands on(?:, but (.*))?", piece.strip())
+        like = re.fullmatch(r"what (\w+) uses(?:, except (.*))?", piece.strip())
         if like:
             found |= set(libraries.get(crate_of(like[1]), [])) - {crate_of(word) for word in words_of(like[2] or "")}
         else:
@@ -107,14 +108,14 @@ def stands_on(text: str, libraries: dict[str, list[str]]) -> set[str]:
 def check_rows(top: str, lines: list[Line], tally: Tally) -> None:
     libraries = libraries_of_crates(top)
     rows = [
-        *rows_below(lines, ["crate", "the one contract it gives upward", "stands on"]),
-        *rows_below(lines, ["crate", "tests", "stands on"]),
+        *rows_below(lines, ["crate", "the one contract it gives upward", "uses"]),
+        *rows_below(lines, ["crate", "tests", "uses"]),
     ]
     named = {row[0].strip("`"): (number, row[2]) for number, row in rows}
     for crate, listed in libraries.items():
         tally.expect(crate in named, f"{PAGE}:1: {crate} has no row in the tables of crates")
         number, text = named.get(crate, (1, ", ".join(f"`{library}`" for library in listed)))
-        said = stands_on(text, libraries)
+        said = used_by(text, libraries)
         tally.expect(
             said == set(listed), f"{PAGE}:{number}: {crate}: the last column and crates.txt differ by {sorted(said ^ set(listed))}"
         )
@@ -166,9 +167,9 @@ def check_part(top: str, crate: str, lines: list[Line], tally: Tally) -> None:
         tally.expect(False, f"{PAGE}:{number}: {wrong}")
 
 
-def check_new_command(top: str, lines: list[Line], tally: Tally) -> None:
+def check_recipe(top: str, title: str, lines: list[Line], tally: Tally) -> None:
     crate = ""
-    for number, line in part_below(lines, "## A new command"):
+    for number, line in part_below(lines, title):
         for found in re.finditer(rf"{FILE.pattern}|`(tilt_\w+)`", line):
             folder, name, follows, before = found.groups()
             crate = before or follows or crate
@@ -201,10 +202,11 @@ def check_map(top: str, tally: Tally) -> None:
     lines = lines_of(top)
     parts = parts_of(lines)
     check_rows(top, lines, tally)
-    for number, row in rows_below(lines, ["crate", "the one contract it gives upward", "stands on"]):
+    for number, row in rows_below(lines, ["crate", "the one contract it gives upward", "uses"]):
         crate = row[0].strip("`")
         tally.expect(crate in parts, f"{PAGE}:{number}: {crate} has no part that begins with its name in bold")
     for crate, part in parts.items():
         check_part(top, crate, part, tally)
-    check_new_command(top, lines, tally)
+    for title in RECIPES:
+        check_recipe(top, title, lines, tally)
     check_folders(top, lines, tally)
