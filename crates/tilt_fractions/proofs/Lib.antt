@@ -1,0 +1,6 @@
+pub mod Cells
+pub mod Orders
+pub mod Pairs
+pub mod Products
+pub mod Quotients
+pub mod Standing
