@@ -1,0 +1,5 @@
+pub mod Each
+pub mod Only
+pub mod Places
+pub mod Said
+pub mod Ticks

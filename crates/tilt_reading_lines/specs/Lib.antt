@@ -1,0 +1,6 @@
+pub mod Delimiter
+pub mod Header
+pub mod Lines
+pub mod Records
+pub mod Rules
+pub mod Tick
