@@ -24,6 +24,7 @@
 mod fault;
 mod fault_of;
 mod following;
+mod kept;
 mod lane;
 mod lanes;
 mod law;
@@ -33,6 +34,7 @@ mod updates;
 mod watermarks;
 
 pub use fault::{TakeError, TakeFault};
+pub use kept::{KeptInput, fits};
 pub use law::{basic_rule_holds, events_are_allowed, lines_are_sorted, watermarks_rise};
 pub use options::Options;
 pub use watermarks::Watermarks;

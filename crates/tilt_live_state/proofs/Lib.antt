@@ -1,0 +1,7 @@
+pub mod Appended
+pub mod Checks
+pub mod Decoding
+pub mod Fields
+pub mod Headings
+pub mod Kept
+pub mod Steps

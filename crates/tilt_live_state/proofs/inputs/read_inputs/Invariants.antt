@@ -1,0 +1,8 @@
+-- What is left is read as all inputs are.
+use Rattle.std.proofs.Common.{◌≡◌, ◌-◌, []}
+use Rattle.tilt_checkpoint.specs.Reading.{times}
+use Rattle.tilt_live_state.specs.Reading.{with_input}
+use Rattle.tilt_live_state.proofs.inputs.read_inputs.Given as goal
+
+abbrev pub invariant-loop : goal.invariant-loop
+invariant-loop l = times with_input (l.count - l.counter) (l.inputs.items, l.reader) ≡ times with_input l.count ([], l.fn.reader)

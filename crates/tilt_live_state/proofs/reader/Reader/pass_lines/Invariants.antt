@@ -1,0 +1,7 @@
+-- The lines that are left come to what all lines come to.
+use Rattle.std.proofs.Common.{◌≡◌, ◌-◌}
+use Rattle.tilt_checkpoint.specs.Reading.{behind_line, times}
+use Rattle.tilt_live_state.proofs.reader.Reader.pass_lines.Given as goal
+
+abbrev pub invariant-loop : goal.invariant-loop
+invariant-loop l = times behind_line (l.count - l.counter) l.self ≡ times behind_line l.count l.fn.self

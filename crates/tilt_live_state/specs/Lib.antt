@@ -1,0 +1,5 @@
+pub mod Faults
+pub mod Reading
+pub mod Spelling
+pub mod State
+pub mod Valid
