@@ -5,6 +5,7 @@ pub mod Closed
 pub mod CodeHorizons
 pub mod Dropping
 pub mod Engined
+pub mod Fed
 pub mod Feeding
 pub mod Forgot
 pub mod Given

@@ -1,6 +1,7 @@
 pub mod AtRest
 pub mod CodeHorizon
 pub mod Engines
+pub mod FedRows
 pub mod Forgetting
 pub mod GoingOn
 pub mod Gone

@@ -264,7 +264,7 @@ impl Engine {
 }
 
 // Whether a feed is finished by an event.
-fn finishes(event: Event) -> bool
+pub(crate) fn finishes(event: Event) -> bool
     ensures { result ≡ finishes event }
 {
     match event {

@@ -1,6 +1,7 @@
 // An input that is fed.
-ghost use Rattle.std.specs.Prelude.{◌≡◌, ◌≤◌, ◌<ℤ◌, length, None, OnErr, OnOk, false, slice_get};
+ghost use Rattle.std.specs.Prelude.{◌≡◌, ◌≤◌, ◌<ℤ◌, drop, length, None, IfOk, OnErr, OnOk, false, slice_get};
 ghost use Rattle.std.specs.Option.{ForSome};
+ghost use Rattle.tilt_engine.specs.FedRows.{left_inlet};
 ghost use Rattle.tilt_engine.specs.Forgetting.{later_inlet};
 ghost use Rattle.tilt_engine.specs.Stock.{finished_inlet, resting_inlet};
 ghost use Rattle.tilt_feed.specs.Resting.{resting_end};
@@ -8,6 +9,7 @@ ghost use Rattle.tilt_feed.specs.Events.{opened_by, update_fault, updated, water
 ghost use Rattle.tilt_feed.specs.Laws.{IsInOrder};
 ghost use Rattle.tilt_feed.specs.Feed.{closed_at, unknown_input};
 ghost use Rattle.tilt_engine.specs.Wanted.{IsUnread};
+ghost use Rattle.tilt_input_state.specs.Resume.{left_input};
 
 use crate::closing::{add_closed, ended};
 use crate::wanted::count_unread;
@@ -15,6 +17,7 @@ use std::alloc::{AllocError as OutOfMemory, Global};
 use std::marker::Model;
 use tilt_base::{T, WIDE};
 use tilt_feed::{Edge, OpenRow, Update};
+use tilt_input_state::InputState;
 use tilt_stream::{Buffer, Rows, Snap};
 
 // What is known of an input: its closed rows, the edge after them, and where the open row is taken to end.
@@ -84,6 +87,20 @@ impl Inlet {
         }
     }
 
+    // An input of which this is known, while more may come.
+    pub(crate) fn of(alloc: Global, input: &InputState) -> Result<Inlet, OutOfMemory>
+        ensures { IfOk result (λ inlet. inlet ≡ resting_inlet input.now) }
+    {
+        let mut rows = Rows::new(alloc);
+        rows.append(input.rows())?;
+        let edge = input.edge();
+        Ok(Inlet {
+            rows,
+            edge,
+            end: resting_end(edge),
+        })
+    }
+
     // Where what is known of it ends.
     #[inline]
     pub(crate) fn edge(&self) -> Edge
@@ -124,10 +141,37 @@ impl Inlet {
         requires { count ≤ length self.old.input.rows }
         ensures { OnOk result (self.new ≡ later_inlet count self.old) }
     {
+        let rows = self.rows_after(alloc, count)?;
+        self.rows = rows;
+        Ok(())
+    }
+
+    // Lets its closed rows go that end below a tick. If memory is refused, nothing changes.
+    pub(crate) fn forget_below(&mut self, alloc: Global, first: i64) -> Result<(), OutOfMemory>
+        ensures { OnOk result (self.new ≡ left_inlet first self.old) }
+    {
+        // That its rows are in order is known from here on.
+        let _ = self.edge();
+        let count = self.count_unread(Some(first));
+        self.forget(alloc, count)
+    }
+
+    // What is left of it without the closed rows that end below a tick.
+    pub(crate) fn left(&self, alloc: Global, first: i64) -> Result<InputState, OutOfMemory>
+        ensures { IfOk result (λ input. input ≡ left_input first self.now.input) }
+    {
+        let rows = self.rows_after(alloc, self.count_unread(Some(first)))?;
+        InputState::new(rows, self.edge).ok_or(OutOfMemory)
+    }
+
+    // A copy of its closed rows after the first ones, as many as that.
+    fn rows_after(&self, alloc: Global, count: usize) -> Result<Rows, OutOfMemory>
+        requires { count ≤ length self.now.input.rows }
+        ensures { IfOk result (λ rows. rows ≡ drop count self.now.input.rows) }
+    {
         let mut rest = Rows::new(alloc);
         rest.append(&self.rows.as_slice()[count..])?;
-        self.rows = rest;
-        Ok(())
+        Ok(rest)
     }
 
     // Takes it that nothing more comes.

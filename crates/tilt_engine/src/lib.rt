@@ -29,6 +29,7 @@ mod closing;
 mod engine;
 mod events;
 mod fault;
+mod fed_rows;
 mod forgetting;
 mod horizon;
 mod inlet;
@@ -42,4 +43,5 @@ mod wanted;
 
 pub use engine::{Engine, FEW};
 pub use fault::TakeError;
+pub use fed_rows::FedRows;
 pub use law::buffers_go_on;

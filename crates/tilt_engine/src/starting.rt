@@ -24,7 +24,7 @@ pub(crate) fn new_stock(alloc: Global, code: &Code) -> Result<Stock, OutOfMemory
 }
 
 // So many inputs of which nothing is known.
-fn new_inputs(alloc: Global, count: usize) -> Result<Vec<Inlet>, OutOfMemory>
+pub(crate) fn new_inputs(alloc: Global, count: usize) -> Result<Vec<Inlet>, OutOfMemory>
     ensures { IfOk result (λ inputs. inputs.items ≡ replicate count (resting_inlet unknown_input)) }
 {
     let mut inputs = Vec::new(alloc);

@@ -100,7 +100,7 @@ impl Stock {
 }
 
 // How many closed rows of inputs are kept.
-fn rows_held(inputs: &[Inlet]) -> u128
+pub(crate) fn rows_held(inputs: &[Inlet]) -> u128
     ensures value { result ≡ held (map (λ i. i.input.rows) inputs.now) }
     ensures few { result ≤ length inputs.now * 2 ^ 64 }
 {

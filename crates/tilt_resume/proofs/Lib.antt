@@ -1,0 +1,4 @@
+pub mod Behind
+pub mod Left
+pub mod Restored
+pub mod Resumed
