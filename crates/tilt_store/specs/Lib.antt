@@ -1,6 +1,7 @@
 pub mod Changes
 pub mod Commit
 pub mod Crash
+pub mod DiskFolder
 pub mod Errors
 pub mod Kept
 pub mod MemFolder

@@ -9,6 +9,7 @@
 
 mod change;
 mod contents;
+mod disk_folder;
 mod folder;
 mod folder_error;
 mod law;
@@ -19,6 +20,7 @@ mod open_error;
 mod opening;
 mod tear;
 
+pub use disk_folder::DiskFolder;
 pub use folder::Folder;
 pub use folder_error::FolderError;
 pub use law::exactly_once;

@@ -6,6 +6,8 @@
 #[cfg(test)]
 mod crashes;
 #[cfg(test)]
+mod disk;
+#[cfg(test)]
 mod opening;
 #[cfg(test)]
 mod tears;
