@@ -25,6 +25,7 @@ from conftest import PROGRAM, PYTHON, TOP, run_program
 from queries import Draw
 
 from tilt_data import Query, Refused, blocks, engine, parts, scale, tasks
+from tilt_data.errors import TiltError
 from tilt_data.files import placed
 from tilt_data.forms import fault_of
 from tilt_data.parts import Domain, Part
@@ -619,6 +620,31 @@ def test_a_part_reads_only_the_rows_that_it_needs(here):
     assert pathlib.Path(words[2].partition("=")[2]).read_text() == HEADER
 
 
+def test_a_file_of_which_all_rows_are_needed_is_an_argument_itself(here):
+    rows = series(1, 30000, 5)
+    pathlib.Path("x.csv").write_text(text_of(rows))
+    plan = planned("input x; emit x over (0, 30000];", x="x.csv")
+    plan.cut_at("", [], 1)
+    task = next(plan.tasks(""))
+    assert tasks.laid_out(task, str(here))[:2] == ([str(here / "query.tilt"), f"x={here}/x.csv"], len(rows))
+    pathlib.Path("x.csv").write_text(text_of(series(2, 30000, 5)))
+    with pytest.raises(Refused, match="it was changed after its index was made: call again"):
+        tasks.check_unchanged(task)
+    # A part of the rows is copied.
+    pathlib.Path("x.csv").write_text(text_of(rows))
+    plan = planned("input x; emit x over (0, 100];", x="x.csv")
+    plan.cut_at("", [], 1)
+    assert tasks.laid_out(next(plan.tasks("")), str(here))[0][1] == f"x={here}/rows.x.csv"
+
+
+def test_small_files_have_no_stored_index(here):
+    pathlib.Path("x.csv").write_text(text_of(series(1, 100, 5)))
+    pathlib.Path("y.csv").write_text(QUOTED + "0,5,7\n")
+    plan = planned("input x; input y; emit x + y over (0, 100];", x="x.csv", y="y.csv")
+    assert {os.path.basename(path) for path in plan.stamps} == {"x.csv"} and len(os.listdir("out/index")) == 2
+    assert [one.path for one in plan.indexed("")["x"]] == [str(here / "x.csv")]
+
+
 def test_the_name_of_a_part_tells_query_rows_and_program(here, monkeypatch):
     pathlib.Path("x.csv").write_text(text_of(series(1, 40000, 5)))
 
@@ -859,7 +885,7 @@ def test_keys_and_days(either, here):
     wanted = fleet(here)
     found = scale(pathlib.Path("q"), INPUTS, "out", **either.options, part_rows=300)
     assert outputs(found) == wanted and found.parts == found.made > 15 and (found.again, found.workers) == (0, 2)
-    assert sorted(os.listdir("out")) == ["index", "k 1.csv", "k 2.csv", "k%2F0.csv", "lock", "outputs.json", "parts"]
+    assert sorted(os.listdir("out")) == ["k 1.csv", "k 2.csv", "k%2F0.csv", "lock", "outputs.json", "parts"]
     again = scale(pathlib.Path("q"), INPUTS, "out", **either.options, part_rows=300)
     assert outputs(again) == wanted and (again.parts, again.made) == (found.parts, 0)
     assert next(again.told()) == f"{again.parts} parts, of which {again.parts} were there; 0 rows read; the call took {again.seconds:.1f} s"
@@ -877,6 +903,25 @@ def test_the_command_on_this_machine(here):
     lines = done.stderr.splitlines()
     assert " parts; " in lines[0] and "of the workers' time: the program " in lines[1] and lines[2].endswith("out/k 1.csv")
     assert len(lines) == 4
+
+
+def test_small_keys_share_a_task(here, monkeypatch):
+    query, wanted, calls = "input x; emit x + 1 over (0, 50];", {}, []
+    for key in range(70):
+        pathlib.Path(f"k{key}.csv").write_text(text_of([(at, at + 5, at * key) for at in range(0, 50, 5)]))
+        wanted[str(key)] = HEADER + "".join(f"{at},{at + 5},{at * key + 1}\n" for at in range(0, 50, 5))
+    make_keys = tasks.make_keys
+    monkeypatch.setattr(tasks, "make_keys", lambda keys, *more: calls.append(len(keys.keys)) or make_keys(keys, *more))
+    found = scale(query, {"x": "k{key}.csv"}, "out", workers=2)
+    assert outputs(found) == wanted and (found.parts, found.made, found.rows) == (70, 70, 700) and sorted(calls) == [6, 32, 32]
+    assert scale(query, {"x": "k{key}.csv"}, "out", workers=2).made == 0
+    # A key that is rejected is reported alone, and those before it are kept.
+    pathlib.Path("k33.csv").write_text(HEADER + "0,1,2\n5,4,3\n6,7,8\n")
+    with pytest.raises(TiltError, match=r"^33, part 1 over \(0, 50\]: tilt: "):
+        scale(query, {"x": "k{key}.csv"}, "out", workers=1)
+    pathlib.Path("k33.csv").write_text(text_of([(0, 5, 33)]))
+    found = scale(query, {"x": "k{key}.csv"}, "out", workers=1)
+    assert outputs(found) == {**wanted, "33": HEADER + "0,5,34\n"} and found.made == 1
 
 
 class Killer(threading.Thread):

@@ -1,7 +1,8 @@
 """Blocks of series files: which bytes of a file have the rows of which ticks, so that a part of a run reads only the rows that it needs.
 
-The index of a file is a JSON file in a folder of its own, made once, and made again when the stamp of the file changes (`stamp_of`). A file
-that isn't plain, for example with quotes or with CR alone at the end of its lines, is written plainly beside its index, and read there."""
+The index of a file is a JSON file in a folder of its own, made once, and made again when the stamp of the file changes (`stamp_of`). A
+small file (`SMALL`) has none: it is read again. A file that isn't plain, for example with quotes or with CR alone at the end of its lines,
+is written plainly beside its index, and read there."""
 from __future__ import annotations
 
 import bisect
@@ -19,6 +20,8 @@ from .errors import Refused, refused_at
 from .files import HEADER, Row, placed, reading, rows_of
 
 LONGEST, SHORTEST, FEWEST = 1 << 18, 1 << 9, 64
+# How many bytes a file has at most whose index isn't stored.
+SMALL = 1 << 14
 # What a plain file has besides the ends of its lines.
 PLAIN = b"0123456789+-,\r"
 MARK = b"\xef\xbb\xbf"
@@ -115,6 +118,15 @@ def found_index(path: str, folder: str) -> Indexed | None:
 def stamp_in(fields: list[int]) -> Stamp:
     size, changed, status_changed, inode = fields
     return size, changed, status_changed, inode
+
+
+def small_index(path: str) -> Indexed | None:
+    """The index of a plain file that is read as fast as a stored index would be, and has none; None for any other file."""
+    stamp = stamp_of(path)
+    blocks = blocks_of(path, path, lambda: None) if stamp[0] <= SMALL else None
+    if blocks is not None and stamp_of(path) != stamp:
+        raise Refused(f"{path}: it was changed while it was read: call again")
+    return Indexed(path, stamp, path, stamp, blocks) if blocks is not None else None
 
 
 def make_index(path: str, folder: str, check: Callable[[], None] = lambda: None) -> Indexed:
@@ -281,9 +293,20 @@ def bytes_of(segment: Segment) -> bytes:
     with open(segment.file, "rb") as file:
         file.seek(segment.offset)
         data = file.read(segment.length)
-    if stamp_of(segment.file) != segment.stamp or not is_as_indexed(data, segment):
-        raise Refused(f"{segment.path}: it was changed after its index was made: call again")
+    check_stamp(segment)
+    if not is_as_indexed(data, segment):
+        raise changed(segment.path)
     return data
+
+
+def check_stamp(segment: Segment) -> None:
+    """Raises a Refused if the file of a segment was changed since its index was made."""
+    if stamp_of(segment.file) != segment.stamp:
+        raise changed(segment.path)
+
+
+def changed(path: str) -> Refused:
+    return Refused(f"{path}: it was changed after its index was made: call again")
 
 
 def is_as_indexed(data: bytes, segment: Segment) -> bool:

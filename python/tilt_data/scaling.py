@@ -27,7 +27,7 @@ from .grammar import statements_of
 from .parts import Domain, Part
 from .program import program
 from .progress import Bar
-from .tasks import Indexing, Joining, Made, Stretch, Task
+from .tasks import Indexing, Joining, Keys, Made, Stretch, Task
 from .version import VERSION
 from .why import clashes
 
@@ -44,6 +44,8 @@ ALONE = "output"
 PART_ROWS = 1_000_000
 # How many bytes of series one task makes indexes of.
 AT_ONCE = 1 << 26
+# How many small keys share a task, and from how many keys on.
+TOGETHER, MANY = 32, 64
 
 
 def add(commands: Any) -> None:
@@ -173,6 +175,8 @@ class Plan:
         self.out = os.path.abspath(out)
         self.index = os.path.abspath(index) if index is not None else os.path.join(self.out, "index")
         self.cuts: dict[str, list[int]] = {}
+        # The stamps of small files, whose indexes aren't stored.
+        self.stamps: dict[str, blocks.Stamp] = {}
         self.rows = self.moved = self.fewer = 0
 
     @staticmethod
@@ -205,7 +209,10 @@ class Plan:
         some: list[str] = []
         size = 0
         for path in self.paths():
-            if blocks.found_index(path, self.index) is None:
+            small = blocks.small_index(path)
+            if small is not None:
+                self.stamps[path] = small.stamp
+            elif blocks.found_index(path, self.index) is None:
                 some, size = [*some, path], size + blocks.stamp_of(path)[0]
             if size >= AT_ONCE or len(some) >= 1000:
                 yield Indexing(tuple(some), self.index)
@@ -219,9 +226,9 @@ class Plan:
         for name, paths in self.files[key].items():
             its: list[Indexed] = []
             for path in paths:
-                one = blocks.found_index(path, self.index)
-                if one is None:
-                    raise Refused(f"{path}: it was changed after its index was made: call again")
+                one = blocks.small_index(path) if path in self.stamps else blocks.found_index(path, self.index)
+                if one is None or one.stamp != self.stamps.get(path, one.stamp):
+                    raise blocks.changed(path)
                 its.append(one)
             found[name] = blocks.in_order(its)
         return found
@@ -392,6 +399,7 @@ class Run:
         self.scaled = Scaled()
         self.left: dict[str, int] = {}
         self.files: dict[str, list[tuple[Part, str]]] = {}
+        self.small: list[Task] = []
 
     def carry_out(self, part_rows: int) -> Scaled:
         self.make_indexes()
@@ -435,10 +443,36 @@ class Run:
             task = next(waiting, None)
             while task is not None or self.engine.begun:
                 while task is not None and self.engine.has_room():
-                    self.engine.begin(name_of(task), tasks.make_part, task)
+                    self.begin(task)
                     task = next(waiting, None)
+                if task is None:
+                    self.begin_keys()
                 if self.engine.begun:
                     self.take(*self.ended())
+
+    def begin(self, task: Task) -> None:
+        """Starts the task of a part; small keys wait until they are enough for a task."""
+        if not self.is_small(task):
+            self.engine.begin(name_of(task), tasks.make_part, task)
+            return
+        self.small.append(task)
+        if len(self.small) >= TOGETHER:
+            self.begin_keys()
+
+    def is_small(self, task: Task) -> bool:
+        """Whether a part is the whole of a key whose files are small, and many keys are to be made."""
+        paths = [path for paths in self.plan.files[task.key].values() for path in paths]
+        return len(self.plan.files) >= MANY and not self.plan.cuts[task.key] and all(path in self.plan.stamps for path in paths)
+
+    def begin_keys(self) -> None:
+        """Starts one task for the small keys that wait."""
+        if self.small:
+            keys = Keys(tuple((task, self.joining(task.key)) for task in self.small))
+            self.engine.begin(f"{name_of(self.small[0])}, and {len(self.small) - 1} other keys", tasks.make_keys, keys)
+            self.small = []
+
+    def joining(self, key: str) -> Joining:
+        return Joining(key, tuple(self.files[key]), self.plan.whole_file(key))
 
     def missing(self) -> Iterator[Task]:
         """The tasks of all parts whose files aren't there. A key whose output is there has none."""
@@ -464,11 +498,29 @@ class Run:
         self.counted.step()
         self.left[key] -= 1
         if not self.left[key]:
-            del self.left[key]
-            joining = Joining(key, tuple(self.files.pop(key)), self.plan.whole_file(key))
+            joining = self.joining(key)
+            del self.left[key], self.files[key]
             self.engine.begin(f"the whole of {key or ALONE}", tasks.make_whole, joining)
 
+    def take_keys(self, keys: Keys, made: Made) -> None:
+        """Takes what a task made of small keys. What it left gets tasks of its own."""
+        for (task, joining), (part, whole) in zip(keys.keys, made.of_keys):
+            self.count(part)
+            self.counted.step()
+            del self.left[task.key], self.files[task.key]
+            self.take(joining, whole)
+        for task, _ in keys.keys[len(made.of_keys) :]:
+            self.engine.begin(name_of(task), tasks.make_part, task)
+
+    def count(self, part: Made) -> None:
+        self.scaled.made += 1
+        self.scaled.rows += part.rows
+        self.scaled.program_seconds += part.program_seconds
+
     def take(self, argument: Any, made: Made) -> None:
+        if isinstance(argument, Keys):
+            self.take_keys(argument, made)
+            return
         if isinstance(argument, Joining):
             if made.status:
                 raise Refused(made.line)
@@ -477,9 +529,7 @@ class Run:
             return
         if made.status:
             raise TiltError(f"{name_of(argument)}: {made.line}", made.status, made.place)
-        self.scaled.made += 1
-        self.scaled.rows += made.rows
-        self.scaled.program_seconds += made.program_seconds
+        self.count(made)
         self.finish(argument.key)
 
     def ended(self) -> tuple[Any, Made]:

@@ -20,6 +20,9 @@ from .parts import Part
 from .program import REFUSALS, program
 from .why import Refusal, refusal_of
 
+# The header with a byte order mark before it and CR LF after it. What is only empty lines before the first row is longer.
+LONGEST_HEADER = len(blocks.MARK) + len(parts.LINE) + 1
+
 
 class Failed(Exception):
     """A task that didn't end, by a fault of the machine: it can be started again."""
@@ -119,6 +122,14 @@ class Made:
     line: str = ""
     status: int = 0
     place: Refusal | None = None
+    of_keys: tuple[tuple[Made, Made], ...] = ()
+
+
+@dataclasses.dataclass(frozen=True)
+class Keys:
+    """Small keys whose outputs are to be made by one task, one after another: for each its only part, and its whole."""
+
+    keys: tuple[tuple[Task, Joining], ...]
 
 
 @dataclasses.dataclass(frozen=True)
@@ -176,10 +187,29 @@ def make_part(task: Task, processes: Processes = UNSTOPPED) -> Made:
         try:
             with placed(task.file) as out:
                 processes.run([path, "run", *words], out.fileno())
+                check_unchanged(task)
         except Rejected as rejected:
             return rejected_part(task, words, rejected)
+        except Refused as refused:
+            return Made(line=str(refused), status=1)
         spent = time.perf_counter() - started
     return Made(time.perf_counter() - begun, spent, rows, size)
+
+
+def make_keys(keys: Keys, processes: Processes = UNSTOPPED) -> Made:
+    """Makes the outputs of small keys, up to the first that doesn't succeed at once: `of_keys` has those that were made. The caller makes
+    the others by a task for each, so that what happens to them is counted and reported for each."""
+    begun = time.perf_counter()
+    made: list[tuple[Made, Made]] = []
+    for task, joining in keys.keys:
+        try:
+            both = make_part(task, processes), make_whole(joining, processes)
+        except (Failed, OSError):
+            break
+        if both[0].status or both[1].status:
+            break
+        made.append(both)
+    return Made(time.perf_counter() - begun, sum(part.program_seconds for part, _ in made), of_keys=tuple(made))
 
 
 def program_of(task: Task) -> str:
@@ -197,17 +227,45 @@ def laid_out(task: Task, folder: str) -> tuple[list[str], int, int]:
         file.write(task.query)
     words, rows, size = [query], 0, 0
     for stretch in task.inputs:
-        path = rows_path(folder, stretch.name)
-        with open(path, "wb") as file:
-            file.write(parts.LINE)
-            for segment in stretch.segments:
-                data = blocks.bytes_of(segment)
-                begin, end, left = blocks.trimmed(data, stretch.low, stretch.high)
-                file.write(memoryview(data)[begin:end])
-                file.write(b"" if data.endswith(b"\n", begin, end) or begin == end else b"\n")
-                rows, size = rows + segment.rows - left, size + end - begin
+        path, some, its_size = given(stretch, folder)
         words.append(f"{stretch.name}={path}")
+        rows, size = rows + some, size + its_size
     return words, rows, size
+
+
+def given(stretch: Stretch, folder: str) -> tuple[str, int, int]:
+    """A file with the rows of an input that a part needs, and how many rows and bytes they are: the series itself if the part needs all of
+    it, and otherwise a file in the folder."""
+    if is_whole(stretch):
+        segment, data = stretch.segments[0], blocks.bytes_of(stretch.segments[0])
+        if blocks.trimmed(data, stretch.low, stretch.high) == (0, len(data), 0):
+            return segment.path, segment.rows, segment.length
+    path, rows, size = rows_path(folder, stretch.name), 0, 0
+    with open(path, "wb") as file:
+        file.write(parts.LINE)
+        for segment in stretch.segments:
+            data = blocks.bytes_of(segment)
+            begin, end, left = blocks.trimmed(data, stretch.low, stretch.high)
+            file.write(memoryview(data)[begin:end])
+            file.write(b"" if data.endswith(b"\n", begin, end) or begin == end else b"\n")
+            rows, size = rows + segment.rows - left, size + end - begin
+    return path, rows, size
+
+
+def is_whole(stretch: Stretch) -> bool:
+    """Whether the rows are those of one file, from its header to its end. The program takes no name that isn't UTF-8."""
+    if len(stretch.segments) != 1:
+        return False
+    segment = stretch.segments[0]
+    ends = segment.offset <= LONGEST_HEADER and segment.offset + segment.length == segment.stamp[0]
+    return ends and segment.file == segment.path and segment.path == os.fsencode(segment.path).decode(errors="replace")
+
+
+def check_unchanged(task: Task) -> None:
+    """Raises a Refused if a series that the program read itself was changed meanwhile."""
+    for stretch in task.inputs:
+        if is_whole(stretch):
+            blocks.check_stamp(stretch.segments[0])
 
 
 def rows_path(folder: str, name: str) -> str:
