@@ -1,4 +1,4 @@
--- What is reported where no count rose, by what a command or words come to.
+-- What is reported if no count rose, by the outcome of a command or of arguments.
 use Rattle.std.proofs.Common.{◌≡◌, ◌⊎◌, inl, inr, List, ℕ, Option, None, Some, refl, arith}
 use Rattle.tilt_app.specs.Cause.{IsCause, IsUnanswered, IsSaveFault}
 use Rattle.tilt_app.specs.Change.{ShelfChange, SinkChange}
@@ -24,7 +24,7 @@ module _ (is_outcome : Outcome → Type 0) (once : (o p : Outcome) → is_outcom
   printed_or_refused text save report outcome other = text_is_no_refusal text save report (once (outcome_of text save) (refused report) outcome other)
 
   module _ (has_turn : List ℕ → Type 0) (shelf : ShelfChange) (out : SinkChange) (told : shelf.tells) (no_read_fault : Rose shelf.reads_before shelf.reads_after → ⊥) where
-    -- a text that isn't printed, or isn't saved, wants memory
+    -- a text that isn't printed, or isn't saved, is out of memory
     pub only_memory : (report : Report) (text : List ℕ) (save : Option SaveValue) → IsCause is_outcome has_turn shelf out report
         → is_outcome (outcome_of text save) → (Rose shelf.saves_before shelf.saves_after → ⊥) → (Rose out.before out.after → ⊥) → report ≡ out_of_memory
     only_memory usage text save cause outcome no_save_fault no_put_fault = absurd (printed_or_refused text save usage outcome cause)
@@ -37,7 +37,7 @@ module _ (is_outcome : Outcome → Type 0) (once : (o p : Outcome) → is_outcom
     same_refusal : (report other : Report) → is_outcome (refused report) → is_outcome (refused other) → (report ≡ other) ⊎ (report ≡ out_of_memory)
     same_refusal report other is outcome = inl (same_report report other (once (refused report) (refused other) is outcome))
 
-    -- a refusal is reported, or it wants memory
+    -- a refusal is reported, or there is no memory
     pub the_refusal : (report other : Report) → IsCause is_outcome has_turn shelf out report → is_outcome (refused other)
         → (report ≡ other) ⊎ (report ≡ out_of_memory)
     the_refusal usage other cause outcome = same_refusal usage other cause outcome
@@ -49,7 +49,7 @@ module _ (is_outcome : Outcome → Type 0) (once : (o p : Outcome) → is_outcom
     the_refusal out_of_memory other cause outcome = inr refl
 
 module _ (is_outcome : Outcome → Type 0) (has_turn : List ℕ → Type 0) (shelf : ShelfChange) (out : SinkChange) where
-  -- usage is reported only where it is the outcome
+  -- usage is reported only if it is the outcome
   pub cause_of_usage : (report : Report) → report ≡ usage → IsCause is_outcome has_turn shelf out report → is_outcome (refused usage)
   cause_of_usage usage is cause = cause
   cause_of_usage (refusal why) is cause = absurd (cc is)
@@ -58,7 +58,7 @@ module _ (is_outcome : Outcome → Type 0) (has_turn : List ℕ → Type 0) (she
   cause_of_usage (save_fault name) is cause = absurd (cc is)
   cause_of_usage out_of_memory is cause = absurd (cc is)
 
-  -- why nothing was answered is the cause, where nothing was written
+  -- why there was no result is the cause, if nothing was written
   pub unanswered_cause : (report : Report) → out.new ≡ out.old → IsUnanswered is_outcome has_turn shelf report → IsCause is_outcome has_turn shelf out report
   unanswered_cause usage same fault = fault
   unanswered_cause (refusal why) same fault = fault
@@ -67,7 +67,7 @@ module _ (is_outcome : Outcome → Type 0) (has_turn : List ℕ → Type 0) (she
   unanswered_cause (save_fault name) same fault = absurd fault
   unanswered_cause out_of_memory same fault = inl (λ _. same)
 
--- where nothing was answered, no save failed
+-- if there was no result, no save failed
 pub no_save_fault : (is_outcome : Outcome → Type 0) (has_turn : List ℕ → Type 0) (shelf : ShelfChange) (report : Report) → IsUnanswered is_outcome has_turn shelf report
     → IsSaveFault report → ⊥
 no_save_fault is_outcome has_turn shelf usage fault is = is
@@ -77,7 +77,7 @@ no_save_fault is_outcome has_turn shelf write_fault fault is = is
 no_save_fault is_outcome has_turn shelf (save_fault name) fault is = fault
 no_save_fault is_outcome has_turn shelf out_of_memory fault is = is
 
--- a cause for a command is one for the words that are it
+-- a cause for a command is one for the arguments that are it
 pub wider_cause : (is_outcome is_outcome' : Outcome → Type 0) (has_turn has_turn' : List ℕ → Type 0) (shelf : ShelfChange) (out : SinkChange)
     → ((o : Outcome) → is_outcome o → is_outcome' o) → ((name : List ℕ) → has_turn name → has_turn' name) → (report : Report)
     → IsCause is_outcome has_turn shelf out report → IsCause is_outcome' has_turn' shelf out report
@@ -102,14 +102,14 @@ wider_cause is is' turn turn' shelf out more next out_of_memory (inl none) = inl
 wider_cause is is' turn turn' shelf out more next out_of_memory (inr part) =
     inr (part.0, part.1, record { outcome = λ t. more (outcome_of part.0 part.1) (part.2.outcome t); front = part.2.front })
 
--- words that give no command are reported as such, or want memory
+-- arguments that give no command are reported as such, or there is no memory
 pub cause_of_words : (words : List (List ℕ)) (files : List ℕ → List ℕ) (watchers : List Watch) (has_turn : List ℕ → Type 0) (shelf : ShelfChange) (out : SinkChange)
     (fault : WordsFault) → out.new ≡ out.old → (fault ≡ variant.Usage → (command : CommandValue) → ¬ (IsCommand words command))
     → IsCause (IsOutcome words files watchers) has_turn shelf out (report_of_words fault)
 cause_of_words words files watchers has_turn shelf out variant.Usage same none = no_command (none refl)
 cause_of_words words files watchers has_turn shelf out variant.OutOfMemory same none = inl (λ _. same)
 
--- the status of usage is that of no other report
+-- no other report has the status of usage
 pub status_of_usage : (report : Report) → status_of report ≡ 2 → report ≡ usage
 status_of_usage usage is = refl
 status_of_usage (refusal why) is = absurd (omega arith)
@@ -118,7 +118,7 @@ status_of_usage write_fault is = absurd (omega arith)
 status_of_usage (save_fault name) is = absurd (omega arith)
 status_of_usage out_of_memory is = absurd (omega arith)
 
--- the status of a write fault is that of no other report
+-- no other report has the status of a write fault
 pub status_of_write_fault : (report : Report) → status_of report ≡ 4 → report ≡ write_fault
 status_of_write_fault usage is = absurd (omega arith)
 status_of_write_fault (refusal why) is = absurd (omega arith)
@@ -127,7 +127,7 @@ status_of_write_fault write_fault is = refl
 status_of_write_fault (save_fault name) is = absurd (omega arith)
 status_of_write_fault out_of_memory is = absurd (omega arith)
 
--- the status of want of memory is that of no other report
+-- no other report has the status of being out of memory
 pub status_of_want : (report : Report) → status_of report ≡ 5 → report ≡ out_of_memory
 status_of_want usage is = absurd (omega arith)
 status_of_want (refusal why) is = absurd (omega arith)

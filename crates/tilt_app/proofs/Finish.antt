@@ -1,4 +1,4 @@
--- What puts and a save leave, from what each of them did.
+-- What writes and a save leave, from what each of them did.
 use Rattle.std.proofs.Common.{◌≡◌, ◌++◌, List, ℕ, Option, None, Some, Result, Ok, Err, inr, refl, subst}
 use Rattle.std.specs.Prelude.{MatchResult, OnOk}
 use Rattle.tilt_app.specs.Cause.{IsCause}
@@ -16,7 +16,7 @@ use Rattle.tilt_printed.specs.declared.unput.Unput.TheVariants.{Failed, OutOfMem
 use Rattle.tilt_report.specs.Report.{Outcome, Report, save_fault}
 use Rattle.tilt_cli.specs.Command.{CommandValue, start, resume_upto, resume_end}
 
--- what holds where a call didn't fail
+-- what holds if a call didn't fail
 pub on_ok : {E X : Type 0} (r : Result (Unit {0}) E) → ((e : E) → r ≡ Err e → ⊥) → OnOk r X → X
 on_ok (Ok u) fine x = x
 on_ok (Err e) fine x = absurd (fine e refl)
@@ -47,7 +47,7 @@ module _ (is_outcome : Outcome → Type 0) (has_turn : List ℕ → Type 0) (she
   unsaved_cause text name bytes report is rose outcome written unsaved =
       rw is (rose, (text, bytes, record { outcome = outcome; written = written; unsaved = unsaved }))
 
-  -- a text that wasn't put whole is the cause
+  -- a text that wasn't written whole is the cause
   pub unput_cause : (text : List ℕ) (save : Option SaveValue) (unput : Unput) (report : Report) → report ≡ report_of_unput unput
       → (shelf.tells → is_outcome (outcome_of text save)) → (out.tells → AppendsFront out.old out.new text) → (unput ≡ Failed → Rose out.before out.after)
       → IsCause is_outcome has_turn shelf out report

@@ -1,4 +1,4 @@
--- Words and files have one outcome, and always have one.
+-- Arguments and files have one outcome, and always have one.
 use Rattle.std.proofs.Common.{◌≡◌, ◌⊎◌, inl, inr, List, ℕ, refl, subst, sym}
 use Rattle.tilt_app.proofs.Rows.{row_once, row_some, row_no_usage}
 use Rattle.tilt_app.specs.Outcome.{IsOutcome, IsRowOutcome, no_command, does}
@@ -16,7 +16,7 @@ command_once : (words : List (List ℕ)) (files : List ℕ → List ℕ) (watche
     → IsRowOutcome files watchers (row_of c) o → IsRowOutcome files watchers (row_of c) p → o ≡ p
 command_once words files watchers c is o p = row_once files watchers (row_of c) (rows_lawful c (within words c is)) o p
 
--- words and files have one outcome, since words are one command at most
+-- arguments and files have one outcome, since arguments are one command at most
 pub outcome_once : (words : List (List ℕ)) (files : List ℕ → List ℕ) (watchers : List Watch) (o p : Outcome)
     → IsOutcome words files watchers o → IsOutcome words files watchers p → o ≡ p
 outcome_once words files watchers o p (no_command none) (no_command none') = refl
@@ -25,7 +25,7 @@ outcome_once words files watchers o p (does c is outcome) (no_command none) = ab
 outcome_once words files watchers o p (does c is outcome) (does d is' outcome') =
     command_once words files watchers c is o p outcome (subst (λ (e : CommandValue). IsRowOutcome files watchers (row_of e) p) (sym (one_command words c d is is')) outcome')
 
--- a command has another outcome than that of words that are none
+-- a command has another outcome than arguments that are none
 pub no_usage : (words : List (List ℕ)) (files : List ℕ → List ℕ) (watchers : List Watch) (c : CommandValue) → IsCommand words c
     → IsRowOutcome files watchers (row_of c) (refused usage) → ⊥
 no_usage words files watchers c is outcome = row_no_usage files watchers (row_of c) (rows_lawful c (within words c is)) outcome
@@ -37,6 +37,6 @@ some_outcome words files watchers (inl (c, is)) =
     (some.0, does c is some.1)
 some_outcome words files watchers (inr none) = (refused usage, no_command none)
 
--- words and files always have an outcome
+-- arguments and files always have an outcome
 pub outcome_some : (words : List (List ℕ)) (files : List ℕ → List ℕ) (watchers : List Watch) → (o : Outcome) × IsOutcome words files watchers o
 outcome_some words files watchers = some_outcome words files watchers (command_or_none words)

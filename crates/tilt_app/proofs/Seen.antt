@@ -1,4 +1,4 @@
--- How the watchers stand after the call.
+-- How the watchers are after the call.
 use Rattle.std.proofs.Common.{◌≡◌, ◌⊎◌, inl, inr, List, ℕ, Bool, Option, None, Some, refl, subst}
 use Rattle.tilt_app.specs.Cause.{IsUnanswered}
 use Rattle.tilt_app.specs.Change.{ShelfChange}
@@ -19,7 +19,7 @@ run_shown : (tells : Type 0) (files : List ℕ → List ℕ) (command : CommandV
     → command ≡ watch query binds plain → IsShow tells files command shown → (list : List Snapshot) × (shown ≡ Some list) × WatchesRun tells files query binds list
 run_shown tells files command query binds plain shown same is = subst (λ (c : CommandValue). IsShow tells files c shown) same is
 
--- where nothing was answered, the watchers are as they were
+-- if there was no result, the watchers are as they were
 pub unanswered_seen : (is_outcome : Outcome → Type 0) (has_turn : List ℕ → Type 0) (shelf : ShelfChange) (left : Left)
     (is_show : Option (List Snapshot) → Type 0) (report : Report) → IsUntouched left → IsUnanswered is_outcome has_turn shelf report → SeeOfFault left is_show report
 unanswered_seen is_outcome has_turn shelf left is_show usage same fault = same.kept
@@ -29,7 +29,7 @@ unanswered_seen is_outcome has_turn shelf left is_show write_fault same fault = 
 unanswered_seen is_outcome has_turn shelf left is_show (save_fault name) same fault = absurd fault
 unanswered_seen is_outcome has_turn shelf left is_show out_of_memory same fault = inl same
 
--- what was shown where all was put
+-- what was shown if all was written
 pub all_shown : (tells : Type 0) (files : List ℕ → List ℕ) (left : Left) (command : CommandValue) (query : List ℕ) (binds : List Binding) (plain : Bool)
     → command ≡ watch query binds plain → (shown : Option (List Snapshot)) × IsShow tells files command shown × SeeAll left shown
     → (list : List Snapshot) × WatchesRun tells files query binds list × HaveSeen left list
@@ -37,7 +37,7 @@ all_shown tells files left command query binds plain same (shown, is, all) =
     let run = run_shown tells files command query binds plain shown same is in
     (run.0, run.2, subst (λ (o : Option (List Snapshot)). SeeAll left o) run.1 all)
 
--- what was shown where not all was put, for this reason
+-- what was shown if not all was written, for this reason
 part_of_run : (tells : Type 0) (files : List ℕ → List ℕ) (left : Left) (command : CommandValue) (query : List ℕ) (binds : List Binding) (plain : Bool) (why : Unput)
     → command ≡ watch query binds plain → (shown : Option (List Snapshot)) × IsShow tells files command shown × SeePart why left shown
     → (list : List Snapshot) × WatchesRun tells files query binds list × HaveSeenInPart why left list
@@ -45,14 +45,14 @@ part_of_run tells files left command query binds plain why same (shown, is, part
     let run = run_shown tells files command query binds plain shown same is in
     (run.0, run.2, subst (λ (o : Option (List Snapshot)). SeePart why left o) run.1 part)
 
--- where a put or the flush failed
+-- if a write or the flush failed
 pub part_shown : (tells : Type 0) (files : List ℕ → List ℕ) (left : Left) (command : CommandValue) (query : List ℕ) (binds : List Binding) (plain : Bool) (report : Report)
     → command ≡ watch query binds plain → report ≡ write_fault → SeeOfFault left (IsShow tells files command) report
     → (list : List Snapshot) × WatchesRun tells files query binds list × HaveSeenInPart Failed left list
 part_shown tells files left command query binds plain report same fault seen =
     part_of_run tells files left command query binds plain Failed same (subst (λ (r : Report). SeeOfFault left (IsShow tells files command) r) fault seen)
 
--- and where memory was wanting
+-- and if there was no memory
 pub shown_before_want : (tells : Type 0) (files : List ℕ → List ℕ) (left : Left) (command : CommandValue) (query : List ℕ) (binds : List Binding) (plain : Bool) (report : Report)
     → command ≡ watch query binds plain → report ≡ out_of_memory → SeeOfFault left (IsShow tells files command) report
     → IsUntouched left ⊎ ((list : List Snapshot) × WatchesRun tells files query binds list × HaveSeenInPart OutOfMemory left list)
@@ -62,7 +62,7 @@ shown_before_want tells files left command query binds plain report same fault s
       | inr part ↦ inr (part_of_run tells files left command query binds plain OutOfMemory same part)
     ]
 
--- what the watchers were shown where a text wasn't put whole
+-- what the watchers were shown if a text wasn't written whole
 pub unput_seen : (left : Left) (is_show : Option (List Snapshot) → Type 0) (text : Printed) (unput : Unput) (report : Report) → report ≡ report_of_unput unput
     → is_show (shown_of text) → SeePart unput left (shown_of text) → SeeOfFault left is_show report
 unput_seen left is_show text Failed report is show part = rw is (shown_of text, show, part)
@@ -91,13 +91,13 @@ nothing_shown tells files command none shown is = is
 kept_of : (left : Left) (shown : Option (List Snapshot)) → shown ≡ None → SeeAll left shown → left.kept
 kept_of left shown none all = subst (λ (o : Option (List Snapshot)). SeeAll left o) none all
 
--- such a command leaves the watchers as they were, where all was put
+-- such a command leaves the watchers as they were, if all was written
 pub unwatched_all : (tells : Type 0) (files : List ℕ → List ℕ) (left : Left) (command : CommandValue)
     → ((query : List ℕ) (binds : List Binding) (plain : Bool) → command ≡ watch query binds plain → ⊥)
     → (shown : Option (List Snapshot)) × IsShow tells files command shown × SeeAll left shown → left.kept
 unwatched_all tells files left command none (shown, is, all) = kept_of left shown (nothing_shown tells files command none shown is) all
 
--- and where not all was put
+-- and if not all was written
 pub unwatched_part : (tells : Type 0) (files : List ℕ → List ℕ) (left : Left) (command : CommandValue)
     → ((query : List ℕ) (binds : List Binding) (plain : Bool) → command ≡ watch query binds plain → ⊥) → (report : Report)
     → SeeOfFault left (IsShow tells files command) report → left.kept

@@ -48,7 +48,7 @@ lines-append (s ∷ front) back = by (is_some s.value) (lines-append front back)
     by true more = ap (λ (l : List ℕ). row_text s ++ l) more ∙ sym (append_assoc (row_text s) (lines_of front) (lines_of back))
     by false more = more
 
--- what is printed, and saved where something is
+-- what is printed, and saved if something is
 saved_is : (text other name bytes : List ℕ) (save : Option SaveValue) → outcome_of text save ≡ printed_and_saved other name bytes
     → (text ≡ other) × (save ≡ Some (record { name = name; bytes = bytes }))
 saved_is text other name bytes None is = absurd (cc is)
@@ -68,7 +68,7 @@ module _ (q : List StatementTree) (rows : List (List Snapshot)) (cuts : CutsPart
   Left call all cut = ((cut ≡ End) × (saved_name call.command ≡ None))
       ⊎ ((upto : CutsParts) × (save : List ℕ) × (cut ≡ Upto upto) × (saved_name call.command ≡ Some save) × HandsOn (call.holds save) q all upto)
 
-  -- what one session more reads, writes and saves
+  -- what one more session reads, writes and saves
   record IsStep (call : SessionCall) : Type 0 where
     pub more : List (List Snapshot)
     pub beyond : List Snapshot

@@ -1,4 +1,4 @@
--- What a command's answer says of its command: what it comes to, why there is none, and what is shown.
+-- What a command's result says of its command: its outcome, why there is none, and what is shown.
 use Rattle.std.proofs.Common.{◌≡◌, ◌++◌, ◌∙◌, List, [], ℕ, Option, None, Some, Result, Ok, Err, refl, sym, ap}
 use Rattle.std.proofs.lemmas.List.{append-nil}
 use Rattle.std.proofs.lemmas.Result.{IfErr-weaker, IfOk-weaker}
@@ -30,7 +30,7 @@ use Rattle.tilt_cli.specs.Binding.{Binding}
 use Rattle.tilt_cli.specs.Command.{CommandValue, watch}
 
 module _ (shelf : Reading) (keeps : Answered → Type 0) (result : Result Answered Fault) where
-  -- what a row comes to
+  -- the outcome of a row
   pub row_made : (row : Row) → DoesRow row keeps shelf result → shelf.tells
       → IfOk result (λ answer. (watchers : List Watch) → IsRowOutcome shelf.files watchers row (comes_to watchers answer))
   row_made (reads file binds command) does told = does.made told
@@ -59,7 +59,7 @@ module _ (shelf : Reading) (keeps : Answered → Type 0) (result : Result Answer
       → IsLoadFault tells is_refused has_turn before after report
   memory_fault tells is_refused has_turn before after report is = rw is tt
 
-  -- why a row comes to nothing
+  -- why a row gives nothing
   pub row_undone : (row : Row) → DoesRow row keeps shelf result → (watchers : List Watch)
       → IfErr result (λ fault. IsLoadFault shelf.tells (λ why. IsRowOutcome shelf.files watchers row (refused (refusal why)))
       (HasRowTurn shelf.tells shelf.files watchers row) shelf.faults_before shelf.faults_after (report_of fault))
@@ -69,7 +69,7 @@ module _ (shelf : Reading) (keeps : Answered → Type 0) (result : Result Answer
       IfErr-weaker result _ _ (λ fault is. memory_fault shelf.tells _ _ shelf.faults_before shelf.faults_after (report_of fault) is) does.fault
 
 module _ (command : CommandValue) (shelf : Reading) where
-  -- what an answer comes to
+  -- the outcome that a result is
   pub answer_made : (answer : Answered) → IsAnswered command shelf (Ok answer) → shelf.tells → (watchers : List Watch)
       → IsRowOutcome shelf.files watchers (row_of command) (comes_to watchers answer)
   answer_made answer does told = row_made shelf _ (Ok answer) (row_of command) does told
@@ -90,7 +90,7 @@ module _ (command : CommandValue) (shelf : Reading) where
       (HasRowTurn shelf.tells shelf.files watchers (row_of command)) shelf.faults_before shelf.faults_after (report_of fault)
   answer_undone fault does watchers = row_undone shelf _ (Err fault) (row_of command) does watchers
 
--- why nothing is answered, by why files aren't taken
+-- why there is no result, by why files aren't taken
 pub load_unanswered : (is_outcome : Outcome → Type 0) (has_turn has_turn' : List ℕ → Type 0) (shelf : ShelfChange) → ((name : List ℕ) → has_turn name → has_turn' name)
     → (report : Report) → IsLoadFault shelf.tells (λ why. is_outcome (refused (refusal why))) has_turn shelf.reads_before shelf.reads_after report
     → IsUnanswered is_outcome has_turn' shelf report
@@ -112,7 +112,7 @@ none_saved (Some save) none = absurd (none refl)
 same_text : (text other : List ℕ) → printed text ≡ printed other → text ≡ other
 same_text text other same = cc
 
--- where `watch` prints the text of snapshots without figures, since nobody watches, that is what `run` prints
+-- if `watch` prints the text of snapshots without figures, since nobody watches, that is what `run` prints
 run_of_watch : (files : List ℕ → List ℕ) (query : List ℕ) (binds : List Binding) (list : List Snapshot) (o : Outcome) → IsFileOutcome (watch_row query []) files query binds o
     → o ≡ printed (text_of list ++ []) → IsFileOutcome (run_row query) files query binds (printed (text_of list))
 run_of_watch files query binds list o (no_file why is) same = absurd (cc same)
@@ -144,13 +144,13 @@ module _ (tells : Type 0) (files : List ℕ → List ℕ) where
       watch_shows query binds plain answer.printed answer.save (none_saved answer.save fits.saved.0) (fits.shown.1 tt) (λ t. made t [])
   answer_shows command answer fits made = none_shown (shown_of answer.printed) fits.shown.0
 
--- a property of answers may be another one
+-- a property of results may be another one
 pub does_weaker : (command : List Watch → FileCommand) (keeps keeps' : Answered → Type 0) (file : List ℕ) (binds : List Binding) (shelf : Reading) (result : Result Answered Fault)
     → ((answer : Answered) → keeps answer → keeps' answer) → Does command comes_to keeps file binds shelf result → Does command comes_to keeps' file binds shelf result
 does_weaker command keeps keeps' file binds shelf result more does =
     record { made = does.made; kept = IfOk-weaker result _ _ more does.kept; fault = does.fault; read = does.read; rest = does.rest }
 
--- where a cut is given, bytes are saved; and where none is, none are
+-- if a cut is given, bytes are saved; and if none is, none are
 pub fits_saved : (streams shows : Type 0) (cut : SavedCutValue) (answer : Answered) → Fits streams shows (IsSome (Some cut)) answer → Fits streams shows ⊤ answer
 fits_saved streams shows cut answer fits =
     record { fresh = fits.fresh; streamed = fits.streamed; shown = fits.shown; saved = ((λ some. tt), (λ is. fits.saved.1 refl)) }

@@ -1,4 +1,4 @@
--- Where a command comes to a fault: its cause, that it is no save fault, and that the watchers are as they were.
+-- If a command gives a fault: its cause, that it is no save fault, and that the watchers are as they were.
 use Rattle.std.proofs.Common.{◌≡◌, List, [], ℕ, Option, Err}
 use Rattle.tilt_app.proofs.Complete.{no_save_fault, unanswered_cause}
 use Rattle.tilt_app.proofs.Seen.{unanswered_seen}

@@ -1,4 +1,4 @@
--- What a command's answer says, by its row.
+-- What the result of a command says, by its row.
 use Rattle.std.specs.Prelude.{◌≡◌, List, Result, IfOk, IfErr}
 use Rattle.tilt_app.specs.Outcome.{Saves, Shows, Streams}
 use Rattle.tilt_commands.specs.LastFile.{DoesLast}
@@ -11,7 +11,7 @@ use Rattle.tilt_report.specs.declared.fault.Fault.{Fault}
 use Rattle.tilt_watch.specs.Watch.{Watch}
 use Rattle.tilt_cli.specs.Command.{CommandValue}
 
--- a command that reads nothing was done: the result is what it comes to, and keeps a property, or memory was wanting
+-- a command that reads nothing was done: the result gives its outcome and keeps a property, or it ran out of memory
 pub record Makes (is_outcome : Outcome → Type 0) (keeps : Answered → Type 0) (shelf : Reading) (result : Result Answered Fault)
     : Type 0 where
   pub made : IfOk result (λ answer. (watchers : List Watch) → is_outcome (comes_to watchers answer))
@@ -26,7 +26,7 @@ DoesRow (reads file binds command) keeps shelf result = Does command comes_to ke
 DoesRow (reads_last file binds last command) keeps shelf result = DoesLast command comes_to keeps file binds last shelf result
 DoesRow (makes is_outcome) keeps shelf result = Makes is_outcome keeps shelf result
 
--- a command was done, and it gives its text out by a pipe, shows snapshots, and saves exactly where it is to
+-- a command was done, and it gives its text out by a pipe, shows snapshots, and saves exactly if it is to
 abbrev pub IsAnswered : CommandValue → Reading → Result Answered Fault → Type 0
 IsAnswered command shelf result =
     DoesRow (row_of command) (Fits (Streams command) (Shows command) (Saves command)) shelf result

@@ -1,4 +1,4 @@
--- Why a status that isn't 0 comes, and what stands after it.
+-- Why a status that isn't 0 comes, and what holds after it.
 use Rattle.std.specs.Prelude.{◌≡◌, ◌⊎◌, ◌++◌, ⊤, List, ℕ, Option, Some}
 use Rattle.tilt_app.specs.Change.{ShelfChange, SinkChange}
 use Rattle.tilt_app.specs.Saving.{IsUnsaved}
@@ -9,7 +9,7 @@ use Rattle.tilt_report.specs.Report.{Outcome, refused, Report, usage, refusal, r
 
 -- Of what is to be done: which outcome it has, and whose turn it is to be read; and what the call leaves of the shelf.
 module _ (is_outcome : Outcome → Type 0) (has_turn : List ℕ → Type 0) (shelf : ShelfChange) where
-  -- why nothing is printed: a read fault only where its count rose, and each refusal only where it is the outcome
+  -- why nothing is printed: a read fault only if its count rose, and each refusal only if it is the outcome
   abbrev pub IsUnanswered : Report → Type 0
   IsUnanswered usage = is_outcome (refused usage)
   IsUnanswered (refusal why) = shelf.tells → is_outcome (refused (refusal why))
@@ -20,7 +20,7 @@ module _ (is_outcome : Outcome → Type 0) (has_turn : List ℕ → Type 0) (she
 
   -- And what it leaves of the output.
   module _ (out : SinkChange) where
-    -- a text is what is printed, where the shelf tells it, and a prefix of the text was written
+    -- a text is what is printed, if the shelf reports what it holds, and a prefix of the text was written
     pub record IsCutShort (text : List ℕ) (save : Option SaveValue) : Type 0 where
       pub outcome : shelf.tells → is_outcome (outcome_of text save)
       pub front : out.tells → AppendsFront out.old out.new text
@@ -31,12 +31,12 @@ module _ (is_outcome : Outcome → Type 0) (has_turn : List ℕ → Type 0) (she
       pub written : out.tells → out.new ≡ out.old ++ text
       pub unsaved : IsUnsaved shelf save
 
-    -- memory was wanting: nothing was written, or a text is what is printed and a prefix of it was
+    -- out of memory: nothing was written, or a text is what is printed and a prefix of it was
     abbrev pub IsShortOfMemory : Type 0
     IsShortOfMemory = (out.tells → out.new ≡ out.old) ⊎ ((text : List ℕ) × (save : Option SaveValue) × IsCutShort text save)
 
-    -- why this is reported: the same, a write fault only where the count of the output rose, a save fault only where that of the shelf
-    -- rose, and want of memory with what was written by then
+    -- why this is reported: the same. A write fault comes only if the fault count of the output rose, and a save fault only if the
+    -- save-fault count of the shelf rose. Out of memory comes with what was written by then
     abbrev pub IsCause : Report → Type 0
     IsCause write_fault = Rose out.before out.after × ((text : List ℕ) × (save : Option SaveValue) × IsCutShort text save)
     IsCause (save_fault name) = Rose shelf.saves_before shelf.saves_after
@@ -49,7 +49,7 @@ abbrev pub IsSaveFault : Report → Type 0
 IsSaveFault (save_fault name) = ⊤
 IsSaveFault report = ⊥
 
--- the line was written, where the sink tells it, or a prefix of it where the count of faults rose
+-- the line was written, if the sink reports it, or a prefix of it if the count of faults rose
 abbrev pub IsLineWritten : SinkChange → List ℕ → Type 0
 IsLineWritten err line =
     err.tells → (err.new ≡ err.old ++ line) ⊎ (AppendsFront err.old err.new line × Rose err.before err.after)

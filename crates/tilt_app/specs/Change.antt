@@ -1,7 +1,7 @@
 -- What a call leaves of a shelf, and of a sink.
 use Rattle.std.specs.Prelude.{ℕ, List}
 
--- a shelf before a call and after it: whether it tells what it holds, what each name held and holds, and its counts of reads and saves
+-- a shelf before a call and after it: whether it reports what it holds, what each name held and holds, and its counts of reads and saves
 -- that failed
 pub record ShelfChange : Type 1 where
   pub tells : Type 0
@@ -12,8 +12,8 @@ pub record ShelfChange : Type 1 where
   pub saves_before : ℕ
   pub saves_after : ℕ
 
--- a sink before a call and after it: whether it tells what was written, what was written before and by now, its count of faults, and how
--- many bytes it took and takes
+-- a sink before a call and after it: whether it reports what was written, and what was written before and by now; its count of faults.
+-- Also how many bytes it took and takes
 pub record SinkChange : Type 1 where
   pub tells : Type 0
   pub old : List ℕ

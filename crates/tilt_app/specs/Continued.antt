@@ -12,7 +12,7 @@ use Rattle.tilt_syntax.specs.Tree.{StatementTree}
 use Rattle.tilt_cli.specs.Binding.{Binding}
 use Rattle.tilt_cli.specs.Command.{CommandValue, start, resume_upto, resume_end}
 
--- what was written, and saved where something is, is such an outcome
+-- what was written, and saved if something is, is such an outcome
 pub record IsLeft (is_outcome : Outcome → Type 0) (shelf : ShelfChange) (out : SinkChange) : Type 0 where
   pub text : List ℕ
   pub save : Option SaveValue
@@ -20,8 +20,8 @@ pub record IsLeft (is_outcome : Outcome → Type 0) (shelf : ShelfChange) (out :
   pub written : out.tells → out.new ≡ out.old ++ text
   pub saved : IsSaved shelf save
 
--- a session after a checkpoint: whichever rows the checkpoint is of, what was written is what one session prints on all rows after what
--- one session prints on the earlier ones, and what was saved is the checkpoint of all rows
+-- a session after a checkpoint, whichever rows the checkpoint is of. What was written is what one session prints on all rows, beyond what
+-- one session prints on the earlier ones. What was saved is the checkpoint of all rows
 abbrev pub GoesBeyond : List ℕ → List Binding → Option SavedCutValue → ShelfChange → SinkChange → Type 0
 GoesBeyond checkpoint binds ending shelf out =
     (query : List StatementTree) (rows : List (List Snapshot)) (cuts : CutsParts) → HandsOn (shelf.held checkpoint) query rows cuts

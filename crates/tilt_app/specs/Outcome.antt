@@ -1,5 +1,5 @@
--- What words come to, given what each name holds and who watches: the text that is printed, or why nothing is. What each command does is
--- a row of the table.
+-- The outcome of arguments, given what each name holds and who watches: the text that is printed, or why nothing is. What each command
+-- does is a row of the table.
 use Rattle.std.specs.Prelude.{◌≡◌, ⊤, List, [], ℕ}
 use Rattle.tilt_commands.specs.LastFile.{HasLastTurn, IsLastOutcome, IsLastRead}
 use Rattle.tilt_commands.specs.Table.{Row, reads, reads_last, makes, row_of}
@@ -9,7 +9,7 @@ use Rattle.tilt_report.specs.Report.{Outcome, refused, usage}
 use Rattle.tilt_watch.specs.Watch.{Watch}
 use Rattle.tilt_cli.specs.Command.{CommandValue, IsCommand, run, pipe, watch, flow, start, resume_upto}
 
--- what a row comes to
+-- the outcome of a row
 abbrev pub IsRowOutcome : (List ℕ → List ℕ) → List Watch → Row → Outcome → Type 0
 IsRowOutcome files watchers (reads file binds command) outcome = IsFileOutcome (command watchers) files file binds outcome
 IsRowOutcome files watchers (reads_last file binds last command) outcome = IsLastOutcome command files file binds last outcome
@@ -28,7 +28,7 @@ IsRowRead files watchers (reads file binds command) before after =
 IsRowRead files watchers (reads_last file binds last command) before after = IsLastRead command files file binds last before after
 IsRowRead files watchers (makes is_outcome) before after = after ≡ before
 
--- what the words do
+-- what the arguments do
 pub data IsOutcome (words : List (List ℕ)) (files : List ℕ → List ℕ) (watchers : List Watch) : Outcome → Type 0 where
   no_command : ((command : CommandValue) → ¬ (IsCommand words command)) → IsOutcome words files watchers (refused usage)
   does : {outcome : Outcome} (command : CommandValue) → IsCommand words command → IsRowOutcome files watchers (row_of command) outcome
@@ -39,12 +39,12 @@ abbrev pub HasTurn : Type 0 → List (List ℕ) → (List ℕ → List ℕ) → 
 HasTurn tells words files name =
     (command : CommandValue) × IsCommand words command × ((watchers : List Watch) × HasRowTurn tells files watchers (row_of command) name)
 
--- reads gave each file of the words once, and whole: this is the count of bytes given before and after
+-- reads gave each file of the arguments once, and whole: this is the count of bytes given before and after
 abbrev pub HaveRead : List (List ℕ) → (List ℕ → List ℕ) → ℕ → ℕ → Type 0
 HaveRead words files before after =
     (command : CommandValue) × IsCommand words command × ((watchers : List Watch) × IsRowRead files watchers (row_of command) before after)
 
--- the words are a command
+-- the arguments are a command
 abbrev pub IsRunnable : List (List ℕ) → Type 0
 IsRunnable words = (command : CommandValue) × IsCommand words command
 
@@ -54,11 +54,11 @@ Saves (start query binds plain upto save) = ⊤
 Saves (resume_upto checkpoint binds plain upto save) = ⊤
 Saves command = ⊥
 
--- the words are a command that saves
+-- the arguments are a command that saves
 abbrev pub IsSaving : List (List ℕ) → Type 0
 IsSaving words = (command : CommandValue) × IsCommand words command × Saves command
 
--- whether a command's text is given out by a pipe, which takes memory between puts: that of `run` without cuts, of `pipe`, `watch`
+-- whether a command's text is given out by a pipe, which takes memory between writes: so it is for `run` without cuts, `pipe`, `watch`
 -- and `flow`
 abbrev pub Streams : CommandValue → Type 0
 Streams (run query binds plain cuts) = cuts ≡ []
@@ -67,7 +67,7 @@ Streams (watch query binds plain) = ⊤
 Streams (flow pipeline binds plain) = ⊤
 Streams command = ⊥
 
--- the words are a command that does
+-- the arguments are a command that does
 abbrev pub IsStreaming : List (List ℕ) → Type 0
 IsStreaming words = (command : CommandValue) × IsCommand words command × Streams command
 

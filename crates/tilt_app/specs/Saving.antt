@@ -4,11 +4,11 @@ use Rattle.tilt_app.specs.Change.{ShelfChange}
 use Rattle.tilt_printed.specs.Saving.{SaveValue}
 
 module _ (shelf : ShelfChange) where
-  -- every name but this one holds what it held
+  -- every name except this one holds what it held
   abbrev pub OthersHold : List ℕ → Type 0
   OthersHold name = (other : List ℕ) → other ≢ name → shelf.holds other ≡ shelf.held other
 
-  -- the bytes were saved, where something is saved, and every other name holds what it held
+  -- the bytes were saved, if something is saved, and every other name holds what it held
   abbrev pub IsSaved : Option SaveValue → Type 0
   IsSaved None = shelf.tells → shelf.holds ≡ shelf.held
   IsSaved (Some save) = shelf.tells → (shelf.holds save.name ≡ save.bytes) × OthersHold save.name

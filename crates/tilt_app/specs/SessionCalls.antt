@@ -43,7 +43,7 @@ out_of call = record { tells = ⊤; old = []; new = call.text; before = 0; after
 abbrev pub DidContinue : SessionCall → Type 0
 DidContinue call = IsContinued (shelf_of call) (out_of call) call.command
 
--- the name under which a session saves its checkpoint, and that of the checkpoint file after which it goes on
+-- the name under which a session saves its checkpoint, and the name of the checkpoint file after which it goes on
 abbrev pub saved_name : CommandValue → Option (List ℕ)
 saved_name (start query binds plain upto save) = Some save
 saved_name (resume_upto checkpoint binds plain upto save) = Some save
@@ -103,8 +103,8 @@ pub record AreSessions (first : SessionCall) (calls : List SessionCall) : Type 0
   pub continued : AllByRecursion DidContinue (first ∷ calls)
   pub on : AreHandedOn first calls
 
--- together they are one run: the query of the first call's file, on all rows that the calls read, gives a list, and what they wrote, joined, is
--- its text; which `run` prints wherever files hold that query and those rows
+-- together they are one run: the query of the first call's file, on all rows that the calls read, gives a list. What they wrote, joined,
+-- is the text of that list. `run` prints this text wherever files hold that query and those rows
 pub record IsOneRun (first : SessionCall) (calls : List SessionCall) : Type 0 where
   pub core : CoreParts
   pub rows : List (List Snapshot)

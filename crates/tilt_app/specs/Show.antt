@@ -1,4 +1,4 @@
--- What the watchers are shown, and how they stand then.
+-- What the watchers are shown, and how they are then.
 use Rattle.std.specs.Prelude.{◌≡◌, ◌⊎◌, List, ℕ, Bool, Option, None, Some}
 use Rattle.tilt_commands.specs.Table.{run_row}
 use Rattle.tilt_load.specs.FileCommand.{IsFileOutcome}
@@ -11,15 +11,15 @@ use Rattle.tilt_stream.specs.Text.{text_of}
 use Rattle.tilt_cli.specs.Binding.{Binding}
 use Rattle.tilt_cli.specs.Command.{CommandValue, IsCommand, watch}
 
--- the words are `watch` with this query and these binds
+-- the arguments are `watch` with this query and these binds
 abbrev pub IsWatchOf : List (List ℕ) → List ℕ → List Binding → Type 0
 IsWatchOf words query binds = (plain : Bool) × IsCommand words (watch query binds plain)
 
--- the words are `watch`
+-- the arguments are `watch`
 abbrev pub IsWatch : List (List ℕ) → Type 0
 IsWatch words = (query : List ℕ) × (binds : List Binding) × IsWatchOf words query binds
 
--- these snapshots are those whose text `run` prints, where the shelf tells it
+-- `run` prints the text of these snapshots, if the shelf reports what it holds
 abbrev pub WatchesRun : Type 0 → (List ℕ → List ℕ) → List ℕ → List Binding → List Snapshot → Type 0
 WatchesRun tells files query binds list = tells → IsFileOutcome (run_row query) files query binds (printed (text_of list))
 
@@ -34,8 +34,8 @@ pub record IsUntouched (left : Left) : Type 0 where
   pub kept : left.kept
   pub unwritten : left.tells → left.new ≡ left.old
 
--- a command that shows such snapshots ended with this report: the watchers are as they were, unless it is a write fault, or memory was
--- wanting for what is put
+-- a command that shows such snapshots ended with this report. The watchers are as they were, unless it is a write fault, or there was no
+-- memory for what is written
 abbrev pub SeeOfFault : Left → (Option (List Snapshot) → Type 0) → Report → Type 0
 SeeOfFault left is_show usage = left.kept
 SeeOfFault left is_show (refusal why) = left.kept

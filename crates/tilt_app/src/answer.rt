@@ -1,4 +1,4 @@
-// What a command comes to.
+// What a command prints and saves.
 ghost use Rattle.std.specs.Prelude.{◌≡◌, List, ℕ, Some, IfOk};
 ghost use Rattle.tilt_app.specs.Answered.{IsAnswered};
 ghost use Rattle.tilt_app.specs.Continued.{Continues};
@@ -21,8 +21,8 @@ use tilt_outside::Shelf;
 use tilt_printed::Answered;
 use tilt_report::Fault;
 
-/// What the command prints and saves. All files are read here. Memory is taken later only where snapshots are put as they are made:
-/// by the pipe that makes them, and for the watchers.
+/// What the command prints and saves. All files are read here. Memory is taken later only if snapshots are written as they are made: by
+/// the pipe that makes them, and for the watchers.
 pub(crate) fn answer<'a, S: Shelf>(
     alloc: Global,
     command: &'a Command,

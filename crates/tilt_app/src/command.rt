@@ -30,7 +30,7 @@ use tilt_printed::Save;
 use tilt_report::Fault;
 use tilt_watch::Watcher;
 
-// Does what the command says: all is read before the first put, and what is saved is saved after all puts.
+// Does what the command says: all is read before the first write, and what is saved is saved after all writes.
 fn done<'a, S: Shelf, O: Sink>(
     alloc: Global,
     command: &'a Command,
@@ -110,7 +110,7 @@ fn save<'a, S: Shelf>(shelf: &mut S, save: &Save<'a>) -> Result<(), Fault<'a>>
     }
 }
 
-// Tells of a fault, hands the line on, and gives the status of the fault.
+// Reports a fault, hands the line on, and returns the status of the fault.
 fn tell<E: Sink>(err: &mut E, fault: &Fault<'_>) -> u8
     requires { (n : ℕ) → E.takes err.old n }
     ensures status { result ≡ status_of (report_of fault.now) }
@@ -125,27 +125,26 @@ fn tell<E: Sink>(err: &mut E, fault: &Fault<'_>) -> u8
     fault.status()
 }
 
-/// Does what the words say: it reads a file and then the series of each of its inputs from the shelf, puts a text to `out`,
-/// and hands all of it on. `run QUERY NAME=FILE ..` puts the text of the snapshots of what the query emits on its output
-/// domain, `exec CODE NAME=FILE ..` that of the run of a loop code; `compile QUERY` reads the query alone and puts the
-/// listing of its code, and `explain QUERY` what is told of its plan; `--plain` leaves out fusion. `pipe QUERY NAME=FILE ..` puts
-/// what `run` puts, and then the line of how many snapshots the loops held at most. `watch QUERY NAME=FILE ..`
-/// puts what `run` puts, shows each row to the watchers once its line was put, drops those that have seen enough, and puts a line of the
-/// figures of each. `parts QUERY NAME=FILE .. --at TIME,TIME ..` puts what `run` puts, by parts of the output domain, and then the line of
-/// how many snapshots come from each. `fix QUERY NAME=FILE .. --edits FILE` puts what `run` puts of the corrected rows, and then a line
-/// for each correction. `flow FILE NAME=FILE ..` puts the text of what a pipeline of operators gives. `try SEED COUNT`
-/// reads nothing: it puts the summary of a query on that many rows for each input, which are made from the seed. `start QUERY ..`
-/// puts what `run` would put by a cut, and `resume CHECKPOINT ..` the lines after it; where they end by a cut, the bytes of a
-/// checkpoint are saved after all puts. Where that isn't done, one line that tells why goes to `err`, and nothing else. A
-/// fault of `err` changes nothing.
+/// Does what the arguments say: it reads a file and then the series of each of its inputs from the shelf. It writes a text to `out` and
+/// hands all of it on. `run QUERY NAME=FILE ..` writes the text of the snapshots that the query emits on its output domain, and
+/// `exec CODE NAME=FILE ..` the text of the run of a loop code. `compile QUERY` reads the query alone and writes the listing of its code,
+/// and `explain QUERY` writes what is known of its plan; `--plain` leaves out fusion. `pipe QUERY NAME=FILE ..` writes what `run` writes,
+/// and then the line of how many snapshots the loops held at most. `watch QUERY NAME=FILE ..` writes what `run` writes and shows each row
+/// to the watchers once its line was written. It drops the watchers that have seen enough, and writes a line of the figures of each.
+/// `parts QUERY NAME=FILE .. --at TIME,TIME ..` writes what `run` writes, by parts of the output domain, and then the line of how many
+/// snapshots come from each. `fix QUERY NAME=FILE .. --edits FILE` writes what `run` writes of the corrected rows, and then a line for
+/// each correction. `flow FILE NAME=FILE ..` writes the text of what a pipeline of operators gives. `try SEED COUNT` reads nothing: it
+/// writes the summary of a query on that many rows for each input, which are made from the seed. `start QUERY ..` writes what `run` would
+/// write by a cut, and `resume CHECKPOINT ..` the lines after it. If they end by a cut, the bytes of a checkpoint are saved after all
+/// writes. If a command isn't done, one line that says why goes to `err`, and nothing else. A fault of `err` changes nothing.
 ///
-/// The first refusal is told: that of the words, then of the query, the pipeline, the code or the checkpoint, then of the names that are
-/// given cuts, then of the cuts or the order of parts, then of the names that are bound, then of the series in the order in which the
-/// inputs are declared, and then of the corrections. `run` without cuts, `pipe`, `watch` and `flow` take memory between puts, so that it
-/// may be wanting after a prefix of the text. All other commands take all memory before the first put.
+/// The first error is reported. Errors of the arguments come first, then errors of the query, the pipeline, the code or the checkpoint.
+/// The names that are given cuts follow, then the cuts or the order of parts, then the names that are bound. Then come the series, in the
+/// order in which the inputs are declared, and then the corrections. `run` without cuts, `pipe`, `watch` and `flow` take memory between
+/// writes, so they can run out of memory after a prefix of the text. All other commands take all memory before the first write.
 ///
-/// The answer is the status that the program ends with: 0 done, 1 refused, 2 the words are no command, 3 a read failed, 4 a
-/// put or the flush failed, 5 there was no memory, 6 the save failed.
+/// Returns the status that the program exits with. It is 0 if the command was done, 1 if it was rejected, and 2 if the arguments are no
+/// command. It is 3 if a read failed, 4 if a write or the flush failed, 5 if there was no memory, and 6 if the save failed.
 pub fn tilt<S: Shelf, O: Sink, E: Sink>(
     alloc: Global,
     words: &[String],
@@ -164,7 +163,7 @@ pub fn tilt<S: Shelf, O: Sink, E: Sink>(
         → S.takes shelf.old save.name (length save.bytes) }
     requires lines { (n : ℕ) → E.takes err.old n }
 
-    // Status 0: the text was written whole and handed on, and nothing else was; then the bytes were saved, where some are.
+    // Status 0: the text was written whole and handed on, and nothing else was; then the bytes were saved, if there are any.
     ensures done { result ≡ 0 → IsDone (IsOutcome (texts words.now) (S.files shelf.old) (watches pair step ends watchers.old.items))
         (shelf_change S.tells S.files S.read_faults S.save_faults shelf.old shelf.new)
         (sink_change O.tells O.written O.faults O.takes out.old out.new) }
@@ -187,13 +186,13 @@ pub fn tilt<S: Shelf, O: Sink, E: Sink>(
         × IsLineWritten (sink_change E.tells E.written E.faults E.takes err.old err.new) (line_of report) }
     ensures told { (result ≡ 0 → ⊥) → (E.held_back err.new ≡ 0) ⊎ Rose (E.faults err.old) (E.faults err.new) }
 
-    // Nothing is written but under status 0, 4 and 6, and under 5 by a command that takes memory between puts.
+    // Nothing is written except under status 0, 4 and 6, and under 5 by a command that takes memory between writes.
     ensures unwritten { (result ≡ 0 → ⊥) → (result ≡ 4 → ⊥) → (result ≡ 6 → ⊥)
         → ((result ≡ 5) × IsStreaming (texts words.now) → ⊥) → out.new ≡ out.old }
     ensures usage { result ≡ 2 → ¬ (IsRunnable (texts words.now)) }
     ensures no_command { ¬ (IsRunnable (texts words.now)) → (result ≡ 2) ⊎ (result ≡ 5) }
 
-    // Where no count rose, the outcome is the answer, but for want of memory.
+    // If no count rose, the call gives the outcome, unless it runs out of memory.
     ensures complete { S.tells → (text : List ℕ) (save : Option SaveValue)
         → IsOutcome (texts words.now) (S.files shelf.old) (watches pair step ends watchers.old.items) (outcome_of text save)
         → (Rose (S.read_faults shelf.old) (S.read_faults shelf.new) → ⊥)
@@ -206,7 +205,7 @@ pub fn tilt<S: Shelf, O: Sink, E: Sink>(
         → (Rose (S.save_faults shelf.old) (S.save_faults shelf.new) → ⊥)
         → (Rose (O.faults out.old) (O.faults out.new) → ⊥) → (result ≡ 0) ⊎ ((result ≡ 1) ⊎ ((result ≡ 2) ⊎ (result ≡ 5))) }
 
-    // The watchers are as before, but where rows were printed for them to watch: then they saw those whose lines were written.
+    // The watchers are as before, unless rows were printed for them to watch: then they saw those whose lines were written.
     ensures unwatched { ¬ (IsWatch (texts words.now)) → watchers.new ≡ watchers.old }
     ensures unseen { (result ≡ 0 → ⊥) → (result ≡ 4 → ⊥) → (result ≡ 5 → ⊥) → watchers.new ≡ watchers.old }
     ensures seen { result ≡ 0 → (query : List ℕ) (binds : List Binding) → IsWatchOf (texts words.now) query binds
@@ -220,7 +219,7 @@ pub fn tilt<S: Shelf, O: Sink, E: Sink>(
         ⊎ ((list : List Snapshot) × WatchesRun S.tells (S.files shelf.old) query binds list
         × HaveSeenInPart OutOfMemory (left_of O.tells O.written out.old out.new pair step ends watchers.old watchers.new) list) }
 
-    // The files are as before, but where bytes were saved. What can be taken still can, and no count falls.
+    // The files are as before, unless bytes were saved. What can be taken still can, and no count falls.
     ensures rest { (result ≡ 0 → ⊥) → (result ≡ 6 → ⊥) → OnlyReads S.files S.read_faults S.save_faults S.takes shelf.old shelf.new }
     ensures unsaved { ¬ (IsSaving (texts words.now)) → OnlyReads S.files S.read_faults S.save_faults S.takes shelf.old shelf.new }
     ensures takes { (name : List ℕ) (n : ℕ) → S.takes shelf.old name n ↔ S.takes shelf.new name n }
