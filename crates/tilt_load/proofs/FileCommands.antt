@@ -16,8 +16,7 @@ use Rattle.tilt_report.specs.declared.fault.Fault.{Fault}
 use Rattle.tilt_stream.specs.Snap.{Snapshot}
 use Rattle.tilt_cli.specs.Binding.{Binding}
 
--- What makes a command have one outcome: each file says one thing or is refused for one reason, one of the two always, and on rows that
--- are read the command comes to one thing, which isn't usage.
+-- What makes a command have one outcome. Each file says one thing or is rejected for one reason, and always one of the two. On rows that are read the command has one outcome, which isn't usage.
 pub record IsLawful (command : FileCommand) : Type 0 where
   pub one : (bytes : List ℕ) (a b : command.Says) → command.takes bytes a → command.takes bytes b → a ≡ b
   pub once : (bytes : List ℕ) (r s : Reason) → command.refuses bytes r → command.refuses bytes s → r ≡ s

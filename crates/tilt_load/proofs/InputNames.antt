@@ -1,4 +1,4 @@
--- The names that the words bind, one after another.
+-- The names that the arguments bind, one after another.
 use Rattle.std.proofs.Common.{◌≡◌, ◌<◌, inl, inr, ℕ, zero, suc, get_or, length, slice_index_or, true, List, [], ◌∷◌, ◌++◌, take, drop, map, refl, sym, ap, subst, ◌∙◌, arith, Option, Some}
 use Rattle.std.proofs.Common.{None, Contains}
 use Rattle.std.specs.Str.{bytes_eq}
@@ -25,7 +25,7 @@ pub names-cut : (binds : List CutBind) → map (λ (b : CutBind). b.name) binds 
 names-cut [] = refl
 names-cut (b ∷ binds) = ap (λ (ns : List (List ℕ)). b.name ∷ ns) (names-cut binds)
 
--- where no name is faulty, a file is bound to each declared name
+-- if no name is faulty, a file is bound to each declared name
 file_among : (binds : List Binding) (name : List ℕ) → is_among name (bound_names binds) ≡ true → Contains binds (record { name = name; file = file_of binds name })
 file_among [] name h = absurd (false≢true h)
 file_among (bind ∷ binds) name h =

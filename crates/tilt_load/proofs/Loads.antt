@@ -29,7 +29,7 @@ use Rattle.tilt_report.specs.Report.{out_of_memory, report_of_place, report_of_s
 use Rattle.tilt_series.specs.Series.{Bounds}
 use Rattle.tilt_cli.specs.Binding.{Binding}
 
--- a fault, where other refusals and other turns follow
+-- a fault, if other refusals and other turns follow
 pub load_fault_weaker : (tells tells' : Type 0) (is is' : Reason → Type 0) (turn turn' : List ℕ → Type 0) (before after before' after' : ℕ) → (tells' → tells)
     → ((why : Reason) → tells' → is why → is' why) → ((name : List ℕ) → Rose before after → turn name → Rose before' after' × turn' name) → (report : Report)
     → IsLoadFault tells is turn before after report → IsLoadFault tells' is' turn' before' after' report
@@ -46,7 +46,7 @@ load_fault_weaker tells tells' is is' turn turn' b a b' a' told more next out_of
 pub too_long_refuses : (name file : List ℕ) (why : Reason) → IsTooLong name file why → RefusesQuery name file why
 too_long_refuses name file why is = rw is.0 (no_core (long is.1))
 
--- a report that is a refusal or wants memory, where each refusal refuses the query
+-- a report that is a refusal or out of memory, if each refusal refuses the query
 loads_by : (name bytes : List ℕ) (report : Report) → (report ≡ out_of_memory) ⊎ ((why : Reason) × (report ≡ refusal why))
     → ((why : Reason) → report ≡ refusal why → RefusesQuery name bytes why) → IsLoadFault ⊤ (RefusesQuery name bytes) (λ _. ⊥) 0 0 report
 loads_by name bytes report (inl memory) refuses = rw memory tt
@@ -72,7 +72,7 @@ check_report (check.BadWindow n) = inr (_, refl)
 check_report (check.BadDomain n) = inr (_, refl)
 check_report check.OutOfMemory = inl refl
 
--- a faulty place refuses the query, unless it is want of memory
+-- a faulty place refuses the query, unless it is out of memory
 pub place_refuses : (name bytes : List ℕ) (fault : LexFault) → length bytes ≤ FILE → (fault ≢ lexical.OutOfMemory → IsFaultyAt 0 bytes fault)
     → IsLoadFault ⊤ (RefusesQuery name bytes) (λ _. ⊥) 0 0 (report_of_place fault)
 place_refuses name bytes fault short faulty =

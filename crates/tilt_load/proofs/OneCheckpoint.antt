@@ -1,4 +1,4 @@
--- A checkpoint file comes to one checkpoint, or to one reason why it is none.
+-- A checkpoint file gives one checkpoint, or one reason why it is none.
 use Rattle.std.proofs.Common.{◌≡◌, ◌<◌, ◌≤◌, ◌^◌, ◌⊎◌, List, ℕ, length, inl, inr, refl, arith}
 use Rattle.std.proofs.lemmas.Bool.{cases_lt}
 use Rattle.tilt_base.specs.declared.limits.TheConstants.{FILE}
@@ -16,14 +16,14 @@ module _ (name bytes : List ℕ) where
       let small : length bytes < 2 ^ 63 = omega (arith, taken.short) in
       spelled_once c d bytes taken.valid taken'.valid small taken.spelled taken'.spelled
 
-  -- it is refused for one reason
+  -- it is rejected for one reason
   pub checkpoint_refused_once : (r s : Reason) → RefusesCheckpoint name bytes r → RefusesCheckpoint name bytes s → r ≡ s
   checkpoint_refused_once r s (long over) (long over') = refl
   checkpoint_refused_once r s (long over) (of_none short none) = absurd (omega (arith, over, short))
   checkpoint_refused_once r s (of_none short none) (long over) = absurd (omega (arith, over, short))
   checkpoint_refused_once r s (of_none short none) (of_none short' none') = refl
 
-  -- it is taken, or refused
+  -- it is taken, or rejected
   pub checkpoint_refused_or_taken : (r : Reason) (c : CheckpointParts) → RefusesCheckpoint name bytes r → TakesCheckpoint bytes c → ⊥
   checkpoint_refused_or_taken r c (long over) taken = absurd (omega (arith, over, taken.short))
   checkpoint_refused_or_taken r c (of_none short none) taken = none c taken.valid taken.spelled

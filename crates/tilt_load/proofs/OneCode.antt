@@ -1,4 +1,4 @@
--- A code file comes to one code, or to one reason why it is none.
+-- A code file gives one code, or one reason why it is none.
 use Rattle.std.proofs.Common.{◌≡◌, ◌∙◌, ◌<◌, ◌≤◌, ◌⊎◌, List, ℕ, length, inl, inr, Result, Ok, Err, Option, None, Some, refl, sym, ap, arith}
 use Rattle.std.specs.Prelude.{⊤}
 use Rattle.tilt_base.specs.declared.limits.TheConstants.{FILE}
@@ -53,7 +53,7 @@ same_place bytes in_loop in_loop' n n' bad bad' =
     let same = some_place (ap (λ (p : Progress). p.bad) (same_ok (sym r.1 ∙ r'.1))) in
     (ap (λ p. p.in_loop) same, ap (λ p. p.line) same)
 
--- it is refused for one reason
+-- it is rejected for one reason
 pub code_refused_once : (name bytes : List ℕ) (r s : Reason) → RefusesCode name bytes r → RefusesCode name bytes s → r ≡ s
 code_refused_once name bytes r s (long over) (long over') = refl
 code_refused_once name bytes r s (long over) (line n short bad) = absurd (omega arith)
@@ -70,7 +70,7 @@ code_refused_once name bytes r s (reference i n short bad) (reference j m short'
     let same = same_place bytes i j n m bad bad' in
     rw (same.0, same.1) refl
 
--- it is taken, or refused
+-- it is taken, or rejected
 pub code_refused_or_taken : (name bytes : List ℕ) (r : Reason) (c : CodeParts) → RefusesCode name bytes r → TakesCode bytes c → ⊥
 code_refused_or_taken name bytes r c (long over) taken = let short = taken.short in absurd (omega arith)
 code_refused_or_taken name bytes r c (line n short bad) taken =
@@ -82,7 +82,7 @@ code_refused_or_taken name bytes r c (reference i n short bad) taken =
 pub code_too_long : (name file : List ℕ) (why : Reason) → IsTooLong name file why → RefusesCode name file why
 code_too_long name file why is = rw is.0 (long is.1)
 
--- a listing that is refused is no code, unless it is want of memory
+-- a listing that is rejected is no code, unless the fault is that it is out of memory
 pub code_refuses : (name bytes : List ℕ) (f : CodeFault) → length bytes ≤ FILE → ((n : ℕ) → f ≡ fault.BadCode n → IsBadLine bytes n)
     → ((in_loop n : ℕ) → f ≡ fault.BadReference in_loop n → IsBadReference bytes in_loop n) → IsLoadFault ⊤ (RefusesCode name bytes) (λ _. ⊥) 0 0 (report_of_code f)
 code_refuses name bytes (fault.BadCode n) short bad_line bad_reference = λ _. line n short (bad_line n refl)

@@ -1,4 +1,4 @@
--- An edits file comes to one list of edits, or to one reason why it has none.
+-- An edits file gives one list of edits, or one reason why it has none.
 use Rattle.std.proofs.Common.{◌≡◌, ◌≢◌, ◌<◌, ◌≤◌, ◌⊎◌, List, ℕ, length, inl, inr, refl, ap, subst, sym, arith}
 use Rattle.std.specs.Prelude.{⊤}
 use Rattle.std.proofs.lemmas.Bool.{cases_lt}
@@ -17,14 +17,14 @@ module _ (inputs : List (List ℕ)) where
   pub edits_once : (bytes : List ℕ) (edits other : List Edit) → TakesEdits inputs bytes edits → TakesEdits inputs bytes other → edits ≡ other
   edits_once bytes edits other takes also = outcome-one inputs bytes edits other takes.said also.said
 
-  -- it is refused for one reason
+  -- it is rejected for one reason
   pub edits_refused_once : (name bytes : List ℕ) (r s : Reason) → RefusesEdits inputs name bytes r → RefusesEdits inputs name bytes s → r ≡ s
   edits_refused_once name bytes r s (long over) (long over') = refl
   edits_refused_once name bytes r s (long over) (line n short bad) = absurd (omega (arith, over, short))
   edits_refused_once name bytes r s (line n short bad) (long over) = absurd (omega (arith, over, short))
   edits_refused_once name bytes r s (line n short bad) (line m short' bad') = ap bad_edit (outcome-first inputs bytes n m bad bad')
 
-  -- it is taken, or refused
+  -- it is taken, or rejected
   pub edits_refused_or_taken : (name bytes : List ℕ) (r : Reason) (edits : List Edit) → RefusesEdits inputs name bytes r
       → TakesEdits inputs bytes edits → ⊥
   edits_refused_or_taken name bytes r edits (long over) takes = let short = takes.short in absurd (omega (arith, over, short))
@@ -50,7 +50,7 @@ module _ (inputs : List (List ℕ)) where
   pub edits_too_long : (name file : List ℕ) (why : Reason) → IsTooLong name file why → RefusesEdits inputs name file why
   edits_too_long name file why is = rw is.0 (long is.1)
 
-  -- a text that is refused has no edits, unless it is want of memory
+  -- a text that is rejected has no edits, unless the fault is that it is out of memory
   pub edits_refuse : (name bytes : List ℕ) (f : EditFault) → length bytes ≤ FILE
       → (f ≢ fault.OutOfMemory → (n : ℕ) × (f ≡ fault.BadEdit n) × IsBadLine inputs bytes n)
       → IsLoadFault ⊤ (RefusesEdits inputs name bytes) (λ _. ⊥) 0 0 (report_of_edits f)

@@ -1,4 +1,4 @@
--- A pipeline file comes to one pipeline, or to one reason why it is none.
+-- A pipeline file gives one pipeline, or one reason why it is none.
 use Rattle.std.proofs.Common.{◌≡◌, ◌≢◌, ◌∙◌, ◌<◌, ◌≤◌, ◌⊎◌, List, ℕ, length, inl, inr, Result, Ok, Err, refl, sym, ap, arith}
 use Rattle.std.specs.Prelude.{⊤}
 use Rattle.std.proofs.lemmas.Bool.{cases_lt}
@@ -53,7 +53,7 @@ check_known flow query c same is = sym (checked-core query c is) ∙ ap core_of 
 good_or_bad : {c : CoreParts} {f : CheckFault} → (let x : Result CoreParts CheckFault = Ok c in x ≡ Err f) → ⊥
 good_or_bad e = cc
 
--- they only refuse it for want of memory
+-- they reject it only if they are out of memory
 pub check_memory : (name bytes : List ℕ) (flow : FlowTree) (query : List StatementTree) (f : CheckFault) → IsFlow flow → query ≡ query_of flow
     → (f ≡ check.OutOfMemory) ⊎ (checked query ≡ Err f) → IsLoadFault ⊤ (RefusesFlow name bytes) (λ _. ⊥) 0 0 (report_of_check f)
 check_memory name bytes flow query f is same (inl memory) = rw memory tt
@@ -70,7 +70,7 @@ module _ (bytes : List ℕ) where
   pub flow_once : (f g : FlowTree) → TakesFlow bytes f → TakesFlow bytes g → f ≡ g
   flow_once f g taken taken' = one_text bytes f g taken.has_flow.read taken'.has_flow.read
 
-  -- and a text has one fault that is told
+  -- and a text has one fault that is reported
   one_fault : (f g : FlowFault) (r : Reason) → report_of_flow f ≡ refusal r → IsRefusedText bytes f → IsRefusedText bytes g → f ≡ g
   one_fault f g r told is is' =
       elim (only_fault bytes f (λ _. is) g is') [
@@ -82,7 +82,7 @@ module _ (name bytes : List ℕ) where
   same_fault : (f g : FlowFault) (r s : Reason) → report_of_flow f ≡ refusal r → report_of_flow g ≡ refusal s → f ≡ g → r ≡ s
   same_fault f g r s told told' same = same_reason (report_of_flow f) r s told (ap report_of_flow same ∙ told')
 
-  -- it is refused for one reason
+  -- it is rejected for one reason
   pub flow_refused_once : (r s : Reason) → RefusesFlow name bytes r → RefusesFlow name bytes s → r ≡ s
   flow_refused_once r s (long over) (long over') = refl
   flow_refused_once r s (long over) (no_flow f short is told) = absurd (omega (arith, over, short))
@@ -97,7 +97,7 @@ module _ (name bytes : List ℕ) where
       let same = same_far (sym is ∙ ap (λ (f : FlowTree). margins_of (core f)) (one_text bytes flow flow' has.read has'.read) ∙ is') in
       rw same refl
 
-  -- it is taken, or refused
+  -- it is taken, or rejected
   pub flow_refused_or_taken : (r : Reason) (flow : FlowTree) → RefusesFlow name bytes r → TakesFlow bytes flow → ⊥
   flow_refused_or_taken r flow (long over) taken = absurd (omega (arith, over, taken.has_flow.short))
   flow_refused_or_taken r flow (no_flow f short is told) taken = text-or-refused bytes flow f taken.has_flow.read is
@@ -148,7 +148,7 @@ module _ (name bytes : List ℕ) where
   pub flow_too_long : (why : Reason) → IsTooLong name bytes why → RefusesFlow name bytes why
   flow_too_long why is = rw is.0 (long is.1)
 
-  -- a text that is no pipeline is refused, unless it is want of memory
+  -- a text that is no pipeline is rejected, unless the fault is that it is out of memory
   pub flow_refuses : (f : FlowFault) → length bytes ≤ FILE → (f ≢ fault.OutOfMemory → IsRefusedText bytes f)
       → IsLoadFault ⊤ (RefusesFlow name bytes) (λ _. ⊥) 0 0 (report_of_flow f)
   flow_refuses (fault.BadByte at) short known = λ _. no_flow (fault.BadByte at) short (known (λ e. cc)) refl
@@ -157,7 +157,7 @@ module _ (name bytes : List ℕ) where
   flow_refuses (fault.StepType n) short known = λ _. no_flow (fault.StepType n) short (known (λ e. cc)) refl
   flow_refuses fault.OutOfMemory short known = tt
 
-  -- a pipeline whose query looks too far is refused, unless it is want of memory
+  -- a pipeline whose query looks too far is rejected, unless the fault is that it is out of memory
   pub far_refuses : (flow : FlowTree) (c : CoreParts) (f : ReachFault) → HasFlow bytes flow → c ≡ core flow → IsTold (margins_of c) f
       → IsLoadFault ⊤ (RefusesFlow name bytes) (λ _. ⊥) 0 0 (report_of_reach f)
   far_refuses flow c (reach.TooFar back ahead) has same is =

@@ -1,4 +1,4 @@
--- A query file comes to one core, or to one reason why it has none.
+-- A query file gives one core, or one reason why it has none.
 use Rattle.std.proofs.Common.{◌≡◌, ◌∙◌, ◌<◌, ◌≤◌, ◌⊎◌, List, [], ℕ, length, Option, None, Some, Result, Ok, Err, inl, inr, refl, sym, ap, arith}
 use Rattle.std.proofs.lemmas.Bool.{cases_lt}
 use Rattle.tilt_base.specs.declared.limits.TheConstants.{FILE}
@@ -85,7 +85,7 @@ core_or_none name bytes r core (ill_formed ts q f short lexed parsed bad is) tak
     let both : Ok core ≡ Err f = sym taken.accepted ∙ ap checked (sym query) ∙ bad in
     cc
 
--- a query is refused for one reason
+-- a query is rejected for one reason
 pub refused_once : (name bytes : List ℕ) (r s : Reason) → RefusesQuery name bytes r → RefusesQuery name bytes s → r ≡ s
 refused_once name bytes r s (no_core none) (no_core none') = no_core_once name bytes r s none none'
 refused_once name bytes r s (no_core none) (far core widest has is) = absurd (core_or_none name bytes r core none has)
@@ -98,7 +98,7 @@ refused_once name bytes r s (far core widest has is) (far core' widest' has' is'
 pub taken_once : (bytes : List ℕ) (c d : CoreParts) → TakesQuery bytes c → TakesQuery bytes d → c ≡ d
 taken_once bytes c d taken taken' = core_once bytes c d taken.has_core taken'.has_core
 
--- a query that is refused isn't taken
+-- a query that is rejected isn't taken
 pub refused_or_taken : (name bytes : List ℕ) (r : Reason) (core : CoreParts) → RefusesQuery name bytes r → TakesQuery bytes core → ⊥
 refused_or_taken name bytes r core (no_core none) taken = core_or_none name bytes r core none taken.has_core
 refused_or_taken name bytes r core (far core' widest has is) taken =
@@ -127,7 +127,7 @@ pub record IsQueryFile (bytes : List ℕ) : Type 0 where
 sounds : {bytes : List ℕ} (tokens : List Token) → AreTokens 0 bytes tokens → AreSound (kinds tokens)
 sounds tokens lexed = sound-kinds tokens (sound lexed)
 
--- each text is such a query, or it is refused
+-- each text is such a query, or it is rejected
 module _ (name bytes : List ℕ) where
   abbrev IsEither : Type 0
   IsEither = IsQueryFile bytes ⊎ ((r : Reason) × RefusesQuery name bytes r)

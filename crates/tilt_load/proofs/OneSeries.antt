@@ -1,4 +1,4 @@
--- The inputs of a file come to their rows within bounds, or to one reason why they have none.
+-- The inputs of a file give their rows within bounds, or one reason why they have none.
 use Rattle.std.proofs.Common.{◌≡◌, ◌∙◌, ◌⊎◌, List, ℕ, Option, None, Some, Result, Ok, Err, inl, inr, refl, sym}
 use Rattle.tilt_load.specs.Inputs.{faulty_name}
 use Rattle.tilt_load.specs.SeriesFiles.{TakesSession, RefusesSession, by_names, by_series, inputs_read}
@@ -18,7 +18,7 @@ module _ (files : List ℕ → List ℕ) (binds : List Binding) {bounds : ℕ �
   pub inputs_once : (xs ys : List (List Snapshot)) → TakesSession files binds bounds inputs xs → TakesSession files binds bounds inputs ys → xs ≡ ys
   inputs_once xs ys taken taken' = same_rows (sym taken.read ∙ taken'.read)
 
-  -- they are refused for one reason
+  -- they are rejected for one reason
   pub inputs_refused_once : (r s : Reason) → RefusesSession files binds bounds inputs r → RefusesSession files binds bounds inputs s → r ≡ s
   inputs_refused_once r s (by_names n is) (by_names m is') =
       let same : n ≡ m = cc in
@@ -27,12 +27,12 @@ module _ (files : List ℕ → List ℕ) (binds : List Binding) {bounds : ℕ �
   inputs_refused_once r s (by_series why names is) (by_names m is') = cc
   inputs_refused_once r s (by_series why names is) (by_series why' names' is') = same_reason (sym is ∙ is')
 
-  -- they are taken, or refused
+  -- they are taken, or rejected
   pub inputs_refused_or_taken : (r : Reason) (xs : List (List Snapshot)) → RefusesSession files binds bounds inputs r → TakesSession files binds bounds inputs xs → ⊥
   inputs_refused_or_taken r xs (by_names n is) taken = let names = taken.names in cc
   inputs_refused_or_taken r xs (by_series why names is) taken = let read = taken.read in cc
 
--- one of the two they always are
+-- they are always one of the two
 module _ (files : List ℕ → List ℕ) (binds : List Binding) (bounds : ℕ → Bounds) (inputs : List (List ℕ)) where
   abbrev AreEither : Type 0
   AreEither = ((rows : List (List Snapshot)) × TakesSession files binds bounds inputs rows) ⊎ ((r : Reason) × RefusesSession files binds bounds inputs r)

@@ -1,4 +1,4 @@
--- Each fault of a query's text has a reason that is told.
+-- Each fault of a query's text has a reason that is reported.
 use Rattle.std.proofs.Common.{◌≡◌, ◌+◌, ℕ, List, Result, Err, refl}
 use Rattle.tilt_bounds.specs.Margins.{MarginsParts}
 use Rattle.tilt_core.specs.Needs.{Need}
@@ -33,7 +33,7 @@ place_told at bytes f (big_number big) = (_, refl)
 place_told at bytes f (after_blank {b = b} {bytes = rest} is h) = place_told (at + 1) rest f h
 place_told at bytes f (after_token {text = text} {rest = rest} begins within h) = place_told _ rest f h
 
--- what tokens are refused for
+-- what tokens are rejected for
 fault_told : (n : ℕ) (ts : List Tok) (behind : List (List Tok)) (f : SyntaxFault) → HasFault n ts behind f → IsRefusal (report_of_syntax f)
 fault_told n ts behind f (too_long long) = (_, refl)
 fault_told n ts behind f (no_statement short fails) = (_, refl)

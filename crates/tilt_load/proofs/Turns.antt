@@ -16,7 +16,7 @@ use Rattle.tilt_load.proofs.InputNames.{bound_file}
 use Rattle.tilt_load.proofs.InputRows.{read_more, read_stops}
 use Rattle.tilt_load.proofs.Loads.{load_fault_weaker}
 
--- a list, parted at an item
+-- a list, split at an item
 parted : (xs : List (List ℕ)) (x : List ℕ) (i : ℕ) → i < length xs → x ≡ get_or xs i x → xs ≡ take i xs ++ x ∷ drop (i + 1) xs
 parted xs x i low is =
     sym (take-append-drop i xs) ∙ ap (λ (d : List (List ℕ)). take i xs ++ d) (drop_more xs i x low ∙ ap (λ (y : List ℕ). y ∷ drop (i + 1) xs) (sym is))
@@ -26,7 +26,7 @@ abbrev pub AreRead : (List ℕ → List ℕ) → List Binding → (ℕ → Bound
 AreRead files binds bounds inputs i = (rows : List (List Snapshot)) × (inputs_read files binds bounds (take i inputs) ≡ Ok rows)
 
 module _ (files : List ℕ → List ℕ) (binds : List Binding) (bounds : ℕ → Bounds) (inputs : List (List ℕ)) (name : List ℕ) (i : ℕ) (low : i < length inputs) (is : name ≡ get_or inputs i name) where
-  -- so many inputs stand before it
+  -- this many inputs are before it
   before_it : length (take i inputs) ≡ i
   before_it = length-take-le i inputs (omega (arith, low))
 
@@ -70,7 +70,7 @@ module _ (files : List ℕ → List ℕ) (binds : List Binding) (bounds : ℕ �
       ∙ added-twice before (bytes_of_inputs files binds (take i inputs)) (length (files (file_of binds name)))
       ∙ ap (added_count before) (sym all)
 
-  -- it is refused, and so are all
+  -- it is rejected, and so are all
   pub refused_at : (here : Bounds) → here ≡ bounds i → (rows : List (List Snapshot)) (why : Reason) → inputs_read files binds bounds (take i inputs) ≡ Ok rows
       → input_read files here (file_of binds name) name ≡ Err why → inputs_read files binds bounds inputs ≡ Err why
   refused_at here own rows why read refused =
@@ -78,7 +78,7 @@ module _ (files : List ℕ → List ℕ) (binds : List Binding) (bounds : ℕ �
       ∙ read_stops files binds bounds (take i inputs) (drop (i + 1) inputs) rows name why read
       (subst (λ (b : Bounds). input_read files b (file_of binds name) name ≡ Err why) (place_of_it here own) refused)
 
-  -- why the inputs aren't taken, where the one at the place isn't
+  -- why the inputs aren't taken, if the one at the place isn't
   pub fault_at : (here : Bounds) → here ≡ bounds i → (tells : Type 0) (now : List ℕ → List ℕ) (file : List ℕ) (before mid after : ℕ) → faulty_name inputs binds
       ≡ None → file ≡ file_of binds name → (tells → AreRead files binds bounds inputs i) → now ≡ files → before ≤ mid → (report : Report)
       → IsLoadFault tells (λ r. input_read now here file name ≡ Err r) (λ which. which ≡ file) mid after report

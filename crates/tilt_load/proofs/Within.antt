@@ -15,7 +15,7 @@ use Rattle.tilt_series.specs.declared.fault.SeriesFault.TheVariants.{BadHeader, 
 use Rattle.tilt_stream.specs.Snap.{Snapshot}
 use Rattle.tilt_load.specs.SeriesFiles.{AreWithin, IsWithin}
 
--- both steps came to something
+-- both steps gave something
 pub bind_ok : {A B : Type 0} (read : Result A SeriesFault) (next : A → Result B SeriesFault) (b : B) → read >>= next ≡ Ok b
     → (a : A) × (read ≡ Ok a) × (next a ≡ Ok b)
 bind_ok (Ok a) next b e = (a, refl, e)
@@ -64,7 +64,7 @@ row_within bounds row fields s e =
     let good = no_fault (time_fault bounds row start end) (record { start = start; end = end; value = read.0.2 }) s read.2 in
     rw (← good.1) (time_within bounds row (record { start = start; end = end; value = read.0.2 }) good.0)
 
--- rows after the first one start at the last end or later, too
+-- rows after the first one also start at the last end or later
 later : (bounds : Bounds) (first : Snapshot) → IsWithin bounds first → first.start <ℤ first.end → (rows : List Snapshot)
     → AllByRecursion (IsWithin (record bounds { last_end = Some first.end })) rows → AllByRecursion (IsWithin bounds) rows
 later bounds first within some [] h = tt
@@ -91,7 +91,7 @@ rows_within bounds row (fields ∷ more) rows e =
     let next = rows_within behind (row + 1) more others.0 others.1 in
     rw (← same_list (first.0 ∷ others.0) rows others.2) (one.0, later bounds first.0 one.0 one.1 others.0 next)
 
--- a result that isn't refused by a test at the beginning
+-- a result that isn't rejected by a test at the beginning
 pub unless_bad : (test : Bool) (read : Result (List Snapshot) SeriesFault) (rows : List Snapshot) → (if test then Err BadHeader else read) ≡ Ok rows → read ≡ Ok rows
 unless_bad true read rows e = cc e
 unless_bad false read rows e = e

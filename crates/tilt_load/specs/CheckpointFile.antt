@@ -1,4 +1,4 @@
--- What a checkpoint file comes to: a checkpoint, or the first reason why it is none.
+-- What a checkpoint file gives: a checkpoint, or the first reason why it is none.
 use Rattle.std.specs.Prelude.{◌<◌, ◌≤◌, List, ℕ, length}
 use Rattle.tilt_base.specs.declared.limits.TheConstants.{FILE}
 use Rattle.tilt_checkpoint.specs.Checkpoint.{CheckpointParts}
@@ -12,7 +12,7 @@ pub record TakesCheckpoint (bytes : List ℕ) (c : CheckpointParts) : Type 0 whe
   pub valid : IsCheckpoint c
   pub spelled : Spells bytes c
 
--- why the checkpoint file of a name is refused: it is too long, or else it spells no valid checkpoint
+-- why the checkpoint file of a name is rejected: it is too long, or else it spells no valid checkpoint
 pub data RefusesCheckpoint (name bytes : List ℕ) : Reason → Type 0 where
   long : FILE < length bytes → RefusesCheckpoint name bytes (file_too_long name)
   of_none : length bytes ≤ FILE → ((c : CheckpointParts) → IsCheckpoint c → ¬ (Spells bytes c))

@@ -1,4 +1,4 @@
--- What a code file comes to: a code, or the first reason why it is none.
+-- What a code file gives: a code, or the first reason why it is none.
 use Rattle.std.specs.Prelude.{◌≡◌, ◌<◌, ◌≤◌, List, ℕ, length}
 use Rattle.tilt_base.specs.declared.limits.TheConstants.{FILE}
 use Rattle.tilt_code.specs.Code.{CodeParts}
@@ -13,7 +13,7 @@ pub record TakesCode (bytes : List ℕ) (code : CodeParts) : Type 0 where
   pub good : IsCode code
   pub listed : bytes ≡ listing code
 
--- why the code file of a name is refused: it is too long, a line can't stand where it stands, or a line names what isn't defined before it
+-- why the code file of a name is rejected: it is too long, a line can't be where it is, or a line names what isn't defined before it
 pub data RefusesCode (name bytes : List ℕ) : Reason → Type 0 where
   long : FILE < length bytes → RefusesCode name bytes (file_too_long name)
   line : (number : ℕ) → length bytes ≤ FILE → IsBadLine bytes number → RefusesCode name bytes (bad_code number)

@@ -10,7 +10,7 @@ use Rattle.tilt_cli.specs.Binding.{Binding}
 
 -- what a shelf was before a call that only reads, and is after it
 pub record Reading : Type 1 where
-  -- whether it tells what it holds, and what each name holds
+  -- whether it reports what it holds, and what each name holds
   pub tells : Type 0
   pub files : List ℕ → List ℕ
   -- how often a read had failed, and has now
@@ -35,7 +35,7 @@ reading tells files read_faults save_faults takes given old new = record {
   rest = OnlyReads files read_faults save_faults takes old new;
 }
 
--- why a command isn't done: a read fault only where its count rose, and a refusal only where it is the outcome
+-- why a command isn't done: a read fault only if its count rose, and a refusal only if it is the outcome
 abbrev pub IsUndone : FileCommand → List ℕ → List Binding → Reading → Report → Type 0
 IsUndone command file binds shelf report =
     IsLoadFault shelf.tells (λ why. IsFileOutcome command shelf.files file binds (refused (refusal why)))
@@ -47,8 +47,8 @@ pub record IsRead (command : FileCommand) (file : List ℕ) (binds : List Bindin
   pub bytes : HasBytes command shelf.files file binds count
   pub given : shelf.given_after ≡ added_count shelf.given_before count
 
--- a command was done, which may be another one and come to another outcome beside each value of `W`: the result is what it comes to, and
--- keeps a property, or it is why there is none
+-- a command was done; for each value of `W` the command can be another one, and the result can give another outcome. The result gives the
+-- outcome and keeps a property, or it is why there is none
 pub record Does {T W : Type 0} (command : W → FileCommand) (comes : W → T → Outcome) (keeps : T → Type 0) (file : List ℕ)
     (binds : List Binding) (shelf : Reading) (result : Result T Fault) : Type 0 where
   pub made : shelf.tells

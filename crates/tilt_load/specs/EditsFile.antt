@@ -1,4 +1,4 @@
--- What an edits file comes to: edits of the rows of inputs, or the first reason why it has none.
+-- What an edits file gives: edits of the rows of inputs, or the first reason why it has none.
 use Rattle.std.specs.Prelude.{◌<◌, ◌≤◌, List, ℕ, length}
 use Rattle.tilt_base.specs.declared.limits.TheConstants.{FILE}
 use Rattle.tilt_edits.specs.Edits.{AreEdits, IsBadLine}
@@ -10,7 +10,7 @@ pub record TakesEdits (inputs : List (List ℕ)) (bytes : List ℕ) (edits : Lis
   pub short : length bytes ≤ FILE
   pub said : AreEdits inputs bytes edits
 
--- why the edits file of a name is refused: it is too long, or a line is no edit
+-- why the edits file of a name is rejected: it is too long, or a line is no edit
 pub data RefusesEdits (inputs : List (List ℕ)) (name bytes : List ℕ) : Reason → Type 0 where
   long : FILE < length bytes → RefusesEdits inputs name bytes (file_too_long name)
   line : (number : ℕ) → length bytes ≤ FILE → IsBadLine inputs bytes number → RefusesEdits inputs name bytes (bad_edit number)

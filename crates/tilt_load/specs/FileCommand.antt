@@ -1,5 +1,5 @@
 -- What a command is that is given a file and binds, and what it does: its file declares inputs, and the series of each input is read in
--- order. The first refusal counts: that of the file, then of the input names, then of the series.
+-- order. The first refusal counts: first of the file, then of the input names, then of the series.
 use Rattle.std.specs.Prelude.{◌≡◌, ℕ, ◌+◌, List, Contains, length}
 use Rattle.tilt_load.specs.Inputs.{bytes_of_inputs}
 use Rattle.tilt_load.specs.SeriesFiles.{IsNextOfSession, RefusesSession, TakesSession}
@@ -14,13 +14,13 @@ pub record FileCommand : Type 1 where
   pub Says : Type 0
   -- a file with these bytes says this
   pub takes : List ℕ → Says → Type 0
-  -- why a file with these bytes is refused
+  -- why a file with these bytes is rejected
   pub refuses : List ℕ → Reason → Type 0
   -- the inputs whose series are read
   pub inputs : Says → List (List ℕ)
   -- where the rows of the input at a place may start
   pub within : Says → ℕ → Bounds
-  -- what the command comes to on the rows of its inputs
+  -- the outcome of the command on the rows of its inputs
   pub gives : Says → List (List Snapshot) → Outcome → Type 0
 
 -- Of the command: what each name holds, the name of its file, and its binds.
@@ -40,13 +40,13 @@ module _ (command : FileCommand) (files : List ℕ → List ℕ) (file : List �
     pub taken : command.takes (files file) says
     pub input : IsNextOfSession files binds (command.within says) (command.inputs says) bind
 
-  -- the file and those of its inputs have so many bytes together
+  -- the file and the files of its inputs have this many bytes together
   pub record HasBytes (count : ℕ) : Type 0 where
     pub says : command.Says
     pub taken : command.takes (files file) says
     pub is : count ≡ length (files file) + bytes_of_inputs files binds (command.inputs says)
 
--- it is a file's turn to be read: the command's own, or that of an input
+-- it is a file's turn to be read: the command's own, or the file of an input
 pub data HasFileTurn (command : FileCommand) (tells : Type 0) (files : List ℕ → List ℕ) (file : List ℕ) (binds : List Binding)
     : List ℕ → Type 0 where
   own_turn : HasFileTurn command tells files file binds file

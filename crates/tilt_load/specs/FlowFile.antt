@@ -1,4 +1,4 @@
--- What a pipeline file comes to: a pipeline, or the first reason why it is none.
+-- What a pipeline file gives: a pipeline, or the first reason why it is none.
 use Rattle.std.specs.Prelude.{◌≡◌, ◌<◌, ◌≤◌, List, ℕ, length, Ok, Err}
 use Rattle.tilt_base.specs.declared.limits.TheConstants.{FILE}
 use Rattle.tilt_bounds.specs.Margins.{MarginsParts, margins_of}
@@ -21,7 +21,7 @@ pub record TakesFlow (bytes : List ℕ) (flow : FlowTree) : Type 0 where
   pub margins : MarginsParts
   pub reach : margins_of (core_of (query_of flow)) ≡ Ok margins
 
--- why the pipeline file of a name is refused: it is too long, it is no pipeline, or the query of its pipeline looks too far
+-- why the pipeline file of a name is rejected: it is too long, it is no pipeline, or the query of its pipeline looks too far
 pub data RefusesFlow (name bytes : List ℕ) : Reason → Type 0 where
   long : FILE < length bytes → RefusesFlow name bytes (file_too_long name)
   no_flow : {why : Reason} (fault : FlowFault) → length bytes ≤ FILE → IsRefusedText bytes fault → report_of_flow fault ≡ refusal why

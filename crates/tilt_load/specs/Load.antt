@@ -35,7 +35,7 @@ pub record HasSessionTurn (tells : Type 0) (files : List ℕ → List ℕ) (bind
 abbrev pub HasInputTurn : Type 0 → (List ℕ → List ℕ) → List Binding → List (List ℕ) → List ℕ → Type 0
 HasInputTurn tells files binds inputs file = HasSessionTurn tells files binds (λ _. no_bounds) inputs file
 
--- a name is faulty, and it is told, or there is no memory
+-- a name is faulty, and it is reported, or there is no memory
 abbrev pub IsNameFault : List (List ℕ) → List Binding → Report → Type 0
 IsNameFault inputs binds usage = ⊥
 IsNameFault inputs binds (refusal why) = (name : List ℕ) × (why ≡ input_names name) × (faulty_name inputs binds ≡ Some name)

@@ -1,4 +1,4 @@
--- What a query file comes to: a core, or the first reason why it has none.
+-- What a query file gives: a core, or the first reason why it has none.
 use Rattle.std.specs.Prelude.{◌≡◌, ◌<◌, ◌≤◌, List, ℕ, length, Ok, Err}
 use Rattle.tilt_base.specs.declared.limits.TheConstants.{FILE}
 use Rattle.tilt_bounds.specs.Margins.{MarginsParts, margins_of}
@@ -49,7 +49,7 @@ pub data HasNoCore (name bytes : List ℕ) : Reason → Type 0 where
       → AreTokens 0 bytes tokens → IsQueryOf (kinds tokens) query → checked query ≡ Err fault
       → report_of_check fault ≡ refusal why → HasNoCore name bytes why
 
--- why the query file of a name is refused: it has no core, or the query looks too far
+-- why the query file of a name is rejected: it has no core, or the query looks too far
 pub data RefusesQuery (name bytes : List ℕ) : Reason → Type 0 where
   no_core : {why : Reason} → HasNoCore name bytes why → RefusesQuery name bytes why
   far : (core : CoreParts) (widest : Need) → HasCore bytes core → margins_of core ≡ Err widest

@@ -1,4 +1,4 @@
--- What the series files of inputs come to: their rows, or the first reason why an input has none.
+-- What the series files of inputs give: their rows, or the first reason why an input has none.
 use Rattle.std.specs.Prelude.{◌≡◌, ◌≤ℤ◌, ◌<ℤ◌, ⊤, List, [], ◌∷◌, ◌++◌, ℕ, zero, suc, ℤ, length, nat_lt, slice_get, if◌then◌else◌}
 use Rattle.std.specs.Prelude.{Option, Some, None, Result, Ok, Err}
 use Rattle.std.specs.List.{AllByRecursion}
@@ -33,12 +33,12 @@ abbrev pub AreWithin : (ℕ → Bounds) → List (List Snapshot) → Type 0
 AreWithin bounds [] = ⊤
 AreWithin bounds (rows ∷ more) = AllByRecursion (IsWithin (bounds 0)) rows × AreWithin (λ place. bounds (suc place)) more
 
--- the rows of an input, or why it is refused
+-- the rows of an input, or why it is rejected
 abbrev pub named : List ℕ → Result (List Snapshot) SeriesFault → Result (List Snapshot) Reason
 named name (Ok rows) = Ok rows
 named name (Err fault) = Err (bad_series name fault)
 
--- the rows of the input of a name in a file, within bounds, or why it is refused
+-- the rows of the input of a name in a file, within bounds, or why it is rejected
 abbrev pub input_read : (List ℕ → List ℕ) → Bounds → List ℕ → List ℕ → Result (List Snapshot) Reason
 input_read files bounds file name =
     if nat_lt FILE (length (files file)) then Err (file_too_long file) else named name (series_of bounds (files file))
@@ -55,20 +55,20 @@ inputs_read files binds bounds [] = Ok []
 inputs_read files binds bounds (name ∷ names) =
     with_rows (input_read files (bounds 0) (file_of binds name) name) (inputs_read files binds (λ place. bounds (suc place)) names)
 
--- the words bind each input once and nothing else, and these are the rows of the inputs within the bounds
+-- the arguments bind each input once and nothing else, and these are the rows of the inputs within the bounds
 pub record TakesSession (files : List ℕ → List ℕ) (binds : List Binding) (bounds : ℕ → Bounds) (inputs : List (List ℕ))
     (rows : List (List Snapshot)) : Type 0 where
   pub names : faulty_name inputs binds ≡ None
   pub read : inputs_read files binds bounds inputs ≡ Ok rows
 
--- why inputs have no rows within the bounds: a name is faulty, or else the first series is that is refused
+-- why inputs have no rows within the bounds: a name is faulty, or else the first series is that is rejected
 pub data RefusesSession (files : List ℕ → List ℕ) (binds : List Binding) (bounds : ℕ → Bounds) (inputs : List (List ℕ))
     : Reason → Type 0 where
   by_names : (name : List ℕ) → faulty_name inputs binds ≡ Some name → RefusesSession files binds bounds inputs (input_names name)
   by_series : (why : Reason) → faulty_name inputs binds ≡ None → inputs_read files binds bounds inputs ≡ Err why
       → RefusesSession files binds bounds inputs why
 
--- the next of these inputs is that of a bind: no name is faulty, and the inputs before it were taken
+-- the next of these inputs is the input of a bind: no name is faulty, and the inputs before it were taken
 pub record IsNextOfSession (files : List ℕ → List ℕ) (binds : List Binding) (bounds : ℕ → Bounds) (inputs : List (List ℕ)) (bind : Binding)
     : Type 0 where
   pub before : List (List ℕ)

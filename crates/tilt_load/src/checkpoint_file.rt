@@ -22,9 +22,9 @@ pub struct LoadedCheckpoint {
     pub accepted: Accepted,
 }
 
-/// The checkpoint in the file of that name, whose query goes on with fusion or without. Its reader has checked the query, which
-/// isn't done again. `Refused` tells the first reason why the file is refused, `ReadFault` comes where a read failed, and `OutOfMemory`
-/// for want of memory alone.
+/// The checkpoint in the file of that name, whose query goes on with fusion or without. Its reader has checked the query, which isn't
+/// done again. `Refused` has the first reason why the file is rejected. `ReadFault` comes if a read failed, and `OutOfMemory` only if
+/// there was no memory.
 pub fn load_checkpoint<'a, S: Shelf>(
     alloc: Global,
     shelf: &mut S,

@@ -12,8 +12,8 @@ use tilt_code::{Code, read_code};
 use tilt_outside::Shelf;
 use tilt_report::Fault;
 
-/// The loop code whose listing is the file of that name. `Refused` tells the first reason why the file is refused, `ReadFault` comes
-/// where a read failed, and `OutOfMemory` for want of memory alone.
+/// The loop code whose listing is the file of that name. `Refused` has the first reason why the file is rejected. `ReadFault` comes if a
+/// read failed, and `OutOfMemory` only if there was no memory.
 pub fn load_code<'a, S: Shelf>(
     alloc: Global,
     shelf: &mut S,

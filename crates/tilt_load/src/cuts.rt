@@ -1,4 +1,4 @@
-// The cut of each input, as the words give it.
+// The cut of each input, as the arguments give it.
 ghost use Rattle.std.specs.Prelude.{◌≡◌, ◌<◌, ⊤, ℕ, None, Some, IfErr, IfOk, MatchOption, MatchResult, length, map};
 ghost use Rattle.tilt_load.specs.InputCuts.{RefusesCuts, cut_named, cuts_by, faulty_cut, names_cut};
 ghost use Rattle.tilt_load.specs.Inputs.{faulty_among, name_told};
@@ -14,8 +14,8 @@ use tilt_cli::{CutBind, Upto};
 use tilt_lexer::Name;
 use tilt_report::{Fault, Refusal};
 
-/// The cuts of a query's inputs, in their order: one for all of them, or that of each by its name. Where the words give cuts to names
-/// that aren't the inputs, each once, a name is told.
+/// The cuts of a query's inputs, in their order: one for all of them, or a cut for each by its name. If the arguments don't give cuts to
+/// exactly the names of the inputs, each once, the error has the faulty name.
 pub fn cuts_by<'a>(alloc: Global, upto: &Upto, inputs: &[Name]) -> Result<Cuts, Fault<'a>>
     requires { IsUptoWithin (upto_of upto.now) }
     ensures named { IfOk result (λ _. faulty_cut inputs.now (upto_of upto.now) ≡ None) }
@@ -32,7 +32,7 @@ pub fn cuts_by<'a>(alloc: Global, upto: &Upto, inputs: &[Name]) -> Result<Cuts, 
     }
 }
 
-// Refuses cuts whose names aren't the inputs, each once.
+// Rejects cuts unless their names are the inputs, each once.
 fn check_names<'a>(inputs: &[Name], binds: &[CutBind]) -> Result<(), Fault<'a>>
     ensures { let upto = UptoValue.each (cut_bindings_of binds.now) in MatchResult result
         (λ _. faulty_cut inputs.now upto ≡ None)
@@ -51,7 +51,7 @@ fn check_names<'a>(inputs: &[Name], binds: &[CutBind]) -> Result<(), Fault<'a>>
     }
 }
 
-// The first name with a cut that isn't an input's or stands twice, or else the place of the first input without a cut.
+// The first name with a cut that isn't an input's name or has a cut twice, or else the place of the first input without a cut.
 fn faulty_cut<'a>(inputs: &[Name], binds: &'a [CutBind]) -> Option<FaultyName<'a>>
     ensures told { let given = names_cut (cut_bindings_of binds.now) in MatchOption result
         (faulty_among inputs.now given ≡ None)
@@ -72,7 +72,7 @@ fn cuts_named(alloc: Global, inputs: &[Name], binds: &[CutBind]) -> Result<Vec<i
     Ok(each)
 }
 
-// The cut of a name; it is 0 where the name has none.
+// The cut of a name; it is 0 if the name has none.
 fn cut_named(binds: &[CutBind], name: &Name) -> i64
     ensures { result ≡ cut_named (cut_bindings_of binds.now) name.now }
 {

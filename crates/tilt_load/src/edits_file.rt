@@ -16,8 +16,8 @@ use tilt_lexer::Name;
 use tilt_outside::Shelf;
 use tilt_report::Fault;
 
-/// The edits that the file of that name says, of the rows of these inputs. `Refused` tells the first reason why the file is refused,
-/// `ReadFault` comes where a read failed, and `OutOfMemory` for want of memory alone.
+/// The edits that the file of that name says, of the rows of these inputs. `Refused` has the first reason why the file is rejected.
+/// `ReadFault` comes if a read failed, and `OutOfMemory` only if there was no memory.
 pub fn load_edits<'a, S: Shelf>(
     alloc: Global,
     shelf: &mut S,

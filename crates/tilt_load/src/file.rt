@@ -1,4 +1,4 @@
-// A file that the words name, from the shelf to its bytes.
+// A file that the arguments name, from the shelf to its bytes.
 ghost use Rattle.std.specs.Prelude.{◌≡◌, ◌≤◌, length, IfOk, IfErr};
 ghost use Rattle.tilt_base.specs.declared.limits.TheConstants.{FILE};
 ghost use Rattle.tilt_load.specs.Load.{IsLoadFault, IsTooLong};

@@ -25,8 +25,8 @@ pub struct LoadedFlow {
     pub accepted: Accepted,
 }
 
-/// The pipeline in the file of that name, whose query is run with fusion or without. `Refused` tells the first reason why the file is
-/// refused, `ReadFault` comes where a read failed, and `OutOfMemory` for want of memory alone.
+/// The pipeline in the file of that name, whose query is run with fusion or without. `Refused` has the first reason why the file is
+/// rejected. `ReadFault` comes if a read failed, and `OutOfMemory` only if there was no memory.
 pub fn load_flow<'a, S: Shelf>(
     alloc: Global,
     shelf: &mut S,
@@ -49,7 +49,7 @@ pub fn load_flow<'a, S: Shelf>(
     Ok(LoadedFlow { flow, accepted })
 }
 
-// What the compiler knows of the query of a pipeline. A refusal is that of a file of any name which holds the pipeline.
+// What the compiler knows of the query of a pipeline. An error is the same as for a file of any name which holds the pipeline.
 fn accept_query<'a>(alloc: Global, flow: &Flow, fuse: bool) -> Result<Accepted, Fault<'a>>
     requires { IsFlow flow.now }
     ensures core { IfOk result (λ accepted. accepted.core ≡ core_of (query_of flow.now)) }

@@ -20,9 +20,9 @@ use tilt_report::{Fault, Refusal};
 use tilt_series::Bounds;
 use tilt_stream::Rows;
 
-/// The rows of each input, in order, from the file that is bound to its name. The names are tested before a file is read,
-/// and each input is done before the next one is read. The first faulty name is refused, or else the first series that has a fault;
-/// `ReadFault` comes where a read failed, and `OutOfMemory` for want of memory alone.
+/// The rows of each input, in order, from the file that is bound to its name. The names are tested before a file is read, and each input
+/// is done before the next one is read. The first faulty name is rejected, or else the first series that has a fault. `ReadFault` comes
+/// if a read failed, and `OutOfMemory` only if there was no memory.
 pub fn load_inputs<'a, S: Shelf>(
     alloc: Global,
     shelf: &mut S,
@@ -44,10 +44,10 @@ pub fn load_inputs<'a, S: Shelf>(
     load_session_inputs(alloc, shelf, inputs, binds, &[])
 }
 
-/// The rows of each input that a session is handed, in order, from the file that is bound to its name, each within the bounds of
-/// its place; an input beyond the list of bounds has none. The names are tested before a file is read, and each input is done before
-/// the next one is read. The first faulty name is refused, or else the first series that has a fault; `ReadFault` comes where a read
-/// failed, and `OutOfMemory` for want of memory alone.
+/// The rows of each input that a session is handed, in order, from the file that is bound to its name. The rows of each input are within
+/// the bounds of its place; an input beyond the list of bounds has none. The names are tested before a file is read, and each input is
+/// done before the next one is read. The first faulty name is rejected, or else the first series that has a fault. `ReadFault` comes if a
+/// read failed, and `OutOfMemory` only if there was no memory.
 pub fn load_session_inputs<'a, S: Shelf>(
     alloc: Global,
     shelf: &mut S,
@@ -73,7 +73,7 @@ pub fn load_session_inputs<'a, S: Shelf>(
     read_inputs(alloc, shelf, inputs, binds, bounds)
 }
 
-// Refuses words that don't bind each input once, and nothing else.
+// Rejects arguments unless they bind each input once, and nothing else.
 fn check_names<'a>(inputs: &[Name], binds: &'a [Bind]) -> Result<(), Fault<'a>>
     ensures { MatchResult result
         (λ _. faulty_name inputs.now (bindings_of binds.now) ≡ None)

@@ -1,11 +1,11 @@
-//! From the files that the words name to what they say: a query with its core, a pipeline of operators with that of its query, a
-//! checkpoint, a loop code, the rows of each input, edits of them.
+//! From the files that the arguments name to what they say: a query with its core, a pipeline of operators with the core of its query, or
+//! a checkpoint. Also a loop code, the rows of each input, and edits of the rows.
 //!
-//! What comes in is a shelf, names of files and binds; what goes out is the query, the pipeline, the checkpoint, the code, the rows or
-//! the edits, or the first fault. The clauses `taken` say what was read, by `specs/QueryFile`, `specs/FlowFile`, `specs/CheckpointFile`,
-//! `specs/CodeFile`, `specs/SeriesFiles` and `specs/EditsFile`, and the clauses `fault` why nothing was, by `specs/Load`: a read fault
-//! only where its count rose, a refusal only where it is the outcome. The clauses `given` say that each file that is taken was read once
-//! and to its end. A query comes as what the compiler accepted, with fusion or without. The clauses of `cuts_by` say which cuts the words
+//! The calls are given a shelf, names of files and binds. They return the query, the pipeline, the checkpoint, the code, the rows or the
+//! edits, or the first fault. The clauses `taken` say what was read, by `specs/QueryFile`, `specs/FlowFile`, `specs/CheckpointFile`,
+//! `specs/CodeFile`, `specs/SeriesFiles` and `specs/EditsFile`. The clauses `fault` say why nothing was, by `specs/Load`: a read fault
+//! only if its count rose, a refusal only if it is the outcome. The clauses `given` say that each file that is taken was read once and to
+//! its end. A query comes as what the compiler accepted, with fusion or without. The clauses of `cuts_by` say which cuts the arguments
 //! give to the inputs of a query, by `specs/InputCuts`.
 #![tactic(auto)]
 

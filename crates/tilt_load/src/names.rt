@@ -1,4 +1,4 @@
-// Names that the words give, against those of the inputs.
+// Names that the arguments give, against the names of the inputs.
 ghost use Rattle.std.specs.Prelude.{◌≡◌, ◌<◌, ℕ, [], List, length, map, slice_index_or, MatchOption, None, Some};
 ghost use Rattle.std.specs.Option.{option_copied};
 ghost use Rattle.tilt_load.specs.Inputs.{faulty_among, first_unbound, first_unexpected, is_among, name_told};
@@ -6,7 +6,7 @@ ghost use Rattle.tilt_load.specs.Inputs.{faulty_among, first_unbound, first_unex
 use tilt_cli::{Bind, CutBind};
 use tilt_lexer::Name;
 
-// What the words give to a name.
+// What the arguments give to a name.
 pub(crate) trait Named {
     // The bytes of the name.
     ghost named: { Self → List ℕ };
@@ -32,17 +32,17 @@ impl Named for CutBind {
     }
 }
 
-/// The name that is told where the words don't give something to each input once, and to nothing else.
+/// The name to report if the arguments don't give something to each input once, and to nothing else.
 #[derive(Clone, Copy)]
 pub(crate) enum FaultyName<'a> {
-    /// This name of the words is no input's, or stands a second time.
+    /// This name in the arguments is no input's, or is given a second time.
     Given(&'a Name),
-    /// The words give nothing to the input at this place, counted from 0.
+    /// The arguments give nothing to the input at this place, counted from 0.
     Input(usize),
 }
 
-/// The first name of the words that isn't an input's or stands twice, or else the place of the first input whose name the words don't
-/// have; `None` where there is neither.
+/// The first name in the arguments that isn't an input's or is given twice, or else the place of the first input whose name the arguments
+/// don't have. Returns `None` if there is neither.
 pub(crate) fn faulty_name<'a, N: Named>(inputs: &[Name], given: &'a [N]) -> Option<FaultyName<'a>>
     ensures told { MatchOption result
         (faulty_among inputs.now (map N.named given.now) ≡ None)
@@ -56,7 +56,7 @@ pub(crate) fn faulty_name<'a, N: Named>(inputs: &[Name], given: &'a [N]) -> Opti
     Some(FaultyName::Input(place))
 }
 
-// The first name of the words that isn't an input's, or stands before.
+// The first name in the arguments that isn't an input's, or was given before.
 fn unexpected_name<'a, N: Named>(inputs: &[Name], given: &'a [N]) -> Option<&'a Name>
     ensures { option_copied result ≡ first_unexpected inputs.now [] (map N.named given.now) }
 {
@@ -69,7 +69,7 @@ fn unexpected_name<'a, N: Named>(inputs: &[Name], given: &'a [N]) -> Option<&'a 
     None
 }
 
-// The place of the first input whose name the words don't have.
+// The place of the first input whose name the arguments don't have.
 fn unnamed_input<N: Named>(inputs: &[Name], given: &[N]) -> Option<usize>
     ensures { MatchOption result
         (first_unbound (map N.named given.now) inputs.now ≡ None)
@@ -91,7 +91,7 @@ fn is_input(inputs: &[Name], name: &[u8]) -> bool
     inputs.iter().any(|input| input.bytes() == name)
 }
 
-// Whether the words have the name.
+// Whether the arguments have the name.
 fn is_named<N: Named>(given: &[N], name: &[u8]) -> bool
     ensures { result ≡ is_among name.now (map N.named given.now) }
 {

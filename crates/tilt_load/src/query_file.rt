@@ -24,8 +24,8 @@ pub struct LoadedQuery {
     pub accepted: Accepted,
 }
 
-/// The query in the file of that name, with fusion or without. `Refused` tells the first reason why the file is refused,
-/// `ReadFault` comes where a read failed, and `OutOfMemory` for want of memory alone.
+/// The query in the file of that name, with fusion or without. `Refused` has the first reason why the file is rejected.
+/// `ReadFault` comes if a read failed, and `OutOfMemory` only if there was no memory.
 pub fn load_query<'a, S: Shelf>(
     alloc: Global,
     shelf: &mut S,
@@ -47,7 +47,7 @@ pub fn load_query<'a, S: Shelf>(
     read_query(alloc, &bytes, fuse)
 }
 
-/// The query that a text is, which is no longer than a file may be. A refusal is that of a file of any name.
+/// The query that a text is, which is no longer than a file may be. An error is the same as for a file of any name.
 pub fn read_query<'a>(alloc: Global, bytes: &[u8], fuse: bool) -> Result<LoadedQuery, Fault<'a>>
     requires { length bytes.now ≤ FILE }
     ensures taken { IfOk result (λ query. TakesQuery bytes.now query.accepted.core) }

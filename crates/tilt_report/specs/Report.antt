@@ -1,4 +1,4 @@
--- What is told where a command isn't done: the status that the program ends with, and one line.
+-- What is reported if a command isn't done: the status that the program exits with, and one line.
 use Rattle.std.specs.Prelude.{ℕ, ℤ, List, ◌++◌, codes}
 use Rattle.std.specs.Fmt.{decimal, signed_decimal}
 use Rattle.tilt_stream.specs.Snap.{Snapshot}
@@ -32,9 +32,9 @@ use Rattle.tilt_report.specs.declared.refusal.StatementFault.TheVariants as stat
 use Rattle.tilt_report.specs.declared.fault.Fault.{Fault}
 use Rattle.tilt_report.specs.declared.fault.Fault.TheVariants.{Usage, Refused, ReadFault, WriteFault, SaveFault, OutOfMemory}
 
--- why words that are a command are refused, with the name of the file or of the input that it is about, the place, the statement, how far
--- the query looks back and ahead, the line of the code and its loop, the old cut and the new one, the cut or the number of a part, the step
--- of a pipeline, the row that another one overlaps, or the line of a correction
+-- why arguments that are a command are rejected, with what each reason is about. This is the name of a file or of an input, the place,
+-- the statement, how far the query looks back and ahead, the line of the code and its loop, or the old cut and the new one. It can also
+-- be the cut or the number of a part, the step of a pipeline, the row that another one overlaps, or the line of a correction
 pub data Reason : Type 0 where
   input_names : List ℕ → Reason
   file_too_long : List ℕ → Reason
@@ -105,7 +105,7 @@ report_of WriteFault = write_fault
 report_of (SaveFault name) = save_fault name.now
 report_of OutOfMemory = out_of_memory
 
--- the report of words that give no command
+-- the report of arguments that give no command
 abbrev pub report_of_words : WordsFault → Report
 report_of_words words.Usage = usage
 report_of_words words.OutOfMemory = out_of_memory
@@ -116,7 +116,7 @@ report_of_place (lexical.BadByte at) = refusal (bad_byte at)
 report_of_place (lexical.BigNumber at) = refusal (big_number at)
 report_of_place lexical.OutOfMemory = out_of_memory
 
--- the report of a query whose tokens are refused
+-- the report of a query whose tokens are rejected
 abbrev pub report_of_syntax : SyntaxFault → Report
 report_of_syntax syntax.TooManyStatements = refusal too_many_statements
 report_of_syntax (syntax.StatementTooLong n) = refusal (bad_statement statement.TooLong n)
@@ -152,7 +152,7 @@ report_of_flow (pipeline.BadStep step) = refusal (bad_step step)
 report_of_flow (pipeline.StepType step) = refusal (step_type step)
 report_of_flow pipeline.OutOfMemory = out_of_memory
 
--- the report of a listing that is refused
+-- the report of a listing that is rejected
 abbrev pub report_of_code : CodeFault → Report
 report_of_code (listing.BadCode line) = refusal (bad_code line)
 report_of_code (listing.BadReference in_loop line) = refusal (bad_reference in_loop line)
@@ -169,7 +169,7 @@ report_of_fix correction.NoSuchRow = refusal no_such_row
 report_of_fix (correction.Overlaps row) = refusal (overlaps row)
 report_of_fix correction.OutOfMemory = out_of_memory
 
--- the status that the program ends with
+-- the status that the program exits with
 abbrev pub status_of : Report → ℕ
 status_of usage = 2
 status_of (refusal why) = 1
@@ -178,7 +178,7 @@ status_of write_fault = 4
 status_of (save_fault name) = 6
 status_of out_of_memory = 5
 
--- the number of a series fault, as it stands before the input's name
+-- the number of a series fault, which is before the input's name
 abbrev pub series_number : SeriesFault → List ℕ
 series_number series.BadHeader = codes "10"
 series_number (series.BadFields row) = codes "11"
@@ -189,7 +189,7 @@ series_number (series.OutOfOrder row) = codes "15"
 series_number (series.RowBeforeCut row) = codes "16"
 series_number (series.RowPastCut row) = codes "17"
 
--- what a series fault tells after the input's name
+-- what a series fault reports after the input's name
 abbrev pub series_words : SeriesFault → List ℕ
 series_words series.BadHeader = codes ": bad header"
 series_words (series.BadFields row) = codes ": bad fields in row " ++ decimal row
@@ -211,7 +211,7 @@ statement_front statement.TypeMismatch = codes "28 statement "
 statement_front statement.BadWindow = codes "29 statement "
 statement_front statement.BadDomain = codes "30 statement "
 
--- what stands after the number of the statement
+-- the text after the number of the statement
 abbrev pub statement_words : StatementFault → List ℕ
 statement_words statement.TooLong = codes ": too long"
 statement_words statement.NoReading = codes ": syntax"
@@ -226,7 +226,7 @@ statement_words statement.BadDomain = codes ": bad domain"
 abbrev pub row_words : Snapshot → List ℕ
 row_words row = signed_decimal row.start ++ codes "," ++ signed_decimal row.end ++ codes "," ++ cell_text row.value
 
--- the number and the words of a refusal
+-- the number and the text of a refusal
 abbrev pub reason_words : Reason → List ℕ
 reason_words (input_names name) = codes "2 input names: " ++ name
 reason_words (file_too_long name) = codes "3 file too long: " ++ name
@@ -249,7 +249,7 @@ reason_words no_such_row = codes "60 no such row"
 reason_words (overlaps row) = codes "61 overlaps " ++ row_words row
 reason_words (bad_edit line) = codes "62 bad edit in line " ++ decimal line
 
--- the number and the words of a fault
+-- the number and the text of a fault
 abbrev pub words_of : Report → List ℕ
 words_of usage = codes "1 usage"
 words_of (refusal why) = reason_words why
@@ -258,6 +258,6 @@ words_of write_fault = codes "5 write fault"
 words_of (save_fault name) = codes "6 save fault: " ++ name
 words_of out_of_memory = codes "7 out of memory"
 
--- the line that is told
+-- the line that is reported
 abbrev pub line_of : Report → List ℕ
 line_of report = codes "tilt: " ++ words_of report ++ codes "\n"

@@ -1,4 +1,4 @@
-// Why a command isn't done, and how it is told.
+// Why a command isn't done, and how it is reported.
 ghost use Rattle.std.specs.Prelude.{◌≡◌, ℕ};
 ghost use Rattle.tilt_outside.specs.Written.{Puts};
 
@@ -18,13 +18,13 @@ use tilt_types::CheckFault;
 /// Why a command isn't done.
 #[derive(Drop)]
 pub enum Fault<'a> {
-    /// The words are no command.
+    /// The arguments are no command.
     Usage,
-    /// The words are a command that is refused.
+    /// The arguments are a command that is rejected.
     Refused(Refusal<'a>),
     /// A read of the file of this name failed.
     ReadFault(&'a str),
-    /// A put or the flush of the output failed.
+    /// A write or the flush of the output failed.
     WriteFault,
     /// The save of the file of this name failed.
     SaveFault(&'a str),
@@ -226,7 +226,7 @@ fn bad_statement<'a>(fault: StatementFault, statement: u32) -> Fault<'a>
 impl Fault<'_> {
     ghost use Rattle.tilt_report.specs.Report.{report_of, status_of, words_of, line_of};
 
-    /// The status that the program ends with.
+    /// The status that the program exits with.
     pub fn status(&self) -> u8
         ensures { result ≡ status_of (report_of self.now) }
     {
@@ -240,7 +240,7 @@ impl Fault<'_> {
         }
     }
 
-    /// Puts the line that tells of it. It takes no memory.
+    /// Writes the line that reports it. It takes no memory.
     pub fn put<E: Sink>(&self, err: &mut E) -> Result<(), Failed>
         requires { (n : ℕ) → E.takes err.old n }
         ensures { Puts E.tells E.written E.faults E.takes err.old err.new
@@ -251,7 +251,7 @@ impl Fault<'_> {
         put_text(err, b"\n")
     }
 
-    // Puts the number and the words.
+    // Writes the number and the text.
     fn put_words<E: Sink>(&self, err: &mut E) -> Result<(), Failed>
         requires { (n : ℕ) → E.takes err.old n }
         ensures { Puts E.tells E.written E.faults E.takes err.old err.new

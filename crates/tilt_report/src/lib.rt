@@ -1,7 +1,7 @@
-//! Why a command isn't done, and how that is told: each fault has a status, with which the program ends, and one line.
+//! Why a command isn't done, and how that is reported: each fault has a status, with which the program exits, and one line.
 //!
-//! What comes in is the faults of the layers below, each of which becomes a `Fault`; what goes out is its status and its
-//! line. The clauses of `Fault::status` and `Fault::put` say that they are those of `specs/Report`, the one table of them.
+//! Each fault of the layers below becomes a `Fault`, which gives its status and its line. The clauses of `Fault::status` and `Fault::put`
+//! say that they are the status and the line of `specs/Report`, the one table of them.
 #![tactic(auto)]
 
 mod fault;

@@ -1,4 +1,4 @@
-// Pieces of the line that tells of a fault. None takes memory.
+// Pieces of the line that reports a fault. None takes memory.
 ghost use Rattle.std.specs.Prelude.{◌++◌, ℕ};
 ghost use Rattle.std.specs.Fmt.{decimal, signed_decimal};
 ghost use Rattle.tilt_outside.specs.Written.{Puts};
@@ -6,7 +6,7 @@ ghost use Rattle.tilt_outside.specs.Written.{Puts};
 use itoa::Buffer;
 use tilt_outside::{Failed, Sink};
 
-/// Puts a text.
+/// Writes a text.
 pub(crate) fn put_text<E: Sink>(err: &mut E, text: &[u8]) -> Result<(), Failed>
     requires { (n : ℕ) → E.takes err.old n }
     ensures { Puts E.tells E.written E.faults E.takes err.old err.new
@@ -15,7 +15,7 @@ pub(crate) fn put_text<E: Sink>(err: &mut E, text: &[u8]) -> Result<(), Failed>
     err.put(text)
 }
 
-/// Puts a text, and another after it.
+/// Writes a text, and another after it.
 pub(crate) fn put_named<E: Sink>(err: &mut E, text: &[u8], name: &[u8]) -> Result<(), Failed>
     requires { (n : ℕ) → E.takes err.old n }
     ensures { Puts E.tells E.written E.faults E.takes err.old err.new
@@ -25,7 +25,7 @@ pub(crate) fn put_named<E: Sink>(err: &mut E, text: &[u8], name: &[u8]) -> Resul
     put_text(err, name)
 }
 
-/// Puts a text, and a number after it.
+/// Writes a text, and a number after it.
 pub(crate) fn put_counted<E: Sink>(err: &mut E, text: &[u8], number: u64) -> Result<(), Failed>
     requires { (n : ℕ) → E.takes err.old n }
     ensures { Puts E.tells E.written E.faults E.takes err.old err.new
@@ -35,7 +35,7 @@ pub(crate) fn put_counted<E: Sink>(err: &mut E, text: &[u8], number: u64) -> Res
     put_named(err, text, buffer.format(number).as_bytes())
 }
 
-/// Puts a text, and a number after it that may have a sign.
+/// Writes a text, and a number after it that may have a sign.
 pub(crate) fn put_signed<E: Sink>(err: &mut E, text: &[u8], number: i128) -> Result<(), Failed>
     requires { (n : ℕ) → E.takes err.old n }
     ensures { Puts E.tells E.written E.faults E.takes err.old err.new

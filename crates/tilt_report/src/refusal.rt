@@ -1,4 +1,4 @@
-// Why words that are a command are refused, and how it is told.
+// Why arguments that are a command are rejected, and how it is reported.
 ghost use Rattle.std.specs.Prelude.{◌≡◌, ◌++◌, ℕ, codes};
 ghost use Rattle.std.specs.Fmt.{decimal, signed_decimal};
 ghost use Rattle.tilt_outside.specs.Written.{Puts};
@@ -10,35 +10,35 @@ use tilt_outside::{Failed, Sink};
 use tilt_series::{SeriesFault, row_text};
 use tilt_stream::Row;
 
-/// Why words that are a command are refused.
+/// Why arguments that are a command are rejected.
 #[derive(Drop)]
 pub enum Refusal<'a> {
-    /// The words bind this name, which isn't the name of an input, or which was bound before.
+    /// The arguments bind this name, which isn't the name of an input, or which was bound before.
     UnexpectedName(&'a Name),
-    /// The words bind no file to the input of this name.
+    /// The arguments bind no file to the input of this name.
     UnboundInput(Name),
     /// The file of this name has more bytes than a file may have.
     FileTooLong(&'a str),
-    /// The series of an input is refused.
+    /// The series of an input is rejected.
     BadSeries {
         /// The name of the input.
         name: Name,
         /// Why.
         fault: SeriesFault,
     },
-    /// The byte of the query or the pipeline at this place is no blank, and no token begins there.
+    /// The byte of the query or the pipeline at this place is no blank, and no token starts there.
     BadByte {
         /// The place, counted in bytes from 0.
         at: u64,
     },
-    /// The digits of the query or the pipeline that begin at this place spell a number above 9223372036854775807.
+    /// The digits of the query or the pipeline that start at this place spell a number above 9223372036854775807.
     BigNumber {
         /// The place, counted in bytes from 0.
         at: u64,
     },
     /// The query has more than 256 statements.
     TooManyStatements,
-    /// A statement of the query is refused.
+    /// A statement of the query is rejected.
     BadStatement {
         /// Why.
         fault: StatementFault,
@@ -52,7 +52,7 @@ pub enum Refusal<'a> {
         /// The look-ahead, in ticks.
         ahead: i128,
     },
-    /// A line of the code can't stand where it stands, is spelled otherwise, or has a number out of its range.
+    /// A line of the code can't be where it is, is spelled otherwise, or has a number out of its range.
     BadCode {
         /// The number of the line, counted from 1.
         line: u64,
@@ -66,17 +66,17 @@ pub enum Refusal<'a> {
     },
     /// The file of the checkpoint is the text of none.
     BadCheckpoint,
-    /// The session would end before the cut of its checkpoint: of the first input whose cut falls, or of the least where there is no
-    /// input.
+    /// The session would end before the cut of its checkpoint. The cuts are those of the first input whose cut falls, or the minimum ones
+    /// if there is no input.
     CutBack {
         /// The cut of the checkpoint, in ticks.
         old: i64,
         /// The cut of the session, in ticks.
         new: i64,
     },
-    /// The words give cuts to names which aren't the inputs, each once.
+    /// The arguments don't give cuts to exactly the names of the inputs, each once.
     CutNames {
-        /// The first name that isn't an input's or stood before, or else that of the first input without a cut.
+        /// The first name that isn't an input's or was given before, or else the name of the first input without a cut.
         name: Name,
     },
     /// A cut between parts isn't inside the output domain.
@@ -113,7 +113,7 @@ pub enum Refusal<'a> {
     },
 }
 
-/// Why a statement of a query is refused.
+/// Why a statement of a query is rejected.
 #[derive(Clone, Copy)]
 pub enum StatementFault {
     /// It has more than 256 tokens.
@@ -130,14 +130,14 @@ pub enum StatementFault {
     TypeMismatch,
     /// A window in its expression doesn't end after its start.
     BadWindow,
-    /// Its span or its period is none that may stand there.
+    /// Its span or its period isn't allowed there.
     BadDomain,
 }
 
 impl Refusal<'_> {
     ghost use Rattle.tilt_report.specs.Report.{reason_of, reason_words};
 
-    /// Puts its number and its words. It takes no memory.
+    /// Writes its number and its text. It takes no memory.
     pub fn put<E: Sink>(&self, err: &mut E) -> Result<(), Failed>
         requires { (n : ℕ) → E.takes err.old n }
         ensures { Puts E.tells E.written E.faults E.takes err.old err.new
@@ -169,7 +169,7 @@ impl Refusal<'_> {
     }
 }
 
-// Puts why the series of an input of that name is refused.
+// Writes why the series of an input of that name is rejected.
 fn put_series<E: Sink>(err: &mut E, name: &[u8], fault: &SeriesFault) -> Result<(), Failed>
     requires { (n : ℕ) → E.takes err.old n }
     ensures { Puts E.tells E.written E.faults E.takes err.old err.new
@@ -180,7 +180,7 @@ fn put_series<E: Sink>(err: &mut E, name: &[u8], fault: &SeriesFault) -> Result<
     put_fault(err, fault)
 }
 
-// The number that stands before the name.
+// The number before the name.
 fn number_of(fault: &SeriesFault) -> &'static str
     ensures { result.now ≡ series_number fault.now }
 {
@@ -196,7 +196,7 @@ fn number_of(fault: &SeriesFault) -> &'static str
     }
 }
 
-// Puts what stands after the name.
+// Writes what follows the name.
 fn put_fault<E: Sink>(err: &mut E, fault: &SeriesFault) -> Result<(), Failed>
     requires { (n : ℕ) → E.takes err.old n }
     ensures { Puts E.tells E.written E.faults E.takes err.old err.new
@@ -214,7 +214,7 @@ fn put_fault<E: Sink>(err: &mut E, fault: &SeriesFault) -> Result<(), Failed>
     }
 }
 
-// Puts which field of which row is bad.
+// Writes which field of which row is bad.
 fn put_field<E: Sink>(err: &mut E, row: u64, field: u8) -> Result<(), Failed>
     requires { (n : ℕ) → E.takes err.old n }
     ensures { Puts E.tells E.written E.faults E.takes err.old err.new
@@ -224,7 +224,7 @@ fn put_field<E: Sink>(err: &mut E, row: u64, field: u8) -> Result<(), Failed>
     put_counted(err, b" in row ", row)
 }
 
-// Puts why a statement is refused.
+// Writes why a statement is rejected.
 fn put_statement<E: Sink>(err: &mut E, fault: StatementFault, statement: u32) -> Result<(), Failed>
     requires { (n : ℕ) → E.takes err.old n }
     ensures { Puts E.tells E.written E.faults E.takes err.old err.new
@@ -234,7 +234,7 @@ fn put_statement<E: Sink>(err: &mut E, fault: StatementFault, statement: u32) ->
     put_text(err, words_of(fault).as_bytes())
 }
 
-// Puts how far a query looks.
+// Writes how far a query looks.
 fn put_reach<E: Sink>(err: &mut E, back: i128, ahead: i128) -> Result<(), Failed>
     requires { (n : ℕ) → E.takes err.old n }
     ensures { Puts E.tells E.written E.faults E.takes err.old err.new
@@ -244,7 +244,7 @@ fn put_reach<E: Sink>(err: &mut E, back: i128, ahead: i128) -> Result<(), Failed
     put_signed(err, b" ahead ", ahead)
 }
 
-// What stands before the number of the statement.
+// The text before the number of the statement.
 fn front_of(fault: StatementFault) -> &'static str
     ensures { result.now ≡ statement_front fault }
 {
@@ -260,7 +260,7 @@ fn front_of(fault: StatementFault) -> &'static str
     }
 }
 
-// What stands after the number of the statement.
+// The text after the number of the statement.
 fn words_of(fault: StatementFault) -> &'static str
     ensures { result.now ≡ statement_words fault }
 {
@@ -276,7 +276,7 @@ fn words_of(fault: StatementFault) -> &'static str
     }
 }
 
-// Puts which line of the code names what isn't defined before it.
+// Writes which line of the code names what isn't defined before it.
 fn put_reference<E: Sink>(err: &mut E, in_loop: u64, line: u64) -> Result<(), Failed>
     requires { (n : ℕ) → E.takes err.old n }
     ensures { Puts E.tells E.written E.faults E.takes err.old err.new
@@ -286,7 +286,7 @@ fn put_reference<E: Sink>(err: &mut E, in_loop: u64, line: u64) -> Result<(), Fa
     put_counted(err, b", line ", line)
 }
 
-// Puts from which cut to which a session would go back.
+// Writes from which cut to which a session would go back.
 fn put_cut_back<E: Sink>(err: &mut E, old: i64, new: i64) -> Result<(), Failed>
     requires { (n : ℕ) → E.takes err.old n }
     ensures { Puts E.tells E.written E.faults E.takes err.old err.new
@@ -296,7 +296,7 @@ fn put_cut_back<E: Sink>(err: &mut E, old: i64, new: i64) -> Result<(), Failed>
     put_signed(err, b" to ", i128::from(new))
 }
 
-// Puts which cut isn't inside the output domain.
+// Writes which cut isn't inside the output domain.
 fn put_outside<E: Sink>(err: &mut E, at: i64) -> Result<(), Failed>
     requires { (n : ℕ) → E.takes err.old n }
     ensures { Puts E.tells E.written E.faults E.takes err.old err.new
@@ -305,7 +305,7 @@ fn put_outside<E: Sink>(err: &mut E, at: i64) -> Result<(), Failed>
     put_signed(err, b"56 part outside: ", i128::from(at))
 }
 
-// Puts which part isn't there.
+// Writes which part isn't there.
 fn put_no_part<E: Sink>(err: &mut E, part: u32) -> Result<(), Failed>
     requires { (n : ℕ) → E.takes err.old n }
     ensures { Puts E.tells E.written E.faults E.takes err.old err.new
@@ -314,7 +314,7 @@ fn put_no_part<E: Sink>(err: &mut E, part: u32) -> Result<(), Failed>
     put_counted(err, b"57 no such part: ", u64::from(part))
 }
 
-// Puts the expression of which step has another type.
+// Writes the expression of which step has another type.
 fn put_step_type<E: Sink>(err: &mut E, step: u32) -> Result<(), Failed>
     requires { (n : ℕ) → E.takes err.old n }
     ensures { Puts E.tells E.written E.faults E.takes err.old err.new
@@ -324,7 +324,7 @@ fn put_step_type<E: Sink>(err: &mut E, step: u32) -> Result<(), Failed>
     put_text(err, b": type")
 }
 
-// Puts which row would be overlapped.
+// Writes which row would be overlapped.
 fn put_overlaps<E: Sink>(err: &mut E, row: &Row) -> Result<(), Failed>
     requires { (n : ℕ) → E.takes err.old n }
     ensures { Puts E.tells E.written E.faults E.takes err.old err.new
