@@ -1,4 +1,4 @@
--- What an answer says that is a command of the words, or that they are none.
+-- What a result says that is a command of the arguments, or that they are none.
 use Rattle.std.proofs.Common.{◌≡◌, ◌≢◌, ℕ, ◌-◌, ◌<◌, ◌≤◌, List, [], ◌∷◌, length, get_or, take, drop}
 use Rattle.std.proofs.Common.{Option, Some, None, Result, Ok, Err, IfOk, IfErr, IsErr, MatchOption, MatchResult, codes, String, string_bytes, refl, sym, ap, ◌∙◌, arith}
 use Rattle.std.specs.declared.alloc.Global.{Global}
@@ -28,14 +28,14 @@ two_texts (w ∷ v ∷ ws) a b x y some p q e f =
     let rest : take (length (w ∷ v ∷ ws) - 2) (drop 2 (w ∷ v ∷ ws)) ≡ ws = take_rest (w ∷ v ∷ ws) 2 in
     λ i. first i ∷ second i ∷ sym (ap texts rest) i
 
--- no row of the table has the first word and can have the arguments: the words are no command that has a file
+-- no row of the table has the first word and can have the arguments: these are no command that has a file
 pub not_called : (name file : List ℕ) (rest : List (List ℕ)) (given : ArgumentsValue) → AreArguments options no_arguments rest given →
     command_of_table name given ≡ None → (command : CommandValue) → IsFileCommand (name ∷ file ∷ rest) command → ⊥
 not_called name file rest given are none command is =
     let called = called_with name file rest given are command is in
     none-some command (sym (ap (option_and_then (λ (row : CommandEntry). command_with row.form file given)) none) ∙ called)
 
--- a row does: the words are the command that it makes
+-- a row does: the arguments are the command that it makes
 pub called : (name file : List ℕ) (rest : List (List ℕ)) (given : ArgumentsValue) (row : CommandEntry) (result : Option Command) → IsFile file →
     AreArguments options no_arguments rest given → command_of_table name given ≡ Some row → option_map command_of result ≡ command_with row.form file given →
     MatchResult (ok_or result Usage) (λ command. IsFileCommand (name ∷ file ∷ rest) (command_of command))
@@ -90,7 +90,7 @@ module _ (words : List (List ℕ)) where
   by_call name rest (Ok found) e differs answer = with_file answer
   by_call name rest (Err fault) e differs answer = λ usage command is. answer usage command (only_file words command name rest e differs is)
 
-  -- the parts of an answer
+  -- the parts of a result
   pub command_part : (result : Result Command WordsFault) → IsAnswer result → IfOk result (λ found. IsCommand words (command_of found))
   command_part (Ok found) answer = answer
   command_part (Err fault) answer = tt
@@ -104,7 +104,7 @@ module _ (words : List (List ℕ)) where
   within_part (Ok found) answer = within words (command_of found) answer
   within_part (Err fault) answer = tt
 
-  -- no other is answered, and none where the words are none
+  -- no other is returned, and none if the arguments are none
   pub only_part : (result : Result Command WordsFault) → IsAnswer result → (command : CommandValue) → IsCommand words command →
       MatchResult result (λ found. command_of found ≡ command) (λ fault. fault ≡ OutOfMemory)
   only_part (Ok found) answer command is = one_command words (command_of found) command answer is

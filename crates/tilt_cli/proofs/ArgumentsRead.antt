@@ -1,4 +1,4 @@
--- What the loop over the words keeps: the words so far gave these settings, and with the rest they give what all give.
+-- What the loop over the arguments keeps: the arguments so far gave these settings, and with the rest they give what all give.
 use Rattle.std.proofs.Common.{◌≡◌, ℕ, ◌+◌, ◌-◌, ◌<◌, ◌≤◌, List, length, take, drop, String, string_bytes, sym, ap, ◌∙◌, subst, arith, length-drop}
 use Rattle.std.specs.declared.alloc.Global.{Global}
 use Rattle.std.proofs.lemmas.List.{take_rest, drop_all, drop-drop, drop-map}
@@ -12,7 +12,7 @@ pub record ArgumentsBefore (table : List OptionEntry) (words : List (List ℕ)) 
   pub go_on : (new : ArgumentsValue) → AreArguments table given (drop at words) new → AreArguments table no_arguments words new
   pub back : (new : ArgumentsValue) → AreArguments table no_arguments words new → AreArguments table given (drop at words) new
 
--- the texts of the words after a place
+-- the texts of the arguments after a place
 pub texts_behind : (words : List (String Global)) (at : ℕ) → texts (take (length words - at) (drop at words)) ≡ drop at (texts words)
 texts_behind words at = ap texts (take_rest words at) ∙ sym (drop-map (λ w. string_bytes w) at words)
 

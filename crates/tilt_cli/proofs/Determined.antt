@@ -9,7 +9,7 @@ use Rattle.tilt_cli.specs.Tables.{OptionEntry, option_of}
 use Rattle.tilt_cli.specs.declared.option_table.Shape.TheVariants as shape
 use Rattle.tilt_cli.proofs.Values.{same_value}
 
--- what words give that start with an option: it stands alone, or it has a value
+-- what words give that start with an option: it is alone, or it has a value
 pub record GivesAlone (old new : ArgumentsValue) (word : List ℕ) (row : OptionEntry) (rest tail : List (List ℕ)) : Type 0 where
   pub is_flag : row.shape ≡ shape.Flag
   pub gives : new ≡ with_setting old word flag

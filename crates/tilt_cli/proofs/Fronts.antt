@@ -20,7 +20,7 @@ pub first_text : (words : List (String Global)) (word : String Global) (text : L
 first_text [] word text some is same = absurd (omega arith)
 first_text (w ∷ ws) word text some is same = λ i. (sym (ap string_bytes is) ∙ sym same) i ∷ texts ws
 
--- the same words begin so, and give the same
+-- equal arguments start so, and give the same
 pub moved : {table : List OptionEntry} {old new new' : ArgumentsValue} {words words' rest : List (List ℕ)} → Begins table old words new rest → words' ≡ words →
     new' ≡ new → Begins table old words' new' rest
 moved {table} {old} {new} {new'} {words} {words'} {rest} begins w n =
@@ -41,7 +41,7 @@ pub option_word : (table : List OptionEntry) (word : List ℕ) (entry : OptionEn
 unfolding option_of
 option_word table word entry e = found_word table word entry e
 
--- the words start with an option
+-- the arguments start with an option
 module _ (table : List OptionEntry) (old : ArgumentsValue) (words : List (List ℕ)) (word : List ℕ) (tail : List (List ℕ)) (row : OptionEntry)
     (front : words ≡ word ∷ tail) (named : option_of table word ≡ Some row) where
   same_word : row.word ≡ word

@@ -1,5 +1,4 @@
--- Lists that words spell with commas between their elements, and what the loop over a list keeps: the elements so far, and then those of the
--- rest, are those of the word.
+-- Lists that words spell with commas between their elements, and what the loop over a list keeps. The elements so far, and then the elements of the rest, are the elements of the word.
 use Rattle.std.proofs.Common.{◌≡◌, ℕ, ◌+◌, ◌<◌, ◌≤◌, ◌==◌, inl, inr, ◌&&◌, false, true, if◌then◌else◌}
 use Rattle.std.proofs.Common.{List, [], ◌∷◌, ◌++◌, length, get_or, Some, None, ℤ, pos, refl, sym, ap, ◌∙◌, subst, arith, append_assoc}
 use Rattle.std.proofs.lemmas.Bool.{cases_lt, eqb-true}
@@ -116,7 +115,7 @@ module _ {A : Type 0} (Is : ℤ → List ℕ → A → Type 0) (least_after : A 
       let same = spelling.one least (before_comma word) y x are.0 is in
       (next ∷ more, subst (λ l. AreListed Is least_after l (after_comma word) (next ∷ more)) (ap least_after same) are.1)
 
-  -- where no element stands before the comma, or where there is none and no element stands, there are no elements
+  -- if no element is before the comma, or if there is no comma and no element, there are no elements
   pub no_first : (least : ℤ) (word : List ℕ) (all : List A) → HasComma word →
       ((x : A) → Is least (before_comma word) x → ⊥) → AreListed Is least_after least word all → ⊥
   no_first least word [] has none are = are

@@ -31,7 +31,7 @@ pub any_seen : {A B : Type 0} (seen : A → B) (test : B → Bool) (xs : List A)
 any_seen seen test [] = refl
 any_seen seen test (x ∷ xs) = ap (λ b. test (seen x) || b) (any_seen seen test xs)
 
--- what stands at the first place that passes is what is found, and nothing is if no place does
+-- what is at the first place that passes is what is found, and nothing is if no place does
 found_at : {A : Type 0} (test : A → Bool) (xs : List A) (place : ℕ) (x : A) → place < length xs → test (get_or xs place x) ≡ true →
     ((k : ℕ) → k < place → test (get_or xs k x) ≡ false) → find test xs ≡ Some (get_or xs place x)
 found_at test [] place x low hit before = absurd (omega arith)

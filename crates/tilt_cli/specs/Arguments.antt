@@ -6,7 +6,7 @@ use Rattle.tilt_cli.specs.Tables.{OptionEntry, option_of}
 use Rattle.tilt_cli.specs.declared.arguments.Arguments.{Arguments}
 use Rattle.tilt_cli.specs.declared.option_table.Shape.TheVariants as shape
 
--- what the arguments give a command besides its file: the binds, and what options are set to, in order
+-- what the arguments give a command in addition to its file: the binds, and what options are set to, in order
 pub record ArgumentsValue : Type 0 where
   pub binds : List Binding
   pub settings : List SettingValue
@@ -21,11 +21,11 @@ with_setting old option value =
     let setting : SettingValue = record { option = option; value = value } in
     record old { settings = old.settings ++ setting ∷ [] }
 
--- The words start with a bind or an option of the table, and go on with the rest. The words before gave `old`, and with this one they
--- give `new`. An option is set once.
+-- The arguments start with a bind or an option of the table, and go on with the rest. The arguments before gave `old`, and with this one
+-- they give `new`. An option is set once.
 pub data Begins (table : List OptionEntry) : (old : ArgumentsValue) (words : List (List ℕ)) (new : ArgumentsValue) (rest : List (List ℕ))
     → Type 0 where
-  -- a word that is no option, as `NAME=FILE`
+  -- a word that is no option, such as `NAME=FILE`
   bind : {old : ArgumentsValue} {word : List ℕ} {rest : List (List ℕ)} → option_of table word ≡ None → IsBinding (binding_spelled word)
       → Begins table old (word ∷ rest) (record old { binds = old.binds ++ binding_spelled word ∷ [] }) rest
   -- an option that has no value
@@ -36,7 +36,7 @@ pub data Begins (table : List OptionEntry) : (old : ArgumentsValue) (words : Lis
       → option_of table word ≡ Some entry → is_set word old.settings ≡ false → IsValue entry.shape spelled value
       → Begins table old (word ∷ spelled ∷ rest) (with_setting old word value) rest
 
--- the words are arguments by the table, one after another; the words before them gave `old`, and with them they give `new`
+-- these are arguments by the table, one after another; the arguments before them gave `old`, and with them they give `new`
 pub data AreArguments (table : List OptionEntry) : (old : ArgumentsValue) (words : List (List ℕ)) (new : ArgumentsValue) → Type 0 where
   -- none are left
   none : {old : ArgumentsValue} → AreArguments table old [] old

@@ -1,4 +1,4 @@
--- The words of a command line, as they stand after the program's name, and the command that they are (our own rule).
+-- The arguments of a command line after the program's name, and the command that they are (our own rule).
 use Rattle.std.specs.Prelude.{◌≡◌, ◌≢◌, ℕ, ◌≤◌, ℤ, pos, neg_ℤ, Bool, false}
 use Rattle.std.specs.Prelude.{List, [], ◌∷◌, ◌++◌, Option, Some, codes, map, option_and_then, option_map, String, string_bytes, ⊤}
 use Rattle.std.specs.declared.alloc.Global.{Global}
@@ -69,12 +69,12 @@ command_with form.Fix file given =
 abbrev pub command_called : (name file : List ℕ) → ArgumentsValue → Option CommandValue
 command_called name file given = option_and_then (λ command. command_with command.form file given) (command_of_table name given)
 
--- a file that may stand after a command's first word: not empty, and it doesn't begin with `--`
+-- a file that may follow a command's first word: not empty, and it doesn't start with `--`
 pub record IsFile (file : List ℕ) : Type 0 where
   pub named : file ≢ []
   pub no_option : (rest : List ℕ) → file ≢ codes "--" ++ rest
 
--- the words are a first word, a file and arguments after it, and the command is the one with these
+-- the arguments are a first word, a file and arguments after it, and the command is the one with these
 pub record IsFileCommand (words : List (List ℕ)) (command : CommandValue) : Type 0 where
   pub name : List ℕ
   pub file : List ℕ
@@ -85,7 +85,7 @@ pub record IsFileCommand (words : List (List ℕ)) (command : CommandValue) : Ty
   pub are_arguments : AreArguments options no_arguments rest given
   pub is_called : command_called name file given ≡ Some command
 
--- the words are `try`, a seed and a count, both within their bounds
+-- the arguments are `try`, a seed and a count, both within their bounds
 pub record IsTry (words : List (List ℕ)) (seed count : ℕ) : Type 0 where
   pub seed_word : List ℕ
   pub count_word : List ℕ
@@ -93,7 +93,7 @@ pub record IsTry (words : List (List ℕ)) (seed count : ℕ) : Type 0 where
   pub is_seed : IsNumber (pos 0) (pos 2147483647) seed_word (pos seed)
   pub is_count : IsNumber (pos 0) (pos 1000000) count_word (pos count)
 
--- the words are this command
+-- the arguments are this command
 pub data IsCommand : List (List ℕ) → CommandValue → Type 0 where
   -- one of the table, which has a file
   with_file : {words : List (List ℕ)} {command : CommandValue} → IsFileCommand words command → IsCommand words command

@@ -11,8 +11,8 @@ use Rattle.tilt_cli.specs.declared.command_table.CommandRow.{CommandRow}
 abbrev pub is_listed : List (List ℕ) → List ℕ → Bool
 is_listed words word = list_any (λ other. bytes_eq other word) words
 
--- whether the command can have these arguments: the options that it must have are set, no others are than it can have, and there are binds
--- only if it takes some
+-- whether the command can have these arguments: the options that it must have are set, and all other options that are set are ones that
+-- it can have. There are binds only if it takes some
 abbrev pub is_legal : CommandEntry → ArgumentsValue → Bool
 is_legal command arguments =
     list_all (λ option. is_set option arguments.settings) command.required

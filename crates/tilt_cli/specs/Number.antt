@@ -13,20 +13,20 @@ pub record IsNumber (least greatest : ℤ) (word : List ℕ) (number : ℤ) : Ty
 abbrev pub before_comma : List ℕ → List ℕ
 before_comma word = before_first (λ b. b == 44) word
 
--- the part after it, which is empty where there is no comma
+-- the part after it, which is empty if there is no comma
 abbrev pub after_comma : List ℕ → List ℕ
 after_comma word = after_first (λ b. b == 44) word
 
--- the word spells these, one or more with commas between them: each is what its part of the word spells where it is to be no less than a
--- least number, and the least number of the next one follows from it
+-- the word spells these, one or more with commas between them. Each is what its part of the word spells if it is to be no less than a
+-- least number. The least number of the next one follows from it
 abbrev pub AreListed : {A : Type 0} → (ℤ → List ℕ → A → Type 0) → (A → ℤ) → ℤ → List ℕ → List A → Type 0
 AreListed Is least_after least word [] = ⊥
 AreListed Is least_after least word (x ∷ []) = Is least word x
 AreListed Is least_after least word (x ∷ next ∷ more) =
     Is least (before_comma word) x × AreListed Is least_after (least_after x) (after_comma word) (next ∷ more)
 
--- the word spells these numbers, one or more with commas between them: the first isn't below the least, each later one is no less than so
--- much above the one before it, and none is above the greatest
+-- the word spells these numbers, one or more with commas between them. The first isn't below the least, and each later one is at least
+-- `apart` above the one before it. None is above the greatest
 abbrev pub AreRising : (apart least greatest : ℤ) → List ℕ → List ℤ → Type 0
 AreRising apart least greatest word numbers =
     AreListed (λ low. IsNumber low greatest) (λ number. number +ℤ apart) least word numbers

@@ -61,7 +61,7 @@ impl Arguments {
         }
     }
 
-    // Takes the bind or the option that the words start with, and returns how many words it has.
+    // Takes the bind or the option that the arguments start with, and returns how many arguments it has.
     fn take(
         &mut self,
         alloc: Global,

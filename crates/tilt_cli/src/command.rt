@@ -9,8 +9,8 @@ use crate::command_table::Form;
 use crate::upto::Upto;
 use std::alloc::Global;
 
-/// What the words of a command line ask for. The names of files are as the words give them, not empty; those that a
-/// command reads first don't begin with `--`. Times are in ticks and lie in `-T..=T`. Where `plain` is true no loops are merged.
+/// What the arguments of a command line ask for. The names of files are as the arguments give them, not empty; the names of files that a
+/// command reads first don't start with `--`. Times are in ticks and lie in `-T..=T`. If `plain` is true no loops are merged.
 #[derive(Debug, Drop)]
 pub enum Command {
     /// Run the query on the files that are bound.
@@ -35,7 +35,7 @@ pub enum Command {
     Explain {
         query: String,
     },
-    /// Run the query's first session, up to a cut of each input, and save where it stands.
+    /// Run the query's first session, up to a cut of each input, and save its state.
     Start {
         query: String,
         binds: Vec<Bind>,
@@ -43,7 +43,7 @@ pub enum Command {
         upto: Upto,
         save: String,
     },
-    /// Go on from a checkpoint up to a cut of each input, and save where it stands then.
+    /// Go on from a checkpoint up to a cut of each input, and save the state reached.
     ResumeUpto {
         file: String,
         binds: Vec<Bind>,
@@ -57,13 +57,13 @@ pub enum Command {
         binds: Vec<Bind>,
         plain: bool,
     },
-    /// Run the query on the files that are bound, and tell how many snapshots its loops held at most.
+    /// Run the query on the files that are bound, and print how many snapshots its loops held at most.
     Pipe {
         query: String,
         binds: Vec<Bind>,
         plain: bool,
     },
-    /// Run the query on the files that are bound, show each row to the watchers once its line was put, and tell their figures.
+    /// Run the query on the files that are bound, show each row to the watchers once its line was written, and print their figures.
     Watch {
         query: String,
         binds: Vec<Bind>,
@@ -74,7 +74,7 @@ pub enum Command {
         query: String,
         binds: Vec<Bind>,
         plain: bool,
-        /// The times at which the output domain is cut into parts, each above the one before it. There is one at least.
+        /// The times at which the output domain is cut into parts, each above the one before it. There is at least one.
         at: Vec<i64>,
         /// The parts, numbered from 0, from each of which one more snapshot is taken, in this order, before the others are.
         order: Vec<u32>,
@@ -85,7 +85,7 @@ pub enum Command {
         binds: Vec<Bind>,
         plain: bool,
     },
-    /// Run the query on the files that are bound, correct rows of theirs, and tell which times each correction reaches.
+    /// Run the query on the files that are bound, correct some of their rows, and print which times each correction reaches.
     Fix {
         query: String,
         binds: Vec<Bind>,

@@ -4,10 +4,10 @@ ghost use Rattle.tilt_cli.specs.declared.fault.WordsFault.TheVariants.{OutOfMemo
 use std::alloc::{AllocError, AllocFailed};
 use thiserror::Error;
 
-/// Why words give no command.
+/// Why arguments give no command.
 #[derive(Debug, Drop, PartialEq, Eq, Error)]
 pub enum WordsFault {
-    /// The words are no command.
+    /// The arguments are no command.
     #[error("the words are no command")]
     Usage,
     /// There was no memory for the command.

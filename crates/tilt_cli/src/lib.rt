@@ -1,7 +1,7 @@
-//! The words of a command line. What comes in is the words after the program's name; what goes out is the command that they are, or
-//! that they are none. The clauses of `read_words` say which, by `IsCommand` of `specs/Command`: words are one command at most, and
-//! only those that are none are refused. Which options there are, and which command can have which, is said by two tables:
-//! `option_table` and `command_table` for the program, `specs/Tables` for the clauses.
+//! The arguments of a command line. `read_words` is given the arguments after the program's name, and returns the command that they are,
+//! or that they are none. Its clauses say which, by `IsCommand` of `specs/Command`: arguments are one command at most, and only those
+//! that are none are rejected. Which options there are, and which command can have which, is said by two tables: `option_table` and
+//! `command_table` for the program, `specs/Tables` for the clauses.
 //!
 //! A second program reads its arguments by a table of its own: `Arguments::read` takes the table, and `AreArguments` of
 //! `specs/Arguments` says what the arguments give by it.

@@ -7,7 +7,7 @@ use crate::fault::WordsFault;
 use std::alloc::Global;
 use tilt_base::{T, read_number};
 
-// The number that the word spells, where it isn't below the least and not above the greatest.
+// The number that the word spells, if it is between `least` and `greatest`, both included.
 pub(crate) fn read_within(word: &str, least: i64, greatest: i64) -> Option<i64>
     ensures { MatchOption result
         ((z : ℤ) → ¬ (IsNumber least greatest word.now z))
@@ -20,7 +20,7 @@ pub(crate) fn read_within(word: &str, least: i64, greatest: i64) -> Option<i64>
     Some(number)
 }
 
-// The numbers of 32 bits that the word spells, where it isn't above the greatest.
+// The 32-bit number that the word spells, if it isn't above `greatest`.
 pub(crate) fn read_up_to(word: &str, greatest: u32) -> Option<u32>
     ensures { MatchOption result
         ((z : ℤ) → ¬ (IsNumber (pos 0) (pos greatest) word.now z))
@@ -58,7 +58,7 @@ pub(crate) fn read_rising(alloc: Global, word: &str, apart: i64) -> Result<Vec<i
     Ok(times)
 }
 
-// Adds the time that the word spells, where it isn't below the least, and answers the least that may come after it.
+// Adds the time that the word spells, if it isn't below `least`, and returns the smallest time that can follow it.
 fn push_time(times: &mut Vec<i64>, word: &str, least: i64, apart: i64) -> Result<i64, WordsFault>
     requires { (pos 0 ≤ℤ apart) × (apart ≤ℤ pos 1) }
     ensures { MatchResult result

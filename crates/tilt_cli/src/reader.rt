@@ -1,4 +1,4 @@
-// The words of a command line as a command.
+// The arguments of a command line as a command.
 ghost use Rattle.std.specs.Prelude.{◌≡◌, ◌↔◌, ◌∷◌, ℕ, codes, IfErr, IfOk, IsErr, IsTrue, MatchOption, MatchResult};
 ghost use Rattle.tilt_cli.specs.Arguments.{AreArguments, ArgumentsValue, arguments_of, no_arguments};
 ghost use Rattle.tilt_cli.specs.Command.{CommandValue, IsCommand, IsFile, IsFileCommand, IsTry, IsWithin, command_of, texts};
@@ -12,14 +12,14 @@ use crate::number::read_up_to;
 use crate::option_table::OPTIONS;
 use std::alloc::Global;
 
-// The greatest seed and the greatest count of `try`.
+// The maximum seed and the maximum count of `try`.
 const SEED: u32 = 2_147_483_647;
 
 const COUNT: u32 = 1_000_000;
 
-/// The command that the words are, as they stand after the program's name. The first word names the command, and for
-/// each but `try` the second is a file: not empty, and it doesn't begin with `--`. After it come binds `NAME=FILE` and
-/// the options that the command takes, in any order, each option at most once. `Usage` comes where the words are no
+/// The command that the arguments after the program's name are. The first argument names the command, and for each
+/// except `try` the second is a file: not empty, and it doesn't start with `--`. After it come binds `NAME=FILE` and
+/// the options that the command takes, in any order, each option at most once. `Usage` comes if the arguments are no
 /// command.
 pub fn read_words(alloc: Global, words: &[String]) -> Result<Command, WordsFault>
     ensures command { IfOk result (λ command. IsCommand (texts words.now) (command_of command)) }
@@ -29,7 +29,7 @@ pub fn read_words(alloc: Global, words: &[String]) -> Result<Command, WordsFault
     // What the caller of a command may rely on.
     ensures within { IfOk result (λ command. IsWithin (command_of command)) }
 
-    // Words are one command at most: no other is answered, and none where they are none.
+    // Arguments are one command at most: no other is returned, and none if they are none.
     ensures one { (command other : CommandValue) → IsCommand (texts words.now) command → IsCommand (texts words.now) other →
         command ≡ other }
     ensures only { (command : CommandValue) → IsCommand (texts words.now) command →
@@ -46,7 +46,7 @@ pub fn read_words(alloc: Global, words: &[String]) -> Result<Command, WordsFault
     }
 }
 
-// `try`, whose first word stands before these: a seed, and after it a count alone.
+// `try`, whose first word comes before these: a seed, and after it a count alone.
 fn read_try(seed: &str, rest: &[String]) -> Option<Command>
     ensures { let words = codes "try" ∷ seed.now ∷ texts rest.now in MatchOption result
         ((seed count : ℕ) → ¬ (IsTry words seed count))

@@ -13,8 +13,8 @@ use tilt_base::T;
 pub enum Upto {
     /// One cut for all inputs.
     All(i64),
-    /// A cut for each name, of which there is one at least. A name may be any word, and may stand twice: that they are the inputs of a
-    /// query, each once, is tested where the query is known.
+    /// A cut for each name, of which there is at least one. A name may be any word, and may be given twice: that they are the inputs of a
+    /// query, each once, is tested when the query is known.
     Each(Vec<CutBind>),
 }
 

@@ -33,8 +33,9 @@ use Rattle.tilt_report.specs.declared.fault.Fault.{Fault}
 use Rattle.tilt_report.specs.declared.fault.Fault.TheVariants.{Usage, Refused, ReadFault, WriteFault, SaveFault, OutOfMemory}
 
 -- why arguments that are a command are rejected, with what each reason is about. This is the name of a file or of an input, the place,
--- the statement, how far the query looks back and ahead, the line of the code and its loop, or the old cut and the new one. It can also
--- be the cut or the number of a part, the step of a pipeline, the row that another one overlaps, or the line of a correction
+-- the statement, or how far the query looks back and ahead. It can also be the line of the code and its loop, the old cut and the new
+-- one, or the cut or the number of a part. The last ones are the step of a pipeline, the row that another one overlaps, and the line of a
+-- correction
 pub data Reason : Type 0 where
   input_names : List ℕ → Reason
   file_too_long : List ℕ → Reason

@@ -66,7 +66,7 @@ pub enum Refusal<'a> {
     },
     /// The file of the checkpoint is the text of none.
     BadCheckpoint,
-    /// The session would end before the cut of its checkpoint. The cuts are those of the first input whose cut falls, or the minimum ones
+    /// The session would end before the cut of its checkpoint. The cuts are those of the first input whose cut falls, or the minimum cuts
     /// if there is no input.
     CutBack {
         /// The cut of the checkpoint, in ticks.

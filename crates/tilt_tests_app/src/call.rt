@@ -15,7 +15,7 @@ pub const SERIES: &[u8] = b"start,end,value\n0,5,7\n6,8,9\n";
 // The name of a file, and what it holds.
 pub type File<'a> = (&'a str, &'a [u8]);
 
-// The numbers of the read, of the put of the output and of the put of the line that fail, and 0 for none.
+// The numbers of the read, of the write of the output and of the write of the line that fail, and 0 for none.
 #[derive(Drop)]
 pub struct Failing {
     pub read: u64,
@@ -60,7 +60,7 @@ pub fn sink_of(alloc: Global, failing: u64) -> Result<MemSink, Fail> {
     Ok(sink)
 }
 
-// What the call leaves where nobody watches.
+// What the call leaves if nobody watches.
 pub fn end_of(
     alloc: Global,
     words: &str,
@@ -71,7 +71,7 @@ pub fn end_of(
     end_over(alloc, words, &mut shelf, failing)
 }
 
-// What the call leaves over a shelf where nobody watches.
+// What the call leaves over a shelf if nobody watches.
 pub fn end_over(
     alloc: Global,
     words: &str,

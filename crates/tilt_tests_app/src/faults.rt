@@ -1,4 +1,4 @@
-// Reads, puts, lines and the flush that fail.
+// Reads, writes, lines and the flush that fail.
 ghost use Rattle.std.specs.Prelude.{[], ⊤};
 
 use crate::call::{
@@ -10,7 +10,8 @@ use std::test::Fail;
 use tilt_app::tilt;
 use tilt_outside::{Failed, MemShelf, Shelf};
 
-// A call: its words and files, the numbers of the read and of the put that fail, and 0 for none; the status, the output and the line.
+// A call: its arguments and files, the numbers of the read and of the write that fail, and 0 for none; the status, the output and the
+// line.
 struct Fault<'a> {
     words: &'a str,
     files: &'a [File<'a>],
@@ -128,7 +129,7 @@ const FAULTS: &[Fault<'_>] = &[
         out: SERIES,
         line: b"",
     },
-    // A failing put leaves a prefix. The sink takes half of the piece at which it fails. After the three puts comes the flush.
+    // A failing write leaves a prefix. The sink takes half of the piece at which it fails. After the three writes comes the flush.
     Fault {
         words: WORDS,
         files: FILES,
@@ -209,8 +210,8 @@ const PIPED: &[File<'_>] = &[
     ("s", b"start,end,value\n0,1,4\n1,3,6\n"),
 ];
 
-// Puts of `pipe`. The first snapshot is null, and has no line. The calls are the header, three lines, `rings `, the number, LF, and
-// the flush.
+// Writes of `pipe`. The first snapshot is null, and has no line. The calls are the header, three lines, `rings `, the number, LF, and the
+// flush.
 const PIPE_PUTS: &[Fault<'_>] = &[
     Fault {
         words: "pipe\nq\n--plain\nx=s",
@@ -275,7 +276,7 @@ const COUNTED: &[File<'_>] = &[
     ("s", b"start,end,value\n0,5,7\n5,8,2\n"),
 ];
 
-// Puts of `flow`. The calls are the header, three lines, and the flush.
+// Writes of `flow`. The calls are the header, three lines, and the flush.
 const FLOW_PUTS: &[Fault<'_>] = &[
     Fault {
         words: "flow\np\nx=s",
@@ -319,7 +320,7 @@ const PARTED: &[File<'_>] = &[
     ("s", b"start,end,value\n0,5,7\n5,8,7\n"),
 ];
 
-// Puts of `parts`. The calls are the header, five lines, `parts`, a blank and a number for each part, LF, and the flush.
+// Writes of `parts`. The calls are the header, five lines, `parts`, a blank and a number for each part, LF, and the flush.
 const PARTS_PUTS: &[Fault<'_>] = &[
     Fault {
         words: "parts\nq\nx=s\n--at\n5",
@@ -367,7 +368,7 @@ fn a_put_of_parts_fails(rt: HostRuntime) -> Result<(), Fail> {
     Ok(())
 }
 
-// Words, how many puts their line takes, the status and the line.
+// Arguments, how many writes their line takes, the status and the line.
 struct Line<'a> {
     words: &'a str,
     puts: u64,
@@ -408,7 +409,7 @@ const LINES: &[Line<'_>] = &[
     },
 ];
 
-// Ends the test unless the status is the same where the put of that number of the line fails, and a prefix of it is told.
+// Lets the write of that number of the line fail. Ends the test unless the status is the same and a prefix of the line was written.
 fn assert_line_cut(rt: &impl Abort, alloc: Global, case: &Line<'_>, put: u64) -> Result<(), Fail> {
     let end = end_of(
         alloc,
@@ -437,7 +438,7 @@ fn a_failing_line_changes_no_status(rt: HostRuntime) -> Result<(), Fail> {
     Ok(())
 }
 
-// Series that are refused.
+// Series that are rejected.
 const REFUSED: &[&[u8]] = &[
     b"start,end\n0,5\n",
     b"\xEF\xBB\xBF\xEF\xBB\xBFstart,end,value\n0,5,7\n",

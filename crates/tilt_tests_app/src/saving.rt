@@ -24,8 +24,8 @@ const HEADED: &[u8] = b"start,end,value\n0,2,1\n";
 
 const FAULT: &[u8] = b"tilt: 6 save fault: c\n";
 
-// A call that saves under `c`: its words and files, what `c` holds, and the number of the call to the shelf that fails; the status, the
-// output, the line, and what `c` holds then. Four reads come before the save.
+// A call that saves under `c`: its arguments and files, what `c` holds, and the number of the call to the shelf that fails. Then the
+// status, the output, the line, and what `c` holds then. Four reads come before the save.
 struct Saving<'a> {
     words: &'a str,
     files: &'a [File<'a>],

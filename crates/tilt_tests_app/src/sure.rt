@@ -16,7 +16,7 @@ use tilt_cli::{Command, read_words};
 use tilt_outside::{MemShelf, MemSink, Sink, SureShelf, SureSink};
 use tilt_watch::Watcher;
 
-// Where both have room for all that the words and the files come to, the call is done, it is refused, or there is no memory.
+// If both have room for all that the arguments and the files give, the call is done, it is rejected, or there is no memory.
 fn sure<E: Sink>(
     alloc: Global,
     words: &[String],
@@ -45,8 +45,8 @@ fn runs(command: &Command) -> bool
     matches!(command, Command::Run { .. })
 }
 
-// Where the words are `run` and it is done over a shelf and a sink that may fail: what a sink got that has room for exactly that text,
-// over a shelf that holds the same, and never fails. `None` where a call isn't done.
+// For arguments that are `run`, if it is done over a shelf and a sink that may fail. The result is what a sink got that has room for
+// exactly that text, over a shelf that holds the same and never fails. Returns `None` if a call isn't done.
 fn run_again(alloc: Global, words: &[String]) -> Result<Option<SureSink>, Fail> {
     let command = read_words(alloc, words)?;
     if !runs(&command) {

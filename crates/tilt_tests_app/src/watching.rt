@@ -1,4 +1,4 @@
-// Watchers of a run, of the kinds that there are and of kinds of one's own.
+// Watchers of a run, of the kinds that there are and of new kinds.
 ghost use Rattle.std.specs.Prelude.{◌≡◌, false, true};
 
 use crate::call::{
@@ -21,8 +21,8 @@ const AFTER: &[(i64, i64)] = &[(2, 16), (7, 9), (0, 8), (2, 16)];
 
 const FAULT: &[u8] = b"tilt: 5 write fault\n";
 
-// A call: its words, the numbers of the read and of the put that fail, and 0 for none; the status, the output, the line and the figures
-// of the watchers.
+// A call: its arguments, the numbers of the read and of the write that fail, and 0 for none. Then the status, the output, the line and
+// the figures of the watchers.
 struct Watched<'a> {
     words: &'a str,
     read: u64,
@@ -62,7 +62,7 @@ const WATCHED: &[Watched<'_>] = &[
         line: b"",
         figures: BEFORE,
     },
-    // Nobody watches a run, or a query that is refused.
+    // Nobody watches a run, or a query that is rejected.
     Watched {
         words: "run\nq\nx=s",
         read: 0,
@@ -90,7 +90,7 @@ const WATCHED: &[Watched<'_>] = &[
         line: b"tilt: 4 read fault: s\n",
         figures: BEFORE,
     },
-    // A row is seen once its line is put, and after all lines come the figures and the flush.
+    // A row is seen once its line is written, and after all lines come the figures and the flush.
     Watched {
         words: "watch\nq\nx=s",
         read: 0,
@@ -272,7 +272,7 @@ fn a_row_whose_put_fails_is_not_seen(rt: HostRuntime) -> Result<(), Fail> {
     Ok(())
 }
 
-// A watcher of one's own: where the last row lies. It sees all rows.
+// A new kind of watcher: where the last row lies. It sees all rows.
 #[derive(Drop)]
 struct Last {
     start: i64,
@@ -297,7 +297,7 @@ impl Watcher for Last {
     }
 }
 
-// And one of which every pair is an end, also that with which it begins: where the first row lies.
+// And one of which every pair is an end, also the pair with which it starts: where the first row lies.
 #[derive(Drop)]
 struct First {
     start: i64,

@@ -16,7 +16,7 @@ module _ {W : Type 0} (f : W → Watch) where
   here (y ∷ items) x [] watch rest holds is = let first : f y ≡ watch = cc holds in ap f is ∙ first
   here (y ∷ items) x (k ∷ kept) watch rest holds is = let later : map f items ≡ kept ++ watch ∷ rest = cc holds in here items x kept watch rest later is
 
-  -- another stands there
+  -- another is there
   placed : (items : List W) (new : W) (kept : List Watch) (watch : Watch) (rest : List Watch) → map f items ≡ kept ++ watch ∷ rest
       → map f (set items (length kept) new) ≡ kept ++ f new ∷ rest
   placed [] new [] watch rest holds = absurd (cc holds)
@@ -27,7 +27,7 @@ module _ {W : Type 0} (f : W → Watch) where
       let later : map f items ≡ kept ++ watch ∷ rest = cc holds in
       (λ i. first i ∷ placed items new kept watch rest later i)
 
-  -- none stands there
+  -- none is there
   removed : (items : List W) (new : W) (kept : List Watch) (watch : Watch) (rest : List Watch) → map f items ≡ kept ++ watch ∷ rest
       → map f (remove (set items (length kept) new) (length kept)) ≡ kept ++ rest
   removed [] new [] watch rest holds = absurd (cc holds)

@@ -9,8 +9,8 @@ use Rattle.tilt_watch.specs.Watch.{Watch}
 use Rattle.tilt_watch.specs.declared.place.Place.{Place}
 use Rattle.tilt_watch.specs.declared.place.Place.TheVariants.{Watching, Dropped}
 
--- Of places and a list as they were, so many places were looked at, and the next watcher stands at that place of the list. These are the
--- places that were looked at and the others, and the watchers that were kept and the others.
+-- Of places and a list as they were, this many places were visited, and the next watcher is at that place of the list. These are the places that were visited and the others, and the watchers that
+-- were kept and the others.
 pub record Mid (places : List Place) (list : List Watch) (row : Snapshot) (now : List Place) (now_list : List Watch) (count at : ℕ) : Type 0 where
   pub seen : List Place
   pub others : List Place
@@ -41,7 +41,7 @@ mid-first places list row same = record {
 }
 
 module _ (places : List Place) (list : List Watch) (row : Snapshot) (now : List Place) (now_list : List Watch) (count at : ℕ) where
-  -- a place that is looked at, and what it is then
+  -- a place that is visited, and what it is then
   looked_at : (seen : List Place) (old new : Place) (others : List Place) → now ≡ seen ++ old ∷ others → count ≡ length seen
       → set now count new ≡ (seen ++ new ∷ []) ++ others
   looked_at seen old new others are count_is =
@@ -95,7 +95,7 @@ module _ (places : List Place) (list : List Watch) (row : Snapshot) (now : List 
           in_step = in_step;
         }
 
-  -- what is left when all were looked at
+  -- what is left when all were visited
   none_left : (seen others : List Place) → count ≡ length seen → now ≡ seen ++ others → length now ≤ count → others ≡ []
   none_left seen [] count_is are all = refl
   none_left seen (place ∷ others) count_is are all = let both = ap length are ∙ length-append seen (place ∷ others) in absurd (omega (arith, both, count_is, all))
@@ -141,12 +141,12 @@ module _ (places : List Place) (list : List Watch) (row : Snapshot) (now : List 
       watching_step old new new_list new_at seen kept count_is at_is pair others watch rest are places_are left_are later (watching pair kept watch rest here holds at_is)
 
   module _ (mid : Mid places list row now now_list count at) where
-    -- where the next place has a watcher, that stands in the list
+    -- if the next place has a watcher, it is in the list
     pub mid-room : (old : Place) (figures : _) → count < length now → old ≡ get_or now count old → old ≡ Watching figures → at < length now_list
     mid-room old figures within is watching =
         room mid.seen mid.others mid.kept mid.rest mid.are mid.holds mid.count_is mid.at_is mid.in_step old figures within is watching
 
-    -- one more place was looked at
+    -- one more place was visited
     pub mid-step : (old new : Place) (new_list : List Watch) (new_at : ℕ) → count < length now → old ≡ get_or now count old
         → ((figures : _) → old ≡ Dropped figures → (new ≡ old) × (new_list ≡ now_list) × (new_at ≡ at))
         → ((figures : _) (k : List Watch) (w : Watch) (r : List Watch) → old ≡ Watching figures → now_list ≡ k ++ w ∷ r → at ≡ length k
@@ -156,7 +156,7 @@ module _ (places : List Place) (list : List Watch) (row : Snapshot) (now : List 
         step mid.seen mid.others mid.kept mid.rest mid.are mid.holds mid.count_is mid.at_is mid.places_are mid.left_are mid.in_step old new new_list new_at within is dropped
         watching
 
-    -- all were looked at
+    -- all were visited
     pub mid-places : length now ≤ count → now ≡ places_after places list (row ∷ [])
     mid-places all =
         let none = none_left mid.seen mid.others mid.count_is mid.are all in
@@ -174,7 +174,7 @@ module _ (places : List Place) (list : List Watch) (row : Snapshot) (now : List 
         subst (λ (l : List Watch). AreInStep now l) (sym (mid-list all))
         (subst (λ (p : List Place). AreInStep p (left_after list (row ∷ []))) (sym (mid-places all)) (in_step-after places list (row ∷ []) same))
 
--- where the next place has a watcher, that stands in the list of which these are the watchers
+-- if the next place has a watcher, it is in the list of which these are the watchers
 pub mid-within : {W : Type 0} (f : W → Watch) (items : List W) (places : List Place) (list : List Watch) (row : Snapshot) (now : List Place) (count at : ℕ)
     → Mid places list row now (map f items) count at → (old : Place) (figures : _) → count < length now → old ≡ get_or now count old → old ≡ Watching figures
     → at < length items

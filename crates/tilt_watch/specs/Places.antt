@@ -10,8 +10,8 @@ use Rattle.tilt_watch.specs.declared.place.Place.TheVariants.{Watching, Dropped}
 abbrev pub with_pair : Watch → ℤ × ℤ → Watch
 with_pair watch pair = record { pair = pair; step = watch.step; ends = watch.ends }
 
--- a watcher's place after rows: its step was folded over them in order, up to and with the first at which the new pair is an end, and then
--- it was dropped; or over all, where there is none
+-- a watcher's place after rows. Its step was folded over them in order, up to and with the first at which the new pair is an end, and
+-- then it was dropped. If there is none, its step was folded over all
 abbrev pub place_after : Watch → List Snapshot → Place
 place_after watch [] = Watching watch.pair
 place_after watch (row ∷ rows) =
@@ -29,7 +29,7 @@ abbrev pub figures_at : Place → ℤ × ℤ
 figures_at (Watching pair) = pair
 figures_at (Dropped pair) = pair
 
--- the figures that a watcher comes to over rows
+-- the figures that a watcher has after rows
 abbrev pub figures_over : List Snapshot → Watch → ℤ × ℤ
 figures_over rows watch = figures_at (place_after watch rows)
 
@@ -59,8 +59,8 @@ figures_there (Dropped pair) = []
 abbrev pub AreInStep : List Place → List Watch → Type 0
 AreInStep places list = pairs_of list ≡ flat_map figures_there places
 
--- places after rows, which the watchers of this list saw that is in step with them: a place whose watcher was dropped earlier stays as it
--- is, and each other one is that of its watcher
+-- places after rows that the watchers of this list saw, which is in step with the places. A place whose watcher was dropped earlier stays
+-- as it is, and each other one is the place of its watcher
 abbrev pub places_after : List Place → List Watch → List Snapshot → List Place
 places_after [] list rows = []
 places_after (Dropped pair ∷ places) list rows = Dropped pair ∷ places_after places list rows

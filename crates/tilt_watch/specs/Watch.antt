@@ -16,7 +16,7 @@ pub record Watch : Type 0 where
 abbrev pub watches : {W : Type 0} → (W → ℤ × ℤ) → (W → ℤ × ℤ → Snapshot → ℤ × ℤ) → (W → ℤ × ℤ → Bool) → List W → List Watch
 watches pair step ends list = map (λ watcher. record { pair = pair watcher; step = step watcher; ends = ends watcher }) list
 
--- what a watcher says once it saw a row: that it is done exactly where its new pair is an end
+-- what a watcher says once it saw a row: that it is done exactly if its new pair is an end
 abbrev pub next_of : Bool → Next
 next_of true = Done
 next_of false = More

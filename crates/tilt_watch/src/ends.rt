@@ -1,4 +1,4 @@
-// The least start and the greatest end.
+// The minimum start and the maximum end.
 ghost use Rattle.std.specs.Prelude.{◌≡◌};
 ghost use Rattle.tilt_watch.specs.Kinds.{ends_step, extremes_begin, no_end};
 
@@ -6,7 +6,7 @@ use crate::next::Next;
 use crate::watcher::Watcher;
 use tilt_stream::Row;
 
-/// Keeps the least start and the greatest end, in ticks.
+/// Keeps the minimum start and the maximum end, in ticks.
 #[derive(Drop)]
 pub struct Ends {
     start: i64,

@@ -1,4 +1,4 @@
-// The text of figures, put line by line.
+// The text of figures, written line by line.
 ghost use Rattle.std.specs.Prelude.{◌≡◌, ◌≤◌, length, take};
 ghost use Rattle.tilt_outside.specs.Written.{Puts};
 ghost use Rattle.tilt_watch.specs.Places.{figures_of};
@@ -8,7 +8,7 @@ use crate::panel::Panel;
 use tilt_outside::{Failed, Sink};
 use tilt_text::{append, append_number};
 
-/// Puts the line `figures A B` of each watcher that the list had at first, in order. Takes no memory.
+/// Writes the line `figures A B` of each watcher that the list had at first, in order. Takes no memory.
 pub fn put_figures<O: Sink>(out: &mut O, panel: &Panel) -> Result<(), Failed>
     requires { O.takes out.old (length (figures_text (figures_of panel.now))) }
     ensures { Puts O.tells O.written O.faults O.takes out.old out.new (figures_text (figures_of panel.now)) result }
@@ -19,7 +19,7 @@ pub fn put_figures<O: Sink>(out: &mut O, panel: &Panel) -> Result<(), Failed>
     Ok(())
 }
 
-// Puts the line of a pair.
+// Writes the line of a pair.
 fn put_pair<O: Sink>(out: &mut O, pair: (i64, i64)) -> Result<(), Failed>
     requires { O.takes out.old (length (figures_line pair)) }
     ensures { Puts O.tells O.written O.faults O.takes out.old out.new (figures_line pair) result }
@@ -29,7 +29,7 @@ fn put_pair<O: Sink>(out: &mut O, pair: (i64, i64)) -> Result<(), Failed>
     out.put(&room[..length])
 }
 
-// Writes `figures A B` and LF into the beginning of the room, and answers how long that is.
+// Writes `figures A B` and LF into the start of the room, and returns how long that is.
 fn figures_text(pair: (i64, i64), room: &mut [u8; 64]) -> usize
     ensures text { take result room.new ≡ figures_line pair }
     ensures len { result ≡ length (figures_line pair) }

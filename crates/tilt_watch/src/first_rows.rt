@@ -7,7 +7,7 @@ use crate::tally::add;
 use crate::watcher::Watcher;
 use tilt_stream::Row;
 
-/// Counts rows and adds their values as `Tally` does, until so many were counted.
+/// Counts rows and adds their values as `Tally` does, until `limit` rows were counted.
 #[derive(Drop)]
 pub struct FirstRows {
     count: i64,

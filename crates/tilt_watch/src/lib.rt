@@ -1,7 +1,7 @@
-//! Watchers of printed snapshots. What comes in is rows; what goes out is a pair of figures for each watcher. The law stands
-//! on the trait: `see` makes the pair what the watcher's step makes of it, and says that it is done exactly where that is an end.
-//! A `Panel` keeps which watchers of a list are still there, and the last figures of all: so `show` leaves each of them with its
-//! step folded over the rows that aren't null, up to the first at which it was done, and `put_figures` puts a line for each.
+//! Watchers of printed snapshots. They are given rows, and each watcher gives a pair of figures. The law is on the trait: `see` makes the
+//! pair what the watcher's step makes of it, and says that it is done exactly if that is an end. A `Panel` keeps which watchers of a list
+//! are still there, and the last figures of all. So `show` leaves each of them with its step folded over the rows that aren't null, up to
+//! the first at which it was done. `put_figures` writes a line for each.
 #![tactic(auto)]
 
 mod ends;

@@ -80,8 +80,8 @@ fn place_of(watcher: &Box<dyn Watcher>) -> Place
     Place::Watching(watcher.figures())
 }
 
-// Lets the watcher of a place see the row, where it is still there, which is then at `at` of the list. Answers where the watcher of the
-// next place is that still has one.
+// Lets the watcher of a place see the row, if it is still there, which is then at `at` of the list. Returns where the watcher of the next
+// place is that still has one.
 fn see_at(place: &mut Place, list: &mut Vec<Box<dyn Watcher>>, at: usize, row: &Row) -> usize
     requires { (figures : _) → place.old ≡ Watching figures → at < length list.old.items }
     ensures dropped { (figures : _) → place.old ≡ Dropped figures
@@ -100,7 +100,7 @@ fn see_at(place: &mut Place, list: &mut Vec<Box<dyn Watcher>>, at: usize, row: &
     if place.is_dropped() { at } else { at + 1 }
 }
 
-// Lets the watcher at `at` of the list see the row, and drops it where it has seen enough. Answers its place then.
+// Lets the watcher at `at` of the list see the row, and drops it if it has seen enough. Returns its place then.
 fn see_one(list: &mut Vec<Box<dyn Watcher>>, at: usize, row: &Row) -> Place
     requires { at < length list.old.items }
     ensures { (kept : List Watch) (watch : Watch) (rest : List Watch) → watches pair step ends list.old.items ≡ kept ++ watch ∷ rest

@@ -33,7 +33,7 @@ impl Place {
     }
 }
 
-// Lets a watcher see a row, and answers its place then.
+// Lets a watcher see a row, and returns its place then.
 pub(crate) fn see_row(watcher: &mut Box<dyn Watcher>, row: &Row) -> Place
     ensures place { result
         ≡ place_after (record { pair = pair watcher.old; step = step watcher.old; ends = ends watcher.old }) (row.now ∷ []) }

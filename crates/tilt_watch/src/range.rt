@@ -1,4 +1,4 @@
-// The least and the greatest value.
+// The minimum and the maximum value.
 ghost use Rattle.std.specs.Prelude.{◌≡◌};
 ghost use Rattle.tilt_watch.specs.Kinds.{extremes_begin, no_end, range_step};
 
@@ -6,7 +6,7 @@ use crate::next::Next;
 use crate::watcher::Watcher;
 use tilt_stream::Row;
 
-/// Keeps the least and the greatest value.
+/// Keeps the minimum and the maximum value.
 #[derive(Drop)]
 pub struct Range {
     least: i64,

@@ -1,4 +1,4 @@
-// A count and the greatest value, up to a value above a limit.
+// A count and the maximum value, up to a value above a limit.
 ghost use Rattle.std.specs.Prelude.{◌≡◌, ◌<ℤ◌};
 ghost use Rattle.tilt_watch.specs.Kinds.{lowest, until_above_end, until_above_step, until_begin};
 
@@ -7,7 +7,7 @@ use crate::tally::add;
 use crate::watcher::Watcher;
 use tilt_stream::Row;
 
-/// Counts rows and keeps the greatest value, until that is above a limit.
+/// Counts rows and keeps the maximum value, until it is above a limit.
 #[derive(Drop)]
 pub struct UntilAbove {
     count: i64,
@@ -16,7 +16,7 @@ pub struct UntilAbove {
 }
 
 impl UntilAbove {
-    /// One that was shown nothing, and has seen enough once the greatest value is above `limit`.
+    /// One that was shown nothing, and has seen enough once the maximum value is above `limit`.
     pub fn new(limit: i64) -> UntilAbove
         requires { lowest <ℤ limit }
         ensures pair { ⟦<UntilAbove as Watcher>⟧.pair result ≡ until_begin }

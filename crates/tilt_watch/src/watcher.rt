@@ -14,10 +14,10 @@ pub trait Watcher: Drop {
     /// The pair after a pair, when it sees a row.
     ghost step: { Self → ℤ × ℤ → Snapshot → ℤ × ℤ };
 
-    /// Which pairs are ends: where a row leads to one, the watcher has seen enough. One that begins at an end sees a row nevertheless.
+    /// Which pairs are ends: if a row leads to one, the watcher has seen enough. One that starts at an end still sees a row.
     ghost ends: { Self → ℤ × ℤ → Bool };
 
-    /// Lets it see a row. It says `Done` exactly where its new pair is an end. Takes no memory.
+    /// Lets it see a row. It says `Done` exactly if its new pair is an end. Takes no memory.
     fn see(&mut self, row: &Row) -> Next
         ensures pair { pair self.new ≡ step self.old (pair self.old) row.now }
         ensures next { result ≡ next_of (ends self.old (pair self.new)) }
