@@ -19,7 +19,7 @@ same_report : (report other : Report) → refused report ≡ refused other → r
 same_report report other same = cc
 
 module _ (is_outcome : Outcome → Type 0) (once : (o p : Outcome) → is_outcome o → is_outcome p → o ≡ p) where
-  -- what is printed isn't refused
+  -- what is printed isn't rejected
   pub printed_or_refused : (text : List ℕ) (save : Option SaveValue) (report : Report) → is_outcome (outcome_of text save) → is_outcome (refused report) → ⊥
   printed_or_refused text save report outcome other = text_is_no_refusal text save report (once (outcome_of text save) (refused report) outcome other)
 

@@ -1,4 +1,4 @@
--- Whether words are a command is decided: they are one, or none.
+-- Whether arguments are a command is decided: they are one, or none.
 use Rattle.std.proofs.Common.{◌≡◌, ◌≢◌, ◌⊎◌, inl, inr, ℕ, suc, zero, ◌<◌, ◌≤◌, pos, true, false}
 use Rattle.std.proofs.Common.{List, [], ◌∷◌, ◌++◌, length, Option, None, Some, codes, refl, sym, subst, arith}
 use Rattle.std.proofs.lemmas.Option.{none-some}
@@ -184,7 +184,7 @@ try_or_none second (third ∷ []) =
           none a_try.seed (subst (λ w. IsNumber (pos 0) (pos 2147483647) w (pos a_try.seed)) word a_try.words_are.is_seed))
     ]
 
--- all words
+-- all arguments
 pub command_or_none : (words : List (List ℕ)) → ((command : CommandValue) × IsCommand words command) ⊎ ((command : CommandValue) → ¬ (IsCommand words command))
 command_or_none [] = inr (λ command is. let two = two_words [] command is in omega arith)
 command_or_none (name ∷ []) = inr (λ command is. let two = two_words (name ∷ []) command is in omega arith)

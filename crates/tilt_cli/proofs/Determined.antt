@@ -1,4 +1,4 @@
--- Words start with one bind or option at most, and it gives one thing.
+-- Arguments start with one bind or option at most, and it gives one thing.
 use Rattle.std.proofs.Common.{◌≡◌, ◌⊎◌, inl, inr, ℕ, false, List, [], ◌∷◌, ◌++◌, Some, None, refl, sym, ap, ◌∙◌, subst}
 use Rattle.std.proofs.lemmas.Option.{none-some, same_Some}
 use Rattle.tilt_cli.specs.Arguments.{ArgumentsValue, Begins, AreArguments, with_setting}
@@ -9,7 +9,7 @@ use Rattle.tilt_cli.specs.Tables.{OptionEntry, option_of}
 use Rattle.tilt_cli.specs.declared.option_table.Shape.TheVariants as shape
 use Rattle.tilt_cli.proofs.Values.{same_value}
 
--- what words give that start with an option: it is alone, or it has a value
+-- what arguments give that start with an option: it is alone, or it has a value
 pub record GivesAlone (old new : ArgumentsValue) (word : List ℕ) (row : OptionEntry) (rest tail : List (List ℕ)) : Type 0 where
   pub is_flag : row.shape ≡ shape.Flag
   pub gives : new ≡ with_setting old word flag
@@ -65,7 +65,7 @@ after_option (argument.valued {old = old} {word = w} {spelled = s} {rest = rest}
       });
     }
 
--- what words give that start with no option
+-- what arguments give that start with no option
 pub after_bind : {table : List OptionEntry} {old new : ArgumentsValue} {words rest : List (List ℕ)} → Begins table old words new rest → (word : List ℕ)
     (tail : List (List ℕ)) → words ≡ word ∷ tail → option_of table word ≡ None →
     IsBinding (binding_spelled word) × (new ≡ record old { binds = old.binds ++ binding_spelled word ∷ [] }) × (rest ≡ tail)
@@ -79,7 +79,7 @@ after_bind (argument.valued {word = w} {entry = r} value is fresh valued) word t
     let same : w ≡ word = cc in
     absurd (no_row _ r w word same is no_option)
 
--- words start with one of them, and give one thing with it
+-- arguments start with one of them, and give one thing with it
 pub same_begins : {table : List OptionEntry} {old new other : ArgumentsValue} {words rest others : List (List ℕ)} → Begins table old words new rest →
     Begins table old words other others → (new ≡ other) × (rest ≡ others)
 same_begins (argument.bind {word = word} {rest = rest} none is) b = let g = after_bind b word rest refl none in (sym g.1, sym g.2)
@@ -99,13 +99,13 @@ same_begins {others = others} (argument.valued {old = old} {word = word} {spelle
           (ap (with_setting old word) same ∙ sym other.gives, rests)
     ]
 
--- no words start with none
+-- no arguments start with none
 pub no_begins : {table : List OptionEntry} {old new : ArgumentsValue} {words rest : List (List ℕ)} → Begins table old words new rest → words ≡ [] → ⊥
 no_begins (argument.bind none is) e = cc
 no_begins (argument.alone is fresh form) e = cc
 no_begins (argument.valued value is fresh valued) e = cc
 
--- what no words give, and what words give after their first bind or option
+-- what no arguments give, and what arguments give after their first bind or option
 pub behind_none : {table : List OptionEntry} {old new : ArgumentsValue} {words : List (List ℕ)} → AreArguments table old words new → words ≡ [] → new ≡ old
 behind_none argument.none e = refl
 behind_none (argument.more b r) e = absurd (no_begins b e)
@@ -117,13 +117,13 @@ behind_first {table = table} {between = between} {new = new} {rest = rest} (argu
     let same = same_begins c b in
     subst (λ m. AreArguments table m rest new) same.0 (subst (λ l. AreArguments table other l new) same.1 r)
 
--- words that are arguments start with one
+-- strings that are arguments by the table start with one
 pub first_begins : {table : List OptionEntry} {old new : ArgumentsValue} {words : List (List ℕ)} → AreArguments table old words new →
     ((between : ArgumentsValue) (rest : List (List ℕ)) → Begins table old words between rest → ⊥) → words ≡ []
 first_begins argument.none refused = refl
 first_begins (argument.more {between = between} {rest = rest} b r) refused = absurd (refused between rest b)
 
--- words give one thing
+-- arguments give one thing
 pub same_arguments : {table : List OptionEntry} {old new other : ArgumentsValue} {words : List (List ℕ)} → AreArguments table old words new → AreArguments table old words other →
     new ≡ other
 same_arguments argument.none b = sym (behind_none b refl)

@@ -1,4 +1,4 @@
--- What words start with, from what was read of them.
+-- What arguments start with, from what was read of them.
 use Rattle.std.proofs.Common.{◌≡◌, ℕ, ◌<◌, inl, inr, true, false, List, [], ◌∷◌, length, get_or, drop, Some, String, string_bytes, sym, ap, ◌∙◌, subst, arith}
 use Rattle.std.specs.Prelude.{find}
 use Rattle.std.specs.Str.{bytes_eq}

@@ -1,4 +1,4 @@
--- Words are one command at most.
+-- Arguments are one command at most.
 use Rattle.std.proofs.Common.{◌≡◌, ◌≢◌, ◌⊎◌, inl, inr, ℕ, ◌≤◌, pos, List, [], ◌∷◌, length, Some, None, codes, refl, sym, ap, ◌∙◌, subst, arith}
 use Rattle.std.proofs.lemmas.Option.{same_Some, none-some}
 use Rattle.std.specs.Prelude.{option_and_then}
@@ -84,7 +84,7 @@ module _ (words : List (List ℕ)) where
             absurd (differs name_is)
       ]
 
-  -- it has two words at least
+  -- it has at least two arguments
   pub two_words : (command : CommandValue) → IsCommand words command → 2 ≤ length words
   two_words command is =
       elim (kinds is) [

@@ -9,7 +9,7 @@ pub record Binding : Type 0 where
   pub name : List ℕ
   pub file : List ℕ
 
--- a word that is cut at its first `=`: the name before it, and the file after it, which is empty where there is no `=`
+-- a word that is cut at its first `=`: the name before it, and the file after it, which is empty if there is no `=`
 abbrev pub binding_spelled : List ℕ → Binding
 binding_spelled word = record { name = before_first (λ b. b == 61) word; file = after_first (λ b. b == 61) word }
 

@@ -41,7 +41,7 @@ IsUpto word (each cuts) = AreCutBindings word cuts
 abbrev pub IsTime : ℤ → Type 0
 IsTime cut = (neg_ℤ T ≤ℤ cut) × (cut ≤ℤ T)
 
--- each cut does, and where names have cuts there is a name
+-- each cut does, and if names have cuts there is a name
 abbrev pub IsUptoWithin : UptoValue → Type 0
 IsUptoWithin (all cut) = IsTime cut
 IsUptoWithin (each cuts) = (cuts ≢ []) × AllByRecursion (λ binding. IsTime binding.cut) cuts

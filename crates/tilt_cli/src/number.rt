@@ -40,7 +40,7 @@ pub(crate) fn read_ticks(word: &str) -> Option<u64>
     u64::try_from(number).ok()
 }
 
-// The times that the word spells, one or more with commas between them, each no less than so many ticks after the one before it.
+// The times that the word spells, one or more with commas between them, each at least `apart` ticks after the one before it.
 pub(crate) fn read_rising(alloc: Global, word: &str, apart: i64) -> Result<Vec<i64>, WordsFault>
     requires { (pos 0 ≤ℤ apart) × (apart ≤ℤ pos 1) }
     ensures { MatchResult result

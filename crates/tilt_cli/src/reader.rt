@@ -84,7 +84,7 @@ fn read_arguments(alloc: Global, words: &[String]) -> Result<Arguments, WordsFau
     Arguments::read(alloc, &OPTIONS, words)
 }
 
-/// Whether the argument can name the file that a program reads first: it isn't empty and doesn't begin with `--`.
+/// Whether the argument can name the file that a program reads first: it isn't empty and doesn't start with `--`.
 pub fn is_file(word: &str) -> bool
     ensures { IsTrue result ↔ IsFile word.now }
 {

@@ -32,7 +32,7 @@ module _ (command : FileCommand) (lawful : IsLawful command) (files : List ℕ �
   abbrev Takes : command.Says → List (List Snapshot) → Type 0
   Takes a rows = TakesSession files binds (command.within a) (command.inputs a) rows
 
-  -- or are refused
+  -- or are rejected
   abbrev Refuses : command.Says → Reason → Type 0
   Refuses a why = RefusesSession files binds (command.within a) (command.inputs a) why
 

@@ -1,4 +1,4 @@
--- The cuts that words give to inputs: their least, and that they lie within the range of times.
+-- The cuts that arguments give to inputs: their least, and that they lie within the range of times.
 use Rattle.std.proofs.Common.{◌≡◌, ◌≢◌, ℕ, zero, suc, ℤ, pos, ◌≤ℤ◌, Bool, true, false, if◌then◌else◌, int_lt, List, [], ◌∷◌, length, map, None, Contains, refl, ap, subst, arith}
 use Rattle.std.specs.Prelude.{replicate}
 use Rattle.std.specs.List.{AllByRecursion}
@@ -36,7 +36,7 @@ are_with_least cuts numbers some same are =
     let least = least_once cuts.least (least_of numbers) numbers some (subst (IsLeast cuts.least) same are.least) (with_least_is numbers) in
     λ i. record { least = least i; each = same i }
 
--- the least of the cuts that words give is their least
+-- the least of the cuts that arguments give is their least
 pub given_least : (upto : UptoValue) (inputs : List (List ℕ)) → IsLeast (cuts_by upto inputs).least (cuts_by upto inputs).each
 given_least (all cut) inputs = least_same cut (length inputs)
 given_least (each cuts) inputs = with_least_is (map (cut_named cuts) inputs)

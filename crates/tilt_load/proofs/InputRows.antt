@@ -7,7 +7,7 @@ use Rattle.tilt_series.specs.Series.{Bounds}
 use Rattle.tilt_cli.specs.Binding.{Binding}
 use Rattle.tilt_load.specs.Inputs.{file_of}
 
--- the rows before others, where there was no refusal
+-- the rows before others, if there was no refusal
 pub record AreBoth (first : Result (List Snapshot) Reason) (others : Result (List (List Snapshot)) Reason) (all : List (List Snapshot)) : Type 0 where
   pub one : List Snapshot
   pub more : List (List Snapshot)
@@ -51,7 +51,7 @@ module _ (files : List ℕ → List ℕ) (binds : List Binding) where
       let all = both_more (input_read files (bounds 0) (file_of binds n) n) (inputs_read files binds behind (ns ++ name ∷ [])) both.one (both.more ++ new ∷ []) both.one_is next in
       all ∙ ap (λ (l : List (List Snapshot)). Ok (l ++ new ∷ [])) (sym both.all_is)
 
-  -- the next input is refused
+  -- the next input is rejected
   pub read_stops : (bounds : ℕ → Bounds) (names more : List (List ℕ)) (rows : List (List Snapshot)) (name : List ℕ) (why : Reason)
       → inputs_read files binds bounds names ≡ Ok rows → input_read files (bounds (length names)) (file_of binds name) name ≡ Err why
       → inputs_read files binds bounds (names ++ name ∷ more) ≡ Err why

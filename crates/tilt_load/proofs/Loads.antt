@@ -72,19 +72,19 @@ check_report (check.BadWindow n) = inr (_, refl)
 check_report (check.BadDomain n) = inr (_, refl)
 check_report check.OutOfMemory = inl refl
 
--- a faulty place refuses the query, unless it is out of memory
+-- a query with a faulty place is rejected, unless the fault is `OutOfMemory`
 pub place_refuses : (name bytes : List ℕ) (fault : LexFault) → length bytes ≤ FILE → (fault ≢ lexical.OutOfMemory → IsFaultyAt 0 bytes fault)
     → IsLoadFault ⊤ (RefusesQuery name bytes) (λ _. ⊥) 0 0 (report_of_place fault)
 place_refuses name bytes fault short faulty =
     loads_by name bytes (report_of_place fault) (place_report fault) (λ why is. no_core (no_tokens fault short (faulty (λ same. let e = ap report_of_place same in cc)) is))
 
--- tokens that are no query refuse it
+-- a query whose tokens are no query is rejected
 pub syntax_refuses : (name bytes : List ℕ) (tokens : List Token) (fault : SyntaxFault) → length bytes ≤ FILE → AreTokens 0 bytes tokens
     → (fault ≢ syntax.OutOfMemory → IsRefused (kinds tokens) fault) → IsLoadFault ⊤ (RefusesQuery name bytes) (λ _. ⊥) 0 0 (report_of_syntax fault)
 syntax_refuses name bytes tokens fault short lexed faulty =
     loads_by name bytes (report_of_syntax fault) (syntax_report fault) (λ why is. no_core (no_statements tokens fault short lexed (faulty (λ same. let e = ap report_of_syntax same in cc)) is))
 
--- a text that is no query is refused
+-- a text that is no query is rejected
 text_refused : (name bytes : List ℕ) (f : TextFault) → length bytes ≤ FILE → IsRefusedText bytes f
     → IsLoadFault ⊤ (RefusesQuery name bytes) (λ _. ⊥) 0 0 (report_of_text f)
 text_refused name bytes f short (no_place {f = place} is) = place_refuses name bytes place short (λ other. is)
@@ -96,7 +96,7 @@ text_refuses name bytes (text.Lexical place) short faulty = text_refused name by
 text_refuses name bytes (text.Refused why) short faulty = text_refused name bytes (text.Refused why) short (faulty (λ e. cc))
 text_refuses name bytes text.OutOfMemory short faulty = tt
 
--- a query that isn't well formed is refused
+-- a query that isn't well formed is rejected
 pub check_refuses : (name bytes : List ℕ) (tokens : List Token) (query : List StatementTree) (fault : CheckFault) → length bytes ≤ FILE
     → AreTokens 0 bytes tokens → IsQueryOf (kinds tokens) query → (fault ≡ check.OutOfMemory) ⊎ (checked query ≡ Err fault)
     → IsLoadFault ⊤ (RefusesQuery name bytes) (λ _. ⊥) 0 0 (report_of_check fault)
@@ -104,13 +104,13 @@ check_refuses name bytes tokens query fault short lexed parsed (inl memory) = rw
 check_refuses name bytes tokens query fault short lexed parsed (inr is_fault) =
     loads_by name bytes (report_of_check fault) (check_report fault) (λ why is. no_core (ill_formed tokens query fault short lexed parsed is_fault is))
 
--- a query that looks too far is refused
+-- a query that looks too far is rejected
 pub reach_refuses : (name bytes : List ℕ) (core : CoreParts) (fault : ReachFault) → HasCore bytes core → IsTold (margins_of core) fault
     → IsLoadFault ⊤ (RefusesQuery name bytes) (λ _. ⊥) 0 0 (report_of_reach fault)
 reach_refuses name bytes core (reach.TooFar back ahead) has is = λ _. far core (record { back = back; ahead = ahead }) has is
 reach_refuses name bytes core reach.OutOfMemory has is = tt
 
--- a faulty name refuses the inputs
+-- inputs with a faulty name are rejected
 pub names_refuse : (tells : Type 0) (files : List ℕ → List ℕ) (binds : List Binding) (bounds : ℕ → Bounds) (inputs : List (List ℕ)) (turn : List ℕ → Type 0)
     (before after : ℕ) (report : Report) → IsNameFault inputs binds report
     → IsLoadFault tells (RefusesSession files binds bounds inputs) turn before after report

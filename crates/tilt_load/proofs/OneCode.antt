@@ -82,7 +82,7 @@ code_refused_or_taken name bytes r c (reference i n short bad) taken =
 pub code_too_long : (name file : List ℕ) (why : Reason) → IsTooLong name file why → RefusesCode name file why
 code_too_long name file why is = rw is.0 (long is.1)
 
--- a listing that is rejected is no code, unless the fault is that it is out of memory
+-- a listing that is rejected is no code, unless the fault is `OutOfMemory`
 pub code_refuses : (name bytes : List ℕ) (f : CodeFault) → length bytes ≤ FILE → ((n : ℕ) → f ≡ fault.BadCode n → IsBadLine bytes n)
     → ((in_loop n : ℕ) → f ≡ fault.BadReference in_loop n → IsBadReference bytes in_loop n) → IsLoadFault ⊤ (RefusesCode name bytes) (λ _. ⊥) 0 0 (report_of_code f)
 code_refuses name bytes (fault.BadCode n) short bad_line bad_reference = λ _. line n short (bad_line n refl)

@@ -50,7 +50,7 @@ module _ (inputs : List (List ℕ)) where
   pub edits_too_long : (name file : List ℕ) (why : Reason) → IsTooLong name file why → RefusesEdits inputs name file why
   edits_too_long name file why is = rw is.0 (long is.1)
 
-  -- a text that is rejected has no edits, unless the fault is that it is out of memory
+  -- a text that is rejected has no edits, unless the fault is `OutOfMemory`
   pub edits_refuse : (name bytes : List ℕ) (f : EditFault) → length bytes ≤ FILE
       → (f ≢ fault.OutOfMemory → (n : ℕ) × (f ≡ fault.BadEdit n) × IsBadLine inputs bytes n)
       → IsLoadFault ⊤ (RefusesEdits inputs name bytes) (λ _. ⊥) 0 0 (report_of_edits f)

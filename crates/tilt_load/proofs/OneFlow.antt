@@ -148,7 +148,7 @@ module _ (name bytes : List ℕ) where
   pub flow_too_long : (why : Reason) → IsTooLong name bytes why → RefusesFlow name bytes why
   flow_too_long why is = rw is.0 (long is.1)
 
-  -- a text that is no pipeline is rejected, unless the fault is that it is out of memory
+  -- a text that is no pipeline is rejected, unless the fault is `OutOfMemory`
   pub flow_refuses : (f : FlowFault) → length bytes ≤ FILE → (f ≢ fault.OutOfMemory → IsRefusedText bytes f)
       → IsLoadFault ⊤ (RefusesFlow name bytes) (λ _. ⊥) 0 0 (report_of_flow f)
   flow_refuses (fault.BadByte at) short known = λ _. no_flow (fault.BadByte at) short (known (λ e. cc)) refl
@@ -157,7 +157,7 @@ module _ (name bytes : List ℕ) where
   flow_refuses (fault.StepType n) short known = λ _. no_flow (fault.StepType n) short (known (λ e. cc)) refl
   flow_refuses fault.OutOfMemory short known = tt
 
-  -- a pipeline whose query looks too far is rejected, unless the fault is that it is out of memory
+  -- a pipeline whose query looks too far is rejected, unless the fault is `OutOfMemory`
   pub far_refuses : (flow : FlowTree) (c : CoreParts) (f : ReachFault) → HasFlow bytes flow → c ≡ core flow → IsTold (margins_of c) f
       → IsLoadFault ⊤ (RefusesFlow name bytes) (λ _. ⊥) 0 0 (report_of_reach f)
   far_refuses flow c (reach.TooFar back ahead) has same is =

@@ -155,7 +155,7 @@ module _ (files : List ℕ → List ℕ) (binds : List Binding) where
         within = (series_within (bounds 0) bytes both.one series, more.within);
       })
 
-  -- inputs are never refused for a checkpoint
+  -- inputs are never rejected for a checkpoint
   input_no_checkpoint : (long : Bool) (file name : List ℕ) (read : Result (List Snapshot) SeriesFault)
       → (if long then Err (file_too_long file) else named name read) ≡ Err bad_checkpoint → ⊥
   input_no_checkpoint true file name read e = cc e

@@ -23,7 +23,7 @@ module _ (tells : Type 0) (is_refusal : Reason → Type 0) (has_turn : List ℕ 
 abbrev pub IsTooLong : List ℕ → List ℕ → Reason → Type 0
 IsTooLong name file why = (why ≡ file_too_long name) × (FILE < length file)
 
--- it is a file's turn: that of an input among these, each of which is read within the bounds of its place
+-- it is a file's turn: the turn of an input among these, each of which is read within the bounds of its place
 pub record HasSessionTurn (tells : Type 0) (files : List ℕ → List ℕ) (binds : List Binding) (bounds : ℕ → Bounds)
     (inputs : List (List ℕ)) (file : List ℕ) : Type 0 where
   pub bind : Binding

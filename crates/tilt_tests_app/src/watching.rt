@@ -12,7 +12,7 @@ use tilt_watch::{Ends, FirstRows, Next, Range, Tally, UntilAbove, UntilTime, Wat
 
 const FILES: &[File<'_>] = &[("q", QUERY), ("s", SERIES), ("none", b"start,end,value\n")];
 
-// What the four watchers begin with, what they have of the first row, and what they have of both.
+// What the four watchers start with, what they have of the first row, and what they have of both.
 const BEFORE: &[(i64, i64)] = &[(0, 0), (i64::MAX, i64::MIN), (i64::MAX, i64::MIN), (0, 0)];
 
 const ONE: &[(i64, i64)] = &[(1, 7), (7, 7), (0, 5), (1, 7)];

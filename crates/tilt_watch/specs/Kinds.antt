@@ -1,4 +1,4 @@
--- What each kind of watcher begins with, its step, and which pairs are its ends (our own rule).
+-- What each kind of watcher starts with, its step, and which pairs are its ends (our own rule).
 use Rattle.std.specs.Prelude.{ℤ, pos, negsuc, ◌+ℤ◌, Bool, false, ◌&&◌, not, int_lt, int_le, Option, Some, None}
 use Rattle.std.specs.Int.{int_min, int_max}
 use Rattle.std.specs.Ordering.{int_eq}
@@ -28,7 +28,7 @@ tallied pair (Some value) = (saturated (pair.0 +ℤ pos 1), saturated (pair.1 +�
 abbrev pub tally_step : ℤ × ℤ → Snapshot → ℤ × ℤ
 tally_step pair row = tallied pair row.value
 
--- no least one yet, and no greatest
+-- no minimum yet, and no maximum
 abbrev pub extremes_begin : ℤ × ℤ
 extremes_begin = (highest, lowest)
 
@@ -37,11 +37,11 @@ abbrev pub widened : ℤ × ℤ → Option ℤ → ℤ × ℤ
 widened pair None = pair
 widened pair (Some value) = (int_min pair.0 value, int_max pair.1 value)
 
--- the least and the greatest value
+-- the minimum and the maximum value
 abbrev pub range_step : ℤ × ℤ → Snapshot → ℤ × ℤ
 range_step pair row = widened pair row.value
 
--- the least start and the greatest end
+-- the minimum start and the maximum end
 abbrev pub ends_step : ℤ × ℤ → Snapshot → ℤ × ℤ
 ends_step pair row = (int_min pair.0 row.start, int_max pair.1 row.end)
 
@@ -49,7 +49,7 @@ ends_step pair row = (int_min pair.0 row.start, int_max pair.1 row.end)
 abbrev pub no_end : ℤ × ℤ → Bool
 no_end pair = false
 
--- so many rows were counted
+-- this many rows were counted
 abbrev pub first_rows_end : ℤ → ℤ × ℤ → Bool
 first_rows_end limit pair = int_le limit pair.0
 
@@ -62,11 +62,11 @@ abbrev pub counted_greatest : ℤ × ℤ → Option ℤ → ℤ × ℤ
 counted_greatest pair None = pair
 counted_greatest pair (Some value) = (saturated (pair.0 +ℤ pos 1), int_max pair.1 value)
 
--- counts rows, and keeps the greatest value
+-- counts rows, and keeps the maximum value
 abbrev pub until_above_step : ℤ × ℤ → Snapshot → ℤ × ℤ
 until_above_step pair row = counted_greatest pair row.value
 
--- the greatest value is above the limit
+-- the maximum value is above the limit
 abbrev pub until_above_end : ℤ → ℤ × ℤ → Bool
 until_above_end limit pair = int_lt limit pair.1
 
