@@ -1,4 +1,5 @@
--- Calls that are sessions of one run: the first starts it, each later one goes on from what the one before it saved, and the last one ends it.
+-- Calls that are sessions of one run: the first starts it, each later one goes on from what the one before it saved, and the last one
+-- ends it.
 use Rattle.std.specs.Prelude.{◌≡◌, ◌++◌, ⊤, ℕ, List, [], ◌∷◌, Bool, Option, None, Some}
 use Rattle.std.specs.List.{AllByRecursion}
 use Rattle.tilt_app.specs.Change.{ShelfChange, SinkChange}

@@ -8,7 +8,7 @@ use crate::number::read_within;
 use std::alloc::{AllocError, Global};
 use tilt_base::T;
 
-/// Up to where a session is handed the rows of its inputs: those that start below a cut. Cuts are in ticks and lie in `-T..=T`.
+/// Up to where a session is handed the rows of its inputs: the rows that start below a cut. Cuts are in ticks and lie in `-T..=T`.
 #[derive(Debug, Drop)]
 pub enum Upto {
     /// One cut for all inputs.

@@ -64,7 +64,7 @@ pub enum Refusal<'a> {
         /// The number of the line, counted from 1.
         line: u64,
     },
-    /// The file of the checkpoint is the text of none.
+    /// The checkpoint file isn't the text of a checkpoint.
     BadCheckpoint,
     /// The session would end before the cut of its checkpoint. The cuts are those of the first input whose cut falls, or the minimum cuts
     /// if there is no input.
@@ -94,7 +94,7 @@ pub enum Refusal<'a> {
         /// The number of the step, counted from 1.
         step: u32,
     },
-    /// The expression of a step of a pipeline hasn't the type that the step asks for.
+    /// The expression of a step of a pipeline doesn't have the type that the step needs.
     StepType {
         /// The number of the step, counted from 1.
         step: u32,
@@ -106,7 +106,7 @@ pub enum Refusal<'a> {
         /// The first row that it would overlap.
         row: Row,
     },
-    /// A line of a file of corrections is none.
+    /// A line of a file of corrections is no correction.
     BadEdit {
         /// The number of the line, counted from 1.
         line: u64,

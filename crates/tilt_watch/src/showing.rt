@@ -7,7 +7,7 @@ use crate::panel::Panel;
 use crate::watcher::Watcher;
 use tilt_stream::{Snap, SnapList};
 
-/// Lets the watchers of the list see those snapshots that aren't null, in order, and drops each once it has seen enough. Takes no memory.
+/// Lets the watchers of the list see the snapshots that aren't null, in order, and drops each once it has seen enough. Takes no memory.
 pub fn show(list: &mut Vec<Box<dyn Watcher>>, panel: &mut Panel, rows: &SnapList)
     requires { AreInStep panel.old (watches pair step ends list.old.items) }
     ensures places { panel.new ≡ places_after panel.old (watches pair step ends list.old.items) (rows_of rows.now) }
@@ -19,7 +19,7 @@ pub fn show(list: &mut Vec<Box<dyn Watcher>>, panel: &mut Panel, rows: &SnapList
     }
 }
 
-/// The same of one snapshot.
+/// The same for one snapshot.
 pub fn show_snap(list: &mut Vec<Box<dyn Watcher>>, panel: &mut Panel, snap: &Snap)
     requires { AreInStep panel.old (watches pair step ends list.old.items) }
     ensures places { panel.new ≡ places_after panel.old (watches pair step ends list.old.items) (rows_of (snap.now ∷ [])) }
