@@ -39,7 +39,7 @@ cut_behind_marked : (x : Stream) (start end : ℤ) (rest : ℕ) → (0 < rest �
 cut_behind_marked x start end zero marked = refl
 cut_behind_marked x start end (suc rest) marked = rw (marked (omega arith)) refl
 
--- The first snapshot ends where no mark stood before and one follows, or at the end of all.
+-- The first snapshot ends where no mark was before and one follows, or at the end of all.
 pub snapshots-first : (x : Stream) (lo end hi : ℤ) → lo <ℤ end → end ≤ℤ hi → IsUnmarked x (lo +ℤ pos 1) end
     → (end <ℤ hi → x.mark (end +ℤ pos 1) ≡ true) → snapshots x lo hi ≡ snapshot_on x lo end ∷ snapshots x end hi
 snapshots-first x lo end hi before within clear marked =

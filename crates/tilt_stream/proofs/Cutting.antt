@@ -91,7 +91,7 @@ module _ (x : Stream) (h : ChangesOnlyAtMarks x) (t : ℤ) where
       (λ longer. cells_behind start (tick +ℤ pos 1) end more (omega (arith, ints)) (omega (arith, ints)) longer)
       (x.mark (tick +ℤ pos 1)) refl
 
--- a mark in the first piece stands at its first tick alone
+-- a mark in the first piece is at its first tick alone
 mark_of_piece : (a b inside m : Bool) → (a ≡ false → inside ≡ true → m ≡ false) → (a || b || false) ≡ (a || b || (inside && m))
 mark_of_piece true b inside m h = refl
 mark_of_piece false true inside m h = refl

@@ -11,7 +11,7 @@ use Rattle.tilt_stream.specs.Marks.{IsNextMark, HasNoMarkAbove, NamesNextMark}
 use Rattle.tilt_stream.specs.Snap.{Snapshot, InOrder, ended_below}
 use Rattle.tilt_stream.specs.Stream.{Stream, cell_at, covers, mark_at, stream_of}
 
--- those that end below a tick stand before the others
+-- those that end below a tick are before the others
 pub ended-parted : (from limit : ℤ) (list : List Snapshot) (tick : ℤ) → InOrder from limit list → IsPartitionedBy (λ (s : Snapshot). int_lt s.end tick) list
 ended-parted from limit list tick h = parted (λ s. s.end) (λ s width. (omega (arith, ints), omega (arith, ints))) from limit list tick h
 
@@ -79,7 +79,7 @@ cell-before from limit list tick s h is before =
 pub cell-behind : (from limit : ℤ) (list : List Snapshot) (tick : ℤ) → InOrder from limit list → slice_get list (ended_below tick list) ≡ None → None ≡ cell_at list tick
 cell-behind from limit list tick h is = rw is at (ended-cell from limit list tick h)
 
--- the mark that the next one tells above a tick: at its first tick where it starts there or later, and else after its last
+-- the mark above a tick that the next one gives: at its first tick if it starts there or later, and else after its last
 abbrev pub mark_by : Option Snapshot → ℤ → Option ℤ
 mark_by None tick = None
 mark_by (Some s) tick = Some ((if int_le tick s.start then s.start else s.end) +ℤ pos 1)
@@ -130,7 +130,7 @@ mark-next from limit s ss tick h rest false is =
     let none = none_ended s.end limit ss tick h.3 ongoing in
     rw (is, none) (mark-first from limit s ss tick h ongoing (int_le tick s.start) refl)
 
--- the next mark above a tick is told by the first one that doesn't end below it
+-- the next mark above a tick is given by the first one that doesn't end below it
 pub ended-mark : (from limit : ℤ) (list : List Snapshot) (tick : ℤ) → InOrder from limit list → NamesNextMark (stream_of list) tick (mark_by (slice_get list (ended_below tick list)) tick)
 ended-mark from limit [] tick h = λ other above. refl
 ended-mark from limit (s ∷ ss) tick h =

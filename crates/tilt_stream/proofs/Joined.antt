@@ -1,5 +1,5 @@
--- The snapshots up to a tick, taken apart at an earlier one: those up to there but for the last, and those from the tick before on, the
--- first of which goes on from where the last one began.
+-- The snapshots up to a tick, split at an earlier one. The first part is those up to there except the last. The second is those from
+-- the tick before on, the first of which goes on from where the last one began.
 use Rattle.std.proofs.Common.{◌≡◌, ℕ, zero, suc, ◌+◌, ◌<◌, ℤ, pos, ◌+ℤ◌, ◌-ℤ◌, ◌<ℤ◌, ◌≤ℤ◌, List, [], ◌∷◌, ◌++◌, length, Option, Some, inl, inr, refl, sym, ap, ◌∙◌, arith}
 use Rattle.std.specs.Int.{int_gap}
 use Rattle.std.proofs.lemmas.Bool.{cases_Bool}

@@ -66,7 +66,7 @@ met_behind-agrees x y false lo hi tick (suc n) h (inl above) high =
     rw (mark, cell, met_behind-agrees x y false lo hi (tick +ℤ pos 1) n h (inl (omega (arith, ints))) (omega (arith, ints))) refl
 met_behind-agrees x y false lo hi tick (suc n) h (inr e) high = absurd (cc e.1)
 
--- a window within the stretch meets the same cells: its first tick counts in any case
+-- a window within the stretch meets the same cells: its first tick always counts
 pub met-agrees : (x y : Stream) (lo hi from to : ℤ) → Agree x y lo hi → lo ≤ℤ from → to ≤ℤ hi → met x from to ≡ met y from to
 met-agrees x y lo hi from to h low high =
     by_lt_z from to

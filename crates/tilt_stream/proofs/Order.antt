@@ -14,7 +14,7 @@ starts_behind from limit x (y ∷ ys) s h behind =
     let b : x.end ≤ℤ s.start = starts_behind x.end limit y ys s h.3 behind in
     omega (arith, ints)
 
--- what stands after the end of the last one may be added
+-- what is after the end of the last one may be added
 pub InOrder-push : (from limit : ℤ) (xs : List Snapshot) (s : Snapshot) → InOrder from limit xs → from ≤ℤ s.start
     → ForSome (last_end xs) (λ end. end ≤ℤ s.start) → s.start <ℤ s.end → s.end ≤ℤ limit → InOrder from limit (xs ++ s ∷ [])
 InOrder-push from limit [] s h low behind width high = (low, width, high, tt)

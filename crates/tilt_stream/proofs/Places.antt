@@ -38,7 +38,7 @@ ended-rises tick later [] le = omega arith
 ended-rises tick later (s ∷ ss) le =
     rises-by tick later s ss (int_lt s.end tick) (int_lt s.end later) refl refl le (ended-rises tick later ss le)
 
--- one that stands after the lower bound of all ends above it
+-- one that is after the lower bound of all ends above it
 read_above : (from limit : ℤ) (list : List Snapshot) (place : ℕ) (s : Snapshot) → InOrder from limit list → slice_get list place ≡ Some s → (from ≤ℤ s.start) × (s.start <ℤ s.end) × (s.end ≤ℤ limit)
 read_above from limit [] place s h is = absurd (cc is)
 read_above from limit (x ∷ xs) zero s h is = let e : x ≡ s = cc in rw (← e) (h.0, h.1, h.2)
@@ -106,7 +106,7 @@ found-stands from limit list place s tick h is stays low =
       | inr other ↦ omega arith
     ]
 
--- so it stands where the first does that doesn't
+-- so it is where the first is that doesn't
 pub found-there : (from limit : ℤ) (list : List Snapshot) (place : ℕ) (s : Snapshot) (tick : ℤ) → InOrder from limit list
     → slice_get list place ≡ Some s → tick ≤ℤ s.end → place ≤ ended_below tick list → slice_get list (ended_below tick list) ≡ Some s
 found-there from limit list place s tick h is stays low = rw (← found-stands from limit list place s tick h is stays low) is

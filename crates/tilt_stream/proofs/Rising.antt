@@ -34,7 +34,7 @@ module _ (measure : Snapshot → ℤ) (within : LiesWithin measure) where
   rises from limit (s ∷ ss) (suc i) zero d h le there = absurd (omega arith)
   rises from limit (s ∷ ss) (suc i) (suc j) d h le there = rises s.end limit ss i j d h.3 (omega arith) (omega arith)
 
-  -- so those of which it is below a tick stand before the others
+  -- so those of which it is below a tick are before the others
   pub parted : (from limit : ℤ) (list : List Snapshot) (tick : ℤ) → InOrder from limit list → IsPartitionedBy (λ (s : Snapshot). int_lt (measure s) tick) list
   parted from limit list tick h = λ i j d le there below.
       let rise = rises from limit list i j d h le there in

@@ -47,13 +47,13 @@ mark_at-append [] back tick h = h
 mark_at-append (f ∷ front) back tick h =
     third_true (int_eq tick (f.start +ℤ pos 1)) (int_eq tick (f.end +ℤ pos 1)) _ (mark_at-append front back tick h)
 
--- a mark stands at its first tick
+-- a mark is at its first tick
 pub mark_at-start : (front : List Snapshot) (s : Snapshot) (back : List Snapshot) → mark_at (front ++ s ∷ back) (s.start +ℤ pos 1) ≡ true
 mark_at-start front s back =
     let start : int_eq (s.start +ℤ pos 1) (s.start +ℤ pos 1) ≡ true = grind (arith, ints) in
     mark_at-append front (s ∷ back) (s.start +ℤ pos 1) (first_true (int_eq (s.start +ℤ pos 1) (s.start +ℤ pos 1)) (int_eq (s.start +ℤ pos 1) (s.end +ℤ pos 1)) (mark_at back (s.start +ℤ pos 1)) start)
 
--- a mark stands after its last tick
+-- a mark is after its last tick
 pub mark_at-end : (front : List Snapshot) (s : Snapshot) (back : List Snapshot) → mark_at (front ++ s ∷ back) (s.end +ℤ pos 1) ≡ true
 mark_at-end front s back =
     let end : int_eq (s.end +ℤ pos 1) (s.end +ℤ pos 1) ≡ true = grind (arith, ints) in

@@ -10,8 +10,8 @@ abbrev pub some_mark : Stream → ℤ → ℕ → Bool
 some_mark x tick zero = false
 some_mark x tick (suc more) = x.mark (tick +ℤ pos 1) || some_mark x (tick +ℤ pos 1) more
 
--- `every`: at each tick the cell of the least grid point that isn't below it; a mark stands after a grid point where one of the ticks up
--- to the next one had a mark
+-- `every`: at each tick the cell of the smallest grid point that isn't below it. A mark is after a grid point if one of the ticks up to
+-- the next one had a mark.
 abbrev pub on_grid : GridPoints → Stream → Stream
 on_grid grid x = record {
   cell = λ tick. x.cell (ceil grid tick);

@@ -1,5 +1,5 @@
 -- Streams that take each tick by itself: constants, shifts and the scalar operators (after the TiLT paper's temporal expressions; marks
--- are our own rule). A mark stands where one of the operands has one, the branch that isn't chosen included.
+-- are our own rule). A mark is where one of the operands has one, the branch that isn't chosen included.
 use Rattle.std.specs.Prelude.{ℤ, ◌+ℤ◌, false, ◌||◌, Option, None}
 use Rattle.tilt_base.specs.declared.operator.Op1.{Op1}
 use Rattle.tilt_base.specs.declared.operator.Op2.{Op2}

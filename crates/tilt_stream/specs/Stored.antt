@@ -1,4 +1,4 @@
--- How snapshots are told apart, which a type that contracts see as plain data needs.
+-- How snapshots are distinguished, which a type that contracts see as plain data needs.
 use Rattle.std.specs.Prelude.{ℤ, List, Option, refl}
 use Rattle.std.specs.Coded.{Coded, code_by, coded×, coded_list, coded_option, coded_ℤ}
 use Rattle.tilt_stream.specs.Snap.{Snapshot}

@@ -19,8 +19,8 @@ met_behind x begins tick (suc more) =
 abbrev pub met : Stream → ℤ → ℤ → List (Option ℤ)
 met x lo hi = met_behind x true lo (int_gap lo hi)
 
--- what a reducer gives on the numbers among the cells that each tick's window meets; a mark stands where the source has one at the
--- window's last tick or at its first
+-- What a reducer gives on the numbers among the cells that each tick's window meets. A mark is where the source has one at the
+-- window's last tick or at its first.
 abbrev pub windowed : Reducer → ℤ → ℤ → Stream → Stream
 windowed reducer from to x = record {
   cell = λ tick. reduce reducer (numbers (met x (tick +ℤ from) (tick +ℤ to)));

@@ -25,7 +25,7 @@ pub trait Buffer {
     fn first_kept(&self) -> usize
         ensures { result ≡ forgotten self.now };
 
-    /// The one at a place, counted in the same way, or none where no more were made.
+    /// The one at a place, counted in the same way, or none if no more were made.
     fn at(&self, place: usize) -> Option<Snap>
         requires kept { forgotten self.now ≤ place }
         ensures snap { result ≡ slice_get (list self.now) place }

@@ -10,8 +10,8 @@ use crate::seen::Seen;
 use crate::snap::Snap;
 use tilt_base::Cell;
 
-/// A place in a buffer, which moves on with time. It stands at a tick: the place is that of the first snapshot that doesn't end
-/// below the tick. A buffer that made more snapshots since is fit for it too: then it has to move before it answers.
+/// A place in a buffer, which moves on with time. It is at a tick: the place is the place of the first snapshot that doesn't
+/// end below the tick. It also fits a buffer that made more snapshots since: then it must move before it reads.
 #[derive(Clone, Copy, Debug)]
 pub struct Cursor {
     tick: i64,
@@ -29,7 +29,7 @@ impl Cursor {
         }
     }
 
-    /// The tick at which it stands.
+    /// The tick at which it is.
     #[inline]
     pub fn tick(&self) -> i64
         ensures { result ≡ self.now.tick }
@@ -37,8 +37,8 @@ impl Cursor {
         self.tick
     }
 
-    /// Moves to a tick that isn't below its own, where the buffer keeps the snapshots from that tick on; those that it passes needn't
-    /// be kept any more. It takes the logarithm of the number of snapshots that it passes, and reads one where it passes none.
+    /// Moves to a tick that isn't below its own, if the buffer keeps the snapshots from that tick on. The snapshots that it passes
+    /// needn't be kept any more. It takes the logarithm of the number of snapshots that it passes, and reads one if it passes none.
     pub fn move_to<B: Buffer>(&mut self, buffer: &B, tick: i64)
         requires fits { self.old.place ≤ ended_below self.old.tick (B.list buffer.now) }
         requires kept { B.forgotten buffer.now ≤ ended_below tick (B.list buffer.now) }
@@ -78,7 +78,7 @@ impl Cursor {
         self.seen(buffer)
     }
 
-    // Stands at a tick, and at the place of the first snapshot that doesn't end below it.
+    // Is at a tick, and at the place of the first snapshot that doesn't end below it.
     #[inline]
     fn stand(&mut self, tick: i64, place: usize)
         ensures { self.new ≡ record { tick = tick; place = place } }
@@ -87,7 +87,7 @@ impl Cursor {
         self.place = place;
     }
 
-    /// Moves to a later tick, where it is known that no snapshot ends from its own tick on and below that one: it reads nothing.
+    /// Moves to a later tick, if it is known that no snapshot ends from its own tick on and below that one: it reads nothing.
     #[inline]
     pub fn stay_until(&mut self, tick: i64)
         ensures { self.new ≡ record { tick = tick; place = self.old.place } }
@@ -95,7 +95,7 @@ impl Cursor {
         self.tick = tick;
     }
 
-    /// The cell of the buffer's stream at the tick where the cursor stands.
+    /// The cell of the buffer's stream at the cursor's tick.
     #[inline]
     pub fn value<B: Buffer>(&self, buffer: &B) -> Cell
         requires stands { self.now.place ≡ ended_below self.now.tick (B.list buffer.now) }
@@ -105,8 +105,8 @@ impl Cursor {
         self.seen(buffer).cell
     }
 
-    /// The least tick above that of the cursor at which the buffer's stream has a mark: where a snapshot begins, or one has ended.
-    /// `None` exactly where no such tick has a mark.
+    /// The smallest tick above the cursor's at which the buffer's stream has a mark: where a snapshot begins, or one has ended.
+    /// `None` exactly if no such tick has a mark.
     #[inline]
     pub fn next<B: Buffer>(&self, buffer: &B) -> Option<i64>
         requires stands { self.now.place ≡ ended_below self.now.tick (B.list buffer.now) }
@@ -118,7 +118,7 @@ impl Cursor {
         self.seen(buffer).next
     }
 
-    // The cell where the cursor stands, and the next mark above it, by one look at the buffer.
+    // The cell at the cursor's tick, and the next mark above it, by one read of the buffer.
     #[inline]
     fn seen<B: Buffer>(&self, buffer: &B) -> Seen
         requires stands { self.now.place ≡ ended_below self.now.tick (B.list buffer.now) }
@@ -203,7 +203,7 @@ fn is_passed<B: Buffer>(buffer: &B, place: usize, tick: i64) -> bool
     }
 }
 
-// Two places between which the first snapshot lies that doesn't end below a tick, or at one of them: by steps of 1, 1, 2, 4
+// Two places: the first snapshot that doesn't end below a tick is between them, or at one of them. The steps are 1, 1, 2, 4
 // and so on, so that a cursor which passes one snapshot reads two.
 fn reach<B: Buffer>(buffer: &B, from: usize, tick: i64) -> (usize, usize)
     requires fits { from ≤ ended_below tick (B.list buffer.now) }

@@ -46,7 +46,7 @@ impl Rows {
         })
     }
 
-    /// Adds a row after the last one. After want of memory the rows are as before.
+    /// Adds a row after the last one. If memory runs out, the rows are as before.
     pub fn push(&mut self, row: Row) -> Result<(), OutOfMemory>
         requires behind { ForSome (last_end self.old) (λ end. end ≤ℤ row.start) }
         requires low { neg_ℤ T ≤ℤ row.start }
@@ -60,7 +60,7 @@ impl Rows {
         Ok(())
     }
 
-    /// Adds rows after the last one, none of which starts before it ends. After want of memory the rows are as before.
+    /// Adds rows after the last one, none of which starts before it ends. If memory runs out, the rows are as before.
     pub fn append(&mut self, more: &[Row]) -> Result<(), OutOfMemory>
         requires behind { ForSome (last_end self.old) (λ end. AllByRecursion (λ row. end ≤ℤ row.start) more.now) }
         requires rows { AreRows more.now }
@@ -72,7 +72,7 @@ impl Rows {
         Ok(())
     }
 
-    /// Puts a row at a place, counted from 0, where all are in order then. After want of memory the rows are as before.
+    /// Inserts a row at a place, counted from 0, such that all are in order then. If memory runs out, the rows are as before.
     pub fn insert(&mut self, i: usize, row: Row) -> Result<(), OutOfMemory>
         requires within { i ≤ length self.old }
         requires in_order { AreRows (insert self.old i row) }
@@ -123,7 +123,7 @@ impl Rows {
         self.rows[i]
     }
 
-    /// The end of the last row, or `None` where there is no row.
+    /// The end of the last row, or `None` if there is no row.
     pub fn last_end(&self) -> Option<i64>
         ensures value { result ≡ last_end self.now }
         ensures low { IfSome result (λ end. neg_ℤ T ≤ℤ end) }

@@ -56,7 +56,7 @@ impl Snap {
     }
 }
 
-/// Where the last one ends, or `None` where there is none.
+/// The end of the last one, or `None` if there is none.
 pub(crate) fn last_end(snaps: &[Snap]) -> Option<i64>
     ensures { result ≡ last_end snaps.now }
 {

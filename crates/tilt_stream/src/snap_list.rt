@@ -41,7 +41,7 @@ impl SnapList {
         }
     }
 
-    /// Adds a snapshot that starts where the last one ends. After want of memory the list is as before.
+    /// Adds a snapshot that starts where the last one ends. If memory runs out, the list is as before.
     pub fn push(&mut self, snap: Snap) -> Result<(), OutOfMemory>
         requires touches { ForSome (last_end self.old) (λ end. end ≡ snap.start) }
         requires low { neg_ℤ WIDE ≤ℤ snap.start }
@@ -54,7 +54,7 @@ impl SnapList {
         Ok(())
     }
 
-    /// Adds snapshots after the last one, with which all are without gaps. After want of memory the list is as before.
+    /// Adds snapshots after the last one, such that all are without gaps then. If memory runs out, the list is as before.
     pub fn append(&mut self, more: &[Snap]) -> Result<(), OutOfMemory>
         requires { AreSnapshots (self.old ++ more.now) }
         ensures ok { OnOk result (self.new ≡ self.old ++ more.now) }
@@ -64,8 +64,8 @@ impl SnapList {
         Ok(())
     }
 
-    /// Puts other snapshots in place of those from one place to before another, counted from 0, with which all are without gaps. After
-    /// want of memory the list is as before.
+    /// Replaces the snapshots from one place to before another, counted from 0, by others, such that all are without gaps then. If
+    /// memory runs out, the list is as before.
     pub fn replace(&mut self, from: usize, to: usize, piece: SnapList) -> Result<(), OutOfMemory>
         requires order { from ≤ to }
         requires within { to ≤ length self.old }
@@ -77,7 +77,7 @@ impl SnapList {
         Ok(())
     }
 
-    /// Takes the last snapshot off: `None` exactly where there is none. It takes no memory.
+    /// Takes the last snapshot off: `None` exactly if there is none. It takes no memory.
     pub fn pop(&mut self) -> Option<Snap>
         ensures { MatchOption result ((self.old ≡ []) × (self.new ≡ [])) (λ last. self.old ≡ self.new ++ last ∷ []) }
     {
@@ -174,8 +174,8 @@ impl SnapList {
         if snap.start < tick { snap.value } else { None }
     }
 
-    /// The least tick above this one at which the list's stream has a mark: where a snapshot begins, or the last one has
-    /// ended. `None` exactly where no such tick has a mark.
+    /// The smallest tick above this one at which the list's stream has a mark: where a snapshot begins, or the last one
+    /// has ended. `None` exactly if no such tick has a mark.
     pub fn next_begin(&self, after: i64) -> Option<i64>
         ensures next { NamesNextMark (stream_of self.now) after result }
         ensures low { IfSome result (λ next. neg_ℤ WIDE <ℤ next) }

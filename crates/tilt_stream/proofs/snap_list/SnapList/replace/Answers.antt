@@ -5,7 +5,7 @@ use Rattle.std.proofs.lemmas.Iterator.Adapters.{YieldsList-from_vec, fact_from_c
 use Rattle.tilt_stream.specs.declared.snap.Snap.{Snap}
 use Rattle.tilt_stream.proofs.snap_list.SnapList.replace.Goals as goal
 
--- what is put is the whole of the piece
+-- what is inserted is the whole of the piece
 pub put : (c : goal.After-drop-branch) → c.splice.new.self.items ≡ splice c.self.inside.snaps.items c.args.from c.args.to c.piece.inside.snaps.items
 put c =
     let h = c.in_ok-splice.ensures.items in
