@@ -1,4 +1,4 @@
--- Puts, one after another.
+-- Writes, one after another.
 use Rattle.std.proofs.Common.{IsErr, ◌≡◌, ℕ, ◌+◌, ◌≤◌, List, [], ◌++◌, length, Result, Ok, Err, sym, inl, inr, ◌∙◌, append_assoc, length-append, arith, add_assoc, zero-add}
 use Rattle.std.proofs.lemmas.List.{append-nil}
 use Rattle.tilt_outside.specs.Faults.{Rose}
@@ -14,7 +14,7 @@ front_first old new piece more cut = record {
   appended = cut.appended;
 }
 
--- a prefix of a piece after one that was put whole
+-- a prefix of a piece after one that was written whole
 pub front_behind : (old mid new done piece : List ℕ) → mid ≡ old ++ done → AppendsFront mid new piece → AppendsFront old new (done ++ piece)
 front_behind old mid new done piece whole cut = record {
   front = done ++ cut.front;
@@ -29,7 +29,7 @@ rose_from old mid new kept (inl more) = inl (omega arith)
 rose_from old mid new kept (inr full) = inr full
 
 module _ {K : Type 0} (tells : Type 0) (written : K → List ℕ) (faults : K → ℕ) (takes : K → ℕ → Type 0) where
-  -- nothing was put
+  -- nothing was written
   pub puts-none : (sink : K) → Puts tells written faults takes sink sink [] (Ok tt)
   puts-none sink = record {
     whole = λ _. sym (append-nil (written sink));
@@ -38,7 +38,7 @@ module _ {K : Type 0} (tells : Type 0) (written : K → List ℕ) (faults : K �
     room = λ n h. rw (zero-add n) at h;
   }
 
-  -- a piece after bytes that were put whole
+  -- a piece after bytes that were written whole
   pub puts-then : (old mid new : K) (done piece : List ℕ) (result : Result (Unit {0}) Failed) → Puts tells written faults takes old mid done (Ok tt)
       → Puts tells written faults takes mid new piece result → Puts tells written faults takes old new (done ++ piece) result
   puts-then old mid new done piece (Ok u) first then = record {

@@ -3,7 +3,7 @@ use Rattle.std.specs.Prelude.{◌<◌, ◌≡◌, ◌⊎◌, ℕ, ◌≤◌, Res
 use Rattle.tilt_outside.specs.Counts.{last_count}
 use Rattle.tilt_outside.specs.declared.failed.Failed.{Failed}
 
--- a count of 64 bits rose, or stands at its end, where it can't rise
+-- a 64-bit count rose, or is at its end, where it can't rise
 abbrev pub Rose : ℕ → ℕ → Type 0
 Rose before after = (before < after) ⊎ (after ≡ last_count)
 

@@ -14,7 +14,7 @@ pub record SinkState : Type 0 where
 abbrev pub PutFails : SinkState → List ℕ → Type 0
 PutFails sink piece = (sink.room < length piece) ⊎ Contains sink.failing (next_count sink.calls)
 
--- the sink after a put that took the piece
+-- the sink after a write that took the piece
 abbrev pub after_put : SinkState → List ℕ → SinkState
 after_put sink piece = record sink {
   written = sink.written ++ piece;
@@ -22,11 +22,11 @@ after_put sink piece = record sink {
   calls = next_count sink.calls;
 }
 
--- how many bytes a put that fails takes: half of the piece, as far as there is room
+-- how many bytes a write that fails takes: half of the piece, as far as there is room
 abbrev pub taken_at_fault : SinkState → List ℕ → ℕ
 taken_at_fault sink piece = min (length piece / 2) sink.room
 
--- the sink after a put that failed
+-- the sink after a write that failed
 abbrev pub after_fault : SinkState → List ℕ → SinkState
 after_fault sink piece = record sink {
   written = sink.written ++ take (taken_at_fault sink piece) piece;

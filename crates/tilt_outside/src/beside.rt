@@ -12,8 +12,8 @@ const ENDING: &str = ".tilt-save";
 /// How many bytes of a file's name the name of the new file begins with at most, so that the whole isn't too long.
 const MOST_OF_NAME: usize = 200;
 
-/// The path of the new file: in the same folder, `.NAME.PROGRAM.tilt-save`. Only the first 200 bytes of NAME stand there, so
-/// files of one folder whose names begin with the same 200 bytes aren't to be saved at the same time.
+/// The path of the new file: in the same folder, `.NAME.PROGRAM.tilt-save`. It holds only the first 200 bytes of NAME, so
+/// don't save two files of one folder at the same time if their names begin with the same 200 bytes.
 pub(crate) fn path_beside(
     alloc: Global,
     path: &PathBuf,
@@ -25,8 +25,8 @@ pub(crate) fn path_beside(
     path.with_file_name(alloc, beside.as_str())
 }
 
-/// Takes away the new files that saves under that name have left before they were renamed, also those of programs that still
-/// run: their saves then fail. A file that can't be taken away stays.
+/// Deletes the new files that saves under that name have left before they were renamed, also those of programs that still
+/// run: their saves then fail. A file that can't be deleted stays.
 pub(crate) fn remove_left<R: Files>(alloc: Global, files: &R, folder: &str, name: &str) {
     let name = start_of(name);
     let Ok(entries) = fs::read_dir(&(files, alloc), folder) else {

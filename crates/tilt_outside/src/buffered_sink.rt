@@ -58,7 +58,7 @@ impl<W: Write + Drop> Sink for BufferedSink<W> {
 
     ghost takes = { λ _ _. ⊤ };
 
-    /// Where the writer is known to hold its bytes, the piece is appended to them and to those that are held back.
+    /// If the writer is known to hold its bytes, the piece is appended to them and to the bytes that are held back.
     fn put(&mut self, piece: &[u8]) -> Result<(), Failed>
         ensures puts { Puts ⊥ (λ _. []) (λ sink. sink.faults) (λ _ _. ⊤) self.old self.new piece.now result }
 
@@ -72,7 +72,7 @@ impl<W: Write + Drop> Sink for BufferedSink<W> {
         Err(Failed)
     }
 
-    /// Where the writer is known to hold its bytes, those that were put stay as they are.
+    /// If the writer is known to hold its bytes, the bytes that were written stay as they are.
     fn flush(&mut self) -> Result<(), Failed>
         ensures handed_on { OnOk result (self.new.held_back ≡ 0) }
         ensures written { let none : List ℕ = [] in none ≡ none }

@@ -12,7 +12,7 @@ use std::marker::Model;
 use std::rt::Files;
 
 /// A shelf whose names are the paths of files. Nothing is proved of the bytes that they hold. A read from the beginning
-/// opens the file anew. It then stays open, so that reading on from the place reached opens and seeks nothing, and a
+/// opens the file again. It then stays open, so that reading on from the place reached opens and seeks nothing, and a
 /// pipe can be read too. No file is opened before the last one was let go of, so one descriptor serves.
 #[derive(Drop)]
 pub struct DiskShelf<'a, R: Files> {
@@ -43,7 +43,8 @@ impl<'a, R: Files> Model for DiskShelf<'a, R> {
 
 impl<'a, R: Files> DiskShelf<'a, R> {
     /// A shelf with no fault yet, that has given nothing. It takes memory for the names of files. `program` is a number
-    /// that no other running program has, as that of its process: a save makes a new file with this number in its name.
+    /// that no other running program has, such as the number of its process: a save makes a new file with this number
+    /// in its name.
     pub fn new(alloc: Global, files: &'a R, program: u32) -> DiskShelf<'a, R>
         ensures { result ≡ record { read_faults = 0; save_faults = 0; given = 0 } }
     {

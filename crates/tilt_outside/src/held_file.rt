@@ -69,7 +69,7 @@ impl HeldFile {
         self.room
     }
 
-    /// Puts these bytes in the place of those that are there.
+    /// Replaces the bytes that are there by these.
     pub(crate) fn replace(&mut self, bytes: &[u8])
         requires { length bytes.now ≤ self.old.room }
         ensures { self.new ≡ record self.old { bytes = bytes.now } }

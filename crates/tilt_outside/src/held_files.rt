@@ -7,7 +7,7 @@ ghost use Rattle.tilt_outside.specs.HeldFiles.{bytes_held, HasNoRoom, room_of, H
 use crate::held_file::HeldFile;
 use std::alloc::AllocError as OutOfMemory;
 
-// Where the file of that name stands.
+// The place of the file of that name.
 fn place_of(files: &[HeldFile], name: &str) -> Option<usize>
     ensures { result ≡ position (λ file. bytes_eq file.name name.now) files.now }
 {
@@ -23,7 +23,7 @@ pub(crate) fn find_bytes<'a>(files: &'a [HeldFile], name: &str) -> Option<&'a [u
     Some(file.bytes())
 }
 
-/// How many bytes the file of that name may have, and 0 where there is none.
+/// How many bytes the file of that name may have, and 0 if there is none.
 pub(crate) fn find_room(files: &[HeldFile], name: &str) -> usize
     ensures { result ≡ room_of files.now name.now }
 {
@@ -36,7 +36,7 @@ pub(crate) fn find_room(files: &[HeldFile], name: &str) -> usize
     }
 }
 
-/// Puts the file in the place of the one of its name, or after all.
+/// Replaces the file of its name by the file, or appends it after all if there is none.
 pub(crate) fn put_file(
     files: &mut Vec<HeldFile>,
     name: &str,
@@ -53,7 +53,7 @@ pub(crate) fn put_file(
     Ok(())
 }
 
-/// Puts the bytes in the place of those that the name holds, where it is held and they fit its room.
+/// Replaces the bytes that the name holds by these, if it is held and they fit its room.
 pub(crate) fn replace_bytes(files: &mut Vec<HeldFile>, name: &str, bytes: &[u8]) -> bool
     ensures refused { IsFalse result ↔ HasNoRoom files.old.items name.now (length bytes.now) }
     ensures held { OnTrue result (HoldsInstead files.old.items files.new.items name.now bytes.now
@@ -81,7 +81,7 @@ pub(crate) fn count_from(bytes: &[u8], at: u64, room: usize) -> usize
     room.min(bytes.len() - start)
 }
 
-/// Puts so many bytes from a place on into the beginning of the room.
+/// Copies that many bytes from a place on into the beginning of the room.
 pub(crate) fn copy_from(bytes: &[u8], at: u64, count: usize, room: &mut [u8])
     requires in_room { count ≤ length room.old }
     requires there { count ≤ length bytes.now - at }

@@ -1,7 +1,7 @@
-//! The outside of the program: a shelf of named files that is read and saved to, and a sink of bytes that is written to. What comes
-//! in and goes out is bytes; a fault is told only where the count of faults rose (the clauses `cause`). `read_all` reads a whole
-//! file up to a limit (`whole`, `short`), and leaves the shelf as `OnlyReads` of `specs/Reads` says (`rest`). `MemShelf` and
-//! `MemSink` stand in for the outside in tests, and fail where they are told to; `SureShelf` and `SureSink` never fail.
+//! The outside of the program: a shelf of named files that is read and saved to, and a sink of bytes that is written to. Input and
+//! output are bytes. A fault is reported only if the count of faults rose (the clauses `cause`). `read_all` reads a whole file up
+//! to a limit (`whole`, `short`), and leaves the shelf as `OnlyReads` of `specs/Reads` says (`rest`). `MemShelf` and `MemSink`
+//! replace the outside in tests, and fail at the calls that the test names; `SureShelf` and `SureSink` never fail.
 #![tactic(auto)]
 
 mod beside;

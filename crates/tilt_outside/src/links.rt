@@ -10,7 +10,7 @@ use std::rt::Files;
 /// How many links a name may lead through, as on Linux.
 const MOST_LINKS: u32 = 40;
 
-/// The path that the name leads to: it is no link, but where it is a file that the program was handed open.
+/// The path that the name leads to: it is no link, unless it is a file that the program was handed open.
 pub(crate) fn followed<R: Files>(alloc: Global, files: &R, name: &str) -> io::Result<PathBuf> {
     let mut path = PathBuf::from_str(alloc, name)?;
     for _ in 0..=MOST_LINKS {
@@ -22,8 +22,8 @@ pub(crate) fn followed<R: Files>(alloc: Global, files: &R, name: &str) -> io::Re
     Err(io::Error::from(ErrorKind::FilesystemLoop))
 }
 
-/// Whether the path is that of a file that the program was handed open, as `/dev/stdout` leads to: one of `/dev/fd`, or of
-/// `/proc/PROCESS/fd` or `/proc/PROCESS/task/THREAD/fd`. Any other folder may be named `fd` too, as `/dev/shm/fd`.
+/// Whether the path names a file that the program was handed open, as `/dev/stdout` leads to: one of `/dev/fd`, or of
+/// `/proc/PROCESS/fd` or `/proc/PROCESS/task/THREAD/fd`. Any other folder may be named `fd` too, such as `/dev/shm/fd`.
 pub(crate) fn is_descriptor(path: &PathBuf) -> bool {
     let Some(folder) = path.parent() else {
         return false;
@@ -48,7 +48,7 @@ fn is_process(name: &str) -> bool {
     name == "self" || name == "thread-self" || is_number(name)
 }
 
-/// What the system says of the path, with its links followed, and `None` where nothing is there.
+/// What the system says of the path, with its links followed, and `None` if nothing is there.
 pub(crate) fn find<R: Files>(files: &R, path: &str) -> io::Result<Option<Metadata>> {
     found(again(|| files.metadata(path)))
 }

@@ -16,8 +16,8 @@ use crate::shelf::Shelf;
 use std::alloc::{AllocError as OutOfMemory, Global};
 use std::marker::Model;
 
-/// A shelf that keeps its files in memory, and fails where it is told to. Each file has room for so many bytes, which
-/// is set aside when it is held, so that a read or a save takes no memory.
+/// A shelf that keeps its files in memory, and fails at the calls that it was given. Each file has room for a number
+/// of bytes, which is set aside when it is held, so that a read or a save takes no memory.
 #[derive(Drop)]
 pub struct MemShelf {
     alloc: Global,
@@ -60,8 +60,7 @@ impl MemShelf {
         }
     }
 
-    /// Makes the name hold these bytes, with room for the greater of `room` and their number. After want of memory
-    /// all is as before.
+    /// Makes the name hold these bytes, with room for the larger of `room` and their number. If memory runs out, all is as before.
     pub fn hold(&mut self, name: &str, bytes: &[u8], room: usize) -> Result<(), OutOfMemory>
         ensures held { OnOk result
             (HoldsInstead self.old.files self.new.files name.now bytes.now (max room (length bytes.now))) }
@@ -72,7 +71,7 @@ impl MemShelf {
         put_file(&mut self.files, name, file)
     }
 
-    /// What the name holds, and `None` exactly where it isn't held.
+    /// What the name holds, and `None` exactly if it isn't held.
     pub fn bytes(&self, name: &str) -> Option<&[u8]>
         ensures { option_copied result ≡ bytes_held self.now.files name.now }
     {
@@ -111,7 +110,7 @@ impl Shelf for MemShelf {
 
     ghost lends = { λ _. ⊤ };
 
-    /// Fails exactly where the name isn't held or the number of the call is listed. It gives as many bytes as there are
+    /// Fails exactly if the name isn't held or the number of the call is listed. It gives as many bytes as there are
     /// from `at` on and fit the room.
     fn read_at(&mut self, name: &str, at: u64, room: &mut [u8]) -> Result<usize, Failed>
         requires space { 0 < length room.old }
@@ -146,8 +145,8 @@ impl Shelf for MemShelf {
         }
     }
 
-    /// Fails exactly where the name isn't held, the bytes are more than its room, or the number of the call is
-    /// listed. A save that fails changes no file.
+    /// Fails exactly if the name isn't held, the bytes are more than its room, or the number of the call is listed. A
+    /// save that fails changes no file.
     fn save(&mut self, name: &str, bytes: &[u8]) -> Result<(), Failed>
         ensures saved { ⊤ → OnOk result (content_of self.new.files name.now ≡ bytes.now) }
         ensures old_or_new { ⊤ → OnErr result

@@ -9,8 +9,8 @@ use crate::sink::Sink;
 use std::alloc::{AllocError as OutOfMemory, Global};
 use std::marker::Model;
 
-/// A sink that keeps what is written to it in memory, and fails where it is told to. It has room for so many bytes,
-/// which it sets aside when it is made, so that a put takes no memory.
+/// A sink that keeps what is written to it in memory, and fails at the calls that it was given. It has room for a
+/// number of bytes, which it sets aside when it is made, so that a write takes no memory.
 #[derive(Drop)]
 pub struct MemSink {
     bytes: Vec<u8>,
@@ -38,7 +38,7 @@ impl Model for MemSink {
 }
 
 impl MemSink {
-    /// A sink to which nothing was written, with room for so many bytes.
+    /// A sink to which nothing was written, with room for `room` bytes.
     pub fn new(alloc: Global, room: usize) -> Result<MemSink, OutOfMemory>
         ensures { IfOk result (λ sink. sink ≡ record {
           written = [];
@@ -64,7 +64,7 @@ impl MemSink {
         self.bytes.as_slice()
     }
 
-    /// Makes the call of that number fail. Puts and flushes are counted together from 1, those that fail too.
+    /// Makes the call of that number fail. Calls of `put` and `flush` are counted together from 1, those that fail too.
     pub fn fail_at(&mut self, call: u64) -> Result<(), OutOfMemory>
         ensures ok { OnOk result (self.new ≡ record self.old { failing = self.old.failing ++ call ∷ [] }) }
         ensures err { OnErr result (self.new ≡ self.old) }
@@ -97,8 +97,8 @@ impl Sink for MemSink {
 
     ghost takes = { λ _ _. ⊤ };
 
-    /// Fails exactly where the piece is longer than the room or the number of the call is listed. It then appends
-    /// the first half of the piece, rounded down, as far as there is room.
+    /// Fails exactly if the piece is longer than the room or the number of the call is listed. It then appends the
+    /// first half of the piece, rounded down, as far as there is room.
     fn put(&mut self, piece: &[u8]) -> Result<(), Failed>
         ensures puts { Puts ⊤ (λ sink. sink.written) (λ sink. sink.faults) (λ _ _. ⊤) self.old self.new piece.now result }
 
@@ -117,7 +117,7 @@ impl Sink for MemSink {
         Ok(())
     }
 
-    /// Fails exactly where the number of the call is listed. Nothing is ever held back.
+    /// Fails exactly if the number of the call is listed. Nothing is ever held back.
     fn flush(&mut self) -> Result<(), Failed>
         ensures handed_on { let none : ℕ = 0 in OnOk result (none ≡ 0) }
         ensures written { self.new.written ≡ self.old.written }

@@ -15,9 +15,9 @@ const OF_OWNER: u32 = 0o700;
 /// Those of all who are neither its owner nor in its group.
 const OF_OTHERS: u32 = 0o007;
 
-/// Makes the name hold these bytes. Where its links lead to a regular file, or to none, a new file beside it takes its
-/// place once it is whole and on the disk; the old file's rights are kept, and one that may not be written stays. What is
-/// no regular file, and a file that the program was handed open, is written in place: where that fails, a prefix of the
+/// Makes the name hold these bytes. If its links lead to a regular file, or to none, a new file beside it takes its place
+/// once it is whole and on the disk. The old file's rights are kept, and an old file that may not be written stays. What
+/// is no regular file, and a file that the program was handed open, is written in place: if that fails, a prefix of the
 /// bytes may have been written. `program` is a number that no other running program has.
 pub(crate) fn save_whole<R: Files>(
     alloc: Global,
@@ -42,7 +42,7 @@ fn write_in_place<R: Files>(files: &R, path: &str, bytes: &[u8]) -> io::Result<(
     file.flush()
 }
 
-// Puts a new file in the place of the old one, if there is one. Where that fails, the new file is taken away again.
+// Moves a new file into the place of the old one, if there is one. If that fails, the new file is deleted again.
 fn replace<R: Files>(
     alloc: Global,
     files: &R,

@@ -7,12 +7,12 @@ ghost use Rattle.tilt_outside.specs.Reads.{OnlyReads};
 
 use crate::failed::Failed;
 
-/// Named files. Code that is generic over a shelf knows of it only what stands here.
+/// Named files. Code that is generic over a shelf knows of it only what is here.
 pub trait Shelf {
-    /// Whether this kind of shelf tells what it holds. A disk doesn't.
+    /// Whether this kind of shelf has a model of what it holds. A disk doesn't.
     ghost tells: { Type 0 };
 
-    /// The bytes that each name holds, where the shelf tells them. A name that isn't held has none.
+    /// The bytes that each name holds, if the shelf has a model of them. A name that isn't held has none.
     ghost files: { Self → List ℕ → List ℕ };
 
     /// How often a read has failed. The count never falls.
@@ -30,8 +30,8 @@ pub trait Shelf {
     /// Which names may be read. No call changes it.
     ghost lends: { List ℕ → Type 0 };
 
-    /// Puts the bytes of the name from place `at` on into the beginning of the room, and answers how many: 0 only at
-    /// the end. It changes no name.
+    /// Copies the bytes of the name from place `at` on into the beginning of the room, and returns how many: 0 only
+    /// at the end. It changes no name.
     fn read_at(&mut self, name: &str, at: u64, room: &mut [u8]) -> Result<usize, Failed>
         requires space { 0 < length room.old }
         requires lent { lends name.now }

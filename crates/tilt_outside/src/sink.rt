@@ -5,25 +5,25 @@ ghost use Rattle.tilt_outside.specs.Written.{Puts};
 
 use crate::failed::Failed;
 
-/// What bytes are written to, in order. Code that is generic over a sink knows of it only what stands here.
+/// What bytes are written to, in order. Code that is generic over a sink knows of it only what is here.
 pub trait Sink {
-    /// Whether this kind of sink tells what was written to it. A terminal or a file on a disk doesn't.
+    /// Whether this kind of sink has a model of what was written to it. A terminal or a file on a disk doesn't.
     ghost tells: { Type 0 };
 
-    /// The bytes that were written so far, in order, where the sink tells them: all that was put, held back or not.
+    /// The bytes that were written so far, in order, if the sink has a model of them: all of them, held back or not.
     ghost written: { Self → List ℕ };
 
-    /// How many bytes were put and not yet handed on.
+    /// How many bytes were written and not yet handed on.
     ghost held_back: { Self → ℕ };
 
-    /// How often a put or a flush has failed. The count never falls.
+    /// How often a write or a flush has failed. The count never falls.
     ghost faults: { Self → ℕ };
 
     /// Whether the sink takes that many bytes more.
     ghost takes: { Self → ℕ → Type 0 };
 
     /// Appends the piece. After `Failed` a prefix of the piece was appended, which may be all of it or nothing. A fault of
-    /// the device may show only at a later put, or at the flush.
+    /// the device may show only at a later write, or at the flush.
     fn put(&mut self, piece: &[u8]) -> Result<(), Failed>
         requires { takes self.old (length piece.now) }
         ensures { Puts tells written faults takes self.old self.new piece.now result };

@@ -10,8 +10,8 @@ use crate::uninterrupted::TRIES;
 use std::io::{ErrorKind, Write};
 use std::marker::Model;
 
-/// A sink that hands each piece at once to a writer of the standard library, which is to hold nothing back, as that of
-/// standard error. A writer of the system says nothing of what reaches it.
+/// A sink that hands each piece at once to a writer of the standard library, which is to hold nothing back, such as
+/// the writer of standard error. A writer of the system says nothing of what reaches it.
 #[derive(Drop)]
 pub struct StdSink<W: Write> {
     writer: W,
@@ -46,7 +46,7 @@ impl<W: Write> Sink for StdSink<W> {
 
     ghost takes = { λ _ _. ⊤ };
 
-    /// Where the writer is known to hold its bytes, the piece is appended to them.
+    /// If the writer is known to hold its bytes, the piece is appended to them.
     fn put(&mut self, piece: &[u8]) -> Result<(), Failed>
         ensures puts { Puts ⊥ (λ _. []) (λ sink. sink.faults) (λ _ _. ⊤) self.old self.new piece.now result }
 
@@ -60,7 +60,7 @@ impl<W: Write> Sink for StdSink<W> {
         outcome
     }
 
-    /// Where the writer is known to hold its bytes, they stay as they are.
+    /// If the writer is known to hold its bytes, they stay as they are.
     fn flush(&mut self) -> Result<(), Failed>
         ensures handed_on { OnOk result (self.new.held_back ≡ 0) }
         ensures written { let none : List ℕ = [] in none ≡ none }

@@ -45,8 +45,7 @@ impl SureShelf {
         }
     }
 
-    /// Makes the name hold these bytes, with room for the greater of `room` and their number. After want of memory
-    /// all is as before.
+    /// Makes the name hold these bytes, with room for the larger of `room` and their number. If memory runs out, all is as before.
     pub fn hold(&mut self, name: &str, bytes: &[u8], room: usize) -> Result<(), OutOfMemory>
         ensures held { OnOk result
             (HoldsInstead self.old.files self.new.files name.now bytes.now (max room (length bytes.now))) }
@@ -57,14 +56,14 @@ impl SureShelf {
         put_file(&mut self.files, name, file)
     }
 
-    /// What the name holds, and `None` exactly where it isn't held.
+    /// What the name holds, and `None` exactly if it isn't held.
     pub fn bytes(&self, name: &str) -> Option<&[u8]>
         ensures { option_copied result ≡ bytes_held self.now.files name.now }
     {
         find_bytes(&self.files, name)
     }
 
-    /// How many bytes the name takes, which is 0 where it isn't held.
+    /// How many bytes the name takes, which is 0 if it isn't held.
     pub fn room(&self, name: &str) -> usize
         ensures { result ≡ room_of self.now.files name.now }
     {

@@ -11,7 +11,7 @@ use std::alloc::{AllocError as OutOfMemory, Global};
 use std::marker::Model;
 
 /// A sink that keeps what is written to it in memory, and never fails. It takes as many bytes as there is room for, which
-/// it sets aside when it is made, so that a put takes no memory.
+/// it sets aside when it is made, so that a write takes no memory.
 #[derive(Drop)]
 pub struct SureSink {
     bytes: Vec<u8>,
@@ -30,7 +30,7 @@ impl Model for SureSink {
 }
 
 impl SureSink {
-    /// A sink to which nothing was written, with room for so many bytes.
+    /// A sink to which nothing was written, with room for `room` bytes.
     pub fn new(alloc: Global, room: usize) -> Result<SureSink, OutOfMemory>
         ensures { IfOk result (λ sink. sink ≡ record { written = []; room = room }) }
     {

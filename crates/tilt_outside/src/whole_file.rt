@@ -44,8 +44,8 @@ impl From<AllocError> for ReadAllFault {
 }
 
 /// Reads the whole file of that name, which may have up to `limit` bytes. It takes at most one byte more. `TooLong` comes
-/// where that many were taken, `ReadFault` where a read failed, and `OutOfMemory` where there was no memory for the bytes.
-/// It changes no name.
+/// if that many were taken, `ReadFault` if a read failed, and `OutOfMemory` if there was no memory for the bytes. It
+/// changes no name.
 pub fn read_all<S: Shelf>(
     alloc: Global,
     shelf: &mut S,
@@ -59,14 +59,14 @@ pub fn read_all<S: Shelf>(
     ensures too_long { S.tells → IsErrOf result ReadAllFault.TooLong → limit < length (S.files shelf.old name.now) }
     ensures read_fault { IsErrOf result ReadAllFault.ReadFault → Rose (S.read_faults shelf.old) (S.read_faults shelf.new) }
 
-    // How many bytes were taken, whether the shelf tells them or not, as far as the count goes.
+    // How many bytes were taken, whether the shelf has a model of them or not, as far as the count goes.
     ensures taken { IfOk result (λ bytes. S.given shelf.new ≡ added_count (S.given shelf.old) (length bytes.items)) }
     ensures passed { IsErrOf result ReadAllFault.TooLong → S.given shelf.new ≡ added_count (S.given shelf.old) (limit + 1) }
     ensures only_passed { S.given shelf.new ≡ S.given shelf.old + (limit + 1)
         → IsErrOf result ReadAllFault.TooLong ⊎ IsErrOf result ReadAllFault.OutOfMemory }
     ensures most { S.given shelf.new ≤ S.given shelf.old + (limit + 1) }
 
-    // What stands after it, whatever the answer.
+    // The shelf after it, whatever the result.
     ensures rest { OnlyReads S.files S.read_faults S.save_faults S.takes shelf.old shelf.new }
 {
     let mut room = make_room(alloc, PIECE)?;

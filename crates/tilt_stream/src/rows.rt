@@ -37,7 +37,7 @@ impl Rows {
         }
     }
 
-    /// No rows, and room for so many.
+    /// No rows, with room for `rows` of them.
     pub fn with_capacity(alloc: Global, rows: usize) -> Result<Rows, OutOfMemory>
         ensures { IfOk result (λ made. made ≡ []) }
     {
