@@ -170,7 +170,7 @@ all_handed q rows new old cut handed range on are order cells =
       };
     }
 
--- what a session comes to after the checkpoint of rows
+-- the outcome of a session after the checkpoint of rows
 beyond_is : (ending : Option SavedCutValue) (q : List StatementTree) (rows new : List (List Snapshot)) (old : CutsParts)
     → ((upto : CutsParts) → end_of ending q ≡ Upto upto → checkpoint_at q (added rows new) upto ≡ next (checkpoint_at q rows old) new upto)
     → resumed ending (checkpoint_at q rows old) new ≡ beyond_outcome ending q (added rows new) (newly (checkpoint_at q rows old) new (end_of ending q))
@@ -271,7 +271,7 @@ module _ (files : List ℕ → List ℕ) (checkpoint : List ℕ) (binds : List B
   pub never_refused : (why : Reason) → IsFileOutcome (resume_row ending checkpoint) files checkpoint binds (refused (refusal why)) → why ≢ bad_checkpoint
   never_refused why is bad = refused_why (refused (refusal why)) why is refl bad
 
-  -- whatever is told
+  -- whatever is reported
   pub never_bad_report : (shelf : Reading) → shelf.files ≡ files → shelf.tells → (report : Report) → IsUndone (resume_row ending checkpoint) checkpoint binds shelf report
       → report ≡ refusal bad_checkpoint → ⊥
   never_bad_report shelf same told usage undone is = cc is

@@ -96,7 +96,7 @@ pub edits-length : (rows : List (List Snapshot)) (edits : List Edit) (after : Li
     → length after ≡ length rows
 edits-length rows edits after e = kept-all (length rows) (Ok rows) edits (λ rs same. ap (λ (l : List (List Snapshot)). length l) (sym (same_Ok rows rs same))) after e
 
--- each refusal of an edit has a reason that is told
+-- each error of an edit has a reason that is reported
 abbrev IsTold : FixFault → Type 0
 IsTold fault = (why : Reason) × (report_of_fix fault ≡ refusal why)
 
@@ -139,7 +139,7 @@ module _ (fault : FixFault) where
 edits-told : (rows : List (List Snapshot)) (edits : List Edit) (fault : FixFault) → after_edits (Ok rows) edits ≡ Err fault → IsTold fault
 edits-told rows edits fault e = told-all fault (Ok rows) edits (λ no. absurd (cc no)) e
 
--- a query with edits of its rows comes to one thing
+-- a query with edits of its rows has one outcome
 module _ (core : CoreParts) (margins : MarginsParts) (rows : List (List Snapshot)) (edits : List Edit) where
   same_why : (fault other : FixFault) (why more : Reason) → fault ≡ other → report_of_fix fault ≡ refusal why → report_of_fix other ≡ refusal more
       → why ≡ more

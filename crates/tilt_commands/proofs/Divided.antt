@@ -58,7 +58,7 @@ module _ (name : List ℕ) (cuts : List ℤ) (order bytes : List ℕ) where
   parts_taken_or_refused (inl (c, taken)) = by_fault c taken (parts_fault cuts order c) refl
   parts_taken_or_refused (inr (why, is)) = inr (why, no_query is)
 
--- it comes to one thing, and always to one
+-- it has one outcome, and always one
 pub same_parted : (cuts : List ℤ) (c : CoreParts) (rows : List (List Snapshot)) (o p : Outcome) → IsParted cuts c rows o → IsParted cuts c rows p → o ≡ p
 same_parted cuts c rows o p is is' =
     let lists = same_found (output_of c rows) is.list is'.list is.means is'.means in
@@ -85,7 +85,7 @@ pub no_fault : (cuts : List ℤ) (order : List ℕ) (c : CoreParts) (domain : Sp
 no_fault cuts order c domain is fits =
     neither (first_outside domain cuts) (first_unnamed (length cuts) order) (rw is at fits)
 
--- whether the test of a domain told a fault, of a query that was taken
+-- the test of a domain found a fault, of a query that was taken
 pub told_fault : (name : List ℕ) (cuts : List ℤ) (order bytes : List ℕ) (c : CoreParts) (domain : Span) (why : Reason) → domain_of c.defs ≡ Some domain
     → Some why ≡ fault_within cuts order domain → TakesQuery bytes c → RefusesParts name cuts order bytes why
 told_fault name cuts order bytes c domain why is told taken =

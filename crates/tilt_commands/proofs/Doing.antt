@@ -29,7 +29,7 @@ use Rattle.tilt_stream.specs.Snap.{Snapshot}
 use Rattle.tilt_stream.specs.Text.{text_of}
 use Rattle.tilt_cli.specs.Binding.{Binding}
 
--- What a command on a query comes to.
+-- The outcome of a command on a query.
 module _ (query : List ℕ) (gives : CoreParts → List (List Snapshot) → Outcome → Type 0) where
   -- its refusals are those of all commands on queries
   refusal_any : (files : List ℕ → List ℕ) (file : List ℕ) (binds : List Binding) (o : Outcome) → IsFileOutcome (refusing_row query) files file binds o

@@ -98,7 +98,7 @@ module _ (query name : List ℕ) (binds : List Binding) (shelf : Reading) where
         given = then ∙ ap (λ (n : ℕ). added_count n all) given ∙ added-twice shelf.given_before read.count all;
       }
 
--- the query with its edits comes to one thing
+-- the query with its edits has one outcome
 module _ (name bytes : List ℕ) (core : CoreParts) (rows : List (List Snapshot)) where
   same_edits : (edits others : List Edit) (margins more : MarginsParts) (o p : Outcome) → edits ≡ others → margins ≡ more
       → IsCorrected core margins rows edits o → IsCorrected core more rows others p → o ≡ p

@@ -61,7 +61,7 @@ onward_counted c (Upto new) on cuts is =
     ap (λ (k : CutsParts). length k.each) (sym same) ∙ as_many c.series new.each on.1
 onward_counted c End on cuts is = absurd (cc is)
 
--- what is printed newly and saved is what the session comes to
+-- what is printed newly and saved is the outcome of the session
 pub is_resumed : (ending : Option SavedCutValue) (c : CheckpointParts) (rows : List (List Snapshot)) (list : List Snapshot) (next : Option CheckpointParts)
     (save : Option SaveValue) → list ≡ newly c rows (end_after ending c) → next ≡ next_by c rows (end_after ending c) → save ≡ saved_of ending next
     → outcome_of (lines_of list) save ≡ resumed ending c rows

@@ -39,7 +39,7 @@ module _ (q : List StatementTree) (core : CoreParts) (accepted : checked q ≡ O
         near = ap margins_of same ∙ taken.reach;
       }
 
-  -- what is printed and saved is what the session comes to
+  -- what is printed and saved is the outcome of the session
   pub is_started : (cut : SavedCutValue) (cuts : CutsParts) (rows : List (List Snapshot)) (list : List Snapshot) (save bytes : List ℕ) → save ≡ cut.save
       → cuts ≡ cuts_at cut q → list ≡ emitted core rows (Upto cuts) → bytes ≡ spelling (checkpoint_at q rows cuts)
       → printed_and_saved (text_of list) save bytes ≡ started cut q rows

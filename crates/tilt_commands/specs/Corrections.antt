@@ -29,8 +29,8 @@ after_edits rows (edit ∷ edits) = after_edits (and_edit rows edit) edits
 abbrev pub reached_by : CoreParts → MarginsParts → Edit → Option Span
 reached_by core margins edit = reached (record { core = core; margins = margins; fuse = true }) edit
 
--- what a query with edits of its rows comes to: the first edit that is refused ends it; or else it is the text of what the query means on
--- the rows after all edits, and then a line for each edit
+-- The outcome of a query with edits of its rows: the first edit that is rejected ends it. If none is, it is the text of what the query
+-- means on the rows after all edits, and then a line for each edit.
 pub data IsCorrected (core : CoreParts) (margins : MarginsParts) (rows : List (List Snapshot)) (edits : List Edit) : Outcome → Type 0 where
   not_applied : {why : Reason} (fault : FixFault) → after_edits (Ok rows) edits ≡ Err fault → report_of_fix fault ≡ refusal why
       → IsCorrected core margins rows edits (refused (refusal why))

@@ -1,4 +1,4 @@
--- A query that is run in parts: where its output domain may be cut, which parts steps may name, and what it comes to.
+-- A query that is run in parts: where its output domain may be cut, which parts steps may name, and its outcome.
 use Rattle.std.specs.Prelude.{◌≡◌, ◌++◌, ◌||◌, ℕ, ℤ, int_le, nat_lt, List, length, map, Option, Some, None, option_map, option_and_then}
 use Rattle.std.specs.List.{find}
 use Rattle.std.specs.Option.{option_or}
@@ -21,8 +21,7 @@ first_outside domain cuts = find (λ cut. int_le cut domain.start || int_le doma
 abbrev pub first_unnamed : ℕ → List ℕ → Option ℕ
 first_unnamed count order = find (λ part. nat_lt count part) order
 
--- why a domain can't be cut so, or parts can't be stepped in this order: the first cut that isn't inside it, or else the first number that
--- names no part
+-- Why a domain can't be cut so, or parts can't be stepped in this order. It is the first cut that isn't inside it, or else the first number that names no part.
 abbrev pub fault_within : List ℤ → List ℕ → Span → Option Reason
 fault_within cuts order domain =
     option_or (option_map part_outside (first_outside domain cuts)) (option_map no_such_part (first_unnamed (length cuts) order))
@@ -46,8 +45,8 @@ pub data RefusesParts (name : List ℕ) (cuts : List ℤ) (order : List ℕ) (by
 abbrev pub sizes_on : CoreParts → List (List Snapshot) → List Span → List ℕ
 sizes_on core rows spans = map (λ span. length (given core rows span.start span.end)) spans
 
--- the outcome is the text of the snapshots of the query's meaning on its output domain, and then the line of how many it gives on each of
--- the parts that the cuts make
+-- The outcome is the text of the snapshots of the query's meaning on its output domain, and then a line. The line says how many it gives
+-- on each of the parts that the cuts make.
 pub record IsParted (cuts : List ℤ) (core : CoreParts) (rows : List (List Snapshot)) (outcome : Outcome) : Type 0 where
   pub list : List Snapshot
   pub domain : Span

@@ -1,4 +1,4 @@
--- What `fix` comes to: a query on rows that are edited.
+-- The outcome of `fix`: a query on rows that are edited.
 use Rattle.std.specs.Prelude.{◌≡◌, ℕ, List, Ok}
 use Rattle.tilt_bounds.specs.Margins.{MarginsParts, margins_of}
 use Rattle.tilt_commands.specs.Corrections.{IsCorrected}
@@ -10,8 +10,7 @@ use Rattle.tilt_load.specs.FileCommand.{FileCommand}
 use Rattle.tilt_report.specs.Report.{Reason, Outcome, refused, refusal}
 use Rattle.tilt_stream.specs.Snap.{Snapshot}
 
--- of a query on rows, where the edits file of that name has these bytes: the file is refused; or it says edits, and the query with these
--- edits comes to the outcome
+-- Of a query on rows, if the edits file of that name has these bytes: the file is rejected; or it says edits, and the query with these edits has the outcome.
 pub data IsFixed (name bytes : List ℕ) (core : CoreParts) (rows : List (List Snapshot)) : Outcome → Type 0 where
   no_edits : (why : Reason) → RefusesEdits core.inputs name bytes why → IsFixed name bytes core rows (refused (refusal why))
   with_edits : {outcome : Outcome} (edits : List Edit) (margins : MarginsParts) → TakesEdits core.inputs bytes edits

@@ -36,7 +36,7 @@ pub record HandsOn (bytes : List ℕ) (query : List StatementTree) (rows : List 
   pub valid : IsCheckpoint (checkpoint_at query rows cuts)
   pub text : Spells bytes (checkpoint_at query rows cuts)
 
--- what a first session comes to: the query and the rows are those that files give, and what is saved hands them on
+-- the outcome of a first session: files give the query and the rows, and what is saved hands them on
 pub record IsBegun (files : List ℕ → List ℕ) (file : List ℕ) (binds : List Binding) (cut : SavedCutValue) (outcome : Outcome) : Type 0 where
   pub query : List StatementTree
   pub rows : List (List Snapshot)
@@ -60,9 +60,8 @@ abbrev pub IsHandedOn : Option SavedCutValue → List StatementTree → List (Li
 IsHandedOn None query all = ⊤
 IsHandedOn (Some cut) query all = HandsOn (spelling (checkpoint_at query all (cuts_at cut query))) query all (cuts_at cut query)
 
--- what a session comes to that goes on after sessions on these rows, up to cuts: there are more rows, which files give; what is
--- printed beyond is what one session prints on all rows after what one session prints on the earlier ones; and what is saved hands all
--- rows on
+-- The outcome of a session that goes on after sessions on these rows, up to cuts. There are more rows, which files give. One session
+-- prints on all rows what one session prints on the earlier ones, and then what is printed beyond. What is saved hands all rows on.
 pub record IsBeyond (files : List ℕ → List ℕ) (binds : List Binding) (query : List StatementTree) (rows : List (List Snapshot))
     (cuts : CutsParts) (ending : Option SavedCutValue) (outcome : Outcome) : Type 0 where
   pub more : List (List Snapshot)

@@ -35,7 +35,7 @@ module _ (command : List ℕ → FileCommand) (files : List ℕ → List ℕ) (f
     pub bytes : HasBytes (command (files last)) files file binds count
     pub given : after ≡ added_count before (count + length (files last))
 
--- it was done: the result is what it comes to, whoever watches, and keeps a property, or it is why there is none
+-- it was done: the result is its outcome, whoever watches, and keeps a property, or it is why there is none
 pub record DoesLast {T : Type 0} (command : List ℕ → FileCommand) (comes : List Watch → T → Outcome) (keeps : T → Type 0)
     (file : List ℕ) (binds : List Binding) (last : List ℕ) (shelf : Reading) (result : Result T Fault) : Type 0 where
   pub made : shelf.tells

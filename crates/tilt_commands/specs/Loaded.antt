@@ -12,7 +12,7 @@ use Rattle.tilt_syntax.specs.Query.{IsQuery}
 use Rattle.tilt_types.specs.Checked.{checked}
 use Rattle.tilt_cli.specs.Binding.{Binding}
 
--- a command on the query in the file of a name that comes to nothing on any rows: it has refusals, and turns
+-- a command on the query in the file of a name that has no outcome on any rows: it has errors, and turns
 abbrev pub refusing_row : List ℕ → FileCommand
 refusing_row query = query_row query (λ core rows outcome. ⊥)
 

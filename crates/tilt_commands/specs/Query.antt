@@ -8,7 +8,7 @@ use Rattle.tilt_load.specs.SeriesFiles.{no_bounds}
 use Rattle.tilt_report.specs.Report.{Outcome}
 use Rattle.tilt_stream.specs.Snap.{Snapshot}
 
--- a command on the query in the file of a name and on the rows of its inputs, of which it comes to such an outcome
+-- a command on the query in the file of a name and on the rows of its inputs, which has such an outcome of them
 abbrev pub query_row : List ℕ → (CoreParts → List (List Snapshot) → Outcome → Type 0) → FileCommand
 query_row query gives = record {
   Says = CoreParts;

@@ -34,8 +34,7 @@ pub record GoesOn (ending : Option SavedCutValue) (bytes : List ℕ) (c : Checkp
   pub named : faulty_end ending (inputs_of c) ≡ None
   pub onward : IsOnward (cuts_of c) (end_after ending c)
 
--- why a session doesn't go on after the checkpoint file of a name: the file is refused, or else a name of the cuts is faulty, or else a cut
--- falls
+-- Why a session doesn't go on after the checkpoint file of a name: the file is rejected. Or else a name of the cuts is faulty, or else a cut falls.
 pub data RefusesToGoOn (name : List ℕ) (ending : Option SavedCutValue) (bytes : List ℕ) : Reason → Type 0 where
   no_checkpoint : {why : Reason} → RefusesCheckpoint name bytes why → RefusesToGoOn name ending bytes why
   no_cuts : {why : Reason} (c : CheckpointParts) → TakesCheckpoint bytes c → RefusesEnd ending (inputs_of c) why

@@ -7,7 +7,7 @@ use Rattle.tilt_report.specs.Report.{Reason}
 use Rattle.tilt_commands.specs.declared.saved_cut.SavedCut.{SavedCut}
 use Rattle.tilt_cli.specs.Upto.{IsUptoWithin, UptoValue, upto_of}
 
--- the cuts as the words give them, and the name under which the checkpoint there is saved
+-- the cuts as the arguments give them, and the name under which the checkpoint there is saved
 pub record SavedCutValue : Type 0 where
   pub upto : UptoValue
   pub save : List ℕ

@@ -68,8 +68,8 @@ IsExplained core outcome = (margins : MarginsParts) × (margins_of core ≡ Ok m
 abbrev pub explain_row : List ℕ → FileCommand
 explain_row query = lone_row query IsExplained
 
--- the outcome is the text of the snapshots of the query's meaning on its output domain, and then the line of the most that the rings of
--- its code ever hold
+-- The outcome is the text of the snapshots of the query's meaning on its output domain, and then a line. The line says the most that
+-- the rings of its code ever hold.
 pub record IsPiped (fuse : Bool) (core : CoreParts) (rows : List (List Snapshot)) (outcome : Outcome) : Type 0 where
   pub list : List Snapshot
   pub code : CodeParts
@@ -85,8 +85,8 @@ pipe_row query fuse = query_row query (IsPiped fuse)
 abbrev pub watch_row : List ℕ → List Watch → FileCommand
 watch_row query watchers = query_row query (IsMadeOfQuery (λ list. printed (watched_text watchers list)))
 
--- `parts` on the query in the file of a name, with these cuts and in this order of steps, prints what `run` prints, and then the line
--- of how many snapshots come from each part
+-- `parts` on the query in the file of a name, with these cuts and in this order of steps, prints what `run` prints. Then it prints
+-- the line of how many snapshots come from each part.
 abbrev pub parts_row : List ℕ → List ℤ → List ℕ → FileCommand
 parts_row query cuts order = record {
   Says = CoreParts;
@@ -121,8 +121,8 @@ pub data IsTryOutcome (seed count : ℕ) : Outcome → Type 0 where
   summed : (core : CoreParts) (list : List Snapshot) → TakesQuery (query_text count) core
       → output_of core (made_inputs seed count) ≡ Some list → IsTryOutcome seed count (printed (summary_text count list))
 
--- what a command does: it reads a file and the files of its binds, and is such a command beside those who watch; or it reads a file, the
--- files of its binds and a last one, and is such a command by what the last one holds; or it reads nothing, and this is what it comes to
+-- What a command does. It reads a file and the files of its binds, and is such a command with these watchers. Or it reads a file, the files
+-- of its binds and a last one, and is such a command by what the last one holds. Or it reads nothing, and this is its outcome.
 pub data Row : Type 1 where
   reads : (file : List ℕ) (binds : List Binding) (command : List Watch → FileCommand) → Row
   reads_last : (file : List ℕ) (binds : List Binding) (last : List ℕ) (command : List ℕ → FileCommand) → Row

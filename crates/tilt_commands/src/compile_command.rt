@@ -1,4 +1,4 @@
-// What `compile` comes to.
+// The outcome of `compile`.
 ghost use Rattle.std.specs.Prelude.{[], List, ℕ};
 ghost use Rattle.tilt_commands.specs.Table.{compile_row};
 ghost use Rattle.tilt_load.specs.Does.{Does, reading};
@@ -13,7 +13,7 @@ use tilt_outside::Shelf;
 use tilt_printed::{Answered, Printed, WholeText};
 use tilt_report::Fault;
 
-/// What `compile` comes to: the listing of the code of the query in a file, with fusion or without. No series is read.
+/// The outcome of `compile`: the listing of the code of the query in a file, with fusion or without. No series is read.
 pub fn compile<'a, S: Shelf>(
     alloc: Global,
     shelf: &mut S,

@@ -18,7 +18,7 @@ use tilt_printed::WholeText;
 use tilt_report::Fault;
 use tilt_stream::Rows;
 
-// What a query comes to on its rows with edits of them, or the refusal of the first edit that is refused.
+// The outcome of a query on its rows with edits of them, or the error of the first edit that is rejected.
 pub(crate) fn correct<'a>(
     alloc: Global,
     accepted: Accepted,
@@ -55,7 +55,7 @@ fn apply_all(alloc: Global, live: &mut Live, edits: &[Edit]) -> Result<Vec<Optio
     Ok(known)
 }
 
-// Puts the ticks of an edit after those of the earlier ones. Nothing is said of them where memory ran out.
+// Appends the ticks of an edit to the ticks of the earlier ones. Nothing is said of them if memory ran out.
 fn keep(known: &mut Vec<Option<Span>>, span: Option<Span>) -> Result<(), OutOfMemory>
     ensures { OnOk result (known.new.items ≡ known.old.items ++ span ∷ []) }
 {

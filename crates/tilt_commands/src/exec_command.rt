@@ -1,4 +1,4 @@
-// What `exec` comes to.
+// The outcome of `exec`.
 ghost use Rattle.std.specs.Prelude.{List, ℕ};
 ghost use Rattle.tilt_commands.specs.Table.{exec_row};
 ghost use Rattle.tilt_load.specs.Does.{Does, reading};
@@ -15,7 +15,7 @@ use tilt_pipe::{run_pipe, share_rows};
 use tilt_printed::{Answered, Printed, WholeText};
 use tilt_report::Fault;
 
-/// What `exec` comes to: the run of the code in a file, on the files that are bound.
+/// The outcome of `exec`: the run of the code in a file, on the files that are bound.
 pub fn exec<'a, S: Shelf>(
     alloc: Global,
     shelf: &mut S,

@@ -1,4 +1,4 @@
-// What `explain` comes to.
+// The outcome of `explain`.
 ghost use Rattle.std.specs.Prelude.{[], List, ℕ};
 ghost use Rattle.tilt_commands.specs.Table.{explain_row};
 ghost use Rattle.tilt_load.specs.Does.{Does, reading};
@@ -13,8 +13,8 @@ use tilt_outside::Shelf;
 use tilt_printed::{Answered, Printed, WholeText};
 use tilt_report::Fault;
 
-/// What `explain` comes to: how far the query in a file looks, which of its definitions are used and merged, and how many loops it
-/// has. No series is read.
+/// The outcome of `explain`: the look-back and look-ahead of the query in a file, which of its definitions are used and merged,
+/// and how many loops it has. No series is read.
 pub fn explain<'a, S: Shelf>(
     alloc: Global,
     shelf: &mut S,

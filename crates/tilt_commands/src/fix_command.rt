@@ -1,4 +1,4 @@
-// What `fix` comes to.
+// The outcome of `fix`.
 ghost use Rattle.std.specs.Prelude.{List, ℕ};
 ghost use Rattle.tilt_commands.specs.Fixed.{fix_row};
 ghost use Rattle.tilt_commands.specs.LastFile.{DoesLast, HasLastTurn};
@@ -15,8 +15,9 @@ use tilt_outside::Shelf;
 use tilt_printed::{Answered, Printed};
 use tilt_report::Fault;
 
-/// What `fix` comes to: the query in a file, with fusion or without, on the files that are bound, whose rows are edited as the edits file
-/// says, which is read after all of them. All of it is there before the first put: an edit that is refused leaves nothing to print.
+/// The outcome of `fix`: the query in a file, with fusion or without, on the files that are bound. Their rows are edited as the edits
+/// file says, which is read after all of them. All of it is there before the first write: an edit that is rejected leaves nothing to
+/// print.
 pub fn fix<'a, S: Shelf>(
     alloc: Global,
     shelf: &mut S,

@@ -1,4 +1,4 @@
-// What `flow` comes to.
+// The outcome of `flow`.
 ghost use Rattle.std.specs.Prelude.{⊤, List, ℕ};
 ghost use Rattle.tilt_commands.specs.Table.{flow_row};
 ghost use Rattle.tilt_load.specs.Does.{Does, reading};
@@ -15,8 +15,8 @@ use tilt_outside::Shelf;
 use tilt_printed::{Answered, Printed};
 use tilt_report::Fault;
 
-/// What `flow` comes to: the pipeline in a file, on the files that are bound. What it prints is what the pipeline gives by lists;
-/// its query is run, with fusion or without, and a pipe gives it out.
+/// The outcome of `flow`: the pipeline in a file, on the files that are bound. It prints what the pipeline gives by lists; the
+/// pipeline's query is run, with fusion or without, and a pipe gives it out.
 pub fn flow<'a, S: Shelf>(
     alloc: Global,
     shelf: &mut S,

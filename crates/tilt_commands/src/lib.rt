@@ -1,12 +1,12 @@
-//! The commands over files that are read once, and one that makes its own rows. In come a shelf, the name of a file and binds; out
-//! goes what the command comes to, or the first fault.
+//! The commands over files that are read once, and one that makes its own rows. The input is a shelf, the name of a file and
+//! binds; the output is the outcome of the command, or the first fault.
 //!
-//! Each command is a row of `specs/Table`: what its file may say, and what it comes to on the rows of its inputs. The clause `Does` of its
-//! function, or `DoesLast`, says that it does that, that each fault has its cause, and that each file was read once. That words and files
-//! have one outcome, and always one, is `IsLawful` of its row, in `proofs/`.
+//! Each command is a row of `specs/Table`: what its file may say, and its outcome on the rows of its inputs. The clause `Does` of its
+//! function, or `DoesLast`, says that it does that, that each fault has its cause, and that each file was read once. `IsLawful` of its
+//! row, in `proofs/`, says that arguments and files have one outcome, and always one.
 //!
-//! `start_session` and `resume_session` also save a checkpoint under a name. Their clauses `begun` and `beyond` say by `specs/HandsOn` that
-//! sessions print together, and leave, what one session does on all rows.
+//! `start_session` and `resume_session` also save a checkpoint under a name. Their clauses `begun` and `beyond` are stated by
+//! `specs/HandsOn`: sessions together print what one session prints on all rows, and leave what it leaves.
 #![tactic(auto)]
 
 mod compile_command;

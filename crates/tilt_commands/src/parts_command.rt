@@ -1,4 +1,4 @@
-// What `parts` comes to.
+// The outcome of `parts`.
 ghost use Rattle.std.specs.Prelude.{◌≡◌, ◌||◌, neg_ℤ, int_le, List, ℕ, None, length, map, nat_lt, option_map, IfOk, IfErr};
 ghost use Rattle.std.specs.List.{find};
 ghost use Rattle.tilt_base.specs.declared.limits.TheConstants.{T};
@@ -39,8 +39,9 @@ pub struct Division<'a> {
     pub order: &'a [u32],
 }
 
-/// What `parts` comes to: the query in a file, on the files that are bound, by parts of its output domain that are stepped in an order and
-/// joined. Whether the cuts and the order fit the query is tested before the input names are. All of it is there before the first put.
+/// The outcome of `parts`: the query in a file, on the files that are bound, by parts of its output domain that are stepped in an order
+/// and joined. The test whether the cuts and the order fit the query comes before the test of the input names. All of it is there before
+/// the first write.
 pub fn parts<'a, S: Shelf>(
     alloc: Global,
     shelf: &mut S,

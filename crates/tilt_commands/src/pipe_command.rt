@@ -1,4 +1,4 @@
-// What `pipe` comes to.
+// The outcome of `pipe`.
 ghost use Rattle.std.specs.Prelude.{⊤, List, ℕ};
 ghost use Rattle.tilt_commands.specs.Table.{pipe_row};
 ghost use Rattle.tilt_load.specs.Does.{Does, reading};
@@ -14,7 +14,7 @@ use tilt_outside::Shelf;
 use tilt_printed::{Answered, Printed};
 use tilt_report::Fault;
 
-/// What `pipe` comes to: the query in a file, with fusion or without, on the files that are bound. A pipe gives it out.
+/// The outcome of `pipe`: the query in a file, with fusion or without, on the files that are bound. A pipe gives it out.
 pub fn pipe<'a, S: Shelf>(
     alloc: Global,
     shelf: &mut S,

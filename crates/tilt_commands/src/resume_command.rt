@@ -33,11 +33,12 @@ use tilt_report::{Fault, Refusal};
 use tilt_session::{Cut, next_cut, resume};
 use tilt_stream::{Rows, SnapList};
 
-/// A session after the checkpoint in a file: what is printed newly, and where the session ends by cuts its own checkpoint, which is
-/// to be saved; where no cut is given, the session goes on to the last row, and nothing is saved. Each row of an input starts at its
-/// cut of the checkpoint or after it, not before the last row ended, and before its new cut. Whether the cuts are given to the inputs,
-/// and then whether one falls, is tested before the input names are. All memory is taken here. `beyond` says that sessions print
-/// together, and leave, what one session does on all rows, and `good` that what a session leaves is never refused as none.
+/// A session after the checkpoint in a file. It results in what is printed newly, and, if the session ends by cuts, in its own
+/// checkpoint, which is to be saved. If no cut is given, the session goes on to the last row, and nothing is saved. Each row of an
+/// input starts at its cut of the checkpoint or after it, not before the last row ended, and before its new cut. Whether the cuts are
+/// given to the inputs, and then whether one falls, is tested before the input names are. All memory is taken here. `beyond` says that
+/// sessions together print what one session prints on all rows, and leave what it leaves. `good` says that what a session leaves is
+/// never rejected as no checkpoint.
 pub fn resume_session<'a, S: Shelf>(
     alloc: Global,
     shelf: &mut S,

@@ -1,4 +1,4 @@
-// What `run` comes to.
+// The outcome of `run`.
 ghost use Rattle.std.specs.Prelude.{◌≡◌, ◌↔◌, [], neg_ℤ, None, List, ℕ, length, Ok, IfOk};
 ghost use Rattle.tilt_base.specs.declared.limits.TheConstants.{T};
 ghost use Rattle.tilt_commands.specs.Query.{IsMadeOfQuery};
@@ -33,8 +33,8 @@ pub struct Manner<'a> {
     pub cuts: &'a [i64],
 }
 
-/// What `run` comes to: the query in a file, on the files that are bound. Without cuts a pipe gives it out; with cuts it is made by
-/// sessions, and all of it is there before the first put.
+/// The outcome of `run`: the query in a file, on the files that are bound. Without cuts a pipe gives it out; with cuts it is made
+/// by sessions, and all of it is there before the first write.
 pub fn run<'a, S: Shelf>(
     alloc: Global,
     shelf: &mut S,

@@ -1,6 +1,6 @@
 use tilt_cli::Upto;
 
-/// Where a session ends by cuts, and the name under which it saves its checkpoint.
+/// The cuts at which a session ends, and the name under which it saves its checkpoint.
 #[derive(Clone, Copy)]
 pub struct SavedCut<'a> {
     /// The cuts, in ticks: each row of an input starts below its own.

@@ -1,4 +1,4 @@
-// What `try` comes to.
+// The outcome of `try`.
 ghost use Rattle.std.specs.Prelude.{◌≡◌, ◌≤◌, List, length, IfOk, IfErr};
 ghost use Rattle.tilt_commands.specs.Table.{IsTryOutcome, made_inputs};
 ghost use Rattle.tilt_load.specs.QueryFile.{TakesQuery};
@@ -15,8 +15,7 @@ use tilt_printed::{Answered, Printed, WholeText};
 use tilt_report::Fault;
 use tilt_stream::Rows;
 
-/// What `try` comes to: the summary of what its query gives, with fusion, on so many rows from the seed for each input. It reads
-/// nothing.
+/// The outcome of `try`: the summary of what its query gives, with fusion, on `count` rows from the seed for each input. It reads nothing.
 pub fn try_<'a>(alloc: Global, seed: u32, count: u32) -> Result<Answered<'a>, Fault<'a>>
     requires { count ≤ 1000000 }
     ensures made { IfOk result (λ answer. (watchers : List Watch) → IsTryOutcome seed count (comes_to watchers answer)) }

@@ -1,4 +1,4 @@
-// What `watch` comes to.
+// The outcome of `watch`.
 ghost use Rattle.std.specs.Prelude.{⊤, [], List, ℕ};
 ghost use Rattle.tilt_commands.specs.Table.{watch_row};
 ghost use Rattle.tilt_load.specs.Does.{Does, reading};
@@ -13,8 +13,8 @@ use tilt_outside::Shelf;
 use tilt_printed::{Answered, Printed};
 use tilt_report::Fault;
 
-/// What `watch` comes to: the query in a file, with fusion or without, on the files that are bound. A pipe gives it out, and the
-/// watchers are shown its snapshots.
+/// The outcome of `watch`: the query in a file, with fusion or without, on the files that are bound. A pipe gives it out, and
+/// the watchers are shown its snapshots.
 pub fn watch<'a, S: Shelf>(
     alloc: Global,
     shelf: &mut S,

@@ -73,7 +73,7 @@ step_between st.AfterCr c = by (c == 10)
     by true = λ e. cc
     by false = start_record_between c
 
--- what is after a record is no longer than what was left, and stands between two records
+-- what is after a record is no longer than what was left, and is between two records
 pub record IsBehind (bytes : List ℕ) (p : Read) : Type 0 where
   pub short : length p.2 ≤ length bytes
   pub between : ends_at_end p.1 ≡ false

@@ -15,7 +15,7 @@ BytesReader = Reader (Bor (List ℕ))
 abbrev pub bytes_left : BytesReader → Option (List ℕ)
 bytes_left reader = source_of (λ (bytes : Bor (List ℕ)). Some bytes.now) reader
 
--- it takes every record as a row, as it stands and of any length, and is between two records
+-- it takes every record as a row, as it is and of any length, and is between two records
 pub record IsBetween (reader : BytesReader) : Type 0 where
   pub config : reader_config reader ≡ default_config
   pub trim : reader_trim reader ≡ trim.None

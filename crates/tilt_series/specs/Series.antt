@@ -26,7 +26,7 @@ pub record Bounds : Type 0 where
   pub from : Option ℤ
   pub upto : Option ℤ
 
--- the bounds of a row that stands after some rows
+-- the bounds of a row that comes after some rows
 abbrev pub bounds_after : Bounds → List Snapshot → Bounds
 bounds_after bounds rows = record bounds { last_end = option_or (last_end rows) bounds.last_end }
 

@@ -10,7 +10,7 @@ use std::marker::Model;
 use tilt_base::T;
 use tilt_stream::Rows;
 
-/// Where a row may start, each bound where it is given.
+/// Where a row may start: each bound applies if it is given.
 #[derive(Clone, Copy)]
 pub struct Bounds {
     /// Not below the end of the row before.
@@ -32,7 +32,7 @@ impl Model for Bounds {
 }
 
 impl Bounds {
-    /// The bounds of a row that stands after some rows.
+    /// The bounds of a row that comes after some rows.
     pub(crate) fn after(&self, rows: &Rows) -> Bounds
         ensures { result ≡ bounds_after self.now rows.now }
     {
@@ -63,7 +63,7 @@ pub(crate) fn free_stretch(bounds: &Bounds) -> Stretch
     }
 }
 
-/// Whether the tick lies below the bound, which it doesn't where there is none.
+/// Whether the tick is below the bound; without a bound it isn't.
 #[inline]
 pub(crate) fn is_below(tick: i64, bound: Option<i64>) -> bool
     ensures value { result ≡ is_below tick bound }
@@ -75,7 +75,7 @@ pub(crate) fn is_below(tick: i64, bound: Option<i64>) -> bool
     }
 }
 
-/// Whether the tick lies at the bound or above it, which it doesn't where there is none.
+/// Whether the tick is at the bound or above it; without a bound it isn't.
 #[inline]
 pub(crate) fn is_past(tick: i64, bound: Option<i64>) -> bool
     ensures { result ≡ is_past tick bound }

@@ -1,15 +1,15 @@
-// Why a series is refused.
+// Why a series is rejected.
 ghost use Rattle.std.specs.Prelude.{◌≡◌};
 ghost use Rattle.tilt_series.specs.declared.fault.ReadRowsFault.TheVariants.{Refused, OutOfMemory};
 
 use std::alloc::AllocError;
 use thiserror::Error;
 
-/// Why a series file is refused. Rows are the records after the header, counted from 1, and fields are counted from 1.
-/// The first row with a fault is told, and of that row the first fault in the order of this list.
+/// Why a series file is rejected. Rows are the records after the header, counted from 1, and fields are counted from
+/// 1. The first row with a fault is reported, and of that row the first fault in the order of this list.
 #[derive(Clone, Copy, Debug, PartialEq, Eq, Error)]
 pub enum SeriesFault {
-    /// The first record isn't `start`, `end` and `value`, there is no record, or two byte order marks stand at the beginning.
+    /// The first record isn't `start`, `end` and `value`, there is no record, or there are two byte order marks at the beginning.
     #[error("the header isn't start,end,value")]
     BadHeader,
     /// The record hasn't three fields.
@@ -61,7 +61,7 @@ pub enum SeriesFault {
 /// Why a series file gives no rows.
 #[derive(Clone, Copy, Debug, PartialEq, Eq, Error)]
 pub enum ReadRowsFault {
-    /// The file is refused.
+    /// The file is rejected.
     #[error("{0}")]
     Refused(SeriesFault),
     /// There was no memory for the rows.

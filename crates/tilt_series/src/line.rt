@@ -10,7 +10,7 @@ use tilt_stream::Row;
 /// No line is longer.
 pub(crate) const ROOM: usize = 64;
 
-/// Writes `s,e,v` and LF to the end of the room, with nothing for a null value, and answers where the line starts. Takes no memory.
+/// Writes `s,e,v` and LF to the end of the room, with nothing for a null value, and returns where the line starts. Takes no memory.
 #[inline]
 pub(crate) fn line_before(row: &Row, room: &mut [u8; ROOM]) -> usize
     ensures low { 0 < result }
@@ -25,7 +25,7 @@ pub(crate) fn line_before(row: &Row, room: &mut [u8; ROOM]) -> usize
     number_before(room, at, row.start)
 }
 
-// Writes a byte before a place, and answers where it stands.
+// Writes a byte before a place, and returns where it is.
 #[inline]
 fn byte_before(room: &mut [u8; ROOM], end: usize, byte: u8) -> usize
     requires low { 0 < end }

@@ -8,7 +8,7 @@ use tilt_outside::{Failed, Sink};
 use tilt_stream::{Row, Snap, SnapList};
 use tilt_text::append;
 
-/// Puts the header line.
+/// Writes the header line.
 pub fn put_header<O: Sink>(sink: &mut O) -> Result<(), Failed>
     requires { O.takes sink.old (length (codes "start,end,value\n")) }
     ensures { Puts O.tells O.written O.faults O.takes sink.old sink.new (codes "start,end,value\n") result }
@@ -16,7 +16,7 @@ pub fn put_header<O: Sink>(sink: &mut O) -> Result<(), Failed>
     sink.put(b"start,end,value\n")
 }
 
-/// Puts the line of each snapshot that isn't null, in order.
+/// Writes the line of each snapshot that isn't null, in order.
 pub fn put_rows<O: Sink>(sink: &mut O, list: &SnapList) -> Result<(), Failed>
     requires { O.takes sink.old (length (lines_of list.now)) }
     ensures { Puts O.tells O.written O.faults O.takes sink.old sink.new (lines_of list.now) result }
@@ -27,7 +27,7 @@ pub fn put_rows<O: Sink>(sink: &mut O, list: &SnapList) -> Result<(), Failed>
     Ok(())
 }
 
-/// Puts the line of a snapshot, and nothing for a null one.
+/// Writes the line of a snapshot, and nothing for a null one.
 #[inline]
 pub fn put_snap<O: Sink>(sink: &mut O, snap: &Snap) -> Result<(), Failed>
     requires { O.takes sink.old (length (lines_of (snap.now ∷ []))) }
@@ -40,7 +40,7 @@ pub fn put_snap<O: Sink>(sink: &mut O, snap: &Snap) -> Result<(), Failed>
     }
 }
 
-// Puts the line of a row.
+// Writes the line of a row.
 #[inline]
 fn put_row<O: Sink>(sink: &mut O, row: &Row) -> Result<(), Failed>
     requires { O.takes sink.old (length (row_text row.now)) }
@@ -51,8 +51,7 @@ fn put_row<O: Sink>(sink: &mut O, row: &Row) -> Result<(), Failed>
     sink.put(&room[start..])
 }
 
-/// Writes `s,e,v` and LF into the beginning of the room, with nothing for a null value, and answers how long that is. Takes no
-/// memory.
+/// Writes `s,e,v` and LF into the beginning of the room, with nothing for a null value, and returns how long that is. Takes no memory.
 pub fn row_text(row: &Row, room: &mut [u8; 64]) -> usize
     ensures text { take result room.new ≡ row_text row.now }
     ensures len { result ≡ length (row_text row.now) }

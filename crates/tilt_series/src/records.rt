@@ -19,7 +19,7 @@ pub(crate) fn open(alloc: Global, bytes: &[u8]) -> Reader<&[u8]>
         .from_reader(alloc, bytes)
 }
 
-/// Reads the next record, and answers whether there was one.
+/// Reads the next record, and returns whether there was one.
 pub(crate) fn next_record(
     reader: &mut Reader<&[u8]>,
     fields: &mut ByteRecord,
@@ -35,7 +35,7 @@ pub(crate) fn next_record(
     Ok(found)
 }
 
-// What an error of the reader or of memory means: bytes in memory can be read, so it is want of memory.
+// What an error of the reader or of memory means: bytes in memory can be read, so memory ran out.
 fn out_of_memory(error: &Error) -> OutOfMemory
     requires { stops_reader (error_kind error.now) ≡ true }
 {

@@ -24,7 +24,7 @@ pub(crate) fn is_header(fields: &ByteRecord) -> bool
     }
 }
 
-/// The row of a record that stands after some rows, or its first fault.
+/// The row of a record that comes after some rows, or its first fault.
 #[inline]
 pub(crate) fn read_row(
     fields: &ByteRecord,

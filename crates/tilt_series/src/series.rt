@@ -13,16 +13,16 @@ use tilt_stream::Rows;
 /// Two byte order marks, U+FEFF in UTF-8.
 const TWO_MARKS: &[u8] = b"\xEF\xBB\xBF\xEF\xBB\xBF";
 
-/// Most rows are spelled by so many bytes of the file at least, so that the room that is made for them at first is mostly enough. Room
-/// that no row comes into is never touched.
+/// Most rows are spelled by this many bytes of the file or more, so that the room that is made for them at first is mostly enough.
+/// Room that no row comes into is never touched.
 const BYTES_A_ROW: usize = 16;
 
 /// The rows of a series file, or its first fault (`Refused`). The first record is the header `start,end,value`, and each other is a
-/// row. Records are those of the crate `csv`, which takes more than RFC 4180: fields parted by commas, fields in quotes,
-/// records ended by LF, CR or CRLF, empty lines skipped. One byte order mark at the beginning is passed over.
+/// row. The crate `csv` reads the records, and takes more than RFC 4180: fields separated by commas, fields in quotes, records
+/// ended by LF, CR or CRLF, empty lines skipped. One byte order mark at the beginning is passed over.
 ///
-/// Where `last_end` is given, the first row doesn't start below it; where `from` is given, no row starts below it; and
-/// where `upto` is given, each row starts below it. `OutOfMemory` comes for want of memory alone.
+/// If `last_end` is given, the first row doesn't start below it. If `from` is given, no row starts below it; and if
+/// `upto` is given, each row starts below it. `OutOfMemory` comes only if memory runs out.
 pub fn read_rows(
     alloc: Global,
     bytes: &[u8],
