@@ -10,7 +10,7 @@ use Rattle.tilt_load.specs.FileCommand.{FileCommand}
 use Rattle.tilt_report.specs.Report.{Reason, Outcome, refused, refusal}
 use Rattle.tilt_stream.specs.Snap.{Snapshot}
 
--- Of a query on rows, if the edits file of that name has these bytes: the file is rejected; or it says edits, and the query with these edits has the outcome.
+-- Of a query on rows, if the edits file of that name has these bytes: the file is rejected. Or it says edits, and the query with these edits has the outcome.
 pub data IsFixed (name bytes : List ℕ) (core : CoreParts) (rows : List (List Snapshot)) : Outcome → Type 0 where
   no_edits : (why : Reason) → RefusesEdits core.inputs name bytes why → IsFixed name bytes core rows (refused (refusal why))
   with_edits : {outcome : Outcome} (edits : List Edit) (margins : MarginsParts) → TakesEdits core.inputs bytes edits

@@ -11,7 +11,7 @@ use Rattle.tilt_text.specs.Step.{◌>>=◌}
 use Rattle.tilt_text.proofs.Step.{bind_some}
 use Rattle.tilt_text.proofs.Words.{front-until}
 
--- a step that always goes on comes to nothing only where nothing was read before it
+-- a step that always goes on gives nothing only if nothing was read before it
 bind_none : {A B : Type 0} (o : Option A) (f : A → B) → (o >>= λ x. Some (f x)) ≡ None → o ≡ None
 bind_none None f none = refl
 bind_none (Some x) f none = absurd (none-some (f x) (sym none))

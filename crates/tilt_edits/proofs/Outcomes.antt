@@ -80,7 +80,7 @@ outcome-either inputs bytes edits line are bad =
     bad.bad.some (sym (same inputs are.lines edits [] bad.good bad.edits bad.rest are.say bad.say (inl refl) (inr bad.bad)
     (append-nil (text_of_lines are.lines) ∙ sym are.is ∙ bad.is)).same_rest)
 
--- a text comes to what it comes to after its first line, with that line
+-- the outcome of a text is the outcome after its first line, with that line
 after_line : (inputs : List (List ℕ)) (bytes : List ℕ) (edit : Edit) (rest : List ℕ) → NextLine inputs bytes edit rest
     → Outcome inputs rest → Outcome inputs bytes
 after_line inputs bytes edit rest next (inl (edits, are)) =
@@ -141,7 +141,7 @@ outcome_within inputs (suc n) (b ∷ bs) short =
 pub outcome-some : (inputs : List (List ℕ)) (bytes : List ℕ) → Outcome inputs bytes
 outcome-some inputs bytes = outcome_within inputs (length bytes) bytes (omega arith)
 
--- what is told of a bad line
+-- what is reported of a bad line
 told : (inputs : List (List ℕ)) (bytes : List ℕ) (line : ℕ) → Tells inputs bytes (BadEdit line) → IsBadLine inputs bytes line
 told inputs bytes line tells = let t = tells (λ e. cc e) in subst (IsBadLine inputs bytes) (same_line t.0 (sym t.1)) t.2 where
   same_line : (n : ℕ) → BadEdit n ≡ BadEdit line → n ≡ line

@@ -27,7 +27,7 @@ end_of (Add input row) = row.end
 end_of (Remove input start end) = end
 end_of (Set input row) = row.end
 
--- the row that an edit puts, where it puts one
+-- the row that an edit writes, if it writes one
 abbrev pub put_of : Edit → List Snapshot
 put_of (Add input row) = row ∷ []
 put_of (Remove input start end) = []

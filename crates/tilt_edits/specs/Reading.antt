@@ -18,10 +18,10 @@ pub record HasRead (inputs : List (List ℕ)) (bytes left : List ℕ) (edits : L
   pub say : Say inputs good edits
   pub number_is : number ≡ suc (length good)
 
--- the fault is the first bad line of the text, or want of memory
+-- the fault is the first bad line of the text, or out of memory
 abbrev pub Tells : List (List ℕ) → List ℕ → EditFault → Type 0
 Tells inputs bytes fault = fault ≢ OutOfMemory → (line : ℕ) × (fault ≡ BadEdit line) × IsBadLine inputs bytes line
 
--- what a text comes to
+-- the outcome of a text
 abbrev pub Outcome : List (List ℕ) → List ℕ → Type 0
 Outcome inputs bytes = ((edits : List Edit) × AreEdits inputs bytes edits) ⊎ ((line : ℕ) × IsBadLine inputs bytes line)

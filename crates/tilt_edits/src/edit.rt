@@ -9,7 +9,7 @@ use tilt_stream::Row;
 pub enum Edit {
     /// One row more, which has no tick in common with another.
     Add { input: u32, row: Row },
-    /// The row on `(start, end]` is taken out. The times are ticks.
+    /// The row on `(start, end]` is removed. The times are ticks.
     Remove { input: u32, start: i64, end: i64 },
     /// The row of exactly these times gets this value.
     Set { input: u32, row: Row },
@@ -49,7 +49,7 @@ impl Edit {
         }
     }
 
-    /// The row that it puts; `None` for an edit that removes one.
+    /// The row that it writes; `None` for an edit that removes one.
     pub fn put(&self) -> Option<Row>
         ensures { option_to_list result ≡ put_of self.now }
     {

@@ -1,7 +1,7 @@
 //! Corrections of rows, called edits, and the text that says them.
 //!
-//! What comes in is a text and the names of a query's inputs; what goes out are the edits that it says, or its first bad line: the clauses
-//! of `read_edits` say so over `specs/Edits`. What edits make of rows, and why they make nothing of them (`FixFault`), is `specs/Edited`.
+//! The input is a text and the names of a query's inputs. The output is the edits that it says, or its first bad line: the clauses of
+//! `read_edits` say so over `specs/Edits`. What edits make of rows, and why they make nothing of them (`FixFault`), is `specs/Edited`.
 #![tactic(auto)]
 
 mod edit;

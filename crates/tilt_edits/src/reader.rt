@@ -17,7 +17,7 @@ use tilt_text::until;
 
 /// The edits that the text says, one in each line: `add NAME s,e,v`, `remove NAME s,e` or `set NAME s,e,v`, with one blank between words.
 /// `NAME` is one of these names of inputs, which differ; the times are ticks in `-T..=T`, in order; an empty `v` is null. `BadEdit` comes
-/// exactly where a line isn't so, or text follows the last end of a line, and tells the first such line.
+/// exactly if a line isn't so, or text follows the last end of a line; it names the first such line.
 pub fn read_edits(alloc: Global, bytes: &[u8], inputs: &[Name]) -> Result<Vec<Edit>, EditFault>
     requires few { length inputs.now < 2 ^ 32 }
     requires distinct { AreDistinct inputs.now }
@@ -85,7 +85,7 @@ fn collect_edits(
     Ok(edits)
 }
 
-// Puts an edit after the others. Nothing is said of them where memory ran out.
+// Appends an edit to the others. Nothing is said of them if memory ran out.
 fn put_edit(edits: &mut Vec<Edit>, edit: Edit) -> Result<(), OutOfMemory>
     ensures { OnOk result (edits.new.items ≡ edits.old.items ++ edit ∷ []) }
 {

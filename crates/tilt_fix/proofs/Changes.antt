@@ -35,7 +35,7 @@ none_meets row from limit (s ∷ ss) all h low =
     let out : meets row s ≡ false = grind (arith, ints) in
     rw out (none_meets row s.end limit ss all h.3 (omega (arith, ints)))
 
--- the row at a place stands above the lower bound of all
+-- the row at a place is above the lower bound of all
 read_above : (from limit : ℤ) (list : List Snapshot) (at : ℕ) (s : Snapshot) → InOrder from limit list → slice_get list at ≡ Some s → from ≤ℤ s.start
 read_above from limit [] at s h is = absurd (cc is)
 read_above from limit (x ∷ xs) zero s h is = let e : x ≡ s = cc in rw (← e) h.0
@@ -45,7 +45,7 @@ read_above from limit (x ∷ xs) (suc i) s h is =
     let b = h.1 in
     omega (arith, ints)
 
--- where a row stands at a place, one has its times
+-- if a row is at a place, one has its times
 pub some_has : (start end : ℤ) (list : List Snapshot) (at : ℕ) (s : Snapshot) → slice_get list at ≡ Some s → has_times start end s ≡ true
     → list_any (has_times start end) list ≡ true
 some_has start end [] at s is has = absurd (cc is)
@@ -93,7 +93,7 @@ has_room row from limit (s ∷ ss) all h some free =
           rw out (none_meets row s.end limit ss all h.3 (omega (arith, ints)))
     ]
 
--- and it is put at that place
+-- and it is inserted at that place
 pub with_row-at : (row : Snapshot) (from limit : ℤ) (list : List Snapshot) → InOrder from limit list → row.start <ℤ row.end
     → ((s : Snapshot) → slice_get list (ended_below (row.start +ℤ pos 1) list) ≡ Some s → row.end ≤ℤ s.start)
     → with_row row list ≡ insert list (ended_below (row.start +ℤ pos 1) list) row

@@ -61,7 +61,7 @@ removal_is input start end rows at h row =
       parts = refl;
     }
 
--- a row that gets another value stands between the others
+-- a row that gets another value is between the others
 valued-parts : (list : List Snapshot) (at : ℕ) (start end : ℤ) (old value : Option ℤ) → slice_get list at ≡ Some (record { start = start; end = end; value = old })
     → with_value at value list ≡ take at list ++ record { start = start; end = end; value = value } ∷ drop (suc at) list
 valued-parts [] at start end old value is = absurd (cc is)

@@ -1,4 +1,4 @@
--- What a query means on corrected rows: what it meant before, but for a piece that is put in place of the old one.
+-- What a query means on corrected rows: what it meant before, except for a piece that replaces the old one.
 use Rattle.std.proofs.Common.{◌≡◌, ℕ, suc, ℤ, pos, ◌+ℤ◌, ◌-ℤ◌, ◌<ℤ◌, ◌≤ℤ◌, List, [], length, map, ◌+◌, Option, Some, ◌⊎◌, inl, inr, sym, ap, ◌∙◌, arith, subst}
 use Rattle.std.specs.Prelude.{Ok, slice_get, slice_set}
 use Rattle.std.specs.List.{AllByRecursion, slice_index_or, splice}
@@ -85,7 +85,7 @@ module _ (core : CoreParts) (margins : MarginsParts) (is : IsCore core) (near : 
           inr (far-agrees core margins is near rows input new start end (span.end -ℤ pos 1) domain.end many same (omega (arith, ints))
           (far-by (span.end -ℤ pos 1) domain.end (inr after)))
 
-      -- what is computed anew is a piece of the output
+      -- what is computed again is a piece of the output
       pub is-piece : IsPieceOf (snapshots (meaning rows core.defs (emitted_number core)) domain.start domain.end)
           (snapshots (meaning (slice_set rows input new) core.defs (emitted_number core)) (first_before domain span) span.end)
           (first_before domain span) span.end

@@ -53,7 +53,7 @@ read-bounds from limit (x ∷ xs) (suc i) s h is =
     let c = h.1 in
     (omega (arith, ints), rest.1)
 
--- what the ends of a piece say, where it stands in place of those of a list between two of them
+-- what the ends of a piece say, if it replaces those of a list from one to another
 pub record HasEnds (piece : List Snapshot) (first last : Snapshot) : Type 0 where
   pub no_gaps : AreSnapshots piece
   pub later : ForSome (last_end piece) (λ old. old ≤ℤ last.end)
@@ -83,7 +83,7 @@ read-at : (all list : List Snapshot) (i place : ℕ) (s : Snapshot) → all ≡ 
 read-at all list i place s same is within found =
     slice_get-get_or list place s within ∙ ap Some (sym (found ∙ (λ k. get_or (same k) (is k) s)))
 
--- the two of a list between which a piece stands, as they are found, and what the ends of the piece say
+-- the two of a list between which a piece is, as they are found, and what the ends of the piece say
 pub record IsBetween (list piece : List Snapshot) (from to : ℤ) (first last : Snapshot) : Type 0 where
   pub first_is : slice_get list (ended_below (from +ℤ pos 1) list) ≡ Some first
   pub last_is : slice_get list (ended_below to list) ≡ Some last
@@ -105,7 +105,7 @@ is-between all list piece from to i j first last same h fits i_is j_is first_fou
     let last_is = read-at all list j (ended_below to list) last same (at_last ∙ ap (ended_below to) same) fits.last last_found in
     record { first_is = first_is; last_is = last_is; ends = has-ends list piece from to first last h fits first_is last_is }
 
--- a row that is put and taken out again
+-- a row that is inserted and removed again
 pub removed-inserted : (rows : List Snapshot) (at : ℕ) (row : Snapshot) → at ≤ length rows → remove (insert rows at row) at ≡ rows
 removed-inserted rows zero row within = refl
 removed-inserted [] (suc at) row within = absurd (omega arith)

@@ -1,4 +1,4 @@
--- What is computed anew on the ticks that an edit reaches, put in its place, makes the output what the query gives on the corrected rows.
+-- What is computed again on the ticks that an edit reaches, written in its place, makes the output what the query gives on the corrected rows.
 use Rattle.std.proofs.Common.{◌≡◌, ℕ, suc, ◌==◌, ℤ, pos, ◌+ℤ◌, ◌<ℤ◌, ◌≤ℤ◌, true, List, [], length, Option, Some, None, refl, sym, ap, ◌∙◌, arith, subst, get_or, SFits, to_z, of_z, w64}
 use Rattle.std.specs.Prelude.{slice_get, option_and_then, IfOk, Result, Ok, Err}
 use Rattle.std.specs.List.{AllByRecursion, slice_index_or, splice}
@@ -44,7 +44,7 @@ pub computed-is : (core : CoreParts) (needs found : List (Option Need)) (rows al
 computed-is core needs found rows all seen snaps from to lo hi is seen_is all_is found_is lo_is hi_is lo_fits hi_fits =
     is ∙ rw (to_z-of_z w64 lo lo_fits, to_z-of_z w64 hi hi_fits, seen_is, all_is, found_is, lo_is, hi_is) refl
 
--- the bounds of what is computed anew fit
+-- the bounds of what is computed again fit
 pub on-fits : (domain span : Span) (lo hi : ℤ) → IsStretch (Some domain) → lo ≡ first_before domain span → hi ≡ span.end
     → domain.start ≤ℤ first_before domain span → first_before domain span <ℤ span.end → span.end ≤ℤ domain.end → SFits w64 lo × SFits w64 hi
 on-fits domain span lo hi stretch lo_is hi_is low some high =
@@ -87,7 +87,7 @@ module _ (query : AcceptedParts) (rows : List (List Snapshot)) (accepted : IsAcc
         gives = output-given query.core (all_made change (input_of edit) rows) domain domain_is after-many ∙ ap Some (stays ∙ sym was);
       }
 
-  -- where the ticks that are reached lie, and those that are computed anew
+  -- where the ticks that are reached are, and those that are computed again
   pub span-within : (span : Span) → reached query edit ≡ Some span
       → (domain.start ≤ℤ span.start) × (domain.start ≤ℤ first_before domain span) × (first_before domain span <ℤ span.end) × (span.end ≤ℤ domain.end)
   span-within span is =

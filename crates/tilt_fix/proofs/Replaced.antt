@@ -41,7 +41,7 @@ snapshots-begin x lo hi some =
     let all : int_gap lo hi ≡ suc n = omega (arith, ints) in
     rw all (cut_behind-begins x lo (lo +ℤ pos 1) (lo +ℤ pos 1) n (omega (arith, ints)))
 
--- what stands in a stretch that is filled starts in it
+-- what is in a stretch that is filled starts in it
 Fill-starts : (lo hi : ℤ) (before after : List Snapshot) (s : Snapshot) → Fill lo hi (before ++ s ∷ after) → lo ≤ℤ s.start
 Fill-starts lo hi [] after s h = omega (arith, ints)
 Fill-starts lo hi (b ∷ before) after s h =
@@ -58,7 +58,7 @@ Fill-none lo hi tick (s ∷ ss) h low =
     let out : int_lt s.end tick ≡ false = grind (arith, ints) in
     rw out (Fill-none s.end hi tick ss h.2 (omega (arith, ints)))
 
--- those that stand before the one that covers a tick end below it, and no others
+-- those before the one that covers a tick end below it, and no others
 counted : (lo hi tick : ℤ) (before after : List Snapshot) (s : Snapshot) → Fill lo hi (before ++ s ∷ after) → s.start <ℤ tick → tick ≤ℤ s.end
     → ended_below tick (before ++ s ∷ after) ≡ length before
 counted lo hi tick [] after s h begun reaches =
@@ -69,7 +69,7 @@ counted lo hi tick (b ∷ before) after s h begun reaches =
     let out : int_lt b.end tick ≡ true = grind (arith, ints) in
     rw out (ap suc (counted b.end hi tick before after s h.2 begun reaches))
 
--- reading, taking and dropping at the place of one that stands between others
+-- reading, taking and dropping at the place of one that is between others
 read_between : (before after : List Snapshot) (s : Snapshot) → slice_get (before ++ s ∷ after) (length before) ≡ Some s
 read_between [] after s = refl
 read_between (b ∷ before) after s = read_between before after s
@@ -212,7 +212,7 @@ module _ (x : Stream) (h : ChangesOnlyAtMarks x) where
             ∙ sym (ap (λ (l : List Snapshot). joined_open start l ++ q.rest) ended),
       )
 
--- two streams that are the same up to a tick, or of which nothing stands before it: the same stands before the one that covers it
+-- two streams that are the same up to a tick, or have nothing before it: the same is before the one that covers it
 same_before : (x y : Stream) (lo from : ℤ) → (from ≡ lo) ⊎ Agree x y lo (from +ℤ pos 1)
     → (without_last (snapshots x lo (from +ℤ pos 1)) ≡ without_last (snapshots y lo (from +ℤ pos 1)))
     × (last_start (snapshots x lo (from +ℤ pos 1)) ≡ last_start (snapshots y lo (from +ℤ pos 1)))
@@ -224,8 +224,7 @@ same_before x y lo from (inr agree) =
     let same = snapshots-agree x y lo (from +ℤ pos 1) agree in
     (ap without_last same, ap last_start same)
 
--- two streams that are the same from a tick on, or of which nothing stands after it: what covers it ends at the same tick, and the same
--- stands after it
+-- Two streams that are the same from a tick on, or have nothing after it. What covers it ends at the same tick, and the same is after it.
 same_after : (x y : Stream) (from lo to hi : ℤ) → (to ≡ hi) ⊎ Agree x y (to -ℤ pos 1) hi → (p : PartsOf x from to hi) (q : PartsOf y lo to hi)
     → (p.end ≡ q.end) × (p.rest ≡ q.rest)
 same_after x y from lo to hi (inl is) p q =
@@ -272,8 +271,9 @@ module _ (x y : Stream) (lo hi from to : ℤ) (gx : ChangesOnlyAtMarks x) (some 
       (same_before x y lo from left).0 ∙ sym (parted y lo (from +ℤ pos 1) hi all y_left).before_is in
       x_left.all_is ∙ (λ i. before i ++ piece_is s.start e.end (start_is s starts) (end_is e ends) i)
 
--- The snapshots of a stream that differs from another one on a stretch alone are the snapshots of the other one, with its own of that
--- stretch put in place of those that have a tick in common with it; the first one begins, and the last one ends, where those did.
+-- The snapshots of a stream that differs from another one only on a stretch. They are the snapshots of the other one, with its own of
+-- that stretch in place of those that have a tick in common with it. The first one of these begins, and the last one ends, where
+-- those did.
 pub replaced : (x y : Stream) (lo hi from to : ℤ) (s e : Snapshot) → ChangesOnlyAtMarks x → ChangesOnlyAtMarks y
     → lo ≤ℤ from → from <ℤ to → to ≤ℤ hi
     → (from ≡ lo) ⊎ Agree x y lo (from +ℤ pos 1) → (to ≡ hi) ⊎ Agree x y (to -ℤ pos 1) hi

@@ -20,7 +20,7 @@ EndsBy tick row = int_le row.end tick
 abbrev pub StartsBefore : ℤ → Snapshot → Bool
 StartsBefore tick row = int_lt row.start tick
 
--- those that start before a tick stand before the others
+-- those that start before a tick are before the others
 pub starts-parted : (from limit : ℤ) (rows : List Snapshot) (tick : ℤ) → InOrder from limit rows → IsPartitionedBy (StartsBefore tick) rows
 starts-parted from limit rows tick h = parted (λ r. r.start) (λ r width. (omega (arith, ints), omega (arith, ints))) from limit rows tick h
 

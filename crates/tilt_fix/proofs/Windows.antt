@@ -148,7 +148,7 @@ all-set P (r ∷ rows) (suc input) new before one after =
     let at : suc input + 1 ≡ suc (input + 1) = omega arith in
     (before.0, all-set P rows input new before.1 one (subst (λ (k : ℕ). AllByRecursion P (drop k (r ∷ rows))) at after))
 
--- rows before a change, what it puts and the rows after it
+-- rows before a change, what it writes and the rows after it
 pub parts-joined : (rows all before put put_is after changed : List Snapshot) (place next : ℕ) → changed ≡ splice rows place next put_is → all ≡ rows
     → before ≡ take place all → put ≡ put_is → after ≡ drop next all → before ++ put ++ after ≡ changed
 parts-joined rows all before put put_is after changed place next changed_is all_is before_is put_is_is after_is =

@@ -13,7 +13,7 @@ made (Insert at row) rows = insert rows at row
 made (Remove at) rows = remove rows at
 made (Revalue at value) rows = with_value at value rows
 
--- the place lies among the rows, or just after them where a row is put
+-- the place is among the rows, or just after them if a row is inserted
 abbrev pub IsWithin : Change → List Snapshot → Type 0
 IsWithin (Insert at row) rows = at ≤ length rows
 IsWithin (Remove at) rows = at < length rows
@@ -30,7 +30,7 @@ next_of (Insert at row) = at
 next_of (Remove at) = suc at
 next_of (Revalue at value) = suc at
 
--- the row of exactly these times stands at this place
+-- the row of exactly these times is at this place
 pub record HasRowAt (rows : List Snapshot) (start end : ℤ) (at : ℕ) : Type 0 where
   pub value : Option ℤ
   pub is : slice_get rows at ≡ Some (record { start = start; end = end; value = value })

@@ -17,7 +17,7 @@ pub record IsLive (live : LiveParts) : Type 0 where
   pub many : length live.rows ≡ length live.query.core.inputs
   pub gives : output_of live.query.core live.rows ≡ Some live.output
 
--- they are told apart part by part
+-- they are distinguished part by part
 abbrev pub coded_live : Coded LiveParts
 coded_live =
     code_by (AcceptedParts × (List (List Snapshot) × List Snapshot))

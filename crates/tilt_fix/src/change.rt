@@ -15,15 +15,15 @@ use tilt_stream::Row;
 /// A change of rows at a place, which is counted from 0.
 #[derive(Clone, Copy)]
 pub(crate) enum Change {
-    /// The row is put before the one at the place.
+    /// The row is inserted before the one at the place.
     Insert { at: usize, row: Row },
-    /// The row at the place is taken out.
+    /// The row at the place is removed.
     Remove { at: usize },
     /// The row at the place gets another value.
     Revalue { at: usize, value: Cell },
 }
 
-/// The change of its input's rows that an edit is, or why it is none. It is found by a search that halves, and takes no memory.
+/// The change of its input's rows that an edit is, or why it is none. It is found by binary search, and takes no memory.
 pub(crate) fn change_of(rows: &[Row], edit: &Edit) -> Result<Change, FixFault>
     requires rows { AreRows rows.now }
     requires low { neg_ℤ T ≤ℤ start_of edit.now }

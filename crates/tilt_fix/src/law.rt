@@ -9,8 +9,8 @@ ghost use Rattle.tilt_fix.specs.Reached.{StaysOutside};
 ghost use Rattle.tilt_edits.specs.declared.edit.Edit.{Edit};
 ghost use Rattle.tilt_stream.specs.Snap.{AreRows, Snapshot};
 
-/// This does nothing. Its clause is a law of the definitions: at every tick that an edit doesn't reach, inside of the output domain or
-/// outside of it, what the query means has the same cell and the same mark as before.
+/// This does nothing. Its clause is a law of the definitions. At every tick that an edit doesn't reach, inside or outside the output
+/// domain, what the query means has the same cell and the same mark as before.
 pub fn edits_reach_no_further()
     ensures { (query : AcceptedParts) (rows after : List (List Snapshot)) (edit : Edit) → IsAccepted query
         → length rows ≡ length query.core.inputs → AllByRecursion AreRows rows → IsEditOf (length rows) edit

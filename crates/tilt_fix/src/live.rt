@@ -62,10 +62,10 @@ impl Live {
         })
     }
 
-    /// Applies an edit, and gives the ticks of the output that it reaches, of which the output is computed anew; `None` where there are
-    /// none. `NoSuchRow` comes exactly where a row is to be taken out, or to get another value, and none has exactly these times;
-    /// `Overlaps` exactly where a row is to be added, and another has a tick in common with it, and tells the first such row. After each
-    /// refusal, and after want of memory, all is as before.
+    /// Applies an edit, and returns the ticks of the output that it reaches, or `None` if there are none. The output is computed again
+    /// on these ticks. `NoSuchRow` comes exactly if a row is to be removed, or to get another value, and no row has exactly these times.
+    /// `Overlaps` comes exactly if a row is to be added, and another has a tick in common with it; it names the first such row. After
+    /// each error, also out of memory, all is as before.
     pub fn apply(&mut self, edit: &Edit) -> Result<Option<Span>, FixFault>
         requires { IsEditOf (length self.old.rows) edit.now }
         ensures rows { IfOk result (λ _. after_edit self.old.rows edit.now ≡ Ok self.new.rows) }
@@ -100,7 +100,7 @@ impl Live {
         }
     }
 
-    // The same where it reaches some ticks. The output is computed anew on these and the tick before them, on windows of the rows.
+    // The same if it reaches some ticks. The output is computed again on these and the tick before them, on windows of the rows.
     fn piece_on(&self, edit: &Edit, change: &Change, span: Span) -> Result<Piece, OutOfMemory>
         requires edit { IsEditOf (length self.now.rows) edit.now }
         requires change { IsChangeOf edit.now (slice_index_or self.now.rows (input_of edit.now) []) change.now }
@@ -123,7 +123,7 @@ impl Live {
         &self.output
     }
 
-    /// What the query gives on the rows, where they aren't needed any more.
+    /// What the query gives on the rows, when they aren't needed any more.
     pub fn into_output(self) -> SnapList
         ensures value { result ≡ self.output }
         ensures law { output_of self.query.core self.rows ≡ Some result }

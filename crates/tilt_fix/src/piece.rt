@@ -33,8 +33,8 @@ impl Piece {
     }
 }
 
-// The snapshots on these ticks as a piece of a list that covers them: its first one goes on from where the one of the list began, and its
-// last one up to where the one of the list ends.
+// The snapshots on these ticks as a piece of a list that covers them. Its first one goes on from where the list's snapshot there
+// began. Its last one goes up to where the list's snapshot there ends.
 pub(crate) fn piece_of(list: &SnapList, snaps: SnapList, on: Span) -> Result<Piece, OutOfMemory>
     requires { IsPieceOf list.now snaps on.start on.end }
     ensures from { IfOk result (λ piece. piece.from ≡ ended_below (on.start +ℤ pos 1) list.now) }

@@ -9,8 +9,8 @@ use crate::piece::Piece;
 use std::alloc::AllocError as OutOfMemory;
 use tilt_stream::{Rows, SnapList};
 
-// Makes the change of the rows, and puts the piece in its place. After want of memory both are as before: what may want memory comes
-// first, and what is undone takes none.
+// Makes the change of the rows, and writes the piece in its place. If memory runs out, both are as before: what may run out of
+// memory comes first, and what is undone takes none.
 pub(crate) fn put(
     rows: &mut Rows,
     output: &mut SnapList,

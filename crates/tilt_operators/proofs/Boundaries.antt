@@ -112,7 +112,7 @@ boundaries-rise from limit (s ∷ next ∷ list) h touch =
           (boundaries-rise s.end limit (next ∷ list) h.3 touch.1) (omega (arith, ints)) (omega (arith, ints)),
     )
 
--- a mark stands after each of them, and nowhere else
+-- a mark is after each of them, and nowhere else
 pub last_two : (a b : Bool) → (a || b || false) ≡ (a || (b || false))
 last_two true b = refl
 last_two false b = refl

@@ -214,7 +214,7 @@ over_or_none operands ts =
       ]
     ]
 
--- what stands after each word
+-- what follows each word
 module _ (ts : List Tok) where
   abbrev OfWord : List ℕ → Type 0
   OfWord word = ((s : StepTree) × IsStepOf word ts s) ⊎ ((s : StepTree) → IsStepOf word ts s → ⊥)
@@ -361,7 +361,7 @@ flow_or_bad (ts ∷ next ∷ rest) =
       ]
     ]
 
--- tokens are a pipeline or are refused; that they are not both stands in `Unique`
+-- tokens are a pipeline or are rejected; `Unique` proves that they are not both
 
 typed_or_not : (ts : List Tok) (flow : FlowTree) → AreFlow (statements ts) flow → (found : Option ℕ) → first_untyped 2 flow.steps ≡ found
     → ((flow : FlowTree) × IsFlowOf ts flow) ⊎ ((f : FlowFault) × IsRefused ts f)

@@ -233,17 +233,17 @@ module _ (bytes : List ℕ) where
   one_fault f g (no_flow tokens are a) (no_flow others these b) =
       one_refusal (kinds tokens) f g a (of_all (λ ts. IsRefused (kinds ts) g) tokens others are these b)
 
-  -- what is told is want of memory, or is known
+  -- what is reported is that memory ran out, or is known
   memory_or : (f : FlowFault) → (f ≢ fault.OutOfMemory → IsRefusedText bytes f) → (f ≡ fault.OutOfMemory) ⊎ IsRefusedText bytes f
   memory_or fault.OutOfMemory h = inl refl
   memory_or f h = inr (h (λ e. cc))
 
   module _ (f : FlowFault) (known : f ≢ fault.OutOfMemory → IsRefusedText bytes f) where
-    -- of a pipeline only want of memory is told
+    -- of a pipeline only running out of memory is reported
     pub only_memory : (flow : FlowTree) → IsFlowText bytes flow → f ≡ fault.OutOfMemory
     only_memory flow is = elim (memory_or f known) [ inl memory ↦ memory | inr refused ↦ absurd (text-or-refused flow f is refused) ]
 
-    -- and else the fault, or want of memory
+    -- and else the fault, or that memory ran out
     pub only_fault : (g : FlowFault) → IsRefusedText bytes g → (f ≡ g) ⊎ (f ≡ fault.OutOfMemory)
     only_fault g is = elim (memory_or f known) [ inl memory ↦ inr memory | inr refused ↦ inl (one_fault f g refused is) ]
 

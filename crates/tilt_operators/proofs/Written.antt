@@ -186,7 +186,7 @@ shift_is x before (negsuc n) named is low high =
     (step_expr before (Shift (negsuc n))) (to_zero (reading_at later)) named
     (is, (tt, (tt, (tt, ((omega (arith, ints), omega (arith, ints)), (tt, tt)))))) (omega arith)
 
--- what stands between a step's word and its end
+-- what is between a step's word and its end
 pub inside-sound : (word : List ℕ) (inside : List Tok) → AreSound (step_of word inside) → AreSound inside
 inside-sound word inside h = (sound_parts inside (Sign mark.Semicolon ∷ []) h.1).0
 

@@ -1,4 +1,4 @@
--- Parts of a step's tokens, with what stands after them, by what the readers have of them.
+-- Parts of a step's tokens, with what follows them, by what the readers have of them.
 use Rattle.std.specs.Prelude.{◌≡◌, ℕ, ℤ, List, [], ◌∷◌, ◌++◌, Option, MatchOption}
 use Rattle.tilt_base.specs.declared.span.Span.{Span}
 use Rattle.tilt_lexer.specs.declared.mark.Mark.TheVariants as mark
@@ -25,7 +25,7 @@ pub record IsInside (ts : List Tok) (span : Span) : Type 0 where
   pub start : HasBound opened span.start (Sign mark.Comma ∷ between)
   pub end : HasBound between span.end (Sign mark.CloseBracket ∷ Sign mark.Semicolon ∷ [])
 
--- what stands between a step's word and its `;` is the step that was found, or no step where none was
+-- what is between a step's word and its `;` is the step that was found, or no step if none was
 abbrev pub FindsStep : List ℕ → List Tok → Option Step → Type 0
 FindsStep word inside found = MatchOption found ((s : StepTree) → ¬ (IsStepOf word inside s)) (λ s. IsStepOf word inside (step_tree s))
 

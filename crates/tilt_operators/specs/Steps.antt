@@ -1,5 +1,5 @@
 -- Which pipeline tokens are, and which of their steps is the first faulty one (our own rule). Tokens are cut into steps after each `;`,
--- and what stands after the last `;` is a step too. Steps are counted from 1.
+-- and what follows the last `;` is also a step. Steps are counted from 1.
 use Rattle.std.specs.Prelude.{◌≡◌, ℕ, ◌+◌, ◌≤◌, pos, ◌≤ℤ◌, Bool, true, false, ◌&&◌, ◌||◌, ◌==◌, List, [], ◌∷◌, ◌++◌, length, codes}
 use Rattle.std.specs.Prelude.{Option, Some, None, if◌then◌else◌}
 use Rattle.std.specs.Ordering.{int_eq}
@@ -63,7 +63,7 @@ is_kept_back (b ∷ name) = b == 95
 abbrev pub step_of : List ℕ → List Tok → List Tok
 step_of word inside = Word word ∷ (inside ++ (Sign mark.Semicolon ∷ []))
 
--- what stands between a step's word and its `;` is the step
+-- what is between a step's word and its `;` is the step
 abbrev pub IsStepOf : List ℕ → List Tok → StepTree → Type 0
 IsStepOf word inside (Select e) = (word ≡ codes "select") × IsExprOver Value inside e
 IsStepOf word inside (Keep e) = (word ≡ codes "where") × IsExprOver Value inside e
@@ -108,8 +108,8 @@ abbrev pub AreFlow : List (List Tok) → FlowTree → Type 0
 AreFlow [] flow = ⊥
 AreFlow (ts ∷ rest) flow = IsFit 1 ts × IsFirst ts flow.first × AreSteps 2 rest flow.steps flow.domain
 
--- of these steps, of which the first has the number `n`, the one with the number `bad` is the first that breaks a rule: one that isn't
--- the last has to be a step between, and the last has to give the domain
+-- Of these steps the first has the number `n`, and the one with the number `bad` is the first that breaks a rule. One that isn't the
+-- last must be a step between, and the last must give the domain.
 pub data IsBadStep : ℕ → List (List Tok) → ℕ → Type 0 where
   between : {n : ℕ} {ts next : List Tok} {rest : List (List Tok)} → ((s : StepTree) → IsFit n ts → ¬ (IsStep ts s))
       → IsBadStep n (ts ∷ next ∷ rest) n
@@ -117,7 +117,7 @@ pub data IsBadStep : ℕ → List (List Tok) → ℕ → Type 0 where
   later : {n bad : ℕ} {ts next : List Tok} {rest : List (List Tok)} (s : StepTree) → IsFit n ts → IsStep ts s
       → IsBadStep (n + 1) (next ∷ rest) bad → IsBadStep n (ts ∷ next ∷ rest) bad
 
--- the first step that breaks a rule is the one with this number: without tokens the first, and so it is where it stands alone
+-- the first step that breaks a rule is the one with this number: without tokens the first, and also if it is alone
 pub data HasBadStep : List (List Tok) → ℕ → Type 0 where
   no_steps : HasBadStep [] 1
   first : {ts : List Tok} {rest : List (List Tok)} → ((name : List ℕ) → IsFit 1 ts → ¬ (IsFirst ts name)) → HasBadStep (ts ∷ rest) 1

@@ -1,4 +1,4 @@
--- How pipelines are told apart, which a type that contracts see as plain data needs.
+-- How pipelines are distinguished, which a type that contracts see as plain data needs.
 use Rattle.std.specs.Prelude.{◌≡◌, ℕ, List, refl}
 use Rattle.std.specs.Coded.{Coded, code_by, coded×, coded_ℤ, coded_list}
 use base.Stored.{Gv, gnil, gnum, gcons}
@@ -29,7 +29,7 @@ stored_step_inj (Join m d) (Join n e) p =
     cc
 stored_step_inj x y p = absurd (cc p)
 
--- pipelines are told apart part by part
+-- pipelines are distinguished part by part
 abbrev pub coded_flow : Coded FlowTree
 coded_flow =
     code_by (List ℕ × (List StepTree × Span))

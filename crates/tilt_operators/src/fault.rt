@@ -14,7 +14,7 @@ pub enum FlowFault {
     /// The digits that begin at this place spell a number above 9223372036854775807.
     #[error("the number at byte {at} is too big")]
     BigNumber { at: u64 },
-    /// The step breaks a rule of pipelines. It is told of step 1 where there are no tokens.
+    /// The step breaks a rule of pipelines. Without tokens it is step 1.
     #[error("step {step} can't stand there")]
     BadStep { step: u32 },
     /// The expression of the step hasn't the type that the step asks for.

@@ -9,15 +9,15 @@ ghost use Rattle.tilt_operators.specs.declared.fault.FlowFault.{FlowFault};
 ghost use Rattle.tilt_syntax.specs.Query.{IsQuery};
 ghost use Rattle.tilt_types.specs.Checked.{checked, core_of};
 
-/// This does nothing. Its clauses are laws of the definitions: on all series the core of a pipeline's query gives what the pipeline
-/// gives; the query is one that some tokens of a text read as; and it is well formed, so that `check` gives its core.
+/// This does nothing. Its clauses are laws of the definitions. On all series the core of a pipeline's query gives what the pipeline
+/// gives. The query is one that some tokens of a text read as. It is well formed, so that `check` gives its core.
 pub fn query_keeps_meaning()
     ensures law { (flow : FlowTree) → IsFlow flow → KeepsMeaning flow (core_of (query_of flow)) }
     ensures parsed { (flow : FlowTree) → IsFlow flow → IsQuery (query_of flow) }
     ensures accepted { (flow : FlowTree) → IsFlow flow → checked (query_of flow) ≡ Ok (core_of (query_of flow)) }
 {}
 
-/// This does nothing. Its clauses are laws of the definitions: tokens are one pipeline, or are refused for one fault, and not both.
+/// This does nothing. Its clauses are laws of the definitions: tokens are one pipeline, or are rejected for one fault, and not both.
 pub fn tokens_have_one_outcome()
     ensures one { (ts : List Tok) (flow other : FlowTree) → IsFlowOf ts flow → IsFlowOf ts other → flow ≡ other }
     ensures first { (ts : List Tok) (fault other : FlowFault) → IsRefused ts fault → IsRefused ts other → fault ≡ other }

@@ -96,7 +96,7 @@ fn read_inside(alloc: Global, word: &Name, inside: &[Token]) -> Result<Option<St
     }
 }
 
-// What stands after `select`.
+// What follows `select`.
 fn read_select(alloc: Global, inside: &[Token]) -> Result<Option<Step>, OutOfMemory>
     requires sound { AreSound (kinds inside.now) }
     requires few { length (kinds inside.now) ≤ 256 }
@@ -108,7 +108,7 @@ fn read_select(alloc: Global, inside: &[Token]) -> Result<Option<Step>, OutOfMem
     Ok(Some(Step::Select(expr)))
 }
 
-// What stands after `where`.
+// What follows `where`.
 fn read_where(alloc: Global, inside: &[Token]) -> Result<Option<Step>, OutOfMemory>
     requires sound { AreSound (kinds inside.now) }
     requires few { length (kinds inside.now) ≤ 256 }
@@ -120,7 +120,7 @@ fn read_where(alloc: Global, inside: &[Token]) -> Result<Option<Step>, OutOfMemo
     Ok(Some(Step::Keep(expr)))
 }
 
-// What stands after `shift`.
+// What follows `shift`.
 fn read_shift(inside: &[Token]) -> Option<Step>
     requires { AreSound (kinds inside.now) }
     ensures { FindsStep (codes "shift") (kinds inside.now) result }
@@ -129,7 +129,7 @@ fn read_shift(inside: &[Token]) -> Option<Step>
     Some(Step::Shift(by))
 }
 
-// What stands after `window`.
+// What follows `window`.
 fn read_window(inside: &[Token]) -> Option<Step>
     requires { AreSound (kinds inside.now) }
     ensures { FindsStep (codes "window") (kinds inside.now) result }
@@ -143,7 +143,7 @@ fn read_window(inside: &[Token]) -> Option<Step>
     }
 }
 
-// What stands after `join`.
+// What follows `join`.
 fn read_join(alloc: Global, inside: &[Token]) -> Result<Option<Step>, OutOfMemory>
     requires sound { AreSound (kinds inside.now) }
     requires few { length (kinds inside.now) ≤ 256 }

@@ -8,7 +8,7 @@ use std::alloc::{AllocError as OutOfMemory, Global};
 use tilt_lexer::{Name, Token};
 use tilt_syntax::{Expr, parse_expression};
 
-/// What an expression of a step may read: the value of the list before it, or that of a joined series too.
+/// What an expression of a step may read: the value of the list before it, or also the value of a joined series.
 #[derive(Clone, Copy, Debug, PartialEq, Eq)]
 pub enum Operands {
     /// `v` alone.

@@ -12,7 +12,7 @@ use tilt_base::{Reducer, Span};
 use tilt_lexer::{Mark, Name, Tok, Token};
 use tilt_syntax::{after_mark, first_number, is_end, is_mark, reducer_of};
 
-// What stands before the `;`, where the tokens end with it.
+// What is before the `;`, if the tokens end with it.
 pub(crate) fn before_end(tokens: &[Token]) -> Option<&[Token]>
     ensures ended { MatchOption result
         ((ts : List Tok) → kinds tokens.now ≢ ts ++ Tok.Mark Mark.Semicolon ∷ [])
@@ -26,7 +26,7 @@ pub(crate) fn before_end(tokens: &[Token]) -> Option<&[Token]>
     }
 }
 
-// The bound with which the tokens begin, and what stands after it.
+// The bound with which the tokens begin, and what follows it.
 pub(crate) fn front_bound(tokens: &[Token]) -> Option<(i64, &[Token])>
     requires { AreSound (kinds tokens.now) }
     ensures front { MatchOption result
@@ -53,7 +53,7 @@ pub(crate) fn whole_bound(tokens: &[Token]) -> Option<i64>
     if rest.is_empty() { Some(number) } else { None }
 }
 
-// The span that the tokens are, which stands after `over`, and the `;`.
+// The span that the tokens are, which follows `over`, and the `;`.
 pub(crate) fn inside_span(tokens: &[Token]) -> Option<Span>
     requires { AreSound (kinds tokens.now) }
     ensures { MatchOption result
@@ -72,7 +72,7 @@ pub(crate) fn inside_span(tokens: &[Token]) -> Option<Span>
     }
 }
 
-// The reducer with which the tokens begin, and what stands after it.
+// The reducer with which the tokens begin, and what follows it.
 pub(crate) fn front_reducer(tokens: &[Token]) -> Option<(Reducer, &[Token])>
     ensures front { MatchOption result
         ((r : Reducer) (ts : List Tok) → kinds tokens.now ≢ Tok.Key (reducer_key r) ∷ ts)

@@ -10,7 +10,7 @@ pub enum Step {
     Select(Expr),
     /// `where E`: the values stay at which the expression is true, and the others become null.
     Keep(Expr),
-    /// `shift D`: all times are so many ticks later, or earlier where that is negative.
+    /// `shift D`: all times are that many ticks later, or earlier if the number is negative.
     Shift(i64),
     /// `window R N`: at each tick the reducer on the snapshots that have one of the last `width` ticks, each counted once.
     Window { reducer: Reducer, width: i64 },

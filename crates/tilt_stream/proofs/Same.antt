@@ -63,8 +63,8 @@ met_if : (f : Option ℤ → Option ℤ) (cell : Option ℤ) (xs : List (Option 
 met_if f cell xs true = refl
 met_if f cell xs false = refl
 
--- One stream gives at each tick what a map gives on the cell of another a number of ticks later, and has its marks. Then its windows meet what the other's
--- windows meet that many ticks later.
+-- One stream gives at each tick what a map gives on the cell of another a number of ticks later, and has its marks. Then its windows meet what the map
+-- gives on what the other's windows meet that many ticks later.
 module _ (f : Option ℤ → Option ℤ) (x y : Stream) (by : ℤ) (cells : (tick : ℤ) → y.cell tick ≡ f (x.cell (tick +ℤ by))) (marks : (tick : ℤ) → y.mark tick ≡ x.mark (tick +ℤ by)) where
   met_behind-moved : (begins : Bool) (tick : ℤ) (n : ℕ) → met_behind y begins tick n ≡ map f (met_behind x begins (tick +ℤ by) n)
   met_behind-moved begins tick zero = refl

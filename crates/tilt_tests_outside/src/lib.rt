@@ -1,7 +1,7 @@
 //! Tests of the outside: shelves and sinks, saves, ports, and series files.
 //!
-//! The expected values were worked out by hand, and those of records are what the crate `csv` takes for one. What a shelf, a
-//! sink or a port does when the system fails shows on stand-ins that fail where they are told to.
+//! The expected values were worked out by hand, and expected records are what the crate `csv` takes for one. Stand-ins that
+//! fail at given calls show what a shelf, a sink or a port does when the system fails.
 #![tactic(auto)]
 
 #[cfg(test)]

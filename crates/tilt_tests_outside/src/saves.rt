@@ -46,7 +46,7 @@ pub fn save(rt: &HostRuntime, name: &str, bytes: &[u8]) -> Result<(), Failed> {
     DiskShelf::new(rt.alloc(), rt, PROGRAM).save(name, bytes)
 }
 
-// Saves the new bytes where the old ones stood, with faults of one kind from a call to another.
+// Saves the new bytes over the old ones, with faults of one kind from a call to another.
 fn save_with(
     rt: &HostRuntime,
     name: &str,
@@ -67,7 +67,7 @@ fn save_with(
     Ok(shelf.save(name, NEW))
 }
 
-// Saves with faults, and tells whether the save failed. The name holds the old bytes or the new ones, and the new ones where
+// Saves with faults, and returns whether the save failed. The name holds the old bytes or the new ones, and the new ones if
 // the save didn't fail.
 fn fails_whole(
     host: &HostRuntime,
@@ -236,7 +236,7 @@ fn what_is_no_regular_file_is_written_in_place(rt: HostRuntime) -> Result<(), Fa
     Ok(())
 }
 
-// What stands in a file after a save over the old bytes, in a system whose root is a folder.
+// What is in a file after a save over the old bytes, in a system whose root is a folder.
 fn held_below(rt: &HostRuntime, folder: &str, name: &str) -> Result<Vec<u8>, Fail> {
     let place = format!(in rt.alloc(); "saves_handed{folder}")?;
     fs::create_dir_all(rt, place.as_str())?;
@@ -252,7 +252,7 @@ fn held_below(rt: &HostRuntime, folder: &str, name: &str) -> Result<Vec<u8>, Fai
     Ok(fs::read(rt, path.as_str())?)
 }
 
-// Folders, and whether what stands in them was handed open to a program.
+// Folders, and whether what is in them was handed open to a program.
 const HANDED: &[(&str, bool)] = &[
     ("/dev/fd", true),
     ("/proc/self/fd", true),

@@ -104,7 +104,7 @@ fn read_after(
     Ok(shelf.read_at("a", 0, &mut room))
 }
 
-// How many reads there are: one more where the end isn't told by the limit.
+// How many reads there are: one more if the limit doesn't show the end.
 const READS: &[(&[u8], u32, u64)] = &[
     (b"four", 9, 2),
     (b"four", 4, 2),
@@ -122,7 +122,7 @@ fn a_file_is_read_to_its_end_and_no_further(rt: HostRuntime) -> Result<(), Fail>
     Ok(())
 }
 
-// A shelf of two files, of which one was held anew.
+// A shelf of two files, of which one was held again.
 fn two_files(alloc: Global, call: u64) -> Result<MemShelf, Fail> {
     let mut shelf = MemShelf::new(alloc);
     shelf.hold("b", b"x", 0)?;

@@ -20,7 +20,7 @@ fn put_each<S: Sink>(sink: &mut S, pieces: &[&[u8]]) -> usize
 
 const PIECES: &[&[u8]] = &[b"abc", b"de", b"", b"fghi"];
 
-// The room, the call that fails, what is written, and how many puts fail.
+// The room, the call that fails, what is written, and how many writes fail.
 const PUTS: &[(usize, u64, &[u8], usize)] = &[
     (20, 9, b"abcdefghi", 0),
     (9, 9, b"abcdefghi", 0),
@@ -101,7 +101,7 @@ enum Answer {
     Fails,
 }
 
-// Answers as it is told, and then takes all.
+// Returns the given answers, and then takes all.
 #[derive(Drop)]
 struct ToldWriter {
     answers: Vec<Answer>,
@@ -150,7 +150,7 @@ fn a_flush_reaches_the_writer(rt: HostRuntime) -> Result<(), Fail> {
     Ok(())
 }
 
-// The answers, of which the last one comes first, what is taken, and whether a fault is told.
+// The answers, of which the last one comes first, what is taken, and whether a fault is reported.
 const TOLD: &[(&[Answer], &[u8], bool)] = &[
     (&[], b"piece", false),
     (
@@ -167,7 +167,7 @@ const TOLD: &[(&[Answer], &[u8], bool)] = &[
     ),
 ];
 
-// What a writer takes of a piece, what is told, and what is told of no bytes after it.
+// What a writer takes of a piece, what is reported, and what is reported of no bytes after it.
 fn put_told(alloc: Global, answers: &[Answer]) -> Result<(Vec<u8>, [Result<(), Failed>; 2]), Fail> {
     let mut writer = ToldWriter {
         answers: answers.to_vec(alloc)?,

@@ -19,7 +19,7 @@ use Rattle.tilt_commands.specs.SavedCut.{ending_of}
 use Rattle.tilt_cli.specs.Binding.{bindings_of}
 use Rattle.tilt_commands.proofs.resume_command.resume_session.Goals as goal
 
--- no error of a file is reported because memory ran out
+-- running out of memory isn't reported as a rejected checkpoint
 memory_is_no_reason : out_of_memory ≡ refusal bad_checkpoint → ⊥
 memory_is_no_reason same = cc same
 
