@@ -39,7 +39,7 @@ pub(crate) fn correct<'a>(
     })
 }
 
-// Applies the edits in order, and gives the ticks that each of them reached; or the refusal of the first that is refused.
+// Applies the edits in order, and gives the ticks that each of them reached; or the error of the first that is rejected.
 fn apply_all(alloc: Global, live: &mut Live, edits: &[Edit]) -> Result<Vec<Option<Span>>, FixFault>
     requires { AllByRecursion (IsEditOf (length live.old.rows)) edits.now }
     ensures rows { IfOk result (λ _. after_edits (Ok live.old.rows) edits.now ≡ Ok live.new.rows) }

@@ -64,7 +64,7 @@ pub fn parts<'a, S: Shelf>(
     Ok(Answered::unsaved(Printed::Whole(text)))
 }
 
-// The query in the file of that name, where the cuts and the order fit it.
+// The query in the file of that name, if the cuts and the order fit it.
 fn load_divided<'a, S: Shelf>(
     alloc: Global,
     shelf: &mut S,

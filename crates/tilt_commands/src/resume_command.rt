@@ -83,7 +83,7 @@ struct Onward {
     cut: Cut,
 }
 
-// The checkpoint in the file of that name, where the cuts are given to its inputs and none of them falls.
+// The checkpoint in the file of that name, if the cuts are given to its inputs and none of them falls.
 fn load_onward<'a, S: Shelf>(
     alloc: Global,
     shelf: &mut S,
@@ -137,7 +137,7 @@ fn cut_of<'a>(
     }
 }
 
-// The spelling of a checkpoint under the name, where there are both.
+// The spelling of a checkpoint under the name, if there are both.
 fn saved<'a>(
     alloc: Global,
     ending: Option<SavedCut<'a>>,

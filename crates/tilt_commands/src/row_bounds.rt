@@ -37,7 +37,7 @@ pub(crate) fn later_bounds(
     }
 }
 
-// The same, where it ends after the last row.
+// The same, if it ends after the last row.
 fn bounds_to_the_end(alloc: Global, series: &[Kept]) -> Result<Vec<Bounds>, OutOfMemory>
     ensures { IfOk result (λ bounds. bounds.items ≡ map (λ k. after_kept k None) series.now) }
 {
@@ -47,7 +47,7 @@ fn bounds_to_the_end(alloc: Global, series: &[Kept]) -> Result<Vec<Bounds>, OutO
         .collect(alloc)
 }
 
-// The same, where it ends by cuts.
+// The same, if it ends by cuts.
 fn bounds_up_to(alloc: Global, series: &[Kept], cuts: &[i64]) -> Result<Vec<Bounds>, OutOfMemory>
     requires { length cuts.now ≡ length series.now }
     ensures { IfOk result (λ bounds. bounds.items ≡ up_to series.now cuts.now) }
@@ -70,7 +70,7 @@ fn before_cut(cut: i64) -> Bounds
     }
 }
 
-// From the old cut and the last end on, and below the new cut where there is one.
+// From the old cut and the last end on, and below the new cut if there is one.
 fn after_kept(kept: &Kept, upto: Option<i64>) -> Bounds
     ensures { result ≡ after_kept kept.now upto }
 {

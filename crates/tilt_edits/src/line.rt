@@ -95,7 +95,7 @@ fn fields_of(fields: &[u8]) -> Option<Row>
     row_of(start, end, value)
 }
 
-// The row of these times and this value, where the times lie in `-T..=T` and in order.
+// The row of these times and this value, if the times are in `-T..=T` and in order.
 fn row_of(start: i64, end: i64, value: Cell) -> Option<Row>
     ensures { result ≡ row_of start end value }
 {

@@ -93,7 +93,7 @@ fn put_edit(edits: &mut Vec<Edit>, edit: Edit) -> Result<(), OutOfMemory>
     Ok(())
 }
 
-// The edit in the first line, and what follows that line; `None` where it is no edit, or isn't ended.
+// The edit in the first line, and what follows that line; `None` if it is no edit, or isn't ended.
 fn next_edit<'a>(bytes: &'a [u8], inputs: &[Name]) -> Option<(Edit, &'a [u8])>
     requires { length inputs.now < 2 ^ 32 }
     ensures { option_map (λ next. (next.0, next.1.now)) result ≡ next_edit inputs.now bytes.now }

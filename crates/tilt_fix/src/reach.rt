@@ -12,7 +12,7 @@ use tilt_bounds::{Need, need_at};
 use tilt_compiler::Accepted;
 use tilt_edits::Edit;
 
-// The ticks of the output that an edit reaches; none where its input isn't used.
+// The ticks of the output that an edit reaches; none if its input isn't used.
 pub(crate) fn reached(accepted: &Accepted, edit: &Edit) -> Option<Span>
     requires low { neg_ℤ T ≤ℤ start_of edit.now }
     requires some { start_of edit.now <ℤ end_of edit.now }
@@ -27,7 +27,7 @@ pub(crate) fn reached(accepted: &Accepted, edit: &Edit) -> Option<Span>
     }
 }
 
-// Some ticks of a domain, and the tick before them, where it is one of the domain.
+// Some ticks of a domain, and the tick before them, if it is one of the domain.
 pub(crate) fn widened(domain: Span, span: Span) -> Span
     requires low { neg_ℤ T ≤ℤ domain.start }
     requires later { domain.start ≤ℤ span.start }

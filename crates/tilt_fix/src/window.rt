@@ -110,7 +110,7 @@ fn after<'a>(rows: &'a [Row], change: &Change) -> &'a [Row]
     }
 }
 
-// The ticks of a source with that need at which the output on these ticks looks; none where it isn't used.
+// The ticks of a source with that need that the output on these ticks reads; none if it isn't used.
 fn seen(need: Need, on: Span) -> Option<Span>
     requires near { LooksWithin (evenly REACH) (need_of need) }
     requires low { neg_ℤ T ≤ℤ on.start }
@@ -126,7 +126,7 @@ fn seen(need: Need, on: Span) -> Option<Span>
     }
 }
 
-// The same of rows, of a row after them, where there is one, and of rows after it.
+// The same of rows, of a row after them, if there is one, and of rows after it.
 fn window_around(
     alloc: Global,
     before: &[Row],
@@ -160,7 +160,7 @@ fn window(
     }
 }
 
-// The same where some ticks are looked at.
+// The same if some ticks are read.
 fn window_on(
     alloc: Global,
     before: &[Row],

@@ -17,7 +17,7 @@ use tilt_lexer::{Key, Name, Token};
 use tilt_syntax::{after_key, first_name, first_number, is_end};
 use tilt_types::is_stretch;
 
-// The name of the input that the first step reads, where the tokens are such a step.
+// The name of the input that the first step reads, if the tokens are such a step.
 pub(crate) fn read_first(tokens: &[Token]) -> Result<Option<Name>, OutOfMemory>
     requires { AreSound (kinds tokens.now) }
     ensures { IfOk result (λ found. MatchOption found
@@ -40,7 +40,7 @@ pub(crate) fn read_first(tokens: &[Token]) -> Result<Option<Name>, OutOfMemory>
     Ok(Some(name))
 }
 
-// The domain that the last step gives, where the tokens are such a step.
+// The domain that the last step gives, if the tokens are such a step.
 pub(crate) fn read_last(tokens: &[Token]) -> Option<Span>
     requires { AreSound (kinds tokens.now) }
     ensures { MatchOption result

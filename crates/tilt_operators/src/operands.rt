@@ -53,7 +53,7 @@ fn is_over(operands: Operands, expr: &Expr) -> bool
     }
 }
 
-// Whether the name is that of an operand.
+// Whether the name is an operand's.
 fn is_operand(operands: Operands, name: &Name) -> bool
     ensures { result ≡ is_operand operands name.now }
 {

@@ -54,7 +54,7 @@ fn push_number(alloc: Global, types: &mut Vec<Declared>, word: &[u8]) -> Result<
     Ok(())
 }
 
-// Whether the expression of the step, where it has one, has the type that the step asks for.
+// Whether the expression of the step, if it has one, has the type that the step asks for.
 fn is_typed(operands: &[Declared], step: &Step) -> bool
     requires { operands.now ≡ operand_types }
     ensures { result ≡ is_typed (step_tree step.now) }

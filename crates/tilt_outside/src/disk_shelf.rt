@@ -98,7 +98,7 @@ fn open_at<R: Files>(
     })
 }
 
-// Reads once, and begins again where it was interrupted.
+// Reads once, and retries if it was interrupted.
 fn read_some<F: Read>(file: &mut F, room: &mut [u8]) -> io::Result<usize>
     ensures { IfOk result (λ count. count ≤ length room.old) }
 {

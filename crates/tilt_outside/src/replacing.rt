@@ -110,7 +110,7 @@ fn write_new<R: Files>(
     file.sync_all()
 }
 
-// Gives the file to the owner and the group of the old one, or to the group alone where the program may do no more. Whether
+// Gives the file to the owner and the group of the old one, or to the group alone if the program may do no more. Whether
 // the file has the old one's group then.
 fn keep_owner<R: Files>(files: &R, path: &str, new: &Metadata, old: &Metadata) -> bool {
     let group = Some(old.gid());
@@ -120,8 +120,7 @@ fn keep_owner<R: Files>(files: &R, path: &str, new: &Metadata, old: &Metadata) -
     new.gid() == old.gid() || again(|| files.chown(path, None, group)).is_ok()
 }
 
-// Gives the file the mode of the old one, where it has another. A group that isn't the old one's gets no right that others
-// don't have.
+// Gives the file the mode of the old one, if it has another. A group that isn't the old one's gets no right that others don't have.
 fn keep_mode<F: OpenFile>(
     file: &F,
     new: &Metadata,
@@ -143,7 +142,7 @@ fn rights_of(metadata: &Metadata) -> u32 {
     metadata.mode() & 0o7777
 }
 
-// Waits until the disk has the folder's names, where the folder can be opened and the file system can do that.
+// Waits until the disk has the folder's names, if the folder can be opened and the file system can do that.
 fn sync_folder<R: Files>(files: &R, folder: &str) -> io::Result<()> {
     match open_and_sync(files, folder) {
         Err(error) if is_beyond_us(error.kind()) => Ok(()),

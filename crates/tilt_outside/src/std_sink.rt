@@ -90,7 +90,7 @@ fn write_whole<W: Write>(writer: &mut W, bytes: &[u8]) -> Result<(), Failed>
     Ok(())
 }
 
-// Writes a prefix of the bytes that isn't empty, and begins again where it was interrupted.
+// Writes a prefix of the bytes that isn't empty, and retries if it was interrupted.
 fn write_some<W: Write>(writer: &mut W, bytes: &[u8]) -> Result<usize, Failed>
     ensures count { IfOk result (λ count. (0 < count) × (count ≤ length bytes.now)) }
     ensures bytes { IfOk result (λ count.

@@ -115,7 +115,7 @@ fn take_up_to<S: Shelf>(
     Ok(bytes)
 }
 
-// Appends what one read from after the bytes gives, and answers how many: 0 only at the end.
+// Appends what one read from after the bytes gives, and returns how many: 0 only at the end.
 fn take_piece<S: Shelf>(
     shelf: &mut S,
     name: &str,

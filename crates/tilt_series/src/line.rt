@@ -37,7 +37,7 @@ fn byte_before(room: &mut [u8; ROOM], end: usize, byte: u8) -> usize
     end - 1
 }
 
-// Writes a value in shortest decimal before a place, and nothing for null, and answers where it starts.
+// Writes a value in shortest decimal before a place, and nothing for null, and returns where it starts.
 #[inline]
 fn cell_before(room: &mut [u8; ROOM], end: usize, cell: Cell) -> usize
     requires low { 20 ≤ end }
@@ -52,7 +52,7 @@ fn cell_before(room: &mut [u8; ROOM], end: usize, cell: Cell) -> usize
     }
 }
 
-// Writes a number in shortest decimal before a place, and answers where it starts.
+// Writes a number in shortest decimal before a place, and returns where it starts.
 fn number_before(room: &mut [u8; ROOM], end: usize, number: i64) -> usize
     requires low { 20 ≤ end }
     requires high { end ≤ 64 }

@@ -132,7 +132,7 @@ impl Cursor {
     }
 }
 
-// What is seen at a tick, where no snapshot from a place on ends below it: by the one at that place, or where there is none.
+// What is seen at a tick, if no snapshot from a place on ends below it: by the one at that place, or if there is none.
 #[inline]
 fn seen_at<B: Buffer>(buffer: &B, place: usize, tick: i64) -> Option<Seen>
     requires fits { place ≤ ended_below tick (B.list buffer.now) }
@@ -178,7 +178,7 @@ fn passing<B: Buffer>(buffer: &B, from: usize, tick: i64) -> usize
     parted(buffer, low, high, tick)
 }
 
-// The snapshot at a place, or none where so many weren't made.
+// The snapshot at a place, or none if no more were made.
 #[inline]
 fn snap_at<B: Buffer>(buffer: &B, place: usize) -> Option<Snap>
     requires kept { B.forgotten buffer.now ≤ place }

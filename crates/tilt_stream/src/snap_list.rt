@@ -84,8 +84,7 @@ impl SnapList {
         self.snaps.pop()
     }
 
-    /// The snapshots of rows: the rows, and one null snapshot for each gap between two of them. Their stream is that of
-    /// the rows.
+    /// The snapshots of rows: the rows, and one null snapshot for each gap between two of them. Their stream is the stream of the rows.
     pub fn from_rows(alloc: Global, rows: &Rows) -> Result<SnapList, OutOfMemory>
         ensures stream { IfOk result (λ list. SameStream (stream_of list) (stream_of rows.now)) }
     {
@@ -107,7 +106,7 @@ impl SnapList {
         self.snaps[0] = first.opened_at(open_start);
     }
 
-    // Adds a row, after a null snapshot where there is a gap.
+    // Adds a row, after a null snapshot if there is a gap.
     fn push_row(&mut self, row: Row) -> Result<(), OutOfMemory>
         requires behind { ForSome (last_end self.old) (λ end. end ≤ℤ row.start) }
         requires low { neg_ℤ WIDE ≤ℤ row.start }
@@ -119,7 +118,7 @@ impl SnapList {
         self.push(row)
     }
 
-    // Adds a null snapshot where there is a gap between the end and this start.
+    // Adds a null snapshot if there is a gap between the end and this start.
     fn fill_gap(&mut self, start: i64) -> Result<(), OutOfMemory>
         requires behind { ForSome (last_end self.old) (λ end. end ≤ℤ start) }
         requires high { start ≤ℤ WIDE }
@@ -136,7 +135,7 @@ impl SnapList {
         }
     }
 
-    // The end of the last snapshot, or `None` where there is none.
+    // The end of the last snapshot, or `None` if there is none.
     fn last_end(&self) -> Option<i64>
         ensures value { result ≡ last_end self.now }
         ensures low { IfSome result (λ end. neg_ℤ WIDE ≤ℤ end) }

@@ -31,7 +31,7 @@ impl Faults<'_> {
         Ok(())
     }
 
-    // A call that the library begins again by itself where it is interrupted.
+    // A call that the library retries by itself if it is interrupted.
     fn next_uninterrupted(&self) -> io::Result<()> {
         match self.next() {
             Err(error) if error.kind() == ErrorKind::Interrupted => Ok(()),

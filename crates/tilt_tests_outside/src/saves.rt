@@ -296,7 +296,7 @@ fn only_what_was_handed_open_is_written_at_its_end(rt: HostRuntime) -> Result<()
     Ok(())
 }
 
-// Whether a file of this name stays where another is saved.
+// Whether a file of this name stays if another is saved.
 fn stays(rt: &HostRuntime, left: &str) -> Result<bool, Fail> {
     let path = format!(in rt.alloc(); "saves_left/{left}")?;
     fs::write(rt, path.as_str(), b"x")?;

@@ -89,7 +89,7 @@ fn each_failing_read_is_told_and_is_the_last(rt: HostRuntime) -> Result<(), Fail
     Ok(())
 }
 
-// What a read answers after a file was read whole with so many reads: the read after those fails.
+// What a read returns after a file was read whole with that many reads: the read after those fails.
 fn read_after(
     alloc: Global,
     bytes: &[u8],
@@ -213,8 +213,7 @@ fn reading_on_in_another_file_gives_its_bytes(rt: HostRuntime) -> Result<(), Fai
     Ok(())
 }
 
-// What a read of two bytes answers with faults of one kind from a call to another, the room after it, and how many calls
-// there were.
+// What a read of two bytes returns with faults of one kind from a call to another, the room after it, and how many calls there were.
 fn read_with(
     rt: &HostRuntime,
     kind: ErrorKind,

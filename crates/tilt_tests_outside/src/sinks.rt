@@ -125,7 +125,7 @@ impl Write for ToldWriter {
     }
 }
 
-// Takes all, and fails where it is flushed.
+// Takes all, and fails if it is flushed.
 #[derive(Drop)]
 struct UnflushedWriter;
 
