@@ -22,7 +22,7 @@ use Rattle.tilt_pipe.specs.Sources.{AreSources, IsCovered, IsRead, IsSource}
 use Rattle.tilt_pipe.specs.declared.read.Read.{Read}
 use Rattle.tilt_pipe.specs.declared.sources.Source.{Source}
 
--- what stands at a place is in the list
+-- what is at a place is in the list
 pub contains-at : {X : Type 0} (xs : List X) (k : ℕ) (x : X) → slice_get xs k ≡ Some x → Contains xs x
 contains-at xs k x is = (k, slice_get_within xs k x is, get_or_from_slice_get xs k x x is)
 
@@ -155,7 +155,7 @@ sources-near p place w sources code are is within of =
     let near = source-near p place w s code are is (all-slice_get (IsSource (length p.inputs) (body_reads w.loop.body)) sources i s of.each at) in
     record { there = omega arith; low = near.low; high = near.high })
 
--- where each has made enough, all that the turn reads is told
+-- if each has made enough, all that the turn reads is known
 pub sources-told : (p : RingsParts) (place : ℕ) (w : Work) (sources : List Source)
     → AreSources (length p.inputs) (body_reads w.loop.body) sources
     → ((k : ℕ) (s : Source) → slice_get sources k ≡ Some s → IsReached p s.place (turn_point w.loop (start_at p place) +ℤ s.last))

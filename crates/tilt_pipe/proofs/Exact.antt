@@ -1,5 +1,5 @@
--- When what the loops of a pipe have made is exactly what they have made after so many snapshots were given out: it is the least that is
--- enough for what the last turns of later loops read.
+-- When what the loops of a pipe have made is exactly what they have made after n snapshots were given out. It is the minimum that is enough
+-- for what the last turns of later loops read.
 use Rattle.std.proofs.Common.{◌≡◌, ◌<◌, ◌≤◌, ℕ, zero, suc, ℤ, ◌<ℤ◌, ◌≤ℤ◌, Bool, true, false, if◌then◌else◌, int_lt, int_le, List, [], ◌∷◌, length, take, Option, Some, None, refl, sym, ap, ◌∙◌, arith}
 use Rattle.std.proofs.Common.{◌==◌, ◌+ℤ◌, slice_get, subst, Contains, ◌-◌, option_map}
 use Rattle.std.proofs.lemmas.Int.{ints, by_lt_z, clamps}

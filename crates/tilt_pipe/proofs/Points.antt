@@ -23,7 +23,7 @@ point-at p place w used before mark test =
     ap (λ (b : Bool). if b && int_lt (start_at p place) w.loop.hi then next else None) mark
     ∙ ap (λ (b : Bool). if used && b then next else None) test
 
--- a loop at work stands before the end of its stretch
+-- a loop at work is before the end of its stretch
 pub record IsAtWork (p : RingsParts) (place : ℕ) (w : Work) (point : ℤ) : Type 0 where
   pub is_open : IsOpen p place w
   pub at : point ≡ turn_point w.loop (start_at p place)

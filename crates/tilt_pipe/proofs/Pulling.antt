@@ -1,5 +1,5 @@
--- The next snapshot of a pipe: what holds of its loops before the first of the turns that it needs, from each turn to the next, and in
--- the end; and what the pipe is seen as between two of them.
+-- The next snapshot of a pipe: what holds of its loops before the first of the turns that it needs, from each turn to the next, and in the
+-- end. Also what the pipe is seen as between two of them.
 use Rattle.std.proofs.Common.{◌≡◌, ◌≢◌, inl, inr, ◌<◌, ◌≤◌, ℕ, zero, suc, ◌+◌, ◌-◌, ◌*◌, ℤ, pos, ◌+ℤ◌, ◌<ℤ◌, ◌≤ℤ◌, List, [], ◌∷◌, ◌++◌}
 use Rattle.std.proofs.Common.{map, length, take, get_or, slice_get, slice_set, Option, Some, None, refl, sym, ap, ◌∙◌, subst, arith, Contains, false, Result, Ok, Err, OnOk}
 use Rattle.std.proofs.lemmas.Bool.{cases_eq, cases_lt, false≢true}
@@ -70,7 +70,7 @@ begun-pop is above last given now later [] place more same falling h = let begin
 begun-pop is above last given now later (p ∷ places) place more same falling h =
     (h.0, same last (λ equal. omega (arith, (falling-top is p places place falling.2).0, h.0, equal)) ∙ h.1)
 
--- how many snapshots each loop has made where it stands
+-- how many snapshots each loop has made at its position
 made_in-at : (works : List Work) (starts : List ℤ) (k : ℕ) (w : Work) → length starts ≡ length works → slice_get works k ≡ Some w
     → made_in (stages_at works starts) k ≡ length (made_by (get_or starts k (pos 0)) w.whole)
 made_in-at [] starts k w many is = absurd (cc is)

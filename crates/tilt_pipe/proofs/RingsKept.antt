@@ -72,7 +72,7 @@ pub record IsKept (w : Work) (r : RingParts) : Type 0 where
   pub fills : Fill w.loop.lo w.loop.hi w.whole
   pub ring : IsRing w r
 
--- the last that is held ends where the loop stands
+-- the last that is held ends at the loop's position
 last_end-drop : (n : ℕ) (list : List Snapshot) (end : ℤ) → last_end (drop n list) ≡ Some end → last_end list ≡ Some end
 last_end-drop zero list end is = is
 last_end-drop (suc n) [] end is = is
@@ -202,7 +202,7 @@ read-at p place w r code are of is =
     let within = (ring-of p place w code are of).within in
     is-at p place w r code are of (slice_get_read p.rings (length p.rings) place r refl within is)
 
--- a loop that stands before the end of its stretch
+-- a loop that is before the end of its stretch
 pub record IsPlaced (p : RingsParts) (place : ℕ) (w : Work) : Type 0 where
   pub within : place < length p.rings
   pub within_loops : place < length p.code.loops

@@ -110,7 +110,7 @@ ring-read c place number ring list may there below at is =
     ap (λ (xs : List ℕ). slice_get xs number) same
     ∙ slice_get_read list.items (length list.items) number ring refl (omega (arith, below, ap length same)) is
 
--- what stands in one is a ring
+-- an element of one is a ring
 pub listed-there : (c : Chain) (place n k : ℕ) → MayLetGo c → slice_get (held_in c.held.items place) n ≡ Some k → k < length c.rings.rings
 listed-there c place n k may at =
     let long = turns-long c.rings c.turns.items may.turns in

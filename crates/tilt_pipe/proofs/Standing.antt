@@ -1,4 +1,4 @@
--- Where a loop stands, and what it has made there: that part of its whole buffer that ends there.
+-- The position of a loop, and what it has made there: the part of its whole buffer that ends there.
 use Rattle.std.proofs.Common.{◌≡◌, ◌⊎◌, inl, inr, ◌<◌, ℤ, pos, neg_ℤ, ◌+ℤ◌, ◌<ℤ◌, ◌≤ℤ◌, true, false, int_lt, int_le, List, [], ◌∷◌, ◌++◌, length, slice_get, Some, None, refl, sym, ap, ◌∙◌, subst}
 use Rattle.std.proofs.Common.{arith}
 use Rattle.std.proofs.lemmas.Int.{ints, by_lt_z}
@@ -29,7 +29,7 @@ made-stopped start s ss high =
     let outside : int_le s.end start ≡ false = grind (arith, ints) in
     rw outside refl
 
--- a loop that stands at the end of its stretch has made its whole buffer
+-- a loop that is at the end of its stretch has made its whole buffer
 pub all-made : (lo hi start : ℤ) (whole : List Snapshot) → Fill lo hi whole → hi ≤ℤ start → made_by start whole ≡ whole
 all-made lo hi start [] h end = refl
 all-made lo hi start (s ∷ ss) h end =
@@ -58,7 +58,7 @@ pub below_end : (tick start hi : ℤ) → (hi ≤ℤ start) ⊎ (tick ≤ℤ sta
 below_end tick start hi (inl ended) some = absurd (omega (arith, ints))
 below_end tick start hi (inr reached) some = reached
 
--- the next snapshot of a buffer: it begins where the loop stands, and once it is made the loop stands at its end
+-- the next snapshot of a buffer: it begins at the loop's position, and once it is made the loop's position is its end
 pub record IsNextMade (lo hi start : ℤ) (whole : List Snapshot) (s : Snapshot) : Type 0 where
   pub begins : s.start ≡ start
   pub more : made_by s.end whole ≡ made_by start whole ++ s ∷ []
@@ -124,7 +124,7 @@ next-is lo hi start whole s h stands is =
           fill = rw more (Fill-append lo start s.end made (s ∷ []) stands (filled.0, rises, refl));
         }
 
--- where whole buffers are turns, the next one is the turn that begins where the loop stands
+-- if whole buffers are turns, the next one is the turn that begins at the loop's position
 turn-next : (body : Stream) (grid : GridPoints) → IsGrid grid → (lo hi start : ℤ) (whole : List Snapshot)
     → whole ≡ turns_until body grid hi lo → Fill lo start (made_by start whole) → start <ℤ hi
     → slice_get whole (length (made_by start whole)) ≡ Some (turn body grid hi start)

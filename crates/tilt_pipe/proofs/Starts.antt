@@ -234,7 +234,7 @@ pub written : (count : ℕ) (all changed : List LoopTurns) → count ≡ length 
     → take count (changed ++ drop (length changed) all) ≡ changed
 written count all changed long same = take_at changed (drop (length changed) all) count (same ∙ sym long)
 
--- where all have said what they read, they are those of loops that stand there
+-- if all have said what they read, they are the turns of loops that are at these starts
 pub first-turns : (p : RingsParts) (all : List LoopTurns) → AreRings p → HaveBegun p 0 all → AreTurns p.code p.inputs (starts_of p.rings) all
 first-turns p all are begun = record {
   begins = length-map p.rings (λ (r : RingParts). r.start) ∙ are.many;

@@ -1,5 +1,5 @@
--- What a turn reads of the rings of a pipe: of each loop what it has made, and one null snapshot for the rest of its stretch. It tells the
--- same as the whole buffer, up to where the loop stands.
+-- What a turn reads of the rings of a pipe: of each loop what it has made, and one null snapshot for the rest of its stretch. It gives the
+-- same as the whole buffer, up to the loop's position.
 use Rattle.std.proofs.Common.{◌≡◌, inl, inr, ◌≤◌, ◌<◌, ◌+◌, ◌-◌, ℕ, zero, suc, ℤ, neg_ℤ, ◌<ℤ◌, List, [], ◌∷◌, ◌++◌, map, length, get_or, slice_get, option_map, Some, None, refl, sym, ap, ◌∙◌, subst}
 use Rattle.std.proofs.Common.{arith, length-append, ◌⊎◌, pos, ◌+ℤ◌, ◌≤ℤ◌, true, false, ◌||◌, if◌then◌else◌, int_lt}
 use Rattle.std.proofs.lemmas.Bool.{cases_lt}
@@ -147,7 +147,7 @@ rest-marks start hi (s ∷ ss) some h tick low =
     let behind = mark_at-before s.end hi ss tick (Fill-InOrder s.end hi ss h.2) (omega (arith, ints)) in
     rw (far, end, behind, h.0) refl
 
--- after what is made that may be changed for what tells the same
+-- after what is made, the rest may be exchanged for a list that gives the same
 made-then : {A : Type 0} (tell : List Snapshot → A) (add : Snapshot → A → A)
     → ((s : Snapshot) (ss : List Snapshot) → tell (s ∷ ss) ≡ add s (tell ss)) → (made a b : List Snapshot) → tell a ≡ tell b
     → tell (made ++ a) ≡ tell (made ++ b)
@@ -158,7 +158,7 @@ made-marks : (made a b : List Snapshot) (tick : ℤ) → mark_at a tick ≡ mark
 made-marks made a b tick =
     made-then (λ list. mark_at list tick) (λ s m. int_eq tick (s.start +ℤ pos 1) || int_eq tick (s.end +ℤ pos 1) || m) (λ s ss. refl) made a b
 
--- a null snapshot for the rest of the stretch tells the same up to where it begins, and above it the same next mark: its own first one
+-- a null snapshot for the rest of the stretch gives the same up to where it begins, and above it the same next mark: its own first one
 open-same : (tick start hi : ℤ) (made rest : List Snapshot) → start <ℤ hi → Fill start hi rest → tick ≤ℤ start
     → IsSameUpTo tick (made ++ rest_of start hi) (made ++ rest)
 open-same tick start hi made rest some h low =
@@ -176,7 +176,7 @@ open-same tick start hi made rest some h low =
           absurd (cc never)) (λ near. made-marks made gap rest t (rest-marks start hi rest some h t near));
     }
 
--- what is the same tells the same
+-- equal lists give the same
 pub same-is : (tick : ℤ) (a b : List Snapshot) → a ≡ b → IsSameUpTo tick a b
 same-is tick a b is = record {
   ended = λ t le. ap (ended_below t) is;
@@ -185,8 +185,8 @@ same-is tick a b is = record {
   next = λ t above clear. ap (λ (list : List Snapshot). mark_at list t) is;
 }
 
--- what a turn reads tells the same as the whole buffer: everywhere where the loop stands at the end of its stretch, and else up to a
--- tick that it has reached
+-- what a turn reads gives the same as the whole buffer: everywhere if the loop is at the end of its stretch, and otherwise up to a tick
+-- that it has reached
 pub made-same : (lo hi start tick : ℤ) (whole : List Snapshot) → Fill lo hi whole → Fill lo start (made_by start whole)
     → (hi ≤ℤ start) ⊎ (tick ≤ℤ start) → IsSameUpTo tick (made_by start whole ++ gap_before (Some start) hi) whole
 made-same lo hi start tick whole h stands reached =
@@ -264,7 +264,7 @@ same-body p wholes buffers maps point (i ∷ block) code are within hold near to
       same-body p wholes buffers maps point block code are within hold near.1 parts.1,
     )
 
--- a read of the buffer of a loop is told, where that loop has made enough
+-- a read of the buffer of a loop is known, if that loop has made enough
 pub told-one : (p : RingsParts) (point last : ℤ) (r : Read) (source : ℕ) → r.buffer ≡ length p.inputs + source → r.last ≤ℤ last
     → IsReached p source (point +ℤ last) → IsTold p point r
 told-one p point last r source at most reached = λ other w is of.

@@ -48,7 +48,7 @@ alike-turns p q all a h =
 pub alike-long : (p q : RingsParts) → StandAlike p q → length q.rings ≡ length p.rings
 alike-long p q a = sym (length-map q.rings (λ (r : RingParts). r.start)) ∙ ap length a.starts ∙ length-map p.rings (λ (r : RingParts). r.start)
 
--- another ring that stands where the one there stood
+-- another ring at the same position as the one there
 pub alike-set : (p : RingsParts) (place : ℕ) (r : RingParts) → r.start ≡ start_at p place → StandAlike p (with_ring p place r)
 alike-set p place r at = record {
   code = refl;
@@ -57,7 +57,7 @@ alike-set p place r at = record {
       ∙ ap (λ (t : ℤ). slice_set (starts_of p.rings) place t) at ∙ set-get_or (starts_of p.rings) place (pos 0);
 }
 
--- a reader reads what it read where its loop stands where it stood
+-- a reader reads what it read if its loop is where it was
 next-same : (p q : RingsParts) (reader : Reader) (w : Option Work) → start_at q reader.place ≡ start_at p reader.place
     → read_next q reader w ≡ read_next p reader w
 next-same p q reader None same = refl

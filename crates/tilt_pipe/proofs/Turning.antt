@@ -41,7 +41,7 @@ rises-on works starts place k start tick within up made = λ w of.
       | inr apart ↦ rw (get_or-set_other starts place k start (pos 0) apart) made
     ] w of
 
--- others of the same loop, which stands further on
+-- others of the same loop, which is further on
 pub turns-set : (code : CodeParts) (inputs : List (List Snapshot)) (starts : List ℤ) (all : List LoopTurns) (place : ℕ) (start : ℤ)
     (w : Work) (turns : LoopTurns) → AreTurns code inputs starts all → slice_get (works_of code inputs) place ≡ Some w
     → get_or starts place (pos 0) ≤ℤ start → AreTurnsOf code inputs (slice_set starts place start) place w turns
@@ -66,7 +66,7 @@ turns-set code inputs starts all place start w turns are of up new =
           (λ v is. subst (λ (x : Work). New place x turns) (same_Some w v (sym of ∙ is)) new);
     }
 
--- other turns of a loop that stands where it stood
+-- other turns of a loop that is where it was
 pub turns-passed : (p : RingsParts) (all : List LoopTurns) (place : ℕ) (w : Work) (new : LoopTurns) → AreTurns p.code p.inputs (starts_of p.rings) all
     → slice_get (works_in p) place ≡ Some w → AreTurnsOf p.code p.inputs (starts_of p.rings) place w new
     → AreTurns p.code p.inputs (starts_of p.rings) (slice_set all place new)

@@ -89,7 +89,7 @@ turn_point-rises l a b valid le =
     let to = ceil-IsCeil l.grid (b +ℤ pos 1) valid.period_low in
     from.least (ceil l.grid (b +ℤ pos 1)) to.on_grid (omega (arith, ints, to.not_below))
 
--- what the next turn of a loop wants that stands at a tick
+-- what the next turn of a loop at a tick wants
 abbrev wanted_at : ℕ → Work → ℤ → Option ℤ
 wanted_at buffer w start = if w.used && int_lt start w.loop.hi then first_tick buffer (turn_point w.loop start) (body_reads w.loop.body) else None
 
@@ -106,7 +106,7 @@ wanted_at-rises buffer w a b valid le = by w.used (int_lt a w.loop.hi) (int_lt b
     by true true true is also =
         first_tick-rises buffer (turn_point w.loop a) (turn_point w.loop b) (body_reads w.loop.body) (turn_point-rises w.loop a b valid le)
 
--- a loop that has gone on, or stands where it stood
+-- a loop that has gone on, or is where it was
 pub record HasRisen (s later : Stage) : Type 0 where
   pub work : later.work ≡ s.work
   pub grid : IsGrid s.work.loop.grid
@@ -205,7 +205,7 @@ used-source code inputs place source w v r is used among at before found =
     (work-is code inputs source v found).used ∙ is_used-found (length inputs + source) (drop (suc source) works) (place - suc source) w r
     (slice_get-drop (suc source) works (place - suc source) place later ∙ is) used among at
 
--- a loop that stands there, and loops where they stand, place by place
+-- a loop at a position, and loops at their positions, place by place
 abbrev pub stage_at : Work → ℤ → Stage
 stage_at w start = record { work = w; made = made_by start w.whole }
 
@@ -216,7 +216,7 @@ stages_at-get (x ∷ works) [] place w start is at = absurd (cc at)
 stages_at-get (x ∷ works) (y ∷ starts) zero w start is at = λ i. Some (stage_at (same_Some x w is i) (same_Some y start at i))
 stages_at-get (x ∷ works) (y ∷ starts) (suc place) w start is at = stages_at-get works starts place w start is at
 
--- what stands at a place is the loop and the start there
+-- what is at a place is the loop and the start there
 pub record StandsAt (works : List Work) (starts : List ℤ) (place : ℕ) (s : Stage) : Type 0 where
   pub start : ℤ
   pub work : slice_get works place ≡ Some s.work

@@ -24,7 +24,7 @@ use Rattle.tilt_pipe.specs.declared.chain.Reader.{Reader}
 use Rattle.tilt_pipe.specs.declared.read.Read.{Read}
 use Rattle.tilt_stream.specs.Snap.{Snapshot, last_end}
 
--- a loop stands where what it has made ends
+-- a loop's position is where what it has made ends
 pub stands-there : (w : Work) (r : RingParts) → IsRing w r → position (record { work = w; made = made_by r.start w.whole }) ≡ r.start
 stands-there w r is = end-made w.loop.lo r.start (made_by r.start w.whole) is.fill
 
@@ -82,7 +82,7 @@ ticks-all x buffer point (r ∷ reads) each =
         (each r (record { among = (0, omega arith, refl); of = grind arith })) rest
     by false here rest = rest
 
--- where a loop stands, and what it has made ends there
+-- the position of a loop, and what it has made ends there
 record StandsThere (p : RingsParts) (place : ℕ) (w : Work) : Type 0 where
   at : slice_get (starts_of p.rings) place ≡ Some (start_at p place)
   position : position (stage_at w (start_at p place)) ≡ start_at p place
@@ -121,7 +121,7 @@ next-is p reader w test is same =
     ap (read_next p reader) is
     ∙ ap (λ (b : Bool). if b then Some (turn_point w.loop (start_at p reader.place) +ℤ reader.first) else None) same
 
--- it stands after the loop whose buffer it reads
+-- it is after the loop whose buffer it reads
 pub reader-behind : (p : RingsParts) (k : ℕ) (reader : Reader) → IsCode p.code → AreRings p
     → IsReaderOf (length p.inputs) p.code.loops k reader → k < reader.place
 reader-behind p k reader code are own =

@@ -122,7 +122,7 @@ sum_made : made_after shift_of_sum two_inputs 2
     ∷ (gap (pos 0) (pos 1) ∷ row (pos 1) (pos 2) (pos 2) ∷ []) ∷ []
 sum_made = refl
 
--- at the end the sum stands at 1, below the end of its stretch, and what it would read next is still kept
+-- at the end the sum is at 1, below the end of its stretch, and what it would read next is still kept
 sum_rings : map (rings_after shift_of_sum two_inputs) (1 ∷ 2 ∷ [])
     ≡ ([] ∷ [] ∷ [] ∷ []) ∷ ((row (pos 0) (pos 2) (pos 1) ∷ []) ∷ [] ∷ [] ∷ []) ∷ []
 sum_rings = refl

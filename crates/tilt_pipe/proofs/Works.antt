@@ -1,4 +1,4 @@
--- The loops of a code with their whole buffers: where each stands, and what it is.
+-- The loops of a code with their whole buffers: where each is, and what it is.
 use Rattle.std.proofs.Common.{◌≡◌, ◌<◌, ℕ, zero, suc, ◌+◌, ◌-◌, true, List, [], ◌∷◌, ◌++◌, map, length, take, drop, get_or, slice_get, Some, refl, sym, ap, ◌∙◌, subst, arith}
 use Rattle.std.proofs.Common.{append_assoc, length-append}
 use Rattle.std.proofs.lemmas.List.{append-nil, take_at, drop_all, length_push, get_or_append_left, get_or-append-add, get_or-map, length-map}
@@ -113,7 +113,7 @@ input-is code inputs i within =
     ap (λ (all : List (List Snapshot)). get_or all i []) (buffers-works code inputs)
     ∙ get_or_append_left inputs (wholes (works_of code inputs)) [] i within
 
--- the last of a list stands in its last place
+-- the last of a list is in its last place
 last_or-is : {A : Type 0} (given : A) (xs : List A) (i : ℕ) (d : A) → suc i ≡ length xs → last_or given xs ≡ get_or xs i d
 last_or-is given [] i d at = absurd (omega arith)
 last_or-is given (x ∷ []) zero d at = refl

@@ -21,22 +21,22 @@ use Rattle.tilt_pipe.specs.declared.chain.LoopTurns.{LoopTurns}
 use Rattle.tilt_pipe.specs.declared.chain.Reader.{Reader}
 use Rattle.tilt_pipe.specs.declared.sources.Source.{Source}
 
--- the loop at a place has made all up to a tick, or all, where the loops stand at these starts
+-- the loop at a place has made all up to a tick, or all, if the loops are at these starts
 abbrev pub HasMade : List Work → List ℤ → ℕ → ℤ → Type 0
 HasMade works starts place tick = (w : Work) → slice_get works place ≡ Some w
     → (w.loop.hi ≤ℤ get_or starts place (pos 0)) ⊎ (tick ≤ℤ get_or starts place (pos 0))
 
--- the same where the loops stand as their rings say
+-- the same if the loops are where their rings say
 abbrev pub IsReached : RingsParts → ℕ → ℤ → Type 0
 IsReached p = HasMade (works_in p) (starts_of p.rings)
 
--- so have the first of these sources, as many as that, each up to the last tick that is read there at a grid point
+-- the first `count` of these sources have made all up to the last tick that is read there at a grid point, or all
 abbrev pub AreReached : List Work → List ℤ → ℤ → List Source → ℕ → Type 0
 AreReached works starts point sources count =
     (k : ℕ) (s : Source) → k < count → slice_get sources k ≡ Some s → HasMade works starts s.place (point +ℤ s.last)
 
--- the turns of the loop at a place: its state is fit for its next turn over the whole buffers, its sources and readers are known, and
--- the sources that count as passed have made all that this turn reads
+-- the turns of the loop at a place: its state is fit for its next turn over the whole buffers, and its sources and readers are known. The
+-- sources that count as passed have made all that this turn reads
 pub record AreTurnsOf (code : CodeParts) (inputs : List (List Snapshot)) (starts : List ℤ) (place : ℕ) (w : Work) (turns : LoopTurns)
     : Type 0 where
   pub sources : AreSources (length inputs) (body_reads w.loop.body) turns.sources.items
@@ -52,7 +52,7 @@ pub record AreTurns (code : CodeParts) (inputs : List (List Snapshot)) (starts :
   pub each : (k : ℕ) (w : Work) (turns : LoopTurns) → slice_get (works_of code inputs) k ≡ Some w → slice_get all k ≡ Some turns
       → AreTurnsOf code inputs starts k w turns
 
--- the grid point of a loop's next turn, where it is at work
+-- the grid point of a loop's next turn, if it is at work
 abbrev pub point_at : RingsParts → ℕ → Work → Option ℤ
 point_at p place w =
     if w.used && int_lt (start_at p place) w.loop.hi then Some (turn_point w.loop (start_at p place)) else None
@@ -66,7 +66,7 @@ pub record AreHolders (inputs : ℕ) (loops : List LoopParts) (holders : List (O
   pub many : length holders ≡ length loops
   pub among : (k : ℕ) (reader : Reader) → slice_get holders k ≡ Some (Some reader) → IsReaderOf inputs loops k reader
 
--- the rings in a list, and none where there is no list
+-- the rings in a list, and none if there is no list
 abbrev pub rings_listed : Option (Vec ℕ) → List ℕ
 rings_listed None = []
 rings_listed (Some list) = list.items
@@ -81,17 +81,17 @@ pub record AreLists (holders : List (Option Reader)) (held : List (Vec ℕ)) : T
   pub listed : (k : ℕ) (reader : Reader) → slice_get holders k ≡ Some (Some reader) → Contains (held_in held reader.place) k
   pub within : (place k : ℕ) → Contains (held_in held place) k → k < length holders
 
--- the tick that who holds a ring reads next; none where nobody is known to hold it
+-- the tick that the holder of a ring reads next; none if nobody is known to hold it
 abbrev pub holder_next : RingsParts → Option Reader → Option ℤ
 holder_next p None = None
 holder_next p (Some reader) = reads_next p reader
 
--- all that ends below what the next turn of a holder reads first was let go of a ring, and all of it where it has no next turn, or
--- nobody holds the ring: so it reads the first snapshot that the ring holds, if there is one
+-- all that ends below what the next turn of a holder reads first was let go of a ring. All of it was let go if the holder has no next turn,
+-- or nobody holds the ring. So the holder reads the first snapshot that the ring holds, if there is one
 abbrev pub IsHeldBy : RingsParts → ℕ → Option Reader → Type 0
 IsHeldBy p k holder = HasLetGo p k (holder_next p holder)
 
--- so does who holds the ring
+-- the same of the holder of the ring
 abbrev pub IsHeld : RingsParts → List (Option Reader) → ℕ → Type 0
 IsHeld p holders k = (holder : Option Reader) → slice_get holders k ≡ Some holder → IsHeldBy p k holder
 
@@ -107,12 +107,12 @@ HasPoints c = ArePoints c.rings c.points.items
 abbrev pub HasHolders : Chain → Type 0
 HasHolders c = AreHolders (length c.rings.inputs) c.rings.code.loops c.holders.items
 
--- in lists too
+-- and the lists of the rings that loops hold
 abbrev pub HasLists : Chain → Type 0
 HasLists c = AreLists c.holders.items c.held.items
 
--- a pipe's loops between two turns: each state is fit, the points are those of the next turns, each ring holds exactly what the next
--- turns of later loops may read, and who holds it reads the first of that
+-- a pipe's loops between two turns: each state is fit, and the points are the grid points of the next turns. Each ring holds exactly what
+-- the next turns of later loops may read, and its holder reads the first of that
 pub record IsChain (c : Chain) : Type 0 where
   pub turns : HasTurns c
   pub points : HasPoints c
@@ -121,8 +121,8 @@ pub record IsChain (c : Chain) : Type 0 where
   pub held : (k : ℕ) → IsHeld c.rings c.holders.items k
   pub exact : map (λ r. r.held) c.rings.rings ≡ rings_of (length c.rings.inputs) (stages_at (works_in c.rings) (starts_of c.rings.rings))
 
--- a chain whose rings may let go what isn't wanted: its turns, its points and who holds its rings are known, and of no ring more than
--- that was let go
+-- a chain whose rings may let go what isn't wanted: its turns, its points and the holders of its rings are known. Of no ring was more let
+-- go than that
 pub record MayLetGo (c : Chain) : Type 0 where
   pub turns : HasTurns c
   pub points : HasPoints c
@@ -130,11 +130,11 @@ pub record MayLetGo (c : Chain) : Type 0 where
   pub lists : HasLists c
   pub wanted : (k : ℕ) → KeepsWanted c.rings k
 
--- who holds a ring reads the first snapshot there; where nobody is known to hold it, there is none
+-- the holder of a ring reads the first snapshot there; if nobody is known to hold it, there is none
 abbrev pub IsSettled : Chain → ℕ → Type 0
 IsSettled c k = IsHeld c.rings c.holders.items k
 
--- what one ring lets go: no ring takes anything back, who holds the others is the same, and nothing goes off a list
+-- what one ring lets go: no ring takes anything back, the holders of the others are the same, and nothing goes off a list
 pub record LetsGo (old new : Chain) (place : ℕ) : Type 0 where
   pub may : MayLetGo new
   pub turns : new.turns.items ≡ old.turns.items
@@ -166,7 +166,7 @@ pub record IsHolder (c : Chain) (k : ℕ) (reader : Reader) : Type 0 where
   pub own : IsReaderOf (length c.rings.inputs) c.rings.code.loops k reader
   pub holds : IsHeldBy c.rings k (Some reader)
 
--- a read at a grid point is told: it is one of an input, or the loop has made all up to that tick, or all
+-- a read at a grid point is known: it is one of an input, or the loop has made all up to that tick, or all
 abbrev pub IsTold : RingsParts → ℤ → Read → Type 0
 IsTold p point r = (source : ℕ) (w : Work) → r.buffer ≡ length p.inputs + source → slice_get (works_in p) source ≡ Some w
     → (w.loop.hi ≤ℤ start_at p source) ⊎ ((point +ℤ r.last) ≤ℤ start_at p source)

@@ -1,5 +1,5 @@
--- What each loop of a pipe has made of its buffer, once so many snapshots were given out (our own rule): each makes only what the loops
--- after it have read. It is a recursion from the last loop down to the first, so that the case of a loop looks at later loops alone.
+-- What each loop of a pipe has made of its buffer, once `given` snapshots were given out (our own rule). Each makes only what the loops
+-- after it have read. It is a recursion from the last loop down to the first, so that the case of a loop reads later loops alone.
 use Rattle.std.specs.Prelude.{ℕ, suc, ℤ, Bool, true, false, ◌&&◌, ◌||◌, ◌==◌, if◌then◌else◌, List, [], ◌∷◌, ◌++◌, map, take, length}
 use Rattle.std.specs.Prelude.{Option, Some, None, int_lt}
 use Rattle.tilt_stream.specs.Pieces.{last_start}

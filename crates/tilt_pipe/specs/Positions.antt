@@ -1,4 +1,5 @@
--- What the rings of a pipe keep, by where each loop stands. Where a loop stands says what it has made: that is written down nowhere else.
+-- What the rings of a pipe keep, by the position of each loop. The position of a loop says what it has made: that is written down nowhere
+-- else.
 use Rattle.std.specs.Prelude.{◌≡◌, ◌≤◌, ◌+◌, ℕ, ℤ, Bool, pos, ◌<ℤ◌, ◌≤ℤ◌, if◌then◌else◌, List, [], ◌∷◌, ◌++◌, map, length, drop, get_or}
 use Rattle.std.specs.Prelude.{slice_get, slice_set, Some, int_le, refl, ⊤}
 use Rattle.std.specs.Coded.{Coded, code_by, coded×, coded_list, coded_ℕ, coded_ℤ}
@@ -25,7 +26,7 @@ abbrev pub made_by : ℤ → List Snapshot → List Snapshot
 made_by tick [] = []
 made_by tick (s ∷ ss) = if int_le s.end tick then s ∷ made_by tick ss else []
 
--- a ring that holds what is kept of that part of the loop's buffer that ends where the loop stands
+-- a ring that holds what is kept of the part of the loop's buffer that ends at the loop's position
 pub record IsRing (w : Work) (r : RingParts) : Type 0 where
   pub fill : Fill w.loop.lo r.start (made_by r.start w.whole)
   pub within : r.start ≤ℤ w.loop.hi
@@ -56,7 +57,7 @@ open_lists [] starts = []
 open_lists (w ∷ works) [] = []
 open_lists (w ∷ works) (start ∷ starts) = open_list w start ∷ open_lists works starts
 
--- where each loop stands
+-- the position of each loop
 abbrev pub starts_of : List RingParts → List ℤ
 starts_of rings = map (λ r. r.start) rings
 
@@ -68,13 +69,13 @@ lists_of p = p.inputs ++ open_lists (works_of p.code p.inputs) (starts_of p.ring
 abbrev pub forgotten_of : RingsParts → List ℕ
 forgotten_of p = map (λ _. 0) p.inputs ++ map (λ r. r.forgotten) p.rings
 
--- the loops with what they have made where they stand
+-- the loops with what they have made at their positions
 abbrev pub stages_at : List Work → List ℤ → List Stage
 stages_at [] starts = []
 stages_at (w ∷ works) [] = []
 stages_at (w ∷ works) (start ∷ starts) = record { work = w; made = made_by start w.whole } ∷ stages_at works starts
 
--- where a loop stands
+-- the position of a loop
 abbrev pub start_at : RingsParts → ℕ → ℤ
 start_at p place = get_or (starts_of p.rings) place (pos 0)
 
@@ -90,7 +91,7 @@ made_at p place w = made_by (start_at p place) w.whole
 abbrev pub with_ring : RingsParts → ℕ → RingParts → RingsParts
 with_ring p place ring = record { code = p.code; inputs = p.inputs; rings = slice_set p.rings place ring }
 
--- a ring whose loop has made one snapshot more, which it takes in where a later loop reads it
+-- a ring whose loop has made one snapshot more, which it takes in if a later loop reads it
 abbrev pub kept_ring : Bool → RingParts → Snapshot → RingParts
 kept_ring read r s = record {
   held = if read then r.held ++ s ∷ [] else r.held;
@@ -103,12 +104,12 @@ kept_ring read r s = record {
 abbrev pub later_ring : RingParts → RingParts
 later_ring r = record { held = drop 1 r.held; forgotten = r.forgotten + 1; start = r.start; hi = r.hi }
 
--- a loop that stands before the end of its stretch
+-- a loop that is before the end of its stretch
 pub record IsOpen (p : RingsParts) (place : ℕ) (w : Work) : Type 0 where
   pub is : slice_get (works_in p) place ≡ Some w
   pub before : start_at p place <ℤ w.loop.hi
 
--- told apart part by part
+-- distinguished part by part
 abbrev pub coded_ring : Coded RingParts
 coded_ring =
     code_by (List Snapshot × (ℕ × (ℤ × ℤ))) (coded× coded_snapshots (coded× coded_ℕ (coded× coded_ℤ coded_ℤ)))

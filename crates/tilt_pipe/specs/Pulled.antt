@@ -1,4 +1,4 @@
--- What holds of the loops of a pipe while its next snapshot is made, and of the loops whose turns are asked for on the way: no loop makes
+-- What holds of the loops of a pipe while its next snapshot is made, and of the loops whose turns are asked for on the way. No loop makes
 -- more than it will have made then, and each has made all that the last turns of later loops read.
 use Rattle.std.specs.Prelude.{◌≡◌, ◌<◌, ◌≤◌, ◌-◌, ◌+◌, ◌*◌, ℕ, zero, suc, ℤ, pos, ◌+ℤ◌, ◌<ℤ◌, ◌≤ℤ◌, true, List, [], ◌∷◌}
 use Rattle.std.specs.Prelude.{get_or, length, slice_get, take, Some, ⊤}
@@ -21,7 +21,7 @@ pub record IsFilled (w : Work) : Type 0 where
 abbrev pub AreFilled : List Work → Type 0
 AreFilled works = (k : ℕ) (w : Work) → slice_get works k ≡ Some w → IsFilled w
 
--- a loop that stands at a tick: a part of its buffer ends there
+-- a loop at a tick: a part of its buffer ends there
 pub record IsStanding (w : Work) (start : ℤ) : Type 0 where
   pub filled : IsFilled w
   pub fill : Fill w.loop.lo start (made_by start w.whole)
@@ -38,7 +38,7 @@ made_in [] place = 0
 made_in (s ∷ stages) zero = length s.made
 made_in (s ∷ stages) (suc place) = made_in stages place
 
--- where a loop stands that has made so many
+-- the position of a loop that has made `count` snapshots
 abbrev pub start_after : Work → ℕ → ℤ
 start_after w count = unwrap_or (last_end (take count w.whole)) w.loop.lo
 
@@ -63,7 +63,7 @@ left_to_make [] ts = 0
 left_to_make (s ∷ ss) [] = 0
 left_to_make (s ∷ ss) (t ∷ ts) = (length t.made - length s.made) + left_to_make ss ts
 
--- what each loop has made where it stands
+-- what each loop has made at its position
 abbrev pub stages_in : RingsParts → List Stage
 stages_in p = stages_at (works_in p) (starts_of p.rings)
 
@@ -71,7 +71,7 @@ stages_in p = stages_at (works_in p) (starts_of p.rings)
 abbrev pub given_in : RingsParts → ℕ
 given_in p = made_in (stages_in p) (length p.code.loops - 1)
 
--- a loop that is used, stands before the end of its stretch, and will have made more
+-- a loop that is used, is before the end of its stretch, and will have made more
 pub record IsAsked (works : List Work) (starts : List ℤ) (star : List Stage) (place : ℕ) : Type 0 where
   pub work : Work
   pub is : slice_get works place ≡ Some work

@@ -31,8 +31,8 @@ pub(crate) struct Reader {
     pub(crate) first: i64,
 }
 
-// What is kept for the turns of a loop: its state, the loops that it reads, and those that are used and read its buffer; and how many
-// of those that it reads, from the first one on, are known to have made all that its next turn reads.
+// What is kept for the turns of a loop: its state, the loops that it reads, and the loops that are used and read its buffer. It also keeps
+// how many of the loops that it reads, from the first one on, are known to have made all that its next turn reads.
 #[derive(Drop)]
 pub(crate) struct LoopTurns {
     pub(crate) state: LoopState,
@@ -41,9 +41,9 @@ pub(crate) struct LoopTurns {
     pub(crate) passed: usize,
 }
 
-// The rings of a code, and what is kept for the turns of each loop; the grid point of its next turn, where it is at work: used, and
-// not at the end of its stretch; and who holds its ring: a reader whose next turn reads the first snapshot there, where one is known.
-// As long as it does, nothing goes. For each loop, the places of the rings that it holds are in a list, which is looked at after its
+// The rings of a code, and what is kept for the turns of each loop. For each loop that is at work, which means used and not at the end of
+// its stretch, the grid point of its next turn. And who holds its ring: a reader whose next turn reads the first snapshot there, if one is
+// known. As long as it does, nothing goes. For each loop, the places of the rings that it holds are in a list, which is read after its
 // turn. There may also be some that it held before.
 #[derive(Drop)]
 pub(crate) struct Chain {
@@ -55,8 +55,8 @@ pub(crate) struct Chain {
 }
 
 impl Chain {
-    // A loop that has made less than the next turn of a loop reads. `None` where all that this turn reads is made. Those before the
-    // loop that was found last have made enough already, so that the search goes on from that one: each is passed once for a turn.
+    // A loop that has made less than the next turn of a loop reads. `None` if all that this turn reads is made. The sources before the loop
+    // that was found last have made enough already, so that the search goes on from that one: each is passed once for a turn.
     #[inline(always)]
     pub(crate) fn behind(&mut self, place: usize) -> Option<usize>
         requires open { (w : Work) × IsOpen self.old.rings place w × (w.used ≡ true) }
@@ -159,7 +159,7 @@ impl Chain {
         self.points[place] = point;
     }
 
-    // The tick that a reader's next turn reads first; none where it isn't at work.
+    // The tick that a reader's next turn reads first; none if it isn't at work.
     #[inline]
     fn next_read(&self, reader: Reader) -> Option<i64>
         requires points { HasPoints self.now }
@@ -188,7 +188,7 @@ impl Chain {
         }
     }
 
-    // Whether who holds a ring reads the first snapshot there, which ends at a tick.
+    // Whether the holder of a ring reads the first snapshot there, which ends at a tick.
     #[inline]
     fn is_held(&self, place: usize, end: i64) -> bool
         requires may { MayLetGo self.now }
@@ -204,7 +204,7 @@ impl Chain {
         }
     }
 
-    // Where the first snapshot of a ring ends, unless who holds the ring reads it.
+    // Where the first snapshot of a ring ends, unless the holder of the ring reads it.
     #[inline(always)]
     fn unheld_end(&self, place: usize) -> Option<i64>
         requires may { MayLetGo self.now }
@@ -231,8 +231,8 @@ impl Chain {
         }
     }
 
-    // Lets go what no next turn reads any more of the buffer of a loop whose turn was made. Where its ring held a snapshot before, that
-    // one is read still, so that nothing goes; else the ring holds the new one alone, which ends at a tick, if it is read.
+    // Lets go what no next turn reads any more of the buffer of a loop whose turn was made. If its ring held a snapshot before, that one is
+    // still read, so that nothing goes. Otherwise the ring holds the new one alone, which ends at a tick, if it is read.
     #[inline(always)]
     fn trim_own(&mut self, place: usize, had: bool, end: i64) -> Result<(), OutOfMemory>
         requires may { MayLetGo self.old }
@@ -250,7 +250,7 @@ impl Chain {
         self.trim(place)
     }
 
-    // Lets go what no next turn reads any more of a loop's buffer. Mostly who held its ring does so still, and nothing goes.
+    // Lets go what no next turn reads any more of a loop's buffer. Mostly the loop that held its ring still does so, and nothing goes.
     #[inline(always)]
     fn trim(&mut self, place: usize) -> Result<(), OutOfMemory>
         requires may { MayLetGo self.old }
@@ -284,8 +284,8 @@ impl Chain {
         Ok(())
     }
 
-    // Lets the first snapshot of a ring go, which ends at a tick, if no reader's next turn reads it, and answers where the next one ends,
-    // if it is to be looked at. A reader whose next turn reads the first one holds the ring from then on.
+    // Lets the first snapshot of a ring go, which ends at a tick, if no reader's next turn reads it. It returns where the next one ends, if
+    // that one must be checked. A reader whose next turn reads the first one holds the ring from then on.
     fn drops_first(&mut self, place: usize, end: i64) -> Result<Option<i64>, OutOfMemory>
         requires may { MayLetGo self.old }
         requires there { place < length self.old.rings.rings }
@@ -322,8 +322,8 @@ impl Chain {
         Ok(())
     }
 
-    // Lets go what no next turn reads any more of the buffers whose rings a loop holds, after its turn. The list is looked at from its
-    // end: in the place of a ring that is taken off there comes one that was looked at, or one that was added.
+    // Lets go what no next turn reads any more of the buffers whose rings a loop holds, after its turn. The list is read from its end: a
+    // ring that is taken off is replaced by one that was checked already, or by one that was added.
     #[inline(always)]
     fn trim_held(&mut self, place: usize) -> Result<(), OutOfMemory>
         requires { AreLeft self.old place (length (held_in self.old.held.items place)) }
@@ -365,7 +365,7 @@ fn add_ring(rings: &mut Vec<usize>, ring: usize) -> Result<(), OutOfMemory>
     Ok(())
 }
 
-// The grid point of the next turn of a loop; none where it isn't at work: not used, or at the end of its stretch.
+// The grid point of the next turn of a loop; none if it isn't at work: not used, or at the end of its stretch.
 #[inline(always)]
 pub(crate) fn next_point(rings: &Rings, place: usize, used: bool) -> Option<i64>
     requires { place < length rings.now.rings }

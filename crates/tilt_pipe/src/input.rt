@@ -82,7 +82,7 @@ fn copy_rows(alloc: Global, rows: &Rows) -> Result<Rows, OutOfMemory>
     Ok(copy)
 }
 
-/// The inputs that have these rows, in the same order. No row is copied. `OutOfMemory` comes if memory is refused, and for no other
+/// The inputs that have these rows, in the same order. No row is copied. It returns `OutOfMemory` if memory runs out, and for no other
 /// reason.
 pub fn share_rows(alloc: Global, rows: Vec<Rows>) -> Result<Vec<Input>, OutOfMemory>
     ensures { IfOk result (λ inputs. inputs.items ≡ rows.items) }
@@ -94,7 +94,7 @@ pub fn share_rows(alloc: Global, rows: Vec<Rows>) -> Result<Vec<Input>, OutOfMem
     Ok(inputs)
 }
 
-/// The same inputs once more, for another pipe. No row is copied. `OutOfMemory` comes if memory is refused, and for no other reason.
+/// The same inputs once more, for another pipe. No row is copied. It returns `OutOfMemory` if memory runs out, and for no other reason.
 pub fn share_inputs(alloc: Global, inputs: &[Input]) -> Result<Vec<Input>, OutOfMemory>
     ensures { IfOk result (λ shared. shared.items ≡ inputs.now) }
 {
@@ -105,8 +105,8 @@ pub fn share_inputs(alloc: Global, inputs: &[Input]) -> Result<Vec<Input>, OutOf
     Ok(shared)
 }
 
-/// The rows of these inputs, in the same order. The rows of an input are moved if no pipe shares them any more, and copied otherwise.
-/// `OutOfMemory` comes if memory is refused, and for no other reason.
+/// The rows of these inputs, in the same order. The rows of an input are moved if no pipe shares them any more, and copied otherwise. It
+/// returns `OutOfMemory` if memory runs out, and for no other reason.
 pub fn take_rows(alloc: Global, inputs: Vec<Input>) -> Result<Vec<Rows>, OutOfMemory>
     ensures { IfOk result (λ rows. rows.items ≡ inputs.items) }
 {

@@ -12,7 +12,7 @@ use std::alloc::{AllocError as OutOfMemory, Global};
 use std::marker::Model;
 use tilt_stream::Snap;
 
-// What is kept of a loop's buffer: the snapshots in the ring, how many were let go before them, where the next one starts, and the
+// What is kept of a loop's buffer: the snapshots in the ring, and how many were let go before them. Also where the next one starts, and the
 // end of the loop's stretch.
 #[derive(Drop)]
 pub(crate) struct LoopRing {
@@ -33,7 +33,7 @@ impl Model for LoopRing {
 }
 
 impl LoopRing {
-    // An empty ring of a loop that stands there.
+    // An empty ring of a loop that is at the start.
     pub(crate) fn new(alloc: Global, start: i64, hi: i64) -> Result<LoopRing, OutOfMemory>
         ensures { IfOk result (λ r. r ≡ record { held = []; forgotten = 0; start = start; hi = hi }) }
     {
@@ -53,7 +53,7 @@ impl LoopRing {
         self.start
     }
 
-    // Whether its loop stands before the end of its stretch.
+    // Whether its loop is before the end of its stretch.
     #[inline]
     pub(crate) fn is_open(&self) -> bool
         ensures { IsTrue result ↔ (self.now.start <ℤ self.now.hi) }
@@ -61,7 +61,7 @@ impl LoopRing {
         self.start < self.hi
     }
 
-    // How many snapshots were made, and one more where its loop is before the end of its stretch.
+    // How many snapshots were made, and one more if its loop is before the end of its stretch.
     #[inline]
     pub(crate) fn made(&self) -> usize
         requires fits { self.now.forgotten + length self.now.held < 2 ^ 63 }
@@ -87,8 +87,8 @@ impl LoopRing {
         self.ring.len()
     }
 
-    // What a turn reads at a place, counted from 0 at the first snapshot that was made: after those that were made, where its loop is
-    // before the end of its stretch, one null snapshot that stands for the rest of it.
+    // What a turn reads at a place, counted from 0 at the first snapshot that was made. After the snapshots that were made, if its loop is
+    // before the end of its stretch, there is one null snapshot that stands for the rest of it.
     #[inline]
     pub(crate) fn at(&self, place: usize) -> Option<Snap>
         requires kept { self.now.forgotten ≤ place }
@@ -119,8 +119,8 @@ impl LoopRing {
         }
     }
 
-    // Goes on by a snapshot that starts where the last one ends: it is taken in where it is read, and else it is let go at once.
-    // After want of memory all is as before.
+    // Goes on by a snapshot that starts where the last one ends: it is taken in if it is read, and otherwise it is let go at once. If
+    // memory runs out, all is as before.
     #[inline(always)]
     pub(crate) fn keep(&mut self, snap: Snap, read: bool) -> Result<(), OutOfMemory>
         requires touches { ForSome (last_end self.old.held) (λ end. end ≡ snap.start) }

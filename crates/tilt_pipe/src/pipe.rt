@@ -15,9 +15,9 @@ use std::marker::Model;
 use tilt_code::Code;
 use tilt_stream::Snap;
 
-/// A code that runs on the rows of its inputs, snapshot by snapshot. Beside these it keeps for each loop a ring, the state of its
-/// turns, and where it stands. A loop makes a snapshot only where a later one reads it or it is asked for as output, and what no next
-/// turn reads is let go at once.
+/// A code that runs on the rows of its inputs, snapshot by snapshot. For each loop it also keeps a ring, the state of its turns, and its
+/// position. A loop makes a snapshot only if a later one reads it or it is asked for as output, and what no next turn reads is let go at
+/// once.
 #[derive(Drop)]
 pub struct Pipe {
     chain: Chain,
@@ -40,8 +40,8 @@ impl Model for Pipe {
 }
 
 impl Pipe {
-    /// A pipe that has given out no snapshot, over the inputs of the code in their order. `OutOfMemory` comes
-    /// where memory is refused, and for no other reason.
+    /// A pipe that has given out no snapshot, over the inputs of the code in their order. It returns `OutOfMemory` if memory runs out, and
+    /// for no other reason.
     pub fn new(alloc: Global, code: Code, inputs: Vec<Input>) -> Result<Pipe, OutOfMemory>
         requires { length inputs.items ≡ length code.inputs }
         ensures { IfOk result (λ pipe. pipe ≡ pipe_after code inputs.items 0) }
@@ -53,9 +53,9 @@ impl Pipe {
         })
     }
 
-    /// The next snapshot of the code's run: `None` exactly where all were given out, and then nothing changes. `OutOfMemory` comes
-    /// where memory is refused, and each time after that.
-    // Inlined, so that who owns a pipe reads its parts where they lie, and not by an address that takes a register.
+    /// The next snapshot of the code's run: `None` exactly if all were given out, and then nothing changes. It returns `OutOfMemory` if
+    /// memory runs out, and each time after that.
+    // Inlined, so that the owner of a pipe reads its parts where they lie, and not by an address that takes a register.
     #[inline(always)]
     pub fn next(&mut self) -> Result<Option<Snap>, OutOfMemory>
         ensures given { self.old.refused ≡ false → IfOk result
@@ -84,7 +84,7 @@ impl Pipe {
     }
 }
 
-// The next snapshot of the last loop. `None` where it is at the end of its stretch, and then nothing changes.
+// The next snapshot of the last loop. `None` if it is at the end of its stretch, and then nothing changes.
 #[inline(always)]
 fn pull(chain: &mut Chain, asked: &mut Vec<usize>) -> Result<Option<Snap>, OutOfMemory>
     requires exact { IsExact chain.old }
@@ -110,8 +110,8 @@ fn pull(chain: &mut Chain, asked: &mut Vec<usize>) -> Result<Option<Snap>, OutOf
     }
 }
 
-// One step towards the next snapshot, of the loop at a place: its turn, and then the loop goes on that waits for it; or an earlier loop
-// goes on that this turn waits for. It gives the snapshot of a turn for which no loop waits, which is the last loop's.
+// One step towards the next snapshot, of the loop at a place. Either its turn is made, and then the loop that waits for it goes on; or an
+// earlier loop, which this turn waits for, goes on. It gives the snapshot of a turn for which no loop waits, which is the last loop's.
 #[inline(always)]
 fn step(
     chain: &mut Chain,

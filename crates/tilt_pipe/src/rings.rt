@@ -20,8 +20,8 @@ use tilt_code::{Code, Loop};
 use tilt_stream::{Buffer, Snap};
 use tilt_turn::Buffers;
 
-// A code, the rows of its inputs, and the rings of its loops. Where a loop stands says what it has made: the part of its buffer
-// that ends there.
+// A code, the rows of its inputs, and the rings of its loops. The position of a loop says what it has made: the part of its buffer that
+// ends there.
 #[derive(Drop)]
 pub(crate) struct Rings {
     code: Code,
@@ -75,7 +75,7 @@ impl Buffers for Rings {
 }
 
 impl Rings {
-    // The rings of a code before the first turn: all loops stand at the lower ends of their stretches.
+    // The rings of a code before the first turn: all loops are at the lower ends of their stretches.
     pub(crate) fn new(alloc: Global, code: Code, inputs: Vec<Input>) -> Result<Rings, OutOfMemory>
         requires { length inputs.items ≡ length code.inputs }
         ensures code { IfOk result (λ r. r.code ≡ code) }
@@ -110,7 +110,7 @@ impl Rings {
         self.inputs.len()
     }
 
-    // Where a loop stands.
+    // The position of a loop.
     #[inline]
     pub(crate) fn start(&self, place: usize) -> i64
         requires { place < length self.now.rings }
@@ -119,7 +119,7 @@ impl Rings {
         self.rings[place].start()
     }
 
-    // Whether a loop stands before the end of its stretch.
+    // Whether a loop is before the end of its stretch.
     #[inline]
     pub(crate) fn is_open(&self, place: usize) -> bool
         requires { place < length self.now.rings }
@@ -148,8 +148,8 @@ impl Rings {
         (buffer as usize).checked_sub(self.inputs.len())
     }
 
-    // Adds a snapshot to what a loop has made: the one of its buffer that starts where it stands. Where no later loop reads it, the
-    // ring holds none, and takes none in.
+    // Adds a snapshot to what a loop has made: the one of its buffer that starts at its position. If no later loop reads it, the ring holds
+    // none, and takes none in.
     #[inline(always)]
     pub(crate) fn keep(&mut self, place: usize, snap: Snap, read: bool) -> Result<(), OutOfMemory>
         requires next { (w : Work) × IsOpen self.old place w × (slice_get w.whole (length (made_at self.old place w)) ≡ Some snap) }
@@ -206,7 +206,7 @@ impl Rings {
         held
     }
 
-    // How many snapshots a turn reads of a loop: those that are made, and one more where the loop isn't at the end of its stretch.
+    // How many snapshots a turn reads of a loop: those that are made, and one more if the loop isn't at the end of its stretch.
     #[inline]
     fn ring_made(&self, place: usize) -> usize
         ensures count { result ≡ length (get_or (open_lists (works_in self.now) (starts_of self.now.rings)) place []) }

@@ -8,8 +8,8 @@ use std::alloc::{AllocError as OutOfMemory, Global};
 use tilt_code::Code;
 use tilt_stream::SnapList;
 
-/// The run of a code on its inputs, in their order: all that its pipe gives out. `OutOfMemory` comes where memory is refused, and for
-/// no other reason.
+/// The run of a code on its inputs, in their order: all that its pipe gives out. It returns `OutOfMemory` if memory runs out, and for no
+/// other reason.
 pub fn run_pipe(alloc: Global, code: Code, inputs: Vec<Input>) -> Result<SnapList, OutOfMemory>
     requires { length inputs.items ≡ length code.inputs }
     ensures { IfOk result (λ list. list ≡ run_of code inputs.items) }

@@ -9,8 +9,8 @@ use std::alloc::{AllocError as OutOfMemory, Global};
 use std::marker::Model;
 use tilt_stream::Snap;
 
-/// Snapshots that touch, with times in `-WIDE..=WIDE`, in a ring that grows to twice its size where it is full. The first ones
-/// can be let go.
+/// Snapshots that touch, with times in `-WIDE..=WIDE`, in a ring that grows to twice its size when it is full. The first ones can be let
+/// go.
 #[derive(Drop)]
 pub struct SnapRing {
     ring: HeapCircularBuffer<Snap>,
@@ -63,7 +63,7 @@ impl SnapRing {
         })
     }
 
-    /// Adds a snapshot that starts where the last one ends. After want of memory the ring holds what it held.
+    /// Adds a snapshot that starts where the last one ends. If memory runs out, the ring holds what it held.
     #[inline(always)]
     pub fn push(&mut self, snap: Snap) -> Result<(), OutOfMemory>
         requires touches { ForSome (last_end self.old) (λ end. end ≡ snap.start) }
@@ -77,7 +77,7 @@ impl SnapRing {
         Ok(())
     }
 
-    /// Takes the first snapshot off: `None` exactly where there is none. It takes no memory.
+    /// Takes the first snapshot off: `None` exactly if there is none. It takes no memory.
     pub fn pop_front(&mut self) -> Option<Snap>
         ensures { MatchOption result ((self.old ≡ []) × (self.new ≡ [])) (λ first. self.old ≡ first ∷ self.new) }
     {
@@ -101,7 +101,7 @@ impl SnapRing {
         *self.ring.get(place).unwrap()
     }
 
-    // The same, or none where it doesn't hold so many.
+    // The same, or none if it doesn't hold that many.
     #[inline]
     pub(crate) fn at(&self, place: usize) -> Option<Snap>
         ensures { result ≡ slice_get self.now place }

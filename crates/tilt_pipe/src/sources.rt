@@ -23,8 +23,8 @@ pub(crate) struct Source {
     pub(crate) last: i64,
 }
 
-// The earlier loops that a loop reads, each once. The numbers, one for each loop, say where in the list it stands, where it does. Any
-// number is right, for what is looked at is tested.
+// The earlier loops that a loop reads, each once. The numbers, one for each loop, say where in the list that loop is, if it is there. Any
+// number is right, since each one is tested before it is used.
 pub(crate) fn sources_of(
     alloc: Global,
     rings: &Rings,

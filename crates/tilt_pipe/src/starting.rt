@@ -44,14 +44,14 @@ impl Chain {
     }
 }
 
-// No reader that holds a ring is known, of so many.
+// For this number of rings, no reader that holds one is known.
 fn no_holders(alloc: Global, count: usize) -> Result<Vec<Option<Reader>>, OutOfMemory>
     ensures { IfOk result (λ holders. holders.items ≡ replicate count None) }
 {
     vec![in alloc; None; count]
 }
 
-// So many lists of rings, which are empty.
+// This number of lists of rings, which are empty.
 fn empty_lists(alloc: Global, count: usize) -> Result<Vec<Vec<usize>>, OutOfMemory>
     ensures { IfOk result (AreEmpty count) }
 {
@@ -88,7 +88,7 @@ fn new_turns(alloc: Global, rings: &Rings, place: usize) -> Result<LoopTurns, Ou
     })
 }
 
-// Finds the earlier loops that each loop reads, from the last loop down: so each is known to be used or not before it is added to the
+// Finds the earlier loops that each loop reads, from the last loop down. So each loop is known to be used or not before it is added to the
 // readers of others. The numbers are for `sources_of`.
 fn find_sources(
     alloc: Global,
@@ -170,7 +170,7 @@ fn is_used(rings: &Rings, place: usize, turns: &LoopTurns) -> bool
     rings.loops().len() == place + 1 || !turns.readers.is_empty()
 }
 
-// The grid points of the first turns of the loops that are used, and stand before the ends of their stretches.
+// The grid points of the first turns of the loops that are used and start before the ends of their stretches.
 fn first_points(
     alloc: Global,
     rings: &Rings,

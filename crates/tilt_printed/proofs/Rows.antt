@@ -68,7 +68,7 @@ module _ (seen : List Snapshot) (old now new : List ℕ) (far : now ≡ old ++ l
   snap_cut true s later parts = row_cut s later rest (sym (append-nil (row_text s)) ∙ parts)
   snap_cut false s later parts = none_cut later parts
 
--- the put of the line of one more snapshot failed
+-- the write of the line of one more snapshot failed
 pub line_cut : (seen later : List Snapshot) (s : Snapshot) (old now new : List ℕ) → now ≡ old ++ lines_of seen → AppendsFront now new (lines_of (s ∷ []))
     → StandsInLines seen (rows_of (s ∷ []) ++ later) old new Failed
 line_cut seen later s old now new far cut =

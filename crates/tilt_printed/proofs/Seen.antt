@@ -1,4 +1,4 @@
--- How the watchers stand after puts.
+-- The state of the watchers after writes.
 use Rattle.std.proofs.Common.{◌≡◌, ◌++◌, ◌∙◌, List, [], ◌∷◌, ℕ, length, length-append, Option, None, Some, refl, sym, ap, subst, append_assoc, codes, arith}
 use Rattle.std.proofs.lemmas.List.{append-nil}
 use Rattle.tilt_outside.specs.Written.{AppendsFront}
@@ -23,7 +23,7 @@ text_rows old more list =
     ∙ ap (λ (l : List ℕ). (old ++ codes "start,end,value\n") ++ (l ++ more)) (sym (lines-rows list))
 
 module _ (left : Left) (list : List Snapshot) where
-  -- all was put, and the flush failed
+  -- all was written, and the flush failed
   flush_failed : HaveSeen left list → HaveSeenInPart Failed left list
   flush_failed all = record {
     seen = rows_of list;
@@ -57,7 +57,7 @@ module _ (left : Left) (list : List Snapshot) where
   header_cut why is part (b ∷ bs) parts new =
       let both = ap length parts ∙ length-append part (b ∷ bs) in in_header part is (omega (arith, both)) refl new
 
-  -- the put of the header failed
+  -- the write of the header failed
   pub no_header : (why : Unput) → why ≡ Failed → left.now ≡ left.before → (left.tells → AppendsFront left.old left.new (codes "start,end,value\n"))
       → (left.tells → AppendsFront left.old left.new (watched_text left.before list)) → HaveSeenInPart why left list
   no_header why is same cut front = record {
@@ -69,7 +69,7 @@ module _ (left : Left) (list : List Snapshot) where
     stopped = λ t. let c = cut t in header_cut why is c.front c.rest c.parts c.appended;
   }
 
-  -- not all lines were put after the header
+  -- not all lines were written after the header
   pub not_all_lines : (why : Unput) (mid : List ℕ) → (left.tells → mid ≡ left.old ++ codes "start,end,value\n") → HaveSeenLines why (record left { old = mid }) list
       → (left.tells → AppendsFront left.old left.new (watched_text left.before list)) → HaveSeenInPart why left list
   not_all_lines why mid header lines front = record {
@@ -81,7 +81,7 @@ module _ (left : Left) (list : List Snapshot) where
     stopped = λ t. after_header (subst (λ (m : List ℕ). StandsInLines lines.seen lines.others m left.new why) (header t) (lines.stopped t));
   }
 
-  -- the put of the figures failed
+  -- the write of the figures failed
   pub no_figures : (why : Unput) → why ≡ Failed → (mid : List ℕ) → left.now ≡ left_after left.before (rows_of list) → (left.tells → mid ≡ left.old ++ text_of list)
       → (figures : List ℕ) → (left.tells → AppendsFront mid left.new figures) → (left.tells → AppendsFront left.old left.new (watched_text left.before list))
       → HaveSeenInPart why left list

@@ -52,7 +52,7 @@ module _ (left : Left) (mid : List ℕ) (all : List Snapshot) (place : ℕ) (saw
     stopped = λ t. subst (StandsInLines (rows_of (take place all)) (rows_of (drop place all)) left.old left.new) (sym is) (between_lines (same ∙ so_far t));
   }
 
-  -- the put of the line of the next one failed
+  -- the write of the line of the next one failed
   pub seen-failed : (s : Snapshot) (why : Unput) → why ≡ variant.Failed → slice_get all place ≡ Some s
       → (left.tells → AppendsFront mid left.new (lines_of (s ∷ []))) → HaveSeenLines why left all
   seen-failed s why is at cut = record {
@@ -73,16 +73,16 @@ figures-are panel new list all first is =
     ap (λ (l : List Place). figures_text (figures_of l)) (is ∙ ap (λ (p : List Place). places_after p list (rows_of all)) first)
     ∙ ap figures_text (figures-after list (rows_of all))
 
--- The header, the lines and the figures, put one after another.
+-- The header, the lines and the figures, written one after another.
 module _ {K : Type 0} (tells : Type 0) (written : K → List ℕ) (faults : K → ℕ) (takes : K → ℕ → Type 0) (header lines figures : List ℕ) where
-  -- the header's put failed
+  -- the header's write failed
   pub header-short : {T : Type 0} (old new : K) (e : Failed) (told : Result T Unput) → IsErr told → Puts tells written faults takes old new header (Err e)
       → Prints tells written faults takes old new ((header ++ lines) ++ figures) told
   header-short old new e told failed cut =
       subst (λ (l : List ℕ). Prints tells written faults takes old new l told) (sym (append_assoc header lines figures))
       (prints-short tells written faults takes old new header (lines ++ figures) e told failed cut)
 
-  -- the lines weren't put whole
+  -- the lines weren't written whole
   pub lines-short : {T : Type 0} (old mid new : K) (why : Unput) (told : Result T Unput) → told ≡ Err why → Puts tells written faults takes old mid header (Ok tt)
       → Prints {T = Unit {0}} tells written faults takes mid new lines (Err why) → Prints tells written faults takes old new ((header ++ lines) ++ figures) told
   lines-short old mid new why told is first cut =
@@ -90,13 +90,13 @@ module _ {K : Type 0} (tells : Type 0) (written : K → List ℕ) (faults : K �
       (prints-then tells written faults takes old mid new header (lines ++ figures) (tt {0}) told (prints-put tells written faults takes old mid header (tt {0}) first)
       (prints-cut tells written faults takes mid new lines figures why told is cut))
 
-  -- the header and the lines were put
+  -- the header and the lines were written
   pub text-put : (old mid new : K) → Puts tells written faults takes old mid header (Ok tt) → Prints {T = Unit {0}} tells written faults takes mid new lines (Ok tt)
       → Prints {T = Unit {0}} tells written faults takes old new (header ++ lines) (Ok tt)
   text-put old mid new first later =
       prints-then tells written faults takes old mid new header lines (tt {0}) (Ok tt) (prints-put tells written faults takes old mid header (tt {0}) first) later
 
-  -- the lines are taken once the header was put
+  -- the lines are taken once the header was written
   pub lines-room : (old mid : K) → ((sink : K) (m n : ℕ) → m ≤ n → takes sink n → takes sink m) → Puts tells written faults takes old mid header (Ok tt)
       → takes old (length ((header ++ lines) ++ figures)) → takes mid (length lines)
   lines-room old mid fewer first room =
@@ -111,7 +111,7 @@ module _ {K : Type 0} (tells : Type 0) (written : K → List ℕ) (faults : K �
       subst (λ (l : List ℕ). takes new (length l)) (sym same)
       ((text-put old mid new first later).room (length figures) (subst (takes old) (length-append (header ++ lines) figures) room))
 
-  -- the figures' put failed
+  -- the figures' write failed
   pub figures-short : {T : Type 0} (old mid now new : K) (e : Failed) (told : Result T Unput) → IsErr told → Puts tells written faults takes old mid header (Ok tt)
       → Prints {T = Unit {0}} tells written faults takes mid now lines (Ok tt) → (its : List ℕ) → its ≡ figures → Puts tells written faults takes now new its (Err e)
       → Prints tells written faults takes old new ((header ++ lines) ++ figures) told
@@ -119,7 +119,7 @@ module _ {K : Type 0} (tells : Type 0) (written : K → List ℕ) (faults : K �
       prints-then tells written faults takes old now new (header ++ lines) figures (tt {0}) told (text-put old mid now first later)
       (prints-failed tells written faults takes now new figures e told failed (subst (λ (l : List ℕ). Puts tells written faults takes now new l (Err e)) same cut))
 
-  -- all was put
+  -- all was written
   pub all-put : (old mid now new : K) → Puts tells written faults takes old mid header (Ok tt) → Prints {T = Unit {0}} tells written faults takes mid now lines (Ok tt)
       → (its : List ℕ) → its ≡ figures → Puts tells written faults takes now new its (Ok tt)
       → Prints {T = Unit {0}} tells written faults takes old new ((header ++ lines) ++ figures) (Ok tt)

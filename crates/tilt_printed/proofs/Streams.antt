@@ -1,4 +1,4 @@
--- How the lines of what a pipe gives out are put.
+-- How the lines of what a pipe gives out are written.
 use Rattle.std.proofs.Common.{◌≡◌, ◌≤◌, ◌+◌, ℕ, zero, suc, List, [], ◌∷◌, ◌++◌, length, max, take, drop, slice_get, Option, Some}
 use Rattle.std.proofs.Common.{None, Result, Ok, Err, IsErr, false, refl, sym, ap, ◌∙◌, subst, arith, append_assoc, length-append}
 use Rattle.std.proofs.lemmas.List.{take-append-drop}
@@ -85,14 +85,14 @@ pub most-first : (code : CodeParts) (rows : List (List Snapshot)) (pipe : PipePa
 most-first code rows pipe is =
     ap (λ (p : PipeParts). held p.rings) is ∙ sym (ap (λ (p : PipeParts). most_held code rows p.given) is)
 
--- no line was put so far
+-- no line was written so far
 pub lines-none : {K : Type 0} (tells : Type 0) (written : K → List ℕ) (faults : K → ℕ) (takes : K → ℕ → Type 0) (sink : K) (all : List Snapshot)
     (place : ℕ) → place ≡ 0 → Prints {T = Unit {0}} tells written faults takes sink sink (lines_of (take place all)) (Ok tt)
 lines-none tells written faults takes sink all place none =
     subst (λ (n : ℕ). Prints {T = Unit {0}} tells written faults takes sink sink (lines_of (take n all)) (Ok tt)) (sym none)
     (prints-none tells written faults takes sink tt)
 
--- the lines of so many snapshots were put whole
+-- the lines of this number of snapshots were written whole
 module _ {K : Type 0} (tells : Type 0) (written : K → List ℕ) (faults : K → ℕ) (takes : K → ℕ → Type 0) (old now : K) (all : List Snapshot) (place : ℕ)
     (far : Prints {T = Unit {0}} tells written faults takes old now (lines_of (take place all)) (Ok tt)) where
   -- no memory was there for the next one
@@ -110,7 +110,7 @@ module _ {K : Type 0} (tells : Type 0) (written : K → List ℕ) (faults : K �
       far.room (length (lines_of (s ∷ [])))
       (fewer old (length (lines_of (take place all)) + length (lines_of (s ∷ []))) (length (lines_of all)) (lines-long all place s is) room)
 
-  -- its put failed
+  -- its write failed
   pub line-failed : {T : Type 0} (s : Snapshot) (new : K) (e : Failed) (told : Result T Unput) → IsErr told → slice_get all place ≡ Some s
       → Puts tells written faults takes now new (lines_of (s ∷ [])) (Err e) → Prints tells written faults takes old new (lines_of all) told
   line-failed s new e told failed is cut =
@@ -118,7 +118,7 @@ module _ {K : Type 0} (tells : Type 0) (written : K → List ℕ) (faults : K �
       (prints-then tells written faults takes old now new (lines_of (take place all)) (lines_of (s ∷ []) ++ lines_of (drop (suc place) all)) tt told far
       (prints-short tells written faults takes now new (lines_of (s ∷ [])) (lines_of (drop (suc place) all)) e told failed cut))
 
-  -- it was put
+  -- it was written
   pub line-put : (s : Snapshot) (new : K) (later : ℕ) → later ≡ suc place → slice_get all place ≡ Some s
       → Puts tells written faults takes now new (lines_of (s ∷ [])) (Ok tt)
       → Prints {T = Unit {0}} tells written faults takes old new (lines_of (take later all)) (Ok tt)
@@ -128,7 +128,7 @@ module _ {K : Type 0} (tells : Type 0) (written : K → List ℕ) (faults : K �
       (prints-then tells written faults takes old now new (lines_of (take place all)) (lines_of (s ∷ [])) tt (Ok tt) far
       (prints-put tells written faults takes now new (lines_of (s ∷ [])) tt put))
 
-  -- all of them were put
+  -- all of them were written
   pub lines-put : {T : Type 0} (x : T) → take place all ≡ all → Prints tells written faults takes old now (lines_of all) (Ok x)
   lines-put x whole =
       subst (λ (l : List Snapshot). Prints tells written faults takes old now (lines_of l) (Ok x)) whole

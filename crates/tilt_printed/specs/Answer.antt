@@ -1,4 +1,4 @@
--- What a command comes to: what is printed, as bytes, and what is saved after it.
+-- What a command results in: what is printed, as bytes, and what is saved after it.
 use Rattle.std.specs.Prelude.{◌↔◌, List, Option, None, Some, IsSome}
 use Rattle.tilt_printed.specs.Saving.{SaveValue, outcome_of}
 use Rattle.tilt_printed.specs.Show.{shown_of}
@@ -17,8 +17,8 @@ save_of (Some save) = Some (record { name = save.name.now; bytes = save.bytes.it
 abbrev pub comes_to : List Watch → Answered → Outcome
 comes_to watchers answer = outcome_of (printed_text watchers answer.printed) (save_of answer.save)
 
--- an answer of a command, by when its text is that of a pipe, when it shows snapshots to the watchers, and when it saves: each is so exactly
--- then, and a pipe has given out nothing so far
+-- the result of a command, of which a pipe has given out nothing so far. It is the text of a pipe exactly under the first condition, and
+-- shows snapshots to the watchers exactly under the second. It saves exactly under the third
 pub record Fits (streams shows saves : Type 0) (answer : Answered) : Type 0 where
   pub fresh : IsFresh answer.printed
   pub streamed : IsStreamed answer.printed ↔ streams

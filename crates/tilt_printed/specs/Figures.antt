@@ -5,7 +5,7 @@ use Rattle.tilt_stream.specs.Text.{text_of}
 use Rattle.tilt_watch.specs.Places.{figures_over}
 use Rattle.tilt_watch.specs.Watch.{Watch, figures_text, rows_of}
 
--- a line of figures for each watcher, by what it comes to over the rows of these snapshots
+-- a line of figures for each watcher: its results over the rows of these snapshots
 abbrev pub figures_after : List Watch → List Snapshot → List ℕ
 figures_after watchers list = figures_text (map (figures_over (rows_of list)) watchers)
 

@@ -1,11 +1,11 @@
--- What puts leave of the output and of the watchers.
+-- What writes leave of the output and of the watchers.
 use Rattle.std.specs.Prelude.{◌≡◌, ℕ, ℤ, Bool, List, Vec}
 use Rattle.std.specs.declared.alloc.Global.{Global}
 use Rattle.tilt_stream.specs.Snap.{Snapshot}
 use Rattle.tilt_watch.specs.Watch.{Watch, watches}
 
--- Of the output: whether it tells what was written, and what was written before and after. Of the watchers: whether they are as they
--- were, and what they were before and are now.
+-- Of the output: whether it shows what was written, and what was written before and after. Of the watchers: whether they are as they were,
+-- and what they were before and are now.
 pub record Left : Type 1 where
   pub tells : Type 0
   pub old : List ℕ

@@ -1,11 +1,11 @@
--- What puts leave of a sink where memory may be wanting between them.
+-- What writes leave of a sink if memory may run out between them.
 use Rattle.std.specs.Prelude.{◌≡◌, ◌≤◌, ◌+◌, ℕ, List, ◌++◌, length, Result, OnOk, OnErr, IfErr}
 use Rattle.tilt_printed.specs.declared.unput.Unput.{Unput}
 use Rattle.tilt_printed.specs.declared.unput.Unput.TheVariants.{Failed}
 use Rattle.tilt_outside.specs.Faults.{Rose}
 use Rattle.tilt_outside.specs.Written.{AppendsFront}
 
--- bytes were put: all of them, or a prefix of them where a put failed or memory was wanting; a put failed only where the count of faults
+-- bytes were written: all of them, or a prefix of them if a write failed or memory ran out. A write failed only if the count of faults
 -- rose. What was taken beyond the bytes still is. The first four are a sink's meanings
 pub record Prints {K T : Type 0} (tells : Type 0) (written : K → List ℕ) (faults : K → ℕ) (takes : K → ℕ → Type 0)
     (old new : K) (bytes : List ℕ) (result : Result T Unput) : Type 0 where

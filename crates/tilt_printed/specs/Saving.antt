@@ -7,7 +7,7 @@ pub record SaveValue : Type 0 where
   pub name : List ℕ
   pub bytes : List ℕ
 
--- what is printed, and saved after it where something is
+-- what is printed, and what is saved after it, if anything is
 abbrev pub outcome_of : List ℕ → Option SaveValue → Outcome
 outcome_of text None = printed text
 outcome_of text (Some save) = printed_and_saved text save.name save.bytes

@@ -1,4 +1,4 @@
--- What the watchers are shown, and how they stand then.
+-- What the watchers are shown, and their state after it.
 use Rattle.std.specs.Prelude.{◌≡◌, ◌++◌, List, Option, None, Some, Result, MatchResult}
 use Rattle.tilt_code.specs.Run.{run_of}
 use Rattle.tilt_outside.specs.Written.{AppendsFront}
@@ -24,8 +24,8 @@ pub record HaveSeen (left : Left) (list : List Snapshot) : Type 0 where
   pub saw : left.now ≡ left_after left.before (rows_of list)
   pub written : left.tells → left.new ≡ left.old ++ watched_text left.before list
 
--- for this reason not all was put: they saw the first rows of these snapshots, and a prefix of the text and the figures was written that
--- ends where it may end once these rows were seen
+-- for this reason not all was written: they saw the first rows of these snapshots, and a prefix of the text and the figures was written. It
+-- ends at a place where it may end once these rows were seen
 pub record HaveSeenInPart (why : Unput) (left : Left) (list : List Snapshot) : Type 0 where
   pub seen : List Snapshot
   pub others : List Snapshot
@@ -42,16 +42,16 @@ pub record HaveSeenLines (why : Unput) (left : Left) (list : List Snapshot) : Ty
   pub saw : left.now ≡ left_after left.before seen
   pub stopped : left.tells → StandsInLines seen others left.old left.new why
 
--- all was put: they saw what they were shown
+-- all was written: they saw what they were shown
 abbrev pub SeeAll : Left → Option (List Snapshot) → Type 0
 SeeAll left None = left.kept
 SeeAll left (Some list) = HaveSeen left list
 
--- for this reason not all was put
+-- for this reason not all was written
 abbrev pub SeePart : Unput → Left → Option (List Snapshot) → Type 0
 SeePart why left None = left.kept
 SeePart why left (Some list) = HaveSeenInPart why left list
 
--- all was put, or not
+-- all was written, or not
 abbrev pub SeeWhatIsPut : {T : Type 0} → Left → Option (List Snapshot) → Result T Unput → Type 0
 SeeWhatIsPut left shown result = MatchResult result (λ _. SeeAll left shown) (λ why. SeePart why left shown)

@@ -35,7 +35,7 @@ IsFresh (Run pipe) = pipe ≡ pipe_after pipe.code pipe.inputs 0
 IsFresh (Rings pipe) = pipe ≡ pipe_after pipe.code pipe.inputs 0
 IsFresh (Watched pipe) = pipe ≡ pipe_after pipe.code pipe.inputs 0
 
--- it is the text of a pipe, for whose next snapshot memory may be wanting after a part of it was put
+-- it is the text of a pipe, for whose next snapshot memory may run out after a part of it was written
 abbrev pub IsStreamed : Printed → Type 0
 IsStreamed (Whole text) = ⊥
 IsStreamed (Run pipe) = ⊤

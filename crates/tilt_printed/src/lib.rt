@@ -1,8 +1,8 @@
-//! What is printed, and how it is put. In comes what a command comes to: a text, or a pipe that gives out the snapshots of one, and
-//! bytes that are saved after it. Out go puts to a sink, what the watchers are shown, or why not all was put.
+//! What is printed, and how it is written. In comes what a command results in: a text, or a pipe that gives out the snapshots of one, and
+//! bytes that are saved after it. Out go writes to a sink, what the watchers are shown, or why not all was written.
 //!
-//! The clauses that matter stand on `Printed::put`: `prints`, that exactly the text was put, or a prefix of it where it failed, and
-//! `seen`, that the watchers saw exactly the rows whose lines were put.
+//! The clauses that matter are on `Printed::put`. `prints` says that exactly the text was written, or a prefix of it if writing failed.
+//! `seen` says that the watchers saw exactly the rows whose lines were written.
 #![tactic(auto)]
 
 mod answered;

@@ -21,18 +21,18 @@ use tilt_watch::Watcher;
 pub enum Printed {
     /// This text.
     Whole(WholeText),
-    /// The text of the snapshots that a pipe gives out, each of which is made between puts.
+    /// The text of the snapshots that a pipe gives out, each of which is made between writes.
     Run(Pipe),
     /// The same, and then the line of the most snapshots that its rings held.
     Rings(Pipe),
-    /// The same text, of which the watchers see each row once its line was put, and then the figures of each of them.
+    /// The same text, of which the watchers see each row once its line was written, and then the figures of each of them.
     Watched(Pipe),
 }
 
 impl Printed {
-    /// Puts the text, lets the watchers see what they are to see of it, drops those that have seen enough, and hands all of it on.
-    /// `Failed` comes where a put or the flush failed, and `OutOfMemory` only of a pipe, where there is no memory for its next
-    /// snapshot, or for the places of those who watch: then a prefix of the text was put.
+    /// Writes the text, lets the watchers see what they are to see of it, drops those that have seen enough, and hands all of it on. It
+    /// returns `Failed` if a write or the flush failed. It returns `OutOfMemory` only for a pipe, if there is no memory for its next
+    /// snapshot or for the places of those who watch. After an error, a prefix of the text was written.
     pub fn put<O: Sink>(
         self,
         alloc: Global,
@@ -53,7 +53,7 @@ impl Printed {
         Ok(())
     }
 
-    // Puts the text.
+    // Writes the text.
     fn put_all<O: Sink>(
         self,
         alloc: Global,
@@ -77,7 +77,7 @@ impl Printed {
     }
 }
 
-// Puts a text that was made whole.
+// Writes a text that was made whole.
 fn put_whole<O: Sink>(out: &mut O, text: &WholeText) -> Result<(), Unput>
     requires { O.takes out.old (length (whole_text text.now)) }
     ensures prints { Prints O.tells O.written O.faults O.takes out.old out.new (whole_text text.now) result }

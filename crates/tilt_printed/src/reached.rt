@@ -8,7 +8,7 @@ use tilt_base::Span;
 use tilt_outside::{Failed, Sink};
 use tilt_text::{append, append_number};
 
-// Puts a line for each edit.
+// Writes a line for each edit.
 pub(crate) fn put_reached<O: Sink>(out: &mut O, reached: &[Option<Span>]) -> Result<(), Failed>
     requires { O.takes out.old (length (flat_map reached_line reached.now)) }
     ensures { Puts O.tells O.written O.faults O.takes out.old out.new (flat_map reached_line reached.now) result }
@@ -19,7 +19,7 @@ pub(crate) fn put_reached<O: Sink>(out: &mut O, reached: &[Option<Span>]) -> Res
     Ok(())
 }
 
-// Puts the line of an edit.
+// Writes the line of an edit.
 fn put_line<O: Sink>(out: &mut O, reached: Option<Span>) -> Result<(), Failed>
     requires { O.takes out.old (length (reached_line reached)) }
     ensures { Puts O.tells O.written O.faults O.takes out.old out.new (reached_line reached) result }
@@ -30,7 +30,7 @@ fn put_line<O: Sink>(out: &mut O, reached: Option<Span>) -> Result<(), Failed>
     }
 }
 
-// Puts the line `reached LO HI`.
+// Writes the line `reached LO HI`.
 fn put_span<O: Sink>(out: &mut O, span: Span) -> Result<(), Failed>
     requires { O.takes out.old (length (reached_line (Some span))) }
     ensures { Puts O.tells O.written O.faults O.takes out.old out.new (reached_line (Some span)) result }
@@ -40,7 +40,7 @@ fn put_span<O: Sink>(out: &mut O, span: Span) -> Result<(), Failed>
     out.put(&room[..length])
 }
 
-// Writes `reached LO HI` and LF at the beginning of the room, and answers how long that is.
+// Writes `reached LO HI` and LF at the beginning of the room, and returns how long that is.
 fn span_text(span: Span, room: &mut [u8; 64]) -> usize
     ensures text { take result room.new ≡ reached_line (Some span) }
     ensures len { result ≡ length (reached_line (Some span)) }

@@ -1,6 +1,6 @@
 // What is saved.
 
-/// Bytes that are saved under a name, after all puts.
+/// Bytes that are saved under a name, after all writes.
 #[derive(Drop)]
 pub struct Save<'a> {
     /// The name.

@@ -1,4 +1,4 @@
-// Texts of which each line is put before the next snapshot is made.
+// Texts of which each line is written before the next snapshot is made.
 ghost use Rattle.std.specs.Prelude.{◌≡◌, false, length, max, IfOk};
 ghost use Rattle.tilt_code.specs.Run.{run_of};
 ghost use Rattle.tilt_outside.specs.Written.{Puts};
@@ -14,7 +14,7 @@ use tilt_outside::{Failed, Sink};
 use tilt_pipe::Pipe;
 use tilt_series::{put_header, put_snap};
 
-// Puts the text of the snapshots that the pipe gives out.
+// Writes the text of the snapshots that the pipe gives out.
 pub(crate) fn put_run<O: Sink>(out: &mut O, pipe: Pipe) -> Result<(), Unput>
     requires fresh { pipe ≡ pipe_after pipe.code pipe.inputs 0 }
     requires room { O.takes out.old (length (text_of (run_of pipe.code pipe.inputs))) }
@@ -24,7 +24,7 @@ pub(crate) fn put_run<O: Sink>(out: &mut O, pipe: Pipe) -> Result<(), Unput>
     put_lines(out, pipe)
 }
 
-// Puts the lines of the snapshots that the pipe gives out.
+// Writes the lines of the snapshots that the pipe gives out.
 fn put_lines<O: Sink>(out: &mut O, pipe: Pipe) -> Result<(), Unput>
     requires fresh { pipe ≡ pipe_after pipe.code pipe.inputs 0 }
     requires room { O.takes out.old (length (lines_of (run_of pipe.code pipe.inputs))) }
@@ -37,7 +37,7 @@ fn put_lines<O: Sink>(out: &mut O, pipe: Pipe) -> Result<(), Unput>
     Ok(())
 }
 
-// Puts the text of the snapshots that the pipe gives out, and then the line of the most that its rings held.
+// Writes the text of the snapshots that the pipe gives out, and then the line of the most that its rings held.
 pub(crate) fn put_rings<O: Sink>(out: &mut O, pipe: Pipe) -> Result<(), Unput>
     requires fresh { pipe ≡ pipe_after pipe.code pipe.inputs 0 }
     requires room { O.takes out.old (length (rings_text pipe.code pipe.inputs)) }
@@ -48,7 +48,7 @@ pub(crate) fn put_rings<O: Sink>(out: &mut O, pipe: Pipe) -> Result<(), Unput>
     Ok(())
 }
 
-// Puts the text of the snapshots that the pipe gives out, and answers the most that its rings held.
+// Writes the text of the snapshots that the pipe gives out, and returns the most that its rings held.
 fn put_counted_text<O: Sink>(out: &mut O, pipe: Pipe) -> Result<u128, Unput>
     requires fresh { pipe ≡ pipe_after pipe.code pipe.inputs 0 }
     requires room { O.takes out.old (length (text_of (run_of pipe.code pipe.inputs))) }
@@ -59,7 +59,7 @@ fn put_counted_text<O: Sink>(out: &mut O, pipe: Pipe) -> Result<u128, Unput>
     put_counted_lines(out, pipe)
 }
 
-// Puts the lines of the snapshots that the pipe gives out, and answers the most that its rings held.
+// Writes the lines of the snapshots that the pipe gives out, and returns the most that its rings held.
 fn put_counted_lines<O: Sink>(out: &mut O, pipe: Pipe) -> Result<u128, Unput>
     requires fresh { pipe ≡ pipe_after pipe.code pipe.inputs 0 }
     requires room { O.takes out.old (length (lines_of (run_of pipe.code pipe.inputs))) }
@@ -85,7 +85,7 @@ fn note_held(most: &mut u128, pipe: &Pipe)
     *most = (*most).max(pipe.held());
 }
 
-// Puts the line `rings G`.
+// Writes the line `rings G`.
 fn put_most<O: Sink>(out: &mut O, most: u128) -> Result<(), Failed>
     requires { O.takes out.old (length (rings_line most)) }
     ensures { Puts O.tells O.written O.faults O.takes out.old out.new (rings_line most) result }

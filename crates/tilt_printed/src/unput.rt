@@ -1,4 +1,4 @@
-// Why a text isn't put whole.
+// Why a text isn't written whole.
 ghost use Rattle.std.specs.Prelude.{◌≡◌};
 ghost use Rattle.tilt_printed.specs.Unput.{report_of_unput};
 ghost use Rattle.tilt_printed.specs.declared.unput.Unput.TheVariants as variant;
@@ -8,10 +8,10 @@ use std::alloc::AllocError;
 use thiserror::Error;
 use tilt_report::Fault;
 
-/// Why a text isn't put whole.
+/// Why a text isn't written whole.
 #[derive(Clone, Copy, Debug, Drop, PartialEq, Eq, Error)]
 pub enum Unput {
-    /// A put or the flush failed.
+    /// A write or the flush failed.
     #[error("the output can't be written")]
     Failed,
     /// There was no memory for the next snapshot, or for the places of the watchers.

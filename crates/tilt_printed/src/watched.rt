@@ -1,4 +1,4 @@
-// A text of which watchers see each row once its line was put.
+// A text of which watchers see each row once its line was written.
 ghost use Rattle.std.specs.Prelude.{◌≡◌, length, IfErr, IfOk, MatchResult};
 ghost use Rattle.tilt_code.specs.Run.{run_of};
 ghost use Rattle.tilt_pipe.specs.Value.{pipe_after};
@@ -17,8 +17,8 @@ use tilt_pipe::Pipe;
 use tilt_series::{put_header, put_snap};
 use tilt_watch::{Panel, Watcher, put_figures, show_snap};
 
-// Puts the text of the snapshots that the pipe gives out, of which the watchers see each row once its line was put, and then the
-// figures of all of them. Memory for their places is taken before the first put.
+// Writes the text of the snapshots that the pipe gives out, and then the figures of all watchers. The watchers see each row once its line
+// was written. Memory for their places is taken before the first write.
 pub(crate) fn put_watched<O: Sink>(
     alloc: Global,
     out: &mut O,
@@ -41,7 +41,7 @@ pub(crate) fn put_watched<O: Sink>(
     Ok(())
 }
 
-// Puts the lines of the snapshots that the pipe gives out, each of which the watchers see then.
+// Writes the lines of the snapshots that the pipe gives out, each of which the watchers see then.
 fn put_seen_lines<O: Sink>(
     out: &mut O,
     pipe: Pipe,

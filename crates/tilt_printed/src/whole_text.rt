@@ -1,4 +1,4 @@
-// Texts that are made whole before the first put.
+// Texts that are made whole before the first write.
 ghost use Rattle.std.specs.Prelude.{length};
 ghost use Rattle.std.specs.List.{flat_map};
 ghost use Rattle.tilt_outside.specs.Written.{Puts};
@@ -14,7 +14,7 @@ use tilt_outside::{Failed, Sink};
 use tilt_series::{put_header, put_rows};
 use tilt_stream::SnapList;
 
-/// What a command prints that is made whole before the first put.
+/// What a command prints that is made whole before the first write.
 #[derive(Drop)]
 pub enum WholeText {
     /// The text of these snapshots.
@@ -36,7 +36,7 @@ pub enum WholeText {
 }
 
 impl WholeText {
-    // Puts the text.
+    // Writes the text.
     pub(crate) fn put<O: Sink>(&self, out: &mut O) -> Result<(), Failed>
         requires { O.takes out.old (length (whole_text self.now)) }
         ensures { Puts O.tells O.written O.faults O.takes out.old out.new (whole_text self.now) result }
@@ -51,7 +51,7 @@ impl WholeText {
     }
 }
 
-// Puts the text of snapshots.
+// Writes the text of snapshots.
 fn put_text<O: Sink>(out: &mut O, list: &SnapList) -> Result<(), Failed>
     requires { O.takes out.old (length (text_of list.now)) }
     ensures { Puts O.tells O.written O.faults O.takes out.old out.new (text_of list.now) result }
@@ -60,7 +60,7 @@ fn put_text<O: Sink>(out: &mut O, list: &SnapList) -> Result<(), Failed>
     put_rows(out, list)
 }
 
-// Puts the text of snapshots, and then a line for each edit.
+// Writes the text of snapshots, and then a line for each edit.
 fn put_corrected<O: Sink>(
     out: &mut O,
     list: &SnapList,
@@ -73,7 +73,7 @@ fn put_corrected<O: Sink>(
     put_reached(out, reached)
 }
 
-// Puts the text of snapshots, and then the line of sizes.
+// Writes the text of snapshots, and then the line of sizes.
 fn put_parted<O: Sink>(out: &mut O, whole: &SnapList, sizes: &[u64]) -> Result<(), Failed>
     requires { O.takes out.old (length (parted_text whole.now sizes.now)) }
     ensures { Puts O.tells O.written O.faults O.takes out.old out.new (parted_text whole.now sizes.now) result }
@@ -82,7 +82,7 @@ fn put_parted<O: Sink>(out: &mut O, whole: &SnapList, sizes: &[u64]) -> Result<(
     put_line(out, sizes)
 }
 
-// Puts the line `parts N N ..`.
+// Writes the line `parts N N ..`.
 fn put_line<O: Sink>(out: &mut O, sizes: &[u64]) -> Result<(), Failed>
     requires { O.takes out.old (length (parts_line sizes.now)) }
     ensures { Puts O.tells O.written O.faults O.takes out.old out.new (parts_line sizes.now) result }
@@ -92,7 +92,7 @@ fn put_line<O: Sink>(out: &mut O, sizes: &[u64]) -> Result<(), Failed>
     out.put(b"\n")
 }
 
-// Puts a blank and a number for each size.
+// Writes a blank and a number for each size.
 fn put_sizes<O: Sink>(out: &mut O, sizes: &[u64]) -> Result<(), Failed>
     requires { O.takes out.old (length (flat_map size_text sizes.now)) }
     ensures { Puts O.tells O.written O.faults O.takes out.old out.new (flat_map size_text sizes.now) result }
@@ -103,7 +103,7 @@ fn put_sizes<O: Sink>(out: &mut O, sizes: &[u64]) -> Result<(), Failed>
     Ok(())
 }
 
-// Puts a blank and a number.
+// Writes a blank and a number.
 fn put_size<O: Sink>(out: &mut O, size: u64) -> Result<(), Failed>
     requires { O.takes out.old (length (size_text size)) }
     ensures { Puts O.tells O.written O.faults O.takes out.old out.new (size_text size) result }

@@ -24,7 +24,7 @@ offset_bounds-loops-place c =
 pub start-requires : goal.start-requires
 start-requires c = rw (← c.self.view_is) (here (goal.at.start-requires c).After-loops).1.within
 
--- where it stands fits, and so does the tick after that
+-- its position fits, and so does the tick after that
 fits : (c : After-start) → FitsSigned w64 c.start.result × FitsSigned w64 (c.start.result +ℤ pos 1)
     × (neg_ℤ WIDE ≤ℤ c.start.result) × (c.start.result <ℤ WIDE)
 fits c =
