@@ -100,7 +100,7 @@ body-again version frame cut start series is within opened all least suit small 
     ∙ ap (λ o. o >>= end_at cut start) (series-again form series [] (codes "end\n") all suit small)
     ∙ ap (λ (t : Bool). if t then Some body else None) (and_from _ (is_least cut series) (same_bytes (codes "end\n")) (true_least cut series least))
 
--- what is told of what was read after a query
+-- what is known of what was read after a query
 pub record IsBody (version : Version) (frame : Frame) (inputs : ℕ) (bytes : List ℕ) (body : BodyParts) : Type 0 where
   pub spelled : bytes ≡ body_lines version body.cut body.open_start body.series
   pub cut : IsCut body.cut

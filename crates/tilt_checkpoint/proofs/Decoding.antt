@@ -20,7 +20,7 @@ use Rattle.tilt_checkpoint.proofs.Framed.{accepted_frame}
 use Rattle.tilt_checkpoint.proofs.Inputs.{all_fewer}
 use Rattle.tilt_checkpoint.proofs.Versions.{InVersion, spells_in, version-again}
 
--- what stands after the query of a checkpoint
+-- what follows the query of a checkpoint
 abbrev pub body_of : CheckpointParts → BodyParts
 body_of c = record { cut = c.cut; open_start = c.open_start; series = c.series }
 
@@ -79,13 +79,13 @@ pub title-read : (c : CheckpointParts) (bytes : List ℕ) → (spelled : InVersi
     → version_at bytes ≡ Some (spelled.version, query_lines c.query ++ rest_of spelled.version c)
 title-read c bytes spelled = ap version_at spelled.is ∙ version-again spelled.version (query_lines c.query ++ rest_of spelled.version c)
 
--- so what is read of the first line is told by the checkpoint
+-- so what is read of the first line is given by the checkpoint
 pub title-told : (c : CheckpointParts) (bytes : List ℕ) (version : Version) (left : List ℕ) → version_at bytes ≡ Some (version, left)
     → (spelled : InVersion bytes c) → (version ≡ spelled.version) × (left ≡ query_lines c.query ++ rest_of spelled.version c)
 title-told c bytes version left e spelled =
     some_pair_parts version spelled.version left (query_lines c.query ++ rest_of spelled.version c) (sym e ∙ title-read c bytes spelled)
 
--- a fault where something is read is want of memory
+-- if something is read, a fault is out of memory
 pub only_memory : {A : Type 0} (fault : CheckpointFault) (read : Option A) (x : A) → IsBad read fault → read ≡ Some x → fault ≡ OutOfMemory
 only_memory BadCheckpoint read x none some = absurd (none-some x (sym none ∙ some))
 only_memory OutOfMemory read x none some = refl

@@ -77,7 +77,7 @@ lines_upto kept =
     codes "last "
     ++ (time_text kept.last_end ++ (codes " rows " ++ (decimal (length kept.rows) ++ (codes "\n" ++ row_lines kept.rows))))
 
--- they, and what stands after them
+-- they, and what follows them
 series_shape : (kept : KeptParts) (rest : List ℕ)
     → lines_upto kept ++ rest
     ≡ codes "last " ++ (time_text kept.last_end ++ 32 ∷ (codes "rows " ++ (decimal (length kept.rows) ++ 10 ∷ (row_lines kept.rows ++ rest))))
@@ -146,7 +146,7 @@ head-was bytes last count rest e =
           ∙ (λ i. codes "last " ++ (time_text ((p.0 i).0) ++ 32 ∷ (codes "rows " ++ (decimal ((p.0 i).1) ++ 10 ∷ p.1 i))));
     }
 
--- what is told of the cut that was read of a series
+-- what is known of the cut that was read of a series
 record WasCut (version : Version) (least : ℤ) (bytes : List ℕ) (cut : ℤ) (rest : List ℕ) : Type 0 where
   spelled : bytes ≡ cut_words version cut ++ rest
   suits : Suits version least cut
@@ -166,7 +166,7 @@ cut-was Second least bytes cut rest e =
       suits = tt;
     }
 
--- what is told of what was read of a series with that cut
+-- what is known of what was read of a series with that cut
 record WasUpto (first cut : ℤ) (bytes : List ℕ) (kept : KeptParts) (rest : List ℕ) : Type 0 where
   spelled : bytes ≡ lines_upto kept ++ rest
   is : IsSeries first kept
@@ -226,7 +226,7 @@ module _ (form : Form) where
       ∙ series-again series (before ++ kept ∷ []) rest all.1 suit.1 small.1
       ∙ ap (λ (b : List KeptParts). Some (b, rest)) (append_assoc before (kept ∷ []) series)
 
-  -- what is told of what was read of one input
+  -- what is known of what was read of one input
   record WasKept (bytes : List ℕ) (kept : KeptParts) (rest : List ℕ) : Type 0 where
     spelled : bytes ≡ series_lines version kept ++ rest
     is : IsSeries form.first kept
@@ -250,7 +250,7 @@ module _ (form : Form) where
         suits = subst (λ (z : ℤ). Suits version form.least z) same words.suits;
       }
 
-  -- what is told of what was read of inputs, after others
+  -- what is known of what was read of inputs, after others
   pub record WereKept (count : ℕ) (before : List KeptParts) (bytes : List ℕ) (all : List KeptParts) (rest : List ℕ) : Type 0 where
     pub series : List KeptParts
     pub joined : all ≡ before ++ series

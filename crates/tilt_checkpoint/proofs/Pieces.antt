@@ -16,7 +16,7 @@ behind_head : (b c : ℕ) (text bytes rest : List ℕ) (here : Bool) → (b == c
 behind_head b c text bytes rest true is more e = λ i. eqb-true b c is i ∷ more e i
 behind_head b c text bytes rest false is more e = absurd (none-some rest e)
 
--- and what is left stands after it
+-- and what is left follows it
 pub text-behind : (text bytes rest : List ℕ) → behind text bytes ≡ Some rest → bytes ≡ text ++ rest
 text-behind [] bytes rest e = cc e
 text-behind (c ∷ text) [] rest e = absurd (none-some rest e)

@@ -25,7 +25,7 @@ front-again front left =
     let is : length (front ++ left) - length left ≡ length front = omega (arith, length-append front left) in
     ap (λ (n : ℕ). take n (front ++ left)) is ∙ take-append_seam front left
 
--- the lines of a query, and what stands after them
+-- the lines of a query, and what follows them
 lines_shape : (query : List StatementTree) (more : List ℕ)
     → query_lines query ++ more ≡ codes "query " ++ (decimal (length query) ++ 10 ∷ (query_text query ++ more))
 lines_shape query more = simp append_assoc
@@ -40,7 +40,7 @@ query-again query more is =
     ∙ ap (λ o. o >>= λ left. Some ((length query, front_of left (query_text query ++ more)), left)) (query-passed query is more)
     ∙ ap (λ (t : List ℕ). Some ((length query, t), more)) (front-again (query_text query) more)
 
--- what is told of the lines of a query that were read
+-- what is known of the lines of a query that were read
 pub record WereLines (bytes : List ℕ) (count : ℕ) (text left : List ℕ) : Type 0 where
   pub spelled : bytes ≡ codes "query " ++ (decimal count ++ 10 ∷ (text ++ left))
 

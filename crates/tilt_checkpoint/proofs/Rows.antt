@@ -25,7 +25,7 @@ cell_is : (o : Option ℤ) → cell_text o ≡ or_word [] o
 cell_is None = refl
 cell_is (Some z) = refl
 
--- a row's line, and what stands after it
+-- a row's line, and what follows it
 row_shape : (r : Snapshot) (rest : List ℕ)
     → row_text r ++ rest ≡ signed_decimal r.start ++ 44 ∷ (signed_decimal r.end ++ 44 ∷ (or_word [] r.value ++ 10 ∷ rest))
 row_shape r rest =
@@ -118,7 +118,7 @@ module _ (first cut : ℤ) where
       ∙ ap (λ (o : Option (List Snapshot × List ℕ)). o >>= times (with_row first cut) (length rows)) step
       ∙ more ∙ ap (λ (b : List Snapshot). Some (b, rest)) (append_assoc before (r ∷ []) rows)
 
-  -- what is told of rows that were read after others
+  -- what is known of rows that were read after others
   pub record AreRead (count : ℕ) (from : ℤ) (before : List Snapshot) (bytes : List ℕ) (all : List Snapshot) (rest : List ℕ) : Type 0 where
     pub rows : List Snapshot
     pub joined : all ≡ before ++ rows
@@ -127,7 +127,7 @@ module _ (first cut : ℤ) where
     pub order : InOrder from T rows
     pub kept : AllByRecursion (IsKept first cut) rows
 
-  -- what is told of a row that was read after others
+  -- what is known of a row that was read after others
   record IsStep (from : ℤ) (before : List Snapshot) (bytes : List ℕ) (all : List Snapshot) (rest : List ℕ) : Type 0 where
     row : Snapshot
     joined : all ≡ before ++ row ∷ []

@@ -24,7 +24,7 @@ pub record CheckpointParts : Type 0 where
   pub open_start : Option ℤ
   pub series : List KeptParts
 
--- the checkpoint of a query and what stands after it
+-- the checkpoint of a query and what follows it
 abbrev pub with_query : List StatementTree → BodyParts → CheckpointParts
 with_query query body = record { query = query; cut = body.cut; open_start = body.open_start; series = body.series }
 

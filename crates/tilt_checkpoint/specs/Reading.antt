@@ -72,7 +72,7 @@ maybe_at nothing mark bytes = do
 abbrev pub version_of : List ℕ → Option Version
 version_of word = if bytes_eq word (codes "1") then Some First else if bytes_eq word (codes "2") then Some Second else None
 
--- the version that the first line tells
+-- the version that the first line names
 abbrev pub version_at : List ℕ → Read Version
 version_at bytes = do
   rest ← behind (codes "tilt checkpoint ") bytes
@@ -198,7 +198,7 @@ moment_at bytes = do
   start ← maybe_at (codes "none") 10 next
   Some ((cut.0, start.0), start.1)
 
--- the end, after which nothing stands, where the cut is the least of the inputs'
+-- the end, which nothing follows, if the cut is the least of the inputs' cuts
 abbrev pub end_at : ℤ → Option ℤ → List KeptParts × List ℕ → Option BodyParts
 end_at cut start series =
     if bytes_eq series.1 (codes "end\n") && is_least cut series.0
@@ -220,7 +220,7 @@ behind_moment version frame inputs moment =
     then rest_at inputs (form_of version frame moment.0.0) moment.0.1 moment.1
     else None
 
--- what stands after a query with that frame and so many inputs
+-- what follows a query with that frame and this number of inputs
 abbrev pub body_at : Version → Frame → ℕ → List ℕ → Option BodyParts
 body_at version frame inputs bytes = moment_at bytes >>= behind_moment version frame inputs
 
@@ -233,7 +233,7 @@ abbrev pub IsBad : {A : Type 0} → Option A → CheckpointFault → Type 0
 IsBad read BadCheckpoint = read ≡ None
 IsBad read OutOfMemory = Unit {0}
 
--- that the answer, seen so, was read, or that it tells why not
+-- that the result, seen so, was read, or that its fault says why not
 abbrev pub Gives : {A B : Type 0} → Option B → (A → B) → Result A CheckpointFault → Type 0
 Gives read seen (Ok x) = read ≡ Some (seen x)
 Gives read seen (Err fault) = IsBad read fault

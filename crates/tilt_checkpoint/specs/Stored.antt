@@ -1,4 +1,4 @@
--- How checkpoints are told apart, which a type that contracts see as plain data needs.
+-- How checkpoints are distinguished, which a type that contracts see as plain data needs.
 use Rattle.std.specs.Prelude.{ℤ, List, Option, refl}
 use Rattle.std.specs.Coded.{Coded, code_by, coded×, coded_ℤ, coded_list, coded_option}
 use Rattle.tilt_stream.specs.Snap.{Snapshot}

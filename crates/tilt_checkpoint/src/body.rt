@@ -1,7 +1,7 @@
 use crate::kept::Kept;
 use std::marker::Model;
 
-// What stands in a checkpoint after its query. A clause sees it as plain data.
+// What follows the query in a checkpoint. A clause sees it as plain data.
 #[derive(Drop)]
 pub(crate) struct Body {
     pub(crate) cut: i64,

@@ -5,12 +5,11 @@ use crate::kept::Kept;
 use std::marker::Model;
 use tilt_syntax::Query;
 
-/// What a session of a query hands on to the next one. It is valid: the query is one that is accepted; there is one series for each
-/// input, each with a cut of its own; the cuts are within the range of times, and where there are inputs the checkpoint's cut is the
-/// least of theirs; a start of an open snapshot is there exactly where some of the output is decided at that cut and not all, and it
-/// lies in what is decided; and of each series the rows are in order, reach to the first tick that has to be kept, and start before
-/// the series' cut, and the last end is that of the last row, or where no row is kept that of a row that needn't be. A clause sees it
-/// as plain data.
+/// What a session of a query hands on to the next one. It is valid: the query is one that is accepted, and there is one series for each
+/// input, each with a cut of its own. The cuts are within the range of times, and if there are inputs the checkpoint's cut is the least of
+/// theirs. A start of an open snapshot is there exactly if some of the output is decided at that cut and not all, and it lies in what is
+/// decided. Of each series the rows are in order, reach to the first tick that must be kept, and start before the series' cut. The last end
+/// is the end of the last row; if no row is kept, it is the end of a row that needn't be kept. A clause sees it as plain data.
 #[derive(Drop)]
 pub struct Checkpoint {
     query: Query,
@@ -57,8 +56,8 @@ impl Checkpoint {
         &self.query
     }
 
-    /// The least cut: of each input the sessions so far were handed the rows that start before its own, which stands in what is kept
-    /// of it.
+    /// The least cut. The cut of each input is in what is kept of it: the sessions so far were handed the rows of the input that start
+    /// before its cut.
     pub fn cut(&self) -> i64
         ensures value { result ≡ self.now.cut }
         ensures valid { IsCheckpoint self.now }
@@ -66,8 +65,8 @@ impl Checkpoint {
         self.cut
     }
 
-    /// The start of the last snapshot of what is decided, which isn't printed yet, since its end isn't known. It is there
-    /// exactly where some of the output is decided and not all.
+    /// The start of the last snapshot of what is decided, which isn't printed yet, since its end isn't known. It is there exactly if some
+    /// of the output is decided and not all.
     pub fn open_start(&self) -> Option<i64>
         ensures value { result ≡ self.now.open_start }
         ensures valid { IsCheckpoint self.now }

@@ -9,8 +9,8 @@ use std::alloc::{AllocError as OutOfMemory, Global};
 use std::marker::Model;
 use tilt_base::T;
 
-/// Up to where the rows of each input were seen, in ticks: the rows of an input that start below its cut. The least of the cuts decides
-/// how much of the output can't change any more; for a query without inputs it stands alone. All lie in `-T..=T`. A clause sees them as
+/// Up to where the rows of each input were seen, in ticks: the rows of an input that start below its cut. The least of the cuts decides how
+/// much of the output can't change any more; for a query without inputs it is the only one. All lie in `-T..=T`. A clause sees them as
 /// plain data.
 #[derive(Drop)]
 pub struct Cuts {
@@ -29,7 +29,7 @@ impl Model for Cuts {
 }
 
 impl Cuts {
-    /// One cut for so many inputs. `OutOfMemory` comes where memory is refused, and for no other reason.
+    /// One cut for this number of inputs. It returns `OutOfMemory` if memory runs out, and for no other reason.
     pub fn same(alloc: Global, cut: i64, inputs: usize) -> Result<Cuts, OutOfMemory>
         requires { IsCut cut }
         ensures { IfOk result (λ cuts. cuts ≡ record { least = cut; each = replicate inputs cut }) }
@@ -38,7 +38,7 @@ impl Cuts {
         Ok(Cuts { least: cut, each })
     }
 
-    /// A cut for each input, of which there is one at least.
+    /// A cut for each input, of which there is at least one.
     pub fn of(each: Vec<i64>) -> Cuts
         requires some { each.items ≢ [] }
         requires range { AllByRecursion IsCut each.items }

@@ -25,7 +25,7 @@ use tilt_bounds::Margins;
 use tilt_core::Core;
 use tilt_syntax::Query;
 
-/// A checkpoint that was read, the core of its query, and how far that looks.
+/// A checkpoint that was read, and the core and the margins of its query.
 #[derive(Drop)]
 pub struct Decoded {
     pub checkpoint: Checkpoint,
@@ -33,8 +33,8 @@ pub struct Decoded {
     pub margins: Margins,
 }
 
-/// The checkpoint that the bytes spell, with the core and the margins of its query. `BadCheckpoint` comes exactly where the bytes
-/// spell no valid checkpoint.
+/// The checkpoint that the bytes spell, with the core and the margins of its query. It returns `BadCheckpoint` exactly if the bytes spell
+/// no valid checkpoint, unless memory runs out first.
 pub fn decode(alloc: Global, bytes: &[u8]) -> Result<Decoded, CheckpointFault>
     ensures checkpoint { IfOk result (λ decoded. IsCheckpoint decoded.checkpoint × Spells bytes.now decoded.checkpoint) }
     ensures core { IfOk result (λ decoded. decoded.core ≡ core_of decoded.checkpoint.query) }
@@ -70,7 +70,7 @@ fn read(alloc: Global, bytes: &[u8]) -> Result<Decoded, CheckpointFault>
     })
 }
 
-// The checkpoint of a query and what stands after it.
+// The checkpoint of a query and what follows it.
 fn whole(query: Query, body: Body) -> Checkpoint
     requires { IsCheckpoint (with_query query body) }
     ensures { result ≡ with_query query body }
@@ -78,7 +78,7 @@ fn whole(query: Query, body: Body) -> Checkpoint
     Checkpoint::new(query, body.cut, body.open_start, body.series)
 }
 
-// What stands after a query.
+// What follows a query.
 fn read_after(
     alloc: Global,
     asked: &Asked,
@@ -92,7 +92,7 @@ fn read_after(
     read_body(alloc, version, reader, frame, asked.core.inputs().len())
 }
 
-// What stands after a query with that frame and so many inputs.
+// What follows a query with that frame and this number of inputs.
 fn read_body(
     alloc: Global,
     version: Version,
@@ -134,7 +134,7 @@ fn form_of(version: Version, frame: Frame, cut: i64) -> Form
     }
 }
 
-// What stands after the least cut and the start of the open snapshot.
+// What follows the least cut and the start of the open snapshot.
 fn read_rest(
     alloc: Global,
     mut reader: Reader<'_>,
@@ -148,7 +148,7 @@ fn read_rest(
     end(series, form.least, open_start, reader.left())
 }
 
-// The end, after which nothing stands, where the cut is the least of the inputs'.
+// The end, which nothing follows, if the cut is the least of the inputs' cuts.
 fn end(
     series: Vec<Kept>,
     cut: i64,
@@ -168,7 +168,7 @@ fn end(
     }
 }
 
-// Whether a cut is the least of those of the inputs, where there are any.
+// Whether a cut is the least of the inputs' cuts, if there are any.
 fn is_least(cut: i64, series: &[Kept]) -> bool
     ensures { result ≡ is_least cut series.now }
 {
@@ -189,7 +189,7 @@ fn one_has(cut: i64, series: &[Kept]) -> bool
     series.iter().any(|kept| kept.cut == cut)
 }
 
-// Whether an open snapshot may start there, where the output is decided up to a tick.
+// Whether an open snapshot may start there, if the output is decided up to a tick.
 fn is_open(frame: Frame, decided: i64, open_start: Option<i64>) -> bool
     ensures { result ≡ is_open frame decided open_start }
 {

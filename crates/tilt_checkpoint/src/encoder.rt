@@ -28,7 +28,7 @@ pub fn encode(alloc: Global, checkpoint: &Checkpoint) -> Result<Vec<u8>, OutOfMe
     Ok(text)
 }
 
-// Puts the lines after the query.
+// Appends the lines after the query.
 fn put_body(text: &mut Vec<u8>, checkpoint: &Checkpoint) -> Result<(), OutOfMemory>
     ensures { OnOk result (text.new.items ≡ text.old.items
         ++ body_lines Second checkpoint.now.cut checkpoint.now.open_start checkpoint.now.series) }
@@ -39,7 +39,7 @@ fn put_body(text: &mut Vec<u8>, checkpoint: &Checkpoint) -> Result<(), OutOfMemo
     put(text, b"end\n")
 }
 
-// Puts the number of the query's statements, and their lines.
+// Appends the number of the query's statements, and their lines.
 fn put_query(alloc: Global, text: &mut Vec<u8>, query: &Query) -> Result<(), OutOfMemory>
     ensures { OnOk result (text.new.items ≡ text.old.items ++ query_lines query.now) }
 {
@@ -50,7 +50,7 @@ fn put_query(alloc: Global, text: &mut Vec<u8>, query: &Query) -> Result<(), Out
     put(text, &lines)
 }
 
-// Puts the line of the least cut.
+// Appends the line of the least cut.
 fn put_cut(text: &mut Vec<u8>, cut: i64) -> Result<(), OutOfMemory>
     ensures { OnOk result (text.new.items ≡ text.old.items ++ cut_line cut) }
 {
@@ -59,7 +59,7 @@ fn put_cut(text: &mut Vec<u8>, cut: i64) -> Result<(), OutOfMemory>
     put(text, b"\n")
 }
 
-// Puts the line of the open snapshot's start.
+// Appends the line of the open snapshot's start.
 fn put_open(text: &mut Vec<u8>, start: Option<i64>) -> Result<(), OutOfMemory>
     ensures { OnOk result (text.new.items ≡ text.old.items ++ open_line start) }
 {
@@ -68,7 +68,7 @@ fn put_open(text: &mut Vec<u8>, start: Option<i64>) -> Result<(), OutOfMemory>
     put(text, b"\n")
 }
 
-// Puts the lines of all series.
+// Appends the lines of all series.
 fn put_each(text: &mut Vec<u8>, series: &[Kept]) -> Result<(), OutOfMemory>
     ensures { OnOk result (text.new.items ≡ text.old.items ++ flat_map (series_lines Second) series.now) }
 {
@@ -78,7 +78,7 @@ fn put_each(text: &mut Vec<u8>, series: &[Kept]) -> Result<(), OutOfMemory>
     Ok(())
 }
 
-// Puts the lines of a series.
+// Appends the lines of a series.
 fn put_series(text: &mut Vec<u8>, kept: &Kept) -> Result<(), OutOfMemory>
     ensures { OnOk result (text.new.items ≡ text.old.items ++ series_lines Second kept.now) }
 {
@@ -87,7 +87,7 @@ fn put_series(text: &mut Vec<u8>, kept: &Kept) -> Result<(), OutOfMemory>
     put_rows(text, kept.rows.as_slice())
 }
 
-// Puts the cut of an input.
+// Appends the cut of an input.
 fn put_own_cut(text: &mut Vec<u8>, cut: i64) -> Result<(), OutOfMemory>
     ensures { OnOk result (text.new.items ≡ text.old.items ++ cut_words Second cut) }
 {
@@ -96,7 +96,7 @@ fn put_own_cut(text: &mut Vec<u8>, cut: i64) -> Result<(), OutOfMemory>
     put(text, b" ")
 }
 
-// Puts the last end of an input and the number of its rows.
+// Appends the last end of an input and the number of its rows.
 fn put_head(text: &mut Vec<u8>, last_end: Option<i64>, count: usize) -> Result<(), OutOfMemory>
     ensures { OnOk result (text.new.items ≡ text.old.items
         ++ (codes "last " ++ (time_text last_end ++ (codes " rows " ++ (decimal count ++ codes "\n"))))) }
@@ -108,7 +108,7 @@ fn put_head(text: &mut Vec<u8>, last_end: Option<i64>, count: usize) -> Result<(
     put(text, b"\n")
 }
 
-// Puts the lines of rows.
+// Appends the lines of rows.
 fn put_rows(text: &mut Vec<u8>, rows: &[Row]) -> Result<(), OutOfMemory>
     ensures { OnOk result (text.new.items ≡ text.old.items ++ row_lines rows.now) }
 {
@@ -118,7 +118,7 @@ fn put_rows(text: &mut Vec<u8>, rows: &[Row]) -> Result<(), OutOfMemory>
     Ok(())
 }
 
-// Puts the line of a row.
+// Appends the line of a row.
 fn put_row(text: &mut Vec<u8>, row: &Row) -> Result<(), OutOfMemory>
     ensures { OnOk result (text.new.items ≡ text.old.items ++ row_text row.now) }
 {
@@ -130,7 +130,7 @@ fn put_row(text: &mut Vec<u8>, row: &Row) -> Result<(), OutOfMemory>
     put(text, b"\n")
 }
 
-// Puts a value, and nothing for null.
+// Appends a value, and nothing for null.
 fn put_cell(text: &mut Vec<u8>, cell: Cell) -> Result<(), OutOfMemory>
     ensures { OnOk result (text.new.items ≡ text.old.items ++ cell_text cell) }
 {
@@ -140,7 +140,7 @@ fn put_cell(text: &mut Vec<u8>, cell: Cell) -> Result<(), OutOfMemory>
     }
 }
 
-// Puts a time, or `none`.
+// Appends a time, or `none`.
 fn put_time(text: &mut Vec<u8>, time: Option<i64>) -> Result<(), OutOfMemory>
     ensures { OnOk result (text.new.items ≡ text.old.items ++ time_text time) }
 {

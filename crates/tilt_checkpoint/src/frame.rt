@@ -6,7 +6,7 @@ ghost use Rattle.tilt_checkpoint.specs.Decided.{IsFrame, decided, first_kept, fr
 use tilt_bounds::Margins;
 use tilt_core::Core;
 
-/// What the sessions of a query go by: its output domain `(start, end]`, and how far it looks, all in ticks.
+/// What the sessions of a query go by: its output domain `(start, end]`, and its look-back and look-ahead, all in ticks.
 #[derive(Clone, Copy, Debug, PartialEq, Eq)]
 pub struct Frame {
     pub start: i64,
@@ -33,8 +33,8 @@ impl Frame {
         }
     }
 
-    /// The last tick of the output that no row can change which starts at the cut or after it, and the end of the output at
-    /// most. Where inputs have cuts of their own, the least of them counts. It may lie below the start.
+    /// The last tick of the output that no row starting at the cut or after it can change, and at most the end of the output. If inputs
+    /// have cuts of their own, the least of them counts. It may lie below the start.
     pub fn decided(&self, cut: i64) -> i64
         requires frame { IsFrame self.now }
         requires cut { IsCut cut }
@@ -43,7 +43,7 @@ impl Frame {
         self.end.min(cut - self.ahead)
     }
 
-    /// The first tick that sessions after the cut may look at: they go on at the tick that is decided last.
+    /// The first tick that sessions after the cut may read: they go on at the tick that is decided last.
     pub fn first_kept(&self, cut: i64) -> i64
         requires frame { IsFrame self.now }
         requires cut { IsCut cut }

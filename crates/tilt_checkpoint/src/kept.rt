@@ -4,11 +4,11 @@ use tilt_stream::Rows;
 /// What is kept of an input. A clause sees it as plain data.
 #[derive(Drop)]
 pub struct Kept {
-    /// Its cut, in ticks: those of its rows were seen that start below it.
+    /// Its cut, in ticks: the rows of the input that start below it were seen.
     pub cut: i64,
-    /// The end of the last row that any session was handed, in ticks, or `None` where there was no row.
+    /// The end of the last row that any session was handed, in ticks, or `None` if there was no row.
     pub last_end: Option<i64>,
-    /// The rows that the next session may look at.
+    /// The rows that the next session may read.
     pub rows: Rows,
 }
 

@@ -1,11 +1,11 @@
 //! Checkpoints: what a session of a query hands on to the next one, and how they are spelled.
 //!
-//! What comes in is checkpoints and bytes; what goes out is bytes, and checkpoints again. A `Checkpoint` keeps that it is
-//! valid, as `specs/Valid` says. The clause of `encode` says that it gives the text of `specs/Spelling`, in its second version. Those of
-//! `decode` say that it gives the valid checkpoint that the bytes spell, in either version (`checkpoint`, `only`), and refuses them
-//! exactly where they spell none (`bad`, `none`); besides, it may only want memory. With the checkpoint it hands on the core and the
-//! margins of its query, so that nobody checks them again. `Cuts` are a cut for each input, and the least of them (`specs/Cuts`). What
-//! is decided at the least cut, and which ticks have to be kept then, stands in `specs/Decided`.
+//! What comes in is checkpoints and bytes; what goes out is bytes, and checkpoints again. A `Checkpoint` keeps that it is valid, as
+//! `specs/Valid` says. The clause of `encode` says that it gives the text of `specs/Spelling`, in its second version. The clauses of
+//! `decode` say that it gives the valid checkpoint that the bytes spell, in either version (`checkpoint`, `only`). It rejects the bytes
+//! exactly if they spell none (`bad`, `none`); its only other error is out of memory. With the checkpoint it hands on the core and the
+//! margins of its query, so that nobody checks them again. `Cuts` are a cut for each input, and the least of them (`specs/Cuts`).
+//! `specs/Decided` says what is decided at the least cut, and which ticks must be kept then.
 #![tactic(auto)]
 
 mod body;

@@ -69,14 +69,14 @@ impl<'a> Reader<'a> {
         u64::try_from(self.number(mark)?).ok()
     }
 
-    // The number up to the mark, or `None` where the word for nothing stands there.
+    // The number up to the mark, or `None` if the word for nothing is there.
     fn maybe(&mut self, nothing: &[u8], mark: u8) -> Option<Option<i64>>
         ensures { Reads (maybe_at nothing.now mark self.old) result self.new }
     {
         maybe(nothing, self.until(mark)?)
     }
 
-    // The version that the first line tells.
+    // The version that the first line names.
     pub(crate) fn version(&mut self) -> Option<Version>
         ensures { Reads (version_at self.old) result self.new }
     {

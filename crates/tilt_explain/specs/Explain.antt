@@ -1,4 +1,4 @@
--- How a query is looked at and planned, told in lines (our own rule). Each line ends in LF; numbers are shortest decimals.
+-- How far a query reads and how it is planned, shown in lines (our own rule). Each line ends in LF; numbers are shortest decimals.
 use Rattle.std.specs.Prelude.{ℕ, suc, ◌+◌, ℤ, Bool, true, false, if◌then◌else◌, List, [], ◌∷◌, ◌++◌, length, Option, Some, None, codes}
 use Rattle.std.specs.Fmt.{decimal, signed_decimal}
 use Rattle.tilt_bounds.specs.Margins.{MarginsParts, need_at}
@@ -11,7 +11,7 @@ use Rattle.tilt_core.specs.Needs.{Need}
 abbrev pub spaced : ℤ → List ℕ
 spaced number = codes " " ++ signed_decimal number
 
--- the line that begins with a word, and has so many ticks back and ahead after it
+-- the line that begins with a word, followed by the number of ticks back and the number ahead
 abbrev pub reach_line : List ℕ → ℤ → ℤ → List ℕ
 reach_line front back ahead = front ++ spaced back ++ spaced ahead ++ codes "\n"
 
@@ -33,7 +33,7 @@ abbrev pub input_lines : List (Option Need) → ℕ → List (List ℕ) → List
 input_lines needs source [] = []
 input_lines needs source (name ∷ names) = input_line name (need_at needs source) ++ input_lines needs (suc source) names
 
--- the lines of named definitions, of which the first stands at a place after so many inputs
+-- the lines of named definitions, of which the first is at a place after this number of inputs
 abbrev pub let_lines : List PlannedLoop → List (Option Need) → ℕ → ℕ → List (List ℕ) → List ℕ
 let_lines loops needs inputs place [] = []
 let_lines loops needs inputs place (name ∷ names) =
@@ -43,7 +43,7 @@ let_lines loops needs inputs place (name ∷ names) =
 abbrev pub loops_line : ℕ → ℕ → List ℕ
 loops_line fused plain = codes "loops " ++ decimal fused ++ codes " " ++ decimal plain ++ codes "\n"
 
--- what is told of a query: its look-back and look-ahead, each input and each definition in order, and how many loops it has
+-- what is shown of a query: its look-back and look-ahead, each input and each definition in order, and how many loops it has
 abbrev pub explained : CoreParts → MarginsParts → List ℕ
 explained core margins =
     let fused = plan_of core true in

@@ -1,4 +1,4 @@
-// What is told of a query.
+// What is shown of a query.
 ghost use Rattle.std.specs.Prelude.{◌≡◌, ◌++◌, ◌+◌, ℕ, List, Ok, IfOk, OnOk, codes, length, map, if◌then◌else◌};
 ghost use Rattle.tilt_bounds.specs.Margins.{margins_of, need_of};
 ghost use Rattle.tilt_fuse.specs.Plan.{has_loop};
@@ -11,8 +11,8 @@ use tilt_fuse::{PlanLoop, plan};
 use tilt_lexer::Name;
 use tilt_text::{put, put_number};
 
-/// How far the query looks back and ahead; how far each input and each named definition is looked at, or that it isn't used;
-/// whether a definition has a loop or is merged into those that read it; and how many loops there are with fusion and
+/// The query's look-back and look-ahead, and how far back and ahead each input and each named definition is read, or that it isn't used.
+/// Also whether a definition has a loop or is merged into the definitions that read it, and how many loops there are with fusion and
 /// without. The margins are the query's.
 pub fn explain_text(alloc: Global, core: &Core, margins: &Margins) -> Result<Vec<u8>, OutOfMemory>
     requires { margins_of core.now ≡ Ok margins.now }
@@ -29,14 +29,14 @@ pub fn explain_text(alloc: Global, core: &Core, margins: &Margins) -> Result<Vec
     Ok(text)
 }
 
-// Puts the look-back and the look-ahead.
+// Appends the look-back and the look-ahead.
 fn put_margins(text: &mut Vec<u8>, margins: &Margins) -> Result<(), OutOfMemory>
     ensures { OnOk result (text.new.items ≡ text.old.items ++ reach_line (codes "reach") margins.now.back margins.now.ahead) }
 {
     put_reach(text, b"reach", margins.back(), margins.ahead())
 }
 
-// Puts a line that begins with a word, and has so many ticks back and ahead after it.
+// Appends a line that begins with a word, followed by the number of ticks back and the number ahead.
 fn put_reach(text: &mut Vec<u8>, front: &[u8], back: i64, ahead: i64) -> Result<(), OutOfMemory>
     ensures { OnOk result (text.new.items ≡ text.old.items ++ reach_line front.now back ahead) }
 {
@@ -46,7 +46,7 @@ fn put_reach(text: &mut Vec<u8>, front: &[u8], back: i64, ahead: i64) -> Result<
     put(text, b"\n")
 }
 
-// Puts a blank and a number in shortest decimal.
+// Appends a blank and a number in shortest decimal.
 fn put_spaced(text: &mut Vec<u8>, number: i64) -> Result<(), OutOfMemory>
     ensures { OnOk result (text.new.items ≡ text.old.items ++ spaced number) }
 {
@@ -54,7 +54,7 @@ fn put_spaced(text: &mut Vec<u8>, number: i64) -> Result<(), OutOfMemory>
     put_number(text, number)
 }
 
-// Puts the line of a source, after the word for what it is and its name.
+// Appends the line of a source, after the word for what it is and its name.
 fn put_source(text: &mut Vec<u8>, word: &[u8], need: Need) -> Result<(), OutOfMemory>
     ensures { (front : List ℕ) (before : List ℕ) → text.old.items ≡ before ++ front
         → OnOk result (text.new.items ≡ before ++ source_line front word.now (need_of need)) }
@@ -65,7 +65,7 @@ fn put_source(text: &mut Vec<u8>, word: &[u8], need: Need) -> Result<(), OutOfMe
     }
 }
 
-// Puts the lines of the inputs.
+// Appends the lines of the inputs.
 fn put_inputs(text: &mut Vec<u8>, names: &[Name], needs: &[Need]) -> Result<(), OutOfMemory>
     ensures { OnOk result (text.new.items ≡ text.old.items ++ input_lines (map need_of needs.now) 0 names.now) }
 {
@@ -75,7 +75,7 @@ fn put_inputs(text: &mut Vec<u8>, names: &[Name], needs: &[Need]) -> Result<(), 
     Ok(())
 }
 
-// Puts the lines of the named definitions.
+// Appends the lines of the named definitions.
 fn put_lets(
     text: &mut Vec<u8>,
     core: &Core,
@@ -100,7 +100,7 @@ fn put_lets(
     Ok(())
 }
 
-// Puts the line of a source.
+// Appends the line of a source.
 fn put_line(
     text: &mut Vec<u8>,
     kind: &[u8],
@@ -129,7 +129,7 @@ fn has_loop(loops: &[PlanLoop], def: usize) -> bool
     loops.iter().any(|each| each.def as usize == def)
 }
 
-// Puts the numbers of loops.
+// Appends the numbers of loops.
 fn put_loops(text: &mut Vec<u8>, fused: &[PlanLoop], plain: &[PlanLoop]) -> Result<(), OutOfMemory>
     ensures { OnOk result (text.new.items ≡ text.old.items ++ loops_line (length fused.now) (length plain.now)) }
 {

@@ -109,7 +109,7 @@ module _ (leaf : Instr → Option ℤ) (buffer : ℕ → ℕ) where
   tree_cell number (tree.Two op a b) = apply2 op (tree_cell number a) (tree_cell (number + maps a) b)
   tree_cell number (tree.If c a b) = choose (tree_cell number c) (tree_cell (number + maps c) a) (tree_cell (number + maps c + maps a) b)
 
-  -- the registers of a tree but for its last, and all of them
+  -- the registers of a tree except its last, and all of them
   abbrev front : ℕ → FusedTree → List (Option ℤ)
   front number (tree.One op a) = front number a ++ tree_cell number a ∷ []
   front number (tree.Two op a b) = (front number a ++ tree_cell number a ∷ []) ++ (front (number + maps a) b ++ tree_cell (number + maps a) b ∷ [])
@@ -156,7 +156,7 @@ module _ (leaf : Instr → Option ℤ) (buffer : ℕ → ℕ) where
   length-values : (number : ℕ) (t : FusedTree) → length (values number t) ≡ registers t
   length-values number t = length-append (front number t) (tree_cell number t ∷ []) ∙ length-front number t
 
-  -- the result of a tree stands in its last register, whatever registers come after
+  -- the result of a tree is in its last register, whatever registers come after
   result-last : (cells : List (Option ℤ)) (register number : ℕ) (t : FusedTree) → register ≡ length cells → get_or (cells ++ values number t) (result_at register t) None ≡ tree_cell number t
   result-last cells register number t is =
       let at : result_at register t ≡ length (cells ++ front number t) = omega (arith, length-append cells (front number t), length-front number t) in

@@ -1,4 +1,4 @@
--- The instructions of a tree keep what instructions keep: their numbers lie within their bounds, and each names only what stands before it.
+-- The instructions of a tree keep what instructions keep: their numbers lie within their bounds, and each names only what is before it.
 use Rattle.std.proofs.Common.{◌≡◌, ℕ, suc, ◌+◌, ◌<◌, ◌≤◌, ◌^◌, ℤ, pos, ◌+ℤ◌, ◌≤ℤ◌, ◌<ℤ◌, Bool, true, [], ◌∷◌, ◌++◌, length, refl, arith, subst, length-append, IsTrue}
 use Rattle.std.specs.Prelude.{◌&&◌, nat_lt}
 use Rattle.std.specs.List.{AllByRecursion}
@@ -87,7 +87,7 @@ RefersBack-append buffers maps register (i ∷ one) two g h =
     let at : register + suc (length one) ≡ suc register + length one = omega arith in
     (g.0, RefersBack-append buffers maps (suc register) one two g.1 (subst (λ (r : ℕ). RefersBack buffers maps r two) at h))
 
--- the instruction may stand there, and is one where its constant is a number of 64 bits
+-- the instruction may be there, and is one if its constant is a 64-bit number
 abbrev pub IsGood : (Instr → Bool) → Instr → Type 0
 IsGood stands i = IsTrue (stands i) × (ConstantFits i → IsInstr i)
 
@@ -99,7 +99,7 @@ module _ (count made : ℕ) where
       RefersBack-append count made register first next g (subst (λ (r : ℕ). RefersBack count made r next) at h)
 
 module _ (buffer : ℕ → ℕ) (count : ℕ) (few : count ≤ 256) (n : Need) (back_low : pos 0 ≤ℤ n.back) (ahead_low : pos 0 ≤ℤ n.ahead) where
-  -- the buffer of a source stands before the count, and it is asked for within the reach
+  -- the number of a source's buffer is below the count, and it is asked for within the reach
   abbrev pub Bounded : ℕ → Need → Type 0
   Bounded source asked = (buffer source < count) × WithinReach asked
 

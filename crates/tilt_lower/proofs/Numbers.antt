@@ -26,7 +26,7 @@ one_more : (test : Bool) (some all : ℕ) → some ≤ all → (if test then 1 e
 one_more true some all low = omega arith
 one_more false some all low = omega arith
 
--- no more loops stand before a definition than there are
+-- no more loops are before a definition than there are
 pub loops_before-few : (loops : List PlannedLoop) (place : ℕ) → loops_before loops place ≤ length loops
 loops_before-few [] place = omega arith
 loops_before-few (l ∷ loops) place = one_more (nat_lt l.def place) (loops_before loops place) (length loops) (loops_before-few loops place)
@@ -51,7 +51,7 @@ pub before-more : (place : ℕ) (loops : List PlannedLoop) (l : PlannedLoop) →
 before-more place [] l h is = (omega arith, tt)
 before-more place (m ∷ loops) l h is = (let low = h.0 in omega arith, before-more place loops l h.1 is)
 
--- loops of definitions from a place on stand after it
+-- loops of definitions from a place on
 abbrev pub AreBehind : ℕ → List PlannedLoop → Type 0
 AreBehind place [] = ⊤
 AreBehind place (l ∷ loops) = (place ≤ l.def) × AreBehind place loops

@@ -69,7 +69,7 @@ used-needs ns = record { many = length-map ns is_some; each = λ source low. get
   get_or-map_at (m ∷ ms) zero low = refl
   get_or-map_at (m ∷ ms) (suc i) low = get_or-map_at ms i (omega arith)
 
--- what is told of a loop of the plan: its definition is used, its tree is small, and the tree's maps are maps
+-- what is known of a loop of the plan: its definition is used, its tree is small, and the tree's maps are maps
 pub record IsTold (query : CoreParts) (l : PlannedLoop) : Type 0 where
   pub numbered : l.def < length query.defs
   pub is_used : IsSome (get_or (needs_from (length query.inputs) query.defs) l.def None)

@@ -40,7 +40,7 @@ agree-trans x y z lo hi g h = record {
   marks = λ tick above below. g.marks tick above below ∙ h.marks tick above below;
 }
 
--- a source is what stands at its number
+-- a source is what is at its number
 pub source_of-at : (xs : List Stream) (source : ℕ) → source_of xs source ≡ get_or xs source nothing
 source_of-at [] source = refl
 source_of-at (x ∷ xs) zero = refl

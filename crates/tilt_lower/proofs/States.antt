@@ -1,5 +1,5 @@
--- How a plan is lowered, definition by definition: each source with a buffer is that buffer's stream, each merged one is its tree's, and each agrees with its
--- meaning on all that it is asked for.
+-- How a plan is lowered, definition by definition. Each source with a buffer is that buffer's stream, and each merged one is its tree's.
+-- Each agrees with its meaning on all that it is asked for.
 use Rattle.std.proofs.Common.{◌≡◌, ℕ, zero, suc, ◌+◌, ◌<◌, ◌≤◌, ◌*◌, ◌==◌, ℤ, ◌+ℤ◌, ◌-ℤ◌, Bool, true, false, List, [], ◌∷◌, ◌++◌, length, map, get_or, drop, replicate, Option, Some, None, ◌⊎◌, inl}
 use Rattle.std.proofs.Common.{inr, refl, sym, ap, ◌∙◌, arith, subst, append_assoc, length-append}
 use Rattle.std.specs.Prelude.{⊤, ◌&&◌, ◌||◌, is_some}
@@ -122,8 +122,8 @@ module _ (query : CoreParts) (margins : MarginsParts) (lo hi : ℤ) (used : List
   abbrev left : ℕ → List (Option FusedTree) → List PlannedLoop
   left place merged = loops_from fuse inputs place merged (drop place defs) (drop place ns)
 
-  -- a loop of the plan, before which there are so many buffers: it is that of a used definition, its tree is small, and asks each source, which has a buffer before
-  -- it, for no more than the source's need
+  -- a loop of the plan, with this number of buffers before it: it is the loop of a used definition, and its tree is small. The tree asks
+  -- each source, which has a buffer before the loop, for no more than the source's need
   pub record IsLowered (count : ℕ) (l : PlannedLoop) : Type 0 where
     pub numbered : l.def < length defs
     pub need : Need

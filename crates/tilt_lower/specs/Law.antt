@@ -28,8 +28,8 @@ LiesWithin (Some domain) lo hi = (domain.start ≤ℤ lo) × (lo <ℤ hi) × (hi
 abbrev pub has_buffer : ℕ → List PlannedLoop → ℕ → Bool
 has_buffer inputs loops source = nat_lt source inputs || has_loop loops (source - inputs)
 
--- over all rows, one list for each input: the run of the code is what the query gives on `(lo, hi]`, and the buffer of each source
--- that has one agrees with the meaning of the source on all that it is asked for
+-- over all rows, one list for each input: the run of the code is what the query gives on `(lo, hi]`. The buffer of each source that has one
+-- agrees with the meaning of the source on all that it is asked for
 pub record MeansTheQuery (query : CoreParts) (margins : MarginsParts) (loops : List PlannedLoop)
     (lo hi : ℤ) (code : CodeParts) : Type 0 where
   pub runs : (rows : List (List Snapshot)) → length rows ≡ length query.inputs

@@ -42,8 +42,8 @@ maps other = 0
 abbrev pub result_at : ℕ → FusedTree → ℕ
 result_at register tree = register + (registers tree - 1)
 
--- the instructions of a tree, operands first and from left to right, of which the first fills a register, and the first map has a
--- number; buffers are given by the numbers of their sources
+-- the instructions of a tree, operands first and from left to right. The registers and the maps are numbered from these two numbers on;
+-- buffers are given by the numbers of their sources
 abbrev pub block_of : (ℕ → ℕ) → ℕ → ℕ → FusedTree → Block
 block_of buffer register number (Const value) = instr.Const value ∷ []
 block_of buffer register number (Port source offset) = instr.Port (buffer source) offset ∷ []
@@ -80,7 +80,7 @@ each_tick = record { period = pos 1; offset = pos 0 }
 abbrev pub null_on : ℤ → ℤ → LoopParts
 null_on lo hi = record { lo = lo; hi = hi; grid = each_tick; maps = []; body = instr.Null ∷ [] }
 
--- the loop of a definition with a tree, on its stretch; null on all of it where the stretch is told to be empty
+-- the loop of a definition with a tree, on its stretch; null on all of it if the stretch is marked as empty
 abbrev pub loop_on : LoopSpan → (ℕ → ℕ) → Definition → FusedTree → LoopParts
 loop_on span buffer def tree =
     if span.empty then null_on span.lo span.hi

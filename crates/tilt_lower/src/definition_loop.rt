@@ -16,7 +16,7 @@ use tilt_code::{Instr, Loop};
 use tilt_core::Def;
 use tilt_fuse::Fused;
 
-/// The loop of a definition with this expression, on this stretch; null on all of it where the stretch is told to be empty.
+/// The loop of a definition with this expression, on this stretch; null on all of it if the stretch is marked as empty.
 pub fn loop_on(
     alloc: Global,
     span: LoopSpan,

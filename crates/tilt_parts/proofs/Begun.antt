@@ -16,7 +16,7 @@ use Rattle.tilt_parts.specs.Part.{PartValue, part_after}
 use Rattle.tilt_parts.specs.Parts.{AreInside, StandFrom, Stands, all_on, code_on, stretches}
 use Rattle.tilt_stream.specs.Snap.{Snapshot}
 
--- a part that was made of a stretch stands there before all steps
+-- a part that was made of a stretch follows the empty list of steps there
 pub stands-new : (query : AcceptedParts) (rows : List (List Snapshot)) (place : ℕ) (stretch : Span) (part : PartValue)
     → run_of part.pipe.code rows ≡ all_on query rows stretch → part ≡ part_after stretch (code_on query stretch) rows 0
     → Stands query rows [] place stretch part
@@ -26,7 +26,7 @@ stands-new query rows place stretch part means is = record {
   after = λ granted. is ∙ ap (λ (n : ℕ). part_after stretch (code_on query stretch) rows n) (sym (min-zero (length (all_on query rows stretch))));
 }
 
--- the parts up to a cut: whatever stands from there on goes on from them
+-- the parts up to a cut: any parts that follow the steps from there on go on from them
 pub record AreBegun (query : AcceptedParts) (rows : List (List Snapshot)) (domain : Span) (cuts : List ℤ) (start : ℤ) (left : List ℤ)
     (parts : List PartValue) : Type 0 where
   pub before : ℤ

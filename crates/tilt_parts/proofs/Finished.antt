@@ -34,7 +34,7 @@ pub there-ends : (hi : ℤ) (last : Option ℤ) → last ≡ Some hi → option_
 there-ends hi None is = absurd (none-some hi is)
 there-ends hi (Some end) is = let same = same_Some end hi is in grind (arith, ints)
 
--- the same, of the snapshot that stands last
+-- the same, of the last snapshot
 pub last-ends : (list : List Snapshot) (s : Snapshot) (hi : ℤ) → Some s ≡ slice_get list (length list - 1)
     → int_eq s.end hi ≡ option_map_or (λ end. int_eq end hi) (last_end list) false
 last-ends list s hi is =

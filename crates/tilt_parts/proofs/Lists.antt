@@ -54,7 +54,7 @@ get-within [] i within none = omega arith
 get-within (x ∷ xs) zero within none = none-some x (sym none)
 get-within (x ∷ xs) (suc i) within none = get-within xs i (omega arith) none
 
--- snapshots of which one stands between others
+-- snapshots of which one is between others
 touch-behind : (xs : List Snapshot) (s : Snapshot) (ys : List Snapshot) → Touch (xs ++ s ∷ ys) → ForSome (last_end xs) (λ end. end ≡ s.start)
 touch-behind [] s ys h = λ end same. absurd (cc same)
 touch-behind (x ∷ []) s ys h = λ end same. let e : x.end ≡ end = cc same in sym e ∙ h.0

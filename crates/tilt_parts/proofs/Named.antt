@@ -32,7 +32,7 @@ module _ (query : AcceptedParts) (rows : List (List Snapshot)) (steps : List ℕ
   others-after place (s ∷ spans) (part ∷ parts) later stand =
       (stands-other place s part (λ same. omega arith) stand.0, others-after (suc place) spans parts (omega arith) stand.1)
 
-  -- all, where the named one stands after it as it ought to
+  -- all, if the named one follows the steps after it as it ought to
   stand-after : (place i : ℕ) (spans : List Span) (parts : List PartValue) (new : PartValue) → named ≡ place + i
       → AllByRecursion (λ (s : Span). s.start <ℤ s.end) spans
       → ((stretch : Span) (old : PartValue) → stretch.start <ℤ stretch.end → slice_get parts i ≡ Some old → Stands query rows steps named stretch old

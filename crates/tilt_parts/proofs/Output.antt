@@ -44,7 +44,7 @@ module _ (query : AcceptedParts) (rows : List (List Snapshot)) (steps : List ℕ
       ∙ count-taken query rows place stretch some stands.means (min (length (all_on query rows stretch)) (times place steps))
       (min-le_left (length (all_on query rows stretch)) (times place steps))
 
-  -- a part that stands somewhere
+  -- a part that follows the steps on some stretch
   record StandsSomewhere (place : ℕ) (part : PartValue) : Type 0 where
     stretch : Span
     some : stretch.start <ℤ stretch.end

@@ -120,7 +120,7 @@ module _ (query : AcceptedParts) (rows : List (List Snapshot)) (place : ℕ) (st
       ] in
       taken-all count ∙ ap (λ (n : ℕ). take n (all_on query rows stretch)) all_of ∙ take-length (all_on query rows stretch)
 
-  -- it stands after one step more that names it
+  -- it follows the steps with one more that names it
   module _ (steps : List ℕ) (result : Result (Unit {0}) AllocError) (old new : PartValue) (stands : Stands query rows steps place stretch old)
       (same_stretch : new.stretch ≡ old.stretch) (finished : old.refused ≡ false → is_finished old ≡ true → IsOk result × (new ≡ old))
       (one_more : old.refused ≡ false → is_finished old ≡ false → length old.taken < length (run_of old.pipe.code old.pipe.inputs)

@@ -11,7 +11,7 @@ use Rattle.tilt_pipe.specs.Value.{PipeParts, coded_pipe, pipe_after}
 use Rattle.tilt_stream.specs.Snap.{Snapshot, last_end}
 use Rattle.tilt_stream.specs.Stored.{coded_snapshots}
 
--- its stretch of time, its pipe, the snapshots that were taken from it, and whether memory was refused
+-- its stretch of time, its pipe, the snapshots that were taken from it, and whether memory ran out
 pub record PartValue : Type 0 where
   pub stretch : Span
   pub pipe : PipeParts
@@ -27,17 +27,18 @@ part_after stretch code rows count =
 abbrev pub is_finished : PartValue → Bool
 is_finished part = option_map_or (λ end. int_eq end part.stretch.end) (last_end part.taken) false
 
--- what a part keeps: what was taken are the first snapshots of its code's run, and where memory wasn't refused its pipe stands after them
+-- what a part keeps: what was taken is the first snapshots of its code's run, and if memory didn't run out its pipe has given out exactly
+-- these
 pub record IsPart (part : PartValue) : Type 0 where
   pub code : IsCode part.pipe.code
   pub taken : part.taken ≡ take (length part.taken) (run_of part.pipe.code part.pipe.inputs)
   pub at_work : part.refused ≡ false → part.pipe ≡ pipe_after part.pipe.code part.pipe.inputs (length part.taken)
 
--- stretches are told apart by their bounds
+-- stretches are distinguished by their bounds
 abbrev pub coded_span : Coded Span
 coded_span = code_by (_ × _) (coded× coded_ℤ coded_ℤ) (λ s. (s.start, s.end)) (λ p. record { start = p.0; end = p.1 }) (λ _. refl)
 
--- parts are told apart part by part
+-- parts are distinguished field by field
 abbrev pub coded_part : Coded PartValue
 coded_part =
     code_by (Span × (PipeParts × (List Snapshot × Bool))) (coded× coded_span (coded× coded_pipe (coded× coded_snapshots coded_bool)))

@@ -1,4 +1,4 @@
--- Parts of the output domain: where each of them stands after steps, and what they give together.
+-- Parts of the output domain: the state of each of them after steps, and what they give together.
 use Rattle.std.specs.Prelude.{◌≡◌, ◌++◌, ◌-ℤ◌, ◌<ℤ◌, ⊤, ℕ, suc, ℤ, pos, false, List, [], ◌∷◌, length, min, nat_eq, if◌then◌else◌, Some}
 use Rattle.tilt_base.specs.declared.span.Span.{Span}
 use Rattle.tilt_code.specs.Code.{CodeParts}
@@ -36,8 +36,8 @@ code_on query stretch = code_of (plan_of query.core query.fuse) query.core query
 abbrev pub all_on : AcceptedParts → List (List Snapshot) → Span → List Snapshot
 all_on query rows stretch = given query.core rows stretch.start stretch.end
 
--- the part at a place was to be of that stretch, and its code gives what the query does there; as long as memory isn't refused to it, as
--- many snapshots were taken as the steps name it, but no more than there are
+-- the part at a place is of that stretch, and its code gives what the query does there. As long as memory doesn't run out for it, the
+-- number of snapshots taken is how often the steps name it, but no more than there are
 pub record Stands (query : AcceptedParts) (rows : List (List Snapshot)) (steps : List ℕ) (place : ℕ) (stretch : Span) (part : PartValue)
     : Type 0 where
   pub stretch_is : part.stretch ≡ stretch
@@ -45,14 +45,14 @@ pub record Stands (query : AcceptedParts) (rows : List (List Snapshot)) (steps :
   pub after : part.refused ≡ false
       → part ≡ part_after stretch (code_on query stretch) rows (min (length (all_on query rows stretch)) (times place steps))
 
--- the parts from a place on do, one for each stretch
+-- the same of the parts from a place on, one for each stretch
 abbrev pub StandFrom : AcceptedParts → List (List Snapshot) → List ℕ → ℕ → List Span → List PartValue → Type 0
 StandFrom query rows steps place [] [] = ⊤
 StandFrom query rows steps place (stretch ∷ stretches) (part ∷ parts) =
     Stands query rows steps place stretch part × StandFrom query rows steps (suc place) stretches parts
 StandFrom query rows steps place stretches parts = ⊥
 
--- parts of a query over these rows, cut so, after these steps, each of which names a part
+-- parts of a query over these rows, with these cuts, after these steps, each of which names a part
 pub record AreParts (query : AcceptedParts) (rows : List (List Snapshot)) (cuts : List ℤ) (steps : List ℕ) (parts : List PartValue)
     : Type 0 where
   pub accepted : IsAccepted query

@@ -13,7 +13,7 @@ use tilt_compiler::Accepted;
 use tilt_pipe::{Input, Pipe, share_inputs};
 use tilt_stream::SnapList;
 
-// The part of a stretch: its pipe, the snapshots that were taken from it, and whether memory was refused to it.
+// The part of a stretch: its pipe, the snapshots that were taken from it, and whether memory ran out for it.
 #[derive(Drop)]
 pub(crate) struct Part {
     stretch: Span,
@@ -57,7 +57,7 @@ impl Part {
         })
     }
 
-    // Takes one more snapshot, or changes nothing where all were taken. After want of memory memory is wanting for good.
+    // Takes one more snapshot, or changes nothing if all were taken. If memory runs out, each later call returns `OutOfMemory`.
     pub(crate) fn step(&mut self) -> Result<(), OutOfMemory>
         ensures finished { self.old.refused ≡ false → is_finished self.old ≡ true → IsOk result × (self.new ≡ self.old) }
         ensures one_more { self.old.refused ≡ false → is_finished self.old ≡ false
@@ -74,7 +74,7 @@ impl Part {
         if self.is_finished() {
             return Ok(());
         }
-        // So it stands wherever this ends early.
+        // So it remains set wherever this ends early.
         self.refused = true;
         if let Some(snap) = self.pipe.next()? {
             self.taken.push(snap)?;

@@ -43,8 +43,8 @@ impl Model for Parts {
 }
 
 impl Parts {
-    /// The parts that cuts make of the output domain, in ticks: they rise, and each lies inside the domain. The inputs are those of
-    /// the query, in its order, and none of their rows is copied. No snapshot was taken from any part.
+    /// The parts that cuts make of the output domain, in ticks: they rise, and each lies inside the domain. The inputs are the query's, in
+    /// its order, and none of their rows is copied. No snapshot was taken from any part.
     pub fn new(
         alloc: Global,
         accepted: &Accepted,
@@ -71,8 +71,8 @@ impl Parts {
         Ok(Parts { alloc, parts })
     }
 
-    /// Takes the next snapshot of a part, or changes nothing where all of them were taken. After want of memory that part wants memory for
-    /// good, and the others are as before.
+    /// Takes the next snapshot of a part, or changes nothing if all of them were taken. If memory runs out, each later step of this part
+    /// returns `OutOfMemory`, and the other parts are as before.
     pub fn step(&mut self, part: usize) -> Result<(), OutOfMemory>
         requires { part < length self.old }
         ensures after { (query : AcceptedParts) (rows : List (List Snapshot)) (cuts : List ℤ) (steps : List ℕ)
@@ -90,7 +90,7 @@ impl Parts {
         self.parts[part].step()
     }
 
-    /// Takes the steps in their order, each of which names a part. After want of memory so many of the first were taken.
+    /// Takes the steps in their order, each of which names a part. If memory runs out, a prefix of them was taken.
     pub fn follow(&mut self, order: &[u32]) -> Result<(), OutOfMemory>
         requires { AllByRecursion (λ part. part < length self.old) order.now }
         ensures after { (query : AcceptedParts) (rows : List (List Snapshot)) (cuts : List ℤ) (steps : List ℕ)
@@ -106,7 +106,7 @@ impl Parts {
         Ok(())
     }
 
-    /// Takes all steps that are left, part by part from the first on. After that each part is finished; after want of memory some of these
+    /// Takes all steps that are left, part by part from the first on. After that each part is finished; if memory runs out, some of these
     /// steps were taken.
     pub fn finish(&mut self) -> Result<(), OutOfMemory>
         requires { AllByRecursion (λ part. part.refused ≡ false) self.old }
@@ -141,8 +141,8 @@ impl Parts {
         Ok(())
     }
 
-    /// Whether all snapshots of a part were taken: as many as the query gives on its stretch, as long as no memory was refused to it.
-    /// It takes no memory.
+    /// Whether all snapshots of a part were taken: as many as the query gives on its stretch, as long as memory didn't run out for it. It
+    /// takes no memory.
     pub fn finished(&self, part: usize) -> bool
         requires { part < length self.now }
         ensures value { ForSome (slice_get self.now part) (λ p. result ≡ is_finished p) }
@@ -155,8 +155,8 @@ impl Parts {
         self.parts[part].is_finished()
     }
 
-    /// How many snapshots of a part were taken: as many as steps named it, but no more than there are, as long as no memory was refused
-    /// to it. It takes no memory.
+    /// How many snapshots of a part were taken: as many as steps named it, but no more than there are, as long as memory didn't run out for
+    /// it. It takes no memory.
     pub fn given(&self, part: usize) -> u64
         requires { part < length self.now }
         ensures value { ForSome (slice_get self.now part) (λ p. result ≡ length p.taken) }
@@ -167,7 +167,8 @@ impl Parts {
         self.parts[part].taken.len() as u64
     }
 
-    /// What was taken from all parts, joined at the cuts: `None` exactly where a part isn't finished. No step wanted memory.
+    /// What was taken from all parts, joined at the cuts: `None` exactly if a part isn't finished. It requires that no step ran out of
+    /// memory.
     pub fn joined(&self) -> Result<Option<SnapList>, OutOfMemory>
         requires granted { AllByRecursion (λ part. part.refused ≡ false) self.now }
         ensures finished { IfOk result (λ found. MatchOption found (AllByRecursion (λ part. is_finished part ≡ true) self.now → ⊥)

@@ -1,5 +1,4 @@
--- What the rings of a pipe keep, by the position of each loop. The position of a loop says what it has made: that is written down nowhere
--- else.
+-- What the rings of a pipe keep, by the position of each loop. That position says what the loop has made: nothing else records it.
 use Rattle.std.specs.Prelude.{◌≡◌, ◌≤◌, ◌+◌, ℕ, ℤ, Bool, pos, ◌<ℤ◌, ◌≤ℤ◌, if◌then◌else◌, List, [], ◌∷◌, ◌++◌, map, length, drop, get_or}
 use Rattle.std.specs.Prelude.{slice_get, slice_set, Some, int_le, refl, ⊤}
 use Rattle.std.specs.Coded.{Coded, code_by, coded×, coded_list, coded_ℕ, coded_ℤ}
@@ -109,7 +108,7 @@ pub record IsOpen (p : RingsParts) (place : ℕ) (w : Work) : Type 0 where
   pub is : slice_get (works_in p) place ≡ Some w
   pub before : start_at p place <ℤ w.loop.hi
 
--- distinguished part by part
+-- distinguished field by field
 abbrev pub coded_ring : Coded RingParts
 coded_ring =
     code_by (List Snapshot × (ℕ × (ℤ × ℤ))) (coded× coded_snapshots (coded× coded_ℕ (coded× coded_ℤ coded_ℤ)))

@@ -19,7 +19,7 @@ abbrev pub pipe_after : CodeParts → List (List Snapshot) → ℕ → PipeParts
 pipe_after code inputs given =
     record { code = code; inputs = inputs; rings = rings_after code inputs given; given = given; refused = false }
 
--- pipes are distinguished part by part
+-- pipes are distinguished field by field
 abbrev pub coded_pipe : Coded PipeParts
 coded_pipe =
     code_by (CodeParts × (List (List Snapshot) × (List (List Snapshot) × (ℕ × Bool))))

@@ -33,7 +33,7 @@ impl Model for LoopRing {
 }
 
 impl LoopRing {
-    // An empty ring of a loop that is at the start.
+    // An empty ring of a loop that is at this start.
     pub(crate) fn new(alloc: Global, start: i64, hi: i64) -> Result<LoopRing, OutOfMemory>
         ensures { IfOk result (λ r. r ≡ record { held = []; forgotten = 0; start = start; hi = hi }) }
     {

@@ -14,7 +14,7 @@ use Rattle.tilt_checkpoint.proofs.decoder.read.Goals as goal
 same_ok : {A E : Type 0} (x y : A) → ◌≡◌ {A = Result A E} (Ok x) (Ok y) → x ≡ y
 same_ok x y e = cc e
 
--- what the answer tells was read
+-- a value that is returned was read
 read_ok : {A E : Type 0} (read : Read A) (o : Option A) (left : List ℕ) (fault : E) (x : A) → Reads read o left → ok_or o fault ≡ Ok x
     → read ≡ Some (x, left)
 read_ok read (Some y) left fault x told e = told ∙ ap (λ z. Some (z, left)) (same_ok y x e)

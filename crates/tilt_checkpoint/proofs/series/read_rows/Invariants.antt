@@ -1,4 +1,4 @@
--- What is left comes to what all rows come to.
+-- What is left gives what all rows give.
 use Rattle.std.proofs.Common.{◌≡◌, ◌-◌, []}
 use Rattle.tilt_checkpoint.specs.Reading.{times, with_row}
 use Rattle.tilt_checkpoint.proofs.series.read_rows.Given as goal

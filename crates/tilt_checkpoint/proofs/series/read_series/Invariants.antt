@@ -1,4 +1,4 @@
--- What is left comes to what all series come to.
+-- What is left gives what all series give.
 use Rattle.std.proofs.Common.{◌≡◌, ◌-◌, []}
 use Rattle.tilt_checkpoint.specs.Reading.{times, with_kept}
 use Rattle.tilt_checkpoint.proofs.series.read_series.Given as goal
