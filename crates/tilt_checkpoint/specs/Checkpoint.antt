@@ -16,8 +16,7 @@ pub record BodyParts : Type 0 where
   pub open_start : Option ℤ
   pub series : List KeptParts
 
--- the query, the least of the cuts up to which rows were seen, the start of the snapshot that isn't finished, and what is kept of each
--- input
+-- the query, the least of the cuts up to which rows were seen, the start of the unfinished snapshot, and what is kept of each input
 pub record CheckpointParts : Type 0 where
   pub query : List StatementTree
   pub cut : ℤ

@@ -8,7 +8,7 @@ pub record CutsParts : Type 0 where
   pub least : ℤ
   pub each : List ℤ
 
--- one cut for so many inputs
+-- one cut for this number of inputs
 abbrev pub same_cuts : ℕ → ℤ → CutsParts
 same_cuts inputs cut = record { least = cut; each = replicate inputs cut }
 
@@ -16,7 +16,7 @@ same_cuts inputs cut = record { least = cut; each = replicate inputs cut }
 abbrev pub IsCut : ℤ → Type 0
 IsCut cut = (neg_ℤ T ≤ℤ cut) × (cut ≤ℤ T)
 
--- a number is the least of others: none of them lies below it, and where there are any it is one of them
+-- a number is the least of others: none of them lies below it, and if there are any it is one of them
 pub record IsLeast (least : ℤ) (numbers : List ℤ) : Type 0 where
   pub none_below : AllByRecursion (λ number. least ≤ℤ number) numbers
   pub among : numbers ≢ [] → Contains numbers least

@@ -19,7 +19,7 @@ use Rattle.tilt_checkpoint.specs.declared.frame.Frame.{Frame}
 use Rattle.tilt_checkpoint.specs.declared.version.Version.{Version}
 use Rattle.tilt_checkpoint.specs.declared.version.Version.TheVariants.{First, Second}
 
--- a step, so many times
+-- a step, repeated this number of times
 abbrev pub times : {A : Type 0} → (A → Option A) → ℕ → A → Option A
 times step zero x = Some x
 times step (suc more) x = step x >>= times step more
@@ -57,7 +57,7 @@ count_at mark bytes = do
   count ← natural number.0
   Some (count, number.1)
 
--- nothing where the word is the one for nothing, or the number whose shortest decimal it is
+-- nothing if the word is the one for nothing, or the number whose shortest decimal it is
 abbrev pub maybe : List ℕ → List ℕ → Option (Option ℤ)
 maybe nothing word = if bytes_eq word nothing then Some None else (shortest word >>= λ number. Some (Some number))
 
@@ -103,7 +103,7 @@ row_at bytes = do
   value ← maybe_at [] 10 end.1
   if int_lt start.0 end.0 then Some (record { start = start.0; end = end.0; value = value.0 }, value.1) else None
 
--- whether a row may start there after the last one, where there is one
+-- whether a row may start there after the last one, if there is one
 abbrev pub follows : Option ℤ → ℤ → Bool
 follows None start = true
 follows (Some end) start = int_le end start
@@ -119,7 +119,7 @@ with_row first cut so_far = do
   row ← row_at so_far.1
   if may_follow first cut so_far.0 row.0 then Some (so_far.0 ++ row.0 ∷ [], row.1) else None
 
--- the cut of an input: its own, or in the first version the least, which is that of all
+-- the cut of an input: its own, or in the first version the least, which is the cut of all
 abbrev pub own_cut_at : Version → ℤ → List ℕ → Read ℤ
 own_cut_at First least bytes = Some (least, bytes)
 own_cut_at Second least bytes = behind (codes "cut ") bytes >>= number_at 32
@@ -156,7 +156,7 @@ kept_upto first cut bytes = do
 abbrev pub is_cut : ℤ → Bool
 is_cut cut = int_le (neg_ℤ T) cut && int_le cut T
 
--- the same where its cut was read
+-- the same after its cut was read
 abbrev pub kept_after : ℤ → ℤ × List ℕ → Read KeptParts
 kept_after first cut = if is_cut cut.0 then kept_upto first cut.0 cut.1 else None
 
@@ -185,7 +185,7 @@ none_below cut series = list_all (λ kept. int_le cut kept.cut) series
 abbrev pub one_has : ℤ → List KeptParts → Bool
 one_has cut series = list_any (λ kept. int_eq kept.cut cut) series
 
--- whether a cut is the least of those of the inputs, where there are any
+-- whether a cut is the least of the inputs' cuts, if there are any
 abbrev pub is_least : ℤ → List KeptParts → Bool
 is_least cut series = none_below cut series && (length series == 0 || one_has cut series)
 
@@ -205,7 +205,7 @@ end_at cut start series =
     then Some (record { cut = cut; open_start = start; series = series.0 })
     else None
 
--- the series of so many inputs and the end, after the least cut and the start
+-- the series of this number of inputs and the end, after the least cut and the start
 abbrev pub rest_at : ℕ → Form → Option ℤ → List ℕ → Option BodyParts
 rest_at inputs form start bytes = times (with_kept form) inputs ([], bytes) >>= end_at form.least start
 
@@ -213,7 +213,7 @@ rest_at inputs form start bytes = times (with_kept form) inputs ([], bytes) >>= 
 abbrev pub form_of : Version → Frame → ℤ → Form
 form_of version frame cut = record { version = version; first = first_kept frame cut; least = cut }
 
--- the same, where the cut and the start may be those of a query with that frame
+-- the same, if the cut and the start may belong to a query with that frame
 abbrev pub behind_moment : Version → Frame → ℕ → (ℤ × Option ℤ) × List ℕ → Option BodyParts
 behind_moment version frame inputs moment =
     if is_cut moment.0.0 && is_open frame (decided frame moment.0.0) moment.0.1
@@ -224,7 +224,7 @@ behind_moment version frame inputs moment =
 abbrev pub body_at : Version → Frame → ℕ → List ℕ → Option BodyParts
 body_at version frame inputs bytes = moment_at bytes >>= behind_moment version frame inputs
 
--- what was read, and the bytes after it; nothing says what is left where nothing was read
+-- what was read, and the bytes after it; nothing says what is left if nothing was read
 abbrev pub Reads : {A : Type 0} → Read A → Option A → List ℕ → Type 0
 Reads read result left = MatchOption result (read ≡ None) (λ x. read ≡ Some (x, left))
 

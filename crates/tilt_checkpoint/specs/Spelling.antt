@@ -20,7 +20,7 @@ title Second = codes "tilt checkpoint 2\n"
 abbrev pub query_lines : List StatementTree → List ℕ
 query_lines query = codes "query " ++ (decimal (length query) ++ (codes "\n" ++ query_text query))
 
--- a number, or a word where there is none
+-- a number, or a word if there is none
 abbrev pub or_word : List ℕ → Option ℤ → List ℕ
 or_word nothing None = nothing
 or_word nothing (Some number) = signed_decimal number
@@ -37,11 +37,11 @@ cut_line cut = codes "cut " ++ (signed_decimal cut ++ codes "\n")
 abbrev pub open_line : Option ℤ → List ℕ
 open_line start = codes "open " ++ (time_text start ++ codes "\n")
 
--- the lines of rows, null ones too
+-- the lines of rows, including null ones
 abbrev pub row_lines : List Snapshot → List ℕ
 row_lines = flat_map row_text
 
--- of an input its cut, where each has one of its own
+-- of an input its cut, if each has one of its own
 abbrev pub cut_words : Version → ℤ → List ℕ
 cut_words First cut = []
 cut_words Second cut = codes "cut " ++ (signed_decimal cut ++ codes " ")
@@ -69,6 +69,6 @@ spelling c = spelling_in Second c
 abbrev pub HaveCut : ℤ → List KeptParts → Type 0
 HaveCut cut series = AllByRecursion (λ kept. kept.cut ≡ cut) series
 
--- bytes spell a checkpoint: as it is written, or, where all inputs have one cut, in the first version
+-- bytes spell a checkpoint: as it is written, or, if all inputs have one cut, in the first version
 abbrev pub Spells : List ℕ → CheckpointParts → Type 0
 Spells bytes c = (bytes ≡ spelling c) ⊎ (HaveCut c.cut c.series × (bytes ≡ spelling_in First c))

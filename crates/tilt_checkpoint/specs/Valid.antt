@@ -13,7 +13,7 @@ use Rattle.tilt_checkpoint.specs.Cuts.{IsCut, IsLeast}
 use Rattle.tilt_checkpoint.specs.Decided.{frame_of, decided, first_kept}
 use Rattle.tilt_checkpoint.specs.declared.frame.Frame.{Frame}
 
--- some text reads as the query, it is well formed, and it looks no farther than it may
+-- some text reads as the query, it is well formed, and its look-back and look-ahead are within the bounds
 pub record IsAccepted (query : List StatementTree) : Type 0 where
   pub parsed : IsQuery query
   pub well_formed : checked query ≡ Ok (core_of query)
@@ -24,12 +24,12 @@ pub record IsAccepted (query : List StatementTree) : Type 0 where
 abbrev pub IsAmid : Frame → ℤ → Type 0
 IsAmid frame done = (frame.start <ℤ done) × (done <ℤ frame.end)
 
--- where the output is decided up to a tick, a snapshot is open there exactly where some of the output is decided and not all
+-- if the output is decided up to a tick, a snapshot is open there exactly if some of the output is decided and not all
 abbrev pub IsOpen : Frame → ℤ → Option ℤ → Type 0
 IsOpen frame done None = ¬ (IsAmid frame done)
 IsOpen frame done (Some start) = IsAmid frame done × (frame.start ≤ℤ start) × (start <ℤ done)
 
--- a number, where there is one, is one of 64 bits
+-- a number, if there is one, is a 64-bit number
 abbrev pub IsCell : Option ℤ → Type 0
 IsCell None = ⊤
 IsCell (Some value) = FitsSigned w64 value
@@ -40,7 +40,8 @@ pub record IsKept (first cut : ℤ) (row : Snapshot) : Type 0 where
   pub before : row.start <ℤ cut
   pub cell : IsCell row.value
 
--- the last end is that of the last row, where a row is kept; else there was no row, or one that ended before the first tick that is kept
+-- the last end is the end of the last row, if a row is kept; otherwise there was no row, or one that ended before the first tick that is
+-- kept
 abbrev pub IsLastEnd : ℤ → ℤ → Option ℤ → Option ℤ → Type 0
 IsLastEnd first cut (Some end) last = last ≡ Some end
 IsLastEnd first cut None None = ⊤

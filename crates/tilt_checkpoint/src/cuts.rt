@@ -66,7 +66,7 @@ impl Cuts {
     }
 }
 
-// A cut, so many times.
+// A cut, repeated this number of times.
 fn repeated(alloc: Global, cut: i64, count: usize) -> Result<Vec<i64>, OutOfMemory>
     ensures { IfOk result (λ each. each.items ≡ replicate count cut) }
 {

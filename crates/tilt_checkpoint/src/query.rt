@@ -16,7 +16,7 @@ use tilt_core::Core;
 use tilt_syntax::{Query, print, read_text};
 use tilt_types::check;
 
-// A query that is accepted, its core, and how far it looks.
+// A query that is accepted, its core and its margins.
 #[derive(Drop)]
 pub(crate) struct Asked {
     pub(crate) query: Query,
@@ -38,7 +38,7 @@ pub(crate) fn read_query(alloc: Global, reader: &mut Reader<'_>) -> Result<Asked
     }
 }
 
-// The query of so many statements of which the text is the printing.
+// The query of this number of statements of which the text is the printing.
 fn asked_of(alloc: Global, count: u64, text: &[u8]) -> Result<Asked, CheckpointFault>
     ensures found { IfOk result (λ asked. IsAccepted asked.query × (length asked.query ≡ count) × (text.now ≡ query_text asked.query)) }
     ensures core { IfOk result (λ asked. asked.core ≡ core_of asked.query) }
@@ -76,7 +76,7 @@ fn is_printing(alloc: Global, text: &[u8], query: &Query) -> Result<bool, OutOfM
     Ok(text == printed.as_slice())
 }
 
-// The core and the margins of the query, where it is accepted.
+// The core and the margins of the query, if it is accepted.
 fn core_and_margins(alloc: Global, query: &Query) -> Result<(Core, Margins), CheckpointFault>
     ensures found { IfOk result (λ found. IsAccepted query.now) }
     ensures core { IfOk result (λ found. found.0 ≡ core_of query.now) }

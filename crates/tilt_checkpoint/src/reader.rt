@@ -46,7 +46,7 @@ impl<'a> Reader<'a> {
         Some(())
     }
 
-    // The bytes up to the first mark, which is passed too.
+    // The bytes up to the first mark, which is also passed.
     pub(crate) fn until(&mut self, mark: u8) -> Option<&'a [u8]>
         ensures { MatchOption result (until_at mark self.old ≡ None) (λ word. until_at mark self.old ≡ Some (word.now, self.new)) }
     {
@@ -96,7 +96,7 @@ impl<'a> Reader<'a> {
         Some((count, text))
     }
 
-    // Passes so many lines.
+    // Passes this number of lines.
     fn pass_lines(&mut self, count: u64) -> Option<()>
         ensures { MatchOption result (times behind_line count self.old ≡ None) (λ _. times behind_line count self.old ≡ Some self.new) }
     {
@@ -120,7 +120,7 @@ impl<'a> Reader<'a> {
         }
     }
 
-    // The cut of an input: its own, or in the first version the least, which is that of all.
+    // The cut of an input: its own, or in the first version the least, which is the cut of all.
     pub(crate) fn own_cut(&mut self, version: Version, least: i64) -> Option<i64>
         ensures { Reads (own_cut_at version least self.old) result self.new }
     {
@@ -169,7 +169,7 @@ fn version_of(word: &[u8]) -> Option<Version>
     }
 }
 
-// The number whose shortest decimal the word is, or `None` where it is the word for nothing.
+// The number whose shortest decimal the word is, or `None` if it is the word for nothing.
 fn maybe(nothing: &[u8], word: &[u8]) -> Option<Option<i64>>
     ensures { result ≡ maybe nothing.now word.now }
 {

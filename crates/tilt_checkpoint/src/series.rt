@@ -12,7 +12,7 @@ use std::alloc::{AllocError as OutOfMemory, Global};
 use tilt_base::T;
 use tilt_stream::{Row, Rows};
 
-// What is kept of so many inputs.
+// What is kept of this number of inputs.
 pub(crate) fn read_series(
     alloc: Global,
     reader: &mut Reader<'_>,
@@ -86,7 +86,7 @@ fn read_upto(
     }
 }
 
-// So many rows.
+// This number of rows.
 fn read_rows(
     alloc: Global,
     reader: &mut Reader<'_>,
@@ -131,7 +131,7 @@ fn may_follow(first: i64, cut: i64, rows: &Rows, row: Row) -> bool
         && row.start < cut
 }
 
-// Whether a row may start there after the last one, where there is one.
+// Whether a row may start there after the last one, if there is one.
 fn follows(last_end: Option<i64>, start: i64) -> bool
     ensures { result ≡ follows last_end start }
 {

@@ -122,7 +122,7 @@ fn word_of(loops: bool) -> &'static [u8]
     if loops { b" loop" } else { b" merged" }
 }
 
-// Whether one of the loops is that of a definition.
+// Whether one of the loops is the loop of a definition.
 fn has_loop(loops: &[PlanLoop], def: usize) -> bool
     ensures { result ≡ has_loop loops.now def }
 {

@@ -32,7 +32,7 @@ use Rattle.tilt_core.specs.Core.{CoreParts, IsCore, IsDefinition}
 use Rattle.tilt_core.specs.CoreTree.{Definition}
 use Rattle.tilt_core.specs.Needs.{Need, no_margin, body_need, needs}
 
--- what a loop keeps, before which there are so many buffers
+-- what a loop keeps, with this number of buffers before it
 record IsKept (count : ℕ) (l : LoopParts) : Type 0 where
   pub loop : IsLoop l
   pub maps : AllByRecursion (RefersBack count (length l.maps) 0) l.maps

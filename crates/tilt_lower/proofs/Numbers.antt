@@ -1,4 +1,4 @@
--- Which buffer is that of a source, and which loops a code has.
+-- The buffer of a source, and the loops of a code.
 use Rattle.std.proofs.Common.{◌≡◌, ℕ, suc, ◌+◌, ◌-◌, ◌<◌, ◌≤◌, List, [], ◌∷◌, ◌++◌, length, Option, Some, None, if◌then◌else◌, Bool, true, false, refl, ap, ◌∙◌, arith}
 use Rattle.std.specs.Prelude.{nat_lt, ◌&&◌, ⊤}
 use Rattle.tilt_fuse.specs.FusedTree.{FusedTree, PlannedLoop}

@@ -1,4 +1,5 @@
--- One loop: it agrees with its definition as far as the definition is looked at, where its buffers agree with the sources as far as its body asks for them.
+-- One loop: it agrees with its definition as far as the definition is asked for, if its buffers agree with the sources as far as its body
+-- asks for them.
 use Rattle.std.proofs.Common.{◌≡◌, ℕ, zero, suc, ◌+◌, ◌<◌, ◌==◌, ℤ, pos, ◌+ℤ◌, ◌-ℤ◌, ◌<ℤ◌, Bool, true, false, List, [], ◌∷◌, ◌++◌, length, get_or, Option, Some, None, if◌then◌else◌, refl, sym, ap}
 use Rattle.std.proofs.Common.{◌∙◌, arith, subst}
 use Rattle.std.specs.Prelude.{int_lt, option_map}

@@ -38,7 +38,7 @@ maps (Two op a b) = maps a + maps b
 maps (If c a b) = maps c + maps a + maps b
 maps other = 0
 
--- the register of a tree's result, where its registers begin at one: its last
+-- the register of a tree's result, if its registers begin at the given one: its last
 abbrev pub result_at : ℕ → FusedTree → ℕ
 result_at register tree = register + (registers tree - 1)
 

@@ -24,7 +24,7 @@ pub record IsAtCut (x : Stream) (lo hi : ℤ) (list : List Snapshot) (parts : Li
   pub list_is : list ≡ snapshots x lo cut
   pub whole : AreWhole x (stretches (cut -ℤ pos 1) later hi) parts
 
--- the list has all snapshots up to where the parts after it begin, or to the end where there are none
+-- the list has all snapshots up to where the parts after it begin, or to the end if there are none
 abbrev pub IsUpToParts : Stream → ℤ → ℤ → List Snapshot → List PartValue → Type 0
 IsUpToParts x lo hi list [] = (lo <ℤ hi) × (list ≡ snapshots x lo hi)
 IsUpToParts x lo hi list (part ∷ parts) = IsAtCut x lo hi list (part ∷ parts)

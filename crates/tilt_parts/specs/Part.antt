@@ -18,7 +18,7 @@ pub record PartValue : Type 0 where
   pub taken : List Snapshot
   pub refused : Bool
 
--- the part of a stretch after so many snapshots of a code's run were taken
+-- the part of a stretch after `count` snapshots of a code's run were taken
 abbrev pub part_after : Span → CodeParts → List (List Snapshot) → ℕ → PartValue
 part_after stretch code rows count =
     record { stretch = stretch; pipe = pipe_after code rows count; taken = take count (run_of code rows); refused = false }
@@ -27,7 +27,7 @@ part_after stretch code rows count =
 abbrev pub is_finished : PartValue → Bool
 is_finished part = option_map_or (λ end. int_eq end part.stretch.end) (last_end part.taken) false
 
--- what a part keeps: what was taken is the first snapshots of its code's run, and if memory didn't run out its pipe has given out exactly
+-- what a part keeps: what was taken is the first snapshots of its code's run, and if memory didn't run out its pipe has given out just
 -- these
 pub record IsPart (part : PartValue) : Type 0 where
   pub code : IsCode part.pipe.code

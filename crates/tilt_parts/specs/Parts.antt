@@ -62,7 +62,7 @@ pub record AreParts (query : AcceptedParts) (rows : List (List Snapshot)) (cuts 
   pub inside : AreInside domain.start cuts domain.end
   pub stand : StandFrom query rows steps 0 (stretches domain.start cuts domain.end) parts
 
--- a list goes on by another from a cut: its last snapshot is taken off, and the other's first one goes on from where that began
+-- a list goes on by another from a cut: its last snapshot is taken off, and the other's first one goes on from where that one began
 abbrev pub joint : List Snapshot → List Snapshot → List Snapshot
 joint list next = without_last list ++ joined_from (last_start list) next
 

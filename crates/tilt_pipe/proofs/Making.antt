@@ -94,7 +94,7 @@ new-turns p all place w old new b r s are turn stands at sources readers none fi
     subst (λ (starts : List ℤ). AreTurns p.code p.inputs starts (slice_set all place new)) (sym (turned-starts p place b r s))
     (turns-set p.code p.inputs (starts_of p.rings) all place s.end w new are turn.of (omega (arith, ints)) own)
 
--- after a turn a ring is held that another loop holds, or none; that of the loop itself, where it held a snapshot before
+-- after a turn, a ring is still held by another loop, or by none; the ring of the loop itself, if it held a snapshot before
 module _ (c d : Chain) (place k : ℕ) (w : Work) (b : Bool) (r : RingParts) (s : Snapshot) (turn : IsTurn c.rings place w b r s)
     (rings : d.rings ≡ turned c.rings place b r s) (holders : d.holders.items ≡ c.holders.items) (is : IsChain c) where
   pub held-after : (x : Option Reader) → (k ≡ place → 0 < length r.held) → ((reader : Reader) → x ≡ Some reader → reader.place ≢ place)

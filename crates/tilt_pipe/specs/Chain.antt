@@ -198,7 +198,7 @@ pub record IsLate (p : RingsParts) (place : ℕ) (tick : ℤ) : Type 0 where
   pub is_open : IsOpen p place work
   pub short : start_at p place <ℤ tick
 
--- a source that is one of so many loops, and reads no further off than an offset goes
+-- a source that is one of `count` loops, and reads no further off than an offset goes
 pub record IsNearSource (count : ℕ) (s : Source) : Type 0 where
   pub there : s.place < count
   pub low : (neg_ℤ OFFSET) ≤ℤ s.last

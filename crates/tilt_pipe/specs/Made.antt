@@ -26,7 +26,7 @@ abbrev pub is_used_by : ℕ → List Work → Bool
 is_used_by buffer [] = false
 is_used_by buffer (w ∷ works) = (w.used && reads_buffer buffer (body_reads w.loop.body)) || is_used_by buffer works
 
--- the same, where the last loop is used
+-- the same, but the last loop is always used
 abbrev pub is_used : ℕ → List Work → Bool
 is_used buffer [] = true
 is_used buffer (w ∷ works) = is_used_by buffer (w ∷ works)
@@ -48,7 +48,7 @@ pub record Stage : Type 0 where
   pub work : Work
   pub made : List Snapshot
 
--- the last tick of a buffer that the last turn of a loop read, where one was made
+-- the last tick of a buffer that the last turn of a loop read, if one was made
 abbrev pub read_by_turn : ℕ → LoopParts → Option ℤ → Option ℤ
 read_by_turn buffer l None = None
 read_by_turn buffer l (Some start) = last_tick buffer (turn_point l start) (body_reads l.body)
@@ -64,7 +64,7 @@ begun_below None list = []
 begun_below (Some tick) [] = []
 begun_below (Some tick) (s ∷ ss) = if int_lt s.start tick then s ∷ begun_below (Some tick) ss else []
 
--- what these loops have made after so many snapshots were given out, of which the first loop fills the buffer with the number
+-- what these loops have made after `given` snapshots were given out, of which the first loop fills the buffer with the number
 abbrev pub stages_from : ℕ → ℕ → List Work → List Stage
 stages_from given buffer [] = []
 stages_from given buffer (w ∷ []) = record { work = w; made = take given w.whole } ∷ []
@@ -72,6 +72,6 @@ stages_from given buffer (w ∷ next ∷ works) =
     let behind = stages_from given (suc buffer) (next ∷ works) in
     record { work = w; made = begun_below (asked buffer behind) w.whole } ∷ behind
 
--- what the loops of a code have made after so many snapshots were given out
+-- what the loops of a code have made after `given` snapshots were given out
 abbrev pub stages_after : CodeParts → List (List Snapshot) → ℕ → List Stage
 stages_after code inputs given = stages_from given (length inputs) (works_of code inputs)

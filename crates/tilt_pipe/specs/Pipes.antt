@@ -27,6 +27,6 @@ pub record IsWhole (p : Inside) : Type 0 where
   pub exact : IsExact p.chain
   pub none_asked : p.asked.items ≡ []
 
--- what holds of a pipe: nothing is said once memory was refused
+-- what holds of a pipe: nothing is said once memory ran out
 abbrev pub IsPipe : Inside → Type 0
 IsPipe p = p.refused ≡ false → IsWhole p

@@ -50,7 +50,7 @@ pub record IsReadOf (buffer : ℕ) (works : List Work) (source place : ℕ) (v w
   pub among : Contains (body_reads w.loop.body) r
   pub of : r.buffer ≡ buffer + source
 
--- loops that have made so many snapshots have made what the last turns of later ones read, or all
+-- loops that have made as many snapshots as `count` says have made what the last turns of later ones read, or all
 abbrev pub AreEnough : ℕ → List Work → (ℕ → ℕ) → Type 0
 AreEnough buffer works count =
     (source place : ℕ) (v w : Work) (r : Read) (last : ℕ) → IsReadOf buffer works source place v w r → count place ≡ suc last
@@ -84,12 +84,12 @@ abbrev pub AreFalling : (ℕ → Type 0) → ℕ → List ℕ → Type 0
 AreFalling is above [] = ⊤
 AreFalling is above (place ∷ places) = (place < above) × is place × AreFalling is place places
 
--- the first of the places that are asked for is the last loop, which has made so many snapshots; where none is, it has made one more
+-- the first of the places that are asked for is the last loop, which has made `given` snapshots; if there is none, it has made one more
 abbrev pub IsBegun : ℕ → ℕ → List Stage → List ℕ → Type 0
 IsBegun last given now [] = made_in now last ≡ suc given
 IsBegun last given now (place ∷ places) = (place ≡ last) × (made_in now last ≡ given)
 
--- the loops of a pipe that has given so many snapshots, while the next one is made
+-- the loops of a pipe that has given `given` snapshots, while the next one is made
 pub record ArePulled (buffer : ℕ) (works : List Work) (last given : ℕ) (starts : List ℤ) (asked : List ℕ) : Type 0 where
   pub standing : AreStanding works starts
   pub within : (k : ℕ) → made_in (stages_at works starts) k ≤ made_in (stages_from (suc given) buffer works) k

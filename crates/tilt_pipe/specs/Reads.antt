@@ -22,19 +22,19 @@ body_reads (instr ∷ block) = reads_of instr ++ body_reads block
 abbrev pub turn_point : LoopParts → ℤ → ℤ
 turn_point l start = ceil l.grid (start +ℤ pos 1)
 
--- the earlier of two ticks, where both are there
+-- the earlier of two ticks, if both are there
 abbrev pub earlier : Option ℤ → Option ℤ → Option ℤ
 earlier None b = b
 earlier (Some a) None = Some a
 earlier (Some a) (Some b) = Some (int_min a b)
 
--- the later of two ticks, where both are there
+-- the later of two ticks, if both are there
 abbrev pub later : Option ℤ → Option ℤ → Option ℤ
 later None b = b
 later (Some a) None = Some a
 later (Some a) (Some b) = Some (int_max a b)
 
--- the first tick of a buffer that these read at a grid point; none where none reads it
+-- the first tick of a buffer that these read at a grid point; none if none reads it
 abbrev pub first_tick : ℕ → ℤ → List Read → Option ℤ
 first_tick buffer point [] = None
 first_tick buffer point (r ∷ reads) =

@@ -16,7 +16,7 @@ position s = unwrap_or (last_end s.made) s.work.loop.lo
 abbrev pub is_at_work : Stage → Bool
 is_at_work s = s.work.used && int_lt (position s) s.work.loop.hi
 
--- the first tick of a buffer that the next turn of a loop reads, where it is at work
+-- the first tick of a buffer that the next turn of a loop reads, if it is at work
 abbrev pub next_read : ℕ → Stage → Option ℤ
 next_read buffer s = if is_at_work s then first_tick buffer (turn_point s.work.loop (position s)) (body_reads s.work.loop.body) else None
 
@@ -25,12 +25,12 @@ abbrev pub wanted : ℕ → List Stage → Option ℤ
 wanted buffer [] = None
 wanted buffer (s ∷ stages) = earlier (next_read buffer s) (wanted buffer stages)
 
--- how many of some snapshots end below a tick, and all of them where there is no tick: so many are let go
+-- how many of some snapshots end below a tick, or all of them if there is no tick: this is how many are let go
 abbrev pub let_go : Option ℤ → List Snapshot → ℕ
 let_go None list = length list
 let_go (Some tick) list = ended_below tick list
 
--- after so many snapshots the next one ends at a tick; where there is no tick, there is no next one
+-- after `n` snapshots the next one ends at a tick; if there is no tick, there is no next one
 abbrev pub IsNextEnd : ℕ → List Snapshot → Option ℤ → Type 0
 IsNextEnd n list None = length list ≤ n
 IsNextEnd n list (Some end) = (ended_below end list ≤ n) × (n < ended_below (end +ℤ pos 1) list)
@@ -44,7 +44,7 @@ abbrev pub rings_of : ℕ → List Stage → List (List Snapshot)
 rings_of buffer [] = []
 rings_of buffer (s ∷ stages) = kept_from (wanted buffer stages) s.made ∷ rings_of (suc buffer) stages
 
--- what the rings of a code's loops hold after so many snapshots were given out
+-- what the rings of a code's loops hold after `given` snapshots were given out
 abbrev pub rings_after : CodeParts → List (List Snapshot) → ℕ → List (List Snapshot)
 rings_after code inputs given = rings_of (length inputs) (stages_after code inputs given)
 
@@ -53,7 +53,7 @@ abbrev pub held : List (List Snapshot) → ℕ
 held [] = 0
 held (ring ∷ rings) = length ring + held rings
 
--- the most that they hold together, while at most so many snapshots were given out
+-- the most that they hold together, while at most `given` snapshots were given out
 abbrev pub most_held : CodeParts → List (List Snapshot) → ℕ → ℕ
 most_held code inputs zero = held (rings_after code inputs 0)
 most_held code inputs (suc given) = max (most_held code inputs given) (held (rings_after code inputs (suc given)))

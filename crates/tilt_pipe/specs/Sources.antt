@@ -15,7 +15,7 @@ pub record IsRead (reads : List Read) (buffer : ℕ) (r : Read) : Type 0 where
   pub among : Contains reads r
   pub of : r.buffer ≡ buffer
 
--- the first tick of a source is that of one of the reads, and the last one too
+-- the first tick of a source is the first tick of one of the reads, and the same holds of its last tick
 pub record IsSource (inputs : ℕ) (reads : List Read) (s : Source) : Type 0 where
   pub first : (r : Read) × IsRead reads (inputs + s.place) r × (s.first ≡ r.first)
   pub last : (r : Read) × IsRead reads (inputs + s.place) r × (s.last ≡ r.last)
@@ -33,7 +33,7 @@ pub record AreSources (inputs : ℕ) (reads : List Read) (sources : List Source)
   pub each : AllByRecursion (IsSource inputs reads) sources
   pub all : (r : Read) → Contains reads r → inputs ≤ r.buffer → IsCovered inputs sources r
 
--- a reader of the buffer of the loop at a place is a loop, and its first tick is that of one of its reads
+-- a reader of the buffer of the loop at a place is a loop, and its first tick is the first tick of one of its reads
 pub record IsReaderOf (inputs : ℕ) (loops : List LoopParts) (place : ℕ) (reader : Reader) : Type 0 where
   pub loop : LoopParts
   pub is : slice_get loops reader.place ≡ Some loop

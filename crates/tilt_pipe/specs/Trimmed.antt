@@ -9,7 +9,7 @@ use Rattle.tilt_pipe.specs.Rings.{IsNextEnd, let_go, wanted}
 use Rattle.tilt_pipe.specs.declared.chain.Reader.{Reader}
 use Rattle.tilt_pipe.specs.declared.read.Read.{Read}
 
--- a read of one of so many buffers, no further off than an offset goes and one tick more
+-- a read of one of `count` buffers, no further off than an offset goes and one tick more
 pub record IsNear (buffers : ℕ) (r : Read) : Type 0 where
   pub there : r.buffer < buffers
   pub first_low : (neg_ℤ OFFSET) ≤ℤ r.first
@@ -21,7 +21,7 @@ pub record IsNear (buffers : ℕ) (r : Read) : Type 0 where
 abbrev pub wanted_at : RingsParts → ℕ → Option ℤ
 wanted_at p place = wanted (length p.inputs + place) (drop (suc place) (stages_at (works_in p) (starts_of p.rings)))
 
--- the tick that a reader's next turn reads first, where it is at work
+-- the tick that a reader's next turn reads first, if it is at work
 abbrev pub read_next : RingsParts → Reader → Option Work → Option ℤ
 read_next p reader None = None
 read_next p reader (Some w) =
@@ -51,13 +51,13 @@ KeepsWanted p place =
     (w : Work) (r : RingParts) → slice_get (works_in p) place ≡ Some w → slice_get p.rings place ≡ Some r
     → r.forgotten ≤ let_go (wanted_at p place) (made_by r.start w.whole)
 
--- all is let go of it that ends below a tick, and all of it where there is no tick
+-- all that ends below a tick is let go of it, or all of it if there is no tick
 abbrev pub HasLetGo : RingsParts → ℕ → Option ℤ → Type 0
 HasLetGo p place tick =
     (w : Work) (r : RingParts) → slice_get (works_in p) place ≡ Some w → slice_get p.rings place ≡ Some r
     → let_go tick (made_by r.start w.whole) ≤ r.forgotten
 
--- the first snapshot that a ring holds ends at a tick; where there is no tick, it holds none
+-- the first snapshot that a ring holds ends at a tick; if there is no tick, it holds none
 abbrev pub HasNextEnd : RingsParts → ℕ → Option ℤ → Type 0
 HasNextEnd p place end =
     (w : Work) (r : RingParts) → slice_get (works_in p) place ≡ Some w → slice_get p.rings place ≡ Some r

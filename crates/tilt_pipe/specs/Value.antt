@@ -6,7 +6,7 @@ use Rattle.tilt_stream.specs.Snap.{Snapshot}
 use Rattle.tilt_pipe.specs.Rings.{rings_after}
 use Rattle.tilt_stream.specs.Stored.{coded_snapshots}
 
--- its code, the rows of the inputs, what each loop's ring holds, how many snapshots were given out, and whether memory was refused
+-- its code, the rows of the inputs, what each loop's ring holds, how many snapshots were given out, and whether memory ran out
 pub record PipeParts : Type 0 where
   pub code : CodeParts
   pub inputs : List (List Snapshot)
@@ -14,7 +14,7 @@ pub record PipeParts : Type 0 where
   pub given : ℕ
   pub refused : Bool
 
--- a pipe of a code after so many snapshots were given out, with all the memory that it asked for
+-- a pipe of a code after `given` snapshots were given out, with all the memory that it asked for
 abbrev pub pipe_after : CodeParts → List (List Snapshot) → ℕ → PipeParts
 pipe_after code inputs given =
     record { code = code; inputs = inputs; rings = rings_after code inputs given; given = given; refused = false }

@@ -143,7 +143,7 @@ impl Chain {
         self.points[place].unwrap()
     }
 
-    // Says where the next turn lies of a loop that is used.
+    // Sets the grid point of the next turn of a loop that is used.
     #[inline(always)]
     fn set_point(&mut self, place: usize)
         requires there { place < length self.old.rings.rings }

@@ -82,8 +82,7 @@ fn copy_rows(alloc: Global, rows: &Rows) -> Result<Rows, OutOfMemory>
     Ok(copy)
 }
 
-/// The inputs that have these rows, in the same order. No row is copied. It returns `OutOfMemory` if memory runs out, and for no other
-/// reason.
+/// The inputs that have these rows, in the same order. No row is copied. It returns `OutOfMemory` if memory runs out, and only then.
 pub fn share_rows(alloc: Global, rows: Vec<Rows>) -> Result<Vec<Input>, OutOfMemory>
     ensures { IfOk result (λ inputs. inputs.items ≡ rows.items) }
 {

@@ -16,8 +16,7 @@ use tilt_code::Code;
 use tilt_stream::Snap;
 
 /// A code that runs on the rows of its inputs, snapshot by snapshot. For each loop it also keeps a ring, the state of its turns, and its
-/// position. A loop makes a snapshot only if a later one reads it or it is asked for as output, and what no next turn reads is let go at
-/// once.
+/// position. A loop makes a snapshot only if a later one reads it or it is asked for as output. What no next turn reads is let go at once.
 #[derive(Drop)]
 pub struct Pipe {
     chain: Chain,

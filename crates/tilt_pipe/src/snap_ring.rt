@@ -9,8 +9,7 @@ use std::alloc::{AllocError as OutOfMemory, Global};
 use std::marker::Model;
 use tilt_stream::Snap;
 
-/// Snapshots that touch, with times in `-WIDE..=WIDE`, in a ring that grows to twice its size when it is full. The first ones can be let
-/// go.
+/// Snapshots that touch, with times in `-WIDE..=WIDE`, in a ring that doubles its size when it is full. The first ones can be let go.
 #[derive(Drop)]
 pub struct SnapRing {
     ring: HeapCircularBuffer<Snap>,

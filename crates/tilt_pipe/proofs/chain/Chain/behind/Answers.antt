@@ -1,4 +1,4 @@
--- The sources that are looked at, and those that were passed before, are all that the loop reads.
+-- The sources that are checked, and those that were passed before, are all that the loop reads.
 use Rattle.std.proofs.Common.{◌≡◌, ◌∙◌, FitsSigned, to_z, of_z, w64, sym, subst, rules}
 use Rattle.std.proofs.lemmas.Int.{to_z-of_z}
 use Rattle.std.proofs.lemmas.Option.{get_or_from_slice_get, same_Some, slice_get_within}

@@ -1,4 +1,4 @@
--- The readers are looked at one after the other.
+-- The readers are checked one after the other.
 use Rattle.tilt_pipe.specs.Sources.{IsReaderOf}
 use Rattle.std.proofs.Common.{◌<◌, ◌≤◌, length, Some, refl, arith, rules, FitsSigned, w64, pos, ◌+ℤ◌}
 use Rattle.std.proofs.lemmas.Int.{to_z-of_z}
