@@ -40,8 +40,7 @@ pub record IsKept (first cut : ℤ) (row : Snapshot) : Type 0 where
   pub before : row.start <ℤ cut
   pub cell : IsCell row.value
 
--- the last end is the end of the last row, if a row is kept; otherwise there was no row, or one that ended before the first tick that is
--- kept
+-- the last end is the end of the last row that is kept. If none is, there was no row, or one that ended before the first kept tick
 abbrev pub IsLastEnd : ℤ → ℤ → Option ℤ → Option ℤ → Type 0
 IsLastEnd first cut (Some end) last = last ≡ Some end
 IsLastEnd first cut None None = ⊤
