@@ -61,7 +61,7 @@ true_has cut [] h = let none = h.1 in absurd (omega arith)
 true_has cut (kept ∷ series) h =
     true_head kept cut series (Contains-cons_cases kept.cut (cuts_kept series) cut h) (true_has cut series)
 
--- whether it is the least of them, where there are any
+-- whether it is the least of them, if there are any
 
 cons_some : (n : ℤ) (numbers : List ℤ) → n ∷ numbers ≢ []
 cons_some n numbers e = cc e
@@ -70,7 +70,7 @@ no_length : (n : ℕ) (t : Bool) → (suc n == 0) ≡ t → t ≡ false
 no_length n true e = let same = eqb-true (suc n) 0 e in absurd (omega arith)
 no_length n false e = refl
 
--- where there is a series, the test of the others counts
+-- if there is a series, the test of the others counts
 some_series : (kept : KeptParts) (series : List KeptParts) (t : Bool) → (length (kept ∷ series) == 0 || t) ≡ t
 some_series kept series t = ap (λ (b : Bool). b || t) (no_length (length series) (length (kept ∷ series) == 0) refl)
 

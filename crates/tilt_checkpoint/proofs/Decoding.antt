@@ -74,7 +74,7 @@ valid-read c bytes h spelled small =
     (all_fewer version (2 ^ 63) c.series few) in
     ap (λ (n : ℕ). body_at version frame n (rest_of version c)) (sym h.counted) ∙ again
 
--- the query's lines and those after them are read where bytes spell a checkpoint
+-- the query's lines and the lines after them are read if bytes spell a checkpoint
 pub title-read : (c : CheckpointParts) (bytes : List ℕ) → (spelled : InVersion bytes c)
     → version_at bytes ≡ Some (spelled.version, query_lines c.query ++ rest_of spelled.version c)
 title-read c bytes spelled = ap version_at spelled.is ∙ version-again spelled.version (query_lines c.query ++ rest_of spelled.version c)

@@ -22,7 +22,7 @@ reached : (first : ℤ) (numbers : List ℤ) (least : ℤ) → Contains numbers 
 reached first numbers least has (inl same) = subst (Contains numbers) (sym same) has
 reached first numbers least has (inr is) = is
 
--- where the number is one of the others, it is the least of those
+-- if the number is one of the others, it is the least of them
 pub least_of-is : (first : ℤ) (numbers : List ℤ) → Contains numbers first → IsLeast (least_of first numbers) numbers
 least_of-is first numbers has =
     let least = least_of first numbers in

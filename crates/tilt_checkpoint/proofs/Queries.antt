@@ -61,7 +61,7 @@ query-was bytes count text left e =
           ∙ (λ i. codes "query " ++ (decimal ((p.0 i).0) ++ 10 ∷ ((p.0 i).1 ++ p.1 i)));
     }
 
--- lines that are the printing of a query with so many statements are those that are spelled
+-- lines that are the printing of a query with `count` statements are the lines that are spelled
 pub lines-spelled : (bytes : List ℕ) (count : ℕ) (text left : List ℕ) (query : List StatementTree)
     → query_at bytes ≡ Some ((count, text), left)
     → length query ≡ count → text ≡ query_text query → bytes ≡ query_lines query ++ left

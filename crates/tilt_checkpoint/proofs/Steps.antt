@@ -22,13 +22,13 @@ pub times_refused : {A : Type 0} (step : A → Option A) (count done : ℕ) (x :
 times_refused step count done x more e =
     times_first step count done x more ∙ ap (λ o. o >>= times step (count - (done + 1))) e
 
--- where a part is bad, so is the whole
+-- if a part is bad, so is the whole
 pub bad : {A B : Type 0} (fault : CheckpointFault) (part : Option A) (whole : Option B) → IsBad part fault
     → (part ≡ None → whole ≡ None) → IsBad whole fault
 bad BadCheckpoint part whole h none = none h
 bad OutOfMemory part whole h none = tt
 
--- where a step is bad, so are all
+-- if a step is bad, so are all
 pub times_bad : {A : Type 0} (step : A → Option A) (count done : ℕ) (x start : A) (fault : CheckpointFault) → done < count
     → times step (count - done) x ≡ times step count start → IsBad (step x) fault → IsBad (times step count start) fault
 times_bad step count done x start fault more same h =

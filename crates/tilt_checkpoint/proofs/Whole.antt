@@ -47,13 +47,13 @@ accepted-or-not query parsed (Ok core) well =
 accepted-or-not query parsed (Err fault) ill =
     inr (λ is. let both : Err fault ≡ Ok (core_of query) = sym ill ∙ is.well_formed in cc)
 
--- a text is the printing of an accepted query of so many statements
+-- a text is the printing of an accepted query of `count` statements
 record IsAsked (count : ℕ) (text : List ℕ) (query : List StatementTree) : Type 0 where
   accepted : IsAccepted query
   counted : length query ≡ count
   printed : text ≡ query_text query
 
--- it is that of one, or of none
+-- it is the printing of one, or of none
 abbrev Asks : ℕ → List ℕ → Type 0
 Asks count text = ((query : List StatementTree) × IsAsked count text query) ⊎ ((query : List StatementTree) → ¬ (IsAsked count text query))
 
@@ -104,7 +104,7 @@ SpellOrNot bytes = ((c : CheckpointParts) × IsCheckpoint c × Spells bytes c) �
 
 module _ (bytes : List ℕ) (small : length bytes < 2 ^ 63) where
   module _ (version : Version) (rest : List ℕ) (told : version_at bytes ≡ Some (version, rest)) where
-    -- what is read of the query's lines where the bytes spell a checkpoint
+    -- what is read of the query's lines if the bytes spell a checkpoint
     lines-of : (c : CheckpointParts) → IsCheckpoint c → (v : InVersion bytes c)
         → query_at rest ≡ Some ((length c.query, query_text c.query), rest_of v.version c)
     lines-of c valid v = ap query_at (title-told c bytes version rest told v).1 ∙ query-again c.query (rest_of v.version c) valid.query.parsed

@@ -1,4 +1,4 @@
--- The code of a plan keeps what a code keeps, where its constants are numbers of 64 bits.
+-- The code of a plan keeps what a code keeps, if its constants are 64-bit numbers.
 use Rattle.std.proofs.Common.{◌≡◌, ℕ, suc, ◌+◌, ◌*◌, ◌<◌, ◌≤◌, ℤ, pos, ◌+ℤ◌, ◌-ℤ◌, ◌≤ℤ◌, ◌<ℤ◌, Bool, true, false, List, [], ◌∷◌, length, map, get_or, Option, Some, refl, sym, ap, ◌∙◌, arith}
 use Rattle.std.proofs.Common.{subst, IsTrue}
 use Rattle.std.specs.Prelude.{⊤, neg_ℤ}

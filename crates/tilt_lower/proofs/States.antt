@@ -144,7 +144,7 @@ module _ (query : CoreParts) (margins : MarginsParts) (lo hi : ℤ) (used : List
       (h.0, lowered-more (suc count) ls l h.1 (subst (λ (c : ℕ). IsLowered c l) at one))
 
   module _ (inputs_bs : List Stream) (many : length inputs_bs ≡ inputs) where
-    -- the buffers after so many loops
+    -- the buffers after these loops
     abbrev pub buffers : List PlannedLoop → List Stream
     buffers front = with_loops inputs_bs (map lower front)
 

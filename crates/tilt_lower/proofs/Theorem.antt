@@ -42,7 +42,7 @@ use Rattle.tilt_core.specs.CoreTree.{Definition}
 use Rattle.tilt_core.specs.Meaning.{source_of, with_definitions, meaning}
 use Rattle.tilt_core.specs.Needs.{Need, no_margin, needs_from, needs}
 
--- the stretch of the emitted definition is that of the output
+-- the stretch of the emitted definition is the stretch of the output
 output_stretch : (over : Option Span) (lo hi : ℤ) → LiesWithin over lo hi
     → (let s = cut_down over (lo -ℤ pos 0) (hi +ℤ pos 0) in s ≡ record { lo = lo; hi = hi; empty = false })
 output_stretch None lo hi within = absurd within
@@ -208,7 +208,7 @@ module _ (query : CoreParts) (margins : MarginsParts) (lo hi : ℤ) (used : List
   emitted-need : need_at all (inputs + place) ≡ Some no_margin
   emitted-need = need_at-definition inputs defs place ∙ last-need inputs place defs one_emitted
 
-  -- the stretch of its loop is that of the output
+  -- the stretch of its loop is the stretch of the output
   stretch-last : (t : FusedTree) → LiesWithin (domain_of defs) lo hi
       → lower (record { def = place; body = t }) ≡ loop_on (record { lo = lo; hi = hi; empty = false }) buffer (get_or defs place no_definition) t
   stretch-last t within =

@@ -1,4 +1,4 @@
--- A part is finished where as many of its snapshots were taken as there are.
+-- A part is finished if as many of its snapshots were taken as there are.
 use Rattle.std.proofs.Common.{option_map, slice_get, ◌-◌, ◌≡◌, ◌<◌, ℕ, zero, suc, ℤ, true, false, List, [], ◌∷◌, length, take, Option, Some, None, ap, ◌∙◌, arith}
 use Rattle.std.specs.Option.{option_map_or}
 use Rattle.std.specs.Ordering.{int_eq}

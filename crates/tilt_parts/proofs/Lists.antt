@@ -35,7 +35,7 @@ set-same [] i x is = refl
 set-same (y ∷ ys) zero x is = ap (λ z. z ∷ ys) (sym (same_Some y x is))
 set-same (y ∷ ys) (suc i) x is = ap (λ zs. y ∷ zs) (set-same ys i x is)
 
--- what a call gave where it went well, or didn't
+-- what a call gave if it went well, or didn't
 pub on_ok : {X Y : Type 0} (result : Result (Unit {0}) AllocError) → (X → Y) → OnOk result X → OnOk result Y
 on_ok (Ok u) f x = f x
 on_ok (Err e) f x = tt
@@ -96,7 +96,7 @@ module _ (front list rest next : List Snapshot) (last first : Snapshot) (ends : 
   pub joint-parted : joint list next ≡ (front ++ at-joint last first ∷ []) ++ rest
   joint-parted = joint_is ∙ sym (append_assoc front (at-joint last first ∷ []) rest)
 
--- where nothing comes after the cut
+-- if nothing comes after the cut
 pub joint-none : (last : Option Snapshot) (list front : List Snapshot)
     → MatchOption last ((list ≡ []) × (front ≡ [])) (λ last. list ≡ front ++ last ∷ []) → front ≡ joint list []
 joint-none None list front is = rw (is.0, is.1) refl

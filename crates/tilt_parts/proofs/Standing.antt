@@ -1,4 +1,4 @@
--- Where parts stand: after a step, and once all of them are finished.
+-- The state of parts: after a step, and once all of them are finished.
 use Rattle.std.proofs.Common.{◌≡◌, ◌≢◌, ◌<◌, ◌≤◌, ◌<ℤ◌, ◌≤ℤ◌, ◌-ℤ◌, ◌++◌, ◌∙◌, ℕ, suc, ℤ, pos, Bool, true, false, if◌then◌else◌, List, [], ◌∷◌, length, take, min, Some, Result, Ok, Err}
 use Rattle.std.proofs.Common.{inl, inr, refl, sym, ap, subst, arith}
 use Rattle.std.specs.List.{AllByRecursion}
@@ -95,7 +95,7 @@ module _ (query : AcceptedParts) (rows : List (List Snapshot)) (place : ℕ) (st
       (ap (λ (l : List Snapshot). last_end l) (sym (taken-all count))
       ∙ ends-there stretch.end (last_end (take count (run_of (code_on query stretch) rows))) done)
 
-  -- and is where all were taken
+  -- and is finished if all were taken
   all-ends : (list : List Snapshot) → Fill stretch.start stretch.end list → last_end list ≡ Some stretch.end
   all-ends [] fill = let same : stretch.start ≡ stretch.end = fill in absurd (omega (arith, ints))
   all-ends (s ∷ ss) fill = fill-ends stretch.start stretch.end s ss fill
@@ -110,7 +110,7 @@ module _ (query : AcceptedParts) (rows : List (List Snapshot)) (place : ℕ) (st
   pub count-taken : (count : ℕ) → count ≤ length (all_on query rows stretch) → length (take count (run_of (code_on query stretch) rows)) ≡ count
   count-taken count most = length-take-le count (run_of (code_on query stretch) rows) (rw means most)
 
-  -- so that where it is finished all were taken
+  -- so that if it is finished, all were taken
   pub whole-taken : (count : ℕ) → count ≤ length (all_on query rows stretch) → is_finished (part_after stretch (code_on query stretch) rows count) ≡ true
       → take count (run_of (code_on query stretch) rows) ≡ all_on query rows stretch
   whole-taken count most done =

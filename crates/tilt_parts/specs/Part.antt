@@ -27,8 +27,7 @@ part_after stretch code rows count =
 abbrev pub is_finished : PartValue → Bool
 is_finished part = option_map_or (λ end. int_eq end part.stretch.end) (last_end part.taken) false
 
--- what a part keeps: what was taken is the first snapshots of its code's run, and if memory didn't run out its pipe has given out just
--- these
+-- what a part keeps: what was taken is the first snapshots of its code's run, and if memory didn't run out its pipe gave out just these
 pub record IsPart (part : PartValue) : Type 0 where
   pub code : IsCode part.pipe.code
   pub taken : part.taken ≡ take (length part.taken) (run_of part.pipe.code part.pipe.inputs)

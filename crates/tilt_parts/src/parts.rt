@@ -167,8 +167,7 @@ impl Parts {
         self.parts[part].taken.len() as u64
     }
 
-    /// What was taken from all parts, joined at the cuts: `None` exactly if a part isn't finished. It requires that no step ran out of
-    /// memory.
+    /// What was taken from all parts, joined at the cuts: `None` exactly if a part isn't finished. No step may have run out of memory.
     pub fn joined(&self) -> Result<Option<SnapList>, OutOfMemory>
         requires granted { AllByRecursion (λ part. part.refused ≡ false) self.now }
         ensures finished { IfOk result (λ found. MatchOption found (AllByRecursion (λ part. is_finished part ≡ true) self.now → ⊥)

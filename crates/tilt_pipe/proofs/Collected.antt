@@ -36,7 +36,7 @@ touches-at (x ∷ y ∷ xs) (suc zero) s touch is =
     λ end last. sym (same_Some x.end end last) ∙ touch.0 ∙ ap (λ (n : Snapshot). n.start) (same_Some y s is)
 touches-at (x ∷ y ∷ xs) (suc (suc place)) s touch is = touches-at (y ∷ xs) (suc place) s touch.1 is
 
--- of a code's run so many snapshots were taken, and this one comes next
+-- `given` snapshots of a code's run were taken, and this one comes next
 module _ (code : CodeParts) (inputs : List (List Snapshot)) (list : List Snapshot) (given : ℕ) (s : Snapshot)
     (is : IsCode code) (so_far : list ≡ take given (run_of code inputs)) (next : slice_get (run_of code inputs) given ≡ Some s) where
   pub next-touches : ForSome (last_end list) (λ end. end ≡ s.start)
@@ -53,7 +53,7 @@ pub given-out : (pipe : PipeParts) (code : CodeParts) (inputs : List (List Snaps
     → found ≡ slice_get (run_of pipe.code pipe.inputs) pipe.given → slice_get (run_of code inputs) pipe.given ≡ found
 given-out pipe code inputs found code_is inputs_is is = sym (rw (code_is, inputs_is) at is)
 
--- where it gave out nothing more, all were given out
+-- if it gave out nothing more, all were given out
 pub nothing-left : (all : List Snapshot) (place : ℕ) (found : Option Snapshot) → slice_get all place ≡ found → ((s : Snapshot) → found ≡ Some s → ⊥)
     → take place all ≡ all
 nothing-left all place None is none = take_all place all (past-all all place is)

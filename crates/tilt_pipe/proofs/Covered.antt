@@ -167,7 +167,7 @@ sources-told p place w sources of reached =
     let it = at-contains sources covered.source covered.among in
     told-one p point covered.source.last r covered.source.place covered.of covered.last (reached it.0 covered.source it.1) source v is found)
 
--- where one has made less, it is asked for first
+-- if one has made less, it is asked for first
 pub source-behind : (p : RingsParts) (place : ℕ) (w : Work) (sources : List Source) (number : ℕ) (s : Source) → IsCode p.code → AreRings p
     → slice_get (works_in p) place ≡ Some w → AreSources (length p.inputs) (body_reads w.loop.body) sources
     → slice_get sources number ≡ Some s → IsLate p s.place (turn_point w.loop (start_at p place) +ℤ s.last) → IsBehind p place w s.place

@@ -19,7 +19,7 @@ use Rattle.tilt_pipe.specs.declared.read.Read.{Read}
 use Rattle.tilt_pipe.proofs.Wanted.{turn_point-rises}
 use Rattle.tilt_pipe.specs.Pulled.{AreEnough, AreFilled, IsFilled, made_in, start_after}
 
--- where so many of them end
+-- where the first `n` of them end
 abbrev pub ended : ℤ → List Snapshot → ℕ → ℤ
 ended lo whole n = unwrap_or (last_end (take n whole)) lo
 
@@ -94,7 +94,7 @@ begun-reaches lo hi tick (s ∷ ss) h =
     let outside : int_lt s.start tick ≡ false = grind (arith, ints) in
     rw outside (λ before. omega (arith, ints)))
 
--- the later of two ticks is where both are
+-- the later of two ticks is at most a tick if both are
 later-up : (at : ℤ) (a b : Option ℤ) → IsUpTo at a → IsUpTo at b → IsUpTo at (later a b)
 later-up at None b h k = k
 later-up at (Some a) None h k = h
@@ -105,7 +105,7 @@ later-both at None b h = (tt, h)
 later-both at (Some a) None h = (h, tt)
 later-both at (Some a) (Some b) h = (omega (arith, ints, clamps), omega (arith, ints, clamps))
 
--- the last tick of some reads is where that of each is
+-- the last tick of some reads is at most a tick if the last tick of each is
 last_tick-up : (buffer : ℕ) (point at : ℤ) (reads : List Read)
     → ((r : Read) → Contains reads r → r.buffer ≡ buffer → (point +ℤ r.last) ≤ℤ at) → IsUpTo at (last_tick buffer point reads)
 last_tick-up buffer point at [] each = tt
@@ -136,7 +136,7 @@ last_tick-each buffer point at (x ∷ reads) r up (suc k, within, is) of =
     by true both = (later-both at (Some (point +ℤ x.last)) (last_tick buffer point reads) both).1
     by false rest = rest
 
--- what is asked of a buffer is where what each turn reads is
+-- what is asked of a buffer is at most a tick if what each turn reads is
 pub asked-up : (buffer : ℕ) (at : ℤ) (stages : List Stage)
     → ((k : ℕ) (s : Stage) (tick : ℤ) (r : Read) → slice_get stages k ≡ Some s → last_start s.made ≡ Some tick
     → Contains (body_reads s.work.loop.body) r → r.buffer ≡ buffer → (turn_point s.work.loop tick +ℤ r.last) ≤ℤ at)
@@ -164,7 +164,7 @@ asked-each buffer at (x ∷ stages) (suc k) s tick r up is starts among of =
     asked-each buffer at stages k s tick r (later-both at (read_by_turn buffer x.work.loop (last_start x.made)) (asked buffer stages) up).1
     is starts among of
 
--- a loop that has made so many snapshots
+-- a loop that has made `count` snapshots
 abbrev pub stage_of : ℕ → Work → Stage
 stage_of count w = record { work = w; made = take count w.whole }
 
@@ -172,7 +172,7 @@ stage_of count w = record { work = w; made = take count w.whole }
 abbrev pub ArePrefixes : List Work → List Stage → Type 0
 ArePrefixes works stages = (k : ℕ) → slice_get stages k ≡ option_map (stage_of (made_in stages k)) (slice_get works k)
 
--- so they are the same where they have made as many
+-- so they are the same if they have made as many
 same-at : {A : Type 0} (xs ys : List A) → ((k : ℕ) → slice_get xs k ≡ slice_get ys k) → xs ≡ ys
 same-at [] [] each = refl
 same-at [] (y ∷ ys) each = absurd (cc (each 0))
@@ -223,7 +223,7 @@ has-turned works stages k s tick filled prefixes is starts = by (slice_get works
         subst (λ (x : Stage). HasTurned works stages k x tick) (sym stage)
         (record { last = last; is = of; count = count; starts = same_Some (start_after w last) tick both })
 
--- after so many snapshots each has made the first ones of its buffer
+-- after `given` snapshots each has made the first ones of its buffer
 pub star-prefixes : (given buffer : ℕ) (works : List Work) → ArePrefixes works (stages_from given buffer works)
 star-prefixes given buffer [] k = refl
 star-prefixes given buffer (w ∷ []) zero =

@@ -67,7 +67,7 @@ reads-from p reader w is = ap (read_next p reader) is ∙ by (w.used && int_lt (
     by true = refl
     by false = refl
 
--- the point from where the loops stand
+-- the point from the positions of the loops
 abbrev point_of : List ℤ → ℕ → Work → Option ℤ
 point_of starts k w = if w.used && int_lt (get_or starts k (pos 0)) w.loop.hi then Some (turn_point w.loop (get_or starts k (pos 0))) else None
 

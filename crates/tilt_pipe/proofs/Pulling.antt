@@ -301,7 +301,7 @@ module _ (given : ℕ) (p q : RingsParts) (asked : List ℕ) (place : ℕ) (h : 
       rw (t.code, t.inputs, t.starts, ← falls, last_or-pushed 0 asked place)
       (less-left left (suc (length (works_in p))) (last_or 0 asked) place (omega arith))
 
-  -- where it was the only one, its snapshot is the next one of the run
+  -- if it was the only one, its snapshot is the next one of the run
   pub turn-given : asked ≡ [] → Some s ≡ slice_get (run_of p.code p.inputs) given
   turn-given none =
       let begun = rw none at h.begun in
@@ -322,7 +322,7 @@ rings-stand p code rings =
           rw it.start (record { filled = filled k w is; fill = it.kept.ring.fill; within = it.kept.ring.within });
     }
 
--- where the last loop is at the end of its stretch, the run has no more snapshots
+-- if the last loop is at the end of its stretch, the run has no more snapshots
 pub none-left : (p : RingsParts) (l : HasLast p.code p.inputs) → AreStanding (works_in p) (starts_of p.rings)
     → l.work.loop.hi ≤ℤ start_at p (length p.code.loops - 1) → None ≡ slice_get (run_of p.code p.inputs) (given_in p)
 none-left p l standing ended =

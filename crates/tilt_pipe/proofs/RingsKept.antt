@@ -248,7 +248,7 @@ may-keep p place w b r s code are of found is none =
       };
     }
 
--- and so they do where its first one is let go
+-- and so they do if its first one is let go
 pub later-at : (p : RingsParts) (place : ℕ) (w : Work) (r : RingParts) → IsAt p place w r → 0 < length r.held
     → AreRings (with_ring p place (later_ring r))
 later-at p place w r it some = record {

@@ -28,7 +28,7 @@ use Rattle.tilt_pipe.specs.declared.chain.Reader.{Reader}
 pub holders-within : (c : Chain) (k : ℕ) → MayLetGo c → k < length c.rings.rings → k < length c.holders.items
 holders-within c k may there = omega (arith, may.holders.many, may.turns.many, turns-within c.rings c.turns.items k may.turns there)
 
--- who holds a ring, as it is looked up
+-- the holder of a ring, as it is found
 pub record IsHolding (c : Chain) (k : ℕ) (reader : Reader) : Type 0 where
   pub is : slice_get c.holders.items k ≡ Some (Some reader)
   pub own : IsReaderOf (length c.rings.inputs) c.rings.code.loops k reader
@@ -39,11 +39,11 @@ found-holder c k x reader may there at is =
     let found = slice_get_read c.holders.items (length c.holders.items) k x refl (holders-within c k may there) at ∙ ap Some is in
     record { is = found; own = may.holders.among k reader found }
 
--- where who holds it reads the first snapshot, a ring is settled
+-- if its holder reads the first snapshot, a ring is settled
 pub held-settled : (c : Chain) (k : ℕ) (x : Option Reader) → slice_get c.holders.items k ≡ Some x → IsHeldBy c.rings k x → IsSettled c k
 held-settled c k x at held y is = subst (IsHeldBy c.rings k) (same_Some x y (sym at ∙ is)) held
 
--- where it holds none, too
+-- also if it holds none
 pub none-settled : (c : Chain) (k : ℕ) → HasLetGo c.rings k None → IsSettled c k
 none-settled c k gone x at = gone-less c.rings k (holder_next c.rings x) None tt gone
 
@@ -59,7 +59,7 @@ settled-gone c k code are may there settled =
     by (Some reader) at =
         reader-later c.rings k reader code are (may.holders.among k reader at)
 
--- where nothing goes
+-- if nothing goes
 pub none-goes : (c : Chain) (k : ℕ) → AreRings c.rings → MayLetGo c → LetsGo c c k
 none-goes c k are may = record {
   may = may;
@@ -71,7 +71,7 @@ none-goes c k are may = record {
   listed = λ j n x at. at;
 }
 
--- where the first snapshot of one ring goes
+-- if the first snapshot of one ring goes
 pub one-goes : (c : Chain) (k : ℕ) (rings : RingsParts) → MayLetGo c → IsReleased c.rings rings k
     → LetsGo c (record { rings = rings; turns = c.turns; points = c.points; holders = c.holders; held = c.held }) k
 one-goes c k rings may after = record {
@@ -128,7 +128,7 @@ each-list held place j new Is within own is =
       | inr other ↦ subst (Is j) (sym (ap rings_listed (slice_get-set_other held place j new other))) is
     ]
 
--- where a reader holds a ring from then on, which is then in the list of its loop
+-- if a reader holds a ring from then on, which is then in the list of its loop
 module _ (c : Chain) (k : ℕ) (reader : Reader) (new : Vec ℕ) (are : AreRings c.rings) (may : MayLetGo c)
     (there : k < length c.rings.rings) (holder : IsHolder c k reader) (among : Contains new.items k)
     (added : (new.items ≡ held_in c.held.items reader.place) ⊎ (new.items ≡ held_in c.held.items reader.place ++ k ∷ [])) where
@@ -224,7 +224,7 @@ module _ (c : Chain) (k : ℕ) (reader : Reader) (new : Vec ℕ) (are : AreRings
       (slice_get-set_same c.holders.items k (Some reader) (holders-within c k may there))
       holder.holds
 
--- what is settled stays so where another ring lets go
+-- what is settled stays so if another ring lets go
 pub settled-too : (c d : Chain) (place k : ℕ) → LetsGo c d place → IsSettled d place → IsSettled c k → IsSettled d k
 settled-too c d place k e settled old =
     elim (cases_eq k place) as (λ _. IsSettled d k) [
@@ -234,7 +234,7 @@ settled-too c d place k e settled old =
           (e.more k (holder_next c.rings x) (old x (sym (e.others k other) ∙ at)))
     ]
 
--- one ring less is left where the last one in the list lets go
+-- one ring less is left if the last one in the list lets go
 pub left-less : (c d : Chain) (place number ring : ℕ) → AreLeft c place (number + 1) → slice_get (held_in c.held.items place) number ≡ Some ring
     → LetsGo c d ring → IsSettled d ring → AreLeft d place number
 left-less c d place number ring are at e settled =
@@ -253,7 +253,7 @@ left-less c d place number ring are at e settled =
       ];
     }
 
--- and where it is taken off, which the loop doesn't hold
+-- and if it is taken off, which the loop doesn't hold
 module _ (c : Chain) (place number ring : ℕ) (new : Vec ℕ) (are : AreLeft c place number) (at : slice_get (held_in c.held.items place) number ≡ Some ring)
     (is : new.items ≡ swap_remove (held_in c.held.items place) number ring)
     (other : (reader : Reader) → slice_get c.holders.items ring ≡ Some (Some reader) → reader.place ≢ place) where
@@ -325,7 +325,7 @@ module _ (c : Chain) (place number ring : ℕ) (new : Vec ℕ) (are : AreLeft c 
     ];
   }
 
--- where none is left, all are settled
+-- if none is left, all are settled
 pub left-none : (c : Chain) (place : ℕ) → IsCode c.rings.code → AreLeft c place 0 → IsChain c
 left-none c place code are =
     let settled : (k : ℕ) → k < length c.rings.rings → IsSettled c k = λ k below.

@@ -53,7 +53,7 @@ pub end-made : (lo start : ℤ) (made : List Snapshot) → Fill lo start made �
 end-made lo start [] h = h
 end-made lo start (s ∷ made) h = ended-after lo s made ∙ end-made s.end start made h.2
 
--- a loop before the end of its stretch has reached a tick where it has reached that or the end
+-- a loop before the end of its stretch has reached a tick if it has reached that or the end
 pub below_end : (tick start hi : ℤ) → (hi ≤ℤ start) ⊎ (tick ≤ℤ start) → start <ℤ hi → tick ≤ℤ start
 below_end tick start hi (inl ended) some = absurd (omega (arith, ints))
 below_end tick start hi (inr reached) some = reached
@@ -151,7 +151,7 @@ pub next-made : (xs : List Stream) (l : LoopParts) (start : ℤ) → IsTimed l �
     → slice_get (turns xs l) (length (made_by start (turns xs l))) ≡ Some (turn (body_of xs l) l.grid l.hi start)
 next-made xs l start timed stands before = turn-next (body_of xs l) l.grid timed.grid l.lo l.hi start (turns xs l) refl stands before
 
--- the null snapshot for the rest of a stretch, where there is a rest
+-- the null snapshot for the rest of a stretch, if there is a rest
 pub gap-some : (start hi : ℤ) → start <ℤ hi → gap_before (Some start) hi ≡ record { start = start; end = hi; value = None } ∷ []
 gap-some start hi some = let test : int_lt start hi ≡ true = grind (arith, ints) in rw test refl
 

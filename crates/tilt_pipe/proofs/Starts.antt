@@ -106,7 +106,7 @@ used-by : (buffer : ℕ) (works : List Work) → 0 < length works → is_used bu
 used-by buffer [] some = absurd (omega arith)
 used-by buffer (w ∷ works) some = refl
 
--- the last loop is used, and an earlier one that has a reader, where all later loops have said what they read
+-- the last loop is used, and so is an earlier one that has a reader, if all later loops have said what they read
 pub last-used : (p : RingsParts) (place : ℕ) (w : Work) → slice_get (works_in p) place ≡ Some w → suc place ≡ length p.code.loops → w.used ≡ true
 last-used p place w is end =
     (work-is p.code p.inputs place w is).used
@@ -252,7 +252,7 @@ empty-push [] list none are (suc place) = refl
 empty-push (x ∷ lists) list none are zero = are zero
 empty-push (x ∷ lists) list none are (suc place) = empty-push lists list none (λ n. are (suc n)) place
 
--- where nobody holds a ring
+-- if nobody holds a ring
 none-found : (count k : ℕ) (x : Option Reader) → slice_get (replicate count None) k ≡ Some x → None ≡ x
 none-found zero k x at = absurd (cc at)
 none-found (suc count) zero x at = same_Some None x at

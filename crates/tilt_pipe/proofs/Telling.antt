@@ -185,8 +185,7 @@ same-is tick a b is = record {
   next = λ t above clear. ap (λ (list : List Snapshot). mark_at list t) is;
 }
 
--- what a turn reads gives the same as the whole buffer: everywhere if the loop is at the end of its stretch, else up to a tick that it
--- reached
+-- what a turn reads gives the same as the whole buffer: everywhere if the loop is at the end of its stretch, else up to a tick it reached
 pub made-same : (lo hi start tick : ℤ) (whole : List Snapshot) → Fill lo hi whole → Fill lo start (made_by start whole)
     → (hi ≤ℤ start) ⊎ (tick ≤ℤ start) → IsSameUpTo tick (made_by start whole ++ gap_before (Some start) hi) whole
 made-same lo hi start tick whole h stands reached =

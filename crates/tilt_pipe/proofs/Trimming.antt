@@ -63,7 +63,7 @@ next-same : (p q : RingsParts) (reader : Reader) (w : Option Work) → start_at 
 next-same p q reader None same = refl
 next-same p q reader (Some w) same = ap (λ (t : ℤ). if w.used && int_lt t w.loop.hi then Some (turn_point w.loop t +ℤ reader.first) else None) same
 
--- what holds of a loop and its ring, where the ring of one is another
+-- what holds of a loop and its ring, if the ring of one is another
 ring-set : (p : RingsParts) (place k : ℕ) (w : Work) (r ring : RingParts) (Is : Work → RingParts → Type 0)
     → slice_get (works_in p) place ≡ Some w → slice_get p.rings place ≡ Some r
     → (k ≢ place → (v : Work) (q : RingParts) → slice_get (works_in p) k ≡ Some v → slice_get p.rings k ≡ Some q → Is v q)
@@ -212,7 +212,7 @@ turned-order : (p : RingsParts) (place : ℕ) (w : Work) (b : Bool) (r : RingPar
 turned-order p place w b r s t =
     (Fill-AreSnapshots w.loop.lo s.end (made_by s.end w.whole) t.kept.low (omega (arith, ints, t.next.within, t.kept.high)) t.next.fill).in_order
 
--- where the ring held a snapshot, that one is wanted still, and no more is let go
+-- if the ring held a snapshot, that one is wanted still, and no more is let go
 let_go-still : (first : Option ℤ) (from limit : ℤ) (list more : List Snapshot) → InOrder from limit list → InOrder from limit (list ++ more)
     → let_go first list < length list → let_go first (list ++ more) ≡ let_go first list
 let_go-still None from limit list more before after few = absurd (omega arith)
@@ -246,7 +246,7 @@ turned-still p place k w b r s tick t some gone =
     ring-set p place k w r (kept_ring b r s) (λ v q. let_go tick (made_by q.start v.whole) ≤ q.forgotten) t.of t.at (λ _. gone)
     (λ same. turned-gone p place w b r s tick t (some same) (gone w r (ap (slice_get (works_in p)) same ∙ t.of) (ap (slice_get p.rings) same ∙ t.at)))
 
--- where the ring held none, all is let go that ends below the end of the new one
+-- if the ring held none, all is let go that ends below the end of the new one
 pub turned-first : (p : RingsParts) (place : ℕ) (w : Work) (b : Bool) (r : RingParts) (s : Snapshot) → IsTurn p place w b r s → length r.held ≡ 0
     → HasLetGo (turned p place b r s) place (Some s.end)
 turned-first p place w b r s t none =
@@ -280,7 +280,7 @@ turned-held p place k w b r s x t some other held =
     ∙ get_or-set_other (starts_of p.rings) place reader.place s.end (pos 0) (other reader is)) refl in
     subst (HasLetGo q k) (sym same) (turned-still p place k w b r s (holder_next p x) t some held)
 
--- where no loop reads the ring, it holds none
+-- if no loop reads the ring, it holds none
 pub unread-none : (p : RingsParts) (place : ℕ) (w : Work) (r : RingParts) → IsKept w r → slice_get (works_in p) place ≡ Some w
     → slice_get p.rings place ≡ Some r → IsTrimmed p place → wanted_at p place ≡ None → r.held ≡ []
 unread-none p place w r kept of at trimmed none =

@@ -109,7 +109,7 @@ pub own-turns : (p : RingsParts) (all : List LoopTurns) (place : ℕ) (w : Work)
 own-turns p all place w turns are is at =
     are.each place w turns is (slice_get_read all (length all) place turns refl (has-many p all place w are is).turns at)
 
--- where no loop is named
+-- if no loop is named
 pub own-readers : (p : RingsParts) (all : List LoopTurns) (place : ℕ) (turns : LoopTurns)
     → AreTurns p.code p.inputs (starts_of p.rings) all → place < length p.rings → turns ≡ get_or all place turns
     → AreReaders p.code p.inputs 0 place turns.readers.items

@@ -49,7 +49,7 @@ earlier-rises None (Some b) c (Some d) h k = absurd h
 earlier-rises (Some a) (Some b) None (Some d) h k = absurd k
 earlier-rises (Some a) (Some b) (Some c) (Some d) h k = omega (arith, ints, clamps)
 
--- the first tick that some reads want isn't after that of any of them
+-- the first tick that some reads want isn't later than what any of them wants
 pub first_tick-within : (buffer : ℕ) (point : ℤ) (reads : List Read) (r : Read) → Contains reads r → r.buffer ≡ buffer
     → IsNotLater (first_tick buffer point reads) (Some (point +ℤ r.first))
 first_tick-within buffer point [] r among is = absurd (omega (arith, among.1))

@@ -39,7 +39,7 @@ IsTrimmed p place =
     (w : Work) (r : RingParts) → slice_get (works_in p) place ≡ Some w → slice_get p.rings place ≡ Some r
     → r.forgotten ≡ let_go (wanted_at p place) (made_by r.start w.whole)
 
--- where no more than what isn't wanted was let go, and no less, it is just that
+-- if no more than what isn't wanted was let go, and no less, it is just that
 pub gone-trimmed : (p : RingsParts) (place : ℕ) → KeepsWanted p place → HasLetGo p place (wanted_at p place) → IsTrimmed p place
 gone-trimmed p place keeps gone = λ w r of at. let low = keeps w r of at in let high = gone w r of at in omega arith
 

@@ -125,7 +125,7 @@ fn find_own(
     Ok(())
 }
 
-// Adds a loop to the readers of those that it reads, if it is used.
+// Adds a loop to the readers of the loops that it reads, if it is used.
 fn add_readers(
     rings: &Rings,
     turns: &mut [LoopTurns],

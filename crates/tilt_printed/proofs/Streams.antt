@@ -79,7 +79,7 @@ pub next-of : (code : CodeParts) (rows : List (List Snapshot)) (pipe : PipeParts
 next-of code rows pipe found is gives =
     given-out pipe code rows found (ap (λ (p : PipeParts). p.code) is) (ap (λ (p : PipeParts). p.inputs) is) (gives (ap (λ (p : PipeParts). p.refused) is))
 
--- and where it gave out nothing so far, its rings hold the most
+-- and if it gave out nothing so far, its rings hold the most
 pub most-first : (code : CodeParts) (rows : List (List Snapshot)) (pipe : PipeParts) → pipe ≡ pipe_after code rows 0
     → held pipe.rings ≡ most_held code rows pipe.given
 most-first code rows pipe is =

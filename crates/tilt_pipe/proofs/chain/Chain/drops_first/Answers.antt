@@ -1,4 +1,4 @@
--- The first snapshot goes only where it isn't wanted, and stays only where a reader reads it.
+-- The first snapshot goes only if it isn't wanted, and stays only if a reader reads it.
 use Rattle.std.proofs.Common.{FitsSigned, w64, sym, subst, rules, arith}
 use Rattle.std.proofs.lemmas.Int.{to_z-of_z}
 use Rattle.tilt_pipe.proofs.Settled.{one-goes}

@@ -1,4 +1,4 @@
--- Who reads up to where the first snapshot ends holds the ring.
+-- A reader that reads up to where the first snapshot ends holds the ring.
 use Rattle.tilt_pipe.proofs.Settled.{IsHolding, found-holder, held-settled}
 use Rattle.std.proofs.Common.{FitsSigned, w64, Some, rules}
 use Rattle.std.proofs.lemmas.Int.{to_z-of_z}

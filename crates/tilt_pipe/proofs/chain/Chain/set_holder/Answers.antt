@@ -1,4 +1,4 @@
--- The ring is in the list of the reader's loop before it is said who holds it.
+-- The ring is in the list of the reader's loop before its holder is set.
 use Rattle.std.proofs.Common.{◌⊎◌, ◌≡◌, ◌++◌, ◌∷◌, [], ℕ, List, sym, subst, rules}
 use Rattle.tilt_pipe.proofs.Settled.{list-read, named-goes, named-settled, reader-within}
 use Rattle.tilt_pipe.specs.Chain.{held_in}

@@ -1,4 +1,4 @@
--- The ring is settled, and goes off the list where the loop doesn't hold it.
+-- The ring is settled, and goes off the list if the loop doesn't hold it.
 use Rattle.std.specs.List.{swap_remove}
 use Rattle.tilt_pipe.proofs.Trimming.{alike-long}
 use Rattle.std.proofs.Common.{◌≡◌, ◌<◌, ◌∙◌, ℕ, List, Some, length, slice_get, sym, ap, arith, rules}
