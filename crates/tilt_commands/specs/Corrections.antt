@@ -15,12 +15,12 @@ use Rattle.tilt_printed.specs.Reached.{corrected_text}
 use Rattle.tilt_report.specs.Report.{Reason, Outcome, printed, refused, refusal, report_of_fix}
 use Rattle.tilt_stream.specs.Snap.{Snapshot}
 
--- the rows after one edit more, unless an earlier one was refused
+-- the rows after one edit more, unless an earlier one was rejected
 abbrev pub and_edit : Result (List (List Snapshot)) FixFault → Edit → Result (List (List Snapshot)) FixFault
 and_edit (Ok rows) edit = after_edit rows edit
 and_edit (Err fault) edit = Err fault
 
--- the rows after edits one after another, or why the first one that is refused is
+-- the rows after edits one after another, or why the first one that is rejected is
 abbrev pub after_edits : Result (List (List Snapshot)) FixFault → List Edit → Result (List (List Snapshot)) FixFault
 after_edits rows [] = rows
 after_edits rows (edit ∷ edits) = after_edits (and_edit rows edit) edits

@@ -17,7 +17,7 @@ use Rattle.tilt_stream.specs.Text.{text_of}
 abbrev pub first_outside : Span → List ℤ → Option ℤ
 first_outside domain cuts = find (λ cut. int_le cut domain.start || int_le domain.end cut) cuts
 
--- the first number of an order that is above the number of cuts, which is that of the last part
+-- the first number of an order that is above the number of cuts, which is the number of the last part
 abbrev pub first_unnamed : ℕ → List ℕ → Option ℕ
 first_unnamed count order = find (λ part. nat_lt count part) order
 
@@ -35,7 +35,7 @@ pub record TakesParts (cuts : List ℤ) (order : List ℕ) (bytes : List ℕ) (c
   pub taken : TakesQuery bytes core
   pub fits : parts_fault cuts order core ≡ None
 
--- why the query file of a name isn't run so: the query is refused, or it is taken and can't be cut or stepped so
+-- why the query file of a name isn't run so: the query is rejected, or it is taken and can't be cut or stepped so
 pub data RefusesParts (name : List ℕ) (cuts : List ℤ) (order : List ℕ) (bytes : List ℕ) : Reason → Type 0 where
   no_query : {why : Reason} → RefusesQuery name bytes why → RefusesParts name cuts order bytes why
   no_parts : {why : Reason} (core : CoreParts) → TakesQuery bytes core → parts_fault cuts order core ≡ Some why

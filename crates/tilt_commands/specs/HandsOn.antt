@@ -49,13 +49,13 @@ pub record IsBegun (files : List ℕ → List ℕ) (file : List ℕ) (binds : Li
 abbrev pub end_of : Option SavedCutValue → List StatementTree → Cut
 end_of ending query = cut_of ending (core_of query).inputs
 
--- the lines of what is printed beyond; where the session ends by cuts, the text of the checkpoint of all rows is saved
+-- the lines of what is printed beyond; if the session ends by cuts, the text of the checkpoint of all rows is saved
 abbrev pub beyond_outcome : Option SavedCutValue → List StatementTree → List (List Snapshot) → List Snapshot → Outcome
 beyond_outcome None query all beyond = printed (lines_of beyond)
 beyond_outcome (Some cut) query all beyond =
     printed_and_saved (lines_of beyond) cut.save (spelling (checkpoint_at query all (cuts_at cut query)))
 
--- where a session ends by cuts, what it saves hands all rows on
+-- if a session ends by cuts, what it saves hands all rows on
 abbrev pub IsHandedOn : Option SavedCutValue → List StatementTree → List (List Snapshot) → Type 0
 IsHandedOn None query all = ⊤
 IsHandedOn (Some cut) query all = HandsOn (spelling (checkpoint_at query all (cuts_at cut query))) query all (cuts_at cut query)

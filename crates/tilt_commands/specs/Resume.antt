@@ -51,12 +51,12 @@ later_bounds cut c = bounds_in (all_after cut c.series)
 abbrev pub resumed_by : List ℕ → CutsParts → CheckpointParts → List (List Snapshot) → Outcome
 resumed_by save cuts c rows = printed_and_saved (lines_of (newly c rows (Upto cuts))) save (spelling (next c rows cuts))
 
--- the lines of what is printed newly; where the session ends by cuts, its checkpoint is saved
+-- the lines of what is printed newly; if the session ends by cuts, its checkpoint is saved
 abbrev pub resumed : Option SavedCutValue → CheckpointParts → List (List Snapshot) → Outcome
 resumed None c rows = printed (lines_of (newly c rows End))
 resumed (Some cut) c rows = resumed_by cut.save (cuts_by cut.upto (inputs_of c)) c rows
 
--- the spelling of a checkpoint under the name, where there are both
+-- the spelling of a checkpoint under the name, if there are both
 abbrev pub saved_of : Option SavedCutValue → Option CheckpointParts → Option SaveValue
 saved_of None next = None
 saved_of (Some cut) None = None

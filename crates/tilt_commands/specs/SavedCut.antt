@@ -26,12 +26,12 @@ abbrev pub cut_of : Option SavedCutValue → List (List ℕ) → Cut
 cut_of None inputs = End
 cut_of (Some cut) inputs = Upto (cuts_by cut.upto inputs)
 
--- the faulty name of its cuts, where there is one
+-- the faulty name of its cuts, if there is one
 abbrev pub faulty_end : Option SavedCutValue → List (List ℕ) → Option (List ℕ)
 faulty_end None inputs = None
 faulty_end (Some cut) inputs = faulty_cut inputs cut.upto
 
--- why its cuts are refused
+-- why its cuts are rejected
 abbrev pub RefusesEnd : Option SavedCutValue → List (List ℕ) → Reason → Type 0
 RefusesEnd None inputs why = ⊥
 RefusesEnd (Some cut) inputs why = RefusesCuts inputs cut.upto why

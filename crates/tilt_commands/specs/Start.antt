@@ -31,7 +31,7 @@ pub record StartsBy (upto : UptoValue) (bytes : List ℕ) (query : List Statemen
   pub starts : StartsFrom bytes query
   pub named : faulty_cut (core_of query).inputs upto ≡ None
 
--- why a first session isn't begun with the query file of a name: the file is refused, or else the cuts are
+-- why a first session isn't started with the query file of a name: the file is rejected, or else the cuts are
 pub data RefusesToStart (name : List ℕ) (upto : UptoValue) (bytes : List ℕ) : Reason → Type 0 where
   no_query : {why : Reason} → RefusesQuery name bytes why → RefusesToStart name upto bytes why
   no_start : {why : Reason} (query : List StatementTree) → StartsFrom bytes query → RefusesCuts (core_of query).inputs upto why

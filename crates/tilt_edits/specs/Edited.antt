@@ -67,7 +67,7 @@ edited (Set input row) rows =
     if list_any (has_times row.start row.end) rows
     then Ok (map (λ s. if has_times row.start row.end s then row else s) rows) else Err NoSuchRow
 
--- the rows of all inputs, with those of one of them changed
+-- the rows of all inputs, with the rows of one of them changed
 abbrev pub changed : List (List Snapshot) → ℕ → Result (List Snapshot) FixFault → Result (List (List Snapshot)) FixFault
 changed rows input (Ok of_input) = Ok (slice_set rows input of_input)
 changed rows input (Err fault) = Err fault

@@ -16,7 +16,7 @@ abbrev pub until_blank : List ℕ → Option (List ℕ × List ℕ)
 until_blank [] = None
 until_blank (byte ∷ bytes) = if byte == 32 || byte == 9 then Some ([], bytes) else (until_blank bytes >>= onto byte)
 
--- the row of these times and this value, where the times lie in `-T..T` and in order
+-- the row of these times and this value, if the times are in `-T..T` and in order
 abbrev pub row_of : ℤ → ℤ → Option ℤ → Option Snapshot
 row_of start end value =
     if int_le (neg_ℤ T) start && int_lt start end && int_le end T then Some (record { start = start; end = end; value = value }) else None

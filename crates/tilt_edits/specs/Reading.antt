@@ -7,7 +7,7 @@ use Rattle.tilt_edits.specs.declared.fault.EditFault.TheVariants.{BadEdit, OutOf
 use Rattle.tilt_text.specs.Cut.{until_at}
 use Rattle.tilt_text.specs.Step.{◌>>=◌}
 
--- the edit in the first line, and what follows that line; none where it is no edit, or isn't ended
+-- the edit in the first line, and what follows that line; none if it is no edit, or isn't ended
 abbrev pub next_edit : List (List ℕ) → List ℕ → Option (Edit × List ℕ)
 next_edit inputs bytes = until_at 10 bytes >>= λ parts. edit_of inputs parts.0 >>= λ edit. Some (edit, parts.1)
 

@@ -19,7 +19,7 @@ IsWithin (Insert at row) rows = at ≤ length rows
 IsWithin (Remove at) rows = at < length rows
 IsWithin (Revalue at value) rows = at < length rows
 
--- the place of a change, and that of the first row after it, before the change
+-- the place of a change, and the place of the first row after it, before the change
 abbrev pub place_of : Change → ℕ
 place_of (Insert at row) = at
 place_of (Remove at) = at
@@ -42,6 +42,6 @@ pub record IsChangeOf (edit : Edit) (rows : List Snapshot) (change : Change) : T
   pub in_order : AreRows (made change rows)
   pub parts : made change rows ≡ splice rows (place_of change) (next_of change) (put_of edit)
 
--- the rows of all inputs after a change of those of one of them
+-- the rows of all inputs after a change of the rows of one of them
 abbrev pub all_made : Change → ℕ → List (List Snapshot) → List (List Snapshot)
 all_made change input rows = slice_set rows input (made change (slice_index_or rows input []))

@@ -10,7 +10,7 @@ use Rattle.tilt_edits.specs.Edited.{input_of, start_of, end_of}
 use Rattle.tilt_stream.specs.Stream.{Stream}
 use Rattle.tilt_edits.specs.declared.edit.Edit.{Edit}
 
--- the ticks of `(lo, hi]`, where there are some
+-- the ticks of `(lo, hi]`, if there are some
 abbrev pub some_ticks : ℤ → ℤ → Option Span
 some_ticks lo hi = if int_lt lo hi then Some (record { start = lo; end = hi }) else None
 
@@ -19,7 +19,7 @@ abbrev pub looking_at : Span → ℤ → ℤ → Need → Option Span
 looking_at domain start end need =
     some_ticks (int_max domain.start (start -ℤ need.ahead)) (int_min domain.end (end +ℤ need.back +ℤ pos 1))
 
--- the ticks of a query's output that an edit reaches; none where its input isn't used
+-- the ticks of a query's output that an edit reaches; none if its input isn't used
 abbrev pub reached : AcceptedParts → Edit → Option Span
 reached query edit =
     option_and_then

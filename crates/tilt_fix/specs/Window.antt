@@ -17,7 +17,7 @@ early tick rows = filter (λ row. int_lt row.start tick) rows
 abbrev pub window : ℤ → ℤ → List Snapshot → List Snapshot
 window lo hi rows = early hi (late lo rows)
 
--- the ticks of a source with that need at which the output on `(lo, hi]` looks; none where it isn't used
+-- the ticks of a source with that need that the output on `(lo, hi]` reads; none if it isn't used
 abbrev pub seen : Option Need → ℤ → ℤ → Option Span
 seen None lo hi = None
 seen (Some n) lo hi = Some (record { start = lo -ℤ n.back; end = hi +ℤ n.ahead })

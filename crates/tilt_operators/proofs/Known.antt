@@ -151,7 +151,7 @@ steps-typed n (s ∷ steps) h =
     let here = typed-by n (is_typed s) (first_untyped (n + 1) steps) h in
     (here.0, steps-typed (n + 1) steps here.1)
 
--- no name occurs twice among names, or among the names before them
+-- no name occurs twice among names, and none of them is among the names before them
 abbrev pub AreNew : List (List ℕ) → List (List ℕ) → Type 0
 AreNew front [] = ⊤
 AreNew front (name ∷ names) = (is_among front name ≡ false) × AreNew (front ++ name ∷ []) names

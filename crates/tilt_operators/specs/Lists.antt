@@ -34,7 +34,7 @@ filled (row ∷ next ∷ rows) = row ∷ (gap_before (Some row.end) next.start +
 abbrev pub revalued : (ℤ → Option ℤ) → Snapshot → Snapshot
 revalued rule s = record { start = s.start; end = s.end; value = option_and_then (λ v. rule v) s.value }
 
--- the value, where the condition is true; null where it is 0 or null
+-- the value, if the condition is true; null if it is 0 or null
 abbrev pub kept_if : Option ℤ → ℤ → Option ℤ
 kept_if None v = None
 kept_if (Some c) v = if is_true c then Some v else None
@@ -83,7 +83,7 @@ windowed reducer width list =
     pieces (λ c. reduce reducer (numbers (map (λ (s : Snapshot). s.value) (filter (is_taken width c) list))))
     (merged (boundaries list) (map (λ b. b +ℤ width -ℤ pos 1) (boundaries list)))
 
--- the value of the snapshot with a boundary within it or at its start, and null where there is none
+-- the value of the snapshot with a boundary within it or at its start, and null if there is none
 abbrev pub value_from : List Snapshot → ℤ → Option ℤ
 value_from [] c = None
 value_from (s ∷ list) c = if int_le s.start c && int_lt c s.end then s.value else value_from list c

@@ -137,7 +137,7 @@ is_number e = is_fitting true (type_of operand_types e)
 abbrev pub is_truth : ExprTree → Bool
 is_truth e = is_fitting false (type_of operand_types (One op1.Not e))
 
--- whether the expression of a step, where it has one, has the type that the step asks for
+-- whether the expression of a step, if it has one, has the type that the step asks for
 abbrev pub is_typed : StepTree → Bool
 is_typed (Select e) = is_number e
 is_typed (Keep e) = is_truth e

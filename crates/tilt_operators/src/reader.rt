@@ -15,8 +15,8 @@ use tilt_syntax::keep_tokens;
 
 /// The pipeline that the text is. Errors come in this order. First are `BadByte` and `BigNumber`, as `lex` has them. Then comes `BadStep`
 /// of the first step that breaks a rule, if there is one. Last is `StepType` of the first step whose expression hasn't the type that the
-/// step asks for. Tokens are cut into steps after each `;`, and what follows the last `;` is also a step. No tokens at all are a bad step
-/// 1. However long the text is, it takes memory only for the tokens that `keep_tokens` keeps.
+/// step asks for. Tokens are cut into steps after each `;`, and what follows the last `;` is also a step. If there are no tokens at all,
+/// step 1 is bad. However long the text is, it takes memory only for the tokens that `keep_tokens` keeps.
 pub fn read_flow(alloc: Global, bytes: &[u8]) -> Result<Flow, FlowFault>
     ensures flow { IfOk result (λ flow. IsFlowText bytes.now flow) }
     ensures faulty { IfErr result (λ fault. fault ≢ FlowFault.OutOfMemory → IsRefusedText bytes.now fault) }

@@ -7,7 +7,7 @@ use Rattle.tilt_outside.specs.declared.failed.Failed.{Failed}
 abbrev pub Rose : ℕ → ℕ → Type 0
 Rose before after = (before < after) ⊎ (after ≡ last_count)
 
--- a count never falls, and a call fails only where it rose
+-- a count never falls, and a call fails only if it rose
 pub record HasCause {T : Type 0} (before after : ℕ) (result : Result T Failed) : Type 0 where
   pub kept : before ≤ after
   pub rose : OnErr result (Rose before after)

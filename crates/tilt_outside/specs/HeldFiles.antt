@@ -13,7 +13,7 @@ pub record HeldFile : Type 0 where
 abbrev pub file_named : List HeldFile → List ℕ → Option HeldFile
 file_named files name = find (λ file. bytes_eq file.name name) files
 
--- what the name holds, and nothing where it isn't held
+-- what the name holds, and nothing if it isn't held
 abbrev pub bytes_held : List HeldFile → List ℕ → Option (List ℕ)
 bytes_held files name = option_map (λ file. file.bytes) (file_named files name)
 
@@ -21,7 +21,7 @@ bytes_held files name = option_map (λ file. file.bytes) (file_named files name)
 abbrev pub content_of : List HeldFile → List ℕ → List ℕ
 content_of files name = unwrap_or (bytes_held files name) []
 
--- how many bytes the name may hold, which is 0 where it isn't held
+-- how many bytes the name may hold, which is 0 if it isn't held
 abbrev pub room_of : List HeldFile → List ℕ → ℕ
 room_of files name = option_map_or (λ file. file.room) (file_named files name) 0
 

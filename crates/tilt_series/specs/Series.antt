@@ -20,7 +20,7 @@ abbrev pub ◌>>=◌ : {A B : Type 0} → Result A SeriesFault → (A → Result
 (Ok x) >>= next = next x
 (Err fault) >>= next = Err fault
 
--- where a row may start, each bound where it is given: not below the end of the row before it, not below `from`, and below `upto`
+-- where a row may start, each bound if it is given: not below the end of the row before it, not below `from`, and below `upto`
 pub record Bounds : Type 0 where
   pub last_end : Option ℤ
   pub from : Option ℤ
@@ -107,7 +107,7 @@ series_of bounds bytes =
     if starts_with nat_eq bytes (byte_order_mark ++ byte_order_mark) then Err BadHeader
     else rows_after_header bounds (records default_config (strip_bom bytes))
 
--- that answer is what was read, unless memory ran out
+-- that result is what was read, unless memory ran out
 abbrev pub Gives : Result (List Snapshot) ReadRowsFault → Result (List Snapshot) SeriesFault → Type 0
 Gives (Ok rows) read = read ≡ Ok rows
 Gives (Err (Refused fault)) read = read ≡ Err fault

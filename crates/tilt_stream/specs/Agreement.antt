@@ -8,7 +8,7 @@ pub record Agree (x y : Stream) (lo hi : ℤ) : Type 0 where
   pub cells : (tick : ℤ) → lo <ℤ tick → tick ≤ℤ hi → x.cell tick ≡ y.cell tick
   pub marks : (tick : ℤ) → (lo +ℤ pos 1) <ℤ tick → tick ≤ℤ hi → x.mark tick ≡ y.mark tick
 
--- where the stream has no mark, its cell is that of the tick before
+-- where the stream has no mark, its cell is the cell of the tick before
 pub record ChangesOnlyAtMarks (x : Stream) : Type 0 where
   pub unchanged : (tick : ℤ) → x.mark tick ≡ false → x.cell tick ≡ x.cell (tick -ℤ pos 1)
 

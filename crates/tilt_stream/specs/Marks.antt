@@ -2,7 +2,7 @@
 use Rattle.std.specs.Prelude.{◌≡◌, ℤ, ◌<ℤ◌, Option, Some, None, true, false, ℕ, zero, suc, pos, ◌+ℤ◌, if◌then◌else◌, ◌||◌}
 use Rattle.tilt_stream.specs.Stream.{Stream}
 
--- the least tick above `tick` that has a mark
+-- the smallest tick above `tick` that has a mark
 pub record IsNextMark (x : Stream) (tick next : ℤ) : Type 0 where
   pub above : tick <ℤ next
   pub marked : x.mark next ≡ true
@@ -12,7 +12,7 @@ pub record IsNextMark (x : Stream) (tick next : ℤ) : Type 0 where
 abbrev pub HasNoMarkAbove : Stream → ℤ → Type 0
 HasNoMarkAbove x tick = (other : ℤ) → tick <ℤ other → x.mark other ≡ false
 
--- the answer that names the least tick above `tick` that has a mark, and none where there is no such tick
+-- the result that names the smallest tick above `tick` that has a mark, and none if there is no such tick
 abbrev pub NamesNextMark : Stream → ℤ → Option ℤ → Type 0
 NamesNextMark x tick None = HasNoMarkAbove x tick
 NamesNextMark x tick (Some next) = IsNextMark x tick next

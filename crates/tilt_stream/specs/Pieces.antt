@@ -14,7 +14,7 @@ last_start [] = None
 last_start (s ∷ []) = Some s.start
 last_start (s ∷ next ∷ ss) = last_start (next ∷ ss)
 
--- the first one goes on from where another began, where one did
+-- the first one goes on from where another began, if one did
 abbrev pub joined_from : Option ℤ → List Snapshot → List Snapshot
 joined_from None list = list
 joined_from (Some start) list = joined_open start list

@@ -46,7 +46,7 @@ abbrev pub ended_below : ℤ → List Snapshot → ℕ
 ended_below tick [] = zero
 ended_below tick (s ∷ ss) = if int_lt s.end tick then suc (ended_below tick ss) else ended_below tick ss
 
--- the null snapshot that fills the gap between an end and a start, where there is a gap
+-- the null snapshot that fills the gap between an end and a start, if there is a gap
 abbrev pub gap_before : Option ℤ → ℤ → List Snapshot
 gap_before None start = []
 gap_before (Some end) start =

@@ -13,7 +13,7 @@ pub record Stream : Type 0 where
 abbrev pub covers : Snapshot → ℤ → Bool
 covers s tick = int_lt s.start tick && int_le tick s.end
 
--- the value of the first one that covers the tick, and null where none does
+-- the value of the first one that covers the tick, and null if none does
 abbrev pub cell_at : List Snapshot → ℤ → Option ℤ
 cell_at [] tick = None
 cell_at (s ∷ ss) tick = if covers s tick then s.value else cell_at ss tick
