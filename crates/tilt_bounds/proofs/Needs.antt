@@ -16,7 +16,7 @@ use Rattle.tilt_bounds.specs.Margins.{IsWithin, AreWithin, need_at}
 pub same_need : (m n : Need) → m.back ≡ n.back → m.ahead ≡ n.ahead → m ≡ n
 same_need m n back ahead = λ i. record { back = back i; ahead = ahead i }
 
--- a source is one of so many, or stands after them
+-- a source is one of the first `count`, or comes after them
 pub below_or_behind : (source count : ℕ) → (source < count) ⊎ ((k : ℕ) × (source ≡ count + k))
 below_or_behind source zero = inr (source, omega arith)
 below_or_behind zero (suc count) = inl (omega arith)

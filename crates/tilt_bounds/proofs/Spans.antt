@@ -15,7 +15,7 @@ use Rattle.tilt_bounds.specs.declared.need.Need.TheVariants.{Unused}
 pub same_some : {m n : needs.Need} → (let x : Option needs.Need = Some m in x ≡ Some n) → m ≡ n
 same_some e = cc
 
--- the need of a source is the one that stands at its place in memory
+-- the need of a source is the one at its place in memory
 pub need_at-map : (ns : List Need) (i : ℕ) → need_at (map need_of ns) i ≡ need_of (get_or ns i Unused)
 need_at-map [] i = refl
 need_at-map (x ∷ ns) zero = refl

@@ -67,7 +67,7 @@ asks_nothing number def None source reads high = refl
 asks_nothing number def (Some n) source reads high = asks_none number (body_need def n) def.body source reads high
 
 module _ (number : ℕ) (def : Definition) (behind : List Definition) (old new : List (Option Need)) (n : Option Need) where
-  -- the need of the definition was put down, and then it asked what it asks
+  -- the need of the definition was written, and then it asked what it asks
   abbrev pub HasAsked : Type 0
   HasAsked = (source : ℕ) → source < length old → need_at new source ≡ either (need_at (set old number n) source) (asked_of def n source)
 
@@ -124,7 +124,7 @@ within-greater low high (Some n) less h =
 pub all_within-greater : (low high : ℤ) (ns : List (Option Need)) → low ≤ℤ high → AreWithin (evenly low) ns → AreWithin (evenly high) ns
 all_within-greater low high ns less h = record { each = λ source. within-greater low high (need_at ns source) less (h.each source) }
 
--- one need is put down
+-- one need is written
 pub all_within-set : (limit : Need) (ns : List (Option Need)) (i : ℕ) (n : Option Need) → i < length ns → AreWithin limit ns → IsWithin limit n → AreWithin limit (set ns i n)
 all_within-set limit ns i n low h is = record {
   each = λ source. elim (cases_eq source i) [
@@ -204,7 +204,7 @@ within-asked limit def behind asked n need body grid h is used body_is =
     subst (λ (m : Need). IsWithin (evenly (pos (limit + 2 ^ 41))) (Some m)) (sym body_is)
     (within-body limit def need grid (subst (λ (m : Option Need). IsWithin (evenly (pos limit)) m) (sym is ∙ used) (within-need_before limit behind asked h)))
 
--- the need of a definition is put down within the bound of those that were asked
+-- the need of a definition is written within the bound of those that were asked
 pub all_within-put_down : (so_far limit : ℕ) (behind : List Definition) (old : List (Option Need)) (number : ℕ) (n : Option Need) → number < length old
     → AreWithin (evenly (pos so_far)) old → n ≡ need_before behind (need_at old number) → so_far ≤ limit → AreWithin (evenly (pos limit)) (set old number n)
 all_within-put_down so_far limit behind old number n low h is less =

@@ -44,8 +44,8 @@ pub record SameUpTo (last : ℤ) (x y : Stream) : Type 0 where
   pub cells : (tick : ℤ) → tick ≤ℤ last → x.cell tick ≡ y.cell tick
   pub marks : (tick : ℤ) → tick ≤ℤ last → x.mark tick ≡ y.mark tick
 
--- a source that looks so far ahead stays as it is up to the cut, less the look-ahead, and farther by what it looks ahead; the emitted one
--- looks ahead by nothing
+-- a source with this need stays as it is up to the cut, less the look-ahead, and farther by what it looks ahead. The emitted one looks
+-- ahead by nothing
 abbrev pub StaysAsAsked : Option Need → ℤ → Stream → Stream → Type 0
 StaysAsAsked None last x y = ⊤
 StaysAsAsked (Some n) last x y = SameUpTo (last +ℤ n.ahead) x y

@@ -56,7 +56,7 @@ margins_of core =
     if is_too_far widest then Err widest
     else Ok (record { back = widest.back; ahead = widest.ahead; needs = needs.needs (length core.inputs) core.defs })
 
--- a fault tells these numbers, or it is want of memory
+-- a fault has these numbers, or it is out of memory
 abbrev pub IsTold : Result MarginsParts needs.Need → ReachFault → Type 0
 IsTold answer (TooFar back ahead) = answer ≡ Err (record { back = back; ahead = ahead })
 IsTold answer OutOfMemory = ⊤
@@ -65,7 +65,7 @@ IsTold answer OutOfMemory = ⊤
 abbrev pub Gives : Result MarginsParts ReachFault → Result MarginsParts needs.Need → Type 0
 Gives given answer = MatchResult given (λ margins. answer ≡ Ok margins) (λ fault. IsTold answer fault)
 
--- needs are told apart part by part
+-- needs are distinguished part by part
 abbrev pub coded_need : Coded needs.Need
 coded_need = code_by (ℤ × ℤ) (coded× coded_ℤ coded_ℤ) (λ n. (n.back, n.ahead)) (λ p. record { back = p.0; ahead = p.1 }) (λ _. refl)
 

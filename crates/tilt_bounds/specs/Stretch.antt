@@ -6,7 +6,7 @@ use Rattle.tilt_core.specs.CoreTree.{Definition}
 use Rattle.tilt_core.specs.Needs.{Need}
 use Rattle.tilt_bounds.specs.declared.loop_span.LoopSpan.{LoopSpan}
 
--- `(lo, hi]`, cut down to a span where one is written; where that leaves nothing, the uncut stretch, which is then told to be empty
+-- `(lo, hi]`, cut down to a span if one is written; if that leaves nothing, the uncut stretch, which is then marked as empty
 abbrev pub cut_down : Option Span → ℤ → ℤ → LoopSpan
 cut_down None lo hi = record { lo = lo; hi = hi; empty = false }
 cut_down (Some span) lo hi =

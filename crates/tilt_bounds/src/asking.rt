@@ -10,7 +10,7 @@ use crate::wide_need::{WideNeed, no_margin, wider};
 use std::alloc::{AllocError as OutOfMemory, Global};
 use tilt_core::{Def, Tree};
 
-/// The needs of the sources, the inputs first; none where a source isn't used.
+/// The needs of the sources, the inputs first; none if a source isn't used.
 pub fn needs_of(
     alloc: Global,
     inputs: usize,
@@ -29,7 +29,7 @@ pub fn needs_of(
     Ok(asked)
 }
 
-// No need, for so many sources.
+// No need for any of `count` sources.
 fn unasked(alloc: Global, count: usize) -> Result<Vec<Option<WideNeed>>, OutOfMemory>
     ensures { IfOk result (λ asked. asked.items ≡ replicate count None) }
 {
@@ -52,8 +52,8 @@ fn ask_before(asked: &mut [Option<WideNeed>], number: usize, def: &Def, behind: 
     }
 }
 
-// The need of the definition of a number: that of the last one, which is emitted, is the tick itself, and that of another
-// is what those after it have asked.
+// The need of the definition of a number. For the last one, which is emitted, it is the tick itself; for another one, it is what those
+// after it have asked.
 fn need_before(asked: &[Option<WideNeed>], number: usize, behind: &[Def]) -> Option<WideNeed>
     requires { number < length asked.now }
     ensures { result ≡ need_before behind.now (need_at asked.now number) }

@@ -7,7 +7,7 @@ use thiserror::Error;
 /// Why a core has no margins.
 #[derive(Debug, Drop, PartialEq, Eq, Error)]
 pub enum ReachFault {
-    /// The look-back or the look-ahead of the query is above `REACH`. Both are told, in ticks.
+    /// The look-back or the look-ahead of the query is above `REACH`. The fault has both, in ticks.
     #[error("the query looks {back} ticks back and {ahead} ahead")]
     TooFar { back: i128, ahead: i128 },
     /// There was no memory for the margins.

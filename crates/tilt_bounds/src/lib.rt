@@ -1,9 +1,9 @@
-//! How far a query looks, and the stretch of time on which each definition has to be computed.
+//! How far back and ahead a query reads, and the stretch of time on which each definition must be computed.
 //!
-//! What comes in is a core. `reach` gives its margins: how far each source is looked at, back and ahead of the output, and
-//! the look-back and look-ahead of the whole query; or the two numbers where one of them is too great. Its clauses
-//! `changes`, `local` and `causal` are the laws that make margins useful: that nothing else of a source matters. `stretch`
-//! gives the stretch of one definition.
+//! What comes in is a core. `reach` gives its margins: how far each source is read, back and ahead of the output, and the look-back and
+//! look-ahead of the whole query. If one of these two numbers is too large, it gives the two numbers as an error. Its clauses `changes`,
+//! `local` and `causal` are the laws that make margins useful: that nothing else of a source matters. `stretch` gives the stretch of one
+//! definition.
 #![tactic(auto)]
 
 mod asking;

@@ -20,8 +20,8 @@ pub struct LoopSpan {
     pub empty: bool,
 }
 
-/// The stretch of the loop of a definition, for the output on `(lo, hi]`: as far as the definition is looked at, cut down to
-/// its span where one is written. Where the span leaves nothing, it is the uncut stretch. Definitions are numbered from 0.
+/// The stretch of the loop of a definition, for the output on `(lo, hi]`: as far as the definition is read, cut down to its span if one is
+/// written. If the span leaves nothing, it is the uncut stretch. Definitions are numbered from 0.
 pub fn stretch(core: &Core, reach: &Margins, def: u32, lo: i64, hi: i64) -> LoopSpan
     requires margins { margins_of core.now ≡ Ok reach.now }
     requires used { IsSome (need_at reach.now.needs (length core.now.inputs + def)) }
@@ -41,7 +41,7 @@ pub fn stretch(core: &Core, reach: &Margins, def: u32, lo: i64, hi: i64) -> Loop
     }
 }
 
-// The stretch `(lo, hi]`, cut down to a span where one is written; uncut where that leaves nothing.
+// The stretch `(lo, hi]`, cut down to a span if one is written; uncut if that leaves nothing.
 fn cut_down(span: Option<Span>, lo: i64, hi: i64) -> LoopSpan
     ensures { result ≡ cut_down span lo hi }
 {

@@ -4,7 +4,7 @@ ghost use Rattle.tilt_bounds.specs.Margins.{AreMargins, need_of};
 use crate::need::Need;
 use std::marker::Model;
 
-/// How far a query looks. A clause sees it as plain data.
+/// How far back and ahead a query reads. A clause sees it as plain data.
 #[derive(Debug, Drop)]
 pub struct Margins {
     back: i64,
@@ -34,7 +34,7 @@ impl Margins {
         Margins { back, ahead, needs }
     }
 
-    /// The look-back of the query: the farthest that any used source is looked at before the output, in ticks.
+    /// The look-back of the query: the farthest that any used source is read before the output, in ticks.
     pub fn back(&self) -> i64
         ensures value { result ≡ self.now.back }
         ensures kept { AreMargins self.now }
@@ -50,7 +50,7 @@ impl Margins {
         self.ahead
     }
 
-    /// The need of each source: of the inputs in order, then of the definitions in order.
+    /// The need of each source: the inputs in order, then the definitions in order.
     pub fn needs(&self) -> &[Need]
         ensures value { map need_of result.now ≡ self.now.needs }
         ensures kept { AreMargins self.now }

@@ -13,12 +13,12 @@ use std::alloc::{AllocError as OutOfMemory, Global};
 use tilt_base::REACH;
 use tilt_core::Core;
 
-/// The margins of the query: the need of each source, and the look-back and the look-ahead. `TooFar` comes where one of the
-/// two is above `REACH`, and tells both.
+/// The margins of the query: the need of each source, and the look-back and the look-ahead. If one of the two is above `REACH`, the error
+/// is `TooFar`, with both.
 ///
-/// The margins carry three laws: each source changes only at marks (`changes`); where rows agree on what each input is
-/// asked for, the meaning of each source agrees on what it is asked for (`local`); and rows added from a cut on change
-/// nothing up to the cut less the look-ahead (`causal`).
+/// The margins carry three laws. Each source changes only at marks (`changes`). If rows agree on what each input is asked for, the meaning
+/// of each source agrees on what it is asked for (`local`). Rows added from a cut on change nothing up to the cut less the look-ahead
+/// (`causal`).
 pub fn reach(alloc: Global, core: &Core) -> Result<Margins, ReachFault>
     ensures margins { Gives result (margins_of core.now) }
     ensures changes { IfOk result (λ _. AllChangeOnlyAtMarks core.now) }
@@ -43,7 +43,7 @@ fn is_too_far(widest: WideNeed) -> bool
     widest.back > i128::from(REACH) || widest.ahead > i128::from(REACH)
 }
 
-// The fault that tells both.
+// The fault with both numbers.
 fn too_far(widest: WideNeed) -> ReachFault
     ensures { result ≡ ReachFault.TooFar widest.back widest.ahead }
 {

@@ -4,8 +4,8 @@ ghost use Rattle.tilt_core.specs.Needs.{no_margin, wider};
 
 use std::marker::Model;
 
-/// How far back and how far ahead a source is looked at, in ticks. 128 bits hold what the definitions of a query add up
-/// to, each offset being one of 64 bits.
+/// How far back and how far ahead a source is read, in ticks. 128 bits hold what the definitions of a query add up to,
+/// since each offset has 64 bits.
 #[derive(Clone, Copy)]
 pub struct WideNeed {
     pub back: i128,
@@ -29,7 +29,7 @@ pub fn no_margin() -> WideNeed
     WideNeed { back: 0, ahead: 0 }
 }
 
-/// The greater of two needs, part by part.
+/// The larger of two needs, part by part.
 pub fn wider(m: WideNeed, n: WideNeed) -> WideNeed
     ensures { result ≡ wider m n }
 {

@@ -7,8 +7,8 @@ use crate::asking::body_need;
 use crate::wide_need::{WideNeed, no_margin, wider};
 use tilt_core::Def;
 
-/// The widest of the needs of the inputs and of the needs of the bodies of the definitions. The needs of the definitions
-/// stand after those of the inputs.
+/// The widest of the needs of the inputs and of the needs of the bodies of the definitions. The needs of the inputs come first, then the
+/// needs of the definitions.
 pub fn widest_of(needs: &[Option<WideNeed>], inputs: usize, defs: &[Def]) -> WideNeed
     requires many { length needs.now ≡ inputs + length defs.now }
     requires near { AreWithin (evenly (pos (2 ^ 80))) needs.now }

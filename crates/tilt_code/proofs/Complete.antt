@@ -141,7 +141,7 @@ absent_fresh name (x ∷ xs) absent =
       | inr other ↦ rw other (absent_fresh name xs (λ c. absent (suc c.0, omega (arith, c.1), c.2)))
     ]
 
--- of distinct names none stands before itself
+-- of distinct names none comes before itself
 distinct-absent : (front : List (List ℕ)) (name : List ℕ) (rest : List (List ℕ)) → AreDistinct (front ++ name ∷ rest) → ¬ (Contains front name)
 distinct-absent [] name rest d c = absurd (omega (arith, c.1))
 distinct-absent (x ∷ front) name rest d (zero, lt, is) =

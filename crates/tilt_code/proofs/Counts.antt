@@ -28,7 +28,7 @@ pub block-count : (c : Counted) (register : ℕ) (xs : Block) → count_lines c 
 block-count c register [] = refl
 block-count c register (x ∷ xs) = block-count c (suc register) xs
 
--- which buffers stand before the open loop
+-- which buffers are before the open loop
 abbrev pub before : Counted → ℕ
 before c = c.inputs + (c.loops - 1)
 

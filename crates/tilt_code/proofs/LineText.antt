@@ -367,7 +367,7 @@ spaced_joined (w ∷ v ∷ ws) = append_assoc w (codes " ") (spaced (v ∷ ws)) 
 spaced_pieces : (bytes : List ℕ) → spaced (pieces 32 bytes) ≡ bytes
 spaced_pieces bytes = spaced_joined (pieces 32 bytes) ∙ join_with_byte-slice_split 32 bytes
 
--- words with blanks between them are cut into the words
+-- words with blanks between them are cut into those words
 pieces_spaced : (w : List ℕ) (ws : Words) → AllPlain (w ∷ ws) → pieces 32 (spaced (w ∷ ws)) ≡ w ∷ ws
 pieces_spaced w [] h = pieces_lone 32 w (plain_lacks w (and_parts (list_all is_plain w) true h).0).0
 pieces_spaced w (v ∷ ws) h =

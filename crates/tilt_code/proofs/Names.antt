@@ -51,7 +51,7 @@ reserved_true bytes e =
     let found = any_some (λ k. bytes_eq (key_text k) bytes) keys e in
     (found.0, bytes_same (key_text found.0) bytes found.1)
 
--- a test that tells reserved words is this one
+-- a test that recognizes reserved words is this one
 pub reserved_is : (bytes : List ℕ) (b : Bool) → (IsTrue b → IsReserved bytes) × (IsReserved bytes → IsTrue b) → b ≡ is_reserved bytes
 reserved_is bytes true h = sym (true_reserved bytes (h.0 refl))
 reserved_is bytes false h =

@@ -1,4 +1,4 @@
--- What a text comes to is the code whose listing it is, or the first fault in it, and nothing else.
+-- What a text gives is the code whose listing it is, or the first fault in it, and nothing else.
 use Rattle.std.proofs.Common.{◌≡◌, ◌⊎◌, ℕ, suc, ◌+◌, Bool, true, false, not, if◌then◌else◌, List, [], ◌∷◌, ◌++◌, length, map}
 use Rattle.std.proofs.Common.{Option, Some, None, Result, Ok, Err, refl, sym, ap, ◌∙◌, subst, arith, inl, inr, ⊎_elim, append-nil}
 use Rattle.std.specs.Prelude.{IfOk, IfErr, MatchResult}
@@ -96,7 +96,7 @@ reads-told bytes q r e (whole none done is) =
 reads-told bytes q r e (early none done is) = absurd (ok-err q r.place (sym e ∙ is))
 reads-told bytes q r e (refused some none is) = absurd (ok-err q r.place (sym e ∙ is))
 
--- a text that comes to something is read to its end
+-- a text that gives something is read to its end
 pub reads-as : (bytes : List ℕ) (q : Progress) → read_text bytes ≡ Ok q → ReadsAs bytes q
 reads-as bytes q e = let r = reading bytes in reads-told bytes q r e r.told
 
@@ -166,7 +166,7 @@ told-bad bytes n r e (refused some none is) =
       bad = inr (r.here, joined r.behind, lacks_within r.here (here-lacks bytes r), joined_then r.here r.behind some, refused-front bytes r none);
     }
 
--- the line that is told is the first that is bad
+-- the line that is reported is the first that is bad
 pub bad-line : (bytes : List ℕ) (n : ℕ) → read_text bytes ≡ Err n → IsBadLine bytes n
 bad-line bytes n e = let r = reading bytes in told-bad bytes n r e r.told
 
@@ -212,7 +212,7 @@ module _ (bytes : List ℕ) (n : ℕ) (b : IsBadLine bytes n) (q : Progress) (re
       reads ∙ read_from-then (length b.before + 1) q text (pieces 10 more) (pieces_some 10 more)
       ∙ refused-or (length b.before + 1) (with_text (length b.before + 1) text q) (λ r. read_from (suc (length b.before + 1)) r (pieces 10 more)) never ∙ line-number
 
--- and the first that is bad is told
+-- and the first that is bad is reported
 pub line-bad : (bytes : List ℕ) (n : ℕ) → IsBadLine bytes n → read_text bytes ≡ Err n
 line-bad bytes n b =
     let f = front-taken b.before b.good in
@@ -258,7 +258,7 @@ place-judged bytes p place r (first_bad before here behind e good bad) =
       loop_counted = ap (λ (x : Place). x.in_loop) found;
     }
 
--- a text that comes to a code without a bad reference is the listing of a code
+-- a text that gives a code without a bad reference is the listing of a code
 pub reads-code : (bytes : List ℕ) (p : PartialCode) → read_text bytes ≡ Ok (record { code = p; bad = None }) → IsCode (code_of p) × (bytes ≡ listing (code_of p))
 reads-code bytes p e =
     let r = reads-as bytes (record { code = p; bad = None }) e in
@@ -270,14 +270,14 @@ reads-bad bytes p place e =
     let r = reads-as bytes (record { code = p; bad = Some place }) e in
     place-judged bytes p place r (verdict none_counted (code_lines (code_of p)))
 
--- the listing of a code comes to that code
+-- the listing of a code gives that code
 pub code-read : (code : CodeParts) → IsCode code → (p : PartialCode) × (read_text (listing code) ≡ Ok (record { code = p; bad = None })) × (code_of p ≡ code)
 code-read code h =
     let r = code-reads code h.grammatical in
     let none = unnoted code h.grammatical r.there r.reached (code-good code h.grammatical.loops h.references) in
     (r.there.code, r.read ∙ ap (λ (o : Option Place). Ok (record { code = r.there.code; bad = o })) none, r.parts)
 
--- and a listing whose first bad reference stands there comes to that
+-- and a listing whose first bad reference is there gives that
 pub bad-read : (bytes : List ℕ) (in_loop n : ℕ) → IsBadReference bytes in_loop n → (p : PartialCode)
     × (read_text bytes ≡ Ok (record { code = p; bad = Some (record { in_loop = in_loop; line = n }) }))
 bad-read bytes in_loop n b =

@@ -1,4 +1,4 @@
--- A text, cut at each LF, and what it comes to.
+-- A text, cut at each LF, and what it gives.
 use Rattle.std.proofs.Common.{◌≡◌, ℕ, zero, suc, ◌+◌, Bool, true, false, if◌then◌else◌, List, [], ◌∷◌, ◌++◌, length, Option, Some}
 use Rattle.std.proofs.Common.{None, Result, Ok, Err, refl, sym, ap, ◌∙◌, arith, inl, inr, append-nil, append_assoc, add-one}
 use Rattle.std.specs.Prelude.{codes, ◌==◌}
@@ -35,7 +35,7 @@ onto_lacks : (b : ℕ) (ws : List (List ℕ)) → (b == 10) ≡ false → AllByR
 onto_lacks b [] h all = (lacks-more 10 b [] h refl, tt)
 onto_lacks b (w ∷ ws) h all = (lacks-more 10 b w h all.0, all.1)
 
--- no LF stands in a piece
+-- no LF is in a piece
 pub pieces_lack : (bytes : List ℕ) → AllByRecursion (Lacks 10) (pieces 10 bytes)
 pieces_lack [] = (refl, tt)
 pieces_lack (b ∷ bs) =
@@ -76,7 +76,7 @@ within_lacks (b ∷ bs) h =
 
 -- going on
 
--- what texts come to, one after the other, from the line of that number on
+-- what texts give, one after the other, from the line of that number on
 abbrev pub runs : ℕ → Progress → List (List ℕ) → Option Progress
 runs number s [] = Some s
 runs number s (t ∷ ts) = with_text number t s >>= λ q. runs (suc number) q ts
@@ -90,7 +90,7 @@ some_behind : (xs : List (List ℕ)) (p : List ℕ) (ps : List (List ℕ)) → x
 some_behind [] p ps e = cc e
 some_behind (x ∷ xs) p ps e = cc e
 
--- texts that come to something, and what is after them
+-- texts that give something, and what is after them
 pub read_runs : (number : ℕ) (s q : Progress) (ts : List (List ℕ)) (p : List ℕ) (ps : List (List ℕ)) → runs number s ts ≡ Some q
     → read_from number s (ts ++ p ∷ ps) ≡ read_from (length ts + number) q (p ∷ ps)
 read_runs number s q [] p ps e =
@@ -103,7 +103,7 @@ read_runs number s q (t ∷ ts) p ps e =
     read_from-then number s t (ts ++ p ∷ ps) (some_behind ts p ps)
     ∙ ap (λ (o : Option Progress). or_line number o (λ r. read_from (suc number) r (ts ++ p ∷ ps))) b.1 ∙ read_runs (suc number) b.0 q ts p ps b.2 ∙ ap (λ (n : ℕ). read_from n q (p ∷ ps)) count
 
--- why the reading of pieces stops: at the end of a listing, at an end that is none, or at a line that can't stand there
+-- why the reading of pieces stops: at the end of a listing, at an end that is none, or at a line that can't be there
 pub data Told (at : ℕ) (here : List ℕ) (behind : List (List ℕ)) (there : Progress) (read : Result Progress ℕ) : Type 0 where
   whole : behind ≡ [] → is_end here there.code ≡ true → read ≡ Ok there → Told at here behind there read
   early : behind ≡ [] → is_end here there.code ≡ false → read ≡ Err at → Told at here behind there read
@@ -208,7 +208,7 @@ refused-taken number s t p none e =
     let r = taken-runs number s p (t ∷ []) (ap (λ (o : Option PartialCode). o >>= λ r. Some r) e) in
     none-some r.0 (sym (ap (λ (o : Option Progress). o >>= λ r. Some r) none) ∙ r.1)
 
--- a line that can't stand there
+-- a line that can't be there
 pub read_refused : (number : ℕ) (s : Progress) (left text behind : List ℕ) → pieces 10 left ≡ text ∷ pieces 10 behind → with_text number text s ≡ None
     → read_from number s (pieces 10 left) ≡ Err number
 read_refused number s left text behind e none =

@@ -20,7 +20,7 @@ use Rattle.tilt_stream.specs.Snap.{Snapshot}
 use Rattle.tilt_stream.specs.Snapshots.{snapshot_on, snapshots}
 use Rattle.tilt_stream.specs.Stream.{Stream}
 
--- what a search for the next mark tells, of the ticks up to a limit
+-- what a search for the next mark shows, of the ticks up to a limit
 abbrev Searched : Stream → ℤ → ℤ → Option ℤ → Type 0
 Searched x tick limit None = IsUnmarked x tick limit
 Searched x tick limit (Some next) = IsNextMark x tick next

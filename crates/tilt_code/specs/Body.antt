@@ -53,7 +53,7 @@ abbrev pub leaf_marked : List Stream → List Block → ℤ → Block → Bool
 leaf_marked xs maps tick [] = false
 leaf_marked xs maps tick (instr ∷ block) = (leaf_of xs maps instr).mark tick || leaf_marked xs maps tick block
 
--- the body of a loop as a stream: at each tick the result of its block; a mark stands where one of its leaves has one
+-- the body of a loop as a stream: at each tick the result of its block; it has a mark if one of its leaves has one
 abbrev pub body_of : List Stream → LoopParts → Stream
 body_of xs l = record {
   cell = λ tick. block_cell (λ instr. (leaf_of xs l.maps instr).cell tick) l.body;

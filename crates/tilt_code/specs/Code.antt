@@ -24,11 +24,11 @@ pub record CodeParts : Type 0 where
   pub inputs : List (List ℕ)
   pub loops : List LoopParts
 
--- blocks are told apart instruction by instruction
+-- blocks are distinguished instruction by instruction
 abbrev pub coded_block : Coded Block
 coded_block = coded_list instr.the_row.coded
 
--- loops are told apart part by part
+-- loops are distinguished part by part
 abbrev pub coded_loop : Coded LoopParts
 coded_loop =
     code_by (ℤ × (ℤ × (GridPoints × (List Block × Block)))) (coded× coded_ℤ

@@ -21,11 +21,11 @@ IsFront texts = (code : CodeParts) × IsGrammatical code × ((more : List (List 
 abbrev pub IsListing : List ℕ → Type 0
 IsListing text = (code : CodeParts) × IsGrammatical code × (text ≡ listing code)
 
--- no LF stands in the text
+-- no LF is in the text
 abbrev pub HasNoLineEnd : List ℕ → Type 0
 HasNoLineEnd text = ¬ (Contains text 10)
 
--- after these lines stands no whole line, though the text is no listing; or a line that can't stand there
+-- after these lines comes no whole line, though the text is no listing; or a line that can't be there
 abbrev pub IsBadBehind : List (List ℕ) → List ℕ → Type 0
 IsBadBehind before rest =
     (HasNoLineEnd rest × ¬ (IsListing (ended before ++ rest)))
@@ -72,7 +72,7 @@ abbrev pub AreGood : Counted → List Line → Type 0
 AreGood c [] = ⊤
 AreGood c (l ∷ ls) = IsTrue (is_good c l) × AreGood (count_line c l) ls
 
--- the text is a listing, and the first bad reference stands in that line of that loop, both counted from 1
+-- the text is a listing, and the first bad reference is in that line of that loop, both counted from 1
 pub record IsBadReference (text : List ℕ) (in_loop number : ℕ) : Type 0 where
   pub code : CodeParts
   pub before : List Line

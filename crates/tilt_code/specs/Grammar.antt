@@ -33,13 +33,13 @@ IsInstr (instr.One op a) = IsNumber a
 IsInstr (instr.Two op a b) = IsNumber a × IsNumber b
 IsInstr (instr.If c a b) = IsNumber c × IsNumber a × IsNumber b
 
--- whether an instruction may stand in a map: only bodies read buffers
+-- whether an instruction is allowed in a map: only bodies read buffers
 abbrev pub stands_in_map : Instr → Bool
 stands_in_map (instr.Port buffer offset) = false
 stands_in_map (instr.Win reducer buffer from to map) = false
 stands_in_map other = true
 
--- whether an instruction may stand in a body: only maps have an argument
+-- whether an instruction is allowed in a body: only maps have an argument
 abbrev pub stands_in_body : Instr → Bool
 stands_in_body instr.Argument = false
 stands_in_body other = true

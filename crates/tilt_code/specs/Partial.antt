@@ -66,7 +66,7 @@ abbrev pub with_title : Stage → PartialCode → Option PartialCode
 with_title stage.Before p = Some (record p { stage = stage.Outside })
 with_title other p = None
 
--- whether an input may follow with that name: no loop stands before it, and no input of its name
+-- whether an input may follow with that name: no loop comes before it, and no input of its name
 abbrev pub is_new : List LoopParts → List (List ℕ) → List ℕ → Bool
 is_new loops inputs name = is_nil loops && not (list_any (λ other. bytes_eq other name) inputs)
 
@@ -86,7 +86,7 @@ abbrev pub with_map : Stage → PartialCode → Option PartialCode
 with_map stage.InBody p = if is_nil p.block then Some (record p { stage = stage.InMap }) else None
 with_map other p = None
 
--- whether an instruction may stand in the open block
+-- whether an instruction is allowed in the open block
 abbrev pub stands_in : Stage → Instr → Bool
 stands_in stage.InMap i = stands_in_map i
 stands_in stage.InBody i = stands_in_body i
@@ -126,17 +126,17 @@ with_line line.End p = with_end p.stage p
 abbrev pub line_read : List ℕ → Option Line
 line_read text = line_of (pieces 32 text)
 
--- whether the line names only what stands before it
+-- whether the line names only what is before it
 abbrev pub refers_back : PartialCode → Line → Bool
 refers_back p (line.Step register i) = refers_below (length p.inputs + length p.loops) (length p.maps) register i
 refers_back p other = true
 
--- the first bad reference, with the line of that number, which stands after a partial code
+-- the first bad reference, with the line of that number, which comes after a partial code
 abbrev pub note : Option Place → PartialCode → Line → ℕ → Option Place
 note (Some place) p l number = Some place
 note None p l number = if refers_back p l then None else Some (record { in_loop = suc (length p.loops); line = number })
 
--- what the lines so far come to: a partial code, and the first bad reference in it
+-- what the lines so far give: a partial code, and the first bad reference in it
 pub record Progress : Type 0 where
   pub code : PartialCode
   pub bad : Option Place
@@ -160,17 +160,17 @@ abbrev pub or_line : ℕ → Option Progress → (Progress → Result Progress �
 or_line number None next = Err number
 or_line number (Some s) next = next s
 
--- what a text comes to that is left, of which the pieces between LFs are given, from the line of that number on; or the first bad line
+-- what the rest of a text gives, of which the pieces between LFs are given, from the line of that number on; or the first bad line
 abbrev pub read_from : ℕ → Progress → List (List ℕ) → Result Progress ℕ
 read_from number s [] = Err number
 read_from number s (text ∷ []) = if is_end text s.code then Ok s else Err number
 read_from number s (text ∷ next ∷ more) = or_line number (with_text number text s) (λ q. read_from (suc number) q (next ∷ more))
 
--- what a text comes to, or the first bad line
+-- what a text gives, or the first bad line
 abbrev pub read_text : List ℕ → Result Progress ℕ
 read_text text = read_from 1 (record { code = nothing; bad = None }) (pieces 10 text)
 
--- that the line was taken, or can't stand there; nothing is said where memory ran out
+-- that the line was taken, or can't be there; nothing is said if memory ran out
 abbrev pub Takes : {E : Type 0} → Option PartialCode → Result Bool E → PartialCode → Type 0
 Takes read (Ok true) new = read ≡ Some new
 Takes read (Ok false) new = read ≡ None

@@ -1,4 +1,4 @@
--- How a line is read, word by word. What it comes to is said by the lines' words alone: `Line`.
+-- How a line is read, word by word. What it gives is said by the lines' words alone: `Line`.
 use Rattle.std.specs.Prelude.{ℕ, ◌^◌, ◌==◌, ℤ, pos, negsuc, neg_ℤ, int_lt, int_le, nat_lt, Bool, not, ◌&&◌}
 use Rattle.std.specs.Prelude.{if◌then◌else◌, List, [], ◌∷◌, Option, Some, None, MatchOption, codes, ◌≡◌}
 use Rattle.std.specs.List.{find, list_any, slice_split}
@@ -39,7 +39,7 @@ abbrev pub named : ℕ → List ℕ → Option ℕ
 named letter [] = None
 named letter (byte ∷ bytes) = if byte == letter then shortest bytes >>= within_u32 else None
 
--- the next word, and the words after it
+-- the next word, and those after it
 abbrev pub word_at : List (List ℕ) → Option (List ℕ × List (List ℕ))
 word_at [] = None
 word_at (word ∷ words) = Some (word, words)
@@ -226,6 +226,6 @@ words_line first words = if bytes_eq first (codes "input") then last_word words 
 abbrev pub line_of : List (List ℕ) → Option Line
 line_of words = word_at words >>= λ first. words_line first.0 first.1
 
--- what was read, and the words after it; nothing says what is left where nothing was read
+-- what was read, and those words that follow it; nothing says what is left if nothing was read
 abbrev pub Reads : {A : Type 0} → Option (A × List (List ℕ)) → Option A → List (List ℕ) → Type 0
 Reads read result left = MatchOption result (read ≡ None) (λ x. read ≡ Some (x, left))

@@ -1,4 +1,4 @@
--- Good references: each instruction names only what stands before it.
+-- Good references: each instruction names only what is before it.
 use Rattle.std.specs.Prelude.{ℕ, suc, Bool, true, ◌&&◌, nat_lt, List, [], ◌∷◌, length, Some, None, IsTrue, ⊤}
 use Rattle.std.specs.List.{AllByRecursion}
 use Rattle.tilt_code.specs.Code.{Block, LoopParts, CodeParts}

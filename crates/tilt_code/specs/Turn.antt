@@ -14,8 +14,8 @@ abbrev pub turn_end : GridPoints → ℤ → Option ℤ → ℤ
 turn_end grid hi None = hi
 turn_end grid hi (Some next) = int_min hi (floor grid (next -ℤ pos 1))
 
--- the snapshot from a start to `hi` at most: its value is the body's cell at the least grid point above the start, and it ends by the
--- body's first mark above that point; marks more than a period above `hi` change nothing
+-- the snapshot from a start to `hi` at most. Its value is the body's cell at the smallest grid point above the start, and it ends by the
+-- body's first mark above that point. Marks more than a period above `hi` change nothing
 abbrev pub turn : Stream → GridPoints → ℤ → ℤ → Snapshot
 turn body grid hi start =
     let point = ceil grid (start +ℤ pos 1) in

@@ -5,8 +5,8 @@ use crate::loops::Loop;
 use std::marker::Model;
 use tilt_lexer::Name;
 
-/// A code that can be run: each instruction stands where it may, has its numbers within their bounds, and names only
-/// what stands before it. A clause sees it as plain data.
+/// A code that can be run: each instruction is where it may be, has its numbers within their bounds, and names only
+/// what is before it. A clause sees it as plain data.
 #[derive(Debug, Drop)]
 pub struct Code {
     inputs: Vec<Name>,

@@ -4,11 +4,11 @@ ghost use Rattle.tilt_code.specs.declared.fault.CodeFault.TheVariants.{OutOfMemo
 use std::alloc::AllocError;
 use thiserror::Error;
 
-/// Why bytes are no listing of a code. Lines and loops are counted from 1.
+/// Why bytes aren't the listing of a code. Lines and loops are counted from 1.
 #[derive(Debug, Drop, PartialEq, Eq, Error)]
 pub enum CodeFault {
-    /// The bytes are no listing by its grammar, and this line is the first that can't stand there. It is the one after
-    /// the last whole line where the bytes end too early, or without LF.
+    /// The bytes aren't a listing by its grammar, and this line is the first that can't be where it is. It is the line
+    /// after the last whole line if the bytes end too early, or without LF.
     #[error("line {line} of the code can't stand there")]
     BadCode { line: u64 },
     /// The bytes are a listing by its grammar, and this line is the first that names a buffer, a register or a map that

@@ -8,15 +8,15 @@ pub enum Instr {
     Const(i64),
     /// Null.
     Null,
-    /// The cell that a map is run on. It stands only in maps.
+    /// The cell that a map is run on. It occurs only in maps.
     Argument,
-    /// The cell of a buffer, `offset` ticks later: earlier where that is negative.
+    /// The cell of a buffer, `offset` ticks later, or earlier if that is negative.
     Port {
         buffer: u32,
         offset: i64,
     },
-    /// What a reducer gives on the snapshots of a buffer that meet the ticks from `from + 1` to `to` ticks later, each by the
-    /// result of a map on its cell, or by its cell where there is no map.
+    /// What a reducer gives on the snapshots of a buffer that meet the ticks from `from + 1` to `to` ticks later. Each snapshot counts by
+    /// the result of a map on its cell, or by its cell if there is no map.
     Win {
         reducer: Reducer,
         buffer: u32,

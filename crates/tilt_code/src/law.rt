@@ -16,10 +16,10 @@ ghost use Rattle.tilt_stream.specs.Snap.{Snapshot, AreSnapshots, Fill};
 ghost use Rattle.tilt_stream.specs.Snapshots.{snapshots};
 ghost use Rattle.tilt_stream.specs.Stream.{Stream, SameStream, stream_of};
 
-/// This does nothing. Its clauses say what turns are, without the counts of ticks by which they are defined. From a start
-/// below the end of the stretch comes one turn, and then those from its end; from the end of the stretch on comes none.
-/// A turn ends above its start, and not above the end of the stretch: by the next mark of the body above the grid point at
-/// which its value is taken, however far that mark lies, and at the end of the stretch where there is none.
+/// This does nothing. Its clauses say what turns are, without the counts of ticks by which they are defined. From a start below the end of
+/// the stretch there is one turn, and then the turns from its end; from the end of the stretch on there is none. A turn ends above its
+/// start, and not above the end of the stretch. It ends by the next mark of the body above the grid point at which its value is taken,
+/// however far that mark lies. If there is no such mark, it ends at the end of the stretch.
 pub fn turns_end_by_marks()
     ensures first { (body : Stream) (grid : GridPoints) (hi start : ℤ) → IsGrid grid → start <ℤ hi
         → turns_until body grid hi start ≡ turn body grid hi start ∷ turns_until body grid hi (turn body grid hi start).end }
@@ -34,12 +34,11 @@ pub fn turns_end_by_marks()
         → (turn body grid hi start).end ≡ hi }
 {}
 
-/// This does nothing. Its clauses are the law that ties turns to streams, for loops that have a stretch and a grid; what a
-/// loop refers to needn't be there. Over buffers that change only at marks, the body changes only at marks, and so does the
-/// loop. The turns of a loop are the snapshots of its stream on its stretch, and their list has that stream, at every tick.
-/// So the buffers of a code have the streams of its loops read as definitions, and the run of a code gives the snapshots
-/// of its meaning on the stretch of its last loop. The loops of each `Code` have a stretch and a grid. The lists touch and go from the
-/// lower end of the stretch to the upper.
+/// This does nothing. Its clauses are the law that ties turns to streams, for loops that have a stretch and a grid; what a loop refers to
+/// needn't be there. Over buffers that change only at marks, the body changes only at marks, and so does the loop. The turns of a loop are
+/// the snapshots of its stream on its stretch, and their list has that stream, at every tick. So the buffers of a code have the streams of
+/// its loops read as definitions. So, too, the run of a code gives the snapshots of its meaning on the stretch of its last loop. The loops
+/// of each `Code` have a stretch and a grid. The lists touch and go from the lower end of the stretch to the upper.
 pub fn loops_are_streams()
     ensures body_changes { (xs : List Stream) (l : LoopParts) → AllByRecursion ChangesOnlyAtMarks xs
         → ChangesOnlyAtMarks (body_of xs l) }

@@ -3,11 +3,11 @@
 //! A code has inputs and loops. Each loop fills one buffer of snapshots from the buffers before it: its body is a block of
 //! instructions, which are computed once for each snapshot. A `Code` keeps what `specs/Grammar` and `specs/References` ask.
 //!
-//! What comes in is codes and bytes; what goes out is listings, and codes again. The clause of `list` says that it gives the text
-//! of `specs/Listing`. Those of `read_code` say that it gives the code whose listing the bytes are (`code`, `only`), or the first
-//! fault by `specs/Fault` (`bad_line`, `bad_reference`), and nothing else but want of memory (`first_line`, `first_reference`).
-//! What a code gives stands in `specs/Turn` and `specs/Run`; the clauses of `loops_are_streams` say that it is the snapshots of
-//! streams, as `specs/Meaning` defines them, and those of `turns_end_by_marks` what a turn is without counting ticks.
+//! What comes in is codes and bytes; what goes out is listings, and codes again. The clause of `list` says that it gives the text of
+//! `specs/Listing`. The clauses of `read_code` say that it gives the code whose listing the bytes are (`code`, `only`), or the first fault
+//! by `specs/Fault` (`bad_line`, `bad_reference`). It gives nothing else, unless it runs out of memory (`first_line`, `first_reference`).
+//! `specs/Turn` and `specs/Run` define what a code gives. The clauses of `loops_are_streams` say that it is the snapshots of streams, as
+//! `specs/Meaning` defines them. The clauses of `turns_end_by_marks` say what a turn is without counting ticks.
 #![tactic(auto)]
 
 mod code;

@@ -57,7 +57,7 @@ fn read_words(
     }
 }
 
-// The next word, where it is the last.
+// The next word, if it is the last.
 fn last_word<'a>(words: &mut Words<'a>) -> Option<&'a [u8]>
     ensures { option_map (λ word. word.now) result ≡ last_word words.old }
 {
@@ -65,7 +65,7 @@ fn last_word<'a>(words: &mut Words<'a>) -> Option<&'a [u8]>
     if words.is_empty() { Some(word) } else { None }
 }
 
-// The input's line, where it may have the name.
+// The input's line, if it may have the name.
 fn input_line(alloc: Global, name: &[u8]) -> Result<Option<Line>, OutOfMemory>
     ensures { IfOk result (λ line. line ≡ input_line name.now) }
 {
@@ -145,7 +145,7 @@ fn read_head(words: &mut Words<'_>) -> Option<Line>
     }
 }
 
-// The grid, where the numbers bound one.
+// The grid, if the numbers bound one.
 fn grid_of(period: i64, offset: i64) -> Option<Grid>
     ensures { result ≡ grid_of period offset }
 {

@@ -25,7 +25,7 @@ pub fn list(alloc: Global, code: &Code) -> Result<Vec<u8>, OutOfMemory>
     Ok(text)
 }
 
-// Puts the lines of the inputs.
+// Appends the lines of the inputs.
 fn put_inputs(text: &mut Vec<u8>, names: &[Name]) -> Result<(), OutOfMemory>
     ensures { OnOk result (text.new.items ≡ text.old.items ++ ended (map line_text (map Input names.now))) }
 {
@@ -35,7 +35,7 @@ fn put_inputs(text: &mut Vec<u8>, names: &[Name]) -> Result<(), OutOfMemory>
     Ok(())
 }
 
-// Puts `input x`.
+// Appends `input x`.
 fn put_input(text: &mut Vec<u8>, name: &Name) -> Result<(), OutOfMemory>
     ensures { OnOk result (text.new.items ≡ text.old.items ++ ended (line_text (Input name.now) ∷ [])) }
 {
@@ -44,7 +44,7 @@ fn put_input(text: &mut Vec<u8>, name: &Name) -> Result<(), OutOfMemory>
     put(text, b"\n")
 }
 
-// Puts the lines of loops.
+// Appends the lines of loops.
 fn put_loops(text: &mut Vec<u8>, loops: &[Loop]) -> Result<(), OutOfMemory>
     ensures { OnOk result (text.new.items ≡ text.old.items ++ ended (map line_text (flat_map loop_lines loops.now))) }
 {
@@ -54,7 +54,7 @@ fn put_loops(text: &mut Vec<u8>, loops: &[Loop]) -> Result<(), OutOfMemory>
     Ok(())
 }
 
-// Puts the lines of a loop.
+// Appends the lines of a loop.
 fn put_loop(text: &mut Vec<u8>, each: &Loop) -> Result<(), OutOfMemory>
     ensures { OnOk result (text.new.items ≡ text.old.items ++ ended (map line_text (loop_lines each.now))) }
 {
@@ -65,7 +65,7 @@ fn put_loop(text: &mut Vec<u8>, each: &Loop) -> Result<(), OutOfMemory>
     Ok(())
 }
 
-// Puts the first line of a loop.
+// Appends the first line of a loop.
 fn put_head(text: &mut Vec<u8>, lo: i64, hi: i64, grid: &Grid) -> Result<(), OutOfMemory>
     ensures { OnOk result (text.new.items ≡ text.old.items ++ ended (line_text (Head lo hi grid.now) ∷ [])) }
 {
@@ -77,7 +77,7 @@ fn put_head(text: &mut Vec<u8>, lo: i64, hi: i64, grid: &Grid) -> Result<(), Out
     Ok(())
 }
 
-// Puts two numbers, with a blank between them.
+// Appends two numbers, with a blank between them.
 fn put_numbers(text: &mut Vec<u8>, first: i64, second: i64) -> Result<(), OutOfMemory>
     ensures { OnOk result (text.new.items
         ≡ text.old.items ++ spaced (signed_decimal first ∷ signed_decimal second ∷ [])) }
@@ -87,7 +87,7 @@ fn put_numbers(text: &mut Vec<u8>, first: i64, second: i64) -> Result<(), OutOfM
     put_number(text, second)
 }
 
-// Puts the lines of maps.
+// Appends the lines of maps.
 fn put_maps(text: &mut Vec<u8>, maps: &[Vec<Instr>]) -> Result<(), OutOfMemory>
     ensures { OnOk result (text.new.items
         ≡ text.old.items ++ ended (map line_text (flat_map map_lines (map (λ m. m.items) maps.now)))) }
@@ -98,7 +98,7 @@ fn put_maps(text: &mut Vec<u8>, maps: &[Vec<Instr>]) -> Result<(), OutOfMemory>
     Ok(())
 }
 
-// Puts the lines of a map.
+// Appends the lines of a map.
 #[tactic(auto, using(crate::proofs::Lines::map_text))]
 fn put_map(text: &mut Vec<u8>, block: &[Instr]) -> Result<(), OutOfMemory>
     ensures { OnOk result (text.new.items ≡ text.old.items ++ ended (map line_text (map_lines block.now))) }
@@ -108,7 +108,7 @@ fn put_map(text: &mut Vec<u8>, block: &[Instr]) -> Result<(), OutOfMemory>
     put(text, b"end\n")
 }
 
-// Puts the lines of a block.
+// Appends the lines of a block.
 fn put_block(text: &mut Vec<u8>, block: &[Instr]) -> Result<(), OutOfMemory>
     ensures { OnOk result (text.new.items ≡ text.old.items ++ ended (map line_text (block_lines 0 block.now))) }
 {
@@ -118,7 +118,7 @@ fn put_block(text: &mut Vec<u8>, block: &[Instr]) -> Result<(), OutOfMemory>
     Ok(())
 }
 
-// Puts the line of an instruction, which fills that register.
+// Appends the line of an instruction, which fills that register.
 fn put_step(text: &mut Vec<u8>, register: usize, instr: Instr) -> Result<(), OutOfMemory>
     ensures { OnOk result (text.new.items ≡ text.old.items ++ ended (line_text (Step register instr) ∷ [])) }
 {
@@ -129,7 +129,7 @@ fn put_step(text: &mut Vec<u8>, register: usize, instr: Instr) -> Result<(), Out
     put(text, b"\n")
 }
 
-// Puts the words of an instruction.
+// Appends the words of an instruction.
 fn put_instr(text: &mut Vec<u8>, instr: Instr) -> Result<(), OutOfMemory>
     ensures { OnOk result (text.new.items ≡ text.old.items ++ spaced (instr_words instr)) }
 {
@@ -172,7 +172,7 @@ fn put_instr(text: &mut Vec<u8>, instr: Instr) -> Result<(), OutOfMemory>
     }
 }
 
-// Puts a port.
+// Appends a port.
 fn put_port(text: &mut Vec<u8>, buffer: u32, offset: i64) -> Result<(), OutOfMemory>
     ensures { OnOk result (text.new.items
         ≡ text.old.items ++ spaced (codes "port" ∷ buffer_word buffer ∷ signed_decimal offset ∷ [])) }
@@ -183,7 +183,7 @@ fn put_port(text: &mut Vec<u8>, buffer: u32, offset: i64) -> Result<(), OutOfMem
     put_number(text, offset)
 }
 
-// Puts a window without its map.
+// Appends a window without its map.
 fn put_window(
     text: &mut Vec<u8>,
     reducer: Reducer,
@@ -235,7 +235,7 @@ pub(crate) fn two_word(op: Op2) -> &'static [u8]
     }
 }
 
-// Puts a blank, a letter and a number.
+// Appends a blank, a letter and a number.
 fn put_named(text: &mut Vec<u8>, letter: &[u8], number: u32) -> Result<(), OutOfMemory>
     ensures { OnOk result (text.new.items ≡ text.old.items ++ letter.now ++ decimal number) }
 {

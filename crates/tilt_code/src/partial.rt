@@ -29,7 +29,7 @@ pub(crate) struct Partial {
 }
 
 impl Partial {
-    // What stands before the first line.
+    // What there is before the first line.
     pub(crate) fn new(alloc: Global) -> Partial
         ensures { parts_of result ≡ nothing }
     {
@@ -48,7 +48,7 @@ impl Partial {
         }
     }
 
-    // Goes on by a line, and says whether it may stand there.
+    // Continues with a line, and says whether it may be there.
     pub(crate) fn take(&mut self, alloc: Global, line: Line) -> Result<bool, OutOfMemory>
         ensures { Takes (with_line line (parts_of self.old)) result (parts_of self.new) }
     {
@@ -62,7 +62,7 @@ impl Partial {
         }
     }
 
-    // Goes on by the first line of a listing.
+    // Continues with the first line of a listing.
     fn take_title(&mut self) -> Result<bool, OutOfMemory>
         ensures { Takes (with_title self.old.stage (parts_of self.old)) result (parts_of self.new) }
     {
@@ -75,7 +75,7 @@ impl Partial {
         }
     }
 
-    // Goes on by the line of an input.
+    // Continues with the line of an input.
     fn take_input(&mut self, alloc: Global, name: Name) -> Result<bool, OutOfMemory>
         ensures { Takes (with_input self.old.stage name (parts_of self.old)) result (parts_of self.new) }
     {
@@ -91,7 +91,7 @@ impl Partial {
         }
     }
 
-    // Goes on by the first line of a loop.
+    // Continues with the first line of a loop.
     fn take_head(&mut self, lo: i64, hi: i64, grid: Grid) -> Result<bool, OutOfMemory>
         ensures { Takes (with_head self.old.stage lo hi grid (parts_of self.old)) result (parts_of self.new) }
     {
@@ -107,7 +107,7 @@ impl Partial {
         }
     }
 
-    // Goes on by the first line of a map.
+    // Continues with the first line of a map.
     fn take_map(&mut self) -> Result<bool, OutOfMemory>
         ensures { Takes (with_map self.old.stage (parts_of self.old)) result (parts_of self.new) }
     {
@@ -123,7 +123,7 @@ impl Partial {
         }
     }
 
-    // Goes on by the line of an instruction.
+    // Continues with the line of an instruction.
     fn take_step(&mut self, register: u32, instr: Instr) -> Result<bool, OutOfMemory>
         ensures { Takes (with_step self.old.stage register instr (parts_of self.old)) result (parts_of self.new) }
     {
@@ -134,7 +134,7 @@ impl Partial {
         Ok(true)
     }
 
-    // Goes on by the last line of a map or of a loop.
+    // Continues with the last line of a map or of a loop.
     fn take_end(&mut self, alloc: Global) -> Result<bool, OutOfMemory>
         ensures { Takes (with_end self.old.stage (parts_of self.old)) result (parts_of self.new) }
     {
@@ -197,7 +197,7 @@ fn push_instr(block: &mut Vec<Instr>, instr: Instr) -> Result<(), OutOfMemory>
     Ok(())
 }
 
-// Whether an instruction may stand in the open block.
+// Whether an instruction is allowed in the open block.
 fn stands_in(stage: Stage, instr: Instr) -> bool
     ensures { result ≡ stands_in stage instr }
 {
@@ -208,7 +208,7 @@ fn stands_in(stage: Stage, instr: Instr) -> bool
     }
 }
 
-// Whether an instruction may stand in a map.
+// Whether an instruction is allowed in a map.
 fn stands_in_map(instr: Instr) -> bool
     ensures { result ≡ stands_in_map instr }
 {
@@ -223,7 +223,7 @@ fn stands_in_map(instr: Instr) -> bool
     }
 }
 
-// Whether an instruction may stand in a body.
+// Whether an instruction is allowed in a body.
 fn stands_in_body(instr: Instr) -> bool
     ensures { result ≡ stands_in_body instr }
 {

@@ -18,17 +18,17 @@ use crate::stage::Stage;
 use crate::word::cut;
 use std::alloc::{AllocError as OutOfMemory, Global};
 
-// What the lines of a text so far come to.
+// What the lines of a text so far give.
 #[derive(Drop)]
 struct Progress {
     code: Partial,
     bad: Option<Place>,
 }
 
-/// The code whose listing the bytes are. `BadCode` tells the first line that can't stand after those before it, is spelled
-/// otherwise, or has a number out of its range; a text that ends before a listing is whole, or without LF, is bad in the line
-/// after its last whole one. `BadReference` comes where the bytes are a listing by its grammar, and tells the first line
-/// that names a buffer, a register or a map that isn't defined before it.
+/// The code whose listing the bytes are. `BadCode` gives the first line that can't follow those before it, is spelled otherwise, or has a
+/// number out of its range. If a text ends before a listing is whole, or without LF, the bad line is the one after its last whole line. If
+/// the bytes are a listing by its grammar, `BadReference` gives the first line that names a buffer, a register or a map that isn't defined
+/// before it.
 pub fn read_code(alloc: Global, bytes: &[u8]) -> Result<Code, CodeFault>
     ensures code { IfOk result (λ code. IsCode code × (bytes.now ≡ listing code)) }
     ensures bad_line { IfErr result (λ fault. (line : ℕ) → fault ≡ CodeFault.BadCode line → IsBadLine bytes.now line) }
@@ -61,7 +61,7 @@ fn read(alloc: Global, bytes: &[u8]) -> Result<Code, CodeFault>
     }
 }
 
-// What the lines of a text come to.
+// What the lines of a text give.
 fn read_lines(alloc: Global, bytes: &[u8]) -> Result<Progress, CodeFault>
     ensures { GivesProgress (λ s. record { code = parts_of s.code; bad = s.bad }) result (read_text bytes.now) }
 {
@@ -82,7 +82,7 @@ fn read_lines(alloc: Global, bytes: &[u8]) -> Result<Progress, CodeFault>
     Err(CodeFault::OutOfMemory)
 }
 
-// What the lines of a text come to, where those before this last one, which no LF ends, come to that code and bad reference.
+// What the lines of a text give, if those before this last one, which no LF ends, give that code and bad reference.
 fn finish(
     code: Partial,
     bad: Option<Place>,
@@ -106,7 +106,7 @@ fn is_end(code: &Partial, text: &[u8]) -> bool
     text.is_empty() && is_whole(code)
 }
 
-// Goes on by the text of a line, which is the line of that number, and says whether it may stand there.
+// Continues with the text of a line, which is the line of that number, and says whether it may be there.
 fn take_text(
     alloc: Global,
     code: &mut Partial,
@@ -124,7 +124,7 @@ fn take_text(
     code.take(alloc, line)
 }
 
-// The first bad reference, with the line of that number, which stands after a code.
+// The first bad reference, with the line of that number, which comes after a code.
 fn note(bad: Option<Place>, code: &Partial, line: &Line, number: u64) -> Option<Place>
     ensures { result ≡ note bad (parts_of code.now) line.now number }
 {
@@ -143,7 +143,7 @@ fn note(bad: Option<Place>, code: &Partial, line: &Line, number: u64) -> Option<
     }
 }
 
-// Whether the line names only what stands before it.
+// Whether the line names only what is before it.
 fn refers_back(code: &Partial, line: &Line) -> bool
     ensures { result ≡ refers_back (parts_of code.now) line.now }
 {

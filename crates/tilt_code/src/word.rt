@@ -114,7 +114,7 @@ impl<'a> Words<'a> {
         find_reducer(self.next()?)
     }
 
-    // The number of the map, where there is a word.
+    // The number of the map, if there is a word.
     pub(crate) fn map(&mut self) -> Option<Option<u32>>
         ensures { Reads (map_at self.old) result self.new }
     {
@@ -126,7 +126,7 @@ impl<'a> Words<'a> {
     }
 }
 
-// The bytes before the first that is the mark, and those after it where there is one.
+// The bytes before the first that is the mark, and those after it if there is one.
 pub(crate) fn cut(bytes: &[u8], mark: u8) -> (&[u8], Option<&[u8]>)
     ensures { pieces mark bytes.now ≡ result.0.now ∷ pieces_left mark (option_map (λ left. left.now) result.1) }
 {

@@ -1,4 +1,4 @@
--- What trees ask of the sources that they read, where the trees of merged sources are put in.
+-- What trees ask of the sources that they read, when the trees of merged sources are inserted.
 use Rattle.std.proofs.Common.{◌≡◌, ℕ, ◌*◌, ◌<◌, ◌≤◌, ◌==◌, ℤ, pos, ◌+ℤ◌, ◌≤ℤ◌, ◌<ℤ◌, Bool, true, false, List, get_or, Option, Some, None, if◌then◌else◌, refl, arith, subst}
 use Rattle.std.specs.Prelude.{◌||◌, is_some, ⊤}
 use Rattle.std.specs.Option.{option_map_or, option_or}

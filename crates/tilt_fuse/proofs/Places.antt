@@ -39,7 +39,7 @@ module _ (inputs : ℕ) (defs : List Definition) (place : ℕ) (low : place < le
       let many = known.are_used.many ∙ length-needs inputs defs in
       known.are_used.each (inputs + place) (omega (arith, many)) ∙ ap is_some (need_at-definition inputs defs place)
 
-  -- a window on a source stands in it or after it
+  -- a window on a source is in it or after it
   pub windowed-from : (def : Definition) (number : ℕ) → def ≡ get_or defs place def
       → is_windowed (drop place defs) (drop place ns) number ≡ ((is_some (get_or ns place None) && has_window_on def.body number) || is_windowed (drop (suc place) defs) (drop (suc place) ns) number)
   windowed-from def number is =

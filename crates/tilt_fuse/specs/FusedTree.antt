@@ -95,7 +95,7 @@ stored_tree_inj x y p = absurd (cc p)
 abbrev pub coded_fused : Coded FusedTree
 coded_fused = record { code = stored_tree; inj = stored_tree_inj }
 
--- loops are told apart part by part
+-- loops are distinguished part by part
 abbrev pub coded_planned : Coded PlannedLoop
 coded_planned =
     code_by (ℕ × FusedTree) (coded× coded_ℕ coded_fused) (λ l. (l.def, l.body)) (λ p. record { def = p.0; body = p.1 }) (λ _. refl)

@@ -67,8 +67,8 @@ abbrev pub is_port : FusedTree → Bool
 is_port (Port source offset) = true
 is_port other = false
 
--- a window on a merged definition is one on the reading that its tree is made from, by the tree as a map; there is no map where the
--- tree is the port alone
+-- a window on a merged definition is one on the reading that its tree is made from, by the tree as a map. There is no map if the tree is
+-- the port alone
 abbrev pub window_over : FusedTree → Reading → Reducer → ℤ → ℤ → FusedTree
 window_over tree p reducer from to =
     if is_port tree then Win reducer p.source (from +ℤ p.offset) (to +ℤ p.offset)
@@ -113,9 +113,9 @@ abbrev pub are_none : List Definition → Bool
 are_none [] = true
 are_none (def ∷ defs) = false
 
--- whether a used definition is merged, that has this number and this tree, and these definitions after it: it isn't the emitted one,
--- it has neither a span nor a period above 1, its tree is small, and where a used definition has a window on it, its tree is made
--- from one reading
+-- whether a used definition with this number and this tree is merged, if these definitions come after it. It is merged if it isn't the
+-- emitted one, has neither a span nor a period above 1, and its tree is small. Also, if a used definition has a window on it, its tree must
+-- be made from one reading
 abbrev pub is_merged : Definition → List Definition → List (Option Need) → ℕ → FusedTree → Bool
 is_merged def behind ns number tree =
     not (are_none behind) && not (is_some def.over) && int_eq def.grid.period (pos 1) && nat_le (nodes tree) 64

@@ -11,7 +11,7 @@ use Rattle.tilt_core.specs.CoreTree.{Definition}
 use Rattle.tilt_core.specs.Meaning.{source_of, body_of, sources}
 use Rattle.tilt_fuse.specs.FusedTree.{FusedTree, Const, Port, Win, WinBy, Argument, One, Two, If, PlannedLoop}
 
--- what a map gives on a cell; ports and windows, which stand in no map, are null there
+-- what a map gives on a cell; ports and windows, which occur in no map, are null there
 abbrev pub map_cell : FusedTree → Option ℤ → Option ℤ
 map_cell (Const number) cell = Some number
 map_cell Argument cell = cell
@@ -20,7 +20,7 @@ map_cell (Two op a b) cell = apply2 op (map_cell a cell) (map_cell b cell)
 map_cell (If c a b) cell = choose (map_cell c cell) (map_cell a cell) (map_cell b cell)
 map_cell other cell = None
 
--- what a tree gives over the streams of sources; an argument, which stands in maps alone, is null outside of them
+-- what a tree gives over the streams of sources; an argument, which occurs in maps alone, is null outside of them
 abbrev pub fused_stream : List Stream → FusedTree → Stream
 fused_stream xs (Const number) = constant (Some number)
 fused_stream xs (Port source offset) = shifted (source_of xs source) offset

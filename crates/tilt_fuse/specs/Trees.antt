@@ -50,8 +50,8 @@ HasMaps (Two op a b) = HasMaps a × HasMaps b
 HasMaps (If c a b) = HasMaps c × HasMaps a × HasMaps b
 HasMaps other = ⊤
 
--- what a tree with a need asks of each source that it reads is as a condition says; windows end after their starts, their maps are maps,
--- and arguments stand in maps alone
+-- what a tree with a need asks of each source that it reads is as a condition says. Windows end after their starts, their maps are maps,
+-- and arguments occur in maps alone
 abbrev pub EachAsks : (ℕ → Need → Type 0) → Need → FusedTree → Type 0
 EachAsks P n (Const number) = ⊤
 EachAsks P n (Port source offset) = P source (reaching n offset offset)
@@ -67,8 +67,8 @@ abbrev pub Holds : Option Need → Need → Type 0
 Holds None asked = ⊥
 Holds (Some n) asked = (asked.back ≤ℤ n.back) × (asked.ahead ≤ℤ n.ahead)
 
--- the tree of a merged source is small, it asks each source that it reads for no more than the source's need, and where its source has
--- windows on it, it is made from one reading
+-- the tree of a merged source is small, and it asks each source that it reads for no more than the source's need. If its source has windows
+-- on it, it is made from one reading
 pub record IsMergedTree (needs : List (Option Need)) (windowed_on : Bool) (source : ℕ) (tree : FusedTree) : Type 0 where
   pub small : nodes tree ≤ 64
   pub need : Need

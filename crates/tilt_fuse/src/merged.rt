@@ -1,8 +1,8 @@
 use crate::fused::Fused;
 use std::marker::Model;
 
-/// A source: what it computes where it was merged into its users, and `None` where it has a buffer. A clause sees it as
-/// plain data.
+/// A source: what it computes if it was merged into its users, and `None` if it has a buffer. A clause sees it as plain
+/// data.
 #[derive(Debug, Drop)]
 pub struct Merged {
     pub tree: Option<Fused>,

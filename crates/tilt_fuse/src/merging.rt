@@ -12,7 +12,7 @@ use crate::query::Query;
 use crate::reading::only_reading;
 use tilt_core::{Def, Tree};
 
-/// A merged definition has at most so many nodes.
+/// The maximum number of nodes of a merged definition.
 const MOST: u32 = 64;
 
 /// Whether the used definition at a place, which has this tree, is merged.
@@ -26,7 +26,7 @@ pub fn is_merged(query: &Query, place: usize, def: &Def, tree: &Fused) -> bool
     query.fuse && is_mergeable(query, place, def, tree)
 }
 
-// The same where definitions are merged at all.
+// The same if definitions are merged at all.
 fn is_mergeable(query: &Query, place: usize, def: &Def, tree: &Fused) -> bool
     requires known { IsKnown query.now.inputs query.now.defs.now query.now.used.now }
     requires place { place < length query.now.defs.now }

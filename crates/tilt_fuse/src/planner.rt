@@ -56,7 +56,7 @@ fn unmerged(alloc: Global, count: usize) -> Result<Vec<Merged>, OutOfMemory>
     Ok(merged)
 }
 
-// Goes on by the definition at a place: it isn't used, it is merged, or it has a loop.
+// Continues with the definition at a place: it isn't used, it is merged, or it has a loop.
 fn plan_definition(
     alloc: Global,
     query: &Query,

@@ -1,4 +1,4 @@
-// What a plan has come to.
+// The state of a plan so far.
 ghost use Rattle.std.specs.Prelude.{◌≡◌, ◌<◌, ◌++◌, [], ◌∷◌, Some, None, OnOk};
 ghost use Rattle.tilt_fuse.specs.FusedTree.{fused_tree_of};
 

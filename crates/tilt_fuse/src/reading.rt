@@ -1,4 +1,4 @@
-// What a tree reads, where that is one source at one offset.
+// What a tree reads, if that is one source at one offset.
 ghost use Rattle.std.specs.Prelude.{◌≡◌, IfSome};
 ghost use Rattle.tilt_base.specs.Offset.{IsOffset};
 ghost use Rattle.tilt_fuse.specs.FusedTree.{fused_tree_of};
@@ -14,7 +14,7 @@ pub struct Reading {
     pub offset: i64,
 }
 
-/// The one reading that a tree without windows is made from, where its ports are all the same.
+/// The one reading that a tree without windows is made from, if its ports are all the same.
 pub fn only_reading(tree: &Fused) -> Option<Reading>
     ensures reading { result ≡ only_reading (fused_tree_of tree.now) }
     ensures near { IsNear (fused_tree_of tree.now) → IfSome result (λ p. IsOffset p.offset) }

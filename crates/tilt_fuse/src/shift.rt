@@ -1,4 +1,4 @@
-// Trees so many ticks later.
+// Trees moved by a number of ticks.
 ghost use Rattle.std.specs.Prelude.{◌≡◌, IfOk};
 ghost use Rattle.tilt_base.specs.Offset.{IsOffset};
 ghost use Rattle.tilt_fuse.specs.FusedTree.{fused_tree_of};
@@ -8,7 +8,7 @@ ghost use Rattle.tilt_fuse.specs.Trees.{IsNear};
 use crate::fused::Fused;
 use std::alloc::{AllocError as OutOfMemory, Global};
 
-/// A tree so many ticks later: each port and each window is moved. A map, which has neither, stays as it is.
+/// A tree `by` ticks later: each port and each window is moved. A map, which has neither, stays as it is.
 pub fn moved(alloc: Global, tree: &Fused, by: i64) -> Result<Fused, OutOfMemory>
     requires tree { IsNear (fused_tree_of tree.now) }
     requires by { IsOffset by }

@@ -30,7 +30,7 @@ fn unused(alloc: Global, count: usize) -> Result<Vec<bool>, OutOfMemory>
     vec![in alloc; false; count]
 }
 
-// The definition of a number is used, or it isn't. Where it is used, it uses what it names.
+// The definition of a number is used, or it isn't. If it is used, it uses what it names.
 fn use_before(used: &mut Vec<bool>, number: usize, def: &Def, behind: &[Def])
     requires numbered { number < length used.old.items }
     requires reads { ReadsBelow number def.now.body }

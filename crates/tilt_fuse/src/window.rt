@@ -19,7 +19,7 @@ pub struct Window {
     pub to: i64,
 }
 
-/// The window on a source: on the one reading that the source's tree is made from, where it was merged.
+/// The window on a source: on the one reading that the source's tree is made from, if it was merged.
 pub fn window_on(
     alloc: Global,
     merged: &Merged,

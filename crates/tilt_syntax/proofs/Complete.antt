@@ -24,7 +24,7 @@ abbrev barrier : Level → ℕ
 barrier Comparison = 5
 barrier level = suc (level_number level)
 
--- no operator of that level or a tighter one stands at the beginning, and no bracket
+-- no operator of that level or a tighter one is at the beginning, and no bracket
 pub record Stops (n : ℕ) (ts : List Tok) : Type 0 where
   pub none_begins : (t : Tok) (us : List Tok) (level : Level) (op : Op2) → ts ≡ t ∷ us → operator_of t ≡ Some (level, op)
       → level_number level < n
@@ -67,7 +67,7 @@ tail Sum e ts = answer (GoingOn Sum e ts)
 tail Product e ts = answer (GoingOn Product e ts)
 tail level e ts = give e ts
 
--- it is gone on to nothing where no operator of its level stands
+-- nothing is added to it if no operator of its level follows
 tail-ends : (level : Level) (e : ExprTree) (ts : List Tok)
     → ((t : Tok) (us : List Tok) (op : Op2) → ts ≡ t ∷ us → operator_of t ≢ Some (level, op))
     → Comes (tail level e ts) (Some (record { tree = e; rest = ts }))
@@ -257,7 +257,7 @@ window-comes reducer x ts us l h ol oh rest r k =
     rw (append_assoc us (Sign mark.CloseBracket ∷ Sign mark.CloseParen ∷ []) rest) (
     offset-comes us h oh _ _ r (λ us e. cc) (λ us e. cc) (met refl (met refl k))))))))
 
--- after a reducer stands a window
+-- a window follows a reducer
 window-word : (reducer : Reducer) (ts : List Tok) (r : Option Found) → Comes (window_plan reducer ts) r
     → Comes (word_plan (reducer_key reducer) ts) r
 window-word reducer.Sum ts r h = h
@@ -279,7 +279,7 @@ chained level ands e ts r h = answered (GoingOn level e ts) r h
 chained level sums e ts r h = answered (GoingOn level e ts) r h
 chained level products e ts r h = answered (GoingOn level e ts) r h
 
--- and what it is gone on to is what stands after the operand
+-- and what it is gone on to is what follows the operand
 rejoined : (level : Level) → IsChain level → (e : ExprTree) (ts : List Tok) (r : Option Found) → Comes (tail level e ts) r
     → Comes (behind_operand level e ts) r
 rejoined level whens e ts r h = h
@@ -333,13 +333,13 @@ comparison-reads op i k w ts us a b ha hb =
     → Reads level (ts ++ (i.sign ∷ us)) (Two op a b) in
     subst P (sym w.0) (λ is h. read-comparison op i.sign is ts us a b ha h) k.known hb
 
--- what stands before a sign that ends it
+-- what comes before a sign that ends it
 read-before : (n : ℕ) (t : Tok) (ts rest : List Tok) (e : ExprTree) → operator_of t ≡ None → t ≢ Sign mark.OpenBracket
     → Reads Choice ts e
     → Comes (plan_of (Reading Choice (ts ++ (t ∷ rest)))) (Some (record { tree = e; rest = t ∷ rest }))
 read-before n t ts rest e fails other h = h (t ∷ rest) _ (stops-at 1 t rest fails other) done
 
--- a token is met, and what stands after it is regrouped
+-- a token is met, and what follows it is regrouped
 pub met-append : (t : Tok) (ts us rest : List Tok) {behind : List Tok → Plan} {other : Plan} {r : Option Found}
     → Comes (behind (ts ++ (us ++ rest))) r
     → Comes (Test t (t ∷ ((ts ++ us) ++ rest)) behind other) r

@@ -32,7 +32,7 @@ name-none (Word x ∷ us) behind h = absurd (h x us refl)
 name-none (Reserved k ∷ us) behind h = done
 name-none (Sign m ∷ us) behind h = done
 
--- what a task comes to is what asking for it comes to
+-- what a task results in is what asking for it results in
 pub answered : (task : Task) (r : Option Found) → Comes (plan_of task) r → Comes (answer task) r
 answered task None h = none h
 answered task (Some f) h = found h done

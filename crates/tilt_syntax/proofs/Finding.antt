@@ -98,7 +98,7 @@ asks_nothing h = finds_none (none h.comes)
 pub asked : {ts : List Tok} (task : Task) (r : Option Found) → Finds (plan_of task) ts r → Finds (answer task) ts r
 asked task r h = stays (answered task r) h
 
--- the same of what a task comes to, where nothing is said of what it leaves
+-- the same of what a task results in, if nothing is said of what it leaves
 
 pub found-comes : {task : Task} {ts : List Tok} {f : Found} {behind : Found → Plan} {r : Option Found}
     → Finds (plan_of task) ts (Some f) → Comes (behind f) r → Comes (Ask task behind) r

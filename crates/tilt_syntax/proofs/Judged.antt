@@ -58,7 +58,7 @@ all_or_first n (ts ∷ rest) =
       | inr bad ↦ inr (bad.0, here bad.1)
     ]
 
--- tokens are a query or are refused; that they are not both stands in `Refused`
+-- tokens are a query or are rejected; `Refused` says that they are not both
 pub query_or_refused : (ts : List Tok) → AreSound ts
     → ((query : List StatementTree) × IsQueryOf ts query) ⊎ ((f : SyntaxFault) × IsRefused ts f)
 query_or_refused [] sound = inr (fault.EmitPlace 1, no_tokens)

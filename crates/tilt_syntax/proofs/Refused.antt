@@ -55,7 +55,7 @@ query-or-refused ts q f g (too_many a) = let few = g.few in omega arith
 query-or-refused ts q f g no_tokens = let some = g.some in omega arith
 query-or-refused ts q f g (faulty a b) = all-good 1 (statements ts) q f g.good b
 
--- what isn't another fault is a want of memory
+-- what isn't another fault is out of memory
 memory : (f : SyntaxFault) → (f ≢ fault.OutOfMemory → ⊥) → f ≡ fault.OutOfMemory
 memory fault.OutOfMemory h = refl
 memory f h = absurd (h (λ e. cc))

@@ -45,11 +45,11 @@ place_tighter place level ts =
       | inr not_lower ↦ rw not_lower (place_least (suc place) level ts)
     ]
 
--- what stands anywhere without parentheses
+-- what is written anywhere without parentheses
 bare : (place level n : ℕ) (ts : List Tok) → place ≤ level → length ts ≤ n → length (place_tokens place level ts) ≤ n
 bare place level n ts le h = rw (place_tight place level ts le) h
 
--- and what stands where no level is asked for
+-- and what is written when no level is asked for
 whole : (level n : ℕ) (ts : List Tok) → length (place_tokens 0 level ts) ≤ n → length ts ≤ n
 whole level n ts h = omega (arith, h, place_least 0 level ts)
 
@@ -164,7 +164,7 @@ grid_shortest no_grid = omega arith
 grid_shortest on_multiples = omega arith
 grid_shortest (with_offset {p = p} {o = o}) = omega (arith, from_most o)
 
--- an expression, and what stands after it in a statement
+-- an expression, and what follows it in a statement
 parts_shortest : (es ds ps ts us vs : List Tok) → length es ≤ length ts → length ds ≤ length us → length ps ≤ length vs
     → length (es ++ (ds ++ (ps ++ (Sign mark.Semicolon ∷ [])))) ≤ length (ts ++ (us ++ (vs ++ (Sign mark.Semicolon ∷ []))))
 parts_shortest es ds ps ts us vs he hd hp =

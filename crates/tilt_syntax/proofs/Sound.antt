@@ -213,7 +213,7 @@ minus-keeps ts = (
   λ f h. loosened Minus ts f refl h,
 )
 
--- what stands after a name
+-- what follows a name
 reading-keeps : (x : List ℕ) (ts : List Tok) → Keeps (reading_plan x ts) (IsFront 9 (Word x ∷ ts))
 reading-keeps x ts = (
   (λ us open_at. offset-keeps _ us _ (λ d front vs at offset. (
@@ -227,7 +227,7 @@ reading-keeps x ts = (
   record { front = Word x ∷ []; split = refl; is = name },
 )
 
--- what stands after a reducer
+-- what follows a reducer
 window-keeps : (r : Reducer) (ts : List Tok) → Keeps (window_plan r ts) (IsFront 9 (Reserved (reducer_key r) ∷ ts))
 window-keeps r ts = (
   (λ us paren_at. name-keeps _ us _ (λ x vs name_at. (
@@ -251,7 +251,7 @@ window-keeps r ts = (
   tt,
 )
 
--- an expression in parentheses, after what stands before it
+-- an expression in parentheses, after what comes before it
 enclosed-keeps : (P : Found → Type 0) (ts : List Tok) (behind : ExprTree → List Tok → Plan)
     → ((e : ExprTree) (front rest : List Tok) → ts ≡ (Sign mark.OpenParen ∷ (front ++ (Sign mark.CloseParen ∷ []))) ++ rest
     → IsExpr 0 front e

@@ -72,7 +72,7 @@ stops_digits : (rest : List ℕ) → IsTrue (closes rest) → Stops is_ascii_dig
 stops_digits [] h = tt
 stops_digits (b ∷ rest) h = (or_parts (begins_word b) (is_ascii_digit b) (stops_word (b ∷ rest) h)).1
 
--- what stands at the beginning begins the bytes
+-- what is at the beginning begins the bytes
 front_begins : (k : Tok) (text rest : List ℕ) (n : ℕ) → length text ≡ n → IsFront k n (text ++ rest) → Begins k (text ++ rest) text rest
 front_begins k text rest n e front =
     let text_is : take n (text ++ rest) ≡ text = take_at text rest n e in
@@ -118,7 +118,7 @@ one_or_two m = inl refl
 no_equals : (rest more : List ℕ) → IsTrue (closes rest) → rest ≡ 61 ∷ more → ⊥
 no_equals rest more h e = false≢true (ap closes (sym e) ∙ h)
 
--- no longer sign stands there than one that ends before the rest
+-- no longer sign is there than one that ends before the rest
 no_longer_pair : (m : Mark) (rest more : List ℕ) (a : ℕ) → IsTrue (ends_before (tok.Mark m) rest) → IsTrue (begins_pair a)
     → length (mark_text m) ≡ 1 → mark_text m ++ rest ≡ a ∷ 61 ∷ more → ⊥
 no_longer_pair m rest more a ends pair one e =

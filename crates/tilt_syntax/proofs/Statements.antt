@@ -56,7 +56,7 @@ grid-comes ts p no_grid rest behind r no_every no_from k = missed no_every k
 grid-comes ts p on_multiples rest behind r no_every no_from k = met refl (missed no_from k)
 grid-comes ts p with_offset rest behind r no_every no_from k = met refl (met refl k)
 
--- an expression ends before what stands after it in a statement
+-- an expression ends before what follows it in a statement
 
 grid-stops : (ts : List Tok) (p : Option Every) → MayBeGrid ts p → Stops 1 (ts ++ (Sign mark.Semicolon ∷ []))
 grid-stops ts p no_grid = stops-at 1 _ _ refl (λ e. cc)
@@ -174,7 +174,7 @@ statement-keeps P ts behind h = (
   ),
 )
 
--- a statement, as something that a plan may come to: its stored form, written as an expression
+-- a statement, as something that a plan may result in: its stored form, written as an expression
 
 abbrev pub stored_tree : Gv → ExprTree
 stored_tree gnil = Leaf (Truth true)

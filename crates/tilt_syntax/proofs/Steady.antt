@@ -1,4 +1,4 @@
--- A plan comes to one thing.
+-- A plan results in one thing.
 use Rattle.std.proofs.Common.{◌≡◌, Option, refl, ap}
 use Rattle.tilt_base.specs.declared.operator.Op2.{Op2}
 use Rattle.tilt_syntax.specs.Descent.{Plan, Found, Comes, done, met, missed, between, behind_all, found, none}

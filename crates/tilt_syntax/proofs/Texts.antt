@@ -1,4 +1,4 @@
--- A text is one query at most, or is refused for one fault, and not both; and what is kept of its tokens tells which.
+-- A text is one query at most, or is rejected for one fault, and not both; and what is kept of its tokens shows which.
 use Rattle.std.proofs.Common.{◌≡◌, ◌≢◌, ◌⊎◌, inl, inr, ℕ, List, [], ◌∷◌, refl, sym, ap, subst}
 use Rattle.std.proofs.Common.{Result, Ok, Err, MatchResult}
 use Rattle.std.specs.Prelude.{All, IfOk, IfErr}
@@ -54,18 +54,18 @@ module _ (bytes : List ℕ) where
   one_fault f g (no_query {f = d} tokens are a) (no_query {f = e} others these b) =
       ap fault.Refused (one_refusal (kinds tokens) d e a (of_all (λ ts. IsRefused (kinds ts) e) tokens others are these b))
 
-  -- what is told is want of memory, or is known
+  -- what is reported is out of memory, or is known
   memory_or : (f : TextFault) → (f ≢ fault.OutOfMemory → IsRefusedText bytes f) → (f ≡ fault.OutOfMemory) ⊎ IsRefusedText bytes f
   memory_or (fault.Lexical place) h = inr (h (λ e. cc))
   memory_or (fault.Refused why) h = inr (h (λ e. cc))
   memory_or fault.OutOfMemory h = inl refl
 
   module _ (f : TextFault) (known : f ≢ fault.OutOfMemory → IsRefusedText bytes f) where
-    -- of a query only want of memory is told
+    -- of a query only out of memory is reported
     pub only_memory : (q : List StatementTree) → IsQueryText bytes q → f ≡ fault.OutOfMemory
     only_memory q is = elim (memory_or f known) [ inl memory ↦ memory | inr refused ↦ absurd (query_or_refused q f is refused) ]
 
-    -- and else the fault, or want of memory
+    -- and else the fault, or out of memory
     pub only_fault : (g : TextFault) → IsRefusedText bytes g → (f ≡ g) ⊎ (f ≡ fault.OutOfMemory)
     only_fault g is = elim (memory_or f known) [ inl memory ↦ inr memory | inr refused ↦ inl (one_fault f g refused is) ]
 

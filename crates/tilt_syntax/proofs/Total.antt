@@ -1,4 +1,4 @@
--- Reading comes to an answer, whatever the tokens are: each task asks only for smaller ones.
+-- Reading gives a result, whatever the tokens are: each task asks only for smaller ones.
 use Rattle.std.proofs.Common.{◌≡◌, ◌≢◌, ◌⊎◌, inl, inr, ℕ, zero, suc, ◌+◌, ◌*◌, ◌<◌, ◌≤◌, ℤ, pos, negsuc, List, [], ◌∷◌, length, Option, Some, None}
 use Rattle.std.proofs.Common.{refl, sym, ap, ◌∙◌, subst, arith, length-append, append-nil}
 use Rattle.std.specs.Str.{bytes_eq}
@@ -370,12 +370,12 @@ statement-falls ts behind h =
       ),
     )
 
--- what a plan comes to
+-- what a plan results in
 
 abbrev Answers : Plan → Type 0
 Answers plan = (r : Option Found) × Comes plan r
 
--- each task that is smaller comes to an answer
+-- each task that is smaller gives a result
 abbrev Below : ℕ → Type 0
 Below n = (task : Task) → size task < n → Answers (plan_of task)
 

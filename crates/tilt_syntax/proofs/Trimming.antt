@@ -112,7 +112,7 @@ same_length [] (u ∷ us) same = absurd same
 same_length (t ∷ ts) [] same = absurd same
 same_length (t ∷ ts) (u ∷ us) same = omega (arith, same_length ts us same.1)
 
--- what stands after a statement is told only by whether there is any
+-- what follows a statement matters only by whether there is any
 
 placed : (ts us : List (List Tok)) (s : StatementTree) → AreSame ts us → IsInPlace ts s → IsInPlace us s
 placed [] [] s same h = h

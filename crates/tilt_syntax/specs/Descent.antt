@@ -70,13 +70,13 @@ offset_plan ts behind = expect (Reserved key.Time) ts (λ us.
     Test (Sign mark.Minus) us (λ vs. number_plan vs (λ n. behind (neg_ℤ n))) (
     behind (pos 0) us)))
 
--- what stands after a name
+-- what follows a name
 abbrev pub reading_plan : List ℕ → List Tok → Plan
 reading_plan x ts = Test (Sign mark.OpenBracket) ts
     (λ us. offset_plan us (λ d vs. expect (Sign mark.CloseBracket) vs (give (Leaf (Read x d)))))
     (give (Leaf (Read x (pos 0))) ts)
 
--- what stands after a reducer
+-- what follows a reducer
 abbrev pub window_plan : Reducer → List Tok → Plan
 window_plan r ts = expect (Sign mark.OpenParen) ts (λ us. name_plan us (λ x vs. expect (Sign mark.OpenBracket) vs (λ ws.
     offset_plan ws (λ l xs. expect (Sign mark.Colon) xs (λ ys. offset_plan ys (λ h zs.
@@ -93,7 +93,7 @@ pair_plan ts behind = expect (Sign mark.OpenParen) ts (λ us. Ask (Reading Choic
     expect (Sign mark.Comma) a.rest (λ vs. Ask (Reading Choice vs) (λ b.
     expect (Sign mark.CloseParen) b.rest (behind a.tree b.tree)))))
 
--- what stands after a reserved word with which an atom begins
+-- what follows a reserved word with which an atom begins
 abbrev pub word_plan : Key → List Tok → Plan
 word_plan key.TrueWord ts = give (Leaf (Truth true)) ts
 word_plan key.FalseWord ts = give (Leaf (Truth false)) ts
@@ -135,7 +135,7 @@ abbrev pub behind_operand : Level → ExprTree → List Tok → Plan
 behind_operand Comparison e ts = give e ts
 behind_operand level e ts = answer (GoingOn level e ts)
 
--- what stands after a left operand
+-- what follows a left operand
 abbrev pub going_plan : Level → ExprTree → List Tok → Plan
 going_plan level left ts = Between level ts
     (λ op us. Ask (Reading (tighter level) us) (λ b. behind_operand level (Two op left b.tree) b.rest))
@@ -160,7 +160,7 @@ plan_of (Reading Atom ts) = atom_plan ts
 plan_of (Reading level ts) = chain_plan level ts
 plan_of (GoingOn level left ts) = going_plan level left ts
 
--- following the plan comes to this
+-- following the plan results in this
 pub data Comes : Plan → Option Found → Type 0 where
   done : {r : Option Found} → Comes (Done r) r
   met : {t : Tok} {ts us : List Tok} {behind : List Tok → Plan} {other : Plan} {r : Option Found}

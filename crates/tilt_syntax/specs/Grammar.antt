@@ -16,7 +16,7 @@ use Rattle.tilt_syntax.specs.Tree.{Num, Truth, Read, Reduce, ExprTree, Statement
 use Rattle.tilt_base.specs.declared.span.Span.{Span}
 use Rattle.tilt_syntax.specs.declared.every.Every.{Every}
 
--- an operator that stands between its operands: its sign, its level, and the levels that the places of its operands ask for
+-- an operator that is written between its operands: its sign, its level, and the levels that the places of its operands ask for
 pub record Infix : Type 0 where
   pub sign : Tok
   pub level : ℕ
@@ -59,10 +59,10 @@ pub data SpellsOffset : List Tok → ℤ → Type 0 where
   later : {n : ℤ} → SpellsOffset (Reserved key.Time ∷ Sign mark.Plus ∷ Number n ∷ []) n
   earlier : {n : ℤ} → SpellsOffset (Reserved key.Time ∷ Sign mark.Minus ∷ Number n ∷ []) (neg_ℤ n)
 
--- the tokens are the expression, at a level: 0 for `if`, then `when`, `or`, `and`, 4 for `not`, then comparisons, sums, products,
--- 8 for the minus before an operand, and 9 for what needs no parentheses anywhere
+-- the tokens are the expression, at a level. The levels are 0 for `if`, then `when`, `or`, `and`, 4 for `not`, then comparisons,
+-- sums, products, and 8 for the minus before an operand. Level 9 is for what needs no parentheses anywhere
 pub data IsExpr : ℕ → List Tok → ExprTree → Type 0 where
-  -- an expression of a tighter level may stand in the place of a looser one
+  -- an expression of a tighter level may be in the place of a looser one
   tighter : {level : ℕ} {ts : List Tok} {e : ExprTree} → IsExpr (suc level) ts e → IsExpr level ts e
   -- `if c then a else b`
   choice : {ts us vs : List Tok} {c a b : ExprTree} → IsExpr 0 ts c → IsExpr 0 us a → IsExpr 0 vs b

@@ -78,7 +78,7 @@ expr_text (If c a b) = codes "if " ++ expr_text c ++ codes " then " ++ expr_text
 abbrev pub span_text : Span → List ℕ
 span_text span = codes " over (" ++ signed_decimal span.start ++ codes ", " ++ signed_decimal span.end ++ codes "]"
 
--- the same where it stands
+-- the same if there is one
 abbrev pub domain_text : Option Span → List ℕ
 domain_text None = []
 domain_text (Some span) = span_text span
@@ -88,7 +88,7 @@ abbrev pub from_text : ℤ → List ℕ
 from_text (pos zero) = []
 from_text offset = codes " from " ++ signed_decimal offset
 
--- ` every p` or ` every p from o` where it stands
+-- ` every p` or ` every p from o` if there is one
 abbrev pub grid_text : Option Every → List ℕ
 grid_text None = []
 grid_text (Some every) = codes " every " ++ signed_decimal every.period ++ from_text every.offset

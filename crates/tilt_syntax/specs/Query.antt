@@ -24,7 +24,7 @@ abbrev pub with_first : Tok → List (List Tok) → List (List Tok)
 with_first t [] = (t ∷ []) ∷ []
 with_first t (s ∷ ss) = (t ∷ s) ∷ ss
 
--- tokens are cut after each `;`, and what stands after the last `;` is a statement too
+-- tokens are cut after each `;`, and what follows the last `;` is also a statement
 abbrev pub statements : List Tok → List (List Tok)
 statements [] = []
 statements (tok.Mark Semicolon ∷ ts) = (tok.Mark Semicolon ∷ []) ∷ statements ts
@@ -43,7 +43,7 @@ IsInPlace (next ∷ rest) (Emit e over every) = ⊥
 IsInPlace (next ∷ rest) (Input x) = ⊤
 IsInPlace (next ∷ rest) (Let x e over every) = ⊤
 
--- the statement, after which these stand, is this one, and may stand there
+-- the statement, after which these come, is this one, and may be there
 pub record IsGood (ts : List Tok) (behind : List (List Tok)) (s : StatementTree) : Type 0 where
   pub short : IsShort ts
   pub parsed : IsStatement ts s

@@ -13,12 +13,12 @@ pub record IsRest (ts rest : List Tok) : Type 0 where
   pub fewer : length rest ≤ length ts
   pub sound : AreSound ts → AreSound rest
 
--- the plan comes to this expression, or to none, and leaves a rest of the tokens
+-- the plan results in this expression, or in none, and leaves a rest of the tokens
 pub record Finds (plan : Plan) (ts : List Tok) (found : Option Found) : Type 0 where
   pub comes : Comes plan found
   pub rest : IfSome found (λ f. IsRest ts f.rest)
 
--- the same, where the expression stands in memory
+-- the same of an expression in memory
 abbrev pub FindsExpr : Plan → List Tok → Option (Expr × Bor (List Token)) → Type 0
 FindsExpr plan ts found =
     MatchOption found (Finds plan ts None) (λ x. Finds plan ts (Some (record { tree = expr_tree x.0; rest = kinds x.1.now })))
@@ -28,7 +28,7 @@ pub record HasPart {V : Type 0} (plan : (V → List Tok → Plan) → Plan) (ts 
   pub goes_on : (behind : V → List Tok → Plan) (found : Option Found) → Comes (behind part left) found → Comes (plan behind) found
   pub rest : IsRest ts left
 
--- the tokens begin with the part, or with none, and then a plan that asks for one comes to nothing
+-- the tokens begin with the part, or with none, and then a plan that asks for one results in nothing
 abbrev pub FindsPart : {V : Type 0} → ((V → List Tok → Plan) → Plan) → List Tok → Option (V × Bor (List Token)) → Type 0
 FindsPart {V = V} plan ts found =
     MatchOption found ((behind : V → List Tok → Plan) → Comes (plan behind) None) (λ x. HasPart plan ts x.0 (kinds x.1.now))

@@ -4,7 +4,7 @@ use Rattle.tilt_syntax.specs.Grammar.{Infix}
 use Rattle.tilt_syntax.specs.Printing.{sign_text}
 use Rattle.tilt_syntax.specs.declared.printer.Infix as printer
 
--- the operator stands so between its operands, or is written as a call
+-- the operator is written so between its operands, or is written as a call
 abbrev pub IsWritten : Option Infix → Option printer.Infix → Type 0
 IsWritten None None = ⊤
 IsWritten None (Some w) = ⊥

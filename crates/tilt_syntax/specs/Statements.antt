@@ -14,7 +14,7 @@ use Rattle.tilt_syntax.specs.declared.every.Every.{Every}
 unfoldable pub bound_plan : List Tok → (ℤ → List Tok → Plan) → Plan
 bound_plan ts behind = Test (Sign mark.Minus) ts (λ us. number_plan us (λ n. behind (neg_ℤ n))) (number_plan ts behind)
 
--- what stands after `over`
+-- what follows `over`
 unfoldable pub span_plan : List Tok → (Span → List Tok → Plan) → Plan
 span_plan ts behind = expect (Sign mark.OpenParen) ts (λ us. bound_plan us (λ s vs. expect (Sign mark.Comma) vs (λ ws.
     bound_plan ws (λ e xs. expect (Sign mark.CloseBracket) xs (behind (record { start = s; end = e }))))))
@@ -41,16 +41,16 @@ empty_plan (t ∷ ts) behind = nothing
 unfoldable pub end_plan : List Tok → Plan → Plan
 end_plan ts behind = expect (Sign mark.Semicolon) ts (λ us. empty_plan us behind)
 
--- what stands after `input`
+-- what follows `input`
 abbrev pub input_plan : List Tok → (StatementTree → Plan) → Plan
 input_plan ts behind = name_plan ts (λ x us. end_plan us (behind (Input x)))
 
--- what stands after `let`
+-- what follows `let`
 abbrev pub let_plan : List Tok → (StatementTree → Plan) → Plan
 let_plan ts behind = name_plan ts (λ x us. expect (Sign mark.Assign) us (λ vs. Ask (Reading Choice vs) (λ e.
     domain_plan e.rest (λ over ws. grid_plan ws (λ every xs. end_plan xs (behind (Let x e.tree over every)))))))
 
--- what stands after `emit`
+-- what follows `emit`
 abbrev pub emit_plan : List Tok → (StatementTree → Plan) → Plan
 emit_plan ts behind = Ask (Reading Choice ts) (λ e. expect (Reserved key.Over) e.rest (λ us.
     span_plan us (λ over vs. grid_plan vs (λ every ws. end_plan ws (behind (Emit e.tree over every))))))

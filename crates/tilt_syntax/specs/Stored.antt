@@ -1,4 +1,4 @@
--- How trees are told apart, which a type that contracts see as trees needs.
+-- How trees are distinguished, which a type that contracts see as trees needs.
 use Rattle.std.specs.Prelude.{◌≡◌, ℕ, ℤ, List, refl}
 use Rattle.std.specs.Coded.{Coded, code_by, coded×, coded_bool, coded_ℕ, coded_ℤ, coded_list, coded_option}
 use base.Stored.{Gv, gnil, gnum, gcons}
@@ -68,6 +68,6 @@ stored_statement_inj (Emit d o e) (Emit f q g) p =
     cc
 stored_statement_inj x y p = absurd (cc p)
 
--- trees of queries are told apart part by part
+-- trees of queries are distinguished part by part
 abbrev pub coded_query : Coded (List StatementTree)
 coded_query = coded_list (record { code = stored_statement; inj = stored_statement_inj })

@@ -14,7 +14,7 @@ use std::alloc::AllocError as OutOfMemory;
 use tilt_base::Reducer;
 use tilt_lexer::{Key, Mark, Name, Token};
 
-// The offset at the beginning, and what stands after it.
+// The offset at the beginning, and what follows it.
 fn offset(tokens: &[Token]) -> Option<(i64, &[Token])>
     requires { AreSound (kinds tokens.now) }
     ensures { FindsPart (offset_plan (kinds tokens.now)) (kinds tokens.now) result }
@@ -30,7 +30,7 @@ fn offset(tokens: &[Token]) -> Option<(i64, &[Token])>
     Some((0, rest))
 }
 
-// What is read by a name, with its offset where one stands after it.
+// What is read by a name, with its offset if one follows it.
 pub(crate) fn reading<'a>(
     name: &Name,
     tokens: &'a [Token],
@@ -72,7 +72,7 @@ pub fn reducer_of(key: Key) -> Option<Reducer>
     }
 }
 
-// The window in parentheses after a reducer: its name and its two offsets, and what stands after it.
+// The window in parentheses after a reducer: its name and its two offsets, and what follows it.
 fn window(tokens: &[Token]) -> Option<(&Name, i64, i64, &[Token])>
     requires { AreSound (kinds tokens.now) }
     ensures { MatchOption result

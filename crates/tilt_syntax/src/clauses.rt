@@ -1,4 +1,4 @@
-// What stands in a statement after its expression.
+// What comes after the expression in a statement.
 ghost use Rattle.std.specs.Prelude.{◌≡◌, ◌↔◌, [], ◌∷◌, IsTrue};
 ghost use Rattle.tilt_lexer.specs.declared.token.Tok.{Tok};
 ghost use Rattle.tilt_syntax.specs.Query.{kinds, AreSound};
@@ -10,7 +10,7 @@ use crate::front::{after_key, after_mark, first_number};
 use tilt_base::Span;
 use tilt_lexer::{Key, Mark, Token};
 
-// The bound at the beginning, and what stands after it.
+// The bound at the beginning, and what follows it.
 fn bound(tokens: &[Token]) -> Option<(i64, &[Token])>
     requires { AreSound (kinds tokens.now) }
     ensures { FindsPart (bound_plan (kinds tokens.now)) (kinds tokens.now) result }
@@ -22,7 +22,7 @@ fn bound(tokens: &[Token]) -> Option<(i64, &[Token])>
     Some((-number, rest))
 }
 
-// The span after `over`, and what stands after it.
+// The span after `over`, and what follows it.
 pub(crate) fn span(tokens: &[Token]) -> Option<(Span, &[Token])>
     requires { AreSound (kinds tokens.now) }
     ensures { FindsPart (span_plan (kinds tokens.now)) (kinds tokens.now) result }
@@ -35,7 +35,7 @@ pub(crate) fn span(tokens: &[Token]) -> Option<(Span, &[Token])>
     Some((Span { start, end }, rest))
 }
 
-// The span at the beginning, where `over` stands there, and what stands after it.
+// The span at the beginning, if `over` is there, and what follows it.
 pub(crate) fn domain(tokens: &[Token]) -> Option<(Option<Span>, &[Token])>
     requires { AreSound (kinds tokens.now) }
     ensures { FindsPart (domain_plan (kinds tokens.now)) (kinds tokens.now) result }
@@ -47,7 +47,7 @@ pub(crate) fn domain(tokens: &[Token]) -> Option<(Option<Span>, &[Token])>
     Some((Some(over), rest))
 }
 
-// The offset with which the tokens begin, 0 where they don't begin with `from`, and what stands after it.
+// The offset with which the tokens begin, 0 if they don't begin with `from`, and what follows it.
 fn offset(tokens: &[Token]) -> Option<(i64, &[Token])>
     requires { AreSound (kinds tokens.now) }
     ensures { FindsPart (from_plan (kinds tokens.now)) (kinds tokens.now) result }
@@ -58,7 +58,7 @@ fn offset(tokens: &[Token]) -> Option<(i64, &[Token])>
     first_number(behind)
 }
 
-// The grid with which the tokens begin, where they begin with `every`, and what stands after it.
+// The grid with which the tokens begin, if they begin with `every`, and what follows it.
 pub(crate) fn grid(tokens: &[Token]) -> Option<(Option<Every>, &[Token])>
     requires { AreSound (kinds tokens.now) }
     ensures { FindsPart (grid_plan (kinds tokens.now)) (kinds tokens.now) result }

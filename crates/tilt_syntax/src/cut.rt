@@ -6,7 +6,7 @@ ghost use Rattle.tilt_syntax.specs.Query.{kinds, AreSound, statements};
 use crate::front::is_mark;
 use tilt_lexer::{Mark, Token};
 
-/// The tokens of the first statement, with its `;` where it has one, and the tokens after it. There is at least one token.
+/// The tokens of the first statement, with its `;` if it has one, and the tokens after it. There is at least one token.
 pub fn first_statement(tokens: &[Token]) -> (&[Token], &[Token])
     requires { 0 < length tokens.now }
     ensures cut { statements (kinds tokens.now) ≡ kinds result.0.now ∷ statements (kinds result.1.now) }

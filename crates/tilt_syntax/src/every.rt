@@ -1,8 +1,8 @@
-/// The grid that a query writes after `every`. Any two numbers may stand here: whether they make a grid is tested later.
+/// The grid that a query writes after `every`. Any two numbers are allowed here: whether they make a grid is tested later.
 #[derive(Clone, Copy, Debug, PartialEq, Eq)]
 pub struct Every {
-    /// The period in ticks, which stands after `every`.
+    /// The period in ticks, which follows `every`.
     pub period: i64,
-    /// The offset in ticks, which stands after `from`; 0 where none is written.
+    /// The offset in ticks, which follows `from`; 0 if none is written.
     pub offset: i64,
 }

@@ -8,8 +8,7 @@ pub enum Expr {
     Num(i64),
     /// `true` or `false`.
     Truth(bool),
-    /// `x[t+offset]`: the stream of that name as it is `offset` ticks later, or earlier where that is negative. `x` alone
-    /// is the offset 0.
+    /// `x[t+offset]`: the stream of that name as it is `offset` ticks later, or earlier if that is negative. `x` alone is the offset 0.
     Read {
         name: Name,
         offset: i64,

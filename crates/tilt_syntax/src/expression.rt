@@ -1,5 +1,5 @@
-// Expressions, read from left to right without going back: each function answers what is at the beginning of the tokens and
-// what stands after it, or `None` where that can't be read.
+// Expressions, read from left to right without going back. Each function returns what is at the beginning of the tokens and what follows
+// it, or `None` if that can't be read.
 ghost use Rattle.std.specs.Prelude.{◌<◌, IfOk};
 ghost use Rattle.tilt_syntax.specs.Descent.{Reading, plan_of, atom_plan, choice_plan, chain_plan, enclosed_plan};
 ghost use Rattle.tilt_syntax.specs.Descent.{give, going_plan, minus_plan, negation_plan, word_plan};
@@ -146,7 +146,7 @@ fn atom(alloc: Global, tokens: &[Token]) -> Found<'_>
     }
 }
 
-// What stands after a reserved word with which an atom begins.
+// What follows a reserved word with which an atom begins.
 #[cycle(expressions)]
 fn word(alloc: Global, key: Key, tokens: &[Token]) -> Found<'_>
     requires { AreSound (kinds tokens.now) }
@@ -182,7 +182,7 @@ fn enclosed(alloc: Global, tokens: &[Token]) -> Found<'_>
     Ok(Some((inside, rest)))
 }
 
-// What stands after `isnull`.
+// What follows `isnull`.
 #[cycle(expressions)]
 fn is_null(alloc: Global, tokens: &[Token]) -> Found<'_>
     requires { AreSound (kinds tokens.now) }
@@ -201,7 +201,7 @@ fn is_null(alloc: Global, tokens: &[Token]) -> Found<'_>
     Ok(Some((tested, rest)))
 }
 
-// What stands after `ifnull`.
+// What follows `ifnull`.
 #[cycle(expressions)]
 fn if_null(alloc: Global, tokens: &[Token]) -> Found<'_>
     requires { AreSound (kinds tokens.now) }

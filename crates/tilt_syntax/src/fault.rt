@@ -5,20 +5,20 @@ use std::alloc::AllocError;
 use thiserror::Error;
 use tilt_lexer::LexFault;
 
-/// Why tokens are no query. Statements are counted from 1.
+/// Why tokens aren't a query. Statements are counted from 1.
 #[derive(Debug, Drop, PartialEq, Eq, Error)]
 pub enum SyntaxFault {
     /// There are more than 256 statements.
     #[error("there are too many statements")]
     TooManyStatements,
-    /// The statement has more than 256 tokens, its `;` counted.
+    /// The statement has more than 256 tokens, including its `;`.
     #[error("statement {statement} is too long")]
     StatementTooLong { statement: u32 },
     /// The statement isn't in the grammar.
     #[error("statement {statement} has no reading")]
     Syntax { statement: u32 },
-    /// The statement is an `emit` and not the last one, or the last one and no `emit`. It is told of statement 1 where there
-    /// are no tokens.
+    /// The statement is an `emit` but not the last one, or the last one but not an `emit`. If there are no tokens, the fault names
+    /// statement 1.
     #[error("statement {statement} has its emit in the wrong place")]
     EmitPlace { statement: u32 },
     /// There was no memory for the tree.
@@ -34,13 +34,13 @@ impl From<AllocError> for SyntaxFault {
     }
 }
 
-/// Why a text is no query.
+/// Why a text isn't a query.
 #[derive(Debug, Drop, PartialEq, Eq, Error)]
 pub enum TextFault {
-    /// The text has no tokens: its first faulty place. It is no want of memory.
+    /// The text can't be cut into tokens: its first faulty place. It is never an out-of-memory fault.
     #[error("{0}")]
     Lexical(LexFault),
-    /// The text has tokens, which are no query. It is no want of memory.
+    /// The text has tokens, but they aren't a query. It is never an out-of-memory fault.
     #[error("{0}")]
     Refused(SyntaxFault),
     /// There was no memory for the query.

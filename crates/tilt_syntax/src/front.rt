@@ -1,11 +1,11 @@
-// What stands at the beginning of tokens.
+// What is at the beginning of tokens.
 ghost use Rattle.std.specs.Prelude.{◌≡◌, ◌≢◌, ◌<◌, List, ◌∷◌, ℕ, ℤ, pos, ◌≤ℤ◌, length, IsTrue, ◌↔◌, MatchOption, IfSome};
 ghost use Rattle.tilt_lexer.specs.declared.token.Tok.{Tok};
 ghost use Rattle.tilt_syntax.specs.Query.{kinds, AreSound};
 
 use tilt_lexer::{Key, Mark, Name, Tok, Token};
 
-/// What stands after the reserved word, where the tokens begin with it.
+/// What follows the reserved word, if the tokens begin with it.
 pub fn after_key(tokens: &[Token], key: Key) -> Option<&[Token]>
     ensures front { MatchOption result
         ((ts : List Tok) → kinds tokens.now ≢ Tok.Key key ∷ ts)
@@ -19,7 +19,7 @@ pub fn after_key(tokens: &[Token], key: Key) -> Option<&[Token]>
     }
 }
 
-/// What stands after the sign, where the tokens begin with it.
+/// What follows the sign, if the tokens begin with it.
 pub fn after_mark(tokens: &[Token], mark: Mark) -> Option<&[Token]>
     ensures front { MatchOption result
         ((ts : List Tok) → kinds tokens.now ≢ Tok.Mark mark ∷ ts)
@@ -33,7 +33,7 @@ pub fn after_mark(tokens: &[Token], mark: Mark) -> Option<&[Token]>
     }
 }
 
-/// The number at the beginning, and what stands after it.
+/// The number at the beginning, and what follows it.
 pub fn first_number(tokens: &[Token]) -> Option<(i64, &[Token])>
     ensures front { MatchOption result
         ((n : ℤ) (ts : List Tok) → kinds tokens.now ≢ Tok.Number n ∷ ts)
@@ -50,7 +50,7 @@ pub fn first_number(tokens: &[Token]) -> Option<(i64, &[Token])>
     }
 }
 
-/// The name at the beginning, and what stands after it.
+/// The name at the beginning, and what follows it.
 pub fn first_name(tokens: &[Token]) -> Option<(&Name, &[Token])>
     ensures front { MatchOption result
         ((x : List ℕ) (ts : List Tok) → kinds tokens.now ≢ Tok.Word x ∷ ts)

@@ -8,8 +8,8 @@ use crate::parser::MOST;
 use std::alloc::{AllocError as OutOfMemory, Global};
 use tilt_lexer::{Mark, Token};
 
-// Of each statement the first 257 tokens and its `;`, and so of the first 257 statements: enough to tell one that is too long, and
-// too many.
+// Of each statement the first 257 tokens and its `;`, and so of the first 257 statements: enough to detect a statement that is too long,
+// and too many statements.
 #[derive(Drop)]
 pub(crate) struct Kept {
     pub(crate) tokens: Vec<Token>,
@@ -31,7 +31,7 @@ impl Kept {
         }
     }
 
-    // Goes on by a token, and lets it go where it isn't kept.
+    // Continues with a token, and discards it if it isn't kept.
     pub(crate) fn add(&mut self, token: Token) -> Result<(), OutOfMemory>
         ensures { OnOk result ((more : List Tok) → with_kept self.old (token.kind ∷ more) ≡ with_kept self.new more) }
     {
@@ -44,7 +44,7 @@ impl Kept {
         }
     }
 
-    // Goes on by a `;`.
+    // Continues with a `;`.
     fn end_statement(&mut self, token: Token) -> Result<(), OutOfMemory>
         requires some { 0 < self.old.statements }
         requires last { token.kind ≡ Tok.Mark Mark.Semicolon }
@@ -56,7 +56,7 @@ impl Kept {
         Ok(())
     }
 
-    // Goes on by another token.
+    // Continues with another token.
     fn go_on(&mut self, token: Token) -> Result<(), OutOfMemory>
         requires some { 0 < self.old.statements }
         requires other { token.kind ≢ Tok.Mark Mark.Semicolon }

@@ -85,7 +85,7 @@ fn sign_operator(mark: Mark) -> Option<(Level, Op2)>
     }
 }
 
-// The operator of that level at the beginning, and what stands after its sign.
+// The operator of that level at the beginning, and what follows its sign.
 pub(crate) fn front_operator(level: Level, tokens: &[Token]) -> Option<(Op2, &[Token])>
     ensures front { MatchOption result
         ((t : Tok) (ts : List Tok) (op : Op2) → kinds tokens.now ≡ t ∷ ts → operator_of t ≢ Some (level, op))

@@ -1,10 +1,10 @@
-//! The tree of a query's text. Tokens come in, and the query that they are goes out. The clauses of `parse` say which: what goes
-//! out is the grammar's one reading of the tokens (`query`, `only`), and a refusal tells the first fault, exactly where there is
-//! one (`faulty`, `first`). Those of `read_text` say the same of a text, which may be of any length: `keep_tokens` keeps no more of
-//! its tokens than a text within the limits has, for readers of other texts too. A `Query` keeps that some tokens read as it. The
-//! other way, `print` gives its text, which reads as this query and no other (`text`, `reads_back`). `parse_expression` reads one
-//! expression. For readers of other texts of such tokens, `first_statement` cuts off what ends at the first `;`, and the functions
-//! of `front` take one token. What is no text makes a query by `Query::new`, and its expressions by `one`, `two` and `choose`.
+//! The tree of a query's text. Tokens come in, and the query that they are goes out. The clauses of `parse` say which: what goes out is the
+//! grammar's one reading of the tokens (`query`, `only`). An error gives the first fault, exactly when there is one (`faulty`, `first`).
+//! The clauses of `read_text` say the same of a text, which may be of any length. `keep_tokens` keeps no more of its tokens than a text
+//! within the limits has, also for readers of other texts. It is an invariant of a `Query` that some tokens read as it. The other way,
+//! `print` gives its text, which reads as this query and no other (`text`, `reads_back`). `parse_expression` reads one expression. For
+//! readers of other texts of such tokens, `first_statement` cuts off what ends at the first `;`, and the functions of `front` take one
+//! token. A caller that has no text makes a query by `Query::new`, and its expressions by `one`, `two` and `choose`.
 #![tactic(auto)]
 
 mod atom;

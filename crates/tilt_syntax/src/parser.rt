@@ -19,14 +19,13 @@ use crate::statement::Statement;
 use std::alloc::{AllocError as OutOfMemory, Global};
 use tilt_lexer::Token;
 
-// The most statements that a query may have, and the most tokens that a statement may have, its `;` counted.
+// The maximum number of statements in a query, and the maximum number of tokens in a statement, including its `;`.
 pub(crate) const MOST: usize = 256;
 
-/// The query that the tokens are. They are cut into statements after each `;`; what stands after the last `;` is a
-/// statement too. Refused are, in this order: `TooManyStatements`, where there are more than 256; then the first faulty
-/// statement, with the first of these that holds in it: `StatementTooLong`, where it has more than 256 tokens; `Syntax`,
-/// where it isn't in the grammar; `EmitPlace`, where it is an `emit` and not the last, or the last and no `emit`. No tokens
-/// at all are `EmitPlace` of statement 1.
+/// The query that the tokens are. They are cut into statements after each `;`; what follows the last `;` is also a statement. The first
+/// check is `TooManyStatements`: there are more than 256 statements. After it comes the first faulty statement, with the first of these
+/// faults that holds in it. `StatementTooLong`: it has more than 256 tokens. `Syntax`: it isn't in the grammar. `EmitPlace`: it is an
+/// `emit` but not the last, or the last but not an `emit`. If there are no tokens at all, the fault is `EmitPlace` of statement 1.
 pub fn parse(alloc: Global, tokens: &[Token]) -> Result<Query, SyntaxFault>
     requires sound { All (λ token. IsSound token.kind) tokens.now }
     ensures query { IfOk result (λ query. IsQueryOf (kinds tokens.now) query) }
@@ -48,8 +47,8 @@ pub fn parse(alloc: Global, tokens: &[Token]) -> Result<Query, SyntaxFault>
     Ok(Query::new(statements))
 }
 
-/// The expression that exactly these tokens are, and `None` exactly where they are none. There are at most 256 tokens, since
-/// the depth of the calls grows with them.
+/// The expression that exactly these tokens are, and `None` exactly if they are none. There are at most 256 tokens, since the depth of the
+/// calls grows with them.
 pub fn parse_expression(alloc: Global, tokens: &[Token]) -> Result<Option<Expr>, OutOfMemory>
     requires sound { All (λ token. IsSound token.kind) tokens.now }
     requires few { length tokens.now ≤ 256 }
@@ -124,7 +123,7 @@ fn good_statement(
     }
 }
 
-// Whether the statement may stand before those tokens: the last one is an `emit`, and no other.
+// Whether the statement may come before those tokens: the last one is an `emit`, and no other.
 fn is_in_place(statement: &Statement, behind: &[Token]) -> bool
     ensures { IsTrue result ↔ IsInPlace (statements (kinds behind.now)) (statement_tree statement.now) }
 {

@@ -30,7 +30,7 @@ pub fn print(alloc: Global, query: &Query) -> Result<Vec<u8>, OutOfMemory>
     Ok(text)
 }
 
-// Puts the lines of statements.
+// Appends the lines of statements.
 fn put_statements(text: &mut Vec<u8>, statements: &[Statement]) -> Result<(), OutOfMemory>
     ensures { OnOk result (text.new.items ≡ text.old.items ++ query_text (map statement_tree statements.now)) }
 {
@@ -40,7 +40,7 @@ fn put_statements(text: &mut Vec<u8>, statements: &[Statement]) -> Result<(), Ou
     Ok(())
 }
 
-// Puts the line of a statement.
+// Appends the line of a statement.
 fn put_statement(text: &mut Vec<u8>, statement: &Statement) -> Result<(), OutOfMemory>
     ensures { OnOk result (text.new.items ≡ text.old.items ++ statement_text (statement_tree statement.now)) }
 {
@@ -72,7 +72,7 @@ fn put_statement(text: &mut Vec<u8>, statement: &Statement) -> Result<(), OutOfM
     put(text, b";\n")
 }
 
-// Puts ` over (s, e]` where it stands.
+// Appends ` over (s, e]` if there is a span.
 fn put_domain(text: &mut Vec<u8>, over: &Option<Span>) -> Result<(), OutOfMemory>
     ensures { OnOk result (text.new.items ≡ text.old.items ++ domain_text over.now) }
 {
@@ -82,7 +82,7 @@ fn put_domain(text: &mut Vec<u8>, over: &Option<Span>) -> Result<(), OutOfMemory
     }
 }
 
-// Puts ` over (s, e]`.
+// Appends ` over (s, e]`.
 fn put_span(text: &mut Vec<u8>, span: &Span) -> Result<(), OutOfMemory>
     ensures { OnOk result (text.new.items ≡ text.old.items ++ span_text span.now) }
 {
@@ -93,7 +93,7 @@ fn put_span(text: &mut Vec<u8>, span: &Span) -> Result<(), OutOfMemory>
     put(text, b"]")
 }
 
-// Puts ` every p` or ` every p from o` where it stands.
+// Appends ` every p` or ` every p from o` if there is a grid.
 fn put_grid(text: &mut Vec<u8>, every: Option<Every>) -> Result<(), OutOfMemory>
     ensures { OnOk result (text.new.items ≡ text.old.items ++ grid_text every) }
 {
@@ -107,7 +107,7 @@ fn put_grid(text: &mut Vec<u8>, every: Option<Every>) -> Result<(), OutOfMemory>
     }
 }
 
-// Puts ` from o` where the offset isn't 0.
+// Appends ` from o` if the offset isn't 0.
 fn put_from(text: &mut Vec<u8>, offset: i64) -> Result<(), OutOfMemory>
     ensures { OnOk result (text.new.items ≡ text.old.items ++ from_text offset) }
 {
@@ -118,7 +118,7 @@ fn put_from(text: &mut Vec<u8>, offset: i64) -> Result<(), OutOfMemory>
     put_number(text, offset)
 }
 
-// Puts an expression, without parentheses around it.
+// Appends an expression, without parentheses around it.
 #[cycle(expression)]
 fn put_expr(text: &mut Vec<u8>, expr: &Expr) -> Result<(), OutOfMemory>
     ensures { OnOk result (text.new.items ≡ text.old.items ++ expr_text (expr_tree expr.now)) }
@@ -159,7 +159,7 @@ fn put_expr(text: &mut Vec<u8>, expr: &Expr) -> Result<(), OutOfMemory>
     }
 }
 
-// Puts an operator on two expressions.
+// Appends an operator on two expressions.
 #[cycle(expression)]
 fn put_two(text: &mut Vec<u8>, op: Op2, a: &Expr, b: &Expr) -> Result<(), OutOfMemory>
     ensures { OnOk result (text.new.items
@@ -183,7 +183,7 @@ fn put_two(text: &mut Vec<u8>, op: Op2, a: &Expr, b: &Expr) -> Result<(), OutOfM
     }
 }
 
-// Puts an expression in parentheses where its place asks for a tighter level than its own.
+// Appends an expression, in parentheses if its place asks for a tighter level than its own.
 #[cycle(expression)]
 fn put_operand(text: &mut Vec<u8>, place: u8, expr: &Expr) -> Result<(), OutOfMemory>
     ensures { OnOk result (text.new.items
@@ -215,7 +215,7 @@ fn level_of(expr: &Expr) -> u8
     }
 }
 
-// How an operator stands between its operands: its sign, its level, and the levels that the places of its operands ask for.
+// How an operator is written between its operands: its sign, its level, and the levels that the places of its operands ask for.
 #[derive(Clone, Copy)]
 struct Infix {
     sign: &'static [u8],
@@ -224,7 +224,7 @@ struct Infix {
     right: u8,
 }
 
-// How an operator stands between its operands, or `None` where it is written as a call.
+// How an operator is written between its operands, or `None` if it is written as a call.
 fn infix_of(op: Op2) -> Option<Infix>
     ensures { IsWritten (infix_of op) result }
 {
@@ -247,7 +247,7 @@ fn infix_of(op: Op2) -> Option<Infix>
     }
 }
 
-// An operator that stands between its operands.
+// An operator that is written between its operands.
 fn between(sign: &'static [u8], level: u8, left: u8, right: u8) -> Option<Infix>
     ensures { MatchOption result ⊥ (λ w. w.sign.now ≡ sign.now × w.level ≡ level × w.left ≡ left × w.right ≡ right) }
 {
@@ -259,7 +259,7 @@ fn between(sign: &'static [u8], level: u8, left: u8, right: u8) -> Option<Infix>
     })
 }
 
-// Puts what the reducer gives on a window.
+// Appends what the reducer gives on a window.
 fn put_window(
     text: &mut Vec<u8>,
     reducer: Reducer,
@@ -286,7 +286,7 @@ fn reducer_name(reducer: Reducer) -> &'static [u8]
     reducer.word()
 }
 
-// Puts `x`, or `x[t-3]`.
+// Appends `x`, or `x[t-3]`.
 fn put_reading(text: &mut Vec<u8>, name: &Name, offset: i64) -> Result<(), OutOfMemory>
     ensures { OnOk result (text.new.items ≡ text.old.items ++ reading_text name.now offset) }
 {
@@ -299,7 +299,7 @@ fn put_reading(text: &mut Vec<u8>, name: &Name, offset: i64) -> Result<(), OutOf
     put(text, b"]")
 }
 
-// Puts `t`, `t+3` or `t-3`.
+// Appends `t`, `t+3` or `t-3`.
 fn put_offset(text: &mut Vec<u8>, offset: i64) -> Result<(), OutOfMemory>
     ensures { OnOk result (text.new.items ≡ text.old.items ++ offset_text offset) }
 {

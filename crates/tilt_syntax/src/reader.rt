@@ -13,7 +13,7 @@ use crate::statement::Statement;
 use std::alloc::{AllocError as OutOfMemory, Global};
 use tilt_lexer::{Key, Mark, Token};
 
-// The statement that exactly these tokens are, or `None` where they are none.
+// The statement that exactly these tokens are, or `None` if they are none.
 pub(crate) fn read_statement(
     alloc: Global,
     tokens: &[Token],
@@ -36,7 +36,7 @@ pub(crate) fn read_statement(
     }
 }
 
-// What stands after `input`.
+// What follows `input`.
 fn read_input(tokens: &[Token]) -> Result<Option<Statement>, OutOfMemory>
     requires { AreSound (kinds tokens.now) }
     ensures { IfOk result (λ found. MatchOption found
@@ -54,7 +54,7 @@ fn read_input(tokens: &[Token]) -> Result<Option<Statement>, OutOfMemory>
     Ok(Some(Statement::Input { name }))
 }
 
-// What stands after `let`.
+// What follows `let`.
 fn read_let(alloc: Global, tokens: &[Token]) -> Result<Option<Statement>, OutOfMemory>
     requires { AreSound (kinds tokens.now) }
     ensures { IfOk result (λ found. MatchOption found
@@ -89,7 +89,7 @@ fn read_let(alloc: Global, tokens: &[Token]) -> Result<Option<Statement>, OutOfM
     }))
 }
 
-// What stands after `emit`.
+// What follows `emit`.
 fn read_emit(alloc: Global, tokens: &[Token]) -> Result<Option<Statement>, OutOfMemory>
     requires { AreSound (kinds tokens.now) }
     ensures { IfOk result (λ found. MatchOption found

@@ -10,7 +10,8 @@ pub enum Statement {
     Input {
         name: Name,
     },
-    /// `let name = expr;` defines a stream, with the ticks after `over` and the grid after `every`, where they stand.
+    /// `let name = expr;` defines a stream, with the ticks after `over` and the grid after `every`, if they are
+    /// written.
     Let {
         name: Name,
         expr: Expr,

@@ -16,9 +16,9 @@ use crate::query::Query;
 use std::alloc::Global;
 use tilt_lexer::{LexFault, Token, next_token};
 
-/// The query that the text is. It is refused for the fault that `lex` tells of it, or where it has tokens, for the fault that `parse`
-/// tells of those. However long the text is, at most 257 statements of 258 tokens are kept at a time; a token after them is looked
-/// at and let go.
+/// The query that the text is. It is rejected for the fault that `lex` returns for it, or if it has tokens, for the fault that `parse`
+/// returns for those. However long the text is, at most 257 statements of 258 tokens are kept at a time; a token after them is read and
+/// discarded.
 pub fn read_text(alloc: Global, bytes: &[u8]) -> Result<Query, TextFault>
     ensures query { IfOk result (λ query. IsQueryText bytes.now query) }
     ensures faulty { IfErr result (λ fault. fault ≢ TextFault.OutOfMemory → IsRefusedText bytes.now fault) }
@@ -34,9 +34,9 @@ pub fn read_text(alloc: Global, bytes: &[u8]) -> Result<Query, TextFault>
     Ok(query)
 }
 
-/// The tokens of a text, of which those that no text within the limits can have are let go: of each statement the first 257 and its `;`
-/// are kept, and so of the first 257 statements. So a text takes memory for no more than these, however long it is. The first faulty
-/// place of the whole text is rejected, as `lex` does it.
+/// The tokens of a text, without those that no text within the limits can have. Of each of the first 257 statements, the first 257 tokens
+/// and its `;` are kept. So a text takes memory for no more than these, however long it is. The first faulty place of the whole text is
+/// rejected, as `lex` does it.
 pub fn keep_tokens(alloc: Global, bytes: &[u8]) -> Result<Vec<Token>, LexFault>
     ensures kept { IfOk result (λ kept. (tokens : List Token) × AreTokens 0 bytes.now tokens
         × (kinds kept.items ≡ trimmed 257 257 (kinds tokens))) }

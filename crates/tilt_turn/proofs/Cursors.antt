@@ -7,7 +7,7 @@ use Rattle.tilt_stream.specs.declared.cursor.Cursor.{Cursor}
 use Rattle.tilt_turn.specs.declared.moving.Moving.{Moving}
 use Rattle.tilt_turn.specs.Held.{Knows, MayMove}
 
--- one that stands at a tick may move from there
+-- one that is at a tick may move from there
 pub may-stay : (list : List Snapshot) (tick : ℤ) (c : Cursor) → c ≡ record { tick = tick; place = ended_below tick list } → MayMove list tick c
 may-stay list tick c is = rw is (record { fits = omega arith; onwards = omega (arith, ints) })
 

@@ -71,7 +71,7 @@ met-same x y lo hi cells marks =
     met-agrees x y lo hi lo hi (record { cells = λ at above below. cells at below; marks = λ at above below. marks at below })
     (omega (arith, ints)) (omega (arith, ints))
 
--- and a window that holds what one tells holds what the other tells
+-- and a window that holds what one list says holds what the other says
 holds-same : (a b : List Snapshot) (last first : ℤ) (f : Option ℤ → Option ℤ) (w : Moving)
     → ((at : ℤ) → at ≤ℤ last → cell_at a at ≡ cell_at b at) → ((at : ℤ) → at ≤ℤ last → mark_at a at ≡ mark_at b at)
     → w.back.tick ≤ℤ last → Holds a f first w → Holds b f first w
@@ -87,7 +87,7 @@ holds-same a b last first f w cells marks within held =
 same-alike : (a b : List Snapshot) (last : ℤ) → IsSameUpTo last a b → IsAlikeUpTo last a b
 same-alike a b last s = record { ended = s.ended; cells = s.cells; marks = s.marks }
 
--- and one that knows where its last tick stands, and its next mark, knows it of the other
+-- and one that knows the place of its last tick, and its next mark, knows it of the other
 knows-same : (a b : List Snapshot) (last : ℤ) (w : Moving) → IsSameUpTo last a b → w.back.tick ≤ℤ last → Knows a w → Knows b w
 knows-same a b last w s within knows = record {
   place = knows.place ∙ s.ended w.back.tick within;

@@ -50,7 +50,7 @@ dropped x f begin mark last cells left (m ∷ marks) others taken some held firs
     (held.cells_met ∙ ap (map f) all) took in
     rw (← same) (record { cells_met = taken_is; marks_met = rest ∙ found.others })
 
--- where no mark stands up to the first tick, no more has to go
+-- if there is no mark up to the first tick, no more has to go
 none-before : (x : Stream) (begin first last : ℤ) (marks : List ℤ) → begin ≤ℤ first → first ≤ℤ last → marks ≡ marked x begin last
     → ((mark : ℤ) → slice_get marks 0 ≡ Some mark → mark ≤ℤ first → ⊥) → (other : ℤ) → begin <ℤ other → other ≤ℤ first
     → x.mark other ≡ false

@@ -86,12 +86,12 @@ marks-read xs maps tick (One op a) is = cc
 marks-read xs maps tick (Two op a b) is = cc
 marks-read xs maps tick (If c a b) is = cc
 
--- the instruction that stands at the first of these places
+-- the instruction at the first of these places
 abbrev pub first_of : Block → List ℕ → Instr
 first_of body [] = Null
 first_of body (place ∷ rest) = get_or body place (Const (pos 0))
 
--- the same instruction stands at all of these places
+-- the same instruction is at all of these places
 abbrev pub AreEqual : Block → List ℕ → Type 0
 AreEqual body own = AllByRecursion (IsPlaceOf body (first_of body own)) own
 
@@ -137,7 +137,7 @@ leaves-marks xs maps tick body leaves equal all =
     (all found.0 found.1 (marks-read xs maps tick (get_or body found.0 (Const (pos 0))) found.2)))
     (λ is. leaves-within xs maps tick body leaves equal is)
 
--- at all places of a leaf of a body stands the instruction of its first one
+-- the instruction at all places of a leaf of a body is the one at its first place
 pub leaves-equal : (lists : List (List Snapshot)) (maps : List Block) (body : Block) (cells : List (Option ℤ)) (point : ℤ) (leaves : List Placed)
     → AllByRecursion (IsPlacedBy lists maps body cells point) leaves → AllByRecursion (AreEqual body) (map places_of leaves)
 leaves-equal lists maps body cells point [] all = tt

@@ -1,4 +1,4 @@
--- Reading what stands at a number, and answers that hold where no memory was wanting.
+-- Reading what is at a number, and results that hold unless memory ran out.
 use Rattle.std.proofs.Common.{◌≡◌, ◌<◌, ℕ, zero, suc, List, [], ◌∷◌, map, length, get_or, Result, Ok, Err, OnOk, refl, sym, ap, arith}
 use Rattle.tilt_stream.specs.Pointwise.{nothing}
 use Rattle.tilt_stream.specs.Snap.{Snapshot}

@@ -39,7 +39,7 @@ stand-push [] (other ∷ cells) i cell stand new = absurd stand
 stand-push (first ∷ block) [] i cell stand new = absurd stand
 stand-push (first ∷ block) (other ∷ cells) i cell stand new = (stand.0, stand-push block cells i cell stand.1 new)
 
--- what an instruction gives may stand in its register
+-- what an instruction gives may be in its register
 gives-standing : (leaf : Instr → Option ℤ) → leaf Argument ≡ None → (cells : List (Option ℤ)) (i : Instr)
     → IsStanding i (instr_cell leaf cells i)
 gives-standing leaf none cells (Const number) = refl
@@ -51,7 +51,7 @@ gives-standing leaf none cells (One op a) = tt
 gives-standing leaf none cells (Two op a b) = tt
 gives-standing leaf none cells (If c a b) = tt
 
--- so constants stand in the registers of a block
+-- so constants are in the registers of a block
 pub registers-stand : (leaf : Instr → Option ℤ) → leaf Argument ≡ None → (done : Block) (cells : List (Option ℤ)) (block : Block)
     → ConstantsStand done cells → ConstantsStand (done ++ block) (with_registers leaf cells block)
 registers-stand leaf none done cells [] stand = rw append-nil stand
@@ -114,7 +114,7 @@ cell-before leaf cells n (Two op a b) names = rw (get_or-take n cells a None nam
 cell-before leaf cells n (If c a b) names =
     rw (get_or-take n cells c None names.0, get_or-take n cells a None names.1, get_or-take n cells b None names.2) refl
 
--- what stands in the register of an instruction that isn't computed is what it gives
+-- what is in the register of an instruction that isn't computed is what it gives
 stands-given : (leaf : Instr → Option ℤ) → leaf Argument ≡ None → (i : Instr) (cell : Option ℤ) (cells : List (Option ℤ)) → computes i ≡ false
     → IsStanding i cell → (reads i ≡ true → cell ≡ leaf i) → cell ≡ instr_cell leaf cells i
 stands-given leaf none (Const number) cell cells failed stands read = stands
@@ -188,7 +188,7 @@ computed-apart P body (i ∷ rest) cells n all by =
     reads-apart i.instr (ap reads (sym is.from ∙ ap (λ k. get_or body k (Const (pos 0))) (sym same)) ∙ by) is.passes in
     computed-apart P body rest (set cells i.place cell) n all.1 by ∙ get_or-set_other cells i.place n cell None apart
 
--- the last register stands one place before the end
+-- the last register is one place before the end
 last_or-get : (cell : Option ℤ) (cells : List (Option ℤ)) → slice_get (cell ∷ cells) (length (cell ∷ cells) - 1) ≡ Some (last_or cell cells)
 last_or-get cell [] = refl
 last_or-get cell (next ∷ cells) =

@@ -41,7 +41,7 @@ ended-alike s tick later onwards none =
     let after : int_lt s.end later ≡ false = grind (arith, ints) in
     before ∙ sym after))
 
--- as many end below a later tick, where no mark stands up to it
+-- as many end below a later tick, if there is no mark up to it
 pub ended-stays : (list : List Snapshot) (tick later : ℤ) → tick ≤ℤ later
     → ((other : ℤ) → tick <ℤ other → other ≤ℤ later → mark_at list other ≡ false) → ended_below tick list ≡ ended_below later list
 ended-stays [] tick later onwards none = refl
@@ -85,7 +85,7 @@ knows-too list w moved knows is same = record {
   high = rw same knows.high;
 }
 
--- no mark stands up to a tick that stays below the next mark
+-- there is no mark up to a tick that stays below the next mark
 pub clear-below : (x : Stream) (tick later : ℤ) (answer : Option ℤ) → NamesNextMark x tick answer → IfSome answer (λ next. later <ℤ next)
     → (other : ℤ) → tick <ℤ other → other ≤ℤ later → x.mark other ≡ false
 clear-below x tick later None names stays other above within = names other above

@@ -47,7 +47,7 @@ written-same cell (place ∷ rest) cells all =
     let same : set cells place cell ≡ cells = ap (set cells place) (sym all.0) ∙ set-get_or cells place None in
     ap (written cell rest) same ∙ written-same cell rest cells all.1
 
--- and constants stand still where it may stand in each
+-- and constants are still in place if the cell may be in each of these registers
 pub written-stand : (block : Block) (cell : Option ℤ) (places : List ℕ) (cells : List (Option ℤ))
     → AllByRecursion (λ place. IsStanding (get_or block place (Const (pos 0))) cell) places → ConstantsStand block cells
     → ConstantsStand block (written cell places cells)

@@ -33,8 +33,8 @@ pub record MayMove (list : List Snapshot) (tick : ℤ) (c : Cursor) : Type 0 whe
   pub fits : c.place ≤ ended_below c.tick list
   pub onwards : c.tick ≤ℤ tick
 
--- a window from a first tick up to that of its cursor: its cells are by the map those that these ticks meet, and its marks those after
--- the first tick
+-- a window from a first tick up to the tick of its cursor: its cells are, by the map, those that these ticks meet. Its marks are those
+-- after the first tick
 pub record Holds (list : List Snapshot) (by_map : Option ℤ → Option ℤ) (first : ℤ) (w : Moving) : Type 0 where
   pub cells : kind_cells w.kind ≡ map by_map (met (stream_of list) (first -ℤ pos 1) w.back.tick)
   pub marks : w.marks.items ≡ marked (stream_of list) first w.back.tick
@@ -51,19 +51,18 @@ pub record Knows (list : List Snapshot) (w : Moving) : Type 0 where
   pub low : IfSome (known_next w.next) (λ next. neg_ℤ WIDE <ℤ next)
   pub high : IfSome (known_next w.next) (λ next. next ≤ℤ (WIDE +ℤ pos 1))
 
--- what a window has to know of its list before it moves on: the place of its last tick, and the next mark above it unless it says that this
--- isn't known
+-- what a window must know of its list before it moves on: the place of its last tick, and the next mark above it unless this is `Unknown`
 pub record MayKnow (list : List Snapshot) (w : Moving) : Type 0 where
   pub place : w.back.place ≡ ended_below w.back.tick list
   pub known : (w.next ≡ Unknown) ⊎ Knows list w
 
--- a window that may go on to any first tick from this one on: it holds what the ticks from there on meet, and knows enough of its list if
+-- a window that may go on to any first tick from this one on. It holds what the ticks from there on meet, and knows enough of its list if
 -- it was moved before
 pub record MayBegin (list : List Snapshot) (by_map : Option ℤ → Option ℤ) (first : ℤ) (w : Moving) : Type 0 where
   pub held : Holds list by_map first w
   pub known : first ≤ℤ w.back.tick → MayKnow list w
 
--- a window that moves on to a last tick: it stands there, knows its list, and answers its reducer as before
+-- a window that moves on to a last tick: it is there, knows its list, and has its reducer as before
 pub record MovesTo (list : List Snapshot) (last : ℤ) (old new : Moving) : Type 0 where
   pub stands : new.back.tick ≡ last
   pub knows : Knows list new
@@ -78,7 +77,7 @@ origin (Window w) = instr.Win (kind_reducer w.window.kind) w.buffer w.from w.to 
 abbrev pub places_of : Placed → List ℕ
 places_of p = p.place ∷ p.again.items
 
--- a place of a body at which this instruction stands
+-- a place of a body that has this instruction
 abbrev pub IsPlaceOf : Block → Instr → ℕ → Type 0
 IsPlaceOf body i place = (place < length body) × (get_or body place (instr.Const (pos 0)) ≡ i)
 
@@ -107,7 +106,7 @@ pub record IsWindowAt (lists : List (List Snapshot)) (maps : List Block) (point 
   pub cursor : MayMove (get_or lists w.buffer []) (point +ℤ w.to) w.window.back
   pub begins : MayBegin (get_or lists w.buffer []) (mapped maps w.map) (point +ℤ w.from +ℤ pos 1) w.window
 
--- a window that stands at a grid point: it may be read there, its last tick is the last one that it reads there, and it knows its list
+-- a window that is at a grid point: it may be read there, its last tick is the last one that it reads there, and it knows its list
 pub record StandsAt (lists : List (List Snapshot)) (maps : List Block) (point : ℤ) (w : WindowLeaf) : Type 0 where
   pub at : IsWindowAt lists maps point w
   pub last : w.window.back.tick ≡ point +ℤ w.to
@@ -139,7 +138,7 @@ pub record IsPlacedBy (lists : List (List Snapshot)) (maps : List Block) (body :
       → AllByRecursion (λ place. Sees (leaf_of (map stream_of lists) maps (origin p.leaf)) point
       (record { cell = get_or cells place None; next = p.next })) (places_of p)
 
--- a cell that may stand in the register of an instruction between turns: of a constant its value, of one that is gone over any cell
+-- a cell that may be in the register of an instruction between turns: for a constant its value, for one that is gone over any cell
 abbrev pub IsStanding : Instr → Option ℤ → Type 0
 IsStanding (instr.Const number) cell = cell ≡ Some number
 IsStanding instr.Null cell = cell ≡ None
@@ -153,8 +152,8 @@ ConstantsStand [] (cell ∷ cells) = ⊥
 ConstantsStand (i ∷ block) [] = ⊥
 ConstantsStand (i ∷ block) (cell ∷ cells) = IsStanding i cell × ConstantsStand block cells
 
--- the state of a loop that may go on to any grid point from this one on: it goes over leaves that read all that the body reads, and
--- over what is computed; what is kept of the lists doesn't matter to it. It has a register for each instruction of the body
+-- the state of a loop that may go on to any grid point from this one on. It goes over leaves that read all that the body reads, and over
+-- what is computed; what is kept of the lists doesn't matter to it. It has a register for each instruction of the body
 pub record IsFit (lists : List (List Snapshot)) (l : LoopParts) (point : ℤ) (state : LoopState) : Type 0 where
   pub all : AreAllRead l.body (map places_of state.leaves.items)
   pub leaves : AllByRecursion (IsPlacedBy lists l.maps l.body state.registers.items point) state.leaves.items

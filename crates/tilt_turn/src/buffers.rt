@@ -5,25 +5,26 @@ ghost use Rattle.tilt_stream.specs.Snap.{InOrder, Snapshot};
 
 use tilt_stream::{Buffer, Snap};
 
-/// The buffers that a loop reads, by their numbers: those of the inputs, and after them those of the loops. One that isn't there is
-/// empty.
+/// The buffers that a loop reads, by their numbers: first the buffers of the inputs, then the buffers of the loops. A buffer that doesn't
+/// exist is empty.
 pub trait Buffers {
-    /// Of each one, all that were made so far.
+    /// For each buffer, all snapshots that were made so far.
     ghost lists: { Self → List (List Snapshot) };
 
-    /// Of each one, how many of the first ones aren't kept any more.
+    /// For each buffer, how many of its first snapshots aren't kept any more.
     ghost forgotten: { Self → List ℕ };
 
-    /// How many were made so far, those that aren't kept any more included. Their times lie in `-WIDE..=WIDE`.
+    /// How many snapshots were made so far, including those that aren't kept any more. Their times lie in
+    /// `-WIDE..=WIDE`.
     fn made(&self, buffer: usize) -> usize
         ensures count { result ≡ length (get_or (lists self.now) buffer []) }
         ensures in_order { InOrder (neg_ℤ WIDE) WIDE (get_or (lists self.now) buffer []) };
 
-    /// The place of the first one that is kept, counted from 0 at the first that was made.
+    /// The place of the first snapshot that is kept, counted from 0 at the first that was made.
     fn first_kept(&self, buffer: usize) -> usize
         ensures { result ≡ get_or (forgotten self.now) buffer 0 };
 
-    /// The one at a place, counted in the same way, or none where no more were made.
+    /// The snapshot at a place, counted in the same way, or none if no more were made.
     fn at(&self, buffer: usize, place: usize) -> Option<Snap>
         requires kept { get_or (forgotten self.now) buffer 0 ≤ place }
         ensures snap { result ≡ slice_get (get_or (lists self.now) buffer []) place }

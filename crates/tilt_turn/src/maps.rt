@@ -8,7 +8,7 @@ use std::alloc::AllocError as OutOfMemory;
 use tilt_base::Cell;
 use tilt_code::{Instr, Loop};
 
-// What a map gives on a cell, and the cell itself where no map is named. The registers are written anew.
+// What a map gives on a cell, or the cell itself if no map is named. The registers are overwritten.
 #[inline]
 pub(crate) fn mapped(
     each: &Loop,
@@ -36,8 +36,8 @@ fn block_of(each: &Loop, number: u32) -> &[Instr]
     &each.maps[number as usize]
 }
 
-// Writes the registers anew that the block of a map fills, which is run on a cell. It isn't inlined, so that `mapped`, which mostly names
-// no map, is.
+// Runs the block of a map on a cell, and overwrites the registers that the block fills. It isn't inlined, so that `mapped`, which mostly
+// names no map, is inlined.
 #[inline(never)]
 fn run_block(block: &[Instr], cell: Cell, registers: &mut Vec<Cell>) -> Result<(), OutOfMemory>
     requires { NameEarlier 0 block.now }

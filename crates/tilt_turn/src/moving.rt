@@ -22,9 +22,9 @@ use tilt_base::{Cell, Reducer};
 use tilt_code::Loop;
 use tilt_stream::{Buffer, Cursor};
 
-// The cells that some ticks meet: one for the first tick, and one for each mark after it. The cursor stands at the last tick, so
-// no snapshot that ended before is looked at again. The next mark above the last tick is kept: as long as the last tick stays below
-// it, the buffer isn't read.
+// The cells that some ticks meet: one for the first tick, and one for each mark after it. The cursor is at the last tick, so no snapshot
+// that ended before is looked at again. The next mark above the last tick is kept: as long as the last tick stays below it, the buffer
+// isn't read.
 #[derive(Drop)]
 pub(crate) struct Moving {
     kind: Kind,
@@ -33,7 +33,7 @@ pub(crate) struct Moving {
     next: NextMark,
 }
 
-// The next mark above the last tick of a window, or none if the buffer has none there; or that it isn't known, since the buffer may have
+// The next mark above the last tick of a window, or none if the buffer has none there. It can also be unknown, since the buffer may have
 // got other marks above that tick.
 #[derive(Clone, Copy)]
 pub(crate) enum NextMark {
@@ -87,7 +87,7 @@ impl Moving {
         self.extend(source, last, registers)
     }
 
-    // Lets those cells go that the ticks from a first one on don't meet, and holds the cell of the first tick at least.
+    // Drops the cells that the ticks from a first one on don't meet, and holds the cell of the first tick at least.
     fn begin_from<B: Buffer>(
         &mut self,
         source: &Source<'_, '_, B>,
@@ -130,7 +130,7 @@ impl Moving {
         self.next = NextMark::Unknown;
     }
 
-    // Lets all cells go, and holds the cell of a tick above all of them.
+    // Drops all cells, and holds the cell of a tick above all of them.
     fn begin_at<B: Buffer>(
         &mut self,
         source: &Source<'_, '_, B>,
@@ -148,7 +148,7 @@ impl Moving {
         self.push_at(source, first, registers)
     }
 
-    // Lets those cells go that the ticks from a first one on don't meet, of which the window holds one at least.
+    // Drops the cells that the ticks from a first one on don't meet, of which the window holds one at least.
     fn drop_before(&mut self, first: i64) -> Result<(), OutOfMemory>
         requires some { first ≤ℤ self.old.back.tick }
         ensures held { OnOk result ((list : List Snapshot) (by_map : Option ℤ → Option ℤ) (begin : ℤ) → begin ≤ℤ first
@@ -175,7 +175,7 @@ impl Moving {
         }
     }
 
-    // The first mark, or none where there is none.
+    // The first mark, or none if there is none.
     #[inline]
     fn first_mark(&self) -> Option<i64>
         ensures { result ≡ slice_get self.now.marks.items 0 }

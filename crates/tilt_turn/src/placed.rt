@@ -21,9 +21,9 @@ use std::alloc::{AllocError as OutOfMemory, Global};
 use tilt_base::Cell;
 use tilt_code::Instr;
 
-// A leaf of a body, with the number of its register, those of the registers of later instructions that read the same, and its next mark
-// as it was seen when it was looked at last: below it the registers stay as they are. It is the smallest tick if the leaf was never looked
-// at, or has to be looked at again.
+// A leaf of a body, with the number of its register, and the numbers of the registers of later instructions that read the same. It has its
+// next mark as it was seen when the leaf was last looked at: below it the registers stay as they are. That mark is the smallest tick if the
+// leaf was never looked at, or must be looked at again.
 #[derive(Drop)]
 pub(crate) struct Placed {
     pub(crate) place: usize,
@@ -119,8 +119,8 @@ pub(crate) fn leaves_of(alloc: Global, body: &[Instr]) -> Result<Vec<Placed>, Ou
     Ok(leaves)
 }
 
-// Adds what stands in a place of a body, where it reads a buffer: to a leaf that reads the same, or else as one that has read nothing so
-// far.
+// Adds the instruction in a place of a body, if it reads a buffer. It is added to a leaf that reads the same, or else as a leaf that has
+// read nothing so far.
 fn add_leaf(
     alloc: Global,
     body: &[Instr],

@@ -8,7 +8,7 @@ use std::alloc::{AllocError as OutOfMemory, Global};
 use tilt_base::{Cell, apply1, apply2, choose};
 use tilt_code::Instr;
 
-// One register for each instruction of a block, in which the constants stand.
+// One register for each instruction of a block, with the constants in place.
 pub(crate) fn constants(alloc: Global, block: &[Instr]) -> Result<Vec<Cell>, OutOfMemory>
     ensures { IfOk result (λ registers. ConstantsStand block.now registers.items) }
 {
@@ -19,7 +19,7 @@ pub(crate) fn constants(alloc: Global, block: &[Instr]) -> Result<Vec<Cell>, Out
     Ok(registers)
 }
 
-// What stands in the register of an instruction from the first: the number of a constant, and else null.
+// What is in the register of an instruction from the start: the number of a constant, and else null.
 fn constant(instr: &Instr) -> Cell
     ensures { IsStanding instr.now result }
 {
@@ -29,7 +29,7 @@ fn constant(instr: &Instr) -> Cell
     }
 }
 
-// What an instruction gives by the registers before it; where it is a leaf, it gives the cell of the leaf.
+// What an instruction gives by the registers before it; if it is a leaf, it gives the cell of the leaf.
 #[inline(always)]
 pub(crate) fn register(instr: &Instr, registers: &[Cell], leaf: Cell) -> Cell
     requires { NamesBelow (length registers.now) instr.now }

@@ -27,9 +27,9 @@ use tilt_base::Cell;
 use tilt_code::Loop;
 use tilt_stream::{Seen, Snap};
 
-/// What is kept of a loop from one turn to the next: where each port stands, what each window holds, the next mark of both, and a register
-/// for each instruction. Constants stand in theirs all the time, and what a port or a window reads up to its next mark. It takes memory as
-/// its windows grow, and for the registers of its maps.
+/// What is kept of a loop from one turn to the next. It has the position of each port, what each window holds, the next mark of both, and a
+/// register for each instruction. Constants are in their registers all the time, and what a port or a window reads is in its register up to
+/// its next mark. The state takes memory as its windows grow, and for the registers of its maps.
 #[derive(Drop)]
 pub struct LoopState {
     leaves: Vec<Placed>,
@@ -55,9 +55,9 @@ impl LoopState {
         })
     }
 
-    /// The snapshot that begins at a start, over the buffers before the loop's own. The state has to be at a grid point that isn't
-    /// above that of this turn, and is then at it. Each buffer has to keep the snapshots from the first tick on that the loop reads of
-    /// it at the grid point of this turn; it needn't keep those before. `OutOfMemory` comes where memory is refused, and for no other
+    /// The snapshot that begins at a start, over the buffers before the loop's own. The state must be at a grid point that isn't above the
+    /// grid point of this turn, and is then at it. Each buffer must keep the snapshots from the first tick on that the loop reads of it at
+    /// the grid point of this turn; it needn't keep those before. `OutOfMemory` is returned if an allocation fails, and for no other
     /// reason; the state is of no use then.
     // Inlined, so that what a turn takes and gives stays in registers of the processor.
     #[inline(always)]
@@ -99,7 +99,7 @@ impl LoopState {
         })
     }
 
-    /// Makes the state fit for lists that are the same up to the last tick that the loop reads at a grid point: each port and each window
+    /// Makes the state fit for lists that are the same up to the last tick that the loop reads at a grid point. Each port and each window
     /// is looked at again at the next turn, whatever next mark was seen before. It takes no memory, and reads no cell of a window again.
     pub fn look_again(&mut self)
         ensures { (a b : List (List Snapshot)) (l : LoopParts) (point : ℤ) → neg_ℤ WIDE ≤ℤ point → IsFit a l point self.old
@@ -123,8 +123,8 @@ fn point_of(each: &Loop, start: i64) -> i64
     each.grid.ceil(start + 1)
 }
 
-// The result of a body at the grid point of a reading, and its next mark: first the registers of the leaves have their cells there, and
-// then what is computed by them is computed.
+// The result of a body at the grid point of a reading, and its next mark. First the registers of the leaves get their cells there, and then
+// what is computed by them is computed.
 #[inline(always)]
 fn body_seen<S: Buffers>(
     leaves: &mut [Placed],
@@ -150,7 +150,7 @@ fn body_seen<S: Buffers>(
     })
 }
 
-// Makes the registers of the leaves those of the grid point of a reading, and gives the next mark of the body, which is the least of
+// Makes the registers of the leaves those of the grid point of a reading, and gives the next mark of the body, which is the smallest of
 // theirs.
 #[inline(always)]
 fn leaves_next<S: Buffers>(

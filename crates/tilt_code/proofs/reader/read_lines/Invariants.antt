@@ -1,4 +1,4 @@
--- What is left comes to what the whole text comes to.
+-- What is left gives what the whole text gives.
 use Rattle.std.proofs.Common.{◌≡◌}
 use Rattle.tilt_code.specs.Partial.{parts_of, read_from, read_text}
 use Rattle.tilt_code.specs.Reading.{pieces}

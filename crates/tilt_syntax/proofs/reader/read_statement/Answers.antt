@@ -6,7 +6,7 @@ use Rattle.tilt_syntax.specs.Tree.{StatementTree, statement_tree}
 use Rattle.tilt_syntax.specs.declared.statement.Statement.{Statement}
 use Rattle.tilt_syntax.proofs.reader.read_statement.Goals as goal
 
--- an answer to what stands after the first word is one to the statement
+-- a result for what follows the first word is one for the statement
 as_statement : {E : Type 0} (result : Result (Option Statement) E) (p q : (StatementTree → Plan) → Plan)
     → ((behind : StatementTree → Plan) (r : Option Found) → Comes (p behind) r → Comes (q behind) r)
     → IfOk result (λ found. MatchOption found ((behind : StatementTree → Plan) → Comes (p behind) None)

@@ -15,7 +15,7 @@ use Rattle.tilt_turn.proofs.moving.Moving.begin_from.Goals as goal
 not-below : (a b : ℤ) → int_lt a b ≡ false → b ≤ℤ a
 not-below a b is = grind (arith, ints)
 
--- the window stands at the first tick or above it
+-- the window is at the first tick or above it
 first-within : (first tick result : ℤ) → FitsSigned w64 first → FitsSigned w64 result → result ≡ tick
     → int_lt (to_z w64 (of_z w64 result)) (to_z w64 (of_z w64 first)) ≡ false → first ≤ℤ tick
 first-within first tick result fits tick_fits is below =
