@@ -104,7 +104,7 @@ module _ (number : ℕ) (def : Definition) (behind : List Definition) (old new :
         ∙ need_at-definition (suc number) behind k
         ∙ sym (need_at-definition number (def ∷ behind) (suc k)))
 
-    -- so these are the needs where the definition counts with those after it
+    -- so these are the needs if the definition counts with those after it
     pub asked-needs : length new ≡ length old → new ≡ needs number (def ∷ behind)
     asked-needs same =
         ext_get_or None new (needs number (def ∷ behind)) (omega (arith, many, same, length-needs number (def ∷ behind)))
@@ -213,7 +213,7 @@ all_within-put_down so_far limit behind old number n low h is less =
     (subst (λ (m : Option Need). IsWithin (evenly (pos limit)) m) (sym is)
     (within-need_before limit behind (need_at old number) (within-greater (pos so_far) (pos limit) (need_at old number) (omega (arith, ints)) (h.each number))))
 
--- where nothing was asked, no source has a need
+-- if nothing was asked, no source has a need
 unasked-map : (number from count : ℕ) → map (asked_from number []) (range_with_len from count) ≡ replicate count None
 unasked-map number from zero = refl
 unasked-map number from (suc count) = ap (λ (ns : List (Option Need)). None ∷ ns) (unasked-map number (from + 1) count)

@@ -18,7 +18,7 @@ abbrev pub AgreeAsAsked : Option Need → ℤ → ℤ → Stream → Stream → 
 AgreeAsAsked None lo hi x y = ⊤
 AgreeAsAsked (Some n) lo hi x y = Agree x y (lo -ℤ n.back) (hi +ℤ n.ahead)
 
--- where the rows of each input agree on what it is asked for, so do the meanings of each source
+-- if the rows of each input agree on what it is asked for, so do the meanings of each source
 pub record IsLocal (core : CoreParts) (margins : MarginsParts) : Type 0 where
   pub local : (one other : List (List Snapshot)) (lo hi : ℤ) → length one ≡ length core.inputs → length other ≡ length core.inputs
       → lo <ℤ hi

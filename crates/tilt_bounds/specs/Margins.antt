@@ -1,4 +1,4 @@
--- How far a query looks, as plain data, and when that is too far (our own rule).
+-- How far back and ahead a query reads, as plain data, and when that is too far (our own rule).
 use Rattle.std.specs.Prelude.{◌≡◌, ℕ, ℤ, pos, ◌≤ℤ◌, Bool, ◌||◌, if◌then◌else◌, List, length, Option, Some, None, Result, Ok, Err}
 use Rattle.std.specs.Prelude.{int_lt, MatchResult, ⊤, refl}
 use Rattle.std.specs.Coded.{Coded, code_by, coded×, coded_ℤ, coded_list, coded_option}
@@ -11,7 +11,7 @@ use Rattle.tilt_bounds.specs.declared.fault.ReachFault.TheVariants.{TooFar, OutO
 use Rattle.tilt_bounds.specs.declared.need.Need.{Need}
 use Rattle.tilt_bounds.specs.declared.need.Need.TheVariants.{Unused, Used}
 
--- the look-back and the look-ahead of a query, and the need of each of its sources, which is missing where the source isn't used
+-- the look-back and the look-ahead of a query, and the need of each of its sources, which is missing if the source isn't used
 pub record MarginsParts : Type 0 where
   pub back : ℤ
   pub ahead : ℤ
@@ -49,7 +49,7 @@ pub record AreMargins (margins : MarginsParts) : Type 0 where
 abbrev pub is_too_far : needs.Need → Bool
 is_too_far n = int_lt REACH n.back || int_lt REACH n.ahead
 
--- the margins of a core, or its look-back and look-ahead where one of them is above the limit
+-- the margins of a core, or its look-back and look-ahead if one of them is above the limit
 abbrev pub margins_of : CoreParts → Result MarginsParts needs.Need
 margins_of core =
     let widest = needs.reach (length core.inputs) core.defs in
@@ -61,7 +61,7 @@ abbrev pub IsTold : Result MarginsParts needs.Need → ReachFault → Type 0
 IsTold answer (TooFar back ahead) = answer ≡ Err (record { back = back; ahead = ahead })
 IsTold answer OutOfMemory = ⊤
 
--- that answer is given, unless memory ran out
+-- that result is given, unless memory ran out
 abbrev pub Gives : Result MarginsParts ReachFault → Result MarginsParts needs.Need → Type 0
 Gives given answer = MatchResult given (λ margins. answer ≡ Ok margins) (λ fault. IsTold answer fault)
 
@@ -69,7 +69,7 @@ Gives given answer = MatchResult given (λ margins. answer ≡ Ok margins) (λ f
 abbrev pub coded_need : Coded needs.Need
 coded_need = code_by (ℤ × ℤ) (coded× coded_ℤ coded_ℤ) (λ n. (n.back, n.ahead)) (λ p. record { back = p.0; ahead = p.1 }) (λ _. refl)
 
--- and margins too
+-- and so are margins
 abbrev pub coded_margins : Coded MarginsParts
 coded_margins =
     code_by (ℤ × (ℤ × List (Option needs.Need))) (coded× coded_ℤ (coded× coded_ℤ (coded_list (coded_option coded_need))))

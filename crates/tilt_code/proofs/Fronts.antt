@@ -22,7 +22,7 @@ use Rattle.tilt_code.specs.declared.stage.Stage.TheVariants as stage
 use Rattle.tilt_code.proofs.Complete.{code-run, code-fits, run_texts, texts-run, texts-front}
 use Rattle.tilt_code.proofs.Partials.{IsOpen, IsPartial, IsPartialAt, nothing-is, opened, written_in, written, take_text, text-sound}
 
--- an open block, filled where it is empty
+-- an open block, filled if it is empty
 abbrev filled : Block → Block
 filled [] = instr.Null ∷ []
 filled (x ∷ xs) = x ∷ xs

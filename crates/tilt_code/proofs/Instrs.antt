@@ -36,7 +36,7 @@ use Rattle.tilt_code.proofs.Numbers.{named-decimal, decimal-named}
 abbrev pub Words : Type 0
 Words = List (List ℕ)
 
--- a value and the rest, of two equal answers
+-- a value and the rest, of two equal results
 pub pair_is : {A : Type 0} (x y : A) (r s : Words) → ◌≡◌ {A = Option (A × Words)} (Some (x, r)) (Some (y, s)) → (x ≡ y) × (r ≡ s)
 pair_is x y r s e = some_pair_parts x y r s e
 

@@ -128,7 +128,7 @@ code-reads code h =
 here-lacks : (bytes : List ℕ) (r : Reading bytes) → Lacks 10 r.here
 here-lacks bytes r = (all-parts (Lacks 10) r.front (r.here ∷ r.behind) (subst (AllByRecursion (Lacks 10)) r.parts (pieces_lack bytes))).1.0
 
--- a text that is a listing isn't refused
+-- a text that is a listing isn't rejected
 listing-reads : (bytes : List ℕ) (n : ℕ) → read_text bytes ≡ Err n → IsListing bytes → ⊥
 listing-reads bytes n e (code, h, is) =
     let r = code-reads code h in
@@ -288,7 +288,7 @@ bad-read bytes in_loop n b =
     λ i. Some (record { in_loop = sym b.loop_counted i; line = line-is i }) in
     (r.there.code, ap read_text b.whole ∙ r.read ∙ ap (λ (o : Option Place). Ok (record { code = r.there.code; bad = o })) (found ∙ place))
 
--- what an answer says, where it gives what was read
+-- what a result says, if it gives what was read
 
 pub given-code : (bytes : List ℕ) (result : Result CodeParts CodeFault) → Gives result (read_text bytes) → IfOk result (λ code. IsCode code × (bytes ≡ listing code))
 given-code bytes (Ok code) g =

@@ -32,7 +32,7 @@ pub pieces_front : (mark : ℕ) (front rest : List ℕ) → Lacks mark front →
 pieces_front mark front rest h =
     pieces-cut mark (front ++ mark ∷ rest) ∙ ap (cut_pieces mark (front ++ mark ∷ rest)) (until-front mark front rest h)
 
--- the one piece where there is no mark
+-- the one piece if there is no mark
 pub pieces_lone : (mark : ℕ) (bytes : List ℕ) → Lacks mark bytes → pieces mark bytes ≡ bytes ∷ []
 pieces_lone mark bytes h = pieces-cut mark bytes ∙ ap (cut_pieces mark bytes) (until-lone mark bytes h)
 

@@ -84,7 +84,7 @@ some_mark-found x tick next (suc n) low high marked =
     let is : next ≡ tick +ℤ pos 1 = omega (arith, ints) in
     or_left (x.mark (tick +ℤ pos 1)) _ (ap (λ (t : ℤ). x.mark t) (sym is) ∙ marked))
 
--- of two grid points the greater one is a period above the lesser one at least
+-- the larger of two grid points is at least a period above the smaller one
 apart : (grid : GridPoints) (point next : ℤ) → pos 1 ≤ℤ grid.period → is_point grid point ≡ true → IsPoint grid next → point <ℤ next
     → (point +ℤ grid.period) ≤ℤ next
 apart grid point next h at other above =
@@ -136,7 +136,7 @@ module _ (body : Stream) (grid : GridPoints) (valid : IsGrid grid) (lo hi : ℤ)
     clear : IsUnmarked whole (start +ℤ pos 1) end
     before_mark : end <ℤ hi → whole.mark (end +ℤ pos 1) ≡ true
 
-  -- no grid point has a mark after it up to a tick, where the body has none up to a period after that
+  -- no grid point has a mark after it up to a tick, if the body has none up to a period after that
   whole-clear : (start end limit : ℤ) → lo ≤ℤ start → end ≤ℤ hi → IsUnmarked body (ceil grid (start +ℤ pos 1)) limit
       → ((point : ℤ) → is_point grid point ≡ true → point <ℤ end → (point +ℤ grid.period) ≤ℤ limit) → IsUnmarked whole (start +ℤ pos 1) end
   whole-clear start end limit low high clear reach = record {
@@ -252,7 +252,7 @@ module _ (body : Stream) (grid : GridPoints) (valid : IsGrid grid) (hi start : �
       (turns_from-are body grid valid start hi end (int_gap (start +ℤ pos 1) hi) (omega (arith, ints)) (omega (arith, ints))
       ∙ sym (turns_from-are body grid valid start hi end (int_gap end hi) (omega (arith, ints)) (omega (arith, ints))))
 
-  -- where the body has a next mark, the turn ends by it, however far it lies
+  -- if the body has a next mark, the turn ends by it, however far it lies
   end_by : (next : ℤ) → IsNextMark body (ceil grid (start +ℤ pos 1)) next → (answer : Option ℤ)
       → Searched body (ceil grid (start +ℤ pos 1)) (hi +ℤ grid.period) answer
       → turn_end grid hi answer ≡ int_min hi (floor grid (next -ℤ pos 1))

@@ -37,7 +37,7 @@ abbrev pub map_leaf : Option ℤ → Instr → Option ℤ
 map_leaf cell Argument = cell
 map_leaf cell other = None
 
--- what a map gives on a cell; the cell itself where no map is named
+-- what a map gives on a cell; the cell itself if no map is named
 abbrev pub mapped : List Block → Option ℕ → Option ℤ → Option ℤ
 mapped maps None cell = cell
 mapped maps (Some number) cell = block_cell (map_leaf cell) (get_or maps number [])

@@ -1,4 +1,4 @@
--- Which line of a text is bad, and which reference: where a text is no listing of a code (our own rule).
+-- Which line of a text is bad, and which reference, if a text is no listing of a code (our own rule).
 use Rattle.std.specs.Prelude.{◌≡◌, ◌⊎◌, ℕ, suc, ◌+◌, ◌-◌, Bool, true, List, [], ◌∷◌, ◌++◌, length, map, Contains, IsTrue, ⊤}
 use Rattle.std.specs.Bool.{IsFalse}
 use Rattle.tilt_code.specs.Code.{CodeParts}

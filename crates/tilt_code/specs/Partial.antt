@@ -186,14 +186,14 @@ TakesText read (Err fault) new bad = Unit {0}
 abbrev pub code_of : PartialCode → CodeParts
 code_of p = record { inputs = p.inputs; loops = p.loops }
 
--- that answer, seen by view, is what was read, unless memory ran out
+-- that result, seen by view, is what was read, unless memory ran out
 abbrev pub GivesProgress : {S : Type 0} → (S → Progress) → Result S CodeFault → Result Progress ℕ → Type 0
 GivesProgress view (Ok s) read = read ≡ Ok (view s)
 GivesProgress view (Err (fault.BadCode number)) read = read ≡ Err number
 GivesProgress view (Err (fault.BadReference in_loop number)) read = ⊥
 GivesProgress view (Err fault.OutOfMemory) read = Unit {0}
 
--- that answer is what was read, unless memory ran out
+-- that result is what was read, unless memory ran out
 abbrev pub Gives : Result CodeParts CodeFault → Result Progress ℕ → Type 0
 Gives (Ok code) read = (p : PartialCode) × (read ≡ Ok (record { code = p; bad = None })) × (code ≡ code_of p)
 Gives (Err (fault.BadCode number)) read = read ≡ Err number

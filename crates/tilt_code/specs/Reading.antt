@@ -24,12 +24,12 @@ use Rattle.tilt_code.specs.declared.word.TheConstants.{ONES, TWOS, REDUCERS}
 abbrev pub pieces : ℕ → List ℕ → List (List ℕ)
 pieces mark = slice_split (λ byte. byte == mark)
 
--- the pieces of what is left, where anything is
+-- the pieces of what is left, if anything is
 abbrev pub pieces_left : ℕ → Option (List ℕ) → List (List ℕ)
 pieces_left mark None = []
 pieces_left mark (Some bytes) = pieces mark bytes
 
--- the number, where 32 bits without a sign hold it
+-- the number, if 32 bits without a sign hold it
 abbrev pub within_u32 : ℤ → Option ℕ
 within_u32 (pos n) = if nat_lt n (2 ^ 32) then Some n else None
 within_u32 (negsuc n) = None
@@ -75,7 +75,7 @@ reducer_at words = do
   reducer ← find (λ r. bytes_eq (reducer_word r) word.0) REDUCERS
   Some (reducer, word.1)
 
--- the number of the map, where there is a word
+-- the number of the map, if there is a word
 abbrev pub map_at : List (List ℕ) → Option (Option ℕ × List (List ℕ))
 map_at [] = Some (None, [])
 map_at (word ∷ words) = do
@@ -121,7 +121,7 @@ two_at form words = do
   b ← named_at 114 a.1
   Some (instr.Two op a.0 b.0, b.1)
 
--- an operator on one register, where there is one, or else on two
+-- an operator on one register, if there is one, or else on two
 abbrev pub one_at : Option Op1 → List ℕ → List (List ℕ) → Option (Instr × List (List ℕ))
 one_at None form words = two_at form words
 one_at (Some op) form words = do
@@ -153,7 +153,7 @@ title_at words = do
 abbrev pub is_stretch : ℤ → ℤ → Bool
 is_stretch lo hi = int_le (neg_ℤ WIDE) lo && int_lt lo hi && int_le hi WIDE
 
--- the grid, where the numbers bound one
+-- the grid, if the numbers bound one
 abbrev pub grid_of : ℤ → ℤ → Option GridPoints
 grid_of period offset =
     if is_grid (record { period = period; offset = offset }) then Some (record { period = period; offset = offset }) else None
@@ -185,7 +185,7 @@ other_at first words =
     else if bytes_eq first (codes "end") then Some (line.End, words)
     else step_at first words
 
--- what was read, where no words are left
+-- what was read, if no words are left
 abbrev pub only : {A : Type 0} → A × List (List ℕ) → Option A
 only (x, []) = Some x
 only (x, word ∷ words) = None
@@ -206,11 +206,11 @@ is_reserved bytes = list_any (λ k. bytes_eq (key_text k) bytes) keys
 abbrev pub is_input_name : List ℕ → Bool
 is_input_name name = is_word name && not (is_reserved name)
 
--- the input's line, where it may have the name
+-- the input's line, if it may have the name
 abbrev pub input_line : List ℕ → Option Line
 input_line name = if is_input_name name then Some (line.Input name) else None
 
--- the next word, where it is the last
+-- the next word, if it is the last
 abbrev pub last_word : List (List ℕ) → Option (List ℕ)
 last_word words = word_at words >>= only
 

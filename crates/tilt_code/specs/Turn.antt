@@ -9,7 +9,7 @@ use Rattle.tilt_code.specs.Code.{LoopParts}
 use Rattle.tilt_stream.specs.Snap.{Snapshot}
 use Rattle.tilt_stream.specs.Stream.{Stream}
 
--- where a snapshot ends whose body next has a mark at this tick: at the greatest grid point below it, and at `hi` at the latest
+-- where a snapshot ends whose body next has a mark at this tick: at the largest grid point below it, and at `hi` at the latest
 abbrev pub turn_end : GridPoints → ℤ → Option ℤ → ℤ
 turn_end grid hi None = hi
 turn_end grid hi (Some next) = int_min hi (floor grid (next -ℤ pos 1))
@@ -25,7 +25,7 @@ turn body grid hi start =
       value = body.cell point;
     }
 
--- the turns from a start until `hi`, so many of them at most
+-- the turns from a start until `hi`, at most this many of them
 abbrev pub turns_from : Stream → GridPoints → ℤ → ℤ → ℕ → List Snapshot
 turns_from body grid hi start zero = []
 turns_from body grid hi start (suc more) =

@@ -28,7 +28,7 @@ pub(crate) enum Line {
     End,
 }
 
-// The line with this text, or `None` where it is no line's text.
+// The line with this text, or `None` if it is no line's text.
 pub(crate) fn read_line(alloc: Global, text: &[u8]) -> Result<Option<Line>, OutOfMemory>
     ensures { IfOk result (λ line. line ≡ line_of (pieces 32 text.now)) }
 {

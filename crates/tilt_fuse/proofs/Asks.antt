@@ -154,7 +154,7 @@ module _ (P : ℕ → Need → Type 0) (narrow : (source : ℕ) (asked other : N
       let parts = only-parts (first_port tree) (λ q. reads_only q tree) p is in
       over-asks n m p (is_port tree) (as_map tree) reducer from to less ends (as_map-is tree) (first-asks m tree p h parts.0)
 
-  -- what is asked of a source is as the condition says, where it has a buffer; where it was merged, it is no more than the need of its tree
+  -- what is asked of a source is as the condition says, if it has a buffer; if it was merged, it is no more than the need of its tree
   abbrev pub ServesAs : Option FusedTree → ℕ → Need → Type 0
   ServesAs None source asked = P source asked
   ServesAs (Some tree) source asked = (m : Need) × (NoWider asked m × EachAsks P m tree)

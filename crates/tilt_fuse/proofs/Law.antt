@@ -68,7 +68,7 @@ module _ (P : ℕ → Need → Type 0) (n : Need) (xs : List Stream) (p : Readin
       let others = and_parts (reads_only p a) (reads_only p b) parts.1 in
       λ i. choose (only-cell c asks.0 parts.0 tick i) (only-cell a asks.1 others.0 tick i) (only-cell b asks.2 others.1 tick i)
 
-  -- and has the mark there, where it has a port
+  -- and has the mark there, if it has a port
   only-mark : (tree : FusedTree) → EachAsks P n tree → reads_only p tree ≡ true → (tick : ℤ) → (fused_stream xs tree).mark tick ≡ (is_some (first_port tree) && x.mark (tick +ℤ p.offset))
   only-mark (Const number) asks only tick = refl
   only-mark (Port source offset) asks only tick =
@@ -143,7 +143,7 @@ module _ (P : ℕ → Need → Type 0) (n : Need) (xs : List Stream) (y : Stream
       let parts = only-parts (first_port tree) (λ q. reads_only q tree) p is in
       over p parts.0 parts.1 (is_port tree) refl
 
--- a source that was merged has the stream of its tree over the sources, and where it has windows on it, its tree is made from one reading
+-- a source that was merged has the stream of its tree over the sources, and if it has windows on it, its tree is made from one reading
 pub record StandsFor (P : ℕ → Need → Type 0) (xs : List Stream) (windowed_on : Bool) (source : ℕ) (tree : FusedTree) : Type 0 where
   pub need : Need
   pub asks : EachAsks P need tree

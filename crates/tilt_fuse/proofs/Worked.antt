@@ -29,7 +29,7 @@ shift_in_window_plain : plan_of shift_in_window false ≡ loop 0 (tree.Port 0 (n
 unfolding shift_in_window over_x taken_every loop
 shift_in_window_plain = refl
 
--- the window takes the shift in, and there is no map where the tree is the port alone
+-- the window takes the shift in, and there is no map if the tree is the port alone
 shift_in_window_fused : plan_of shift_in_window true ≡ loop 1 (tree.Win Sum 0 (negsuc 4) (negsuc 1)) ∷ []
 unfolding shift_in_window over_x taken_every loop
 shift_in_window_fused = refl

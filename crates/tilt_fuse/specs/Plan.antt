@@ -50,7 +50,7 @@ reads_only p (Two op a b) = reads_only p a && reads_only p b
 reads_only p (If c a b) = reads_only p c && (reads_only p a && reads_only p b)
 reads_only p other = true
 
--- the one reading that it is made from, where it has no window, some port, and all of its ports are that reading
+-- the one reading that it is made from, if it has no window, some port, and all of its ports are that reading
 abbrev pub only_reading : FusedTree → Option Reading
 only_reading tree = option_and_then (λ p. if reads_only p tree then Some p else None) (first_port tree)
 
@@ -74,13 +74,13 @@ window_over tree p reducer from to =
     if is_port tree then Win reducer p.source (from +ℤ p.offset) (to +ℤ p.offset)
     else WinBy (as_map tree) reducer p.source (from +ℤ p.offset) (to +ℤ p.offset)
 
--- a window on a source, of which the tree is given where it was merged
+-- a window on a source, of which the tree is given if it was merged
 abbrev pub window_on : Option FusedTree → Reducer → ℕ → ℤ → ℤ → FusedTree
 window_on None reducer source from to = Win reducer source from to
 window_on (Some tree) reducer source from to =
     option_map_or (λ p. window_over tree p reducer from to) (only_reading tree) (Win reducer source from to)
 
--- a reading of a source, of which the tree is given where it was merged
+-- a reading of a source, of which the tree is given if it was merged
 abbrev pub reading_of : Option FusedTree → ℕ → ℤ → FusedTree
 reading_of None source offset = Port source offset
 reading_of (Some tree) source offset = moved offset tree

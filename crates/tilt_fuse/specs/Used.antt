@@ -13,7 +13,7 @@ names (One op a) source = names a source
 names (Two op a b) source = names a source || names b source
 names (If c a b) source = names c source || (names a source || names b source)
 
--- a source is used where it has a need
+-- a source is used if it has a need
 pub record AreUsed (used : List Bool) (needs : List (Option Need)) : Type 0 where
   pub many : length used ≡ length needs
   pub each : (source : ℕ) → source < length used → get_or used source false ≡ is_some (get_or needs source None)

@@ -17,8 +17,8 @@ use crate::usage::used_of;
 use std::alloc::{AllocError as OutOfMemory, Global};
 use tilt_core::{Core, Def};
 
-/// The loops of a query that doesn't look too far: its used definitions that aren't merged into their users, in order.
-/// Without fusion nothing is merged.
+/// The loops of a query whose reach is within the limit: its used definitions that aren't merged into their users, in
+/// order. Without fusion nothing is merged.
 pub fn plan(alloc: Global, core: &Core, fuse: bool) -> Result<LoopList, OutOfMemory>
     requires reaches { IsOk (margins_of core.now) }
     ensures plan { IfOk result (λ list. list.loops.items ≡ plan_of core.now fuse) }

@@ -1,6 +1,7 @@
 use tilt_core::Def;
 
-/// The definitions of a query after so many inputs, which of its sources are used, and whether definitions are merged.
+/// The definitions of a query after a number of inputs, which of its sources are used, and whether definitions are
+/// merged.
 #[derive(Clone, Copy)]
 pub struct Query<'a> {
     pub inputs: usize,

@@ -19,7 +19,7 @@ use Rattle.tilt_syntax.specs.declared.level.Level.TheVariants.{Choice, When, Or,
 use Rattle.tilt_syntax.proofs.Descending.{answered}
 use Rattle.tilt_syntax.proofs.Operators.{same_level, IsChain, whens, ors, ands, sums, products, IsOperator, known}
 
--- the least level of the operators with which an expression of a level would go on
+-- the smallest level of the operators with which an expression of a level would go on
 abbrev barrier : Level → ℕ
 barrier Comparison = 5
 barrier level = suc (level_number level)

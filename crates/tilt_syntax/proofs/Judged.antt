@@ -1,4 +1,4 @@
--- Tokens are a query, or are refused for a fault; and so is a text.
+-- Tokens are a query, or are rejected for a fault; and so is a text.
 use Rattle.std.proofs.Common.{◌⊎◌, inl, inr, ℕ, ◌+◌, List, [], ◌∷◌, length, arith}
 use Rattle.std.proofs.lemmas.Bool.{cases_lt}
 use Rattle.tilt_lexer.specs.Tokens.{AreTokens}

@@ -14,7 +14,7 @@ use Rattle.tilt_syntax.proofs.Spelt.{query_spells}
 use Rattle.tilt_syntax.proofs.Unique.{one_query}
 use Rattle.tilt_syntax.proofs.Written.{statement_tokens, statement_is}
 
--- the printed statements may stand where the others do
+-- the printed statements may be in the same places as the others
 in_place_again : (rest : List (List Tok)) (query : List StatementTree) (s : StatementTree) → AreGood rest query → IsInPlace rest s
     → IsInPlace (map statement_tokens query) s
 in_place_again [] [] s good h = h

@@ -1,4 +1,4 @@
--- Tokens are refused for one fault at most, and not where they are a query.
+-- Tokens are rejected for one fault at most, and not if they are a query.
 use Rattle.std.proofs.Common.{◌≡◌, ◌≢◌, ◌+◌, ◌⊎◌, inl, inr, ℕ, List, [], ◌∷◌, refl, arith}
 use Rattle.tilt_lexer.specs.declared.token.Tok.{Tok}
 use Rattle.tilt_syntax.specs.Query.{statements, IsGood, AreGood, IsQueryOf, HasFault, too_long, no_statement, misplaced, FirstFault, here, later, IsRefused, too_many, no_tokens, faulty}

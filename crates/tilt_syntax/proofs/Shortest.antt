@@ -19,7 +19,7 @@ use Rattle.tilt_syntax.specs.declared.every.Every.{Every}
 use Rattle.tilt_syntax.proofs.Sounds.{sound_parts}
 use Rattle.tilt_syntax.proofs.Written.{place_tokens, offset_tokens, reading_tokens, operands_tokens, expr_tokens, bound_tokens, span_tokens, domain_tokens, from_tokens, grid_tokens, statement_tokens}
 
--- parentheses are two tokens at most, and none where the place asks for no tighter level
+-- parentheses are two tokens at most, and none if the place asks for no tighter level
 place_most : (place level : ℕ) (ts : List Tok) → length (place_tokens place level ts) ≤ length ts + 2
 place_most place level ts =
     elim (cases_Bool (nat_lt level place)) [

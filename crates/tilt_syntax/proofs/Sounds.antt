@@ -1,4 +1,4 @@
--- The printed tokens of a statement are sound where some tokens of it are.
+-- The printed tokens of a statement are sound if some tokens of it are.
 use Rattle.std.proofs.Common.{◌≡◌, inl, inr, ℕ, zero, suc, ℤ, pos, negsuc, List, [], ◌∷◌, ◌++◌, Option, Some, nat_lt, arith}
 use Rattle.std.specs.List.{AllByRecursion}
 use Rattle.std.proofs.lemmas.Bool.{cases_Bool}
@@ -19,7 +19,7 @@ use Rattle.tilt_base.specs.declared.span.Span.{Span}
 use Rattle.tilt_syntax.specs.declared.every.Every.{Every}
 use Rattle.tilt_syntax.proofs.Written.{place_tokens, offset_tokens, reading_tokens, operands_tokens, expr_tokens, bound_tokens, span_tokens, domain_tokens, from_tokens, grid_tokens, statement_tokens}
 
--- tokens one after another are sound where both are
+-- tokens one after another are sound if both are
 pub sound_parts : (ts us : List Tok) → AreSound (ts ++ us) → AreSound ts × AreSound us
 sound_parts [] us s = (tt, s)
 sound_parts (t ∷ ts) us s = let parts = sound_parts ts us s.1 in ((s.0, parts.0), parts.1)

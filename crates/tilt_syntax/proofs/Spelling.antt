@@ -156,7 +156,7 @@ sign_begins m rest ends =
     front_begins (tok.Mark m) (mark_text m) rest (length (mark_text m)) refl
     (sign_is_front bytes (ap begins_word same ∙ first.no_word) (ap is_ascii_digit same ∙ first.no_digit) m sign)
 
--- a token's text is read as the token where it ends before the rest
+-- a token's text is read as the token if it ends before the rest
 token_begins : (k : Tok) (rest : List ℕ) → IsSound k → IsTrue (ends_before k rest) → Begins k (sign_text k ++ rest) (sign_text k) rest
 token_begins (tok.Word x) rest s ends = word_begins (tok.Word x) x rest s.0 (s.0, s.1, refl) tt (stops_word rest ends)
 token_begins (tok.Number (pos n)) rest s ends = number_begins n rest (omega (arith, ints, s.1)) (stops_digits rest ends)

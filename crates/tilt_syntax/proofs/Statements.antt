@@ -199,12 +199,12 @@ told-inj a b e = stored_statement_inj a b (stored_tree-inj _ _ (same_tree _ _ []
 abbrev pub tells : StatementTree → Plan
 tells s = Done (Some (told s))
 
--- where reading finds nothing, the tokens are no statement
+-- if reading finds nothing, the tokens are no statement
 pub no-statement : (ts : List Tok) → ((behind : StatementTree → Plan) → Comes (statement_plan ts behind) None) → (s : StatementTree)
     → IsStatement ts s → ⊥
 no-statement ts h s is = let none = one_answer (h tells) (statement-comes ts s is tells (Some (told s)) done) in cc
 
--- where it finds one, they are it
+-- if it finds one, they are it
 pub is-statement : (ts : List Tok) (s : StatementTree)
     → ((behind : StatementTree → Plan) (r : Option Found) → Comes (behind s) r → Comes (statement_plan ts behind) r) → IsStatement ts s
 is-statement ts s h =

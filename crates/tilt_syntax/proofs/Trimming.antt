@@ -1,4 +1,4 @@
--- The tokens that are kept are the same query, or are refused for the same fault.
+-- The tokens that are kept are the same query, or are rejected for the same fault.
 use Rattle.std.proofs.Common.{◌≡◌, ◌≢◌, ◌⊎◌, inl, inr, ℕ, zero, suc, ◌+◌, ◌<◌, ◌≤◌, List, [], ◌∷◌, length, refl, sym, ap, subst, arith}
 use Rattle.std.specs.Prelude.{⊤}
 use Rattle.tilt_lexer.specs.declared.mark.Mark.TheVariants as mark
@@ -92,7 +92,7 @@ is_same : (room : ℕ) (ts us : List Tok) → 256 < room → IsAlike room ts us 
 is_same room ts us more (inl same) = inl same
 is_same room ts us more (inr long) = inr (omega (arith, long.0), omega (arith, long.1))
 
--- where fewer statements are kept than could be, all are
+-- if fewer statements are kept than could be, all are
 are_same : {n room : ℕ} {ts us : List (List Tok)} → AreTrimmed n room ts us → 256 < room → length ts < n → AreSame ts us
 are_same full more few = absurd (omega arith)
 are_same ended more few = tt
@@ -167,7 +167,7 @@ fault_first n (t ∷ ts) (u ∷ us) f same (here h) = here (fault_one n t u ts u
 fault_first n (t ∷ ts) (u ∷ us) f same (later s good more) =
     later s (good_one t u ts us s same.0 same.1 good) (fault_first (n + 1) ts us f same.1 more)
 
--- where nothing is kept there is nothing
+-- if nothing is kept there is nothing
 some_kept : (n room : ℕ) (t : Tok) (ts : List Tok) → trimmed (suc n) (suc room) (t ∷ ts) ≡ [] → ⊥
 some_kept n room (Sign mark.Semicolon) ts e = cc
 some_kept n room t ts e = cc
@@ -186,7 +186,7 @@ module _ (ts : List Tok) where
       let count = same_length _ _ same in
       record { some = omega (arith, count, is.some); few = omega (arith, count, is.few); good = good_all _ _ query same is.good }
 
-  -- it is refused for the fault for which all are
+  -- it is rejected for the fault for which all are
   refused_if : (kept : List Tok) (f : SyntaxFault) → trimmed 257 257 ts ≡ kept → IsRefused kept f → IsRefused ts f
   refused_if kept f e (too_many many) =
       too_many (omega (arith, as_many (are_trimmed ts 257 257) (omega arith) (omega (arith, ap (λ (l : List Tok). length (statements l)) e, many))))

@@ -1,4 +1,4 @@
--- What reading finds where the tokens are an expression, all of them.
+-- What reading finds if the tokens are an expression, all of them.
 use Rattle.std.proofs.Common.{◌≡◌, List, [], Option, Some, None, refl, ap, append-nil}
 use Rattle.tilt_lexer.specs.declared.token.Tok.{Tok}
 use Rattle.tilt_syntax.specs.Descent.{Found, Comes, Reading, plan_of, done}

@@ -19,7 +19,7 @@ use Rattle.tilt_syntax.specs.Tree.{Atom, Num, Truth, Read, Reduce, ExprTree, Sta
 use Rattle.tilt_base.specs.declared.span.Span.{Span}
 use Rattle.tilt_syntax.specs.declared.every.Every.{Every}
 
--- tokens in parentheses where their level is lower than the one that their place asks for
+-- tokens in parentheses if their level is lower than the one that their place asks for
 abbrev pub place_tokens : ℕ → ℕ → List Tok → List Tok
 place_tokens place level ts = if nat_lt level place then Sign mark.OpenParen ∷ (ts ++ (Sign mark.CloseParen ∷ [])) else ts
 
@@ -95,7 +95,7 @@ loosen {ts = ts} {e = e} (suc gap) level h =
     let same : level + suc gap ≡ suc (level + gap) = omega arith in
     loosen gap level (tighter (subst (λ n. IsExpr n ts e) same h))
 
--- an expression may stand where a looser one may
+-- an expression may be in any place that allows a looser one
 looser : {ts : List Tok} {e : ExprTree} (tight loose : ℕ) → loose ≤ tight → IsExpr tight ts e → IsExpr loose ts e
 looser {ts = ts} {e = e} tight loose le h =
     let same : tight ≡ loose + (tight - loose) = omega arith in

@@ -34,7 +34,7 @@ pub data Plan : Type 0 where
   Test : (t : Tok) (ts : List Tok) (behind : List Tok → Plan) (other : Plan) → Plan
   -- a test for an operator of the level at the beginning
   Between : (level : Level) (ts : List Tok) (behind : Op2 → List Tok → Plan) (other : Plan) → Plan
-  -- a task, and the plan after what it finds; where it finds nothing, nothing is found
+  -- a task, and the plan after what it finds; if it finds nothing, nothing is found
   Ask : (task : Task) (behind : Found → Plan) → Plan
 
 -- this was found

@@ -29,7 +29,7 @@ level_of (One op1.IsNull a) = 9
 level_of (Two op a b) = level2 (infix_of op)
 level_of (If c a b) = 0
 
--- text in parentheses where its level is lower than the one that its place asks for
+-- text in parentheses if its level is lower than the one that its place asks for
 abbrev pub in_place : ℕ → ℕ → List ℕ → List ℕ
 in_place place level text = if nat_lt level place then codes "(" ++ text ++ codes ")" else text
 

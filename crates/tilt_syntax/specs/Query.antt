@@ -11,7 +11,7 @@ use Rattle.tilt_syntax.specs.Tree.{StatementTree, Input, Let, Emit}
 use Rattle.tilt_syntax.specs.declared.fault.SyntaxFault.{SyntaxFault}
 use Rattle.tilt_syntax.specs.declared.fault.SyntaxFault.TheVariants as fault
 
--- what tokens are, without where they stand
+-- what tokens are, without their places
 abbrev pub kinds : List Token → List Tok
 kinds tokens = map (λ token. token.kind) tokens
 
@@ -76,7 +76,7 @@ pub data FirstFault : ℕ → List (List Tok) → SyntaxFault → Type 0 where
   later : {n : ℕ} {ts : List Tok} {rest : List (List Tok)} {f : SyntaxFault} (s : StatementTree) → IsGood ts rest s
       → FirstFault (n + 1) rest f → FirstFault n (ts ∷ rest) f
 
--- the tokens are refused for the fault
+-- the tokens are rejected for the fault
 pub data IsRefused : List Tok → SyntaxFault → Type 0 where
   too_many : {ts : List Tok} → 256 < length (statements ts) → IsRefused ts fault.TooManyStatements
   no_tokens : IsRefused [] (fault.EmitPlace 1)

@@ -23,7 +23,7 @@ abbrev pub FindsExpr : Plan → List Tok → Option (Expr × Bor (List Token)) �
 FindsExpr plan ts found =
     MatchOption found (Finds plan ts None) (λ x. Finds plan ts (Some (record { tree = expr_tree x.0; rest = kinds x.1.now })))
 
--- the tokens begin with the part: a plan that asks for it goes on after it, where a rest of the tokens is left
+-- the tokens begin with the part: a plan that asks for it goes on after it, and a rest of the tokens is left
 pub record HasPart {V : Type 0} (plan : (V → List Tok → Plan) → Plan) (ts : List Tok) (part : V) (left : List Tok) : Type 0 where
   pub goes_on : (behind : V → List Tok → Plan) (found : Option Found) → Comes (behind part left) found → Comes (plan behind) found
   pub rest : IsRest ts left

@@ -17,7 +17,7 @@ pub record IsQueryText (bytes : List ℕ) (query : List StatementTree) : Type 0 
   pub lexed : AreTokens 0 bytes tokens
   pub parsed : IsQueryOf (kinds tokens) query
 
--- the bytes are no query, for this fault: that of their first faulty place, or where they have tokens, that of those
+-- the bytes are no query, for this fault: the fault of their first faulty place, or if they have tokens, the fault of those
 pub data IsRefusedText : List ℕ → TextFault → Type 0 where
   no_tokens : {bytes : List ℕ} {f : LexFault} → IsFaultyAt 0 bytes f → IsRefusedText bytes (fault.Lexical f)
   no_query : {bytes : List ℕ} {f : SyntaxFault} (tokens : List Token) → AreTokens 0 bytes tokens → IsRefused (kinds tokens) f

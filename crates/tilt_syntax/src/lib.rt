@@ -1,5 +1,5 @@
 //! The tree of a query's text. Tokens come in, and the query that they are goes out. The clauses of `parse` say which: what goes out is the
-//! grammar's one reading of the tokens (`query`, `only`). An error gives the first fault, exactly when there is one (`faulty`, `first`).
+//! grammar's one reading of the tokens (`query`, `only`). A rejection gives the first fault, exactly when there is one (`faulty`, `first`).
 //! The clauses of `read_text` say the same of a text, which may be of any length. `keep_tokens` keeps no more of its tokens than a text
 //! within the limits has, also for readers of other texts. It is an invariant of a `Query` that some tokens read as it. The other way,
 //! `print` gives its text, which reads as this query and no other (`text`, `reads_back`). `parse_expression` reads one expression. For

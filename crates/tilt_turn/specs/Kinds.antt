@@ -17,7 +17,7 @@ kind_cells (Last cells) = cells
 kind_cells (Any cells) = cells
 kind_cells (All cells) = cells
 
--- the reducer that it answers
+-- the reducer whose results it gives
 abbrev pub kind_reducer : Kind → Reducer
 kind_reducer (Sum cells) = of.Sum
 kind_reducer (Avg cells) = of.Avg

@@ -20,7 +20,7 @@ computes (Two op a b) = true
 computes (If c a b) = true
 computes other = false
 
--- those of a block that pass a test, where the first of the block fills that register
+-- those of a block that pass a test, if the first of the block fills that register
 abbrev pub picked : (Instr → Bool) → ℕ → Block → List Listed
 picked test place [] = []
 picked test place (i ∷ block) =

@@ -30,7 +30,7 @@ pub record IsReadableWindow (maps : ℕ) (from to : ℤ) (number : Option ℕ) :
   pub some_ticks : from <ℤ to
   pub known : ForSome number (λ map. map < maps)
 
--- a map that may be used: where one is named it is there, and each of the maps names earlier registers
+-- a map that may be used: if one is named it is there, and each of the maps names earlier registers
 pub record MayMap (maps : List Block) (number : Option ℕ) : Type 0 where
   pub earlier : AllByRecursion (NameEarlier 0) maps
   pub known : ForSome number (λ map. map < length maps)

@@ -1,4 +1,4 @@
--- When lists tell the same, or are alike, as far as a loop reads them at a grid point.
+-- When lists are the same, or are alike, as far as a loop reads them at a grid point.
 use Rattle.std.specs.Prelude.{◌≡◌, ℤ, ◌+ℤ◌, ◌≤ℤ◌, List, [], get_or, ⊤}
 use Rattle.tilt_stream.specs.Agreement.{IsSameUpTo}
 use Rattle.tilt_code.specs.declared.instr.Instr.{Instr}

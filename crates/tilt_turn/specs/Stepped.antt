@@ -1,4 +1,4 @@
--- What the leaves and the registers of a loop hold where its body is gone over at a grid point.
+-- What the leaves and the registers of a loop hold when its body is gone over at a grid point.
 use Rattle.std.specs.Prelude.{◌≡◌, ℕ, ℤ, List, Option, map}
 use Rattle.std.specs.List.{AllByRecursion}
 use Rattle.tilt_code.specs.Body.{leaf_of}

@@ -26,7 +26,7 @@ pub(crate) fn computed_of(alloc: Global, body: &[Instr]) -> Result<Vec<Listed>, 
     Ok(computed)
 }
 
-// Adds the instruction in a place of a body, where it is computed.
+// Adds the instruction in a place of a body, if it is computed.
 fn add_computed(computed: &mut Vec<Listed>, place: usize, instr: Instr) -> Result<(), OutOfMemory>
     ensures { OnOk result (computed.new.items ≡ computed.old.items ++ picked computes place (instr ∷ [])) }
 {

@@ -27,7 +27,7 @@ pub(crate) enum Leaf {
 }
 
 impl Leaf {
-    // The leaf of an instruction, where it reads a buffer. It has read nothing so far, and is fit for any buffers.
+    // The leaf of an instruction, if it reads a buffer. It has read nothing so far, and is fit for any buffers.
     pub(crate) fn new(alloc: Global, instr: Instr) -> Option<Leaf>
         ensures none { result ≡ None → reads instr ≡ false }
         ensures reads { IfSome result (λ own. reads instr ≡ true) }

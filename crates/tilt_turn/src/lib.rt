@@ -10,9 +10,10 @@
 //! of those that its cursors pass. It takes memory as its windows grow, and for the registers of its maps.
 //!
 //! A turn reads no snapshot that ends below the first tick that it reads at its own grid point, so the buffers needn't keep any
-//! (`specs/Ready`, `IsKept`). Over other lists that are the same up to the last tick that it reads (`specs/Same`), a fit state stays fit,
-//! and the turn is the same: `proofs/Elsewhere`. If the other lists are the same up to that tick, but may have other marks above it, the
-//! next marks that were seen don't hold over them. `LoopState::look_again` makes the state fit for them.
+//! (`specs/Ready`, `IsKept`). Other lists may be the same up to the last tick that it reads, with the same next mark above it
+//! (`specs/Same`). Over these a fit state stays fit, and the turn is the same: `proofs/Elsewhere`. If the other lists are the same up to
+//! that tick, but may have other marks above it, the next marks that were seen don't hold over them. `LoopState::look_again` makes the
+//! state fit for them.
 #![tactic(auto)]
 
 mod buffers;

@@ -15,7 +15,7 @@ pub(crate) fn earlier(next: Option<i64>, offset: i64) -> Option<i64>
     Some(next? - offset)
 }
 
-// The lesser of two ticks, where both are there, or else the one that is there.
+// The smaller of two ticks, if both are there, or else the one that is there.
 #[inline]
 pub(crate) fn lesser(a: Option<i64>, b: Option<i64>) -> Option<i64>
     ensures next { (x y : Stream) (tick : ℤ) → NamesNextMark x tick a → NamesNextMark y tick b → NamesNextMark (joined x y) tick result }

@@ -292,7 +292,7 @@ impl Moving {
     }
 }
 
-// The next mark above some tick, where it isn't above a later one.
+// The next mark above some tick, if it isn't above a later one.
 #[inline(always)]
 fn up_to(next: Option<i64>, last: i64) -> Option<i64>
     ensures { (list : List Snapshot) (tick : ℤ) → NamesNextMark (stream_of list) tick next → MatchOption result
