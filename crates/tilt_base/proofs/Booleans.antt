@@ -32,7 +32,7 @@ pub or_step : (a b c d : Bool) → b ≡ (c || d) → (a || b) ≡ ((a || c) || 
 or_step true b c d is = refl
 or_step false b c d is = is
 
--- one of two stands there already
+-- one of the two is there already
 pub or_again : (a b : Bool) → (a || b) ≡ (a || (a || b))
 or_again true b = refl
 or_again false b = refl

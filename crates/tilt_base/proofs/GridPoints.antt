@@ -25,8 +25,8 @@ IsGrid-tested grid h =
     let offset_high = h.offset_high in
     grind (arith, ints)
 
--- what is left from a tick up to the offset, by what is left from the offset up to the tick: nothing where that is
--- nothing, and the rest of a period elsewhere
+-- what is left from a tick up to the offset, by what is left from the offset up to the tick. If that is nothing, it is
+-- nothing; otherwise it is the rest of a period
 up_none : (offset tick d : ℤ) → IsLeft (tick -ℤ offset) d (pos 0) → IsLeft (offset -ℤ tick) d (pos 0)
 up_none offset tick d is =
     let neg = mul_neg is.multiple d in

@@ -1,4 +1,4 @@
--- The last of a list stands one place before its end.
+-- The last of a list is one place before its end.
 use Rattle.std.proofs.Common.{◌≡◌, ℤ, List, [], ◌∷◌, length, ◌-◌, suc, slice_get, Some, refl, arith, ap, ◌∙◌}
 use Rattle.tilt_base.specs.Reduce.{last_of}
 

@@ -38,6 +38,6 @@ stored_inj k (If a b c) (If d e f) p =
     cc
 stored_inj k x y p = absurd (cc p)
 
--- expressions are told apart where their leaves are
+-- expressions can be distinguished if their leaves can
 abbrev pub coded_expression : {L : Type 0} → Coded L → Coded (Expression L)
 coded_expression k = record { code = stored k; inj = stored_inj k }

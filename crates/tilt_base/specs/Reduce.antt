@@ -34,8 +34,8 @@ reduce_some Last n ns = Some (last_of n ns)
 reduce_some Any n ns = truth (list_any is_true (n ∷ ns))
 reduce_some All n ns = truth (list_all is_true (n ∷ ns))
 
--- what a reducer gives on a list: the exact sum (null where 64 bits don't hold it), that sum divided by the length and truncated toward
--- zero, the least, the greatest, the length, the first, the last, 1 where one is true, 1 where each is true
+-- what a reducer gives on a list. In order: the exact sum (null if 64 bits don't hold it), and that sum divided by the length and truncated
+-- toward zero. Then the minimum, the maximum, the length, the first, the last, 1 if one is true, and 1 if each is true
 abbrev pub reduce : Reducer → List ℤ → Option ℤ
 reduce reducer [] = None
 reduce reducer (n ∷ ns) = reduce_some reducer n ns

@@ -8,7 +8,7 @@ ghost use Rattle.tilt_base.specs.Scalar.{is_true};
 use crate::cell::Cell;
 use crate::scalar::truth;
 
-/// What a window's list of numbers comes to. Each reducer is null on the empty list.
+/// What a window's list of numbers is reduced to. Each reducer is null on the empty list.
 #[derive(Clone, Copy, Debug, PartialEq, Eq)]
 pub enum Reducer {
     /// The exact sum: null where 64 bits don't hold it.

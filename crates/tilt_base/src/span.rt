@@ -1,4 +1,4 @@
-/// The ticks of `(start, end]` that a query writes after `over`. Any two numbers may stand here: whether they bound a
+/// The ticks of `(start, end]` that a query writes after `over`. Any two numbers are allowed here: whether they bound a
 /// domain is tested later.
 #[derive(Clone, Copy, Debug, PartialEq, Eq)]
 pub struct Span {

@@ -4,7 +4,7 @@ use Rattle.std.proofs.lemmas.List.Elements.{Contains-append_left}
 use Rattle.tilt_core.specs.Core.{CoreParts, IsCore}
 use Rattle.tilt_lexer.specs.Word.{AreDistinct}
 
--- none of the first names stands twice, where none of all does
+-- none of the first names occurs twice, if none of all does
 distinct-front : (names more : List (List ℕ)) → AreDistinct (names ++ more) → AreDistinct names
 distinct-front [] more distinct = tt
 distinct-front (name ∷ names) more distinct =

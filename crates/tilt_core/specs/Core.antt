@@ -10,13 +10,13 @@ use Rattle.tilt_lexer.specs.Word.{AreDistinct, IsName}
 use Rattle.tilt_base.specs.declared.span.Span.{Span}
 use Rattle.tilt_core.specs.CoreTree.{Const, Read, Reduce, CoreTree, Definition, nodes, coded_definition}
 
--- the names of the inputs, the names of the definitions but for the last one, which is emitted, and the definitions
+-- the names of the inputs, the names of the definitions except the last one, which is emitted, and the definitions
 pub record CoreParts : Type 0 where
   pub inputs : List (List ℕ)
   pub names : List (List ℕ)
   pub defs : List Definition
 
--- cores are told apart part by part
+-- cores are distinguished part by part
 abbrev pub coded_core : Coded CoreParts
 coded_core =
     code_by (List (List ℕ) × (List (List ℕ) × List Definition))
@@ -46,7 +46,7 @@ pub record IsDefinition (before : ℕ) (def : Definition) : Type 0 where
   pub stretch : IsStretch def.over
   pub grid : IsGrid def.grid
 
--- each definition names only what stands before it
+-- each definition names only what comes before it
 abbrev pub AreDefinitions : ℕ → List Definition → Type 0
 AreDefinitions before [] = ⊤
 AreDefinitions before (def ∷ defs) = IsDefinition before def × AreDefinitions (suc before) defs

@@ -43,7 +43,7 @@ nodes (One op a) = 1 + nodes a
 nodes (Two op a b) = 1 + nodes a + nodes b
 nodes (If c a b) = 1 + nodes c + nodes a + nodes b
 
--- how a leaf is told apart from others, which a type that contracts see as definitions needs
+-- how a leaf is distinguished from others, which a type that contracts see as definitions needs
 abbrev pub stored_leaf : CoreLeaf → Gv
 stored_leaf (Const number) = gcons gnil (coded_ℤ.code number)
 stored_leaf (Read source offset) = gcons (gnum 1) (gcons (coded_ℕ.code source) (coded_ℤ.code offset))
@@ -71,7 +71,7 @@ coded_tree = coded_expression (record { code = stored_leaf; inj = stored_leaf_in
 abbrev pub coded_grid : Coded GridPoints
 coded_grid = code_by (ℤ × ℤ) (coded× coded_ℤ coded_ℤ) (λ g. (g.period, g.offset)) (λ p. record { period = p.0; offset = p.1 }) (λ _. refl)
 
--- definitions are told apart part by part
+-- definitions are distinguished part by part
 abbrev pub coded_definition : Coded Definition
 coded_definition =
     code_by (CoreTree × (Option Span × GridPoints)) (coded× coded_tree (coded× (coded_option span.the_row.coded) coded_grid))

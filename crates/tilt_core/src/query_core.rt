@@ -48,7 +48,7 @@ impl Core {
         &self.inputs
     }
 
-    /// The names of the definitions in order, but for the last one, which has none.
+    /// The names of the definitions in order, except the last one, which has none.
     pub fn names(&self) -> &[Name]
         ensures names { result.now ≡ self.now.names }
         ensures accepted { IsCore self.now }

@@ -90,7 +90,7 @@ first_no_blank (b ∷ bytes) some =
       | inr stops ↦ rw stops stops
     ]
 
--- the same of the bytes from a place on, where that many blanks stand there
+-- the same of the bytes from a place on, if that many blanks are there
 module _ (at : ℕ) (bytes : List ℕ) (blanks : ℕ) (count : blanks ≡ prefix_len is_blank (drop at bytes)) where
   past : drop (prefix_len is_blank (drop at bytes)) (drop at bytes) ≡ drop (at + blanks) bytes
   past = ap (λ n. drop n (drop at bytes)) (sym count) ∙ drop-drop blanks at bytes

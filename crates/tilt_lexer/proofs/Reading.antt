@@ -1,4 +1,5 @@
--- What the loop over the bytes keeps: the tokens so far, and then those of the rest, are those of the bytes; the fault of the rest is that of the bytes.
+-- What the loop over the bytes keeps. The tokens so far and then the tokens of the rest are the tokens of the bytes. The fault of the rest is
+-- the fault of the bytes.
 use Rattle.std.proofs.Common.{◌≡◌, ◌≢◌, ◌⊎◌, inl, inr, ℕ, ◌+◌, ◌<◌, ◌≤◌}
 use Rattle.std.proofs.Common.{List, [], ◌∷◌, ◌++◌, length, get_or, take, drop, refl, sym, ap, ◌∙◌, subst, arith, append_assoc, length-drop, length-take-le, IsTrue}
 use Rattle.std.proofs.lemmas.List.{append-nil, drop_more, drop_all, drop-drop}
@@ -60,19 +61,19 @@ module _ (bytes : List ℕ) where
   tokens_all at tokens before end =
       subst (AreTokens 0 bytes) (append-nil tokens) (before.go_on [] (subst (λ l. AreTokens at l []) (sym (drop_all at bytes end)) nothing))
 
--- a refusal is want of memory, or is known
+-- an error is out of memory, or is known
 pub memory_or : (f : LexFault) (is : LexFault → Type 0) → (f ≢ fault.OutOfMemory → is f) → (f ≡ fault.OutOfMemory) ⊎ is f
 memory_or (fault.BadByte at) is h = inr (h (λ e. cc))
 memory_or (fault.BigNumber at) is h = inr (h (λ e. cc))
 memory_or fault.OutOfMemory is h = inl refl
 
 module _ (bytes : List ℕ) (f : LexFault) (faulty : f ≢ fault.OutOfMemory → IsFaultyAt 0 bytes f) where
-  -- a refusal of bytes that have tokens is want of memory
+  -- an error on bytes that have tokens is out of memory
   pub refused_tokens : (tokens : List Token) → AreTokens 0 bytes tokens → f ≡ fault.OutOfMemory
   refused_tokens tokens are =
       elim (memory_or f (IsFaultyAt 0 bytes) faulty) [ inl memory ↦ memory | inr is ↦ absurd (tokens_or_fault are is refl) ]
 
-  -- and a refusal of those that have a fault is that fault or want of memory
+  -- and an error on bytes that have a fault is that fault or out of memory
   pub refused_first : (first : LexFault) → IsFaultyAt 0 bytes first → (f ≡ first) ⊎ (f ≡ fault.OutOfMemory)
   refused_first first is_first =
       elim (memory_or f (IsFaultyAt 0 bytes) faulty) [ inl memory ↦ inr memory | inr is ↦ inl (same_fault is is_first refl refl) ]

@@ -97,6 +97,6 @@ read_within (suc most) at (b ∷ bytes) few =
       ]
     ]
 
--- bytes have tokens or a fault; that they have not both stands in `Unique`
+-- bytes have tokens or a fault; `Unique` has that they don't have both
 pub tokens_or_fault : (bytes : List ℕ) → ((tokens : List Token) × AreTokens 0 bytes tokens) ⊎ ((f : LexFault) × IsFaultyAt 0 bytes f)
 tokens_or_fault bytes = read_within (length bytes) 0 bytes (omega arith)

@@ -1,4 +1,4 @@
--- What stands at the beginning of the bytes (our own rule).
+-- What is at the beginning of the bytes (our own rule).
 use Rattle.std.specs.Prelude.{◌≡◌, ℕ, ◌≤◌, List, ◌++◌, length, take, drop}
 use Rattle.tilt_lexer.specs.Tokens.{mark_text, Begins, IsWithin}
 use Rattle.tilt_lexer.specs.declared.mark.Mark.{Mark}

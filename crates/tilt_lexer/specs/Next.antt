@@ -7,8 +7,7 @@ use Rattle.tilt_lexer.specs.declared.fault.LexFault.TheVariants as fault
 use Rattle.tilt_lexer.specs.declared.token.Tok.{Tok}
 use Rattle.tilt_lexer.specs.declared.token.Token.{Token}
 
--- of the bytes, the first of which is at the place `at`, the token is the first, after blanks where there are any, and the rest
--- stands after it
+-- of the bytes, the first of which is at the place `at`, the token is the first, after any blanks, and the rest comes after it
 pub data IsNext : ℕ → List ℕ → Token → List ℕ → Type 0 where
   -- the longest token there
   here : {at : ℕ} {kind : Tok} {bytes text rest : List ℕ} → Begins kind bytes text rest → IsWithin kind

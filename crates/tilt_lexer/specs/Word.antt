@@ -60,7 +60,7 @@ IsReserved bytes = (k : Key) × (key_text k ≡ bytes)
 abbrev pub IsName : List ℕ → Type 0
 IsName bytes = IsWord bytes × ¬ (IsReserved bytes)
 
--- no name stands twice
+-- no name occurs twice
 abbrev pub AreDistinct : List (List ℕ) → Type 0
 AreDistinct [] = ⊤
 AreDistinct (name ∷ names) = ¬ (Contains names name) × AreDistinct names

@@ -11,9 +11,9 @@ use crate::lexer::is_blank;
 use crate::token::Token;
 use std::alloc::Global;
 
-/// The first token of a text from a place on, after blanks where there are any, or `None` where nothing but blanks stands
-/// there. What stands after the token isn't looked at. The fault is that of the first place that is no blank, as `lex` tells it.
-/// Who goes on at each token's end comes to the tokens that `lex` gives, and needs memory for one at a time.
+/// The first token of a text from a place on, after any blanks, or `None` if nothing but blanks is left there. What follows the
+/// token isn't read. The fault is the one at the first place that is no blank, as `lex` reports it. A caller that goes on at each
+/// token's end gets the tokens that `lex` gives, and needs memory for one at a time.
 pub fn next_token(alloc: Global, bytes: &[u8], at: usize) -> Result<Option<Token>, LexFault>
     requires { at ≤ length bytes.now }
     ensures next { IfOk result (λ found. MatchOption found

@@ -59,7 +59,7 @@ fn push_token(
     Ok(())
 }
 
-// Whether the byte stands only between tokens.
+// Whether the byte occurs only between tokens.
 pub(crate) fn is_blank(byte: u8) -> bool
     ensures { result ≡ is_blank byte }
 {

@@ -1,8 +1,8 @@
 //! The tokens of a query's text, and its names.
 //!
 //! Bytes come in; names, numbers, reserved words and signs (`Mark`) go out, each with its place. The clauses of `lex` say which:
-//! the tokens are the longest that begin at each place (`tokens`), no others are (`only`), and a refusal tells the first faulty
-//! place, wherever there is one (`faulty`, `first`). `next_token` gives them one at a time. A `Name` is a word, by `specs/Word`;
+//! the tokens are the longest that start at each place (`tokens`), and no others are (`only`). An error reports the first faulty
+//! place, whenever there is one (`faulty`, `first`). `next_token` gives them one at a time. A `Name` is a word, by `specs/Word`;
 //! a name that a source may have isn't reserved (`IsName`).
 #![tactic(auto)]
 

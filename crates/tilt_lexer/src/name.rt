@@ -70,21 +70,21 @@ pub(crate) fn begins_word(byte: u8) -> bool
     byte.is_ascii_alphabetic() || byte == b'_'
 }
 
-// Whether the byte may stand in a word after its first.
+// Whether the byte may be in a word after its first byte.
 fn goes_on_word(byte: u8) -> bool
     ensures { result ≡ goes_on_word byte }
 {
     begins_word(byte) || byte.is_ascii_digit()
 }
 
-// How many bytes at the beginning may stand in a word after its first.
+// How many bytes at the beginning may be in a word after its first byte.
 pub(crate) fn word_length(bytes: &[u8]) -> usize
     ensures { result ≡ prefix_len goes_on_word bytes.now }
 {
     bytes.iter().take_while(|byte| goes_on_word(**byte)).count()
 }
 
-// Whether each of the bytes may stand in a word after its first.
+// Whether each of the bytes may be in a word after its first byte.
 fn all_go_on_word(bytes: &[u8]) -> bool
     ensures { result ≡ list_all goes_on_word bytes.now }
 {

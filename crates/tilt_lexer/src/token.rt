@@ -2,7 +2,7 @@ use crate::key::Key;
 use crate::mark::Mark;
 use crate::name::Name;
 
-/// A token, and where its text stands.
+/// A token, and where its text is.
 #[derive(Debug, Drop)]
 pub struct Token {
     /// What the token is.

@@ -48,7 +48,7 @@ until-front mark (b ∷ bs) rest h =
     let parts = lacks-parts mark b bs h in
     rw (parts.0, until-front mark bs rest parts.1) refl
 
--- and what is read stands before the mark
+-- and what is read comes before the mark
 until_head : (mark b : ℕ) (bs front rest : List ℕ) (here : Bool) → (b == mark) ≡ here
     → ((f r : List ℕ) → until_at mark bs ≡ Some (f, r) → bs ≡ f ++ mark ∷ r)
     → (if here then Some ([], bs) else (until_at mark bs >>= onto b)) ≡ Some (front, rest) → b ∷ bs ≡ front ++ mark ∷ rest

@@ -4,14 +4,14 @@ ghost use Rattle.std.specs.Prelude.{◌≡◌, ◌++◌, OnOk};
 use itoa::{Buffer, Integer};
 use std::alloc::AllocError as OutOfMemory;
 
-/// Puts a piece of text. Nothing is said of the text where memory ran out.
+/// Appends a piece of text. Nothing is said of the text if memory ran out.
 pub fn put(text: &mut Vec<u8>, piece: &[u8]) -> Result<(), OutOfMemory>
     ensures { OnOk result (text.new.items ≡ text.old.items ++ piece.now) }
 {
     text.extend_from_slice(piece)
 }
 
-/// Puts a number in shortest decimal. Nothing is said of the text where memory ran out.
+/// Appends a number in shortest decimal. Nothing is said of the text if memory ran out.
 pub fn put_number<I: Integer>(text: &mut Vec<u8>, number: I) -> Result<(), OutOfMemory>
     ensures { OnOk result (text.new.items ≡ text.old.items ++ I.text number) }
 {

@@ -1,4 +1,4 @@
--- No name of a well-formed query stands twice.
+-- No name of a well-formed query occurs twice.
 use Rattle.std.proofs.Common.{◌≡◌, ℕ, zero, suc, ◌+◌, true, false, ◌||◌, if◌then◌else◌, ◌⊎◌, inl, inr, ⊎_elim, List, [], ◌∷◌}
 use Rattle.std.proofs.Common.{◌++◌, Option, Some, None, is_some, Contains, refl, sym, ◌∙◌, arith, subst, append-nil}
 use Rattle.std.specs.Option.{option_or}
@@ -97,6 +97,6 @@ names-new n declared (Emit e over every ∷ query) h =
     let here = neither (fault_of n declared (Emit e over every)) (first_fault (n + 1) (declared ++ declared_by declared (Emit e over every)) query) h in
     subst (λ (ds : List Declared). AreNew ds (source_names query)) (append-nil declared) (names-new (n + 1) (declared ++ declared_by declared (Emit e over every)) query here.1)
 
--- no name stands twice among the sources
+-- no name occurs twice among the sources
 pub source_names-distinct : (query : List StatementTree) → first_fault 1 [] query ≡ None → AreDistinct (source_names query)
 source_names-distinct query h = (names-new 1 [] query h).distinct

@@ -1,4 +1,4 @@
--- A query is never refused for want of memory: that is no fault of its own.
+-- A query's fault is never that memory ran out: that is no fault of its own.
 use Rattle.std.proofs.Common.{◌≡◌, ◌+◌, ◌++◌, ℕ, Bool, true, false, not, if◌then◌else◌, List, [], ◌∷◌, Option, None, Some, Err}
 use Rattle.std.specs.Option.{option_or}
 use Rattle.tilt_base.specs.declared.span.Span.{Span}
@@ -12,7 +12,7 @@ use Rattle.tilt_types.specs.declared.declared.Declared.{Declared}
 use Rattle.tilt_types.specs.declared.fault.CheckFault.{CheckFault}
 use Rattle.tilt_types.specs.declared.fault.CheckFault.TheVariants as fault
 
--- a fault, where there is one, is no want of memory
+-- a fault, if there is one, isn't out of memory
 abbrev IsOther : Option CheckFault → Type 0
 IsOther found = found ≡ Some fault.OutOfMemory → ⊥
 

@@ -27,7 +27,7 @@ use Rattle.tilt_types.specs.declared.declared.Declared.{Declared}
 use Rattle.tilt_types.specs.declared.value_type.ValueType.{ValueType}
 use Rattle.tilt_types.specs.declared.value_type.ValueType.TheVariants as value
 
--- a name that stands among the first names has a place there
+-- a name that is among the first names has a place there
 place_of-at : (xs ys : List (List ℕ)) (x : List ℕ) (k : ℕ) → k < length xs → get_or xs k x ≡ x → place_of (xs ++ ys) x < length xs
 place_of-at [] ys x k h is = absurd (omega (arith, h))
 place_of-at (y ∷ xs) ys x zero h is =
@@ -47,7 +47,7 @@ place_of-front xs ys = by xs (recursion_from_All (Contains xs) xs (All-contains_
     by [] h = tt
     by (z ∷ zs) h = (place_of-at xs ys z h.0.0 h.0.1 h.0.2, by zs h.1)
 
--- a name after others has at most the place that it stands at
+-- a name after others has at most the place that it is at
 place_of-behind : (front back : List (List ℕ)) (x : List ℕ) → place_of (front ++ x ∷ back) x ≤ length front
 place_of-behind [] back x = rw (same_bytes x) (omega arith)
 place_of-behind (y ∷ front) back x =
@@ -122,7 +122,7 @@ module _ (names : List (List ℕ)) (declared : List Declared) (bound : ℕ) (bel
     grid = tested-IsGrid (grid_of every) (domain-grid over every domain);
   }
 
--- the definitions of statements, after which these names have been met, each over what stands before it; `low` is the number of the inputs
+-- the definitions of statements, after which these names have been met, each over what comes before it; `low` is the number of the inputs
 module _ (names : List (List ℕ)) (low : ℕ) where
   definitions-are : (query : List StatementTree) (n : ℕ) (declared : List Declared) (bound : ℕ) (front : List (List ℕ))
       → first_fault n declared query ≡ None → AllByRecursion IsOfText query → names ≡ front ++ let_names query
@@ -154,7 +154,7 @@ module _ (names : List (List ℕ)) (low : ℕ) where
             (subst (λ (ds : List Declared). AreBelow names ds (suc bound)) (sym (append-nil declared)) (below-more names declared bound below)),
       )
 
--- the definitions of a well-formed query, each over what stands before it
+-- the definitions of a well-formed query, each over what comes before it
 pub query-definitions : (query : List StatementTree) → first_fault 1 [] query ≡ None → AllByRecursion IsOfText query
     → AreDefinitions (length (input_names query)) (definitions (source_names query) query)
 query-definitions query h text =

@@ -56,7 +56,7 @@ definitions names (Input name ∷ query) = definitions names query
 definitions names (Let name e over every ∷ query) = definition names e over every ∷ definitions names query
 definitions names (Emit e over every ∷ query) = definition names e (Some over) every ∷ definitions names query
 
--- the names of the sources: the inputs in order, and after them the definitions, wherever an input stands
+-- the names of the sources: the inputs in order, and after them the definitions, wherever an input is
 abbrev pub source_names : List StatementTree → List (List ℕ)
 source_names query = input_names query ++ let_names query
 

@@ -64,7 +64,7 @@ has_bounds_on (Some span) grid = is_point grid span.start && is_point grid span.
 abbrev pub is_domain : Option Span → Option Every → Bool
 is_domain over every = is_grid (grid_of every) && is_stretch over && has_bounds_on over (grid_of every)
 
--- whether an expression of this type, where it has one, may stand in a definition: an emitted one gives numbers
+-- whether an expression of this type, if it has one, may be in a definition: an emitted one gives numbers
 abbrev pub is_fitting : Bool → Option ValueType → Bool
 is_fitting emitted None = false
 is_fitting emitted (Some a) = if emitted then same_type a value.Int else true

@@ -18,11 +18,11 @@ use tilt_core::Core;
 use tilt_lexer::Name;
 use tilt_syntax::{Every, Expr, Query, Statement};
 
-/// The core of the query, where it is well formed; else the fault of its first faulty statement, counted from 1, and of
-/// several in one the first of these. `NameTaken`: it declares a name that was declared before. `UnknownName`: a name in
-/// its expression isn't declared before it. `TypeMismatch`: its expression has no type, or it is emitted and gives truth
-/// values. `BadWindow`: a window in its expression doesn't end after its start. `BadDomain`: its period is none that a
-/// grid may have, its offset isn't below its period, its span bounds no stretch of time from `-T` to `T`, or a bound is no
+/// The core of the query, if it is well formed; otherwise the fault of its first faulty statement, counted from 1. If the
+/// statement has several faults, it is the first of these. `NameTaken`: it declares a name that was declared before.
+/// `UnknownName`: a name in its expression isn't declared before it. `TypeMismatch`: its expression has no type, or it is
+/// emitted and gives truth values. `BadWindow`: a window in its expression doesn't end after its start. `BadDomain`: a grid
+/// can't have its period, its offset isn't below its period, its span bounds no stretch from `-T` to `T`, or a bound is no
 /// grid point.
 pub fn check(alloc: Global, query: &Query) -> Result<Core, CheckFault>
     ensures { Gives result (checked query.now) }
@@ -164,7 +164,7 @@ fn knows_names(declared: &[Declared], expr: &Expr) -> bool
     }
 }
 
-// Whether an expression of this type may stand in a definition.
+// Whether an expression of this type may be in a definition.
 fn is_fitting(emitted: bool, value_type: Option<ValueType>) -> bool
     ensures { result ≡ is_fitting emitted value_type }
 {

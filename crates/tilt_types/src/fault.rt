@@ -19,8 +19,8 @@ pub enum CheckFault {
     /// A window in the statement's expression doesn't end after its start.
     #[error("statement {statement} has an empty window")]
     BadWindow { statement: u32 },
-    /// The statement's span bounds no stretch within the range of times, its period is none that a grid may have, its offset
-    /// isn't below its period, or a bound is no grid point.
+    /// The statement's span bounds no stretch within the range of times, a grid can't have its period, its offset isn't below
+    /// its period, or a bound is no grid point.
     #[error("statement {statement} has a bad domain")]
     BadDomain { statement: u32 },
     /// There was no memory for the core.
