@@ -1,4 +1,4 @@
--- Where an engine stands before the first event.
+-- Where an engine is before the first event.
 use Rattle.std.proofs.Common.{◌≡◌, ◌+◌, ℕ, zero, suc, List, [], ◌∷◌, ◌++◌, length, map, get_or, replicate, slice_get, option_map, Some, refl, sym, ap, ◌∙◌, inl, subst}
 use Rattle.std.proofs.Common.{take, arith, Bool, true, false, if◌then◌else◌}
 use Rattle.std.proofs.lemmas.Int.{clamps, ints}

@@ -122,7 +122,7 @@ made-kept inlets loops k m at =
     ap (λ (n : ℕ). get_or (closed ++ made) (n + k) []) (sym long) ∙ get_or-append-add closed made k []
     ∙ get_or_from_slice_get made k m.made [] (slice_get-map (λ (m : MadeParts). m.made) loops k ∙ ap (option_map (λ (m : MadeParts). m.made)) at)
 
--- where a loop stands within its stretch
+-- where a loop is within its stretch
 pub loop-bounds : (code : CodeParts) (rows gone : List (List Snapshot)) (hs : List Horizon) (loops : List MadeParts) (states : List LoopState) (upto k : ℕ)
     (l : LoopParts) (m : MadeParts) → AreLoops code rows gone hs loops states upto → slice_get code.loops k ≡ Some l → slice_get loops k ≡ Some m
     → (l.lo ≤ℤ m.settled) × (m.hi ≡ l.hi)

@@ -182,7 +182,7 @@ pub buffers-go_on : (code : CodeParts) (hs : List Horizon) (before after : List 
     → length before ≡ length code.inputs → AllGoOn hs before after → AllGoOn (code_horizons code hs) (buffers_of code before) (buffers_of code after)
 buffers-go_on code hs before after is near count all = loops-go_on code.loops hs before after is.grammatical.loops near all
 
--- of a list and a later state of it that fill a stretch: up to a tick the cells and the marks are the same, and no mark goes; nothing is
+-- a list and a later state of it that fill a stretch. Up to a tick their cells and their marks are the same, and no mark goes. Nothing is
 -- said of a mark at the first tick
 record MadeRestsOn (start lo hi : ℤ) (before after : List Snapshot) : Type 0 where
   cells : (tick : ℤ) → lo <ℤ tick → tick ≤ℤ start → cell_at before tick ≡ cell_at after tick

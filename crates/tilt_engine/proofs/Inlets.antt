@@ -56,7 +56,7 @@ open-below_by rows (Some r) w end h on =
 pub open-below : (i : InletParts) → IsInlet i → ForSome i.input.edge.open_row (λ row. row.start <ℤ i.end)
 open-below i is = open-below_by i.input.rows i.input.edge.open_row i.input.edge.watermark i.end is.order.rows is.low
 
--- nothing stands after the open row
+-- nothing comes after the open row
 past-open : (rows : List Snapshot) (open_row : Option OpenRow) (end : ℤ) (place : ℕ) → length rows < place → None ≡ slice_get (rows ++ closed_at end open_row) place
 past-open rows None end place past = sym (slice_get_past (rows ++ []) place (omega (arith, length-append rows [])))
 past-open rows (Some r) end place past =

@@ -131,7 +131,8 @@ module _ (gone wholes lefts : List (List Snapshot)) (buffers : ℕ)
   leaf-left maps point (Two op a b) readable ends = nothing-from point
   leaf-left maps point (If c a b) readable ends = nothing-from point
 
--- a turn over what is left of lists is the turn over the whole lists, if all that has gone ends below what the loop reads first at its grid point
+-- a turn over what is left of lists is the turn over the whole lists. The premise is that all that has gone ends below what the loop reads
+-- first at its grid point
 pub turn-left : (gone wholes lefts : List (List Snapshot)) (l : LoopParts) (start : ℤ) (buffers : ℕ) → IsReady buffers l
     → ((number : ℕ) → number < buffers → get_or wholes number [] ≡ get_or gone number [] ++ get_or lefts number [])
     → AllByRecursion (IsGoneFor gone (ceil l.grid (start +ℤ pos 1))) l.body

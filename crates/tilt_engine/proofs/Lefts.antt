@@ -31,7 +31,7 @@ use Rattle.tilt_turn.specs.Ready.{IsReadable}
 use Rattle.tilt_turn.specs.Same.{IsSameFor}
 use Rattle.tilt_turn.specs.declared.state.LoopState.{LoopState}
 
--- what a loop has made since the first ones went tells the same as what is left of its whole buffer
+-- what a loop has made since the first ones went reads the same as what is left of its whole buffer
 left-same : (lo hi reach last : ℤ) (g made whole : List Snapshot) → Fill lo hi whole → Fill lo reach (made_by reach whole) → g ++ made ≡ made_by reach whole
     → (hi ≤ℤ reach) ⊎ (last ≤ℤ reach) → IsSameUpTo last (made ++ gap_before (Some reach) hi) (drop (length g) whole)
 left-same lo hi reach last [] made whole fills stands all far =

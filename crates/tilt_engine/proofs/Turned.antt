@@ -1,4 +1,4 @@
--- The next turn of a loop of an engine: it may be made, and what stands after it.
+-- The next turn of a loop of an engine: it may be made, and what is so after it.
 use Rattle.std.proofs.Common.{◌≡◌, ◌⊎◌, inl, inr, ◌<◌, ◌+◌, ℕ, suc, ℤ, pos, neg_ℤ, ◌+ℤ◌, ◌<ℤ◌, ◌≤ℤ◌, Bool, true, false, List, [], ◌∷◌, ◌++◌, length, map, get_or, slice_get, slice_set}
 use Rattle.std.proofs.Common.{Option, Some, None, refl, sym, ap, ◌∙◌, subst, arith}
 use Rattle.std.proofs.lemmas.Bool.{cases_eq}
@@ -138,7 +138,7 @@ module _ (code : CodeParts) (rows gone : List (List Snapshot)) (hs : List Horizo
     rings : AreRings p
     rings = rings-are code rows gone hs loops states place is are
 
-    -- the loop stands where its settled snapshots end
+    -- the loop is where its settled snapshots end
     stands : start_at p place ≡ m.settled
     stands =
         (is-at p place w (ring_of (gone_at code gone place) m) is rings of (ring-at gone (length code.inputs) loops place m at)).start
@@ -183,7 +183,7 @@ module _ (code : CodeParts) (rows gone : List (List Snapshot)) (hs : List Horizo
         let within = slice_get_within (works_of code rows) place w of in
         ready-more (length rows + place) (length lists) w.loop (omega (arith, within, works-length code rows, lists-count)) ready
 
-    -- it tells the same of what is left as of the whole buffers
+    -- it reads the same of what is left as of the whole buffers
     same : AllByRecursion (IsSameFor lists wholes (turn_point w.loop m.settled)) w.loop.body
     same =
         let within = slice_get_within (works_of code rows) place w of in

@@ -33,8 +33,8 @@ AreInlets true inputs inlets = (before : List InputFeed) × (inputs ≡ map fini
 abbrev pub held_by : Engine → ℕ
 held_by engine = held (kept_lists engine.stock.inputs.items engine.stock.loops.items)
 
--- an engine that runs a code, after a feed, and has given so many snapshots: of each of its buffers the first ones have gone. Its loops
--- stand where they stood after an earlier feed, from which this one follows by some events. It may keep any number of snapshots
+-- an engine that runs a code, after a feed, and has returned `given` snapshots: of each of its buffers the first ones have gone. Its loops
+-- are where they were after an earlier feed, from which this one follows by some events. It may keep any number of snapshots
 pub record IsEngineAt (engine : Engine) (code : CodeParts) (feed : Feed) (given : ℕ) : Type 0 where
   pub code_is : engine.code ≡ code
   pub near : IsNearCode code

@@ -39,7 +39,7 @@ later_inlet n i = record { input = record { rows = drop n i.input.rows; edge = i
 abbrev pub later_made : ℕ → MadeParts → MadeParts
 later_made n m = record { made = drop n m.made; settled = m.settled; waiting = m.waiting; hi = m.hi }
 
--- what is so once they have gone: the inputs and the loops are these, and the loops stand as they stood. Of the last loop no more go than
+-- what is so once they have gone: the inputs and the loops are these, and the loops stay as they were. Of the last loop no more go than
 -- were given, and of each other buffer all that no next turn reads
 pub record HasForgotten (code : CodeParts) (inlets inlets_then : List InletParts) (made made_then : List MadeParts)
     (states : List LoopState) (counts : List ℕ) (given last : ℕ) : Type 0 where

@@ -6,7 +6,7 @@ use Rattle.tilt_engine.specs.Rooms.{IsRoomOf}
 use Rattle.tilt_engine.specs.declared.engine.TheConstants.{FEW}
 use Rattle.tilt_feed.specs.Feed.{Feed}
 
--- so much is kept, and so much may be, just after an engine has forgotten: it keeps what is needed, and may keep twice as much, or a few,
+-- how much is kept, and how much may be, just after an engine has forgotten. It keeps what is needed, and may keep twice as much, or a few,
 -- before it forgets again. If finishing the feed ended the last row of an input, that one isn't counted among those that are kept
 pub record HasJustForgotten (code : CodeParts) (feed : Feed) (given : ℕ) (held room : ℕ) : Type 0 where
   pub at_most : held ≤ needed code feed given

@@ -40,8 +40,8 @@ abbrev pub first_read : ℕ → List Stage → Option ℤ
 first_read buffer [] = None
 first_read buffer (s ∷ stages) = earlier (turn_read buffer s) (first_read buffer stages)
 
--- how many snapshots of these buffers, of which the first has the number, the loops may still read: those that end at the first tick that
--- is read of the buffer, or above it
+-- how many snapshots of these buffers, the first of which has the number, the loops may still read. These are the ones that end at the
+-- first tick that is read of the buffer, or above it
 abbrev pub still_read : List Stage → ℕ → List (List Snapshot) → ℕ
 still_read stages number [] = 0
 still_read stages number (list ∷ lists) = length (kept_from (first_read number stages) list) + still_read stages (suc number) lists

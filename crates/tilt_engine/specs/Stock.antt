@@ -51,8 +51,8 @@ pub record IsInlet (i : InletParts) : Type 0 where
   pub low : i.input.edge.watermark ≤ℤ i.end
   pub high : i.end ≤ℤ WIDE
 
--- what a loop has made: the snapshots that are settled, and where the last of them ends; the next one, if its end may still change; and
--- where the stretch of the loop ends
+-- what a loop has made: the snapshots that are settled, and where the last of them ends. Then the next one, if its end may still change,
+-- and where the stretch of the loop ends
 pub record MadeParts : Type 0 where
   pub made : List Snapshot
   pub settled : ℤ
@@ -112,7 +112,7 @@ with_settled s m = record { made = m.made ++ s ∷ []; settled = s.end; waiting 
 abbrev pub with_waiting : Snapshot → MadeParts → MadeParts
 with_waiting s m = record { made = m.made; settled = m.settled; waiting = Some s; hi = m.hi }
 
--- told apart part by part
+-- distinguished part by part
 abbrev pub coded_inlet : Coded InletParts
 coded_inlet =
     code_by (List Snapshot × (Edge × ℤ)) (coded× coded_snapshots (coded× edge.the_row.coded coded_ℤ))

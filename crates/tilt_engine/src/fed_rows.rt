@@ -75,8 +75,8 @@ impl FedRows {
         self.finished
     }
 
-    /// Lets go of closed rows that end below a tick, once more rows are kept than a limit: then all of them go, and the limit is twice
-    /// what is left, and `FEW` at least. So this costs little more than taking the rows did. `OutOfMemory` comes if memory is refused.
+    /// Lets go of closed rows that end below a tick, once more rows are kept than a limit. Then all of them go, and the limit is twice
+    /// what is left, and `FEW` at least. So this costs little more than taking the rows did. `OutOfMemory` comes if memory runs out.
     pub fn forget(&mut self, first: i64) -> Result<(), OutOfMemory>
         ensures keeps { (lower : ℤ) (feed : Feed) → lower ≤ℤ first → KeepsRowsOf self.old lower feed
             → OnOk result (KeepsRowsOf self.new first feed) }

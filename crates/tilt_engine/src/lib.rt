@@ -1,9 +1,9 @@
 //! Loop code that runs while its rows come in.
 //!
-//! What comes in is loop code and the events of a feed, one after another; what goes out is the snapshots of the code's last loop, each as
-//! soon as it is known. `IsEngineOf engine code feed given` of `specs/Engines` says that `engine` runs a code after a feed, and that it has
-//! returned the first `given` snapshots of the run on the rows of the feed at rest, `run_at_rest code feed`. The clauses of `Engine` say
-//! what each call does with that:
+//! What comes in is loop code and the events of a feed, one after another. What goes out is the snapshots of the code's last loop, each as
+//! soon as it is known. `IsEngineOf engine code feed given` of `specs/Engines` says that `engine` runs a code after a feed. It also says
+//! that the engine has returned the first `given` snapshots of the run on the rows of the feed at rest, `run_at_rest code feed`. The
+//! clauses of `Engine` say what each call does with that:
 //!
 //! - `new` starts with the empty feed, and with no snapshot returned.
 //! - `take` of an event that is allowed goes on to the feed after it. Otherwise it returns the first rule that is broken, and nothing
@@ -15,11 +15,11 @@
 //! its own horizon. So a snapshot whose end is known stays, whatever comes later.
 //!
 //! From time to time, rows and snapshots that no next turn reads are let go, and snapshots that were returned. `IsEngineOf` says which have
-//! gone of each buffer (`gone`): together with what is left they are the rows of the feed, so that no clause of a call speaks of them.
+//! gone from each buffer (`gone`). Together with what is left they are the rows of the feed, so no clause of a call mentions them.
 //!
 //! `needed code feed given` of `specs/Needed` counts what has to be kept: what the next turns may read, and what wasn't returned. After a
 //! call of `next` or `begun` an engine keeps no more than its room (clause `bounded`). Its room is `FEW` at first, and changes only when it
-//! forgets: then it keeps what is needed at that moment, and its room is at most twice that, or `FEW`. An event adds at most two rows.
+//! forgets. Then it keeps what is needed at that moment, and its room is at most twice that, or `FEW`. An event adds at most two rows.
 //!
 //! If memory is refused in `next` or `begun`, each later call of them reports the same.
 #![tactic(auto)]

@@ -10,8 +10,8 @@ use std::alloc::{AllocError as OutOfMemory, Global};
 use std::marker::Model;
 use tilt_stream::{Buffer, Snap, SnapList};
 
-// What a loop has made: its settled snapshots, where the last of them ends, the next one, if its end may still change, and where the
-// stretch of the loop ends.
+// What a loop has made: its settled snapshots, and where the last of them ends. Then the next one, if its end may still change, and where
+// the stretch of the loop ends.
 #[derive(Drop)]
 pub(crate) struct Made {
     made: SnapList,

@@ -1,4 +1,4 @@
-// Where an engine stands before the first event.
+// Where an engine is before the first event.
 ghost use Rattle.std.specs.Prelude.{◌≡◌, ℕ, length, map, replicate, slice_get, Some, IfOk};
 ghost use Rattle.tilt_code.specs.Code.{LoopParts};
 ghost use Rattle.tilt_engine.specs.Standing.{IsFresh};

@@ -1,4 +1,4 @@
--- The rows of an input at rest: they are in order, up to the horizon they are the same as the rows as they are now, their marks are the
+-- The rows of an input at rest: they are in order, and up to the horizon they are the same as the rows as they are now. Their marks are the
 -- sure marks, and they go on after an event.
 use Rattle.std.proofs.Common.{◌≡◌, ℤ, pos, neg_ℤ, ◌+ℤ◌, ◌≤ℤ◌, ◌<ℤ◌, Bool, true, false, ◌&&◌, ◌||◌, List, [], ◌∷◌, ◌++◌, Option, Some, None, int_le}
 use Rattle.std.proofs.Common.{if◌then◌else◌, refl, ap, sym, ◌∙◌, append_assoc, append-nil, arith}

@@ -61,7 +61,7 @@ record GoesOnAt (front list : List Snapshot) (start : ℤ) (value : Option ℤ) 
   pub is : list ≡ front ++ record { start = start; end = end; value = value } ∷ rest
 
 module _ (x : Stream) (h : ChangesOnlyAtMarks x) (lo mid : ℤ) (some : lo <ℤ mid) where
-  -- the snapshots up to a tick but for the last, and where the last one starts
+  -- the snapshots up to a tick except the last, and where the last one starts
   abbrev front : List Snapshot
   front = without_last (snapshots x lo mid)
 

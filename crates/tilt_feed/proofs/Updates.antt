@@ -62,8 +62,8 @@ piece-late s tick low some =
     let later : int_lt s.end tick ≡ false = grind (arith, ints) in
     rw later refl
 
--- what follows the closed rows of an input after an update: the row that was open, ended at the watermark or after it, and pieces that
--- start there or after it; nothing new if the watermark is `T`
+-- what follows the closed rows of an input after an update. First the row that was open, ended at the watermark or after it, and then
+-- pieces that start there or after it. Nothing is new if the watermark is `T`
 pub record IsTail (edge : Edge) (tail : List Snapshot) : Type 0 where
   pub end : ℤ
   pub more : List Snapshot
@@ -159,7 +159,7 @@ step-of edge (KnownUpTo watermark) is =
       high = high;
     }
 
--- what stands before and after pieces
+-- what comes before and after pieces
 cells-behind : (rows t u : List Snapshot) (tick : ℤ) → cell_at t tick ≡ cell_at u tick → cell_at (rows ++ t) tick ≡ cell_at (rows ++ u) tick
 cells-behind [] t u tick is = is
 cells-behind (s ∷ rows) t u tick is = rw (cells-behind rows t u tick is) refl

@@ -5,8 +5,8 @@ use Rattle.tilt_feed.specs.declared.edge.Edge.{Edge}
 use Rattle.tilt_feed.specs.declared.open_row.OpenRow.{OpenRow}
 use Rattle.tilt_stream.specs.Snap.{Snapshot}
 
--- what is known of an input: its closed rows, in order, and the edge after them, which has the row that has begun and whose end isn't known
--- yet, if there is one, and the watermark
+-- what is known of an input: its closed rows, in order, and the edge after them. The edge has the row that has begun and whose end isn't
+-- known yet, if there is one, and the watermark
 pub record InputFeed : Type 0 where
   pub rows : List Snapshot
   pub edge : Edge

@@ -16,7 +16,7 @@ use Rattle.tilt_stream.specs.Stream.{Stream}
 abbrev pub fed : CoreParts → List Event → Feed
 fed core events = after_all events (empty_feed (length core.inputs))
 
--- what is known of an input is in order: no row starts before the end of the one before it, the last one ends at the watermark at the
+-- what is known of an input is in order. No row starts before the end of the one before it, the last one ends at the watermark at the
 -- latest, and an open row starts below it
 pub record IsInOrder (input : InputFeed) : Type 0 where
   pub rows : InOrder (neg_ℤ T) input.edge.watermark (rows_now input)

@@ -23,8 +23,8 @@ has_sure_mark finished input tick =
 abbrev pub with_sure_marks : Bool → InputFeed → Stream
 with_sure_marks finished input = record { cell = cell_at (rows_now input); mark = has_sure_mark finished input }
 
--- whether a source has a sure mark at a tick: a definition makes its sure marks of those of the sources before it, as it makes its marks of
--- their marks. Up to the horizon of a source they are all its marks.
+-- whether a source has a sure mark at a tick. A definition makes its sure marks of the sure marks of the sources before it, as it makes its
+-- marks of their marks. Up to the horizon of a source they are all its marks.
 abbrev pub is_sure : CoreParts → Feed → ℕ → ℤ → Bool
 is_sure core feed source =
     (source_of (with_definitions (map (with_sure_marks feed.finished) feed.inputs) core.defs) source).mark

@@ -16,7 +16,7 @@ ghost use Rattle.tilt_feed.specs.declared.event.Event.{Event};
 ghost use Rattle.tilt_feed.specs.declared.event.Event.TheVariants.{Finish};
 ghost use Rattle.tilt_stream.specs.Snap.{InOrder};
 
-/// This does nothing. Its clauses are laws of the definitions, for every list of events and every list of further ones: what is known
+/// This does nothing. Its clauses are laws of the definitions, for every list of events and every list of further ones. What is known
 /// stays as it is, each sure mark stays, up to the horizon all marks are sure, and the horizon doesn't fall. So what is printed is a
 /// prefix of what is printed later and of the output on the rows of each later feed, in which what had begun comes next.
 pub fn known_is_final()

@@ -1,4 +1,4 @@
--- A line without quotes reads as the words between its commas.
+-- A line without quotes is read as the fields between its commas.
 use Rattle.std.proofs.Common.{◌≡◌, ℕ, Bool, true, false, if◌then◌else◌, ◌==◌, List, [], ◌∷◌, ◌++◌, Option, Some, None, refl, ◌∙◌}
 use Rattle.std.proofs.Common.{◌⊎◌, inl, inr, sym, ap, append_assoc, append-nil}
 use Rattle.std.specs.Prelude.{◌||◌, not}
@@ -95,7 +95,7 @@ after_step made fields field c bytes =
     if is_end made.1 then Some (fields_after made.1 fields field, made.0, bytes)
     else next_record default_config made.0 (fields_after made.1 fields field) (field_after made.1 c field) bytes
 
--- the words in the fields of a record, from within a field on
+-- words between commas are the fields of a record, from within a field on
 words_read : (end : List ℕ) (after : State) → Ends end after → (first : Bool) (fields : List (List ℕ)) (field bytes : List ℕ)
     → list_any is_special bytes ≡ false
     → next_record default_config (inside first) fields field (bytes ++ end) ≡ Some (fields ++ words_from field bytes, after, [])
@@ -124,7 +124,7 @@ no_mark c [] other = refl
 no_mark c (d ∷ []) other = refl
 no_mark c (d ∷ e ∷ bytes) other = rw other refl
 
--- the only record of plain bytes is the words between commas
+-- the only record of plain bytes is the fields between commas
 plain_record : (end : List ℕ) (after : State) → Ends end after → (c : ℕ) (bytes : List ℕ) → (c == 0xEF) ≡ false
     → list_any is_special (c ∷ bytes) ≡ false → records default_config (strip_bom ((c ∷ bytes) ++ end)) ≡ words (c ∷ bytes) ∷ []
 plain_record end after ends c bytes other plain =
@@ -140,7 +140,7 @@ plain_tests c bytes plain =
     let tests = and_parts (not (c == 0xEF)) (not (list_any is_special (c ∷ bytes))) plain in
     (not-true (c == 0xEF) tests.0, not-true (list_any is_special (c ∷ bytes)) tests.1)
 
--- the only record of plain bytes is the words between commas
+-- the only record of plain bytes is the fields between commas
 pub plain_bytes : (bytes : List ℕ) → is_plain bytes ≡ true → records default_config (strip_bom bytes) ≡ words bytes ∷ []
 plain_bytes [] plain = cc plain
 plain_bytes (c ∷ bytes) plain =
@@ -168,7 +168,7 @@ with_or_without (c ∷ d ∷ bytes) =
       | inr return ↦ inr (ap (λ (rest : List ℕ). c ∷ rest) return)
     ]
 
--- the only record of a plain line is the words between commas
+-- the only record of a plain line is the fields between commas
 pub plain_line : (line : List ℕ) → is_plain (without_return line) ≡ true
     → records default_config (strip_bom line) ≡ words (without_return line) ∷ []
 plain_line line plain =

@@ -1,4 +1,4 @@
--- The words between commas, one by one.
+-- The fields between commas, one by one.
 use Rattle.std.proofs.Common.{◌≡◌, ℕ, ◌≤◌, Bool, true, false, if◌then◌else◌, ◌==◌, List, [], ◌∷◌, ◌++◌, length, Option, Some, None}
 use Rattle.std.proofs.Common.{MatchOption, Bor, refl, arith, append_assoc, append-nil}
 use Rattle.tilt_feed_line.specs.Plain.{words, words_from}
@@ -7,7 +7,7 @@ use Rattle.tilt_text.specs.Step.{◌>>=◌}
 use Rattle.tilt_text.proofs.Lacks.{Lacks}
 use Rattle.tilt_text.proofs.Words.{until-front, until-lone}
 
--- the bytes up to the first comma, and the words after it
+-- the bytes up to the first comma, and the fields after it
 abbrev FirstWord : List ℕ → Option (List ℕ × List ℕ) → List (List ℕ) → List ℕ → Type 0
 FirstWord word None found bytes = found ≡ (word ++ bytes) ∷ []
 FirstWord word (Some parts) found bytes = found ≡ (word ++ parts.0) ∷ words parts.1
@@ -33,7 +33,7 @@ some_word word (c ∷ bytes) = by (c == 44) (some_word (word ++ (c ∷ [])) byte
     by true more = omega arith
     by false more = more
 
--- the first word and the words after it, or the only word
+-- the first field and the fields after it, or the only field
 pub split_at_comma : (bytes : List ℕ) (parts : Option (Bor (List ℕ) × Bor (List ℕ)))
     → MatchOption parts (until_at 44 bytes ≡ None) (λ two. until_at 44 bytes ≡ Some (two.0.now, two.1.now))
     → MatchOption parts (words bytes ≡ bytes ∷ []) (λ two. (words bytes ≡ two.0.now ∷ words two.1.now) × (1 ≤ length (words two.1.now)))

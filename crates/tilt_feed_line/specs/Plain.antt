@@ -1,4 +1,4 @@
--- Lines without quotes, which the crate `csv` reads as the words between commas.
+-- Lines without quotes, which the crate `csv` reads as the fields between commas.
 use Rattle.std.specs.Prelude.{ℕ, Bool, false, ◌==◌, ◌||◌, ◌&&◌, not, if◌then◌else◌, List, [], ◌∷◌, ◌++◌}
 use Rattle.std.specs.List.{list_any}
 
@@ -21,11 +21,11 @@ without_return [] = []
 without_return (byte ∷ []) = if byte == 13 then [] else byte ∷ []
 without_return (byte ∷ next ∷ bytes) = byte ∷ without_return (next ∷ bytes)
 
--- the words between commas, where the first begins with these bytes
+-- the fields between commas, if the first begins with these bytes
 abbrev pub words_from : List ℕ → List ℕ → List (List ℕ)
 words_from word [] = word ∷ []
 words_from word (byte ∷ bytes) = if byte == 44 then word ∷ words_from [] bytes else words_from (word ++ (byte ∷ [])) bytes
 
--- the words between commas
+-- the fields between commas
 abbrev pub words : List ℕ → List (List ℕ)
 words bytes = words_from [] bytes

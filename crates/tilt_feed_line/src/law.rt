@@ -22,7 +22,7 @@ pub fn updates_have_lines()
     ensures finish { (inputs : List (List ℕ)) → line_said inputs (fields_text [] [] [] []) ≡ Ok line.Finish }
 {}
 
-/// This does nothing. Its clause is a law of the definitions: what a line says in a feed without keys, it says of a key in a feed with
+/// This does nothing. Its clause is a law of the definitions. What a line says in a feed without keys, it says of a key in a feed with
 /// keys, if the key is before it.
 pub fn keys_go_before_lines()
     ensures { (inputs : List (List ℕ)) (key bytes : List ℕ) (said : Said) → IsTrue (is_plain_field key) → IsTrue (is_plain bytes)

@@ -12,7 +12,7 @@ use crate::line::{KeyedLine, Line};
 use tilt_lexer::Name;
 use tilt_text::until;
 
-// The line without a CR at its end, if its only record is the words between its commas.
+// The line without a CR at its end, if its only record is the fields between its commas.
 #[tactic(auto, using(crate::proofs::PlainLines::plain_line))]
 pub(crate) fn plain_part(line: &[u8]) -> Option<&[u8]>
     ensures words { IfSome result (λ part. records default_config (strip_bom line.now) ≡ words part.now ∷ []) }
@@ -51,7 +51,7 @@ fn has_special(bytes: &[u8]) -> bool
         .any(|byte| *byte == b'"' || *byte == b'\n' || *byte == b'\r')
 }
 
-// What the words between commas say in a feed without keys.
+// What the fields between commas say in a feed without keys.
 pub(crate) fn read_words(bytes: &[u8], inputs: &[Name]) -> Result<Line, LineFault>
     requires { length inputs.now < 2 ^ 32 }
     ensures { result ≡ fields_said inputs.now (words bytes.now) }
@@ -62,7 +62,7 @@ pub(crate) fn read_words(bytes: &[u8], inputs: &[Name]) -> Result<Line, LineFaul
     }
 }
 
-// What the words between commas say in a feed with keys.
+// What the fields between commas say in a feed with keys.
 pub(crate) fn read_keyed_words<'a>(
     bytes: &'a [u8],
     inputs: &[Name],

@@ -11,7 +11,7 @@ use tilt_lexer::Name;
 /// Reads lines, one at a time. Most lines take no memory. A line with quotes takes memory for its fields, which the reader keeps for the
 /// next such line.
 ///
-/// A record is as the crate `csv` reads it: a field may be in quotes, and a CR ends a record as an LF does, so a line may end in CR. One
+/// A record is as the crate `csv` reads it. A field may be in quotes, and a CR ends a record as an LF does, so a line may end in CR. One
 /// byte order mark at the start of a line is skipped. Numbers are spelled as in series files: a sign is optional, and leading zeros are
 /// allowed.
 #[derive(Drop)]

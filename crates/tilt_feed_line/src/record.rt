@@ -10,7 +10,7 @@ ghost use Rattle.tilt_feed_line.specs.Records.{IsOnly, IsReady, Takes, next_of};
 use csv::{ByteRecord, Error, ErrorKind, Reader, ReaderBuilder};
 use std::alloc::{AllocError as OutOfMemory, Global};
 
-// Reads the record of a line, and returns whether it is the only one. Each call makes a reader of some 16 KiB.
+// Reads the record of a line, and returns whether it is the only one. Each call makes a reader of about 16 KiB.
 #[inline(never)]
 pub(crate) fn read_one_record(
     alloc: Global,

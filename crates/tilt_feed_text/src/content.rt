@@ -10,9 +10,9 @@ use crate::pending::LINE;
 use tilt_feed_line::{Line, LineReader, ReadLineFault};
 use tilt_lexer::Name;
 
-/// What the line with a number says, which is how many lines are before it, of inputs with these names; `None` if it is skipped: a blank
-/// line, or a header that is the first line. `Bad` has the reason why it says nothing. The line comes without its LF. `OutOfMemory` comes
-/// only for a line with a quote, an LF, or a CR before its end, or that starts with the byte 0xEF.
+/// What the line with a number says of inputs with these names; the number is how many lines are before it. `None` if it is skipped: a
+/// blank line, or a header that is the first line. `Bad` has the reason why it says nothing. The line comes without its LF. `OutOfMemory`
+/// comes only for a line with a quote, an LF, or a CR before its end, or that starts with the byte 0xEF.
 pub fn read_content(
     reader: &mut LineReader,
     inputs: &[Name],

@@ -1,5 +1,5 @@
--- What has to be kept of a feed so that its output can go on in a new process, with the same program or another version of it: the rows
--- of its inputs that the rest of the output reads (our own rule).
+-- What has to be kept of a feed so that its output can go on in a new process, with the same program or another version of it. These are
+-- the rows of its inputs that the rest of the output reads (our own rule).
 use Rattle.std.specs.Prelude.{ℤ, pos, ◌+ℤ◌, ◌-ℤ◌, List, length, map}
 use Rattle.std.specs.Option.{unwrap_or}
 use Rattle.tilt_core.specs.Core.{CoreParts}

@@ -7,7 +7,7 @@ use Rattle.tilt_feed.specs.declared.edge.Edge.{Edge}
 use Rattle.tilt_stream.specs.Snap.{Snapshot}
 use Rattle.tilt_stream.specs.Stored.{coded_snapshots}
 
--- inputs are told apart part by part
+-- inputs are distinguished part by part
 abbrev pub coded_input : Coded InputFeed
 coded_input =
     code_by (List Snapshot × Edge) (coded× coded_snapshots edge.the_row.coded)

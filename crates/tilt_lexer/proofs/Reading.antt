@@ -1,5 +1,5 @@
--- What the loop over the bytes keeps. The tokens so far and then the tokens of the rest are the tokens of the bytes. The fault of the rest is
--- the fault of the bytes.
+-- What the loop over the bytes keeps. The tokens so far and then the tokens of the rest are the tokens of the bytes. The fault of the rest
+-- is the fault of the bytes.
 use Rattle.std.proofs.Common.{◌≡◌, ◌≢◌, ◌⊎◌, inl, inr, ℕ, ◌+◌, ◌<◌, ◌≤◌}
 use Rattle.std.proofs.Common.{List, [], ◌∷◌, ◌++◌, length, get_or, take, drop, refl, sym, ap, ◌∙◌, subst, arith, append_assoc, length-drop, length-take-le, IsTrue}
 use Rattle.std.proofs.lemmas.List.{append-nil, drop_more, drop_all, drop-drop}

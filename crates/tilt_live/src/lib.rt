@@ -1,6 +1,6 @@
 //! The live engine of an accepted query.
 //!
-//! What comes in is an accepted query and the events of its feed, one after another; what goes out is snapshots of its output, each as
+//! What comes in is an accepted query and the events of its feed, one after another. What goes out is snapshots of its output, each as
 //! soon as it is final. `IsLiveOf live accepted feed given` of `specs/Lives` says that `live` is the engine of a query after a feed, and
 //! that it has returned the first `given` of the snapshots `printed accepted.core feed`. The clauses of `Live` say together what it does,
 //! whatever events come, and in whatever order with calls of `next` and `begun`:
@@ -11,13 +11,13 @@
 //! - `next` returns the snapshot of `printed` that comes after the first `given`, and `given` is one higher then. It returns `None` if
 //!   there is no such snapshot.
 //!
-//! So at each moment the snapshots that were returned are the first `given` of `printed`, each once and in order, and `next` returns
+//! So at each moment the snapshots that were returned are the first `given` of `printed`, each once and in order. And `next` returns
 //! `None` exactly if all of them were returned. What is printed after some events is a prefix of what is printed after further ones, and
-//! the whole output of the query once the feed is finished: these are laws of the definitions, which `tilt_feed` has as clauses
+//! the whole output of the query once the feed is finished. These are laws of the definitions, which `tilt_feed` has as clauses
 //! (`known_is_final`, `all_is_printed`). After all of `printed`, `begun` returns the start and the value of the snapshot that has begun.
 //!
 //! After a call of `next` or `begun` no more is kept than there is room for. The room is `FEW` of `tilt_engine` at first, and changes only
-//! when the engine forgets: then it keeps what is needed at that moment (`needed` of `tilt_engine`), and its room is at most twice that, or
+//! when the engine forgets. Then it keeps what is needed at that moment (`needed` of `tilt_engine`), and its room is at most twice that, or
 //! `FEW` (clause `bounded`). An event adds at most two rows.
 //!
 //! If memory is refused in `next` or `begun`, each later call of them reports the same.

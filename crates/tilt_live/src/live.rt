@@ -18,7 +18,7 @@ use tilt_feed::{Event, EventFault};
 use tilt_lexer::Name;
 use tilt_stream::Snap;
 
-/// The live engine of an accepted query: it takes the events of the query's feed, one after another, and returns each snapshot of the
+/// The live engine of an accepted query. It takes the events of the query's feed, one after another, and returns each snapshot of the
 /// output as soon as it is final. All times are in ticks.
 #[derive(Drop)]
 pub struct Live {

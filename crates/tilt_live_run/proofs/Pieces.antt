@@ -14,7 +14,7 @@ use Rattle.tilt_live_run.specs.declared.stop.Stop.TheVariants as stop
 use Rattle.tilt_outside.specs.Counts.{next_count}
 use Rattle.tilt_text.specs.Cut.{until_at}
 
--- what is so in any case
+-- what is always so
 pub on-ok : (result : Result (Unit {0}) Stop) (A : Type 0) → A → OnOk result A
 on-ok (Ok u) A a = a
 on-ok (Err e) A a = tt

@@ -34,7 +34,7 @@ module _ {K : Type 0} (tells : Type 0) (written : K → List ℕ) (faults : K �
         ∙ rw (a.told told (λ rose. none (rose_first (faults old) (faults mid) (faults new) a.kept b.kept rose))) (append_assoc (written old) first then);
   }
 
-  -- what was put, whether a fault came or not
+  -- what was written, whether a fault came or not
   pub reported-put : (takes : K → ℕ → Type 0) (old new : K) (text : List ℕ) (result : Result (Unit {0}) Failed) → Puts tells written faults takes old new text result
       → Reported tells written faults old new text
   reported-put takes old new text (Ok u) put = record { kept = put.cause.kept; told = λ told _. put.whole told }

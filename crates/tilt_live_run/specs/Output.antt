@@ -29,8 +29,8 @@ abbrev pub begun_news : Option ℤ → Option Begun → List ℕ
 begun_news before None = []
 begun_news before (Some b) = if is_start before b.start then [] else begun_line b
 
--- what is written when a feed goes on: the lines of what can be printed now and couldn't before, and then, if that is asked for, the line of
--- what has begun
+-- what is written when a feed goes on: the lines of what can be printed now and couldn't before. After them, if that is asked for, comes
+-- the line of what has begun
 abbrev pub news : Bool → CoreParts → Feed → Feed → List ℕ
 news with_begun core before after =
     lines_of (drop (length (printed core before)) (printed core after))

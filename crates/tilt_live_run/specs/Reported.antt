@@ -4,7 +4,7 @@ use Rattle.tilt_live_run.specs.declared.stop.Stop.{Stop}
 use Rattle.tilt_live_run.specs.declared.stop.Stop.TheVariants.{BadLine}
 use Rattle.tilt_outside.specs.Faults.{Rose}
 
--- The meanings of a sink: whether it tells what it holds, what was written, and its count of faults.
+-- The meanings of a sink: whether it says what it holds, what was written, and its count of faults.
 module _ {K : Type 0} (tells : Type 0) (written : K → List ℕ) (faults : K → ℕ) where
   -- a text was written whole, unless the count of faults rose
   pub record Reported (old new : K) (text : List ℕ) : Type 0 where

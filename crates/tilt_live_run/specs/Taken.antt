@@ -10,8 +10,8 @@ use Rattle.tilt_live_run.specs.declared.stop.Stop.{Stop}
 use Rattle.tilt_live_run.specs.declared.stop.Stop.TheVariants.{BadLine}
 use Rattle.tilt_outside.specs.Counts.{next_count}
 
--- The sink of reports, before and after; what the run is of if it goes on, and what its engine is of if a bad line stopped it; and the
--- query, its options, the number of lines before, and where the feed was then.
+-- The sink of reports, before and after. What the run is of if it goes on, and what its engine is of if a bad line stopped it. The query,
+-- its options, the number of lines before, and where the feed was then.
 module _ {K : Type 0} (tells : Type 0) (written : K → List ℕ) (faults : K → ℕ) (err err_then : K) where
   -- a line was taken, and nothing was written yet: it was reported if it is bad, and the run goes on after it unless it stops the run
   pub record HasTakenLine (Is : ℕ → FeedState → Type 0) (Holds : FeedState → Type 0) (core : CoreParts) (options : RunOptions) (number : ℕ) (state : FeedState)

@@ -23,7 +23,7 @@ use tilt_outside::Sink;
 use tilt_port::Port;
 use tilt_text::until;
 
-/// The run of a query on the text of its feed: it takes the bytes of the feed, in pieces of any size, and writes what each line makes
+/// The run of a query on the text of its feed. It takes the bytes of the feed, in pieces of any size, and writes what each line makes
 /// final, and with `with_begun` what has begun. Bad lines are reported and change nothing; if it is `strict`, the first one stops the run.
 #[derive(Drop)]
 pub struct LiveRun {

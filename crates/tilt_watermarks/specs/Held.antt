@@ -82,7 +82,7 @@ pub record Turn : Type 0 where
   pub handed : List Update
   pub held : List Update
 
--- an input becomes known up to an end at least: it hands on what it holds below the end, and then "known up to" the end if its watermark
+-- an input becomes known up to an end at least. It hands on what it holds below the end, and then "known up to" the end if its watermark
 -- is still below it. If there is no end, it hands on all that it holds
 abbrev pub known : Option ℤ → Waiting → Turn
 known end input = record {

@@ -17,8 +17,8 @@ use Rattle.tilt_watermarks.specs.declared.fault.TakeFault.{TakeFault}
 use Rattle.tilt_watermarks.specs.declared.fault.TakeFault.TheVariants.{NotAllowed, Overlap, Ahead}
 use Rattle.tilt_watermarks.specs.declared.options.Options.{Options}
 
--- what is kept: of each input; whether the feed is finished; the greatest watermark that lines have given to any input, if they have given
--- one; and the same if the lateness isn't taken off
+-- what is kept: of each input; whether the feed is finished; and the largest watermark that lines have given to any input, if they have
+-- given one. The last part is the same if the lateness isn't taken off
 pub record Kept : Type 0 where
   pub inputs : List Waiting
   pub finished : Bool

@@ -13,8 +13,8 @@ ghost use Rattle.tilt_watermarks.specs.Steps.{Kept, input_at, line_fault, nothin
 ghost use Rattle.tilt_watermarks.specs.declared.fault.TakeFault.TheVariants.{NotAllowed};
 ghost use Rattle.tilt_watermarks.specs.declared.options.Options.{Options};
 
-/// This does nothing. Its clauses are laws of the definitions, for every list of lines: each event that they hand on is allowed after those
-/// before it, so none is lost; what is kept are the edges of the feed after these events, and whether it is finished; and what is held is
+/// This does nothing. Its clauses are laws of the definitions, for every list of lines. Each event that they hand on is allowed after those
+/// before it, so none is lost. What is kept are the edges of the feed after these events, and whether it is finished. What is held is
 /// allowed after them.
 pub fn events_are_allowed()
     ensures allowed { (options : Options) (inputs : ℕ) (lines : List Line)
@@ -24,7 +24,7 @@ pub fn events_are_allowed()
         (after_all (watermarked options inputs lines).events (empty_feed inputs)) }
 {}
 
-/// This does nothing. Its clauses are laws of the definitions: without options, if nothing is held, a line does what the basic rule says,
+/// This does nothing. Its clauses are laws of the definitions. Without options, if nothing is held, a line does what the basic rule says,
 /// and it isn't taken exactly if it breaks a rule of feeds.
 pub fn basic_rule_holds()
     ensures edges { (kept : Kept) (line : Line) → AllByRecursion (IsFit None) kept.inputs
@@ -35,8 +35,8 @@ pub fn basic_rule_holds()
         → line_fault no_options kept line ≡ option_map NotAllowed (basic_fault kept.finished (edges_of kept.inputs) line) }
 {}
 
-/// This does nothing. Its clauses are laws of the definitions, for every list of lines: no watermark falls; and with `idle N`, each input's
-/// watermark is at least `M - N` for the greatest watermark `M` that lines have given, until the feed is finished.
+/// This does nothing. Its clauses are laws of the definitions, for every list of lines. No watermark falls. With `idle N`, each input's
+/// watermark is at least `M - N` for the largest watermark `M` that lines have given, until the feed is finished.
 pub fn watermarks_rise()
     ensures rising { (options : Options) (inputs : ℕ) (lines more : List Line)
         → AreRising (watermarked options inputs lines).kept (stepped_all options more (watermarked options inputs lines).kept).kept }
@@ -45,7 +45,7 @@ pub fn watermarks_rise()
     ensures inputs { (options : Options) (inputs : ℕ) (lines : List Line) → length (watermarked options inputs lines).kept.inputs ≡ inputs }
 {}
 
-/// This does nothing. Its clauses are laws of the definitions, for every list of lines under lateness: the rows and values of an input that
+/// This does nothing. Its clauses are laws of the definitions, for every list of lines under lateness. The rows and values of an input that
 /// were handed on, and then those that are held, are those of the lines that were taken, in order of their starts. When the feed is
 /// finished, nothing is held. So nothing is lost. Two lines with different starts may come in either order: if both are taken, the rows and
 /// values in order are the same.

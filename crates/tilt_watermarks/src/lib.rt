@@ -2,8 +2,8 @@
 //!
 //! What comes in is what lines say, one after another, as `tilt_feed_line` reads them; what goes out is the events of the feed, or why a
 //! line isn't taken. `specs/Steps` defines it: `line_fault` says why a line isn't taken, and `taken` says what a line does that is. Without
-//! options that is the basic rule: an update is the event of its input, and "known up to" for all inputs is that of each input whose
-//! watermark is below it. With options, `M` is the greatest watermark that lines have given to any input:
+//! options that is the basic rule. An update is the event of its input, and "known up to" for all inputs is "known up to" for each input
+//! whose watermark is below it. With options, `M` is the largest watermark that lines have given to any input:
 //!
 //! - `lateness N`: lines may come out of order. Each input holds its rows and values, in order of their starts (`specs/Held`). A line that
 //!   ends at `e` gives its input the watermark `e - N`; then the input hands on what it holds below that. A line that starts below its
@@ -14,9 +14,9 @@
 //!   make all lines after it late. The first line may start anywhere.
 //!
 //! The clauses of `Watermarks::take` say that it is this definition, and that nothing changes if a line isn't taken or if memory is
-//! refused. The functions of `law` have the laws of the definition as clauses: each event that is handed on is allowed after those before
-//! it, so `tilt_feed` and `tilt_live` take every one of them; no watermark falls; no input stays farther behind than `idle` allows; and
-//! under lateness the rows and values of an input come out in order of their starts, and none is lost.
+//! refused. The functions of `law` have the laws of the definition as clauses. Each event that is handed on is allowed after those before
+//! it, so `tilt_feed` and `tilt_live` take every one of them. No watermark falls, and no input stays farther behind than `idle` allows.
+//! Under lateness the rows and values of an input come out in order of their starts, and none is lost.
 //!
 //! All of this depends on the lines alone, and on no clock: the same lines give the same events again. Nothing here reads or writes.
 #![tactic(auto)]

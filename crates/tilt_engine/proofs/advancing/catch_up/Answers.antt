@@ -11,7 +11,7 @@ use Rattle.tilt_stream.specs.Snap.{Snapshot}
 use Rattle.tilt_engine.proofs.advancing.catch_up.Goals as goal
 use Rattle.tilt_engine.proofs.advancing.catch_up.Goals.{After-find_horizons}
 
--- what stands before the turns are made, by any rows
+-- what is so before the turns are made, by any rows
 module _ (c : After-find_horizons) (rows later gone : List (List Snapshot)) (hs : List Horizon) (upto : ℕ)
     (are : AreLoops c.args.code.now rows gone hs c.args.stock.now.loops.items c.args.states.now upto)
     (go : InletsGoOn c.args.code.now rows later gone hs c.args.finished c.args.stock.now.inputs.items) where

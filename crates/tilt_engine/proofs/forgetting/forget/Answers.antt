@@ -1,4 +1,4 @@
--- What goes isn't read by any next turn, and the loops stand as they stood.
+-- What goes isn't read by any next turn, and the loops stay as they were.
 use Rattle.std.proofs.Common.{◌≡◌, ◌∙◌, ◌<◌, ◌≤◌, ◌+◌, ◌-◌, min, ℕ, ℤ, ◌≤ℤ◌, List, [], length, drop, take, get_or, slice_get, Option, Some, None, refl, sym, ap, subst, arith}
 use Rattle.std.proofs.Math.Nat.{min-le_left}
 use Rattle.std.proofs.lemmas.List.{get_or-drop, take_rest, with_items_is}
@@ -13,7 +13,7 @@ use Rattle.tilt_pipe.specs.Rings.{let_go}
 use Rattle.tilt_engine.proofs.forgetting.forget.Goals as goal
 use Rattle.tilt_engine.proofs.forgetting.forget.Goals.{After-deref, After-deref-3}
 
--- where a loop stands within its stretch
+-- where a loop is within its stretch
 bounds : (c : After-deref) (k : ℕ) (l : LoopParts) (m : MadeParts) → slice_get c.args.code.now.loops k ≡ Some l → slice_get c.deref.result.now k ≡ Some m
     → (l.lo ≤ℤ m.settled) × (m.hi ≡ l.hi)
 bounds c k l m loop at =

@@ -1,4 +1,4 @@
--- The turn is one that may be made, and what stands after it.
+-- The turn is one that may be made, and what is so after it.
 use Rattle.std.proofs.Common.{◌≡◌, ◌∙◌, ◌<◌, pos, ◌+ℤ◌, List, ◌++◌, length, map, get_or, slice_get, slice_set, Some, FitsSigned, to_z, of_z, w64, sym, ap, subst, arith, rules, refl}
 use Rattle.std.proofs.lemmas.Int.{to_z-of_z}
 use Rattle.std.proofs.lemmas.Option.{same_Some, slice_get_read}
