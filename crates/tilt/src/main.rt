@@ -25,7 +25,7 @@ fn main(rt: HostRuntime) -> ExitCode {
     ExitCode::from(status(&rt, &words).unwrap_or(NO_MEMORY))
 }
 
-// Does what the words say, beside a watcher of each kind that has no limit, and one of the first rows.
+// Does what the arguments say, beside a watcher of each kind that has no limit, and one of the first rows.
 fn status(rt: &HostRuntime, words: &[String]) -> Result<u8, OutOfMemory> {
     let mut shelf = DiskShelf::new(rt.alloc(), rt, process::id(rt.process()));
     let mut out = BufferedSink::new(rt.alloc(), rt.stdout())?;
@@ -45,7 +45,7 @@ fn status(rt: &HostRuntime, words: &[String]) -> Result<u8, OutOfMemory> {
     ))
 }
 
-// The words after the program's name.
+// The arguments after the program's name.
 fn words(rt: &HostRuntime) -> io::Result<Vec<String>> {
     let mut words = Vec::new(rt.alloc());
     for word in env::args(rt)?.skip(1) {

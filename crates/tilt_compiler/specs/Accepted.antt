@@ -15,7 +15,7 @@ pub record IsAccepted (a : AcceptedParts) : Type 0 where
   pub near : margins_of a.core ≡ Ok a.margins
   pub within : AreMargins a.margins
 
--- accepted queries are told apart part by part
+-- accepted queries are distinguished part by part
 abbrev pub coded_accepted : Coded AcceptedParts
 coded_accepted =
     code_by (CoreParts × (MarginsParts × Bool)) (coded× coded_core (coded× coded_margins coded_bool))

@@ -22,8 +22,8 @@ use Rattle.tilt_feed.specs.declared.open_row.OpenRow.{OpenRow}
 use Rattle.tilt_feed.specs.declared.update.Update.{Update}
 use Rattle.tilt_feed.specs.declared.update.Update.TheVariants.{Row, Value, NoValue, KnownUpTo}
 
--- what is kept of an input: the edge of its feed after what was handed on; where the latest turn starts; the reading that counts in the
--- latest tick that has one; and how many readings were skipped
+-- what is kept of an input: the edge of its feed after what was handed on, and where the latest turn starts. Then the reading that counts
+-- in the latest tick that has one, and how many readings were skipped
 pub record Kept : Type 0 where
   pub edge : Edge
   pub mark : ℤ

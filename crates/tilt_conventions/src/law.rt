@@ -15,8 +15,8 @@ ghost use Rattle.tilt_stream.specs.Snap.{InOrder};
 ghost use Rattle.tilt_stream.specs.Stream.{cell_at};
 
 /// This does nothing. Its clauses are laws of the definitions, for every list of turns. Each update that they hand on is allowed after
-/// those before it, and so are those at the end. The rows that the feed has after these updates are the rows of the readings that were
-/// taken and count, up to the tick to which the input is known, which is the feed's watermark; and they are in order. When nothing more
+/// those before it, and so are those at the end. The rows that the feed has after these updates are in order. They are the rows of the
+/// readings that were taken and count, up to the tick to which the input is known, which is the feed's watermark. When nothing more
 /// comes, the closed rows are the rows of all these readings.
 pub fn rows_are_those_of_readings()
     ensures allowed { (options : Options) (turns : List Turn) → HoldsATick options.convention
@@ -35,7 +35,7 @@ pub fn rows_are_those_of_readings()
 {}
 
 /// This does nothing. Its clauses are laws of the definitions, for every list of turns. What the rows have at a tick up to their cut is the
-/// value of the last reading up to that tick, unless that one is too old: so each reading's row has its value at its own tick first, and
+/// value of the last reading up to that tick, unless that one is too old. So each reading's row has its value at its own tick first, and
 /// has nothing else. The readings that count are on ticks of their own, one after another. And an age that no reading reaches changes
 /// nothing.
 pub fn readings_hold()

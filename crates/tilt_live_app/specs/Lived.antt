@@ -29,8 +29,8 @@ line_of_end (Err halt.ReadFault) = line_of (read_fault (codes "-"))
 line_of_end (Err halt.WriteFault) = line_of write_fault
 line_of_end (Err halt.OutOfMemory) = line_of out_of_memory
 
--- The arguments; what each name holds, if the shelf tells it, and its count of read faults before and after; the port before and after; and
--- what a sink of reports tells.
+-- The arguments. What each name holds, if the shelf says it, and its count of read faults before and after. The port before and after, and
+-- what a sink of reports says.
 module _ {K : Type 0} (words : List (List ℕ)) (shelf_tells : Type 0) (files : List ℕ → List ℕ) (reads reads_then : ℕ)
     (tells : Type 0) (old new : Transcript) (err_tells : Type 0) (err_written : K → List ℕ) (err_faults : K → ℕ) where
   -- why the feed wasn't begun
@@ -51,7 +51,7 @@ module _ {K : Type 0} (words : List (List ℕ)) (shelf_tells : Type 0) (files : 
     -- if it ended by itself or by a bad line, all of the output was handed on
     pub handed_on : MatchResult end (λ _. new.held_back ≡ 0) (λ why. why ≡ halt.BadLine → new.held_back ≡ 0)
 
-  -- what the program does, a case for each end: it reports why it doesn't begin the feed, and nothing is read or written; or it serves the
+  -- what the program does, a case for each end. It reports why it doesn't start the feed, and nothing is read or written; or it serves the
   -- feed, and reports the end of that
   pub data HasLived (err err_then : K) : ℕ → Type 0 where
     unbegun : {report : Report} → IsUnbegun report → new ≡ old

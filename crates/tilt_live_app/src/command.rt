@@ -16,14 +16,20 @@ use tilt_outside::{Shelf, Sink};
 use tilt_port::Port;
 use tilt_report::Fault;
 
-/// Serves the feed of a query. The arguments are the file of the query and options, each at most once: `--plain` leaves out fusion,
+/// Serves the feed of a query. The arguments are the file of the query and options, each at most once. `--plain` leaves out fusion,
 /// `--begun` writes what has begun, and with `--strict` the first bad line ends it. `--lateness`, `--idle` and `--ahead`, each with a
 /// number of ticks, are the options of its watermarks. The feed is read from the port until its end, line by line; what each line makes
 /// final is written before more is read.
 ///
-/// The result is the status that the program exits with: 0 the feed ended; 1 the query is rejected, or a line is bad and `--strict` is
-/// given; 2 the arguments are no command; 3 a read failed; 4 a write or a flush failed; 5 there was no memory. A line on `err` reports each
-/// status except 0, and each bad line. A fault of `err` changes nothing.
+/// The result is the status that the program exits with:
+/// - 0: the feed ended
+/// - 1: the query is rejected, or a line is bad and `--strict` is given
+/// - 2: the arguments are no command
+/// - 3: a read failed
+/// - 4: a write or a flush failed
+/// - 5: memory ran out
+///
+/// A line on `err` reports each status except 0, and each bad line. A fault of `err` changes nothing.
 pub fn live<S: Shelf, P: Port, E: Sink>(
     alloc: Global,
     words: &[String],

@@ -1,4 +1,4 @@
--- How the state of a live run is read, piece by piece. What is read is defined by `Spelling` and `Valid` alone: the words of fields are
+-- How the state of a live run is read, piece by piece. What is read is defined by `Spelling` and `Valid` alone. The words of fields are
 -- passed over here, and in the end the bytes have to be the spelling of what was read.
 use Rattle.std.specs.Prelude.{◌≡◌, ℕ, ℤ, neg_ℤ, int_lt, int_le, Bool, true, ◌==◌, ◌&&◌, ◌||◌, is_some, if◌then◌else◌, List, [], ◌∷◌, ◌++◌}
 use Rattle.std.specs.Prelude.{Option, Some, None, Result, Ok, Err, codes, length}

@@ -38,7 +38,7 @@ pub record IsState (s : LiveStateParts) : Type 0 where
 abbrev pub IsCount : ℕ → Type 0
 IsCount n = n < 2 ^ 63
 
--- the numbers of what is told of a run's progress are those of 64 bits, and its counts and ticks are below 2 ^ 63
+-- the numbers of what is known of a run's progress fit 64 bits, and its counts and ticks are below 2 ^ 63
 pub record IsProgress (p : Progress) : Type 0 where
   pub lateness : ForSome p.options.lateness IsCount
   pub idle : ForSome p.options.idle IsCount

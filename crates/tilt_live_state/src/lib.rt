@@ -4,8 +4,8 @@
 //! goes out is its text, `tilt live 1`. The other way, bytes come in, and the state goes out that they spell, or that they spell none.
 //!
 //! `specs/Spelling` has the one spelling of a state (`spelled`), and `specs/Valid` says which states are valid (`IsState`). The clause of
-//! `encode` says that exactly the spelling is appended. Those of `decode` say that a state is read exactly if the bytes spell a valid one:
-//! a text that was cut off, or that is spelled in another way, is none. Nothing here reads or writes files.
+//! `encode` says that exactly the spelling is appended. The clauses of `decode` say that a state is read exactly if the bytes spell a valid
+//! one. A text that was cut off, or that is spelled in another way, is none. Nothing here reads or writes files.
 #![tactic(auto)]
 
 mod decoder;

@@ -5,9 +5,9 @@ use Rattle.tilt_outside.specs.Counts.{next_count}
 use Rattle.tilt_port.specs.Transcript.{Moment, Transcript}
 use Rattle.tilt_port.specs.declared.asked.Asked.{Asked}
 
--- the input with the places where it is cut, and how many of its bytes were read; whether the last read found the end; what was written,
--- and how many of its bytes were handed on; the moments at which more was read; how many bytes may still be written, and how many reads
--- may still be made; the faults and calls so far; and the numbers of the calls that are to fail
+-- the input with the places where it is cut, how many of its bytes were read, and whether the last read found the end. What was written,
+-- how many of its bytes were handed on, and the moments at which more was read. How many bytes may still be written, and how many reads may
+-- still be made. The faults and calls so far, and the numbers of the calls that are to fail
 pub record PortState : Type 0 where
   pub input : List ℕ
   pub cuts : List ℕ

@@ -4,8 +4,8 @@ use Rattle.tilt_outside.specs.Counts.{next_count}
 use Rattle.tilt_outside.specs.declared.failed.Failed.{Failed}
 use Rattle.tilt_port.specs.Transcript.{Transcript}
 
--- the bytes that are left to read, where the reader is known to have them; the bytes that were written, where the writer is known to hold
--- them; how many are held back; and how often a read, and how often a write or a flush, has failed
+-- the bytes that are left to read, if the reader is known to have them, and the bytes that were written, if the writer is known to hold
+-- them. How many are held back, and how often a read, and how often a write or a flush, has failed
 pub record StdPortState : Type 0 where
   pub remaining : Option (List ℕ)
   pub contents : Option (List ℕ)

@@ -10,8 +10,8 @@ pub record Moment : Type 0 where
   pub written : List ℕ
   pub held_back : ℕ
 
--- what was read and written so far, how many of the written bytes aren't handed on, the moments at which more was read or the end was
--- found, whether the last read found the end, and how often a read, and how often a write or a flush, has failed
+-- what was read and written so far, and how many of the written bytes aren't handed on. The moments at which more was read or the end was
+-- found, and whether the last read found the end. How often a read, and how often a write or a flush, has failed
 pub record Transcript : Type 0 where
   pub read : List ℕ
   pub written : List ℕ

@@ -10,7 +10,7 @@ pub trait Port {
     /// Whether this kind of port says what went through it. The standard streams of a process don't.
     ghost tells: { Type 0 };
 
-    /// What was read and written so far, as far as the port says it. The counts of faults are right in any case, and so is how many bytes
+    /// What was read and written so far, as far as the port says it. The counts of faults are always right, and so is how many bytes
     /// are held back.
     ghost transcript: { Self → Transcript };
 

@@ -10,7 +10,7 @@ use std::alloc::Global;
 
 /// Reads the lines of a CSV of readings, one at a time. It keeps memory for the fields of a line.
 ///
-/// A record is as the crate `csv` reads it: a field may be in quotes, and a CR ends a record as an LF does, so a line may end in CR. One
+/// A record is as the crate `csv` reads it. A field may be in quotes, and a CR ends a record as an LF does, so a line may end in CR. One
 /// byte order mark at the start of a line is skipped, and so is white space around a field.
 #[derive(Drop)]
 pub struct ReadingReader {
@@ -55,7 +55,7 @@ impl ReadingReader {
         read_columns(self.alloc, &self.row, titles, sources)
     }
 
-    /// What a line says, of inputs in these columns: its readings replace what was in `readings`, and the result is the tick up to which
+    /// What a line says, of inputs in these columns. Its readings replace what was in `readings`, and the result is the tick up to which
     /// all inputs are known, if it says that. `BadLine` has the first cause why it says nothing. After an error `readings` is empty. The
     /// line comes without its LF.
     pub fn read_line(

@@ -24,7 +24,7 @@ pub(crate) fn read_fields(
     Ok(is_only)
 }
 
-// Reads the record of a line, and returns whether it is the only one. Each call makes a reader of some 16 KiB.
+// Reads the record of a line, and returns whether it is the only one. Each call makes a reader of about 16 KiB.
 #[inline(never)]
 fn read_one_record(
     alloc: Global,

@@ -11,7 +11,8 @@ use Rattle.tilt_readings.specs.declared.fault.DateFault.{DateFault}
 use Rattle.tilt_readings.specs.declared.fault.DecimalFault.{DecimalFault}
 use Rattle.tilt_readings.specs.declared.fault.DateFault.TheVariants.{NotDate, NoSuchTime, TooFine, OutOfYears}
 
--- whether a byte is one that a byte of a shape stands for: 0 for a digit, T for a T or a blank, + for a sign, Z for a z too, and else itself
+-- whether a byte is one that a byte of a shape stands for. That is 0 for a digit, T for a T or a blank, + for a sign, Z for a Z or z, and
+-- otherwise itself
 abbrev pub is_shaped : ℕ → ℕ → Bool
 is_shaped shape byte =
     if shape == 48 then is_ascii_digit byte

@@ -8,11 +8,10 @@ use crate::digits::{are_digits, carry_of, total_of};
 use crate::fault::DecimalFault;
 use tilt_text::until;
 
-/// The whole number that the decimal of a text is times a scale, as 235 for `23.5` at the scale 10. A decimal is an optional sign and one
-/// or more digits, with at most one mark (`.` or `,`, as the caller says) before, between or after them; leading zeros are allowed. The
-/// scale is at least 1.
-/// The errors, in this order: `NotDecimal` for any other text, `NotWhole` if digits would be lost, and `OutOfRange` if 64 bits don't hold
-/// the number.
+/// The whole number that the decimal of a text is times a scale, such as 235 for `23.5` at the scale 10. A decimal is an optional sign and
+/// one or more digits, with at most one mark (`.` or `,`, as the caller says) before, between or after them. Leading zeros are allowed. The
+/// scale is at least 1. The errors, in this order: `NotDecimal` for any other text, `NotWhole` if digits would be lost, and `OutOfRange` if
+/// 64 bits don't hold the number.
 pub fn read_decimal(text: &[u8], mark: u8, scale: u64) -> Result<i64, DecimalFault>
     requires { 0 < scale }
     ensures { result ≡ in_64_bits (number_at mark scale text.now) }

@@ -10,7 +10,7 @@ ghost use Rattle.tilt_readings.specs.declared.fault.DecimalFault.TheVariants as 
 ghost use Rattle.tilt_readings.specs.declared.tick.Clock.{Clock};
 ghost use Rattle.tilt_readings.specs.declared.tick.Closed.TheVariants as closed;
 
-/// This does nothing. Its clauses are laws of the definitions: a moment lies in one tick only, and the moment at the end of a tick that
+/// This does nothing. Its clauses are laws of the definitions. A moment lies in one tick only, and the moment at the end of a tick that
 /// belongs to it lies in that tick. So the tick of that moment is that tick.
 pub fn ticks_are_apart()
     ensures one { (clock : Clock) (j k moment : ℤ) → IsInTick clock j moment → IsInTick clock k moment → j ≡ k }
@@ -20,8 +20,8 @@ pub fn ticks_are_apart()
         → IsInTick clock tick (moment_at clock tick) }
 {}
 
-/// This does nothing. Its clauses are laws of the definitions: a number whose multiple of a power of ten is the digits times the scale is
-/// what a decimal is at that scale; and if digits would be lost, there is no such number. So nothing is rounded.
+/// This does nothing. Its clauses are laws of the definitions. A number whose multiple of a power of ten is the digits times the scale is
+/// what a decimal is at that scale. If digits would be lost, there is no such number. So nothing is rounded.
 pub fn decimals_are_exact()
     ensures exact { (negative : Bool) (scale n : ℕ) (d : Decimal) → n * 10 ^ d.decimals ≡ d.digits * scale
         → times negative scale (Some d) ≡ Ok (signed negative n) }
@@ -35,7 +35,7 @@ pub fn written_decimals_are_read_back()
         → in_64_bits (number_at 46 (10 ^ decimals) (decimal_text decimals value)) ≡ Ok value }
 {}
 
-/// This does nothing. Its clauses are laws of the days that `read_date` counts with: 1 January 1970 is the day 0, and each day of a month,
+/// This does nothing. Its clauses are laws of the days that `read_date` counts with. 1 January 1970 is the day 0, and each day of a month,
 /// of a year and of the next year is one after the day before. How many days a month has is `days_in_month` of `jiff_core`.
 pub fn days_follow_one_another()
     ensures first { days_from_civil (pos 1970) 1 1 ≡ pos 0 }

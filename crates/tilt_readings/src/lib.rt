@@ -4,7 +4,7 @@
 //! is a whole number, a moment in nanoseconds since 1970, or the first cause why there is none. Nothing is rounded. Back, whole numbers and
 //! moments come in, and decimals and dates go out; and the tick that a moment lies in.
 //!
-//! The clause of each reader is an equation with one definition: `number_at` in `specs/Decimal` is the number that a decimal is at a scale,
+//! The clause of each reader is an equation with one definition. `number_at` in `specs/Decimal` is the number that a decimal is at a scale,
 //! and `date_read` in `specs/Date` is the moment that a date is. The clause of `tick_of` says that the moment lies in the tick, as
 //! `specs/Tick` defines it. The functions of `law` do nothing; their clauses are laws of these definitions.
 #![tactic(auto)]

@@ -1,6 +1,6 @@
-//! The reducers, one number at a time. What comes in is numbers, in order; what goes out is the reducer's answer on all of
-//! them. The law stands on the trait: where a state holds a list (`Holds`), `finish` answers what the reducer is defined to
-//! give on that list, `empty` holds the empty one, and `add` makes it one number longer. Some reducers can also take the first
+//! The reducers, one number at a time. What comes in is numbers, in order; what goes out is the reducer's result on all of
+//! them. The law is on the trait. If a state holds a list (`Holds`), `finish` returns what the reducer is defined to give on
+//! that list. `empty` holds the empty list, and `add` makes the list one number longer. Some reducers can also take the first
 //! number back (`Undo`), and each can join two states (`Merge`). Nothing here takes memory.
 #![tactic(auto)]
 

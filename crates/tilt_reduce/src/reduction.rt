@@ -5,7 +5,7 @@ ghost use Rattle.tilt_base.specs.declared.reducer.Reducer.{Reducer};
 
 use tilt_base::Cell;
 
-/// A reducer that is given its numbers one by one. Code that is generic over one knows of it only what stands here.
+/// A reducer that is given its numbers one by one. Code that is generic over one knows of it only what is here.
 pub trait Reduction {
     /// What is kept of the numbers that were added.
     type State: Drop;

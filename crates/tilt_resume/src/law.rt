@@ -14,9 +14,9 @@ ghost use Rattle.tilt_resume.specs.Restoring.{all_events};
 ghost use Rattle.tilt_input_state.specs.Resume.{left_feed, resume_tick};
 ghost use Rattle.tilt_stream.specs.Snapshots.{snapshots};
 
-/// This does nothing. Its clauses are laws of the definitions. Whatever events come after those of a feed, of the whole output on the rows
-/// at rest comes after all that was printed exactly what the query gives, from `resume_tick` on, on what was left of the feed. And events
-/// say all that is known of inputs: they make these inputs of unknown ones.
+/// This does nothing. Its clauses are laws of the definitions. Whatever events come after a feed's own, take the whole output on the rows
+/// at rest. In it, after all that was printed, comes exactly what the query gives, from `resume_tick` on, on what was left of the feed. And
+/// events say all that is known of inputs: they make these inputs of unknown ones.
 pub fn output_goes_on_from_what_is_left()
     ensures rest { (core : CoreParts) (margins : MarginsParts) (events more : List Event) → IsCore core → margins_of core ≡ Ok margins
         → AreMargins margins → LooksNear core

@@ -6,7 +6,7 @@ use Rattle.tilt_stream.proofs.Rising.{parted}
 use Rattle.tilt_session.specs.Parts.{early, behind}
 use Rattle.tilt_stream.specs.Snap.{Snapshot, InOrder}
 
--- those that start before a cut stand before the others
+-- those that start before a cut come before the others
 pub starts-parted : (from limit : ℤ) (rows : List Snapshot) (cut : ℤ) → InOrder from limit rows → IsPartitionedBy (λ (r : Snapshot). int_lt r.start cut) rows
 starts-parted from limit rows cut h = parted (λ r. r.start) (λ r width. (omega (arith, ints), omega (arith, ints))) from limit rows cut h
 

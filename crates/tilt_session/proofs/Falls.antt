@@ -21,7 +21,7 @@ fall-later old new olds news on =
     let test : int_lt new old ≡ false = grind (arith, ints) in
     rw test refl
 
--- where no input's cut is told to fall, none does
+-- if no input's cut is reported to fall, none does
 none-falls : (olds news : List ℤ) → length news ≡ length olds → fall_of olds news ≡ None → NoneFalls olds news
 none-falls [] [] e is = tt
 none-falls [] (new ∷ news) e is = absurd (omega arith)
@@ -31,7 +31,7 @@ none-falls (old ∷ olds) (new ∷ news) e is =
     (λ below. absurd (let told = sym (fall-here old new olds news below) ∙ is in cc))
     (λ on. (on, none-falls olds news (omega arith) (sym (fall-later old new olds news on) ∙ is)))
 
--- and where one is told to, one does
+-- and if one is reported to, one does
 falls : (olds news : List ℤ) (old new : ℤ) → fall_of olds news ≡ Some (old, new) → NoneFalls olds news → ⊥
 falls [] news old new is on = cc is
 falls (o ∷ olds) [] old new is on = on
@@ -59,7 +59,7 @@ onward-by (o ∷ os) old new at is_old is_new e is =
     let among : Contains new.each new.least = is_new.among (λ none. let zero_long = ap length none in absurd (omega arith)) in
     (all-contains (λ n. old.least ≤ℤ n) new.each new.least (none-below old.least old.each new.each is_old.none_below on) among, on)
 
--- where no cut is told to fall, a session may end there
+-- if no cut is reported to fall, a session may end there
 pub none-onward : (old new : CutsParts) → IsLeast old.least old.each → IsLeast new.least new.each → length new.each ≡ length old.each
     → first_fall old new ≡ None → IsOnward old (Upto new)
 none-onward old new is_old is_new e is = onward-by old.each old new refl is_old is_new e is
@@ -85,7 +85,7 @@ pub some-there : (series : List KeptParts) → (length series == 0) ≡ false �
 some-there [] is none = cc is
 some-there (k ∷ series) is none = cc none
 
--- the fall that is told of a checkpoint without inputs; numbers that were passed on are the same
+-- the fall that is reported of a checkpoint without inputs; numbers that were passed on are the same
 fall-least : (c : CheckpointParts) (new : CutsParts) → c.series ≡ []
     → first_fall (cuts_of c) new ≡ (if int_lt new.least c.cut then Some (c.cut, new.least) else None)
 fall-least c new none = ap (λ (series : List KeptParts). fall_of_all (cuts_kept series) (cuts_of c) new) none

@@ -56,7 +56,7 @@ raised a b start back on = grind (arith, ints, clamps)
 pub first-on : (frame : Frame) (old upto : ℤ) → old ≤ℤ upto → first_kept frame old ≤ℤ first_kept frame upto
 first-on frame old upto on = raised (decided frame old) (decided frame upto) (frame.start +ℤ pos 1) frame.back (decided-raised frame old upto on)
 
--- snapshots that are parted at a tick are closed and opened as the second part is
+-- snapshots that are separated at a tick are closed and opened as the second part is
 module _ (frame : Frame) (last : ℤ) (front back : List Snapshot) (some : 0 < length back) where
   pub closed-append : closed frame last (front ++ back) ≡ front ++ closed frame last back
   closed-append =

@@ -161,7 +161,7 @@ snapshots_from-first x start (suc more) s is = cut_behind-first x start (start +
 pub snapshots-start : (x : Stream) (lo hi : ℤ) (s : Snapshot) → slice_get (snapshots x lo hi) 0 ≡ Some s → s.start ≡ lo
 snapshots-start x lo hi s is = snapshots_from-first x lo (int_gap lo hi) s is
 
--- new rows stand after those that are kept
+-- new rows come after those that are kept
 rows-after : (old end : ℤ) (last : Option ℤ) (rows : List Snapshot) → AllByRecursion (IsLate old last) rows → last ≡ Some end
     → AllByRecursion (λ row. end ≤ℤ row.start) rows
 rows-after old end last [] late is = tt

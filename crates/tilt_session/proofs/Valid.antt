@@ -68,7 +68,7 @@ early-old : (first cut upto : ℤ) (xs : List Snapshot) → cut ≤ℤ upto → 
 early-old first cut upto [] late h = tt
 early-old first cut upto (x ∷ xs) late h = (let before = h.0.before in omega (arith, ints), early-old first cut upto xs late h.1)
 
--- new rows stand after the last end
+-- new rows come after the last end
 pub new-after : (old : ℤ) (last : Option ℤ) (xs : List Snapshot) (end : ℤ) → AreRows xs → AllByRecursion (IsLate old last) xs
     → last ≡ Some end → InOrder end T xs
 new-after old last [] end order late is = tt

@@ -15,7 +15,7 @@ use Rattle.tilt_stream.specs.Pieces.{kept}
 abbrev pub IsAfter : List Snapshot → List Snapshot → Type 0
 IsAfter rows more = ForSome (last_end rows) (λ end. AllByRecursion (λ row. end ≤ℤ row.start) more)
 
--- the new rows of each input stand after those that are kept, one list for each
+-- the new rows of each input come after those that are kept, one list for each
 abbrev pub AreAfter : List KeptParts → List (List Snapshot) → Type 0
 AreAfter [] [] = ⊤
 AreAfter [] (new ∷ more) = ⊥

@@ -18,8 +18,9 @@ pub struct CutBack {
     pub new: i64,
 }
 
-/// Whether a session after the checkpoint may end there. `CutBack` comes exactly where it would end by cuts of which one lies below the
-/// checkpoint's cut of its input, and tells both of the first such input; for a query without inputs, exactly where the least cut does.
+/// Whether a session after the checkpoint may end there. `CutBack` comes exactly if it would end by cuts of which one lies below the
+/// checkpoint's cut of its input, and reports both cuts of the first such input. For a query without inputs, it comes exactly if the
+/// smallest cut does.
 pub fn next_cut(checkpoint: &Checkpoint, cut: &Cut) -> Result<(), CutBack>
     requires { (cuts : CutsParts) → cut.now ≡ Upto cuts → length cuts.each ≡ length checkpoint.now.series }
     ensures { MatchResult result (λ _. IsOnward (cuts_of checkpoint.now) cut.now)

@@ -12,9 +12,9 @@ use tilt_stream::{Rows, SnapList};
 use tilt_syntax::Query;
 
 /// The snapshots of what a query gives on its output domain, by sessions that end by these cuts, and a last one. Each session is handed
-/// the rows that start from the cut before it on and below its own, and besides nothing but the bytes of the checkpoint of the
-/// session before it. The cuts, in ticks, don't fall; the first one is given by itself. `OutOfMemory` comes where memory is
-/// refused, and for no other reason.
+/// the rows that start from the cut before it on and below its own. Otherwise it is handed nothing but the bytes of the checkpoint of
+/// the session before it. The cuts, in ticks, don't fall; the first one is given by itself. `OutOfMemory` comes if memory runs out, and
+/// for no other reason.
 pub fn run_cut(
     alloc: Global,
     query: Query,

@@ -1,10 +1,10 @@
-//! An output file and a state beside it, exactly once: whatever kills the program at whatever moment, the output is cut back to
+//! An output file and a state beside it, exactly once. Whatever kills the program at whatever moment, the output is cut back to
 //! exactly what belongs to the last committed state when the folder is opened again.
 //!
 //! What comes in is a `Folder`, the bytes to append to its output, and states to commit. `Ledger::open` returns the last committed
-//! state and cuts the output to it; `append` appends to the output; `commit` makes all of the output so far and a new state the last
-//! commit. `specs/Kept` says what a crash can leave, `specs/Commit` what a folder holds as committed, and the clauses
-//! `any_moment` that a crash at any moment of a call leaves the commit from before the call, or the new one.
+//! state and cuts the output to it. `append` appends to the output. `commit` makes all of the output so far and a new state the last
+//! commit. `specs/Kept` says what a crash can leave, and `specs/Commit` what a folder holds as committed. The clauses `any_moment`
+//! say that a crash at any moment of a call leaves the commit from before the call, or the new one.
 #![tactic(auto)]
 
 mod change;

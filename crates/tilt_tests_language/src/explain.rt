@@ -1,4 +1,4 @@
-// What is told of queries.
+// What is explained of queries.
 use crate::table::{Shown, assert_shown};
 use std::alloc::Global;
 use std::test::Fail;
@@ -6,7 +6,7 @@ use tilt_bounds::reach;
 use tilt_explain::explain_text;
 use tilt_testing::core_of;
 
-// What is told of a query.
+// What is explained of a query.
 struct Told;
 
 impl Shown for Told {

@@ -158,7 +158,7 @@ const NAMES: &[(&str, bool)] = &[
     ("é", false),
 ];
 
-// Whether the text is read as a name. Of a name it is told whether a copy has the same bytes.
+// Whether the text is read as a name. Of a name the result says whether a copy has the same bytes.
 fn name_is_copied(alloc: Global, text: &str) -> Result<Option<bool>, Fail> {
     Ok(match Name::read(alloc, text.as_bytes())? {
         Some(name) => {

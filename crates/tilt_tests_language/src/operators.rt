@@ -29,7 +29,7 @@ const PIPELINES: &[(&str, &str)] = &[
         "from x; select if isnull(v) then 1 else ifnull(v, 2); emit over (0, 5];",
         "input x;\nlet _1 = (if isnull(x) then 1 else ifnull(x, 2)) when not isnull(x);\nemit _1 over (0, 5];\n",
     ),
-    // Words of steps and operands are names too; those of operands are put in for both at once.
+    // Words of steps and operands are names too; both operands' names are replaced at once.
     (
         "from select; join where w; emit over (0, 5];",
         "input select;\ninput where;\nlet _1 = where when not isnull(select) and not isnull(where);\nemit _1 over (0, 5];\n",
@@ -226,7 +226,7 @@ const BAD_100: Option<FlowFault> = Some(FlowFault::BadStep { step: 100 });
 
 const BAD_101: Option<FlowFault> = Some(FlowFault::BadStep { step: 101 });
 
-// How a text starts, a part that stands so often after it, how it ends, and its fault: steps of 200 and 201 tokens, and 100 and 101 steps.
+// How a text starts, a part that comes so often after it, how it ends, and its fault: steps of 200 and 201 tokens, and 100 and 101 steps.
 const LONG: &[(&str, &str, usize, &str, Option<FlowFault>)] = &[
     ("from x; select ", "-", 197, "v; emit over (0, 5];", None),
     ("from x; select ", "-", 198, "v; emit over (0, 5];", BAD_2),

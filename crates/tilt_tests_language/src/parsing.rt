@@ -295,7 +295,7 @@ fn the_first_faulty_statement_is_refused(rt: HostRuntime) -> Result<(), Fail> {
     Ok(())
 }
 
-// How a text starts, a part that stands so often after it, how it ends, and its fault.
+// How a text starts, a part that comes so often after it, how it ends, and its fault.
 const LONG: &[(&str, &str, usize, &str, Option<SyntaxFault>)] = &[
     // 256 and 257 statements, and tokens of one statement.
     ("", "input x;", 255, "emit 1 over (0, 5];", None),
@@ -360,7 +360,7 @@ const LONGER: &[(&str, &str, usize, &str, Option<TextFault>)] = &[
     ("emit ", "-", 255, ";", TOO_LONG_1),
     ("input x;emit ", "-", 600, ";input y;", TOO_LONG_2),
     ("input;emit ", "-", 600, ";", REFUSED_1),
-    // A faulty place is told before all of them.
+    // A faulty place is reported before all of them.
     (
         "",
         ";",

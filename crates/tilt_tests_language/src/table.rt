@@ -4,12 +4,12 @@ use std::fmt::Debug;
 use std::process::Abort;
 use std::test::Fail;
 
-// Ends the test unless both are the same. The case is told beside them.
+// Ends the test unless both are the same. The case is shown beside them.
 pub fn assert_same<T: PartialEq + Debug, C: Debug>(rt: &impl Abort, found: &T, want: &T, case: &C) {
     assert_eq!(rt; found, want, "at {case:?}");
 }
 
-// Ends the test unless both texts are the same. What is shown is told beside them.
+// Ends the test unless both texts are the same. What was shown is printed beside them.
 pub fn assert_text(rt: &impl Abort, found: &str, want: &str, shown: &str) {
     assert_eq!(rt; found, want, "at {shown}");
 }

@@ -12,8 +12,8 @@ use tilt_feed::{Event, EventFault, Update};
 use tilt_live::Live;
 use tilt_testing::{Piece, core_of, piece_of};
 
-// What an event says of an input, which has a number: a row, a value from a tick on, or that it is known up to a tick; or that the feed is
-// finished.
+// What an event says of an input, which has a number: a row, a value from a tick on, or that it is known up to a tick. Or it says that the
+// feed is finished.
 #[derive(Drop)]
 enum Said {
     Row(u32, i64, i64, i64),

@@ -64,7 +64,7 @@ fn fault_of(alloc: Global, text: &[u8]) -> Option<CodeFault> {
     read_code(alloc, text).err()
 }
 
-// Texts, and the line that is told.
+// Texts, and the line that is reported.
 const FAULTS: &[(&str, u64)] = &[
     ("tilt 2\n", 1),
     ("tilt 1\r\n", 1),
@@ -173,7 +173,7 @@ fn instructions_are_spelled_in_one_way(rt: HostRuntime) -> Result<(), Fail> {
     Ok(())
 }
 
-// Instructions, and the loop and the line that are told.
+// Instructions, and the loop and the line that are reported.
 const BAD_REFERENCES: &[(&str, u64, u64)] = &[
     ("r0 = neg r0", 1, 4),
     ("r0 = port b1 0", 1, 4),
@@ -203,7 +203,7 @@ fn the_first_bad_reference_is_told(rt: HostRuntime) -> Result<(), Fail> {
     Ok(())
 }
 
-// The number of the line that the end of the text stands in.
+// The number of the line that the end of the text is in.
 fn last_line(text: &[u8]) -> u64 {
     let mut line = 1_u64;
     for byte in text {

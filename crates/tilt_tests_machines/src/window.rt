@@ -33,8 +33,8 @@ fn answer_without_first<W: Window>(window: &mut W) -> Result<i64, OutOfMemory>
     Ok(window.result().unwrap_or(NULL))
 }
 
-// The answers on 3, null, -8 and 0; then without the first, with 5 after the last, and twice without the first again; then on
-// no cells, on the greatest number and 1, and without the first.
+// The results on 3, null, -8 and 0. Then without the first, with 5 after the last, and twice without the first again. Then on
+// no cells, on the largest number and 1, and without the first.
 fn answers<W: Window + Drop>(mut window: W) -> Result<[i64; 8], OutOfMemory>
     requires { W.cells window ≡ [] }
 {

@@ -1,4 +1,4 @@
-// What no clause says: figures worked out by hand, and a put that fails.
+// What no clause says: figures worked out by hand, and a write that fails.
 use std::alloc::Global;
 use std::process::Abort;
 use std::test::Fail;

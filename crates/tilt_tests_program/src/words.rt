@@ -63,7 +63,7 @@ fn show_plain(plain: bool) -> &'static str {
     if plain { " plain" } else { "" }
 }
 
-// What most commands have: a name, a file, binds, and whether `--plain` stands.
+// What most commands have: a name, a file, binds, and whether `--plain` is given.
 fn show_call(
     alloc: Global,
     name: &str,
@@ -197,7 +197,7 @@ const COMMANDS: &[(&str, &str)] = &[
         "resume|C|--upto|x=+8|--save|D|x=F",
         "resume C x=F upto x=8 save D",
     ),
-    // The names are those of no query here: one that is reserved, and one that stands twice.
+    // The names are those of no query here: one that is reserved, and one that occurs twice.
     (
         "start|Q|--upto|input=-0,_1=007,_1=-7|--save|D",
         "start Q upto input=0 upto _1=7 upto _1=-7 save D",

@@ -12,7 +12,7 @@ const AMID: &str =
 const BEFORE: &str =
     "tilt checkpoint 1\nquery 2\ninput x;\nemit sum(x[t-5:t]) over (0, 10] every 5;\ncut 0\nopen none\nlast 2 rows 1\n-3,2,9\nend\n";
 
-// What stands in place of the lines after the query of `AMID`, and is taken.
+// What comes in place of the lines after the query of `AMID`, and is taken.
 const TAKEN: &[&str] = &[
     "cut 5\nopen 2\nlast 5 rows 1\n0,5,7\nend\n",
     // The open snapshot starts at the first tick, or at the last.
@@ -38,7 +38,7 @@ const TAKEN: &[&str] = &[
     "cut 4000000000000000000\nopen none\nlast 4000000000000000000 rows 1\n0,4000000000000000000,1\nend\n",
 ];
 
-// What stands in place of these lines, and is refused.
+// What comes in place of these lines, and is rejected.
 const REFUSED: &[&str] = &[
     "",
     // Numbers spelled otherwise, and other line ends.
@@ -50,7 +50,7 @@ const REFUSED: &[&str] = &[
     "cut 5\nopen 2\nlast 5 rows 1\n0,5,null\nend\n",
     "cut 5\nopen 2\nlast 5 rows 1\n0,5,9223372036854775808\nend\n",
     "cut 5\r\nopen 2\nlast 5 rows 1\n0,5,7\nend\n",
-    // A start that is missing, stands twice, or lies out of its bounds.
+    // A start that is missing, occurs twice, or is out of its bounds.
     "cut 5\nopen none\nlast 5 rows 1\n0,5,7\nend\n",
     "cut 5\nlast 5 rows 1\n0,5,7\nend\n",
     "cut 5\nopen 2\nopen 2\nlast 5 rows 1\n0,5,7\nend\n",
@@ -130,7 +130,7 @@ const OTHER_REFUSED: &[&str] = &[
 // A query of two inputs, which looks no farther than its own tick, in the second version.
 const TWO: &str = "tilt checkpoint 2\nquery 3\ninput x;\ninput y;\nemit x + y over (0, 10];\n";
 
-// What stands after it, and is taken. Rows are kept from the least cut on.
+// What comes after it, and is taken. Rows are kept from the smallest cut on.
 const TWO_TAKEN: &[&str] = &[
     // A row of x starts at the least cut or after it, but below its own.
     "cut 5\nopen 4\ncut 8 last 9 rows 2\n0,6,1\n6,9,2\ncut 5 last 12 rows 1\n4,12,20\nend\n",
@@ -147,7 +147,7 @@ const TWO_TAKEN: &[&str] = &[
     "cut 5\nopen 4\ncut 5 last 4 rows 0\ncut 9 last none rows 0\nend\n",
 ];
 
-// What stands after it, and is refused.
+// What comes after it, and is rejected.
 const TWO_REFUSED: &[&str] = &[
     // The first cut isn't the least: too high, too low, the greatest.
     "cut 6\nopen 4\ncut 8 last none rows 0\ncut 5 last none rows 0\nend\n",

@@ -1,4 +1,4 @@
--- Aligned operands stand for the same fractions.
+-- Aligned operands represent the same fractions.
 use Rattle.std.proofs.Common.{◌≡◌, ℕ, ◌/◌, ◌<◌, ℤ, pos, ◌≤ℤ◌, Option, Some, None, Ok, subst, arith}
 use Rattle.std.proofs.lemmas.Int.{ints}
 use Rattle.tilt_base.specs.Expression.{Leaf}

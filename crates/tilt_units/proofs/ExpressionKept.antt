@@ -1,4 +1,4 @@
--- A translated expression stands for the exact one.
+-- A translated expression represents the exact one.
 use Rattle.std.proofs.Common.{◌≡◌, ℕ, zero, suc, ◌*◌, ◌/◌, ◌%◌, ◌==◌, ◌<◌, ℤ, pos, ◌≤ℤ◌, Bool, true, false, if◌then◌else◌, Option, Some, Result, Ok, refl, sym, ap, subst, arith}
 use Rattle.std.proofs.lemmas.Bool.Decides.{nat_tests}
 use Rattle.std.proofs.lemmas.Int.{ints}

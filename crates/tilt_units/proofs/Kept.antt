@@ -1,4 +1,4 @@
--- Operands that are brought to one scale stand for the same fractions.
+-- Operands that are brought to one scale represent the same fractions.
 use Rattle.std.proofs.Common.{◌≡◌, ℕ, ◌*◌, ◌/◌, ◌%◌, ◌==◌, ◌<◌, ◌^◌, ℤ, pos, negsuc, ◌*ℤ◌, ◌≤ℤ◌, Bool, true, false, if◌then◌else◌, Option, Some, None, Result, Ok, Err, int_div, int_rem, refl, sym, ap, ◌∙◌, subst, arith, nat_lt}
 use Rattle.std.specs.Ordering.{int_eq}
 use Rattle.std.proofs.Math.Nat.{div_self}
@@ -21,7 +21,7 @@ use Rattle.tilt_units.specs.declared.place.Place.{Place}
 use Rattle.tilt_units.specs.declared.quantity.Quantity.{Quantity}
 use Rattle.tilt_units.specs.declared.quantity.Quantity.TheVariants as quantity
 
--- a whole expression at a scale that stands for an exact cell
+-- a whole expression at a scale that represents an exact cell
 pub record Kept (whole : CoreLeaf → Option ℤ) (tree : CoreTree) (q : Quantity) (p : Option Fraction) : Type 0 where
   pub positive : pos 1 ≤ℤ pos (scale_in q)
   pub stands : StaysWithin whole tree → CellStandsFor (scale_in q) (whole_cell whole tree) p
@@ -66,7 +66,7 @@ exact_is a b n h =
     let j = f.0 in
     omega (arith, ints)
 
--- a literal at a scale stands for what it stands for
+-- a literal at a scale represents what it represents
 literal_stands : (place : Place) (d : Decimal) (s : ℕ) (n : ℤ) → pos 1 ≤ℤ pos d.scale → literal_at place d s ≡ Ok n
     → StandsFor s n (parts d.number d.scale)
 literal_stands place d s n h e =

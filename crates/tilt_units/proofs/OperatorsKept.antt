@@ -1,4 +1,4 @@
--- Operators keep that their operands stand for fractions.
+-- Operators keep that their operands represent fractions.
 use Rattle.std.proofs.Common.{◌≡◌, ℕ, zero, suc, ◌*◌, ◌<◌, ◌^◌, ℤ, pos, ◌≤ℤ◌, Bool, true, false, if◌then◌else◌, Option, Some, None, Ok, nat_lt, refl, sym, subst, arith}
 use Rattle.std.proofs.lemmas.Int.{ints}
 use Rattle.tilt_base.specs.Expression.{Two}
@@ -19,7 +19,7 @@ use Rattle.tilt_units.specs.declared.place.Place.{Place}
 use Rattle.tilt_units.specs.declared.quantity.Quantity.{Quantity}
 use Rattle.tilt_units.specs.declared.quantity.Quantity.TheVariants as quantity
 
--- a translated expression stands for an exact cell
+-- a translated expression represents an exact cell
 abbrev pub KeptTree : (CoreLeaf → Option ℤ) → ScaledTree → Option Fraction → Type 0
 KeptTree whole z p = Kept whole z.tree z.quantity p
 

@@ -23,12 +23,12 @@ use Rattle.tilt_units.specs.declared.scaled.Scaled.{Scaled}
 use Rattle.tilt_units.specs.declared.quantity.Quantity.{Quantity}
 use Rattle.tilt_units.specs.declared.quantity.Quantity.TheVariants as quantity
 
--- an expression over whole numbers, and what it stands for
+-- an expression over whole numbers, and what it represents
 pub record ScaledTree : Type 0 where
   pub tree : CoreTree
   pub quantity : Quantity
 
--- two expressions over whole numbers that stand for the same quantity
+-- two expressions over whole numbers that represent the same quantity
 pub record AlignedTrees : Type 0 where
   pub left : CoreTree
   pub right : CoreTree
@@ -194,11 +194,11 @@ scaled_if place d e c x y =
     and_then (truth_of place c.quantity) (λ q. and_then (aligned place d e x y)
     (λ a. Ok (record { tree = If c.tree a.left a.right; quantity = a.quantity })))
 
--- what a source stands for
+-- what a source represents
 abbrev pub quantity_at : Place → List Quantity → ℕ → Result Quantity ScaleFault
 quantity_at place sources number = or_fault (fault.UnknownSource place) (slice_get sources number)
 
--- an expression at a place over sources that stand for these quantities, or the first fault
+-- an expression at a place over sources that represent these quantities, or the first fault
 abbrev pub scaled : List Quantity → Place → UnitTree → Result ScaledTree ScaleFault
 scaled sources place (Leaf (Literal d)) = Ok (record { tree = Leaf (Const d.number); quantity = quantity.Number d.scale })
 scaled sources place (Leaf (Truth holds)) = Ok (record { tree = Leaf (Const (if holds then pos 1 else pos 0)); quantity = quantity.Truth })

@@ -19,7 +19,7 @@ pub record UnitDefinition : Type 0 where
   pub over : Option Span
   pub grid : GridPoints
 
--- definitions over whole numbers, and what each source stands for: the inputs, then these definitions
+-- definitions over whole numbers, and what each source represents: the inputs, then these definitions
 pub record ScaledQuery : Type 0 where
   pub defs : List Definition
   pub quantities : List Quantity

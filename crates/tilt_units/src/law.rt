@@ -12,10 +12,11 @@ ghost use Rattle.tilt_units.specs.Scaling.{ScaledTree, scaled};
 ghost use Rattle.tilt_units.specs.declared.place.Place.{Place};
 ghost use Rattle.tilt_units.specs.declared.quantity.Quantity.{Quantity};
 
-/// This does nothing. Its clauses are the law of the translation of an expression, at one tick. If its readings and its reducers
-/// stand for exact cells at the scales of their sources, and no operator of the translation leaves 64 bits there, the cell of
-/// the translation divided by its scale is the exact cell, null for null. The second clause says that this cell of the
-/// translation is the one that the meaning of a core gives it.
+/// This does nothing. Its clauses are the law of the translation of an expression that has one, at one tick. The premises are that
+/// the scales of the sources and of the literals are positive, and that no operator of the translation leaves 64 bits there. Each
+/// reading and each reducer must also represent an exact cell at the scale that it has. Then the cell of the translation divided
+/// by its scale is the exact cell, null for null. The second clause says that this cell of the translation is the one that the
+/// meaning of a core gives it.
 pub fn translation_keeps_meaning()
     ensures exact { (sources : List Quantity) (place : Place) (e : UnitTree) (x : ScaledTree)
         (whole : CoreLeaf → Option ℤ) (exact : UnitLeaf → Option Fraction)

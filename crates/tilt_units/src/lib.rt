@@ -5,8 +5,9 @@
 //!
 //! `specs/Scaling` says which scale each expression has and what it is translated to. The clause of `translate` says that the result is
 //! that translation, or the first fault, with its place. `specs/Exact` says what an expression gives exactly, over fractions. By the
-//! clauses of `translation_keeps_meaning`, a cell of the translation divided by its scale is the exact cell, wherever no operator leaves 64
-//! bits.
+//! clauses of `translation_keeps_meaning`, a cell of the translation divided by its scale is the exact cell. The premises are that the
+//! scales of the sources and of the literals are positive, and that no operator of the translation leaves 64 bits. Each reading and each
+//! reducer must also represent an exact cell at the scale that it has.
 #![tactic(auto)]
 
 mod decimal;

@@ -23,14 +23,14 @@ use std::alloc::{AllocError as OutOfMemory, Global};
 use tilt_base::{Op1, Op2, Reducer};
 use tilt_core::Tree;
 
-/// An expression over whole numbers, and what it stands for.
+/// An expression over whole numbers, and what it represents.
 #[derive(Debug, Drop)]
 pub struct Scaled {
     pub tree: Tree,
     pub quantity: Quantity,
 }
 
-/// The expression over whole numbers, and what it stands for, over sources that stand for these quantities; or the fault of
+/// The expression over whole numbers, and what it represents, over sources that represent these quantities. Otherwise the fault of
 /// the first node that has one, in the order in which nodes are finished: operands before their operator, from left to right.
 #[cycle(scaled)]
 pub fn scale_expression(
@@ -208,7 +208,7 @@ fn scale_if(
     Ok(Scaled { tree, quantity })
 }
 
-// Two expressions over whole numbers that stand for the same quantity.
+// Two expressions over whole numbers that represent the same quantity.
 #[derive(Drop)]
 struct Aligned {
     left: Tree,
@@ -454,7 +454,7 @@ fn quantity_of_reducer(
     }
 }
 
-// What a source stands for.
+// What a source represents.
 fn quantity_at(place: Place, sources: &[Quantity], source: u32) -> Result<Quantity, ScaleFault>
     ensures { Gives (λ q. q) result (quantity_at place sources.now source) }
 {

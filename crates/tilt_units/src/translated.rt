@@ -19,12 +19,12 @@ use tilt_core::Def;
 // The most nodes that an expression may have, and the most sources that a query may have.
 const MOST: u32 = 256;
 
-/// A query over whole numbers, and what its sources stand for.
+/// A query over whole numbers, and what its sources represent.
 #[derive(Debug, Drop)]
 pub struct Translated {
     /// The definitions, in order.
     pub defs: Vec<Def>,
-    /// What each source stands for: the inputs in order, then the definitions.
+    /// What each source represents: the inputs in order, then the definitions.
     pub quantities: Vec<Quantity>,
 }
 
@@ -50,7 +50,7 @@ pub fn translate(
     Ok(query)
 }
 
-// What the inputs stand for.
+// What the inputs represent.
 fn input_quantities(alloc: Global, scales: &[Scale]) -> Result<Vec<Quantity>, OutOfMemory>
     ensures { IfOk result (λ quantities. quantities.items ≡ input_quantities scales.now) }
 {
@@ -87,7 +87,7 @@ fn push_definition(
     Ok(push_one(query, one, scaled.quantity)?)
 }
 
-// Adds a definition, and what it stands for.
+// Adds a definition, and what it represents.
 fn push_one(query: &mut Translated, def: Def, quantity: Quantity) -> Result<(), OutOfMemory>
     ensures defs { OnOk result (query.new.defs.items ≡ query.old.defs.items ++ def ∷ []) }
     ensures quantities { OnOk result (query.new.quantities.items ≡ query.old.quantities.items ++ quantity ∷ []) }

@@ -1,4 +1,4 @@
-// The window that reduces all of its cells anew.
+// The window that reduces all of its cells again each time.
 ghost use Rattle.std.specs.Prelude.{◌≡◌, []};
 ghost use Rattle.tilt_window.specs.Taken.{IsFirstTaken};
 

@@ -23,7 +23,7 @@ fn state_from<R: Merge>(cell: Cell, behind: &VecDeque<R::State>) -> R::State
     }
 }
 
-// Puts the states of all cells.
+// Pushes the states of all cells.
 fn put_states<R: Merge>(
     cells: &VecDeque<Cell>,
     states: &mut VecDeque<R::State>,
@@ -39,7 +39,7 @@ fn put_states<R: Merge>(
     Ok(())
 }
 
-// Makes newer cells older ones where there is no older one. After want of memory all of them are newer ones.
+// Makes newer cells older ones if there is no older one. If memory runs out, all of them are newer ones.
 pub(crate) fn turn_over<R: Merge>(
     cells: &VecDeque<Cell>,
     states: &mut VecDeque<R::State>,

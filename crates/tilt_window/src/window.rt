@@ -8,7 +8,7 @@ use std::alloc::AllocError as OutOfMemory;
 use tilt_base::Cell;
 
 /// A window over snapshots: the cells of those that it meets, in order, null ones included. Code that is generic over a
-/// window knows of it only what stands here.
+/// window knows of it only what is here.
 pub trait Window {
     /// Which reducer it answers.
     ghost reducer: { Reducer };
@@ -16,14 +16,14 @@ pub trait Window {
     /// The cells in the window, in order.
     ghost cells: { Self → List (Option ℤ) };
 
-    /// Adds the cell of one more snapshot after the others, of which there are fewer than 2^62. After want of memory the
+    /// Adds the cell of one more snapshot after the others, of which there are fewer than 2^62. If memory runs out, the
     /// window is as before.
     fn push_back(&mut self, cell: Cell) -> Result<(), OutOfMemory>
         requires few { length (cells self.old) < 4611686018427387904 }
         ensures ok { OnOk result (cells self.new ≡ cells self.old ++ cell ∷ []) }
         ensures err { OnErr result (cells self.new ≡ cells self.old) };
 
-    /// Takes the first cell out: none exactly where there is none. After want of memory the window is as before.
+    /// Takes the first cell out: none exactly if there is none. If memory runs out, the window is as before.
     fn pop_front(&mut self) -> Result<Option<Cell>, OutOfMemory>
         ensures ok { IfOk result (λ taken. IsFirstTaken (cells self.old) taken (cells self.new)) }
         ensures err { OnErr result (cells self.new ≡ cells self.old) };

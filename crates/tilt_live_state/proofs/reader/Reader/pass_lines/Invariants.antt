@@ -1,4 +1,4 @@
--- The lines that are left come to what all lines come to.
+-- The lines that are left give what all lines give.
 use Rattle.std.proofs.Common.{◌≡◌, ◌-◌}
 use Rattle.tilt_checkpoint.specs.Reading.{behind_line, times}
 use Rattle.tilt_live_state.proofs.reader.Reader.pass_lines.Given as goal
