@@ -9,10 +9,10 @@ use tilt_app::tilt;
 use tilt_outside::{BufferedSink, DiskShelf, StdSink};
 use tilt_watch::{Ends, FirstRows, Range, Tally, Watcher};
 
-/// The status where the program isn't handed its words: one of them is no UTF-8, or there is no memory for them.
+/// The status if the program isn't handed its arguments: one of them is no UTF-8, or there is no memory for them.
 const NO_WORDS: u8 = 7;
 
-/// The status where there is no memory for the buffer of the output or for the watchers.
+/// The status if there is no memory for the buffer of the output or for the watchers.
 const NO_MEMORY: u8 = 5;
 
 /// How many rows the last watcher counts.

@@ -28,7 +28,7 @@ impl Model for Grid {
 }
 
 impl Grid {
-    /// The grid with this period and this offset, or `None` where they bound none.
+    /// The grid with this period and this offset, or `None` if they bound none.
     pub fn new(period: i64, offset: i64) -> Option<Grid>
         ensures { MatchOption result
             (¬ (IsGrid (record { period = period; offset = offset })))
@@ -41,7 +41,7 @@ impl Grid {
         }
     }
 
-    /// The least grid point that isn't below the tick.
+    /// The smallest grid point that isn't below the tick.
     #[inline]
     pub fn ceil(&self, tick: i64) -> i64
         requires low { neg_ℤ (WIDE +ℤ pos 4 *ℤ OFFSET) ≤ℤ tick }
@@ -55,7 +55,7 @@ impl Grid {
         tick + (self.offset - tick).rem_euclid(self.period)
     }
 
-    /// The greatest grid point that isn't above the tick.
+    /// The largest grid point that isn't above the tick.
     #[inline]
     pub fn floor(&self, tick: i64) -> i64
         requires low { neg_ℤ (WIDE +ℤ pos 4 *ℤ OFFSET) ≤ℤ tick }

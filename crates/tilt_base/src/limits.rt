@@ -4,14 +4,14 @@ pub const T: i64 = 4_000_000_000_000_000_000;
 /// Each time of a snapshot that is computed lies in `-WIDE..=WIDE`, in ticks.
 pub const WIDE: i64 = 4_500_000_000_000_000_000;
 
-/// The greatest look-back and the greatest look-ahead of a query, in ticks.
+/// The largest look-back and the largest look-ahead of a query, in ticks.
 pub const REACH: i64 = 1_000_000_000_000;
 
-/// The greatest period of a grid, in ticks.
+/// The largest period of a grid, in ticks.
 pub const PERIOD: i64 = 1_000_000_000_001;
 
-/// The greatest offset of a reading in loop code, in ticks.
+/// The largest offset of a reading in loop code, in ticks.
 pub const OFFSET: i64 = 2_000_000_000_000;
 
-/// The greatest length of a file that is read, in bytes.
+/// The largest length of a file that is read, in bytes.
 pub const FILE: u64 = 1_073_741_824;

@@ -13,7 +13,7 @@ use itoa::Buffer;
 const SHORT: usize = 18;
 
 /// The number that the bytes spell: an optional `+` or `-` and then one or more digits. Leading zeros are allowed.
-/// `None` where the bytes are spelled otherwise, or the number lies outside 64 bits.
+/// `None` if the bytes are spelled otherwise, or the number lies outside 64 bits.
 pub fn read_number(bytes: &[u8]) -> Option<i64>
     ensures { result ≡ number_spelled bytes.now }
 {
@@ -24,7 +24,7 @@ pub fn read_number(bytes: &[u8]) -> Option<i64>
     }
 }
 
-/// The value that the bytes spell: null where there are none, and else their number, as `read_number` reads it.
+/// The value that the bytes spell: null if there are none, and otherwise their number, as `read_number` reads it.
 #[inline]
 pub fn read_cell(bytes: &[u8]) -> Option<Cell>
     ensures { result ≡ cell_spelled bytes.now }
@@ -135,7 +135,7 @@ fn read_natural(digits: &[u8]) -> Option<u64>
 }
 
 /// The number whose shortest decimal the bytes are: an optional `-` and digits without a leading zero, and `0` for
-/// zero. `None` where they are the shortest decimal of no number within 64 bits.
+/// zero. `None` if they are the shortest decimal of no number within 64 bits.
 pub fn read_shortest(bytes: &[u8]) -> Option<i64>
     ensures { MatchOption result
         ((z : ℤ) → FitsSigned w64 z → bytes.now ≢ signed_decimal z)

@@ -1,7 +1,7 @@
 /// An operator on one cell.
 #[derive(Clone, Copy, Debug, PartialEq, Eq)]
 pub enum Op1 {
-    /// The negative: null where 64 bits don't hold it.
+    /// The negative: null if 64 bits don't hold it.
     Neg,
     /// 1 for 0, and 0 for any other number.
     Not,
@@ -12,13 +12,13 @@ pub enum Op1 {
 /// An operator on two cells. The comparisons, `And` and `Or` give 1 or 0; any number but 0 is true.
 #[derive(Clone, Copy, Debug, PartialEq, Eq)]
 pub enum Op2 {
-    /// The exact sum: null where 64 bits don't hold it.
+    /// The exact sum: null if 64 bits don't hold it.
     Add,
-    /// The exact difference: null where 64 bits don't hold it.
+    /// The exact difference: null if 64 bits don't hold it.
     Sub,
-    /// The exact product: null where 64 bits don't hold it.
+    /// The exact product: null if 64 bits don't hold it.
     Mul,
-    /// The quotient, truncated toward zero: null for the divisor 0, and where 64 bits don't hold it.
+    /// The quotient, truncated toward zero: null for the divisor 0, and if 64 bits don't hold it.
     Div,
     /// The remainder, with the sign of the dividend: null for the divisor 0.
     Rem,
@@ -30,8 +30,8 @@ pub enum Op2 {
     Ge,
     And,
     Or,
-    /// The first where the second is true, else null.
+    /// The first if the second is true, else null.
     When,
-    /// The first where it isn't null, else the second.
+    /// The first if it isn't null, else the second.
     IfNull,
 }

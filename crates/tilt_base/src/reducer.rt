@@ -11,7 +11,7 @@ use crate::scalar::truth;
 /// What a window's list of numbers is reduced to. Each reducer is null on the empty list.
 #[derive(Clone, Copy, Debug, PartialEq, Eq)]
 pub enum Reducer {
-    /// The exact sum: null where 64 bits don't hold it.
+    /// The exact sum: null if 64 bits don't hold it.
     Sum,
     /// The exact sum divided by the length, truncated toward zero.
     Avg,
@@ -21,9 +21,9 @@ pub enum Reducer {
     Count,
     First,
     Last,
-    /// 1 where a member is true, else 0.
+    /// 1 if a member is true, else 0.
     Any,
-    /// 1 where every member is true, else 0.
+    /// 1 if every member is true, else 0.
     All,
 }
 
@@ -77,7 +77,7 @@ fn total(numbers: &[i64]) -> i128
     sum
 }
 
-// The exact sum divided by the length, truncated toward zero. It lies between the least and the greatest number, so
+// The exact sum divided by the length, truncated toward zero. It lies between the smallest and the largest number, so
 // that 64 bits hold it.
 fn average(numbers: &[i64]) -> i64
     requires { 0 < length numbers.now }
@@ -97,7 +97,7 @@ fn least(first: i64, rest: &[i64]) -> i64
     best
 }
 
-// The greatest of the first number and the others.
+// The largest of the first number and the others.
 fn greatest(first: i64, rest: &[i64]) -> i64
     ensures { result ≡ fold int_max first rest.now }
 {

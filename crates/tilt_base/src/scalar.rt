@@ -5,7 +5,7 @@ ghost use Rattle.tilt_base.specs.Scalar.{apply1, apply2, choose, remainder, trut
 use crate::cell::Cell;
 use crate::operator::{Op1, Op2};
 
-/// What the operator gives on the cell. `Neg` and `Not` are null where it is null.
+/// What the operator gives on the cell. `Neg` and `Not` are null if it is null.
 #[inline]
 pub fn apply1(op: Op1, a: Cell) -> Cell
     ensures { result ≡ apply1 op a }
@@ -17,7 +17,7 @@ pub fn apply1(op: Op1, a: Cell) -> Cell
     }
 }
 
-/// What the operator gives on the cells. Each but `IfNull` is null where one of them is null.
+/// What the operator gives on the cells. Each but `IfNull` is null if one of them is null.
 #[inline(always)]
 pub fn apply2(op: Op2, a: Cell, b: Cell) -> Cell
     ensures { result ≡ apply2 op a b }
@@ -28,7 +28,7 @@ pub fn apply2(op: Op2, a: Cell, b: Cell) -> Cell
     }
 }
 
-/// The first cell where the condition is true, the second where it is 0, and null where it is null. The cell that
+/// The first cell if the condition is true, the second if it is 0, and null if it is null. The cell that
 /// isn't chosen may be null.
 #[inline]
 pub fn choose(c: Cell, a: Cell, b: Cell) -> Cell
@@ -37,7 +37,7 @@ pub fn choose(c: Cell, a: Cell, b: Cell) -> Cell
     if c? != 0 { a } else { b }
 }
 
-/// 1 where a test holds, else 0.
+/// 1 if a test holds, else 0.
 #[inline]
 pub(crate) fn truth(holds: bool) -> Cell
     ensures { result ≡ truth holds }

@@ -45,7 +45,7 @@ impl Model for Accepted {
         IsAccepted (record { core = a.core; margins = a.margins; fuse = a.fuse }) × (a.plan.loops.items ≡ plan_of a.core a.fuse) };
 }
 
-/// The query of a core, with fusion or without. `TooFar` comes exactly where its look-back or its look-ahead is above `REACH`.
+/// The query of a core, with fusion or without. `TooFar` comes exactly if its look-back or its look-ahead is above `REACH`.
 pub fn accept(alloc: Global, core: Core, fuse: bool) -> Result<Accepted, ReachFault>
     ensures core { IfOk result (λ accepted. accepted.core ≡ core) }
     ensures margins { IfOk result (λ accepted. margins_of core ≡ Ok accepted.margins) }

@@ -11,7 +11,7 @@ use tilt_stream::{Rows, SnapList};
 
 impl Accepted {
     /// The snapshots of what the query means on `(lo, hi]`, in ticks, which lies within the output domain or is empty; there is one
-    /// list of rows for each input. Where it is empty nothing is run. `OutOfMemory` comes where memory is refused, and for no other
+    /// list of rows for each input. If it is empty, nothing is run. `OutOfMemory` comes if memory runs out, and for no other
     /// reason.
     pub fn run_on(
         &self,

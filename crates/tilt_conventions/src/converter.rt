@@ -74,7 +74,7 @@ impl Converter {
     }
 
     /// Takes a turn, and appends the updates that it hands on. `Fault` comes exactly if the turn isn't taken, and nothing changes.
-    /// `OutOfMemory` comes if memory is refused for a turn that would be taken, and nothing changes either.
+    /// `OutOfMemory` comes if memory runs out for a turn that would be taken, and nothing changes either.
     pub fn take(&mut self, turn: Turn, updates: &mut Vec<Update>) -> Result<(), TakeError>
         ensures result { IsTaken result (turn_fault (options_of self.old).ties (kept_by self.old) turn) }
         ensures kept { kept_by self.new
@@ -170,7 +170,7 @@ impl Converter {
     }
 
     /// Appends the updates when nothing more comes: what waits is handed on, and what holds ends by its age, at `T` at the latest. Without
-    /// a maximum age it ends when its feed is finished. `OutOfMemory` comes if memory is refused, and nothing changes.
+    /// a maximum age it ends when its feed is finished. `OutOfMemory` comes if memory runs out, and nothing changes.
     pub fn finish(&self, updates: &mut Vec<Update>) -> Result<(), OutOfMemory>
         ensures updates { updates.new.items
             ≡ (if is_ok result then updates.old.items ++ last_updates (options_of self.now) (kept_by self.now) else updates.old.items) }

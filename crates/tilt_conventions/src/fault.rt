@@ -9,7 +9,7 @@ pub enum TurnFault {
     /// It starts before the turn that was taken last. A reading starts at the tick before its own, and a watermark at itself.
     #[error("it is before what is known")]
     Late,
-    /// It is a second reading in one tick, and such readings are refused.
+    /// It is a second reading in one tick, and such readings are rejected.
     #[error("it is a second reading in one tick")]
     Tie,
 }
@@ -20,7 +20,7 @@ pub enum TakeError {
     /// The turn isn't taken.
     #[error("{0}")]
     Fault(TurnFault),
-    /// Memory was refused.
+    /// Memory ran out.
     #[error("out of memory")]
     OutOfMemory,
 }

@@ -7,14 +7,14 @@
 //! - `Convention::Hold`: a reading's value holds from its tick until the next reading, and for `max_age` ticks at most. A reading without a
 //!   value ends the one before it.
 //! - `Convention::Event`: it holds on its own tick alone.
-//! - `Ties`: of several readings in one tick, the first or the last one counts, later ones are refused, or each moves to a tick of its own.
+//! - `Ties`: of several readings in one tick, the first or the last counts, later ones are rejected, or each moves to a tick of its own.
 //!
-//! `specs/Rows` says which rows a whole list of readings means. It says which of them count (`counted`), and what the row of each is: from
-//! the tick before its own to where the next one starts, to the cut, or to where it is too old (`rows_of`). `specs/Cells` says the same
-//! without rows: what holds at a tick is the value of the last reading up to it. `specs/Steps` says what one turn does: `turn_fault` says
-//! why it isn't taken, and `taken` says what it hands on.
+//! `specs/Rows` says which rows a whole list of readings means. It says which of them count (`counted`), and what the row of each is. The
+//! row goes from the tick before its own to where the next one starts, to the cut, or to where it is too old (`rows_of`). `specs/Cells`
+//! says the same without rows: what holds at a tick is the value of the last reading up to it. `specs/Steps` says what one turn does:
+//! `turn_fault` says why it isn't taken, and `taken` says what it hands on.
 //!
-//! The clauses of `Converter::take` say that it is this step, and that nothing changes if a turn isn't taken or if memory is refused. The
+//! The clauses of `Converter::take` say that it is this step, and that nothing changes if a turn isn't taken or if memory runs out. The
 //! functions of `law` connect the two, for every list of turns. The rows of the feed that takes the updates are those that the readings
 //! mean, up to the feed's watermark. Every update is allowed, and what holds at a tick is what the last reading up to it says.
 //!

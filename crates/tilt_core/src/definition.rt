@@ -6,7 +6,7 @@ use tilt_base::{Grid, Span};
 #[derive(Debug, Drop)]
 pub struct Def {
     pub body: Tree,
-    /// The span outside which the definition is null, or `None` where there is no such span.
+    /// The span outside which the definition is null, or `None` if there is no such span.
     pub over: Option<Span>,
     /// The grid on which the body is taken. Period 1 takes it at each tick.
     pub grid: Grid,

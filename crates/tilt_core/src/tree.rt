@@ -5,7 +5,7 @@ use tilt_base::{Op1, Op2, Reducer};
 pub enum Tree {
     /// A number, at every tick.
     Const(i64),
-    /// `X[t+offset]`: the source as it is `offset` ticks later, or earlier where that is negative.
+    /// `X[t+offset]`: the source as it is `offset` ticks later, or earlier if that is negative.
     Read {
         source: u32,
         offset: i64,

@@ -12,7 +12,7 @@ use std::alloc::AllocError as OutOfMemory;
 use tilt_feed::{Edge, OpenRow, Update, continues};
 use tilt_stream::{Row, Rows};
 
-// Adds the rows that an update closes, which is allowed. If memory is refused, nothing changes.
+// Adds the rows that an update closes, which is allowed. If memory runs out, nothing changes.
 pub(crate) fn add_closed(rows: &mut Rows, edge: Edge, update: Update) -> Result<(), OutOfMemory>
     requires order { IsInOrder (record { rows = rows.old; edge = edge }) }
     requires allowed { update_fault false edge update ≡ None }

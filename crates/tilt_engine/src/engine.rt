@@ -47,7 +47,7 @@ pub struct Engine {
 pub const FEW: u128 = 1024;
 
 impl Engine {
-    /// The engine of a code before the first event. `OutOfMemory` comes if memory is refused, and for no other reason.
+    /// The engine of a code before the first event. `OutOfMemory` comes if memory runs out, and for no other reason.
     pub fn new(alloc: Global, code: Code) -> Result<Engine, OutOfMemory>
         requires { IsNearCode code }
         ensures engine { IfOk result (λ engine. IsEngineOf engine code (empty_feed (length code.inputs)) 0) }
@@ -86,7 +86,7 @@ impl Engine {
     }
 
     /// Takes an event, which adds two rows at most. If it isn't allowed, the first rule that it breaks is returned, and nothing changes; if
-    /// memory is refused, nothing changes either. No loop makes a turn before the next snapshot is asked for.
+    /// memory runs out, nothing changes either. No loop makes a turn before the next snapshot is asked for.
     pub fn take(&mut self, event: Event) -> Result<(), TakeError>
         ensures taken { (code : CodeParts) (feed : Feed) (given : ℕ) → IsEngineOf self.old code feed given
             → HasTaken result event feed (λ later. IsEngineOf self.new code later given) }
@@ -107,7 +107,7 @@ impl Engine {
     }
 
     /// The next snapshot of the run, if it ends at a limit or below it, which is known: `None` if all of these were given. `OutOfMemory`
-    /// comes if memory is refused, and each time after that.
+    /// comes if memory runs out, and each time after that.
     pub fn next(&mut self, limit: i64) -> Result<Option<Snap>, OutOfMemory>
         requires { IsEngine self.old }
         ensures next { (code : CodeParts) (feed : Feed) (given : ℕ) → IsEngineOf self.old code feed given
@@ -132,7 +132,7 @@ impl Engine {
     }
 
     /// The start and the value of the snapshot of the run after those that were given, if it starts below a limit, which is known.
-    /// `OutOfMemory` comes if memory is refused, and each time after that.
+    /// `OutOfMemory` comes if memory runs out, and each time after that.
     pub fn begun(&mut self, limit: i64) -> Result<Option<(i64, Cell)>, OutOfMemory>
         requires { IsEngine self.old }
         ensures begun { (code : CodeParts) (feed : Feed) (given : ℕ) → IsEngineOf self.old code feed given
@@ -213,7 +213,7 @@ impl Engine {
         ensures current { OnOk result (IsCurrent self.new) }
         ensures refused { OnErr result (IsRefused self.new) }
     {
-        // So it remains if memory is refused.
+        // So it remains if memory runs out.
         self.status = Status::Refused;
         catch_up(
             &self.code,
@@ -240,7 +240,7 @@ impl Engine {
     {
         // What a code keeps is known from here on.
         let _ = self.code.loops();
-        // So it remains if memory is refused.
+        // So it remains if memory runs out.
         self.status = Status::Refused;
         let gone = forget(
             self.alloc,

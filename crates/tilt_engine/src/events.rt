@@ -38,7 +38,7 @@ fn edge_at(inputs: &[Inlet], number: u32) -> Edge
     }
 }
 
-// Takes an event that is allowed. If memory is refused, nothing changes.
+// Takes an event that is allowed. If memory runs out, nothing changes.
 pub(crate) fn take_event(inputs: &mut [Inlet], event: Event) -> Result<(), OutOfMemory>
     requires { inlet_fault false inputs.old event ≡ None }
     ensures ok { OnOk result (inputs.new ≡ inlets_after event inputs.old) }

@@ -8,7 +8,7 @@ pub enum TakeError {
     /// The event isn't allowed: the first rule that it breaks.
     #[error("{0}")]
     Fault(EventFault),
-    /// Memory was refused.
+    /// Memory ran out.
     #[error("out of memory")]
     OutOfMemory,
 }

@@ -27,7 +27,7 @@ pub struct FedRows {
 }
 
 impl FedRows {
-    /// The rows of so many inputs before the first event: none. `OutOfMemory` comes if memory is refused, and for no other reason.
+    /// The rows of so many inputs before the first event: none. `OutOfMemory` comes if memory runs out, and for no other reason.
     pub fn new(alloc: Global, inputs: usize) -> Result<FedRows, OutOfMemory>
         ensures { IfOk result (λ fed. (first : ℤ) → KeepsRowsOf fed first (empty_feed inputs)) }
     {
@@ -39,7 +39,7 @@ impl FedRows {
         })
     }
 
-    /// The rows that were left of inputs that aren't finished. `OutOfMemory` comes if memory is refused, and for no other reason.
+    /// The rows that were left of inputs that aren't finished. `OutOfMemory` comes if memory runs out, and for no other reason.
     pub fn of(alloc: Global, inputs: &[InputState]) -> Result<FedRows, OutOfMemory>
         ensures { IfOk result (λ fed. (first : ℤ) (feed : Feed) → feed.finished ≡ false
             → inputs.now ≡ map (left_input first) feed.inputs → KeepsRowsOf fed first feed) }
@@ -52,7 +52,7 @@ impl FedRows {
         })
     }
 
-    /// Takes an event. If it isn't allowed, the first rule that it breaks is returned, and nothing changes; if memory is refused, nothing
+    /// Takes an event. If it isn't allowed, the first rule that it breaks is returned, and nothing changes; if memory runs out, nothing
     /// changes either.
     pub fn take(&mut self, event: Event) -> Result<(), TakeError>
         ensures taken { (first : ℤ) (feed : Feed) → KeepsRowsOf self.old first feed

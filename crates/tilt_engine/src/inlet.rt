@@ -110,7 +110,7 @@ impl Inlet {
         self.edge
     }
 
-    // Takes an update that is allowed. If memory is refused, nothing changes.
+    // Takes an update that is allowed. If memory runs out, nothing changes.
     pub(crate) fn update(&mut self, update: Update) -> Result<(), OutOfMemory>
         requires { update_fault false self.old.input.edge update ≡ None }
         ensures ok { OnOk result (self.new ≡ resting_inlet (updated update self.old.input)) }
@@ -136,7 +136,7 @@ impl Inlet {
         count_unread(self.rows.as_slice(), first)
     }
 
-    // Lets its first closed rows go, as many as that. If memory is refused, nothing changes.
+    // Lets its first closed rows go, as many as that. If memory runs out, nothing changes.
     pub(crate) fn forget(&mut self, alloc: Global, count: usize) -> Result<(), OutOfMemory>
         requires { count ≤ length self.old.input.rows }
         ensures { OnOk result (self.new ≡ later_inlet count self.old) }
@@ -146,7 +146,7 @@ impl Inlet {
         Ok(())
     }
 
-    // Lets its closed rows go that end below a tick. If memory is refused, nothing changes.
+    // Lets its closed rows go that end below a tick. If memory runs out, nothing changes.
     pub(crate) fn forget_below(&mut self, alloc: Global, first: i64) -> Result<(), OutOfMemory>
         ensures { OnOk result (self.new ≡ left_inlet first self.old) }
     {

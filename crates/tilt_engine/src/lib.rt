@@ -7,11 +7,11 @@
 //!
 //! - `new` starts with the empty feed, and with no snapshot returned.
 //! - `take` of an event that is allowed goes on to the feed after it. Otherwise it returns the first rule that is broken, and nothing
-//!   changes. Nothing changes either if memory is refused.
+//!   changes. Nothing changes either if memory runs out.
 //! - `next limit` returns the snapshot that comes after the first `given`, if it ends at the limit or below it. The limit has to be known
 //!   of the last loop. `specs/CodeHorizon` says up to where each buffer of a code is known.
 //!
-//! The clause `next` matters most. Its proof rests on the law `buffers_go_on`: where the inputs of a code go on, so does each buffer, up to
+//! The clause `next` matters most. Its proof rests on the law `buffers_go_on`: if the inputs of a code go on, so does each buffer, up to
 //! its own horizon. So a snapshot whose end is known stays, whatever comes later.
 //!
 //! From time to time, rows and snapshots that no next turn reads are let go, and snapshots that were returned. `IsEngineOf` says which have
@@ -21,7 +21,7 @@
 //! call of `next` or `begun` an engine keeps no more than its room (clause `bounded`). Its room is `FEW` at first, and changes only when it
 //! forgets. Then it keeps what is needed at that moment, and its room is at most twice that, or `FEW`. An event adds at most two rows.
 //!
-//! If memory is refused in `next` or `begun`, each later call of them reports the same.
+//! If memory runs out in `next` or `begun`, each later call of them reports the same.
 #![tactic(auto)]
 
 mod advancing;

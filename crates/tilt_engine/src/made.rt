@@ -172,7 +172,7 @@ impl Made {
         count_unread(self.made.as_slice(), first)
     }
 
-    // Lets its first settled snapshots go, as many as that. If memory is refused, nothing changes.
+    // Lets its first settled snapshots go, as many as that. If memory runs out, nothing changes.
     pub(crate) fn forget(&mut self, alloc: Global, count: usize) -> Result<(), OutOfMemory>
         requires { count ≤ length self.old.made }
         ensures { OnOk result (self.new ≡ later_made count self.old) }
@@ -190,7 +190,7 @@ impl Made {
         self.waiting = None;
     }
 
-    // Takes a settled snapshot. If memory is refused, nothing changes.
+    // Takes a settled snapshot. If memory runs out, nothing changes.
     pub(crate) fn settle(&mut self, snap: Snap) -> Result<(), OutOfMemory>
         requires on { IsPieceOn self.old.settled self.old.hi snap }
         ensures ok { OnOk result (self.new ≡ with_settled snap self.old) }

@@ -28,8 +28,8 @@ pub fn evaluate_query(alloc: Global, core: &Core, inputs: &[Rows]) -> Result<Sna
     evaluate(alloc, &emitted, domain.start, domain.end)
 }
 
-/// The snapshots of a source on `(lo, hi]`, by the definition of its meaning: each tick is looked at by itself, over
-/// the whole series. There are none where `lo` isn't below `hi`. Any definitions may be given, also such as no query
+/// The snapshots of a source on `(lo, hi]`, by the definition of its meaning: each tick is computed by itself, over
+/// the whole series. There are none if `lo` isn't below `hi`. Any definitions may be given, also such as no query
 /// has: a source that isn't there is null, and a definition reads only the sources before it.
 ///
 /// This is slow, on purpose: the time grows with the number of ticks, and with that of the ticks in each window.

@@ -20,7 +20,7 @@ pub fn lies_in(span: Span, tick: i128) -> bool
     i128::from(span.start) < tick && tick <= i128::from(span.end)
 }
 
-/// The least grid point that isn't below the tick.
+/// The smallest grid point that isn't below the tick.
 pub fn ceil(grid: Grid, tick: i128) -> i128
     requires low { neg_ℤ (pos (2 ^ 98)) ≤ℤ tick }
     requires high { tick ≤ℤ pos (2 ^ 98) }

@@ -45,7 +45,7 @@ fn front_word(alloc: Global, bytes: &[u8]) -> Result<(Tok, usize), OutOfMemory>
     }
 }
 
-// The number at the beginning, or `None` where it is too big.
+// The number at the beginning, or `None` if it is too big.
 fn front_number(bytes: &[u8]) -> Option<(Tok, usize)>
     requires { IsTrue (is_ascii_digit (slice_index bytes.now 0)) }
     ensures { MatchOption result (BeginsBig bytes.now) (λ found. IsFront found.0 found.1 bytes.now) }
@@ -55,7 +55,7 @@ fn front_number(bytes: &[u8]) -> Option<(Tok, usize)>
     Some((Tok::Number(number), length))
 }
 
-// The sign at the beginning, or `None` where no token begins there.
+// The sign at the beginning, or `None` if no token begins there.
 fn front_mark(bytes: &[u8]) -> Option<(Tok, usize)>
     requires no_word { IsFalse (begins_word (slice_index bytes.now 0)) }
     requires no_digit { IsFalse (is_ascii_digit (slice_index bytes.now 0)) }

@@ -62,7 +62,7 @@ pub enum Key {
     All,
 }
 
-// The reserved word with this text, or `None` where there is none.
+// The reserved word with this text, or `None` if there is none.
 pub(crate) fn find_key(bytes: &[u8]) -> Option<Key>
     ensures { MatchOption result
         ((k : Key) → key_text k ≢ bytes.now)

@@ -10,8 +10,8 @@ use crate::token::{Tok, Token};
 use std::alloc::{AllocError as OutOfMemory, Global};
 
 /// The tokens of a query's text: at each place the longest that begins there, with blanks (space, tab, LF, CR) between
-/// them where there are any. The first faulty place is refused: `BadByte` where the byte there is no blank and begins no
-/// token, `BigNumber` where the digits there spell more than 9223372036854775807.
+/// them if there are any. The first faulty place is an error: `BadByte` if the byte there is no blank and begins no
+/// token, `BigNumber` if the digits there spell more than 9223372036854775807.
 pub fn lex(alloc: Global, bytes: &[u8]) -> Result<Vec<Token>, LexFault>
     ensures tokens { IfOk result (λ tokens. AreTokens 0 bytes.now tokens.items) }
     ensures faulty { IfErr result (λ fault. fault ≢ LexFault.OutOfMemory → IsFaultyAt 0 bytes.now fault) }

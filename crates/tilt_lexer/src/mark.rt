@@ -74,7 +74,7 @@ pub(crate) fn mark_text(mark: Mark) -> &'static [u8]
     }
 }
 
-// The longest sign at the beginning of the bytes, or `None` where there is none.
+// The longest sign at the beginning of the bytes, or `None` if there is none.
 pub(crate) fn find_mark(bytes: &[u8]) -> Option<Mark>
     ensures { MatchOption result
         ((m : Mark) (more : List ℕ) → bytes.now ≢ mark_text m ++ more)

@@ -25,7 +25,7 @@ impl Model for Name {
 }
 
 impl Name {
-    /// The name with these bytes, or `None` where they aren't a word.
+    /// The name with these bytes, or `None` if they aren't a word.
     pub fn read(alloc: Global, bytes: &[u8]) -> Result<Option<Name>, OutOfMemory>
         ensures { IfOk result (λ name. MatchOption name
             (¬ (IsWord bytes.now))

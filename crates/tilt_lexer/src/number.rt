@@ -16,7 +16,7 @@ pub(crate) fn digits_length(bytes: &[u8]) -> usize
         .count()
 }
 
-// The number that the digits spell, or `None` where it is 2 ^ 63 or more.
+// The number that the digits spell, or `None` if it is 2 ^ 63 or more.
 pub(crate) fn digits_value(digits: &[u8]) -> Option<i64>
     requires { IsDigits digits.now }
     ensures { SomeIff result (digits_value 10 digits.now < 2 ^ 63) (pos (digits_value 10 digits.now)) }

@@ -17,7 +17,7 @@ use tilt_base::{Grid, Span};
 use tilt_core::{Core, Def, Tree};
 
 /// Up to which tick the output of a query is known, over inputs that are known up to these ticks (none: for ever). `OutOfMemory` comes
-/// if memory is refused, and for no other reason.
+/// if memory runs out, and for no other reason.
 pub(crate) fn query_horizon(
     alloc: Global,
     core: &Core,
@@ -135,7 +135,7 @@ fn grid_horizon(grid: Grid, horizon: Option<i128>) -> Option<i128>
     Some(floor(grid, horizon?))
 }
 
-// The greatest grid point that isn't above the tick.
+// The largest grid point that isn't above the tick.
 fn floor(grid: Grid, tick: i128) -> i128
     requires low { neg_ℤ (pos (2 ^ 80)) ≤ℤ tick }
     requires high { tick ≤ℤ pos (2 ^ 80) }

@@ -7,7 +7,7 @@
 //!
 //! - `new` starts with the empty feed, and with no snapshot returned.
 //! - `take` of an event that is allowed goes on to the feed after it. If the event isn't allowed, it returns the first rule that is
-//!   broken, and nothing changes. Nothing changes either if memory is refused. `fault` returns that rule without taking the event.
+//!   broken, and nothing changes. Nothing changes either if memory runs out. `fault` returns that rule without taking the event.
 //! - `next` returns the snapshot of `printed` that comes after the first `given`, and `given` is one higher then. It returns `None` if
 //!   there is no such snapshot.
 //!
@@ -20,7 +20,7 @@
 //! when the engine forgets. Then it keeps what is needed at that moment (`needed` of `tilt_engine`), and its room is at most twice that, or
 //! `FEW` (clause `bounded`). An event adds at most two rows.
 //!
-//! If memory is refused in `next` or `begun`, each later call of them reports the same.
+//! If memory runs out in `next` or `begun`, each later call of them reports the same.
 #![tactic(auto)]
 
 mod horizon;

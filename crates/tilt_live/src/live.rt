@@ -31,7 +31,7 @@ pub struct Live {
 }
 
 impl Live {
-    /// The live engine of a query before the first event. `OutOfMemory` comes if memory is refused, and for no other reason.
+    /// The live engine of a query before the first event. `OutOfMemory` comes if memory runs out, and for no other reason.
     pub fn new(alloc: Global, accepted: Accepted) -> Result<Live, OutOfMemory>
         ensures live { IfOk result (λ live. IsLiveOf live accepted (empty_feed (length accepted.core.inputs)) 0) }
         ensures room { IfOk result (λ live. room_of_live live ≡ FEW) }
@@ -65,7 +65,7 @@ impl Live {
     }
 
     /// Takes an event. `Fault` comes exactly if the event isn't allowed: it has the first rule that the event breaks, and nothing
-    /// changes. `OutOfMemory` comes if memory is refused for an event that is allowed, and nothing changes either.
+    /// changes. `OutOfMemory` comes if memory runs out for an event that is allowed, and nothing changes either.
     pub fn take(&mut self, event: Event) -> Result<(), TakeError>
         ensures taken { (accepted : AcceptedParts) (feed : Feed) (given : ℕ) → IsLiveOf self.old accepted feed given
             → HasTaken result event feed (λ later. IsLiveOf self.new accepted later given) }
@@ -80,7 +80,7 @@ impl Live {
     }
 
     /// The next snapshot of what may be printed after the events that were taken, or `None` if all of it was returned. `OutOfMemory`
-    /// comes if memory is refused in this call or was refused in an earlier call of `next` or `begun`.
+    /// comes if memory ran out in this call or in an earlier call of `next` or `begun`.
     pub fn next(&mut self) -> Result<Option<Snap>, OutOfMemory>
         requires { IsLive self.old }
         ensures next { (accepted : AcceptedParts) (feed : Feed) (given : ℕ) → IsLiveOf self.old accepted feed given
@@ -105,8 +105,8 @@ impl Live {
     }
 
     /// The start and the value of the snapshot that has begun after those that may be printed, if all of those were returned. Both are
-    /// final, and its end isn't known yet. `None` comes if no snapshot has begun. `OutOfMemory` comes if memory is refused in this call
-    /// or was refused in an earlier call of `next` or `begun`.
+    /// final, and its end isn't known yet. `None` comes if no snapshot has begun. `OutOfMemory` comes if memory ran out in this call
+    /// or in an earlier call of `next` or `begun`.
     pub fn begun(&mut self) -> Result<Option<(i64, Cell)>, OutOfMemory>
         requires { IsLive self.old }
         ensures begun { (accepted : AcceptedParts) (feed : Feed) (given : ℕ) → IsLiveOf self.old accepted feed given

@@ -54,7 +54,7 @@ impl LiveRun {
 
     /// Takes the next piece of the feed: it writes what the lines that end in it make final, and reports the bad ones of them. `BadLine`
     /// comes if the run is strict and one of them is bad, `WriteFault` only if the count of the port's write faults rose, and
-    /// `OutOfMemory` if memory is refused. After an error the run is over.
+    /// `OutOfMemory` if memory runs out. After an error the run is over.
     pub fn take<P: Port, E: Sink>(
         &mut self,
         piece: &[u8],

@@ -17,7 +17,7 @@ use tilt_syntax::{Query, print};
 use tilt_text::{put, put_number};
 use tilt_watermarks::Options;
 
-/// Appends the spelling of a state to a text: `tilt live 1`, and what `specs/Spelling` says. If memory is refused, what was there before is
+/// Appends the spelling of a state to a text: `tilt live 1`, and what `specs/Spelling` says. If memory runs out, what was there before is
 /// still there, and a part of the spelling may be after it.
 pub fn encode(alloc: Global, state: &LiveState, text: &mut Vec<u8>) -> Result<(), OutOfMemory>
     ensures { OnOk result (text.new.items ≡ text.old.items ++ spelled state.now) }
@@ -97,7 +97,7 @@ fn put_place(text: &mut Vec<u8>, progress: Progress) -> Result<(), OutOfMemory>
     put_flag(text, b"finished", progress.finished)
 }
 
-// Appends the lines of the greatest watermarks.
+// Appends the lines of the largest watermarks.
 fn put_marks(text: &mut Vec<u8>, progress: Progress) -> Result<(), OutOfMemory>
     ensures { OnOk result (text.new.items ≡ text.old.items ++ marks_lines progress) }
 {

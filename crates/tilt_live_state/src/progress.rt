@@ -17,7 +17,7 @@ pub struct Progress {
     pub shown: Option<i64>,
     /// Whether the feed is finished.
     pub finished: bool,
-    /// The greatest watermark that lines have given to any input, if they have given one.
+    /// The largest watermark that lines have given to any input, if they have given one.
     pub greatest: Option<i64>,
     /// The same if the lateness isn't taken off.
     pub latest: Option<i64>,

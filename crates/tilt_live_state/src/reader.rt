@@ -178,7 +178,7 @@ impl<'a> Reader<'a> {
         Some((from, shown, finished))
     }
 
-    // The greatest watermark, and the same if the lateness isn't taken off.
+    // The largest watermark, and the same if the lateness isn't taken off.
     fn marks(&mut self) -> Option<(Option<i64>, Option<i64>)>
         ensures { Reads (marks_at self.old) result self.new }
     {

@@ -9,7 +9,7 @@ use tilt_code::Code;
 use tilt_stream::{Rows, SnapList};
 
 /// The run of a code on the rows of its inputs: the list of the buffer of its last loop. There is one list of rows for each
-/// input, in the order of the code. `OutOfMemory` comes where memory is refused, and for no other reason.
+/// input, in the order of the code. `OutOfMemory` comes if memory runs out, and for no other reason.
 pub fn run_code(alloc: Global, code: &Code, inputs: &[Rows]) -> Result<SnapList, OutOfMemory>
     requires inputs { length inputs.now ≡ length code.now.inputs }
     ensures run { IfOk result (λ list. list ≡ run_of code.now inputs.now) }

@@ -37,7 +37,7 @@ pub enum ReadHeaderFault {
     /// The header is bad.
     #[error("{0}")]
     BadHeader(HeaderFault),
-    /// Memory was refused.
+    /// Memory ran out.
     #[error("out of memory")]
     OutOfMemory,
 }
@@ -94,7 +94,7 @@ pub enum ReadLineFault {
     /// The line says nothing.
     #[error("{0}")]
     BadLine(LineFault),
-    /// Memory was refused.
+    /// Memory ran out.
     #[error("out of memory")]
     OutOfMemory,
 }

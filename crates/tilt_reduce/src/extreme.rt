@@ -1,4 +1,4 @@
-// The least and the greatest number.
+// The smallest and the largest number.
 ghost use Rattle.std.specs.Prelude.{◌≡◌};
 ghost use Rattle.tilt_base.specs.Reduce.{reduce};
 ghost use Rattle.tilt_base.specs.declared.reducer.Reducer.TheVariants.{Max, Min};
@@ -7,7 +7,7 @@ use crate::merge::Merge;
 use crate::reduction::Reduction;
 use tilt_base::Cell;
 
-/// The least number.
+/// The smallest number.
 pub struct MinR;
 
 impl Reduction for MinR {
@@ -42,7 +42,7 @@ impl Merge for MinR {
     }
 }
 
-/// The greatest number.
+/// The largest number.
 pub struct MaxR;
 
 impl Reduction for MaxR {

@@ -52,7 +52,7 @@ impl SumAndCount {
     }
 }
 
-/// The exact sum: null where 64 bits don't hold it.
+/// The exact sum: null if 64 bits don't hold it.
 pub struct SumR;
 
 impl Reduction for SumR {

@@ -55,7 +55,7 @@ impl TrueCount {
     }
 }
 
-/// 1 where a number is true, else 0.
+/// 1 if a number is true, else 0.
 pub struct AnyR;
 
 impl Reduction for AnyR {
@@ -93,7 +93,7 @@ impl Merge for AnyR {
     }
 }
 
-/// 1 where every number is true, else 0.
+/// 1 if every number is true, else 0.
 pub struct AllR;
 
 impl Reduction for AllR {

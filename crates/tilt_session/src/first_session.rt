@@ -18,7 +18,7 @@ use tilt_stream::{Rows, SnapList};
 use tilt_syntax::Query;
 
 /// The first session of a query, up to a cut for each input: what is printed by then, and the checkpoint there. The rows of an input are
-/// those that start below its cut, one list for each. `OutOfMemory` comes where memory is refused, and for no other reason.
+/// those that start below its cut, one list for each. `OutOfMemory` comes if memory runs out, and for no other reason.
 pub fn start(
     alloc: Global,
     query: Query,

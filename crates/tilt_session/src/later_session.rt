@@ -25,9 +25,9 @@ use tilt_compiler::Accepted;
 use tilt_stream::{Rows, SnapList};
 
 /// A session after a checkpoint: what is printed newly, and where the session ends by cuts its own checkpoint. The rows of an input are
-/// those from its old cut on and, where there is one, below its new one, one list for each. Whatever the rows before them were, they need
+/// those from its old cut on and, if there is one, below its new one, one list for each. Whatever the rows before them were, they need
 /// not be there again: `law` says that the sessions print together, and leave, what one session does on all rows. `OutOfMemory` comes
-/// where memory is refused, and for no other reason.
+/// if memory runs out, and for no other reason.
 pub fn resume(
     alloc: Global,
     checkpoint: Checkpoint,

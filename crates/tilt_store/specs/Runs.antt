@@ -54,7 +54,7 @@ last_state state (Crash None ∷ events) = last_state state events
 last_state state (Crash (Some next) ∷ events) = last_state next events
 
 -- a folder was opened, a run followed, and the folder holds what was there at first with each committed piece once, and the last
--- commit's state: whatever a crash leaves of it then, a start goes on from just this
+-- commit's state. Whatever a crash leaves of it then, a start goes on from just this
 abbrev pub ExactlyOnce : List ℕ → Kept → List Event → Type 0
 ExactlyOnce initial first events =
     (state : List ℕ) (start end c : Kept) → IsReopened initial first start state → Run initial events start end → SameCommit end c

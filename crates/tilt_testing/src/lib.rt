@@ -1,7 +1,7 @@
 //! What the tests of several crates are made with: texts, queries and cores from their text, and series from pieces.
 //!
 //! What comes in is what the table of a test has; what goes out is what the tested calls take, or a `Fail`, which ends the
-//! test. Only crates of tests stand on it.
+//! test. Only crates of tests depend on it.
 #![tactic(auto)]
 
 mod pieces;

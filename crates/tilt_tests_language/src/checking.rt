@@ -91,7 +91,7 @@ const CORES: &[(&str, &str)] = &[
          One(IsNull, Read { source: 0, offset: 0 })), Const(0)); \
          Two(When, Read { source: 0, offset: 0 }, Read { source: 1, offset: 0 }); over 0 5; ",
     ),
-    // The greatest period, and the widest span.
+    // The largest period, and the widest span.
     (
         "emit 1 over (0, 1000000000001] every 1000000000001;",
         "Const(1); over 0 1000000000001; every 1000000000001; ",
@@ -100,7 +100,7 @@ const CORES: &[(&str, &str)] = &[
         "emit 1 over (-4000000000000000000, 4000000000000000000];",
         "Const(1); over -4000000000000000000 4000000000000000000; ",
     ),
-    // Grids with an offset, up to the greatest, and bounds on them at and below 0.
+    // Grids with an offset, up to the largest, and bounds on them at and below 0.
     (
         "let a = 1 every 2 from 1; emit 1 over (-3, 12] every 5 from 2;",
         "Const(1); every 2; from 1; Const(1); over -3 12; every 5; from 2; ",

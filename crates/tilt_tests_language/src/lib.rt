@@ -1,8 +1,8 @@
-//! Tests of the language: numbers and operators, the tokens of a text, its tree, its core, what the core means, how far it
-//! looks, and how it is planned and explained.
+//! Tests of the language: numbers and operators, the tokens of a text, its tree, its core, and what the core means. They also
+//! test its look-back and look-ahead, and how it is planned and explained.
 //!
-//! The expected values were worked out by hand from the rules of the language: tables of texts with their tokens, trees,
-//! cores and faults, and queries on small series with the snapshots that they mean.
+//! The expected values were worked out by hand from the rules of the language. They are tables of texts with their tokens,
+//! trees, cores and faults, and queries on small series with the snapshots that they mean.
 #![tactic(auto)]
 
 #[cfg(test)]

@@ -9,7 +9,7 @@ pub struct Case<'a> {
     pub want: &'a [Piece],
 }
 
-// The greatest over the last four ticks of what is one more.
+// The largest over the last four ticks of what is one more.
 const ONE_MORE: &str =
     "tilt 1\ninput x\nloop 0 8 1 0\nmap\nr0 = cell\nr1 = const 1\nr2 = add r0 r1\nend\nr0 = win max b0 -4 0 m0\nend\n";
 
@@ -36,12 +36,12 @@ const LEAPS: &str = "tilt 1\ninput x\nloop 0 10 5 0\nr0 = win sum b0 -2 0\nend\n
 const ONE_BRANCH: &str =
     "tilt 1\ninput x\ninput y\nloop 0 6 1 0\nr0 = port b0 -1\nr1 = port b1 1\nr2 = const 1\nr3 = if r2 r0 r1\nend\n";
 
-// A loop up to the greatest time, and one that looks one tick past it.
+// A loop up to the largest time, and one that looks one tick past it.
 const AT_THE_END: &str =
     "tilt 1\nloop 4499999999999999990 4500000000000000000 1 0\nr0 = const 7\nend\n\
     loop 4499999999999999998 4500000000000000000 1 0\nr0 = port b0 1\nend\n";
 
-// Both loops go from the least time to the greatest, and the second looks as far as any may, on the widest grid.
+// Both loops go from the smallest time to the largest, and the second looks as far as any may, on the widest grid.
 const ALL_TIME: &str =
     "tilt 1\nloop -4500000000000000000 4500000000000000000 1 0\nr0 = const 7\nend\n\
     loop -4500000000000000000 4500000000000000000 1000000000001 1000000000000\n\

@@ -27,7 +27,7 @@ const TAKEN: &[&str] = &[
     "cut 5\nopen 2\nlast none rows 0\nend\n",
     "cut 5\nopen 2\nlast 2 rows 0\nend\n",
     "cut 5\nopen 2\nlast -3999999999999999999 rows 0\nend\n",
-    // A cut below, at the ends of, and above the output; the least and the greatest cut.
+    // A cut below, at the ends of, and above the output; the smallest and the largest cut.
     "cut -7\nopen none\nlast none rows 0\nend\n",
     "cut 0\nopen none\nlast -1 rows 1\n-2,-1,3\nend\n",
     "cut 1\nopen 0\nlast none rows 0\nend\n",
@@ -149,7 +149,7 @@ const TWO_TAKEN: &[&str] = &[
 
 // What comes after it, and is rejected.
 const TWO_REFUSED: &[&str] = &[
-    // The first cut isn't the least: too high, too low, the greatest.
+    // The first cut isn't the smallest: too high, too low, the largest.
     "cut 6\nopen 4\ncut 8 last none rows 0\ncut 5 last none rows 0\nend\n",
     "cut 4\nopen 3\ncut 8 last none rows 0\ncut 5 last none rows 0\nend\n",
     "cut 8\nopen 4\ncut 8 last none rows 0\ncut 5 last none rows 0\nend\n",

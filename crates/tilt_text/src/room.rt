@@ -4,7 +4,7 @@ ghost use Rattle.std.specs.Fmt.{signed_decimal};
 
 use itoa::Buffer;
 
-/// Writes a piece after the first `at` bytes, and answers where it ends.
+/// Writes a piece after the first `at` bytes, and returns where it ends.
 #[inline]
 pub fn append(room: &mut [u8; 64], at: usize, piece: &[u8]) -> usize
     requires { at + length piece.now ≤ 64 }
@@ -16,7 +16,7 @@ pub fn append(room: &mut [u8; 64], at: usize, piece: &[u8]) -> usize
     end
 }
 
-/// Writes a number in shortest decimal after the first `at` bytes, and answers where it ends.
+/// Writes a number in shortest decimal after the first `at` bytes, and returns where it ends.
 #[inline]
 pub fn append_number(room: &mut [u8; 64], at: usize, number: i64) -> usize
     requires { at + 20 ≤ 64 }

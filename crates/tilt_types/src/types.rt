@@ -11,7 +11,7 @@ use tilt_base::{Op1, Op2, Reducer};
 use tilt_lexer::Name;
 use tilt_syntax::Expr;
 
-/// The type of the expression over the names that were declared, where it has one.
+/// The type of the expression over the names that were declared, if it has one.
 pub fn type_of(declared: &[Declared], expr: &Expr) -> Option<ValueType>
     ensures { result ≡ type_of declared.now (expr_tree expr.now) }
 {

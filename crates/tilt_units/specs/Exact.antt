@@ -51,7 +51,7 @@ StaysWithin leaf (Two op a b) =
     StaysWithin leaf a × StaysWithin leaf b × (apply2 op (whole_cell leaf a) (whole_cell leaf b) ≡ wide2 op (whole_cell leaf a) (whole_cell leaf b))
 StaysWithin leaf (If c a b) = StaysWithin leaf c × StaysWithin leaf a × StaysWithin leaf b
 
--- the leaves of whole numbers represent the exact ones: a number for itself, a reading or a reducer at the scale that it has
+-- the leaves of whole numbers represent the exact ones: a number itself, a reading or a reducer at the scale that it has
 pub record LeavesStand (sources : List Quantity) (whole : CoreLeaf → Option ℤ) (exact : UnitLeaf → Option Fraction) : Type 0 where
   pub constant : (n : ℤ) → whole (Const n) ≡ Some n
   pub literal : (d : Decimal) → exact (Literal d) ≡ Some (parts d.number d.scale)

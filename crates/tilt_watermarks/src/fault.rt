@@ -10,7 +10,7 @@ pub enum TakeFault {
     /// It overlaps a row or a value of its input that is held.
     #[error("it overlaps one that is held")]
     Overlap,
-    /// It starts too far above the greatest end.
+    /// It starts too far above the largest end.
     #[error("it is too far ahead")]
     Ahead,
 }
@@ -21,7 +21,7 @@ pub enum TakeError {
     /// The line isn't taken.
     #[error("{0}")]
     Fault(TakeFault),
-    /// Memory was refused.
+    /// Memory ran out.
     #[error("out of memory")]
     OutOfMemory,
 }

@@ -12,7 +12,7 @@ use std::alloc::AllocError as OutOfMemory;
 use tilt_feed::Event;
 use tilt_feed_line::Line;
 
-// The inputs follow a line that fits and whose times are in range, by events for which there is room. If memory is refused, nothing
+// The inputs follow a line that fits and whose times are in range, by events for which there is room. If memory runs out, nothing
 // changes.
 pub(crate) fn follow(
     lateness: Option<u64>,
@@ -57,7 +57,7 @@ pub(crate) fn is_end(line: Line) -> bool
     }
 }
 
-// The greatest watermark after a line whose times are in range.
+// The largest watermark after a line whose times are in range.
 pub(crate) fn greatest_after(
     lateness: Option<u64>,
     line: Line,
@@ -73,7 +73,7 @@ pub(crate) fn greatest_after(
     }
 }
 
-// The greater one of a watermark and the greatest before it.
+// The greater one of a watermark and the largest before it.
 fn greater(greatest: Option<i64>, tick: i64) -> i64
     ensures { result ≡ greater greatest tick }
 {

@@ -115,7 +115,7 @@ impl Lane {
         }
     }
 
-    // Takes an update under lateness, which has to fit. If memory is refused, nothing changes.
+    // Takes an update under lateness, which has to fit. If memory runs out, nothing changes.
     pub(crate) fn enter(
         &mut self,
         number: u32,
@@ -138,7 +138,7 @@ impl Lane {
         Ok(())
     }
 
-    // Holds an update, unless it is "known up to". If memory is refused, nothing changes.
+    // Holds an update, unless it is "known up to". If memory runs out, nothing changes.
     fn hold(&mut self, update: Update) -> Result<(), OutOfMemory>
         requires { fits self.old.edge.watermark (with_update update self.old.held) ≡ true }
         ensures edge { self.new.edge ≡ self.old.edge }

@@ -10,7 +10,7 @@
 //!   input's watermark is late, and one that overlaps what its input holds isn't taken.
 //! - `idle N`: after each line, each input becomes known up to `M - N` at least. So an input that is silent, or far behind, holds nothing
 //!   back for longer than that. Its own lines are late then if they start below `M - N`.
-//! - `ahead N`: a line that starts above the greatest end that lines have given by more than `N` isn't taken. So one wrong clock doesn't
+//! - `ahead N`: a line that starts above the largest end that lines have given by more than `N` isn't taken. So one wrong clock doesn't
 //!   make all lines after it late. The first line may start anywhere.
 //!
 //! The clauses of `Watermarks::take` say that it is this definition, and that nothing changes if a line isn't taken or if memory is

@@ -25,7 +25,7 @@ pub struct Watermarks {
 impl Watermarks {
     ghost use Rattle.tilt_watermarks.specs.Machine.{IsTaken, kept_by, options_of};
 
-    /// The watermarks of so many inputs before the first line. `OutOfMemory` comes if memory is refused, and for no other reason.
+    /// The watermarks of so many inputs before the first line. `OutOfMemory` comes if memory runs out, and for no other reason.
     pub fn new(alloc: Global, options: Options, inputs: u32) -> Result<Watermarks, OutOfMemory>
         ensures options { IfOk result (λ watermarks. options_of watermarks ≡ options) }
         ensures kept { IfOk result (λ watermarks. kept_by watermarks ≡ nothing_kept inputs) }
@@ -62,7 +62,7 @@ impl Watermarks {
     }
 
     /// Takes a line, and appends the events that it hands on. `Fault` comes exactly if the line isn't taken, and nothing changes.
-    /// `OutOfMemory` comes if memory is refused for a line that would be taken, and nothing changes either.
+    /// `OutOfMemory` comes if memory runs out for a line that would be taken, and nothing changes either.
     pub fn take(&mut self, line: Line, events: &mut Vec<Event>) -> Result<(), TakeError>
         ensures result { IsTaken result (line_fault (options_of self.old) (kept_by self.old) line) }
         ensures kept { kept_by self.new

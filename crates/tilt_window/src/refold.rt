@@ -37,7 +37,7 @@ impl<R: Reduction> Refold<R> {
         }
     }
 
-    /// Takes the first cell out: none exactly where there is none.
+    /// Takes the first cell out: none exactly if there is none.
     pub fn take_first(&mut self) -> Option<Cell>
         ensures { IsFirstTaken self.old result self.new }
     {

@@ -11,7 +11,7 @@ use tilt_base::Cell;
 use tilt_reduce::Merge;
 
 /// A window that keeps its cells. For each of the older ones it keeps the state of the numbers from it to the last of the older
-/// ones, and it keeps one state of the newer ones' numbers. If there are no older cells, `pop_front` turns all newer ones over, to be
+/// ones. It also keeps one state of the newer ones' numbers. If there are no older cells, `pop_front` turns all newer ones over, to be
 /// older ones, and can run out of memory then. So each cell is turned over once: a call takes one step on average, however many cells there
 /// are.
 #[derive(Drop)]

@@ -39,7 +39,7 @@ impl<R: Undo> Undoing<R> {
         }
     }
 
-    /// Takes the first cell out: none exactly where there is none.
+    /// Takes the first cell out: none exactly if there is none.
     pub fn take_first(&mut self) -> Option<Cell>
         ensures { IsFirstTaken self.old result self.new }
     {

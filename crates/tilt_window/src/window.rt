@@ -10,7 +10,7 @@ use tilt_base::Cell;
 /// A window over snapshots: the cells of those that it meets, in order, null ones included. Code that is generic over a
 /// window knows of it only what is here.
 pub trait Window {
-    /// Which reducer it answers.
+    /// Which reducer it computes.
     ghost reducer: { Reducer };
 
     /// The cells in the window, in order.
