@@ -1,4 +1,4 @@
-//! The program `tilt`: it hands its words with the files of the disk, the standard streams and four watchers to the one
+//! The program `tilt`: it hands its arguments with the files of the disk, the standard streams and four watchers to the one
 //! call that does the work.
 #![tactic(auto)]
 

@@ -21,7 +21,7 @@ use tilt_fuse::{LoopList, plan};
 use tilt_lower::lower;
 
 /// A query that was accepted: its core, how far it looks, and the plan of its loops, with fusion or without. The margins and the
-/// plan are those of the core. A clause sees it as plain data: the core, the margins, and whether definitions are fused.
+/// plan belong to the core. A clause sees it as plain data: the core, the margins, and whether definitions are fused.
 #[derive(Debug, Drop)]
 pub struct Accepted {
     core: Core,

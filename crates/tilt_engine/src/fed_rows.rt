@@ -27,7 +27,7 @@ pub struct FedRows {
 }
 
 impl FedRows {
-    /// The rows of so many inputs before the first event: none. `OutOfMemory` comes if memory runs out, and for no other reason.
+    /// The rows of this many inputs before the first event: none. `OutOfMemory` comes if memory runs out, and for no other reason.
     pub fn new(alloc: Global, inputs: usize) -> Result<FedRows, OutOfMemory>
         ensures { IfOk result (λ fed. (first : ℤ) → KeepsRowsOf fed first (empty_feed inputs)) }
     {

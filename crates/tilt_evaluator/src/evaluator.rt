@@ -32,7 +32,7 @@ pub fn evaluate_query(alloc: Global, core: &Core, inputs: &[Rows]) -> Result<Sna
 /// the whole series. There are none if `lo` isn't below `hi`. Any definitions may be given, also such as no query
 /// has: a source that isn't there is null, and a definition reads only the sources before it.
 ///
-/// This is slow, on purpose: the time grows with the number of ticks, and with that of the ticks in each window.
+/// This is slow, on purpose: the time grows with the number of ticks, and with the number of ticks in each window.
 pub fn evaluate(alloc: Global, source: &Source, lo: i64, hi: i64) -> Result<SnapList, OutOfMemory>
     requires few { length source.now.defs.now ≤ 2 ^ 32 }
     requires low { neg_ℤ WIDE ≤ℤ lo }

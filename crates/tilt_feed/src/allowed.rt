@@ -7,7 +7,7 @@ use crate::fault::EventFault;
 use crate::update::Update;
 use tilt_base::{Cell, T};
 
-/// The first rule that an update breaks, or `None` if it is allowed. The edge is that of the input which it is of, and `finished` says
+/// The first rule that an update breaks, or `None` if it is allowed. The edge is the one of its input, and `finished` says
 /// whether the feed is finished.
 pub fn update_fault(finished: bool, edge: Edge, update: Update) -> Option<EventFault>
     ensures { result ≡ update_fault finished edge update }

@@ -1,7 +1,7 @@
 //! One line of a live feed, from its bytes to what it says.
 //!
 //! What comes in is the bytes of a line and the names of a query's inputs. What goes out is what the line says, or the first cause why it
-//! says nothing. The clause `said` of `LineReader::read_line` says so over the definition `line_said`, and that of
+//! says nothing. The clause `said` of `LineReader::read_line` says so over the definition `line_said`, and the clause of
 //! `LineReader::read_keyed_line`, for feeds with keys, over `keyed_line_said`. Both are in `specs/Lines`.
 //!
 //! A line without its LF is one CSV record of one of these forms:

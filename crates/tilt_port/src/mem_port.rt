@@ -13,7 +13,7 @@ use std::marker::Model;
 use tilt_outside::Failed;
 
 /// A port that hands out the pieces that it was lent, and keeps what is written to it, in memory. It fails at the calls that it is given.
-/// Memory for so many bytes to be written, and for so many reads, is set aside when it is made: a read or a write takes none.
+/// Memory for this many bytes to be written, and for this many reads, is set aside when it is made: a read or a write takes none.
 #[derive(Drop)]
 pub struct MemPort {
     input: Vec<u8>,

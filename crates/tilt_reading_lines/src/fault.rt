@@ -17,7 +17,7 @@ pub enum Column {
     OfInput { input: u32 },
 }
 
-/// Why a header is bad. Columns are looked for in the order of `Column`, and those of inputs in the order of the inputs.
+/// Why a header is bad. Columns are looked for in the order of `Column`, and columns of inputs in the order of the inputs.
 #[derive(Clone, Copy, Debug, PartialEq, Eq, Error)]
 pub enum HeaderFault {
     /// The line isn't exactly one record.
@@ -62,7 +62,7 @@ impl From<AllocError> for ReadHeaderFault {
     }
 }
 
-/// Why a line says nothing. A reader returns the first cause in the order of this list, and of several bad values that of the first input.
+/// Why a line says nothing. A reader returns the first cause in the order of this list; of several bad values, the first input's.
 #[derive(Clone, Copy, Debug, PartialEq, Eq, Error)]
 pub enum LineFault {
     /// The line isn't exactly one record.

@@ -10,7 +10,7 @@ use crate::digits::{are_digits, carry_of};
 use crate::fault::{DateFault, DecimalFault};
 use jiff_core::civil::{Date, days_in_month};
 
-/// The moment that a date with a time and an offset is, in nanoseconds since 1970-01-01T00:00:00Z. The form is that of RFC 3339:
+/// The moment that a date with a time and an offset is, in nanoseconds since 1970-01-01T00:00:00Z. The form is from RFC 3339:
 /// `2026-03-01T08:00:00`, a fraction of a second if there is one, and `Z`, `z` or an offset such as `+01:00`. A blank may be in place of
 /// the `T`, and a comma in place of the point.
 /// The errors, in this order: `NotDate` for any other text; `NoSuchTime` if the calendar has no such day or a clock no such time or offset.

@@ -11,7 +11,7 @@ const FIRST: i128 = -62_135_596_800_000_000_000;
 
 const END: i128 = 253_402_300_800_000_000_000;
 
-/// Writes the date and the time of day in UTC at a moment, with so many decimals of a second, as `2026-03-01T08:00:00.250Z`. Further
+/// Writes the date and the time of day in UTC at a moment, with this many decimals of a second, such as `2026-03-01T08:00:00.250Z`. Further
 /// decimals are left out. It is written to the start of the room; the result is its length. `None` if the moment isn't in the years 1 to
 /// 9999.
 pub fn write_date(moment: i128, decimals: u8, room: &mut [u8; 64]) -> Option<usize>

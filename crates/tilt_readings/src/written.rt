@@ -21,7 +21,7 @@ pub fn write_decimal(value: i64, decimals: u8, room: &mut [u8; 64]) -> usize
     append_digits(room, point, size, decimals)
 }
 
-/// Writes so many digits of a number, the last ones, after the first `at` bytes; the result is where they end.
+/// Writes this many digits of a number, the last ones, after the first `at` bytes; the result is where they end.
 pub(crate) fn append_digits(room: &mut [u8; 64], at: usize, number: u64, count: u8) -> usize
     requires { at + count ≤ 64 }
     ensures end { result ≡ at + count }

@@ -13,7 +13,7 @@ pub trait Reduction {
     /// Which reducer it is.
     ghost reducer: { Reducer };
 
-    /// Whether the state is that of these numbers, added in this order.
+    /// Whether the state holds these numbers, added in this order.
     ghost Holds: { Self.State → List ℤ → Type 0 };
 
     /// The state of no numbers.

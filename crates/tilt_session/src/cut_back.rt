@@ -10,7 +10,7 @@ use crate::cut::Cut;
 use thiserror::Error;
 use tilt_checkpoint::{Checkpoint, Cuts, Kept};
 
-/// The cut of an input lies below that of the checkpoint. Both are ticks.
+/// The cut of an input is below the checkpoint's cut of it. Both are ticks.
 #[derive(Clone, Copy, Debug, Drop, PartialEq, Eq, Error)]
 #[error("the cut {new} lies below the cut {old} of the checkpoint")]
 pub struct CutBack {

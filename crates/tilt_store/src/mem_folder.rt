@@ -25,7 +25,7 @@ pub struct MemFolder {
 }
 
 impl MemFolder {
-    /// A folder with these bytes, all of them on the disk. After so many calls each further one fails.
+    /// A folder with these bytes, all of them on the disk. After this many calls each further one fails.
     pub fn new(
         alloc: Global,
         output: &[u8],
@@ -52,7 +52,7 @@ impl MemFolder {
     }
 
     /// What a crash leaves of the folder, seen after a restart. `tear` says what it leaves of changes of the output that no sync
-    /// followed, and `is_replaced` whether it leaves such replacements of the state. After so many calls each further one fails.
+    /// followed, and `is_replaced` whether it leaves such replacements of the state. After this many calls each further one fails.
     pub fn crash(
         &self,
         alloc: Global,

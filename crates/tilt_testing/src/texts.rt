@@ -8,7 +8,7 @@ pub fn name_text(name: &Name) -> Result<&str, Fail> {
     Ok(std::str::from_utf8(name.bytes())?)
 }
 
-/// A text that starts and ends so, with so many copies of a part between.
+/// A text that starts and ends like this, with this many copies of a part between.
 pub fn repeated(
     alloc: Global,
     start: &str,

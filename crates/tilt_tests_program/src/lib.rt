@@ -1,4 +1,4 @@
-//! Tests of what lies around a query: the words of a command line, watchers, and made runs.
+//! Tests of what lies around a query: the arguments of a command line, watchers, and made runs.
 //!
 //! The expected values were worked out by hand.
 #![tactic(auto)]

@@ -4,7 +4,7 @@ ghost use Rattle.tilt_text.specs.Spelled.{shortest};
 
 use tilt_base::read_shortest;
 
-/// The number whose shortest decimal the word is; `None` if it is that of no number within 64 bits.
+/// The number whose shortest decimal the word is; `None` if no number within 64 bits has it.
 pub fn shortest(word: &[u8]) -> Option<i64>
     ensures { result ≡ shortest word.now }
 {

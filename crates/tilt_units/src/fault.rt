@@ -5,7 +5,7 @@ use crate::place::Place;
 use std::alloc::AllocError;
 use thiserror::Error;
 
-/// Why a query has no translation. A place is that of the expression that has the fault.
+/// Why a query has no translation. A place is where the expression with the fault is.
 #[derive(Debug, Drop, PartialEq, Eq, Error)]
 pub enum ScaleFault {
     /// The expression reads a source that doesn't come before it.

@@ -25,7 +25,7 @@ pub struct Watermarks {
 impl Watermarks {
     ghost use Rattle.tilt_watermarks.specs.Machine.{IsTaken, kept_by, options_of};
 
-    /// The watermarks of so many inputs before the first line. `OutOfMemory` comes if memory runs out, and for no other reason.
+    /// The watermarks of this many inputs before the first line. `OutOfMemory` comes if memory runs out, and for no other reason.
     pub fn new(alloc: Global, options: Options, inputs: u32) -> Result<Watermarks, OutOfMemory>
         ensures options { IfOk result (λ watermarks. options_of watermarks ≡ options) }
         ensures kept { IfOk result (λ watermarks. kept_by watermarks ≡ nothing_kept inputs) }
