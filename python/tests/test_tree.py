@@ -5,7 +5,7 @@ import pathlib
 from typing import Callable
 
 import pytest
-from check.tree import architecture, edits, lines, listed, python_files, style, texts
+from check.tree import architecture, comments, edits, lines, listed, python_files, style, texts
 from shared import crates
 from shared.packages import has_module
 from shared.tally import Tally
@@ -462,6 +462,47 @@ def test_lines_of_a_text_are_sentences(tree):
     tree.write("python/tilt_data/two.py", "two = 2\n")
     tree.write("python/tilt_data/one.py", f'HELP = """each: {one}two.\nnow: {one}two.\nLast: {"one " * 31}"""\n')
     assert [fault.partition(", ")[0] for fault in tree.faults(texts.check_texts)] == ["python/tilt_data/one.py:1: a sentence of 32 words"]
+
+
+CODE_WITH_COMMENTS = """//! What comes in tells
+//! all.
+
+/// It is
+/// told.
+///
+/// - An item stands.
+// The answer was told.
+pub fn told() -> u64 { 1 } // it is told
+"""
+PROOF_WITH_COMMENTS = """-- A list that stands
+-- in one.
+told : Nat
+told = 1
+"""
+
+
+def test_words_of_comments(tree):
+    tree.write("crates/tilt_one/out/lib.rt", CODE_WITH_COMMENTS)
+    tree.write("crates/tilt_one/src/lib.rt", CODE_WITH_COMMENTS)
+    tree.write("crates/tilt_one/src/deep/two.rt", "/// Two.\npub fn two() {}\n")
+    tree.write("crates/tilt_one/proofs/One.antt", PROOF_WITH_COMMENTS)
+    place = "crates/tilt_one/src/lib.rt"
+    assert tree.faults(comments.check_comments) == [
+        f'{place}:1: "tells": write prints, reports, shows or means',
+        f'{place}:5: "told": write prints, reports, shows or means',
+        f'{place}:7: "stands": write is, is in or remains',
+        f'{place}:8: "told": write prints, reports, shows or means',
+        'crates/tilt_one/proofs/One.antt:1: "stands": write is, is in or remains',
+    ]
+
+
+def test_a_long_sentence_of_comments(tree):
+    many = "one " * 16
+    tree.write("crates/tilt_one/src/lib.rt", f"/// Of {many}\n/// and {many}.\n/// Last.\n\n/// {many}\npub fn one() {{}}\n// {many}\n")
+    tree.write("crates/tilt_one/specs/One.antt", f"-- {many}\n--\n-- {many}\n")
+    assert tree.faults(comments.check_comments) == [
+        'crates/tilt_one/src/lib.rt:1: a sentence of 34 words, "Of one one one one ..": split it'
+    ]
 
 
 CONFIGURATION = '[tool.black]\nline-length = 140\n[tool.mypy]\nstrict = true\nfiles = ["tools"]\n'

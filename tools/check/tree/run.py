@@ -6,7 +6,8 @@
 - crates.txt lists each crate with the libraries that it names, and with no others (`listed.py`).
 - Each edit that a proof has to refuse applies to the code, exactly once (`edits.py`).
 - No line is too long (`lines.py`).
-- The pages have no words of a list, and no long sentences (`style.py`), and so have the manual pages, `--help` and messages (`texts.py`).
+- The pages have no words of a list, and no long sentences (`style.py`). Nor do the manual pages, `--help` and messages (`texts.py`), and
+  the comments in crates/ (`comments.py`).
 
 What is wrong is printed with its file and its line, and how long each of these takes. The Debian packages that are missing are installed,
 if this user may. The last line is 'N passed, M failed', and the status is 1 if one failed."""
@@ -20,6 +21,7 @@ from typing import Callable
 sys.path.insert(0, os.path.dirname(os.path.dirname(os.path.dirname(os.path.realpath(__file__)))))
 
 from check.tree.architecture import check_map
+from check.tree.comments import check_comments
 from check.tree.edits import check_edits
 from check.tree.lines import check_lines
 from check.tree.listed import check_listed
@@ -36,6 +38,7 @@ CHECKS: dict[str, Callable[[str, Tally], None]] = {
     "crates.txt": check_listed,
     "style": check_style,
     "texts": check_texts,
+    "comments": check_comments,
     "Python": check_python,
 }
 
