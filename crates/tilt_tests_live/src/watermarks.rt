@@ -118,6 +118,34 @@ fn late_lines_come_out_in_order(rt: HostRuntime) -> Result<(), Fail> {
     Ok(())
 }
 
+// The lines of the test before, in a new process from the fourth on. What was held and handed on by then is as there.
+#[test]
+fn watermarks_go_on_from_what_was_kept(rt: HostRuntime) -> Result<(), Fail> {
+    let mut first = Watermarks::new(rt.alloc(), LATE, 2)?;
+    let mut events = Vec::new(rt.alloc());
+    first.take(value_line(0, 5), &mut events)?;
+    first.take(value_line(1, 30), &mut events)?;
+    first.take(value_line(0, 3), &mut events)?;
+    let kept = first.kept(rt.alloc())?;
+    assert_eq!(rt; kept.greatest, Some(21));
+    assert_eq!(rt; kept.latest, Some(31));
+    let mut watermarks = Watermarks::resume(rt.alloc(), LATE, &kept)?;
+    assert_eq!(rt; watermarks.held(), 3);
+    events.clear();
+    watermarks.take(value_line(0, 16), &mut events)?;
+    watermarks.take(Line::Finish, &mut events)?;
+    let expected = [
+        value_event(0, 3),
+        value_event(0, 5),
+        known(0, 7),
+        value_event(0, 16),
+        value_event(1, 30),
+        Event::Finish,
+    ];
+    assert_eq!(rt; events.as_slice(), expected.as_slice());
+    Ok(())
+}
+
 #[test]
 fn faults_say_what_is_wrong(rt: HostRuntime) -> Result<(), Fail> {
     let late = TakeError::Fault(TakeFault::NotAllowed(EventFault::Late));

@@ -4,6 +4,7 @@ pub mod Gathered
 pub mod Going
 pub mod Near
 pub mod Places
+pub mod Resuming
 pub mod Sorted
 pub mod Stepping
 pub mod Taking

@@ -71,7 +71,7 @@ count-set (x ∷ inputs) zero input now is =
     subst (λ (i : Waiting). (length now.held + held_count inputs) + length i.held ≡ (length x.held + held_count inputs) + length now.held) (same_Some x input is) (omega arith)
 count-set (x ∷ inputs) (suc number) input now is = let more = count-set inputs number input now is in omega (arith, more)
 
-length-none : (updates : List Update) → length updates ≡ 0 → updates ≡ []
+pub length-none : (updates : List Update) → length updates ≡ 0 → updates ≡ []
 length-none [] is = refl
 length-none (update ∷ updates) is = absurd (omega arith)
 

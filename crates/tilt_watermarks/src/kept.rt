@@ -24,6 +24,27 @@ impl Model for KeptInput {
     ghost view = { λ i. record { edge = i.edge; held = i.held.items } };
 }
 
+/// What is kept of all inputs, and of the feed. It is enough to go on from: a clause sees it as what the definition of a step keeps.
+#[derive(Drop)]
+pub struct KeptState {
+    /// What is kept of each input, in the order of their numbers.
+    pub inputs: Vec<KeptInput>,
+    /// Whether the feed is finished.
+    pub finished: bool,
+    /// The greatest watermark that lines have given to any input, if they have given one.
+    pub greatest: Option<i64>,
+    /// The same if the lateness isn't taken off.
+    pub latest: Option<i64>,
+}
+
+impl Model for KeptState {
+    ghost use Rattle.tilt_watermarks.specs.Steps.{Kept};
+
+    ghost Value = { Kept };
+
+    ghost view = { λ k. record { inputs = k.inputs.items; finished = k.finished; greatest = k.greatest; latest = k.latest } };
+}
+
 /// Whether updates are allowed one after another from a watermark. Open rows count for nothing: each update has to start at the watermark
 /// or after it.
 pub fn fits(watermark: i64, updates: &[Update]) -> bool

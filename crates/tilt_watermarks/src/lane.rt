@@ -1,6 +1,6 @@
 // What is kept of one input.
 ghost use Rattle.std.specs.Prelude.{◌≡◌, ◌≤◌, ◌<◌, ◌+◌, ◌++◌, not, [], length, take, true, Some, MatchOption, if◌then◌else◌};
-ghost use Rattle.std.specs.Prelude.{is_ok, vec_len};
+ghost use Rattle.std.specs.Prelude.{is_ok, vec_len, IfOk};
 ghost use Rattle.std.specs.List.{insert};
 ghost use Rattle.std.specs.Vec.{vec_capacity};
 ghost use Rattle.tilt_feed.specs.Events.{in_range};
@@ -10,6 +10,7 @@ ghost use Rattle.tilt_watermarks.specs.Held.{left, rising, start_of, turned, wit
 ghost use Rattle.tilt_watermarks.specs.Handing.{HandsOn, RestsAt};
 ghost use Rattle.tilt_watermarks.specs.Steps.{closed, events_at, raised, unknown};
 
+use crate::kept::KeptInput;
 use crate::updates::{fits_after, given_by, is_due, moved, start_of, watermark_after};
 use std::alloc::{AllocError as OutOfMemory, Global};
 use std::collections::VecDeque;
@@ -47,6 +48,34 @@ impl Lane {
             },
             held: VecDeque::new(alloc),
         }
+    }
+
+    // The input of which this is kept.
+    pub(crate) fn of(alloc: Global, input: &KeptInput) -> Result<Lane, OutOfMemory>
+        requires { fits input.now.edge.watermark input.now.held ≡ true }
+        ensures { IfOk result (λ lane. lane ≡ input.now) }
+    {
+        let mut held = Vec::new(alloc);
+        held.extend_from_slice(&input.held)?;
+        Ok(Lane {
+            edge: input.edge,
+            held: VecDeque::from_vec(held),
+        })
+    }
+
+    // What is kept of the input.
+    pub(crate) fn kept(&self, alloc: Global) -> Result<KeptInput, OutOfMemory>
+        ensures input { IfOk result (λ input. input ≡ self.now) }
+        ensures fits { fits self.now.edge.watermark self.now.held ≡ true }
+    {
+        let (front, back) = self.held.as_slices();
+        let mut held = Vec::new(alloc);
+        held.extend_from_slice(front)?;
+        held.extend_from_slice(back)?;
+        Ok(KeptInput {
+            edge: self.edge,
+            held,
+        })
     }
 
     // The edge.

@@ -1,12 +1,16 @@
 // What is kept of all inputs.
 ghost use Rattle.std.specs.Prelude.{◌≡◌, ◌≤◌, ◌<◌, ◌+◌, ◌++◌, ◌^◌, [], ◌∷◌, length, map, replicate, true, false, None, Some};
 ghost use Rattle.std.specs.Prelude.{Option, IfOk, if◌then◌else◌, is_ok, vec_len};
+ghost use Rattle.std.specs.List.{AllByRecursion};
 ghost use Rattle.std.specs.Vec.{vec_capacity};
 ghost use Rattle.tilt_feed.specs.Events.{in_range};
 ghost use Rattle.tilt_feed.specs.declared.event.Event.TheVariants as event;
+ghost use Rattle.tilt_watermarks.specs.Held.{Waiting};
+ghost use Rattle.tilt_watermarks.specs.Laws.{IsFit};
 ghost use Rattle.tilt_watermarks.specs.Steps.{closed, events_at, handed_at, held_count, input_at, inputs_entered};
 ghost use Rattle.tilt_watermarks.specs.Steps.{overlaps_at, raised, raising, unknown};
 
+use crate::kept::KeptInput;
 use crate::lane::Lane;
 use std::alloc::{AllocError as OutOfMemory, Global};
 use tilt_base::T;
@@ -31,6 +35,37 @@ impl Lanes {
             lanes.push(Lane::new(alloc))?;
         }
         Ok(Lanes { lanes, held: 0 })
+    }
+
+    // The inputs of which this is kept. Memory holds no more updates than a count of 64 bits.
+    pub(crate) fn of(alloc: Global, inputs: &[KeptInput]) -> Result<Lanes, OutOfMemory>
+        requires few { length inputs.now < 2 ^ 32 }
+        requires fit { (lateness : Option ℕ) × AllByRecursion (IsFit lateness) inputs.now }
+        ensures { IfOk result (λ lanes. lanes.lanes.items ≡ inputs.now) }
+    {
+        let mut lanes = Vec::new(alloc);
+        let mut held: usize = 0;
+        for input in inputs {
+            let Some(more) = held.checked_add(input.held.len()) else {
+                return Err(OutOfMemory);
+            };
+            held = more;
+            lanes.push(Lane::of(alloc, input)?)?;
+        }
+        Ok(Lanes { lanes, held })
+    }
+
+    // What is kept of each input.
+    pub(crate) fn kept(&self, alloc: Global) -> Result<Vec<KeptInput>, OutOfMemory>
+        ensures inputs { IfOk result (λ inputs. inputs.items ≡ self.now.lanes.items) }
+        ensures fit { (lateness : Option ℕ) → (lateness ≡ None → held_count self.now.lanes.items ≡ 0)
+            → IfOk result (λ inputs. AllByRecursion (IsFit lateness) inputs.items) }
+    {
+        let mut inputs = Vec::new(alloc);
+        for lane in &self.lanes {
+            inputs.push(lane.kept(alloc)?)?;
+        }
+        Ok(inputs)
     }
 
     // How many inputs there are.

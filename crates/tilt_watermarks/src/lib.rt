@@ -34,7 +34,7 @@ mod updates;
 mod watermarks;
 
 pub use fault::{TakeError, TakeFault};
-pub use kept::{KeptInput, fits};
+pub use kept::{KeptInput, KeptState, fits};
 pub use law::{basic_rule_holds, events_are_allowed, lines_are_sorted, watermarks_rise};
 pub use options::Options;
 pub use watermarks::Watermarks;

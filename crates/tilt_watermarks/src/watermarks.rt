@@ -1,10 +1,13 @@
 // Watermarks between the lines of a live feed and its events.
-ghost use Rattle.std.specs.Prelude.{◌≡◌, ◌++◌, None, if◌then◌else◌, is_ok, IfOk};
+ghost use Rattle.std.specs.Prelude.{◌≡◌, ◌++◌, ◌<◌, ◌^◌, None, if◌then◌else◌, is_ok, length, IfOk};
+ghost use Rattle.std.specs.List.{AllByRecursion};
+ghost use Rattle.tilt_watermarks.specs.Laws.{IsFit};
 ghost use Rattle.tilt_watermarks.specs.Steps.{held_count, line_fault, nothing_kept, taken};
 
 use crate::fault::{TakeError, TakeFault};
 use crate::fault_of::{fault_by, is_ahead, is_overlap, rule_broken};
 use crate::following::{follow, greatest_after, idle_tick, is_end};
+use crate::kept::KeptState;
 use crate::lanes::Lanes;
 use crate::options::Options;
 use std::alloc::{AllocError as OutOfMemory, Global};
@@ -37,6 +40,37 @@ impl Watermarks {
             finished: false,
             greatest: None,
             latest: None,
+        })
+    }
+
+    /// The watermarks that keep this. Whatever lines come, they do with them what those did that it was kept of. `OutOfMemory` comes if
+    /// memory is refused, and for no other reason.
+    pub fn resume(alloc: Global, options: Options, kept: &KeptState) -> Result<Watermarks, OutOfMemory>
+        requires few { length kept.now.inputs < 2 ^ 32 }
+        requires fit { AllByRecursion (IsFit options.lateness) kept.now.inputs }
+        ensures options { IfOk result (λ watermarks. options_of watermarks ≡ options) }
+        ensures kept { IfOk result (λ watermarks. kept_by watermarks ≡ kept.now) }
+    {
+        Ok(Watermarks {
+            options,
+            lanes: Lanes::of(alloc, &kept.inputs)?,
+            finished: kept.finished,
+            greatest: kept.greatest,
+            latest: kept.latest,
+        })
+    }
+
+    /// What they keep, so that others can go on from it. `OutOfMemory` comes if memory is refused, and for no other reason.
+    pub fn kept(&self, alloc: Global) -> Result<KeptState, OutOfMemory>
+        ensures kept { IfOk result (λ kept. kept ≡ kept_by self.now) }
+        ensures few { length (kept_by self.now).inputs < 2 ^ 32 }
+        ensures fit { IfOk result (λ kept. AllByRecursion (IsFit (options_of self.now).lateness) kept.inputs) }
+    {
+        Ok(KeptState {
+            inputs: self.lanes.kept(alloc)?,
+            finished: self.finished,
+            greatest: self.greatest,
+            latest: self.latest,
         })
     }
 
