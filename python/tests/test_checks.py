@@ -1,6 +1,7 @@
 """The checks of tools/: what they install, when a missing package is a failure, and which calls of the pages are worked out again."""
 from __future__ import annotations
 
+import dataclasses
 import os
 import pathlib
 import sys
@@ -9,8 +10,9 @@ import pytest
 from conftest import TOP
 from shared.tally import Tally
 
-from check import data, examples
+from check import data, examples, worked_feeds
 from check.faults import run as faults
+from check.feeds import line_text
 
 
 @pytest.fixture
@@ -181,3 +183,39 @@ def test_a_page_that_isnt_there_is_no_check(monkeypatch, capsys):
     monkeypatch.setattr(sys, "argv", ["examples", str(TOP / "docs" / "NONE.md")])
     assert examples.main() == 2
     assert capsys.readouterr().err == "examples: no such page: docs/NONE.md\n"
+
+
+def test_orders_keep_the_order_of_each_input():
+    assert list(worked_feeds.all_orders([2, 1])) == [[0, 0, 1], [0, 1, 0], [1, 0, 0]]
+    assert len(worked_feeds.some_orders([4, 4], 10)) == 70
+    few = worked_feeds.some_orders([5, 4], 10)
+    assert len(few) == 10 and all(sorted(order) == [0] * 5 + [1] * 4 for order in few)
+    assert worked_feeds.some_orders([9, 0], 10) == [[0] * 9]
+
+
+def test_rows_as_values_that_the_next_line_ends():
+    lines = worked_feeds.lines_by_values("x", [(0, 2, 5), (2, 3, 5), (4, 6, None), (6, 7, 1)])
+    assert [line_text(line) for line in lines] == ["x,0,,5", "x,2,,5", "x,3,,", "x,4,6,", "x,6,,1", "x,7,,"]
+
+
+def test_what_is_expected_of_worked_feeds():
+    worked = worked_feeds.Worked("input x; emit x over (0, 4];", {"x": [(0, 2, 5), (3, 4, 6)]}, "start,end,value\n0,2,5\n3,4,6\n", None)
+    (case,) = worked_feeds.cases_of(worked, False, 10)
+    assert case.wanted == [["0,2,5"], ["2,3,", "3,4,6"], []]
+    assert worked_feeds.text_of(case.wanted) == worked.out
+    # Rows from the cut on don't come.
+    (case,) = worked_feeds.cases_of(worked_feeds.Worked(worked.text, worked.rows, worked.out, 3), False, 10)
+    assert [line_text(line) for line in case.lines] == ["x,0,2,5", "x,,3,"]
+
+
+def test_worked_feeds_find_a_program_that_prints_nothing(tmp_path, capsys):
+    program = tmp_path / "silent"
+    program.write_text("#!/bin/sh\nwhile read -r line; do echo .; done\n")
+    program.chmod(0o755)
+    worked = worked_feeds.Worked("input x; emit x over (0, 4];", {"x": [(0, 2, 5)]}, "start,end,value\n0,2,5\n", None)
+    tally = Tally()
+    worked_feeds.check_worked(worked, False, str(program), 10, tally)
+    assert tally.failed == 2
+    assert "expected: ['0,2,5']\ncame: []" in capsys.readouterr().out
+    worked_feeds.check_worked(dataclasses.replace(worked, out="start,end,value\n0,1,5\n"), False, str(program), 10, tally)
+    assert tally.failed == 5
