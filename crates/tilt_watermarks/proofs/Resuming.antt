@@ -21,9 +21,10 @@ fit-at lateness (x ∷ inputs) (suc index) input are within is = fit-at lateness
 -- inputs are fit if what they hold is allowed, and if they hold nothing without lateness
 pub fit-all : (lateness : Option ℕ) (inputs : List Waiting) → (lateness ≡ None → held_count inputs ≡ 0) → AllByRecursion IsFitting inputs → AllByRecursion (IsFit lateness) inputs
 fit-all lateness [] none are = tt
-fit-all lateness (x ∷ inputs) none are =
-    (record { fits = are.0; none = λ is. length-none x.held (let all = none is in omega arith) },
-    fit-all lateness inputs (λ is. let all = none is in omega arith) are.1)
+fit-all lateness (x ∷ inputs) none are = (
+  record { fits = are.0; none = λ is. length-none x.held (let all = none is in omega arith) },
+  fit-all lateness inputs (λ is. let all = none is in omega arith) are.1,
+)
 
 -- without lateness they hold nothing
 pub count-fit : (inputs : List Waiting) → AllByRecursion (IsFit None) inputs → held_count inputs ≡ 0

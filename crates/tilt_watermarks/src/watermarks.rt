@@ -45,7 +45,11 @@ impl Watermarks {
 
     /// The watermarks that keep this. Whatever lines come, they do with them what those did that it was kept of. `OutOfMemory` comes if
     /// memory is refused, and for no other reason.
-    pub fn resume(alloc: Global, options: Options, kept: &KeptState) -> Result<Watermarks, OutOfMemory>
+    pub fn resume(
+        alloc: Global,
+        options: Options,
+        kept: &KeptState,
+    ) -> Result<Watermarks, OutOfMemory>
         requires few { length kept.now.inputs < 2 ^ 32 }
         requires fit { AllByRecursion (IsFit options.lateness) kept.now.inputs }
         ensures options { IfOk result (λ watermarks. options_of watermarks ≡ options) }
