@@ -1,6 +1,6 @@
 // What is kept of all inputs.
 ghost use Rattle.std.specs.Prelude.{◌≡◌, ◌≤◌, ◌<◌, ◌+◌, ◌++◌, ◌^◌, [], ◌∷◌, length, map, replicate, true, false, None, Some};
-ghost use Rattle.std.specs.Prelude.{Option, IfOk, if◌then◌else◌, is_ok, vec_len};
+ghost use Rattle.std.specs.Prelude.{ℕ, Option, IfOk, if◌then◌else◌, is_ok, vec_len};
 ghost use Rattle.std.specs.List.{AllByRecursion};
 ghost use Rattle.std.specs.Vec.{vec_capacity};
 ghost use Rattle.tilt_feed.specs.Events.{in_range};
@@ -37,19 +37,16 @@ impl Lanes {
         Ok(Lanes { lanes, held: 0 })
     }
 
-    // The inputs of which this is kept. Memory holds no more updates than a count of 64 bits.
+    // The inputs of which this is kept.
     pub(crate) fn of(alloc: Global, inputs: &[KeptInput]) -> Result<Lanes, OutOfMemory>
         requires few { length inputs.now < 2 ^ 32 }
         requires fit { (lateness : Option ℕ) × AllByRecursion (IsFit lateness) inputs.now }
         ensures { IfOk result (λ lanes. lanes.lanes.items ≡ inputs.now) }
     {
         let mut lanes = Vec::new(alloc);
-        let mut held: usize = 0;
+        let mut held = 0;
         for input in inputs {
-            let Some(more) = held.checked_add(input.held.len()) else {
-                return Err(OutOfMemory);
-            };
-            held = more;
+            held = count_with(held, input)?;
             lanes.push(Lane::of(alloc, input)?)?;
         }
         Ok(Lanes { lanes, held })
@@ -200,6 +197,13 @@ impl Lanes {
         events.push_reserved(Event::Finish);
         close_each(&mut self.lanes);
     }
+}
+
+// How many updates are held with those of one input more. No memory holds more than a count of 64 bits.
+fn count_with(held: usize, input: &KeptInput) -> Result<usize, OutOfMemory>
+    ensures { IfOk result (λ more. more ≡ held + length input.now.held) }
+{
+    held.checked_add(input.held.len()).ok_or(OutOfMemory)
 }
 
 // Makes each input known up to an end at least, by events for which there is room, and counts what is held.

@@ -55,9 +55,10 @@ impl Watermarks {
         ensures options { IfOk result (λ watermarks. options_of watermarks ≡ options) }
         ensures kept { IfOk result (λ watermarks. kept_by watermarks ≡ kept.now) }
     {
+        let lanes = Lanes::of(alloc, &kept.inputs)?;
         Ok(Watermarks {
             options,
-            lanes: Lanes::of(alloc, &kept.inputs)?,
+            lanes,
             finished: kept.finished,
             greatest: kept.greatest,
             latest: kept.latest,
@@ -70,12 +71,20 @@ impl Watermarks {
         ensures few { length (kept_by self.now).inputs < 2 ^ 32 }
         ensures fit { IfOk result (λ kept. AllByRecursion (IsFit (options_of self.now).lateness) kept.inputs) }
     {
+        let inputs = self.lanes.kept(alloc)?;
         Ok(KeptState {
-            inputs: self.lanes.kept(alloc)?,
+            inputs,
             finished: self.finished,
             greatest: self.greatest,
             latest: self.latest,
         })
+    }
+
+    /// What is asked of them.
+    pub fn options(&self) -> Options
+        ensures { result ≡ options_of self.now }
+    {
+        self.options
     }
 
     /// How many updates are held, of all inputs.
