@@ -1,6 +1,11 @@
+pub mod Ended
+pub mod Events
+pub mod Ever
 pub mod Fused
 pub mod Lives
 pub mod Loops
 pub mod Near
 pub mod Reaching
+pub mod Resuming
+pub mod Starting
 pub mod Ticks

@@ -1,6 +1,6 @@
 -- Each loop of the code of an accepted query ends where a query may look, or before.
-use Rattle.std.proofs.Common.{◌≡◌, ℕ, ◌+◌, ℤ, pos, ◌+ℤ◌, ◌-ℤ◌, ◌≤ℤ◌, Bool, true, false, if◌then◌else◌, List, [], ◌∷◌, length, map, get_or, Option, Some, None, Ok}
-use Rattle.std.proofs.Common.{refl, subst, sym, ◌∙◌, arith}
+use Rattle.std.proofs.Common.{◌≡◌, ℕ, ◌+◌, ℤ, pos, ◌+ℤ◌, ◌-ℤ◌, ◌≤ℤ◌, Bool, true, false, if◌then◌else◌, List, [], ◌∷◌, length, map, get_or, Option, Some, None}
+use Rattle.std.proofs.Common.{refl, subst, sym, arith}
 use Rattle.std.proofs.lemmas.Int.{ints, clamps}
 use Rattle.std.specs.Int.{int_min, int_max}
 use Rattle.std.specs.List.{AllByRecursion}
@@ -13,15 +13,13 @@ use Rattle.tilt_bounds.specs.Stretch.{cut_down, stretch_of}
 use Rattle.tilt_bounds.specs.declared.loop_span.LoopSpan.{LoopSpan}
 use Rattle.tilt_code.specs.Code.{CodeParts, LoopParts}
 use Rattle.tilt_compiler.specs.Accepted.{AcceptedParts, IsAccepted}
-use Rattle.tilt_compiler.specs.Compiled.{IsCodeOf}
-use Rattle.tilt_core.proofs.Last.{domain_of-stretch}
-use Rattle.tilt_core.specs.Core.{CoreParts, IsStretch, domain_of}
+use Rattle.tilt_core.specs.Core.{CoreParts}
 use Rattle.tilt_core.specs.CoreTree.{Definition}
 use Rattle.tilt_core.specs.Needs.{Need, no_margin}
 use Rattle.tilt_engine.specs.GoingOn.{IsNearCode}
 use Rattle.tilt_fuse.specs.FusedTree.{FusedTree, PlannedLoop}
 use Rattle.tilt_fuse.specs.Plan.{plan_of}
-use Rattle.tilt_lower.specs.Lowering.{buffer_of, loop_on, lowered, no_definition}
+use Rattle.tilt_lower.specs.Lowering.{buffer_of, code_of, loop_on, lowered, no_definition}
 
 -- a stretch that is cut down ends where it ended, or before
 cut-high_by : (start end lo hi : ℤ) (some : Bool) → end ≤ℤ hi
@@ -62,14 +60,9 @@ module _ (core : CoreParts) (margins : MarginsParts) (are : AreMargins margins) 
   all-near [] = tt
   all-near (l ∷ loops) = (lowered-near l, all-near loops)
 
-domain-high : (domain : Option Span) (span : Span) → domain ≡ Some span → IsStretch domain → span.end ≤ℤ T
-domain-high None span is stretch = absurd (cc is)
-domain-high (Some other) span is stretch = let same : other ≡ span = cc is in subst (λ (s : Span). s.end ≤ℤ T) same stretch.2
-
-pub near-code : (accepted : AcceptedParts) (code : CodeParts) → IsAccepted accepted → IsCodeOf accepted.core accepted.fuse code → IsNearCode code
-near-code accepted code valid is =
+-- so does each of a code for output up to the end of all times
+pub near-code : (accepted : AcceptedParts) (code : CodeParts) (lo hi : ℤ) → IsAccepted accepted → hi ≤ℤ T
+    → code ≡ code_of (plan_of accepted.core accepted.fuse) accepted.core accepted.margins lo hi → IsNearCode code
+near-code accepted code lo hi valid high is =
     let core = accepted.core in
-    let same : accepted.margins ≡ is.margins = (let e : ◌≡◌ (Ok accepted.margins) (Ok is.margins) = sym valid.near ∙ is.near in cc e) in
-    let are : AreMargins is.margins = subst AreMargins same valid.within in
-    let high = domain-high (domain_of core.defs) is.domain is.stretch (domain_of-stretch (length core.inputs) core.defs valid.valid.definitions) in
-    subst IsNearCode (sym is.is) (all-near core is.margins are (plan_of core accepted.fuse) is.domain.start is.domain.end high (plan_of core accepted.fuse))
+    subst IsNearCode (sym is) (all-near core accepted.margins valid.within (plan_of core accepted.fuse) lo hi high (plan_of core accepted.fuse))

@@ -1,3 +1,4 @@
 pub mod Laws
 pub mod Lives
+pub mod Resuming
 pub mod Ticks

@@ -12,7 +12,7 @@ use Rattle.tilt_stream.specs.Stream.{Stream}
 abbrev pub ends_or : ℤ → List Snapshot → ℤ
 ends_or lo list = unwrap_or (last_end list) lo
 
-ends_or-more : (lo : ℤ) (s : Snapshot) (list : List Snapshot) → ends_or lo (s ∷ list) ≡ ends_or s.end list
+pub ends_or-more : (lo : ℤ) (s : Snapshot) (list : List Snapshot) → ends_or lo (s ∷ list) ≡ ends_or s.end list
 ends_or-more lo s [] = refl
 ends_or-more lo s (r ∷ list) = unwrap-same (r ∷ list) lo s.end r list refl
   where

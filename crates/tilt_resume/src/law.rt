@@ -1,5 +1,5 @@
 // Laws of what is left of a feed.
-ghost use Rattle.std.specs.Prelude.{◌≡◌, List, Ok, drop, false, length};
+ghost use Rattle.std.specs.Prelude.{◌≡◌, ◌≤ℤ◌, List, Ok, drop, false, length};
 ghost use Rattle.std.specs.List.{AllByRecursion};
 ghost use Rattle.tilt_bounds.specs.Margins.{AreMargins, MarginsParts, margins_of};
 ghost use Rattle.tilt_core.specs.Core.{CoreParts, IsCore, emitted_number};
@@ -23,6 +23,8 @@ pub fn output_goes_on_from_what_is_left()
         → drop (length (printed core (fed core events))) (whole core (after_all more (fed core events)))
         ≡ snapshots (meaning_at_rest core (after_all more (left_feed core (resume_tick core (fed core events)) (fed core events)))
         (emitted_number core)) (resume_tick core (fed core events)) (output_domain core).end }
+    ensures rises { (core : CoreParts) (events more : List Event) → IsCore core → LooksNear core
+        → resume_tick core (fed core events) ≤ℤ resume_tick core (after_all more (fed core events)) }
     ensures restored { (inputs : List InputFeed) → AllByRecursion IsInOrder inputs
         → after_all (all_events 0 inputs) (empty_feed (length inputs)) ≡ record { inputs = inputs; finished = false } }
 {}

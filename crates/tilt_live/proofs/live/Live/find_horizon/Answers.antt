@@ -4,7 +4,7 @@ use Rattle.tilt_live.proofs.live.Live.find_horizon.Goals as goal
 pub query_horizon-requires : goal.query_horizon-requires
 query_horizon-requires c = record {
   each = live-many c.args.self.now c.core.result.now c.core.ensures.value c.deref.result.now c.in_ok-inputs.inputs.items c.deref.ensures.value c.in_ok-inputs.ensures
-      c.requires.0 c.requires.1 c.requires.2 c.requires.3;
+      c.requires.0 c.requires.1 c.requires.2 c.requires.3 c.requires.4;
 }
 
 pub returns : goal.returns

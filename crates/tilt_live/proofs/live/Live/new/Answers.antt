@@ -1,15 +1,15 @@
-use Rattle.std.proofs.Common.{refl}
-use Rattle.tilt_compiler.specs.Accepted.{IsAccepted}
-use Rattle.tilt_live.proofs.Lives.{new-live}
-use Rattle.tilt_live.proofs.Near.{near-code}
+use Rattle.std.proofs.Common.{FitsSigned, to_z-of_z, w64, ◌∙◌, ap, sym, rules}
+use Rattle.tilt_base.specs.declared.span.Span.{Span}
+use Rattle.tilt_live.proofs.Resuming.{new-lives, new-started}
+use Rattle.tilt_live.proofs.Starting.{domain-is}
 use Rattle.tilt_live.proofs.live.Live.new.Goals as goal
 
-pub new-requires : goal.new-requires
-new-requires c =
-    let valid : IsAccepted c.args.accepted = rw (← c.accepted.view_is) c.accepted.invariant.0 in
-    near-code c.args.accepted c.in_ok-code.code valid c.in_ok-code.ensures.code
+pub returns-clause-started : goal.returns-clause-started
+returns-clause-started c =
+    let domain = c.domain-start.result in
+    let fits : FitsSigned w64 domain.start = search rules in
+    let at = to_z-of_z fits ∙ sym (ap (λ (d : Span). d.start) (domain-is c.args.accepted.core domain c.domain-start.ensures.value)) in
+    new-started c.start.result c.args.accepted _ at c.domain-start.ensures.kept c.start.ensures.running c.start.ensures.tick
 
 pub returns-clause-live : goal.returns-clause-live
-returns-clause-live c =
-    let valid : IsAccepted c.args.accepted = rw (← c.accepted.view_is) c.accepted.invariant.0 in
-    new-live _ c.args.accepted c.in_ok-code.code refl refl refl valid c.in_ok-code.ensures.code c.in_ok-code.ensures.means c.in_ok-code.ensures.inputs c.in_ok-engine.ensures.engine
+returns-clause-live c = new-lives c.start.result c.args.accepted (returns-clause-started c)

@@ -20,15 +20,10 @@ show-requires g c =
     let core = is.0.core in
     let given = length (printed core (state_after is.1 core is.2).feed) in
     let taken = c.take_piece-taken.ensures.taken is.0 is.1 (number_of is.2) (state_after is.1 core is.2) (unfinished is.2) given is.3.after in
-    record {
-      live = inr (
-        is.0,
-        (state_taken is.1 core is.2 c.args.piece.now).feed,
-        given,
-        taken-live _ _ _ _ _ is.0 is.1 is.2 c.args.piece.now given c.take_piece-taken.new.self c.take_piece-taken.result
-            (not-lost c.take_piece-taken.result (sym c.if-is_lost.ensures)) taken,
-      );
-    }
+    let live =
+    taken-live _ _ _ _ _ is.0 is.1 is.2 c.args.piece.now given c.take_piece-taken.new.self c.take_piece-taken.result
+    (not-lost c.take_piece-taken.result (sym c.if-is_lost.ensures)) taken in
+    record { live = inr (is.0, live.code, live.left, live.returned, live.running) }
 
 pub returns-in_err-show-clause-stepped : goal.returns-in_err-show-clause-stepped
 returns-in_err-show-clause-stepped g c = λ accepted options bytes is.

@@ -4,7 +4,7 @@ use Rattle.tilt_live_run.proofs.live_run.LiveRun.take.Goals as goal
 
 pub returns-then-not-self-clause-adds : goal.returns-then-not-self-clause-adds
 returns-then-not-self-clause-adds g c = λ accepted options bytes is.
-    rw (← piece-at_once options accepted.core is.after.line_run.live.valid.valid bytes c.args.piece.now
+    rw (← piece-at_once options accepted.core is.after.line_run.live.running.valid.valid bytes c.args.piece.now
     (sym is.after.line_run.with_begun_is ∙ c.if-not-self.true)) (c.step.ensures.stepped accepted options bytes is).adds
 
 pub returns-then-not-self-clause-stops : goal.returns-then-not-self-clause-stops
