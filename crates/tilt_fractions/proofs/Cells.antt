@@ -19,7 +19,7 @@ zero_stands s n p h f =
     (same_order p.over (pos 0) n (pos 0) (pos s) p.under h f.under f.same none)
     (same_order (pos 0) p.over (pos 0) n (pos s) p.under h f.under none f.same)
 
-whole_stands : (n : ℤ) → StandsFor 1 n (parts n 1)
+pub whole_stands : (n : ℤ) → StandsFor 1 n (parts n 1)
 whole_stands n = record { under = omega (arith, ints); same = refl }
 
 pub truth_stands : (a b : Bool) → a ≡ b → CellStandsFor 1 (truth b) (exact_truth a)

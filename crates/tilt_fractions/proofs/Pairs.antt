@@ -106,7 +106,7 @@ once : (n : ℤ) → pos 1 *ℤ n ≡ n
 once n = suc_ℤ-*ℤ (pos 0) n ∙ ap (λ z. z +ℤ n) (zero-*ℤ n) ∙ +ℤ_idl n
 
 -- a quotient, if that of the scales is whole
-whole_quotient_stands : (s t u : ℕ) (n m : ℤ) (p q : Fraction) → pos 1 ≤ℤ pos t → pos 1 ≤ℤ pos u → u * t ≡ s
+pub whole_quotient_stands : (s t u : ℕ) (n m : ℤ) (p q : Fraction) → pos 1 ≤ℤ pos t → pos 1 ≤ℤ pos u → u * t ≡ s
     → StandsFor s n p → StandsFor t m q → StandsFor u (int_div n m) (quotient_in u p q)
 whole_quotient_stands s t u n m p q h i r f g =
     subst (λ z. StandsFor u (int_div z m) (quotient_in u p q)) (once n) (quotient_stands s t u 1 n m p q h i (omega (arith, r)) f g)
