@@ -1,5 +1,5 @@
 -- Operands that are brought to one scale represent the same fractions.
-use Rattle.std.proofs.Common.{◌≡◌, ℕ, ◌*◌, ◌/◌, ◌%◌, ◌==◌, ◌<◌, ◌^◌, ℤ, pos, negsuc, ◌*ℤ◌, ◌≤ℤ◌, Bool, true, false, if◌then◌else◌, Option, Some, None, Result, Ok, Err, int_div, int_rem, refl, sym, ap, ◌∙◌, subst, arith, nat_lt}
+use Rattle.std.proofs.Common.{◌≡◌, ℕ, ◌*◌, ◌/◌, ◌%◌, ◌==◌, ◌<◌, ◌^◌, ℤ, pos, negsuc, ◌*ℤ◌, ◌≤ℤ◌, Bool, true, false, if◌then◌else◌, List, Option, Some, None, Result, Ok, Err, int_div, int_rem, refl, sym, ap, ◌∙◌, subst, arith, nat_lt}
 use Rattle.std.specs.Ordering.{int_eq}
 use Rattle.std.proofs.Math.Nat.{div_self}
 use Rattle.std.proofs.lemmas.Bool.Decides.{nat_tests}
@@ -7,11 +7,14 @@ use Rattle.std.proofs.lemmas.Int.{ints, quot-rem}
 use Rattle.tilt_base.specs.Expression.{Leaf, Two}
 use Rattle.tilt_base.specs.Number.{within_64_bits}
 use Rattle.tilt_base.specs.declared.operator.Op2.TheVariants.{Mul}
-use Rattle.tilt_core.specs.CoreTree.{CoreLeaf, CoreTree, Const}
+use Rattle.tilt_core.specs.CoreTree.{CoreTree, Const}
+use Rattle.tilt_core.specs.Meaning.{body_of}
 use Rattle.tilt_fractions.specs.Exact.{CellStandsFor, wide2}
 use Rattle.tilt_fractions.specs.Fraction.{Fraction, StandsFor, parts}
 use Rattle.tilt_fractions.proofs.Pairs.{raised_cells_stand}
-use Rattle.tilt_units.specs.Exact.{StaysWithin, scale_in, whole_cell}
+use Rattle.tilt_stream.specs.Stream.{Stream}
+use Rattle.tilt_units.specs.Exact.{scale_in}
+use Rattle.tilt_units.specs.Law.{Chosen, StaysWithin}
 use Rattle.tilt_units.specs.Scale.{common_scale}
 use Rattle.tilt_units.specs.Scaling.{AlignedTrees, and_then, exact_quotient, literal_at, or_fault, raised}
 use Rattle.tilt_units.specs.declared.decimal.Decimal.{Decimal}
@@ -21,14 +24,26 @@ use Rattle.tilt_units.specs.declared.place.Place.{Place}
 use Rattle.tilt_units.specs.declared.quantity.Quantity.{Quantity}
 use Rattle.tilt_units.specs.declared.quantity.Quantity.TheVariants as quantity
 
--- a whole expression at a scale that represents an exact cell
-pub record Kept (whole : CoreLeaf → Option ℤ) (tree : CoreTree) (q : Quantity) (p : Option Fraction) : Type 0 where
-  pub positive : pos 1 ≤ℤ pos (scale_in q)
-  pub stands : StaysWithin whole tree → CellStandsFor (scale_in q) (whole_cell whole tree) p
+-- a tick, and the sources that are read there
+pub record Moment : Type 0 where
+  pub chosen : Chosen
+  pub sources : List Stream
+  pub tick : ℤ
 
-pub record KeptPair (whole : CoreLeaf → Option ℤ) (a : AlignedTrees) (p q : Option Fraction) : Type 0 where
-  pub left : Kept whole a.left a.quantity p
-  pub right : Kept whole a.right a.quantity q
+abbrev pub Within : Moment → CoreTree → Type 0
+Within now tree = StaysWithin now.chosen now.sources now.tick tree
+
+abbrev pub cell_of : Moment → CoreTree → Option ℤ
+cell_of now tree = (body_of now.sources tree).cell now.tick
+
+-- a whole expression at a scale that represents an exact cell
+pub record Kept (now : Moment) (tree : CoreTree) (q : Quantity) (p : Option Fraction) : Type 0 where
+  pub positive : pos 1 ≤ℤ pos (scale_in q)
+  pub stands : Within now tree → CellStandsFor (scale_in q) (cell_of now tree) p
+
+pub record KeptPair (now : Moment) (a : AlignedTrees) (p q : Option Fraction) : Type 0 where
+  pub left : Kept now a.left a.quantity p
+  pub right : Kept now a.right a.quantity q
 
 -- what is known of an operand that may be a literal
 pub record MayBeLiteral (d : Option Decimal) (p : Option Fraction) : Type 0 where
@@ -78,31 +93,30 @@ literal_stands place d s n h e =
           ∙ ap (λ z. z *ℤ pos d.scale) (within_is m n (found (fault.LiteralTooLarge place) (within_64_bits m) n fits));
     })
 
-pub literal_kept : (whole : CoreLeaf → Option ℤ) (place : Place) (d : Decimal) (s : ℕ) (n : ℤ) (p : Option Fraction)
-    → ((n : ℤ) → whole (Const n) ≡ Some n) → pos 1 ≤ℤ pos s → MayBeLiteral (Some d) p → literal_at place d s ≡ Ok n
-    → Kept whole (Leaf (Const n)) (quantity.Number s) p
-literal_kept whole place d s n p constant h l e = record {
+pub literal_kept : (now : Moment) (place : Place) (d : Decimal) (s : ℕ) (n : ℤ) (p : Option Fraction)
+    → pos 1 ≤ℤ pos s → MayBeLiteral (Some d) p → literal_at place d s ≡ Ok n
+    → Kept now (Leaf (Const n)) (quantity.Number s) p
+literal_kept now place d s n p h l e = record {
   positive = h;
-  stands = λ _. subst (λ c. CellStandsFor s c p) (sym (constant n))
-      (subst (λ r. CellStandsFor s (Some n) r) (sym (l.given d refl).0) (literal_stands place d s n (l.given d refl).1 e));
+  stands = λ _. subst (λ r. CellStandsFor s (Some n) r) (sym (l.given d refl).0) (literal_stands place d s n (l.given d refl).1 e);
 }
 
-raised_by : (is : Bool) (whole : CoreLeaf → Option ℤ) (k s : ℕ) (tree : CoreTree) (p : Option Fraction) → (k == 1) ≡ is
-    → ((n : ℤ) → whole (Const n) ≡ Some n) → (StaysWithin whole tree → CellStandsFor s (whole_cell whole tree) p)
-    → StaysWithin whole (if is then tree else Two Mul (Leaf (Const (pos k))) tree)
-    → CellStandsFor (k * s) (whole_cell whole (if is then tree else Two Mul (Leaf (Const (pos k))) tree)) p
-raised_by true whole k s tree p e constant f stays =
+raised_by : (is : Bool) (now : Moment) (k s : ℕ) (tree : CoreTree) (p : Option Fraction) → (k == 1) ≡ is
+    → (Within now tree → CellStandsFor s (cell_of now tree) p)
+    → Within now (if is then tree else Two Mul (Leaf (Const (pos k))) tree)
+    → CellStandsFor (k * s) (cell_of now (if is then tree else Two Mul (Leaf (Const (pos k))) tree)) p
+raised_by true now k s tree p e f stays =
     let same : s ≡ k * s = (let one : k ≡ 1 = grind (arith, nat_tests) in rw one (omega arith)) in
-    subst (λ z. CellStandsFor z (whole_cell whole tree) p) same (f stays)
-raised_by false whole k s tree p e constant f stays =
-    subst (λ c. CellStandsFor (k * s) c p) (sym (stays.2 ∙ ap (λ c. wide2 Mul c (whole_cell whole tree)) (constant (pos k))))
-    (raised_cells_stand s k (whole_cell whole tree) p (f stays.1))
+    subst (λ z. CellStandsFor z (cell_of now tree) p) same (f stays)
+raised_by false now k s tree p e f stays =
+    subst (λ c. CellStandsFor (k * s) c p) (sym stays.2)
+    (raised_cells_stand s k (cell_of now tree) p (f stays.1))
 
-pub raised_kept : (whole : CoreLeaf → Option ℤ) (k s t : ℕ) (tree : CoreTree) (p : Option Fraction) → ((n : ℤ) → whole (Const n) ≡ Some n) → k * s ≡ t
-    → pos 1 ≤ℤ pos t → Kept whole tree (quantity.Number s) p → Kept whole (raised k tree) (quantity.Number t) p
-raised_kept whole k s t tree p constant e h f = record {
+pub raised_kept : (now : Moment) (k s t : ℕ) (tree : CoreTree) (p : Option Fraction) → k * s ≡ t
+    → pos 1 ≤ℤ pos t → Kept now tree (quantity.Number s) p → Kept now (raised k tree) (quantity.Number t) p
+raised_kept now k s t tree p e h f = record {
   positive = h;
-  stands = λ stays. subst (λ z. CellStandsFor z (whole_cell whole (raised k tree)) p) e (raised_by (k == 1) whole k s tree p refl constant f.stands stays);
+  stands = λ stays. subst (λ z. CellStandsFor z (cell_of now (raised k tree)) p) e (raised_by (k == 1) now k s tree p refl f.stands stays);
 }
 
 -- the scale that both are brought to is a multiple of both

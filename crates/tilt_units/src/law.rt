@@ -1,28 +1,36 @@
 // The law of the translation.
-ghost use Rattle.std.specs.Prelude.{◌≡◌, ℤ, List, Option, Ok};
-ghost use Rattle.tilt_base.specs.Expression.{Leaf};
-ghost use Rattle.tilt_core.specs.CoreTree.{CoreLeaf, CoreTree};
-ghost use Rattle.tilt_core.specs.Meaning.{body_of};
+ghost use Rattle.std.specs.Prelude.{◌≡◌, ℤ, List, Ok, map};
+ghost use Rattle.tilt_core.specs.Meaning.{body_of, sources};
 ghost use Rattle.tilt_fractions.specs.Exact.{CellStandsFor};
-ghost use Rattle.tilt_fractions.specs.Fraction.{Fraction};
-ghost use Rattle.tilt_stream.specs.Stream.{Stream};
-ghost use Rattle.tilt_units.specs.DecimalTree.{UnitLeaf, UnitTree};
-ghost use Rattle.tilt_units.specs.Exact.{LeavesStand, LiteralsHaveScales, SourcesHaveScales, StaysWithin, exact_cell, scale_in, whole_cell};
+ghost use Rattle.tilt_stream.specs.Stream.{Stream, stream_of};
+ghost use Rattle.tilt_units.specs.DecimalTree.{UnitTree};
+ghost use Rattle.tilt_units.specs.Exact.{ExactSource, ScaledRows, exact_body, exact_sources, quantities_of, rows_of, scale_in, scales_of};
+ghost use Rattle.tilt_units.specs.Law.{Chosen, DefinitionsHaveScales, InputsHaveScales, LiteralsHaveScales, QueryStaysWithin};
+ghost use Rattle.tilt_units.specs.Law.{SourcesHaveScales, SourcesStand, StaysWithin};
 ghost use Rattle.tilt_units.specs.Scaling.{ScaledTree, scaled};
+ghost use Rattle.tilt_units.specs.Translation.{ScaledQuery, UnitDefinition, translated};
 ghost use Rattle.tilt_units.specs.declared.place.Place.{Place};
-ghost use Rattle.tilt_units.specs.declared.quantity.Quantity.{Quantity};
 
-/// This does nothing. Its clauses are the law of the translation of an expression that has one, at one tick. The premises are that
-/// the scales of the sources and of the literals are positive, and that no operator of the translation leaves 64 bits there. Each
-/// reading and each reducer must also represent an exact cell at the scale that it has. Then the cell of the translation divided
-/// by its scale is the exact cell, null for null. The second clause says that this cell of the translation is the one that the
-/// meaning of a core gives it.
+/// This does nothing. Its clauses are the law of the translation of a query that has one. Choose some ticks of each source. At a
+/// chosen tick of a definition no node of its translation may leave 64 bits, and it may read its sources at chosen ticks only. Then
+/// at each chosen tick the cell of the query over whole numbers, divided by the scale of its source, is the exact cell of the query
+/// in units, null for null. The marks are the same at every tick. All scales that are given must be positive.
 pub fn translation_keeps_meaning()
-    ensures exact { (sources : List Quantity) (place : Place) (e : UnitTree) (x : ScaledTree)
-        (whole : CoreLeaf → Option ℤ) (exact : UnitLeaf → Option Fraction)
-        → SourcesHaveScales sources → LiteralsHaveScales e → LeavesStand sources whole exact
-        → scaled sources place e ≡ Ok x → StaysWithin whole x.tree
-        → CellStandsFor (scale_in x.quantity) (whole_cell whole x.tree) (exact_cell sources exact place e) }
-    ensures core { (xs : List Stream) (tick : ℤ) (e : CoreTree)
-        → (body_of xs e).cell tick ≡ whole_cell (λ l. (body_of xs (Leaf l)).cell tick) e }
+    // An expression at a tick, over sources that represent exact ones.
+    ensures expression { (chosen : Chosen) (xs : List Stream) (exact : List ExactSource) (place : Place) (e : UnitTree) (x : ScaledTree)
+        (tick : ℤ) → SourcesHaveScales exact → LiteralsHaveScales e → SourcesStand chosen xs exact
+        → scaled (quantities_of exact) place e ≡ Ok x → StaysWithin chosen xs tick x.tree
+        → CellStandsFor (scale_in x.quantity) ((body_of xs x.tree).cell tick) ((exact_body exact place e).cell tick) }
+    ensures marks { (chosen : Chosen) (xs : List Stream) (exact : List ExactSource) (place : Place) (e : UnitTree) (x : ScaledTree)
+        (tick : ℤ) → SourcesStand chosen xs exact → scaled (quantities_of exact) place e ≡ Ok x
+        → (body_of xs x.tree).mark tick ≡ (exact_body exact place e).mark tick }
+    // A whole query: each of its sources, inputs and definitions, whatever the rows of the inputs are.
+    ensures query { (chosen : Chosen) (inputs : List ScaledRows) (defs : List UnitDefinition) (query : ScaledQuery)
+        → InputsHaveScales inputs → DefinitionsHaveScales defs → translated (scales_of inputs) defs ≡ Ok query
+        → QueryStaysWithin chosen (map stream_of (rows_of inputs)) query.defs
+        → SourcesStand chosen (sources (rows_of inputs) query.defs) (exact_sources inputs defs) }
+    // The quantities of the translation are those of the exact sources.
+    ensures quantities { (inputs : List ScaledRows) (defs : List UnitDefinition) (query : ScaledQuery)
+        → DefinitionsHaveScales defs → translated (scales_of inputs) defs ≡ Ok query
+        → query.quantities ≡ quantities_of (exact_sources inputs defs) }
 {}

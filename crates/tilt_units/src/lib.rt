@@ -4,10 +4,9 @@
 //! whole numbers, and the quantity of each: truth values, or numbers at a scale. A number at the scale 10 is in tenths: 965 is 96.5.
 //!
 //! `specs/Scaling` says which scale each expression has and what it is translated to. The clause of `translate` says that the result is
-//! that translation, or the first fault, with its place. `specs/Exact` says what an expression gives exactly, over fractions. By the
-//! clauses of `translation_keeps_meaning`, a cell of the translation divided by its scale is the exact cell. The premises are that the
-//! scales of the sources and of the literals are positive, and that no operator of the translation leaves 64 bits. Each reading and each
-//! reducer must also represent an exact cell at the scale that it has.
+//! that translation, or the first fault, with its place. `specs/Exact` says what a query means exactly: the stream of each source, over
+//! fractions. By the clauses of `translation_keeps_meaning`, each cell of the translation divided by its scale is the exact cell, wherever
+//! no node that it depends on leaves 64 bits. The marks are the same everywhere. The scales of inputs and literals must be positive.
 #![tactic(auto)]
 
 mod decimal;
@@ -28,6 +27,5 @@ pub use law::translation_keeps_meaning;
 pub use place::Place;
 pub use quantity::Quantity;
 pub use scale::Scale;
-pub use scaled::{Scaled, scale_expression};
 pub use translated::{Translated, translate};
 pub use tree::DecimalTree;

@@ -1,17 +1,17 @@
 // Expressions over whole numbers, and their quantities.
-ghost use Rattle.std.specs.Prelude.{◌≡◌, ◌<◌, ◌≤◌, ◌+◌, ◌^◌, ◌*ℤ◌, pos, IfOk, None};
-ghost use Rattle.tilt_base.specs.Expression.{If, One, Two};
+ghost use Rattle.std.specs.Prelude.{◌≡◌, ◌<◌, ◌≤◌, ◌+◌, ◌^◌, ◌*ℤ◌, pos, if◌then◌else◌, IfOk, None};
+ghost use Rattle.tilt_base.specs.Expression.{If, Leaf, One, Two};
 ghost use Rattle.tilt_base.specs.Number.{within_64_bits};
 ghost use Rattle.tilt_base.specs.declared.operator.Op2.TheVariants.{When};
-ghost use Rattle.tilt_core.specs.CoreTree.{nodes, tree_of};
-ghost use Rattle.tilt_units.specs.DecimalTree.{literal_of, unit_tree};
+ghost use Rattle.tilt_core.specs.CoreTree.{Const, nodes, tree_of};
+ghost use Rattle.tilt_units.specs.DecimalTree.{Read, Reduce, literal_of, unit_tree};
 ghost use Rattle.tilt_units.specs.Scale.{common_scale, dividend_factor, product_scale, quotient_scale};
 ghost use Rattle.tilt_units.specs.Scaling.{Gives, aligned, aligned_by, aligned_numbers};
 ghost use Rattle.tilt_units.specs.Scaling.{aligned_trees, exact_quotient, in_common, literal_at};
 ghost use Rattle.tilt_units.specs.Scaling.{numbers_of, quantity_at, quantity_of_one, quantity_of_reducer, raised, scale_of, scaled_tree};
 ghost use Rattle.tilt_units.specs.Scaling.{joined_truths, product_of, quotient_of, scaled, scaled_if, scaled_two, truth_of};
 ghost use Rattle.tilt_units.specs.Scaling.{compared_numbers, is_truth, joined_numbers, later, scaled_aligned, scaled_one};
-ghost use Rattle.tilt_units.specs.declared.quantity.Quantity.TheVariants.{Truth};
+ghost use Rattle.tilt_units.specs.declared.quantity.Quantity.TheVariants.{Number, Truth};
 
 use crate::decimal::Decimal;
 use crate::fault::ScaleFault;
@@ -25,7 +25,7 @@ use tilt_core::Tree;
 
 /// An expression over whole numbers, and what it represents.
 #[derive(Debug, Drop)]
-pub struct Scaled {
+pub(crate) struct Scaled {
     pub tree: Tree,
     pub quantity: Quantity,
 }
@@ -33,7 +33,7 @@ pub struct Scaled {
 /// The expression over whole numbers, and what it represents, over sources that represent these quantities. Otherwise the fault of
 /// the first node that has one, in the order in which nodes are finished: operands before their operator, from left to right.
 #[cycle(scaled)]
-pub fn scale_expression(
+pub(crate) fn scale_expression(
     alloc: Global,
     sources: &[Quantity],
     place: Place,
@@ -43,38 +43,15 @@ pub fn scale_expression(
     ensures { Gives scaled_tree result (scaled sources.now place (unit_tree tree.now)) }
 {
     match tree {
-        DecimalTree::Literal(decimal) => Ok(Scaled {
-            tree: Tree::Const(decimal.number),
-            quantity: Quantity::Number(decimal.scale),
-        }),
-        DecimalTree::Truth(holds) => Ok(Scaled {
-            tree: Tree::Const(i64::from(*holds)),
-            quantity: Quantity::Truth,
-        }),
-        DecimalTree::Read { source, offset } => Ok(Scaled {
-            tree: Tree::Read {
-                source: *source,
-                offset: *offset,
-            },
-            quantity: quantity_at(place, sources, *source)?,
-        }),
+        DecimalTree::Literal(decimal) => Ok(literal(*decimal)),
+        DecimalTree::Truth(holds) => Ok(truth(*holds)),
+        DecimalTree::Read { source, offset } => read(place, sources, *source, *offset),
         DecimalTree::Reduce {
             reducer,
             source,
             from,
             to,
-        } => {
-            let quantity = quantity_at(place, sources, *source)?;
-            Ok(Scaled {
-                tree: Tree::Reduce {
-                    reducer: *reducer,
-                    source: *source,
-                    from: *from,
-                    to: *to,
-                },
-                quantity: quantity_of_reducer(place, *reducer, quantity)?,
-            })
-        }
+        } => reduce(place, sources, *reducer, *source, (*from, *to)),
         DecimalTree::One(op, a) => {
             let a = scale_expression(alloc, sources, later(place, 1), a)?;
             scale_one(alloc, place, *op, a)
@@ -96,6 +73,57 @@ pub fn scale_expression(
             scale_if(alloc, place, literals, (c, a, b))
         }
     }
+}
+
+// A number in units.
+fn literal(decimal: Decimal) -> Scaled
+    ensures { scaled_tree result ≡ record { tree = Leaf (Const decimal.number); quantity = Number decimal.scale } }
+{
+    Scaled {
+        tree: Tree::Const(decimal.number),
+        quantity: Quantity::Number(decimal.scale),
+    }
+}
+
+// A truth value.
+fn truth(holds: bool) -> Scaled
+    ensures { scaled_tree result ≡ record { tree = Leaf (Const (if holds then pos 1 else pos 0)); quantity = Truth } }
+{
+    Scaled {
+        tree: Tree::Const(i64::from(holds)),
+        quantity: Quantity::Truth,
+    }
+}
+
+// A reading of a source.
+fn read(place: Place, sources: &[Quantity], source: u32, offset: i64) -> Result<Scaled, ScaleFault>
+    ensures { Gives scaled_tree result (scaled sources.now place (Leaf (Read source offset))) }
+{
+    let quantity = quantity_at(place, sources, source)?;
+    let tree = Tree::Read { source, offset };
+    Ok(Scaled { tree, quantity })
+}
+
+// A reducer on a window, by its two ends.
+fn reduce(
+    place: Place,
+    sources: &[Quantity],
+    reducer: Reducer,
+    source: u32,
+    ends: (i64, i64),
+) -> Result<Scaled, ScaleFault>
+    ensures { Gives scaled_tree result (scaled sources.now place (Leaf (Reduce reducer source ends.0 ends.1))) }
+{
+    let quantity = quantity_at(place, sources, source)?;
+    let quantity = quantity_of_reducer(place, reducer, quantity)?;
+    let (from, to) = ends;
+    let tree = Tree::Reduce {
+        reducer,
+        source,
+        from,
+        to,
+    };
+    Ok(Scaled { tree, quantity })
 }
 
 // The place that is so many nodes later.
