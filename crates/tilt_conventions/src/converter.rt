@@ -75,6 +75,7 @@ impl Converter {
 
     /// Takes a turn, and appends the updates that it hands on. `Fault` comes exactly if the turn isn't taken, and nothing changes.
     /// `OutOfMemory` comes if memory runs out for a turn that would be taken, and nothing changes either.
+    /// A turn hands on four updates at most.
     pub fn take(&mut self, turn: Turn, updates: &mut Vec<Update>) -> Result<(), TakeError>
         ensures result { IsTaken result (turn_fault (options_of self.old).ties (kept_by self.old) turn) }
         ensures kept { kept_by self.new
@@ -85,6 +86,8 @@ impl Converter {
         ensures options { options_of self.new ≡ options_of self.old }
         ensures memory { vec_len updates.old + 4 ≤ vec_capacity updates.old
             → turn_fault (options_of self.old).ties (kept_by self.old) turn ≡ None → IsOk result }
+        ensures capacity { vec_capacity updates.old ≤ vec_capacity updates.new }
+        ensures len { vec_len updates.new ≤ vec_len updates.old + 4 }
     {
         if let Some(fault) = self.fault(turn) {
             return Err(TakeError::Fault(fault));
@@ -103,6 +106,8 @@ impl Converter {
         ensures kept { kept_by self.new ≡ (taken (options_of self.old) turn (kept_by self.old)).kept }
         ensures updates { updates.new.items ≡ updates.old.items ++ (taken (options_of self.old) turn (kept_by self.old)).updates }
         ensures options { options_of self.new ≡ options_of self.old }
+        ensures capacity { vec_capacity updates.new ≡ vec_capacity updates.old }
+        ensures len { vec_len updates.new ≤ vec_len updates.old + 4 }
     {
         match turn {
             Turn::Reading { reading } => {
@@ -130,6 +135,8 @@ impl Converter {
             } }
         ensures updates { updates.new.items ≡ updates.old.items ++ read (options_of self.old) reading (kept_by self.old) }
         ensures options { options_of self.new ≡ options_of self.old }
+        ensures capacity { vec_capacity updates.new ≡ vec_capacity updates.old }
+        ensures len { vec_len updates.new ≤ vec_len updates.old + 4 }
     {
         match self.options.ties {
             Ties::Last => self.settle(start_of(reading), updates),
@@ -152,6 +159,8 @@ impl Converter {
             } }
         ensures updates { updates.new.items ≡ updates.old.items ++ settled (options_of self.old) tick (kept_by self.old) }
         ensures options { options_of self.new ≡ options_of self.old }
+        ensures capacity { vec_capacity updates.new ≡ vec_capacity updates.old }
+        ensures len { vec_len updates.new ≤ vec_len updates.old + 4 }
     {
         let convention = self.options.convention;
         hand_on_due(convention, tick, self.waiting(), &mut self.edge, updates);
@@ -171,10 +180,13 @@ impl Converter {
 
     /// Appends the updates when nothing more comes: what waits is handed on, and what holds ends by its age, at `T` at the latest. Without
     /// a maximum age it ends when its feed is finished. `OutOfMemory` comes if memory runs out, and nothing changes.
+    /// There are three of them at most.
     pub fn finish(&self, updates: &mut Vec<Update>) -> Result<(), OutOfMemory>
         ensures updates { updates.new.items
             ≡ (if is_ok result then updates.old.items ++ last_updates (options_of self.now) (kept_by self.now) else updates.old.items) }
         ensures memory { vec_len updates.old + 3 ≤ vec_capacity updates.old → IsOk result }
+        ensures capacity { vec_capacity updates.old ≤ vec_capacity updates.new }
+        ensures len { vec_len updates.new ≤ vec_len updates.old + 3 }
     {
         updates.reserve(3)?;
         let convention = self.options.convention;

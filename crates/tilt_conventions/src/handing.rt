@@ -129,6 +129,7 @@ pub(crate) fn raise(convention: Convention, tick: i64, edge: &mut Edge, updates:
     ensures edge { edge.new ≡ moved_all (known (age_of convention) tick edge.old) edge.old }
     ensures updates { updates.new.items ≡ updates.old.items ++ known (age_of convention) tick edge.old }
     ensures capacity { vec_capacity updates.new ≡ vec_capacity updates.old }
+    ensures len { vec_len updates.new ≤ vec_len updates.old + 2 }
 {
     end_by_age(age_of(convention), tick, edge, updates);
     rise(tick, edge, updates);
@@ -138,6 +139,8 @@ pub(crate) fn raise(convention: Convention, tick: i64, edge: &mut Edge, updates:
 pub(crate) fn end_at_last(convention: Convention, edge: &mut Edge, updates: &mut Vec<Update>)
     requires room { vec_len updates.old + 1 ≤ vec_capacity updates.old }
     ensures updates { updates.new.items ≡ updates.old.items ++ aged_at_last (age_of convention) edge.old.open_row }
+    ensures capacity { vec_capacity updates.new ≡ vec_capacity updates.old }
+    ensures len { vec_len updates.new ≤ vec_len updates.old + 1 }
 {
     let (Some(age), Some(row)) = (age_of(convention), edge.open_row) else {
         return;
