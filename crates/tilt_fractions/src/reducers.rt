@@ -8,8 +8,8 @@ ghost use Rattle.tilt_fractions.specs.Exact.{CellStandsFor};
 ghost use Rattle.tilt_fractions.specs.ExactReduce.{ReducerStands, fractions, wide_reduce};
 ghost use Rattle.tilt_fractions.specs.Fraction.{Fraction, StandsFor};
 
-/// This does nothing. Its clauses are the laws of the reducers: on whole numbers that represent fractions at a scale, each gives
-/// a number that represents what it gives on the fractions, null for null. They hold of sums of any size.
+/// This does nothing. Its clauses are the laws of the reducers, on whole numbers that represent fractions at a scale. Each gives a number
+/// that represents what it gives on the fractions, null for null. They hold of sums of any size.
 pub fn reducers_keep_what_numbers_stand_for()
     ensures sum { (s : ℕ) → ReducerStands Sum s s }
     // The exact average, truncated toward zero at the scale of the numbers.

@@ -34,8 +34,8 @@ pub record IsCodeFrom (core : CoreParts) (fuse : Bool) (start : ℤ) (code : Cod
 abbrev pub KeepsHorizon : Live → CoreParts → Feed → Type 0
 KeepsHorizon live core feed = ForSome live.known (λ tick. tick ≡ horizon core feed)
 
--- a live engine to which no memory was refused: it runs a code of its query on what is left of a feed, and has returned so many snapshots of
--- that run
+-- a live engine to which no memory was refused. It runs a code of its query on what is left of a feed, and has returned this number of
+-- snapshots of that run
 pub record IsRunning (live : Live) (accepted : AcceptedParts) (code : CodeParts) (left : Feed) (returned : ℕ) : Type 0 where
   pub accepted_is : live.accepted ≡ accepted
   pub valid : IsAccepted accepted
@@ -56,8 +56,8 @@ pub record GoesOn (core : CoreParts) (code : CodeParts) (feed left : Feed) (give
   pub ended : (more : List Event)
       → returned ≤ length (ended_by (horizon core (after_all more feed)) (run_at_rest code (after_all more left)))
 
--- the live engine of an accepted query, after a feed, that has returned so many of the snapshots that may be printed: it runs a code that
--- goes on from there
+-- the live engine of an accepted query, after a feed, that has returned this number of the snapshots that may be printed. It runs a code
+-- that goes on from there
 pub record IsLiveOf (live : Live) (accepted : AcceptedParts) (feed : Feed) (given : ℕ) : Type 0 where
   pub events : List Event
   pub feed_is : feed ≡ fed accepted.core events

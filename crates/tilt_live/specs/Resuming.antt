@@ -16,8 +16,8 @@ use Rattle.tilt_input_state.specs.Resume.{first_read, left_input, resume_tick}
 use Rattle.tilt_live.specs.Lives.{IsCodeFrom, IsRunning}
 use Rattle.tilt_live.specs.declared.live.Live.{Live}
 
--- what was kept of a feed so that its output goes on: the tick after which it does, whether the feed is finished, and of each input what is
--- left of it. Nothing has to be left of a finished feed
+-- what was kept of a feed so that its output goes on. That is the tick after which it does, whether the feed is finished, and what is left
+-- of each input. Nothing has to be left of a finished feed
 pub record IsLeft (core : CoreParts) (feed : Feed) (from : ℤ) (finished : Bool) (inputs : List InputFeed) : Type 0 where
   pub events : List Event
   pub feed_is : feed ≡ fed core events
@@ -34,8 +34,8 @@ end_events true = Finish ∷ []
 abbrev pub known_feed : Bool → List InputFeed → Feed
 known_feed finished inputs = after_all (end_events finished) (record { inputs = inputs; finished = false })
 
--- the tick after which the code of a live engine gives snapshots, if its output goes on from a tick: that one, or the last tick but one if
--- nothing comes after it, since no code is for no ticks
+-- the tick after which the code of a live engine gives snapshots, if its output goes on from a tick. It is that tick, or the last tick but
+-- one if nothing comes after it, since no code is for no ticks
 abbrev pub start_of : CoreParts → ℤ → ℤ
 start_of core from = int_min from ((output_domain core).end -ℤ pos 1)
 

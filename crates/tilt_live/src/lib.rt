@@ -10,9 +10,9 @@
 //!   broken, and nothing changes. Nothing changes either if memory runs out. `fault` returns that rule without taking the event.
 //! - `next` returns the snapshot of `printed` that comes after the first `given`, and `given` is one higher then. It returns `None` if
 //!   there is no such snapshot.
-//! - `resume` starts from what was kept of a feed that was left (`IsLeft` of `specs/Resuming`): the tick after which the output goes on,
-//!   whether the feed is finished, and what is left of each input. It is the engine of that feed, with all of `printed` returned, so from
-//!   there on it returns what the engine that was left would have returned. `resume_tick` and `first_read` return what to keep for it.
+//! - `resume` starts from what was kept of a feed that was left (`IsLeft` of `specs/Resuming`). That is the tick after which the output
+//!   goes on, whether the feed is finished, and what is left of each input. It is the engine of that feed, with all of `printed` returned.
+//!   So from there on it returns what the engine that was left would have returned. `resume_tick` and `first_read` return what to keep.
 //!
 //! So at each moment the snapshots that were returned are the first `given` of `printed`, each once and in order. And `next` returns
 //! `None` exactly if all of them were returned. What is printed after some events is a prefix of what is printed after further ones, and

@@ -54,9 +54,9 @@ impl Live {
         Live::start(alloc, accepted, start)
     }
 
-    /// The live engine of a query whose feed was left, from what was kept of it: the tick after which the output goes on, whether the feed
-    /// is finished, and what is left of each input. It goes on as the engine that was left would have, once that one had returned all that
-    /// may be printed. `OutOfMemory` comes if memory is refused, and for no other reason.
+    /// The live engine of a query whose feed was left, from what was kept of it. That is the tick after which the output goes on, whether
+    /// the feed is finished, and what is left of each input. It goes on as the engine that was left would have, once that one had returned
+    /// all that may be printed. It returns `OutOfMemory` if memory runs out, and for no other reason.
     pub fn resume(
         alloc: Global,
         accepted: Accepted,
@@ -212,8 +212,8 @@ impl Live {
         }
     }
 
-    /// The tick after which the output goes on, to be given to `resume`: the end of the last snapshot that was returned, or the start of
-    /// the output domain if none was.
+    /// The tick after which the output goes on, to be given to `resume`. It is the end of the last snapshot that was returned, or the start
+    /// of the output domain if none was.
     pub fn resume_tick(&self) -> i64
         ensures value { (accepted : AcceptedParts) (feed : Feed) (given : ℕ) → IsLiveOf self.now accepted feed given
             → result ≡ end_of accepted.core (take given (printed accepted.core feed)) }

@@ -27,8 +27,8 @@ pub record SourceStands (chosen : ℤ → Bool) (x : Stream) (source : ExactSour
 abbrev pub SourcesStand : Chosen → List Stream → List ExactSource → Type 0
 SourcesStand chosen xs sources = (number : ℕ) → SourceStands (chosen number) (source_of xs number) (source_at sources number)
 
--- an expression over whole numbers reads its sources at chosen ticks only, and no node of it leaves 64 bits at a tick: each gives what it
--- gives on whole numbers of any size
+-- an expression over whole numbers reads its sources at chosen ticks only, and no node of it leaves 64 bits at a tick. So each node gives
+-- what it gives on whole numbers of any size
 abbrev pub StaysWithin : Chosen → List Stream → ℤ → CoreTree → Type 0
 StaysWithin chosen xs tick (Leaf (Const number)) = ⊤
 StaysWithin chosen xs tick (Leaf (CoreRead source offset)) = chosen source (tick +ℤ offset) ≡ true

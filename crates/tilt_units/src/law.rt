@@ -12,9 +12,9 @@ ghost use Rattle.tilt_units.specs.Translation.{ScaledQuery, UnitDefinition, tran
 ghost use Rattle.tilt_units.specs.declared.place.Place.{Place};
 
 /// This does nothing. Its clauses are the law of the translation of a query that has one. Choose some ticks of each source. At a
-/// chosen tick of a definition no node of its translation may leave 64 bits, and it may read its sources at chosen ticks only. Then
-/// at each chosen tick the cell of the query over whole numbers, divided by the scale of its source, is the exact cell of the query
-/// in units, null for null. The marks are the same at every tick. All scales that are given must be positive.
+/// chosen tick of a definition no node of its translation may leave 64 bits, and it may read its sources at chosen ticks only. Take
+/// the cell of the query over whole numbers at a chosen tick, and divide it by the scale of its source. It is the exact cell of the
+/// query in units, null for null. The marks are the same at every tick. All scales that are given must be positive.
 pub fn translation_keeps_meaning()
     // An expression at a tick, over sources that represent exact ones.
     ensures expression { (chosen : Chosen) (xs : List Stream) (exact : List ExactSource) (place : Place) (e : UnitTree) (x : ScaledTree)

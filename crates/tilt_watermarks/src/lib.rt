@@ -18,8 +18,8 @@
 //! it, so `tilt_feed` and `tilt_live` take every one of them. No watermark falls, and no input stays farther behind than `idle` allows.
 //! Under lateness the rows and values of an input come out in order of their starts, and none is lost.
 //!
-//! `Watermarks::kept` has all that they keep, as plain data, and `Watermarks::resume` makes watermarks that keep it. By the clauses of both,
-//! watermarks go on in a new process as those that were left would have done.
+//! `Watermarks::kept` has all that they keep, as plain data, and `Watermarks::resume` makes watermarks that keep it. By the clauses of
+//! both, watermarks go on in a new process as those that were left would have done.
 //!
 //! All of this depends on the lines alone, and on no clock: the same lines give the same events again. Nothing here reads or writes.
 #![tactic(auto)]

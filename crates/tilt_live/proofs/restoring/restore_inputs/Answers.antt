@@ -27,7 +27,8 @@ loop-input-preserved c =
           let two = c.in_ok-restore_edge.ensures.engine code _ given one in (
             _,
             two,
-            (λ k. after_all (all_events (index + 1) (drop (index + 1) inputs)) (after_all (edge_events (number k) (c.edge.ensures.edge k)) (after_all (row_events (number k) (c.rows.ensures.rows k)) before.0)))
+            (λ k. after_all (all_events (index + 1) (drop (index + 1) inputs))
+                (after_all (edge_events (number k) (c.edge.ensures.edge k)) (after_all (row_events (number k) (c.rows.ensures.rows k)) before.0)))
                 ∙ input-taken index item (drop (index + 1) inputs) before.0
                 ∙ ap (λ (list : List InputFeed). after_all (all_events index list) before.0) (sym next)
                 ∙ before.2,
