@@ -29,6 +29,7 @@ from tilt_data.errors import TiltError
 from tilt_data.files import placed
 from tilt_data.forms import fault_of
 from tilt_data.parts import Domain, Part
+from tilt_data.program import Cancelled, Processes
 from tilt_data.scaling import Plan, files_of, keys_and_files
 from tilt_data.tokens import tokens_of
 
@@ -481,7 +482,7 @@ def test_the_core_needs_no_dask():
 
 def in_1_to_20_parts(query: pathlib.Path) -> set[int]:
     """Holds the parts of an example to its one run, at each number of parts up to 20 or as many as its grid has; the numbers of parts."""
-    names = Plan.inputs_of(Query(query))
+    names = Query(query).inputs
     files = {name: str(query.parent / f"{name}.csv") for name in names}
     os.makedirs(query.stem)
     wanted = run_program(str(PROGRAM), query.read_text(), *(f"{name}={file}" for name, file in files.items()), folder=query.stem)
@@ -533,7 +534,7 @@ def compare(seed: int, folder: pathlib.Path) -> set[str]:
     draws = draw.draws
     folder.mkdir()
     text = small_query(draw)
-    names = Plan.inputs_of(Query(text))
+    names = Query(text).inputs
     for name in names:
         rows = series(draws.randrange(10**6), 150, draws.choice([2, 5, 30]), draws.choice([1, 2, 50]), -20)
         (folder / f"{name}.csv").write_text(text_of(rows))
@@ -1194,15 +1195,15 @@ def test_long_loops_over_files_can_be_stopped(tmp_path):
     (tmp_path / "x.csv").write_text(text_of(rows))
     (tmp_path / "quoted.csv").write_text(QUOTED + text_of(rows).removeprefix(HEADER))
     (tmp_path / "1").write_text(text_of(rows))
-    processes = tasks.Processes()
+    processes = Processes()
     processes.stop()
     for name in ("x.csv", "quoted.csv"):
-        with pytest.raises(tasks.Cancelled):
+        with pytest.raises(Cancelled):
             tasks.make_indexes(tasks.Indexing((str(tmp_path / name),), str(tmp_path / "index")), processes)
-    with pytest.raises(tasks.Cancelled):
+    with pytest.raises(Cancelled):
         tasks.make_whole(tasks.Joining("", ((Part(1, 0, 9), str(tmp_path / "1")),), str(tmp_path / "whole")), processes)
-    with pytest.raises(tasks.Cancelled):
-        processes.run(["/bin/true"], 1)
+    with pytest.raises(Cancelled):
+        processes.call(["explain"], 1)
     assert sorted(os.listdir(tmp_path)) == ["1", "index", "quoted.csv", "x.csv"] and not os.listdir(tmp_path / "index")
 
 

@@ -4,7 +4,8 @@
 needs `dask.distributed` only with a scheduler."""
 from .convention import Convention
 from .errors import Refused, TiltError
-from .frames import Explained, Live, Query, run, span
+from .explain import Explained
+from .frames import Live, Query, run, span
 from .scaling import Scaled, scale
 from .version import VERSION as __version__
 

@@ -9,14 +9,13 @@ import glob
 import itertools
 import os
 import re
-import subprocess
 import sys
 from typing import Any, Iterator
 
 from .clock import Clock
 from .errors import Refused, printable
 from .files import Notes, scratch, unsafe, writing
-from .program import program
+from .program import Processes, call
 from .progress import shown
 from .why import bound, clashes, known_notes, refusal_of
 
@@ -65,24 +64,18 @@ def check_keys(names: list[str]) -> None:
             raise Refused(f"{other} and {name} are names of one key, {unsafe(name)}: rename one of them")
 
 
-def run_key(words: list[str], key: str, file: str, running: set[subprocess.Popen[bytes]]) -> Done:
-    """Runs the program for a key. While it runs it is in the set."""
+def run_key(words: list[str], key: str, file: str, running: Processes) -> Done:
+    """Runs the program for a key."""
     ours = [word.replace("{key}", key) for word in words]
     with open(file, "wb") as out:
-        try:
-            process = subprocess.Popen([program(), "run", *ours], stdin=subprocess.DEVNULL, stdout=out, stderr=subprocess.PIPE)
-        except OSError as error:
-            raise Refused(f"the program can't be run: {error.strerror}") from error
-        running.add(process)
-        _, told = process.communicate()
-        running.discard(process)
-    return Done(unsafe(key), file, process.returncode, told.decode("utf-8", "replace"), ours)
+        called = call(["run", *ours], out, its=running)
+    return Done(unsafe(key), file, called.status, called.told, ours)
 
 
 def runs(words: list[str], keys: list[str], jobs: int, folder: str) -> Iterator[Done]:
     """What each key comes to, in the order of the keys; some more than `jobs` are begun at a time, and no more. If the caller stops, the
     programs that run are killed."""
-    running: set[subprocess.Popen[bytes]] = set()
+    running = Processes()
     with concurrent.futures.ThreadPoolExecutor(jobs) as pool:
         begun: list[concurrent.futures.Future[Done]] = []
         try:
@@ -94,8 +87,7 @@ def runs(words: list[str], keys: list[str], jobs: int, folder: str) -> Iterator[
                 yield begun.pop(0).result()
         except BaseException:
             pool.shutdown(wait=False, cancel_futures=True)
-            for process in list(running):
-                process.kill()
+            running.stop()
             raise
 
 

@@ -14,7 +14,8 @@ import time
 from typing import Any, Callable, Iterator
 
 from .errors import Refused
-from .tasks import Made, Processes
+from .program import Processes
+from .tasks import Made
 
 Function = Callable[..., Made]
 MISSING = (

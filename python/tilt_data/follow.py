@@ -34,14 +34,15 @@ from typing import Any, Iterator, NoReturn
 from . import sessions
 from .clock import TIMES, Clock, Moments, duration_of, duration_text, moment_text, zone_of
 from .convert import Converter, Late, Rule, TIES, Tie, row_text
-from .errors import Refused, TiltError, printable
+from .errors import Refused, printable
+from .explain import Explained
 from .files import Notes, Row, notes_of, notes_path, reading, rows_of, writing
 from .grammar import statements_of
 from .scales import GREATEST, LEAST, Scale
 from .series import Nulls, clock_of, moment_of
 from .tokens import Faulty
 from .version import VERSION
-from .why import clashes, inputs_of
+from .why import clashes
 
 HELP = """Runs a query over lines that keep coming on standard input, such as from `mosquitto_sub` or `tail -F`. A line is
 NAME,start,end,value with ticks, or NAME,time,value with a reading, which becomes a row as in `tilt-data series`. A session runs every
@@ -616,7 +617,7 @@ class Follower:
     def __init__(self, words: argparse.Namespace) -> None:
         self.words = words
         self.store = Store(words.state)
-        self.query = self.same_query()
+        self.query, self.explained = self.same_query()
         self.sources = self.sources_of()
         self.reader = Reader(words, self.sources)
         self.chain = Chain()
@@ -624,12 +625,12 @@ class Follower:
         self.fresh = 0
         self.every = duration_of(words.every) / 10**9
         self.over = over_of(self.query)
-        self.ahead: int | None = None
         self.ended = False
         self.warned: dict[str, int | None] = {}
 
-    def same_query(self) -> str:
-        """A copy of the query in the folder, byte for byte: a state goes on with its own query alone."""
+    def same_query(self) -> tuple[str, Explained]:
+        """A copy of the query in the folder, byte for byte, and what the program says of it: a state goes on with its own query alone. A
+        query that the program rejects begins no folder."""
         with open(self.words.query, "rb") as file:
             text = file.read()
         copy = os.path.join(self.words.state, "query.tilt")
@@ -640,22 +641,22 @@ class Follower:
                         f"{self.words.query}: it isn't the query that {self.words.state} was started with: take {copy}, which "
                         "is, or name another --state"
                     )
-            return copy
+            return copy, sessions.explained(copy, self.words.query)
         new = copy + ".new"
         try:
             with open(new, "wb") as file:
                 file.write(text)
-            check_query(new, self.words.query)
+            explained = sessions.explained(new, self.words.query)
             sync(new)
             os.replace(new, copy)
         finally:
             with contextlib.suppress(OSError):
                 os.unlink(new)
-        return copy
+        return copy, explained
 
     def sources_of(self) -> dict[str, Source]:
         """Each input of the query; those given by a file whole."""
-        sources = {name: Source([]) for name in inputs_of(self.query)}
+        sources = {name: Source([]) for name in self.explained.inputs}
         for word in self.words.fixed:
             name, _, path = word.partition("=")
             if name not in sources:
@@ -757,11 +758,7 @@ class Follower:
 
     def is_over(self, cut: int) -> bool:
         """Whether all rows of the query's output are decided at this cut."""
-        if self.over is None or cut < self.over:
-            return False
-        if self.ahead is None:
-            self.ahead = sessions.look_ahead(self.query)
-        return cut >= self.over + self.ahead
+        return self.over is not None and cut >= self.over + self.explained.ahead
 
     def hand_on(self, cut: int) -> None:
         binds = sessions.put_rows(self.store.folder, {name: source.hand(cut) for name, source in self.sources.items()})
@@ -870,15 +867,6 @@ def over_of(query: str) -> int | None:
             return statements_of(file.read())[-1].bounds[1][0]
         except (Faulty, RecursionError):
             return None
-
-
-def check_query(copy: str, path: str) -> None:
-    """Refuses a query that the program doesn't take, before a folder is begun with it. What it says is told of the path."""
-    try:
-        sessions.call(["explain", copy], os.devnull)
-    except TiltError as error:
-        place = None if error.place is None else dataclasses.replace(error.place, file=path)
-        raise TiltError(error.line, error.status, place) from error
 
 
 class Lines:

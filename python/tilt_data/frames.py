@@ -6,10 +6,10 @@ from __future__ import annotations
 
 import dataclasses
 import decimal
+import functools
 import os
 import pathlib
 import re
-import subprocess
 import sys
 import tempfile
 import warnings
@@ -21,10 +21,10 @@ from .convention import Convention, check_flag, check_one_of, convention_of, mom
 from .convert import Converter, Late, Tie
 from .degrees import scale_notes
 from .errors import Refused, TiltError
+from .explain import Explained
 from .files import Notes, Row, notes_of, reading, rows_of
-from .program import REFUSALS, program
+from .program import REFUSALS
 from .scales import Scale, decimal_text, digits_after_point
-from .why import refusal_of
 
 if TYPE_CHECKING:
     import pandas
@@ -52,17 +52,16 @@ class Query:
     @property
     def inputs(self) -> list[str]:
         """The names of its inputs, in order."""
-        return re.findall(r"\binput\s+([A-Za-z_]\w*)\s*;", self.text)
+        return list(self.explained.inputs)
+
+    @functools.cached_property
+    def explained(self) -> Explained:
+        with tempfile.TemporaryDirectory(prefix="tilt-data-") as folder:
+            return sessions.explained(self.put(folder), self.name)
 
     def explain(self) -> Explained:
         """How far it looks and which loops it has; a query that is refused raises a TiltError with the place."""
-        with tempfile.TemporaryDirectory(prefix="tilt-data-") as folder:
-            path = self.put(folder)
-            done = subprocess.run([program(), "explain", path], capture_output=True, text=True)
-            if done.returncode:
-                line = done.stderr.rstrip("\n")
-                raise TiltError(line, done.returncode, renamed(refusal_of(line, [path]), self.name))
-        return Explained.of(done.stdout)
+        return self.explained
 
     def put(self, folder: str) -> str:
         path = os.path.join(folder, "query.tilt")
@@ -97,10 +96,11 @@ class Query:
         with tempfile.TemporaryDirectory(prefix="tilt-data-") as folder:
             words = [word for name, one in bound.items() for word in one.put(folder, name)]
             out = os.path.join(folder, "out.csv")
+            path = self.put(folder)
             try:
-                sessions.whole(self.put(folder), words, out)
+                sessions.whole(path, words, out)
             except TiltError as error:
-                raise TiltError(error.line, error.status, renamed(error.place, self.name)) from None
+                raise error.renamed(path, self.name) from None
             with reading(out) as file:
                 rows = list(rows_of(out, file))
         return shape.frame(rows, merge, index, exact)
@@ -147,33 +147,6 @@ def run(query: str | os.PathLike[str] | Query, data: Any = None, **options: Any)
     program rejects a `TiltError`. If the data have a scale that the caller doesn't give, and it changes what a number of the query or the
     output means, that is a warning."""
     return (query if isinstance(query, Query) else Query(query)).run(data, **options)
-
-
-def renamed(place: Any, name: str) -> Any:
-    """A place with the name that the caller knows the query by, where it is the query's."""
-    return dataclasses.replace(place, file=name) if place is not None and place.file.endswith("query.tilt") else place
-
-
-@dataclasses.dataclass(frozen=True)
-class Explained:
-    """What `tilt explain` says: the look-back and look-ahead in ticks; each input's, None where it isn't used; each definition's, with
-    whether it has a loop; and how many loops there are, fused and plain."""
-
-    back: int
-    ahead: int
-    inputs: dict[str, tuple[int, int] | None]
-    definitions: dict[str, tuple[str, int, int] | None]
-    loops: tuple[int, int]
-
-    @staticmethod
-    def of(text: str) -> Explained:
-        lines = [line.split() for line in text.splitlines()]
-        inputs = {name: None if rest[0] == "unused" else (int(rest[0]), int(rest[1])) for form, name, *rest in lines if form == "input"}
-        found = {name: rest for form, name, *rest in lines if form == "let"}
-        lets = {name: None if rest[0] == "unused" else (rest[0], int(rest[1]), int(rest[2])) for name, rest in found.items()}
-        reach = next(words for words in lines if words[0] == "reach")
-        loops = next(words for words in lines if words[0] == "loops")
-        return Explained(int(reach[1]), int(reach[2]), inputs, lets, (int(loops[1]), int(loops[2])))
 
 
 def span(

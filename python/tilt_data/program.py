@@ -1,11 +1,14 @@
 """Finds the program `tilt`, and calls it."""
 from __future__ import annotations
 
+import dataclasses
 import functools
 import os
 import pathlib
 import shutil
 import subprocess
+import threading
+from typing import IO, Sequence
 
 from .errors import Refused
 
@@ -37,3 +40,80 @@ def released() -> str | None:
         return None
     done = subprocess.run([FINDER, "--found"], stdin=subprocess.DEVNULL, capture_output=True, text=True)
     return done.stdout.removesuffix("\n") if done.returncode == 0 else None
+
+
+@dataclasses.dataclass(frozen=True)
+class Called:
+    """How a call of the program ended: its status, below 0 for the signal that ended it; its text on standard error; and what it printed,
+    where the caller named no place for that."""
+
+    status: int
+    told: str
+    printed: bytes = b""
+
+
+class Cancelled(Exception):
+    """A call that was stopped."""
+
+
+class Processes:
+    """The calls of the program that are under way, on one thread or several, so that they can all be stopped."""
+
+    def __init__(self) -> None:
+        self.lock = threading.Lock()
+        self.running: set[subprocess.Popen[bytes]] = set()
+        self.stopped = False
+
+    def check(self) -> None:
+        """Raises Cancelled after `stop`. Loops over a file call it for each piece."""
+        if self.stopped:
+            raise Cancelled
+
+    def call(self, words: Sequence[str], out: IO[bytes] | int | None, stdin: int | None = subprocess.DEVNULL) -> Called:
+        """Calls the program. Its output goes to `out`, of which None is that of this process, and is kept if that is a pipe. An OSError
+        says why the program can't be run."""
+        # These are files: a pipe would stay open as long as a child of a program that was stopped.
+        with in_memory() as told, in_memory() as printed:
+            with self.lock:
+                self.check()
+                # The words may name descriptors of the caller, such as /dev/fd/63 of a shell.
+                place = printed if out == subprocess.PIPE else out
+                process = subprocess.Popen([program(), *words], stdin=stdin, stdout=place, stderr=told, close_fds=False)
+                self.running.add(process)
+            try:
+                status = process.wait()
+            except BaseException:
+                process.kill()
+                process.wait()
+                raise
+            finally:
+                with self.lock:
+                    self.running.discard(process)
+            self.check()
+            told.seek(0)
+            printed.seek(0)
+            return Called(status, told.read().decode("utf-8", "replace"), printed.read())
+
+    def stop(self) -> None:
+        """Kills the calls that are under way. Later ones raise Cancelled."""
+        with self.lock:
+            self.stopped = True
+            for process in self.running:
+                process.kill()
+
+
+def call(
+    words: Sequence[str],
+    out: IO[bytes] | int | None = subprocess.PIPE,
+    stdin: int | None = subprocess.DEVNULL,
+    its: Processes | None = None,
+) -> Called:
+    """Calls the program as `Processes.call` does. A program that can't be run is a Refused."""
+    try:
+        return (its or Processes()).call(words, out, stdin)
+    except OSError as error:
+        raise Refused(f"the program can't be run: {error.strerror}") from error
+
+
+def in_memory() -> IO[bytes]:
+    return open(os.memfd_create("tilt-data"), "w+b")

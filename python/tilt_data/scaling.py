@@ -23,7 +23,6 @@ from .blocks import Block, Indexed
 from .errors import Refused, TiltError
 from .files import PLACED, placed
 from .frames import Query
-from .grammar import statements_of
 from .parts import Domain, Part
 from .program import program
 from .progress import Bar
@@ -169,7 +168,7 @@ class Plan:
         except OSError as error:
             raise Refused(f"the program can't be run: {error.strerror}") from error
         self.domain = Domain.of(query.text)
-        self.check_names(query, inputs)
+        self.check_names(inputs)
         self.files = files_of(inputs)
         self.check_files()
         self.out = os.path.abspath(out)
@@ -179,12 +178,8 @@ class Plan:
         self.stamps: dict[str, blocks.Stamp] = {}
         self.rows = self.moved = self.fewer = 0
 
-    @staticmethod
-    def inputs_of(query: Query) -> list[str]:
-        return [statement.name.text for statement in statements_of(query.text.encode()) if statement.form == "input"]
-
-    def check_names(self, query: Query, inputs: Mapping[str, Sequence[str]]) -> None:
-        names = self.inputs_of(query)
+    def check_names(self, inputs: Mapping[str, Sequence[str]]) -> None:
+        names = list(self.needs)
         missing = next((name for name in names if name not in inputs), None)
         other = next((name for name in inputs if name not in names), None)
         if missing is not None or other is not None:

@@ -3,13 +3,13 @@ from __future__ import annotations
 
 import contextlib
 import os
-import subprocess
 from typing import IO, Iterable, Iterator, Mapping
 
+from . import program
 from .convert import row_text
 from .errors import Refused, TiltError
+from .explain import Explained
 from .files import Row
-from .program import program
 from .why import refusal_of
 
 
@@ -26,26 +26,26 @@ def opened(path: str) -> Iterator[IO[bytes]]:
 def call(words: list[str], out: str) -> None:
     """Calls the program, with its output in a file. What it refuses is an error that carries its line, its status and the place."""
     with opened(out) as file:
-        run(words, file)
+        check(program.call(words, file), words)
 
 
-def run(words: list[str], out: IO[bytes] | int) -> bytes:
-    """Calls the program as `call` does. What it prints, if `out` is a pipe."""
+def check(called: program.Called, words: list[str]) -> None:
+    if called.status < 0:
+        raise TiltError(f"the program was ended by signal {-called.status}", 128 - called.status)
+    if called.status:
+        line = called.told.rstrip("\n")
+        raise TiltError(line, called.status, refusal_of(line, words[1:]))
+
+
+def explained(query: str, name: str) -> Explained:
+    """What `tilt explain` says of the query in a file. One that it rejects is an error as of `call`, which names the file so."""
+    words = ["explain", query]
+    called = program.call(words)
     try:
-        done = subprocess.run([program(), *words], stdin=subprocess.DEVNULL, stdout=out, stderr=subprocess.PIPE)
-    except OSError as error:
-        raise Refused(f"the program can't be run: {error.strerror}") from error
-    if done.returncode < 0:
-        raise TiltError(f"the program was ended by signal {-done.returncode}", 128 - done.returncode)
-    if done.returncode:
-        told = done.stderr.decode("utf-8", "replace").rstrip("\n")
-        raise TiltError(told, done.returncode, refusal_of(told, words[1:]))
-    return done.stdout or b""
-
-
-def look_ahead(query: str) -> int:
-    """How many ticks a query looks ahead: A of the line `reach B A`, which `tilt explain` prints first."""
-    return int(run(["explain", query], subprocess.PIPE).split(maxsplit=3)[2])
+        check(called, words)
+    except TiltError as error:
+        raise error.renamed(query, name) from None
+    return Explained.of(called.printed.decode())
 
 
 def put_rows(folder: str, rows: Mapping[str, Iterable[Row]]) -> list[str]:

@@ -7,9 +7,6 @@ import functools
 import hashlib
 import os
 import socket
-import subprocess
-import tempfile
-import threading
 import time
 
 from . import blocks, parts
@@ -17,7 +14,7 @@ from .blocks import Segment, Stamp, stamp_of
 from .errors import Refused
 from .files import placed, scratch
 from .parts import Part
-from .program import REFUSALS, program
+from .program import REFUSALS, Cancelled, Processes, program
 from .why import Refusal, refusal_of
 
 # The header with a byte order mark before it and CR LF after it. What is only empty lines before the first row is longer.
@@ -26,10 +23,6 @@ LONGEST_HEADER = len(blocks.MARK) + len(parts.LINE) + 1
 
 class Failed(Exception):
     """A task that didn't end, by a fault of the machine: it can be started again."""
-
-
-class Cancelled(Exception):
-    """A task that its call stopped."""
 
 
 class Rejected(Exception):
@@ -41,46 +34,14 @@ class Rejected(Exception):
         self.status = status
 
 
-class Processes:
-    """The runs of the program that one call has under way on its threads, so that it can stop them all."""
-
-    def __init__(self) -> None:
-        self.lock = threading.Lock()
-        self.running: set[subprocess.Popen[bytes]] = set()
-        self.stopped = False
-
-    def check(self) -> None:
-        """Raises Cancelled after `stop`. Loops over a file call it for each piece."""
-        if self.stopped:
-            raise Cancelled
-
-    def run(self, words: list[str], out: int) -> None:
-        """Runs the program with its output to a descriptor. Raises Rejected or Failed for a status that isn't 0."""
-        # Standard error is a file: a pipe would stay open as long as a child of a program that was stopped.
-        with tempfile.TemporaryFile() as errors:
-            with self.lock:
-                self.check()
-                process = subprocess.Popen(words, stdin=subprocess.DEVNULL, stdout=out, stderr=errors)
-                self.running.add(process)
-            try:
-                status = process.wait()
-            finally:
-                with self.lock:
-                    self.running.discard(process)
-            self.check()
-            errors.seek(0)
-            line = errors.read().decode("utf-8", "replace").rstrip("\n")
-        if status in REFUSALS:
-            raise Rejected(line, status)
-        if status:
-            raise Failed(line or f"the program exited with status {status}")
-
-    def stop(self) -> None:
-        """Kills the runs that are under way. Later ones raise Cancelled."""
-        with self.lock:
-            self.stopped = True
-            for process in self.running:
-                process.kill()
+def run(processes: Processes, words: list[str], out: int) -> None:
+    """Runs the program with its output to a descriptor. Raises Rejected or Failed for a status that isn't 0."""
+    called = processes.call(["run", *words], out)
+    line = called.told.rstrip("\n")
+    if called.status in REFUSALS:
+        raise Rejected(line, called.status)
+    if called.status:
+        raise Failed(line or f"the program exited with status {called.status}")
 
 
 # On a cluster, a worker's tasks run until they end or the worker is killed.
@@ -179,14 +140,14 @@ def make_part(task: Task, processes: Processes = UNSTOPPED) -> Made:
         return Made()
     with scratch() as folder:
         try:
-            path = program_of(task)
+            check_program(task)
             words, rows, size = laid_out(task, folder)
         except Refused as refused:
             return Made(line=str(refused), status=1)
         started = time.perf_counter()
         try:
             with placed(task.file) as out:
-                processes.run([path, "run", *words], out.fileno())
+                run(processes, words, out.fileno())
                 check_unchanged(task)
         except Rejected as rejected:
             return rejected_part(task, words, rejected)
@@ -212,12 +173,11 @@ def make_keys(keys: Keys, processes: Processes = UNSTOPPED) -> Made:
     return Made(time.perf_counter() - begun, sum(part.program_seconds for part, _ in made), of_keys=tuple(made))
 
 
-def program_of(task: Task) -> str:
-    """The program here, which has to be that of the call."""
+def check_program(task: Task) -> None:
+    """Raises a Refused if the program here isn't that of the call."""
     path = program()
     if not os.path.exists(path) or program_digest(path) != task.program:
         raise Refused(f"{path} on {socket.gethostname()} isn't the program of the call")
-    return path
 
 
 def laid_out(task: Task, folder: str) -> tuple[list[str], int, int]:

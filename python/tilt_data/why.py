@@ -10,14 +10,14 @@ import dataclasses
 import difflib
 import os
 import re
-import subprocess
 import sys
 from typing import Any, Collection, Iterable, Iterator, Literal, Mapping, Sequence, TypeVar, get_args
 
 from .errors import Refused, printable
+from .explain import inputs_of
 from .files import Notes, Stale, notes_of
 from .forms import fault_of
-from .program import program
+from .program import call
 from .tokens import Fault, place_of
 
 SERIES_LINE = re.compile(r"(1[0-7]) series (\S+): (.*)")
@@ -148,14 +148,6 @@ def names_refusal(query: str, name: str, words: list[str]) -> Refusal:
     return Refusal(query, expected=f"the query has no input {name}", cure=cure)
 
 
-def inputs_of(query: str) -> list[str]:
-    try:
-        with open(query, encoding="ascii", errors="replace") as file:
-            return re.findall(r"\binput\s+([A-Za-z_]\w*)\s*;", file.read())
-    except OSError:
-        return []
-
-
 def fault_refusal(file: str) -> Refusal | None:
     """Why a file can't be read, as far as the system tells."""
     try:
@@ -232,43 +224,28 @@ def shown_by(names: Mapping[Fact, list[str]], most: int = 3) -> str:
     return "; ".join(f"{', '.join(some[:most])}{', ..' if len(some) > most else ''}: {fact}" for fact, some in names.items())
 
 
-def call(words: list[str]) -> tuple[int, bytes]:
-    """Runs the program on the streams of the caller: its status, and what it told."""
-    try:
-        # The words may name descriptors of the caller, as /dev/fd/63 of a shell.
-        done = subprocess.run([program(), *words], stderr=subprocess.PIPE, close_fds=False)
-    except OSError as error:
-        raise Refused(f"the program can't be run: {error.strerror}") from error
-    return (done.returncode if done.returncode >= 0 else 128 - done.returncode), done.stderr
+def passed_on(command: str, words: list[str]) -> int:
+    """Calls the program on the streams of the caller: its status. After its line comes what there is to say of it."""
+    called = call([command, *words], None, None)
+    sys.stderr.write(called.told)
+    refusal = refusal_of(called.told, words) if called.status else None
+    for line in refusal.lines() if refusal is not None else ():
+        print(line, file=sys.stderr)
+    return called.status if called.status >= 0 else 128 - called.status
 
 
 def run(words: list[str]) -> int:
     """`tilt run` with these words: its status and its bytes."""
-    status, told = call(["run", *words])
-    if sys.stdout is not None:
-        sys.stdout.flush()
-    sys.stderr.write(told.decode("utf-8", "replace"))
-    if status:
-        tell(refusal_of(told.decode("utf-8", "replace"), words))
-    else:
-        clash = clashes(words)
-        if clash:
-            print(f"tilt-data: note: {printable(clash)}", file=sys.stderr)
+    status = passed_on("run", words)
+    clash = None if status else clashes(words)
+    if clash:
+        print(f"tilt-data: note: {printable(clash)}", file=sys.stderr)
     return status
-
-
-def tell(refusal: Refusal | None) -> None:
-    for line in refusal.lines() if refusal is not None else ():
-        print(line, file=sys.stderr)
 
 
 def why(words: argparse.Namespace) -> int:
     """The same for a query alone; where it is taken, what `tilt explain` prints."""
-    status, told = call(["explain", words.query])
-    sys.stderr.write(told.decode("utf-8", "replace"))
-    if status:
-        tell(refusal_of(told.decode("utf-8", "replace"), [words.query]))
-    return status
+    return passed_on("explain", [words.query])
 
 
 def add(commands: Any) -> None:
