@@ -4,20 +4,23 @@ from __future__ import annotations
 import datetime
 import hashlib
 import io
+import itertools
 import os
 import pathlib
 import random
+import struct
 import sys
 import xml.etree.ElementTree
 import zoneinfo
 
 import pytest
+from tilt_data import Convention, plot
 from tilt_data.axis import axis_of
 from tilt_data.clock import Clock
 from tilt_data.drawn import Drawn, clipped, joined, numbers_of, thinned
 from tilt_data.errors import Refused
 from tilt_data.files import Notes
-from tilt_data.plot import BAND, COLOURS, LIMIT, bands, steps
+from tilt_data.plotting import BAND, COLOURS, LIMIT, Size, bands, look_of, steps
 
 MINUTE = 60 * 10**9
 
@@ -73,8 +76,8 @@ def test_a_short_stretch_is_as_wide_as_a_pixel():
 
 def test_no_band_is_narrower_than_a_pixel():
     rows = [(at, at + 1, 1) for at in (0, 5000, 5001, 5900, 749999)]
-    assert list(bands(rows, 0, 750000)) == [(0, 1000), (5000, 6000), (749000, 750000)]
-    assert list(bands([(12, 14, 1)], 10, 20)) == [(2, 4)]
+    assert list(bands(rows, 0, 750000, 750)) == [(0, 1000), (5000, 6000), (749000, 750000)]
+    assert list(bands([(12, 14, 1)], 10, 20, 750)) == [(2, 4)]
 
 
 def marks_in(path: str, sign: int) -> int:
@@ -116,6 +119,31 @@ def test_bands():
 def test_the_axis_of_a_clock(tick, lo, hi, marks, texts, label):
     places, shown, its = axis_of(Clock(tick, 0), lo, hi, None, "UTC")
     assert len(places) == marks and shown[: len(texts)] == texts and its == label and places[0] == 0
+
+
+@pytest.mark.parametrize(
+    "first, last, texts",
+    [
+        ((1992, 3, 5), (1998, 12, 31), ["1993", "1994", "1995", "1996", "1997", "1998"]),
+        ((1991, 7, 1), (2010, 2, 1), ["1992", "1994", "1996", "1998", "2000", "2002", "2004", "2006", "2008", "2010"]),
+        ((1, 1, 1), (9999, 12, 31), [f"{year:04}" for year in range(1000, 9001, 1000)]),
+        ((2026, 1, 20), (2026, 9, 2), ["2026-02", "2026-03", "2026-04", "2026-05", "2026-06", "2026-07", "2026-08", "2026-09"]),
+        ((2025, 11, 30), (2027, 6, 1), ["2026-01", "2026-03", "2026-05", "2026-07", "2026-09", "2026-11", "2027-01", "2027-03", "2027-05"]),
+        ((2024, 2, 10), (2026, 3, 1), ["2024-04", "2024-07", "2024-10", "2025-01", "2025-04", "2025-07", "2025-10", "2026-01"]),
+        ((2024, 2, 10), (2028, 3, 1), ["2024-07", "2025-01", "2025-07", "2026-01", "2026-07", "2027-01", "2027-07", "2028-01"]),
+    ],
+)
+@pytest.mark.parametrize("zone", [None, "Europe/Zurich"])
+def test_marks_are_at_whole_months_and_years(first, last, texts, zone):
+    shown_in = None if zone is None else zoneinfo.ZoneInfo(zone)
+    if zone is not None and first[0] == 1:
+        first = (1, 1, 3)
+    begin, end = (int(datetime.datetime(*date, tzinfo=shown_in or datetime.timezone.utc).timestamp()) for date in (first, last))
+    places, shown, _ = axis_of(Clock(10**9, begin * 10**9), 0, end - begin, shown_in, zone or "UTC")
+    assert shown == texts
+    for place, text in zip(places, shown):
+        date = datetime.datetime(*[*map(int, text.split("-")), 1, 1][: 2 if "-" in text else 1], *([1] if "-" in text else [1, 1]))
+        assert begin + place == date.replace(tzinfo=shown_in or datetime.timezone.utc).timestamp()
 
 
 def local(zone: str, *when: int, fold: int = 0) -> int:
@@ -240,6 +268,91 @@ def test_a_picture(told):
     assert not [name for name in os.listdir() if name.startswith(".")]
 
 
+def test_a_pdf_has_no_date(told):
+    pytest.importorskip("matplotlib")
+    put("x", "0,600,205\n")
+    assert told("plot", "a.pdf", "x=x.csv") == told("plot", "b.PDF", "x=x.csv") == (0, "", "")
+    data = pathlib.Path("a.pdf").read_bytes()
+    assert data.startswith(b"%PDF-") and data == pathlib.Path("b.PDF").read_bytes() and b"tilt-data" in data and b"Date" not in data
+
+
+@pytest.mark.parametrize(
+    "words, width, height", [([], 900, 229), (["--size", "7x3.5"], 700, 350), (["--size", "4x2", "--dpi", "300"], 1200, 600)]
+)
+def test_the_size_of_a_picture(told, words, width, height):
+    pytest.importorskip("matplotlib")
+    put("x", "0,600,205\n")
+    assert told("plot", "a.png", "x=x.csv", *words) == (0, "", "")
+    assert struct.unpack(">II", pathlib.Path("a.png").read_bytes()[16:24]) == (width, height)
+
+
+@pytest.mark.parametrize("words", [["--size", "3x2"], ["--size", "4x2", "--dpi", "30"], ["--size", "12x2", "--dpi", "200"]])
+def test_no_alarm_is_lost_at_another_size(told, words):
+    pytest.importorskip("matplotlib")
+    put("temp", "0,1036800,205\n")
+    # 8 alarms of a second in 12 days.
+    pathlib.Path("alarm.csv").write_text("start,end,value\n" + "".join(f"{at},{at + 1},90\n" for at in range(90000, 900000, 108000)))
+    assert told("plot", "band.png", "temp=temp.csv", "+band:alarm=alarm.csv", "--like", "temp.csv", *words) == (0, "", "")
+    assert marks_in("band.png", 1) == 8
+
+
+def test_the_axes_have_a_pixel_for_each_column():
+    assert Size.of(None, 100, 1) == Size(9.0, 2.3, 100) and Size(9.0, 2.3, 100).columns == 750
+    assert Size.of("2x1", 10, 1).columns == 5 and Size.of("12.5x3", 300, 2) == Size(12.5, 3.0, 300)
+
+
+def test_36_names_have_looks_of_their_own():
+    looks = [look_of(number) for number in range(36)]
+    assert len({(colour, str(line)) for colour, line, _ in looks}) == len({(colour, dot) for colour, _, dot in looks}) == 36
+    channels = [[int(colour[at : at + 2], 16) for at in (1, 3, 5)] for colour in [*COLOURS, LIMIT, BAND]]
+    apart = [sum(abs(one - other) for one, other in zip(*both)) for both in itertools.combinations(channels, 2)]
+    assert len(COLOURS) == 12 and min(apart) >= 60
+
+
+def test_a_picture_from_python_is_that_of_the_command(told):
+    pytest.importorskip("matplotlib")
+    put("temp", "0,600,205\n600,1200,213\n")
+    pathlib.Path("alarm.csv").write_text("start,end,value\n600,1200,3\n")
+    words = ["temp=temp.csv", "+band:alarm=alarm.csv", "--like", "temp.csv", "--unit", "temp=°C", "--scale", "alarm=5", "--size", "7x3.5"]
+    assert told("plot", "a.svg", *words, "--from", "300", "--title", "heat", "--zone", "Europe/Zurich") == (0, "", "")
+    files = {"temp": "temp.csv", "+band:alarm": pathlib.Path("alarm.csv")}
+    given = {"like": "temp.csv", "unit": {"temp": "°C"}, "scale": {"alarm": 5}, "size": (7, 3.5), "begin": 300, "title": "heat"}
+    plot("b.svg", files, zone="Europe/Zurich", **given)
+    assert pathlib.Path("a.svg").read_bytes() == pathlib.Path("b.svg").read_bytes()
+    with pytest.raises(Refused, match="there is nothing between --from and --to"):
+        plot("c.svg", files, begin=5, end=5)
+    with pytest.raises(Refused, match="b.gif: a name that ends in .svg, .pdf or .png was expected"):
+        plot("b.gif", files)
+
+
+def test_series_and_outputs_are_drawn_as_files_of_the_same_rows(told):
+    pytest.importorskip("matplotlib")
+    pandas = pytest.importorskip("pandas")
+    put("temp", "0,600,205\n600,1200,213\n")
+    put("event", "60,61,200\n", "event")
+    pathlib.Path("alarm.csv").write_text("start,end,value\n600,1200,3\n")
+    assert told("plot", "a.svg", "temp=temp.csv", "+band:alarm=alarm.csv", "event=event.csv", "--like", "temp.csv") == (0, "", "")
+    times = pandas.to_datetime(["1970-01-01 00:00", "1970-01-01 00:10", "1970-01-01 00:20"])
+    temp = pandas.Series([20.5, 21.3, 20.0], times)
+    alarm = pandas.DataFrame({"value": [3]}, pandas.IntervalIndex.from_arrays(times[1:2], times[2:], closed="left"))
+    event = pandas.Series([20.0], pandas.to_datetime(["1970-01-01 00:01"]))
+    convention = Convention(event={"event": True}, skip_empty=True)
+    plot("b.svg", {"temp": temp, "+band:alarm": alarm, "event": event}, end=1200, convention=convention)
+    assert pathlib.Path("a.svg").read_text() == pathlib.Path("b.svg").read_text()
+    plot("c.svg", {"temp": "temp.csv", "+band:alarm": alarm, "event": "event.csv"})
+    assert pathlib.Path("a.svg").read_text() == pathlib.Path("c.svg").read_text()
+    with pytest.raises(Refused, match="^temp: a file, a Series or a DataFrame of one column was expected, not int$"):
+        plot("d.svg", {"temp": 5})
+
+
+def test_a_picture_leaves_the_settings_of_the_caller(told):
+    matplotlib = pytest.importorskip("matplotlib")
+    put("x", "0,600,205\n")
+    before = dict(matplotlib.rcParams)
+    plot("a.svg", {"x": "x.csv"})
+    assert dict(matplotlib.rcParams) == before
+
+
 def test_one_name_has_one_colour_in_all_panels():
     def drawn(name: str, form: str = "step") -> Drawn:
         return Drawn(name, f"{name}.csv", form, None, 1)
@@ -305,7 +418,12 @@ def test_standard_input_and_pipes_are_drawn(told, monkeypatch):
 @pytest.mark.parametrize(
     "words, what",
     [
-        (["a.pdf", "x=x.csv"], "a.pdf: a name that ends in .svg or .png was expected"),
+        (["a.gif", "x=x.csv"], "a.gif: a name that ends in .svg, .pdf or .png was expected"),
+        (["a.svg", "x=x.csv", "--size", "7"], "size 7: WIDTHxHEIGHT in inches was expected, from 2x1 to 200x200, such as 7x3.5"),
+        (["a.svg", "x=x.csv", "--size", "1x1"], "size 1x1: WIDTHxHEIGHT"),
+        (["a.svg", "x=x.csv", "--size", "7x²"], "size 7x²: WIDTHxHEIGHT"),
+        (["a.svg", "x=x.csv", "--dpi", "9"], "dpi 9: 10 to 2400 was expected"),
+        (["a.svg", "x=x.csv", "--size", "200x200", "--dpi", "300"], "dpi 300: 10 to 2400 was expected, and at most 100,000,000 pixels"),
         (["a.svg", "+x=x.csv"], "'+x=x.csv': NAME=FILE was expected, and + only after a panel"),
         (["a.svg", "x=nowhere.csv"], "nowhere.csv: No such file or directory"),
         (["a.svg", "x=x.csv", "y=y.csv"], "these files have other ticks or origins"),

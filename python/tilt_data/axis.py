@@ -7,6 +7,8 @@ from typing import Iterator
 from .clock import DAY, EPOCH, Clock, moment_text
 from .errors import Refused
 
+# A step of whole months is so many times this; the marks are on the first days of months all the same.
+MONTH = 30 * DAY
 # Steps of the axis in nanoseconds, by unit.
 STEPS = [
     step * unit
@@ -15,7 +17,9 @@ STEPS = [
         (10**3, (1, 2, 5, 10, 20, 50, 100, 200, 500)),
         (10**6, (1, 2, 5, 10, 20, 50, 100, 200, 500)),
         (10**9, (1, 2, 5, 10, 15, 30, 60, 120, 300, 600, 900, 1800, 3600, 7200, 10800, 21600, 43200)),
-        (DAY, (1, 2, 7, 14, 30, 60, 120, 365, 730, 3650)),
+        (DAY, (1, 2, 7, 14)),
+        (MONTH, (1, 2, 3, 6)),
+        (12 * MONTH, (1, 2, 5, 10, 20, 50, 100, 200, 500, 1000)),
     )
     for step in steps
 ]
@@ -46,6 +50,15 @@ def days(begin: int, end: int, step: int, zone: datetime.tzinfo | None) -> list[
     first, last = begin + shift_at(begin, zone), end + shift_at(end, zone)
     found = {midnight(local, zone) for local in range(-(-first // step) * step, last + 1, step)}
     return sorted(moment for moment in found if begin <= moment <= end)
+
+
+def months(begin: int, end: int, count: int, zone: datetime.tzinfo | None) -> list[int]:
+    """The midnights before the first days of months in a stretch, so many months apart; multiples of twelve begin with a January."""
+    local = [EPOCH + datetime.timedelta(seconds=(moment + shift_at(moment, zone)) // 10**9) for moment in (begin, end)]
+    first, last = (date.year * 12 + date.month - 1 for date in local)
+    firsts = [datetime.datetime(month // 12, month % 12 + 1, 1) for month in range(first // count * count, last + 1, count) if month >= 12]
+    found = [midnight((date - EPOCH).days * DAY, zone) for date in firsts]
+    return [moment for moment in found if begin <= moment <= end]
 
 
 def times_of_day(begin: int, end: int, step: int, zone: datetime.tzinfo | None) -> Iterator[int]:
@@ -83,12 +96,17 @@ def axis_of(clock: Clock | None, lo: int, hi: int, zone: datetime.tzinfo | None,
     begin, end = clock.moment(lo), clock.moment(hi)
     first, last = (moment_text(moment, 0, zone)[:10] for moment in (begin, end - 1))
     step = next((step for step in STEPS if (end - begin) // step <= 9), STEPS[-1])
-    moments = days(begin, end, step, zone) if step >= DAY else list(times_of_day(begin, end, step, zone))
+    if step >= MONTH:
+        moments = months(begin, end, step // MONTH, zone)
+    else:
+        moments = days(begin, end, step, zone) if step >= DAY else list(times_of_day(begin, end, step, zone))
     digits = 0 if step % 10**9 == 0 else 3 if step % 10**6 == 0 else 6 if step % 10**3 == 0 else 9
     texts = [moment_text(moment, digits, zone) for moment in moments]
     part = slice(11, 20 + digits if digits else 19)
-    if step % (60 * 10**9) == 0:
-        part = slice(0, 10) if step >= DAY else slice(11, 16)
+    if step >= DAY:
+        part = slice(0, 4 if step >= 12 * MONTH else 7 if step >= MONTH else 10)
+    elif step % (60 * 10**9) == 0:
+        part = slice(11, 16)
     day = first if first == last else f"{first} to {last}"
     return [(moment - begin) / clock.tick for moment in moments], [text[part] for text in texts], f"{day} ({zone_name})"
 

@@ -11,11 +11,11 @@ import threading
 import traceback
 from typing import Iterator
 
-from . import by, follow, plot, scaling, serve, series, table, ticks, view, why
+from . import by, follow, plotting, scaling, serve, series, table, ticks, view, why
 from .errors import Refused, printable
 from .version import ShowVersion
 
-COMMANDS = [series, table, why, ticks, by, scaling, follow, plot, view, serve]
+COMMANDS = [series, table, why, ticks, by, scaling, follow, plotting, view, serve]
 
 
 def parser_of() -> argparse.ArgumentParser:

@@ -1,6 +1,6 @@
 // Times and marks of the axes. The marks of the clock are those of axis.py; its steps and the changes of the zone come with the page.
 
-const SECOND = 10n ** 9n, DAY = 86400n * SECOND;
+const SECOND = 10n ** 9n, DAY = 86400n * SECOND, MONTH = 30n * DAY;
 
 class Clock {
   constructor(fields, steps) {
@@ -37,10 +37,12 @@ class Clock {
   axis(begin, end, most) {
     const first = this.text(begin, 0).slice(0, 10), last = this.text(end - 1n, 0).slice(0, 10);
     const step = this.steps.find((step) => (end - begin) / step <= BigInt(most)) || this.steps[this.steps.length - 1];
-    const moments = step >= DAY ? this.days(begin, end, step) : this.timesOfDay(begin, end, step);
+    const moments = step >= MONTH ? this.months(begin, end, Number(step / MONTH))
+      : step >= DAY ? this.days(begin, end, step) : this.timesOfDay(begin, end, step);
     const digits = step % SECOND === 0n ? 0 : step % 10n ** 6n === 0n ? 3 : step % 1000n === 0n ? 6 : 9;
     let part = [11, digits ? 20 + digits : 19];
-    if (step % (60n * SECOND) === 0n) part = step >= DAY ? [0, 10] : [11, 16];
+    if (step >= DAY) part = [0, step >= 12n * MONTH ? 4 : step >= MONTH ? 7 : 10];
+    else if (step % (60n * SECOND) === 0n) part = [11, 16];
     const marks = moments.map((moment) => ({ moment, text: this.text(moment, digits).slice(...part) }));
     return { marks, label: `${first === last ? first : `${first} to ${last}`} (${this.zone || "UTC"})` };
   }
@@ -52,6 +54,19 @@ class Clock {
     for (let local = ceilDiv(begin + this.shiftAt(begin), step) * step; local <= last; local += step) {
       const moment = local - this.shiftOf(local);
       if (begin <= moment && moment <= end && moment !== found[found.length - 1]) found.push(moment);
+    }
+    return found;
+  }
+
+  // The midnights before the first days of months in a stretch, so many months apart.
+  months(begin, end, count) {
+    const found = [];
+    const dates = [begin, end].map((moment) => new Date(Number(floorDiv(moment + this.shiftAt(moment), SECOND)) * 1000));
+    const [first, last] = dates.map((date) => date.getUTCFullYear() * 12 + date.getUTCMonth());
+    for (let month = Math.floor(first / count) * count; month <= last; month += count) {
+      const local = BigInt(new Date(0).setUTCFullYear(Math.floor(month / 12), month - Math.floor(month / 12) * 12, 1)) * (SECOND / 1000n);
+      const moment = local - this.shiftOf(local);
+      if (month >= 12 && begin <= moment && moment <= end) found.push(moment);
     }
     return found;
   }
