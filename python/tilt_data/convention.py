@@ -4,13 +4,29 @@ from __future__ import annotations
 import dataclasses
 import datetime
 import numbers
-from typing import Any, Iterable, Literal, Mapping, Union
+from typing import Any, Iterable, Literal, Mapping, TypedDict, Union
 
 from .clock import Clock, Moments, duration_of
 from .convert import TIES, Rule
 from .errors import Refused
 
 Time = Union[str, datetime.date]
+
+
+class Options(TypedDict, total=False):
+    """The fields of a `Convention` as arguments."""
+
+    tick: str | None
+    origin: Time | None
+    closed: Literal["left", "right"] | None
+    event: bool | Mapping[str, bool]
+    max_age: str | Mapping[str, str] | None
+    until: Time | None
+    ties: Literal["last", "first", "spread", "refuse"]
+    scale: int | Literal["auto"]
+    output_scale: int | None
+    scales: Literal["same", "differ"]
+    skip_empty: bool
 
 
 @dataclasses.dataclass(frozen=True)
@@ -85,7 +101,7 @@ class Convention:
         return Rule(not self.is_event(name), held, self.ties)
 
 
-def convention_of(convention: Convention | None, options: dict[str, Any], others: Iterable[str] = ()) -> Convention:
+def convention_of(convention: Convention | None, options: Mapping[str, object], others: Iterable[str] = ()) -> Convention:
     """The convention with these options; `others` are the names of the arguments that the caller also takes."""
     fields = [field.name for field in dataclasses.fields(Convention)]
     unknown = next((name for name in options if name not in fields), None)
@@ -93,7 +109,8 @@ def convention_of(convention: Convention | None, options: dict[str, Any], others
         raise Refused(f"{unknown}={options[unknown]!r}: there is no such option; the options are {', '.join([*fields, *others])}")
     if convention is not None and not isinstance(convention, Convention):
         raise Refused(f"convention={convention!r}: a Convention was expected")
-    return dataclasses.replace(convention or Convention(), **options)
+    changes: dict[str, Any] = dict(options)
+    return dataclasses.replace(convention or Convention(), **changes)
 
 
 def values_of(given: Any) -> list[Any]:

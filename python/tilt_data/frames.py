@@ -13,11 +13,11 @@ import re
 import sys
 import tempfile
 import warnings
-from typing import TYPE_CHECKING, Any, Iterator, Mapping, Union
+from typing import TYPE_CHECKING, Any, Iterator, Literal, Mapping, Union, Unpack
 
 from . import sessions
 from .clock import TIMES, Clock, duration_of, duration_text, moment_text
-from .convention import Convention, check_flag, check_one_of, convention_of, moment_read
+from .convention import Convention, Options, check_flag, check_one_of, convention_of, moment_read
 from .convert import Converter, Late, Tie
 from .degrees import scale_notes
 from .errors import Refused, TiltError
@@ -31,7 +31,21 @@ if TYPE_CHECKING:
 
     Input = Union[pandas.Series, str, os.PathLike[str]]
 
-# The arguments of `run` besides those of a convention.
+Index = Literal["interval", "start", "end"]
+
+
+class RunOptions(Options, total=False):
+    """The arguments of `run` besides the query and the data."""
+
+    by: str | None
+    merge: bool
+    index: Index
+    exact: bool
+    inputs: Mapping[str, Any] | None
+    convention: Convention | None
+
+
+# Those that aren't of a convention.
 ARGUMENTS = ("by", "merge", "index", "exact", "inputs", "convention")
 # The moments that pandas has.
 FIRST, LAST = -(2**63) + 1, 2**63 - 1
@@ -75,11 +89,11 @@ class Query:
         *,
         by: str | None = None,
         merge: bool = False,
-        index: str = "interval",
+        index: Index = "interval",
         exact: bool = False,
         convention: Convention | None = None,
         inputs: Mapping[str, Any] | None = None,
-        **options: Any,
+        **options: Unpack[Options],
     ) -> pandas.DataFrame:
         """What `tilt run` prints, as a DataFrame with the column `value`; see `run`."""
         convention = convention_of(convention, options, ARGUMENTS)
@@ -106,7 +120,7 @@ class Query:
         return shape.frame(rows, merge, index, exact)
 
     def by_key(
-        self, data: Any, by: str, merge: bool, index: str, exact: bool, convention: Convention, named: dict[str, Any]
+        self, data: Any, by: str, merge: bool, index: Index, exact: bool, convention: Convention, named: dict[str, Any]
     ) -> pandas.DataFrame:
         """One run for each key of a column, one after another; the keys are the first level of the index."""
         import pandas
@@ -132,12 +146,12 @@ class Query:
         if notes:
             warnings.warn(f"values times {scale}: {'; '.join(notes)}; scale={scale} says that this is meant", stacklevel=level_of_caller())
 
-    def live(self, convention: Convention | None = None, **options: Any) -> Live:
+    def live(self, convention: Convention | None = None, **options: Unpack[Options]) -> Live:
         """A run by sessions, which takes rows as they come."""
         return Live(self, convention_of(convention, options))
 
 
-def run(query: str | os.PathLike[str] | Query, data: Any = None, **options: Any) -> pandas.DataFrame:
+def run(query: str | os.PathLike[str] | Query, data: Any = None, **options: Unpack[RunOptions]) -> pandas.DataFrame:
     """Runs a query. The inputs are the columns of `data`, a DataFrame with a DatetimeIndex, or are in `inputs={name: Series or file}`.
 
     A Series with a DatetimeIndex has readings, which become rows by the options of a `Convention`: `tick`, `origin`, `closed`, `event`,
@@ -150,7 +164,7 @@ def run(query: str | os.PathLike[str] | Query, data: Any = None, **options: Any)
 
 
 def span(
-    data: Any = None, *, inputs: Mapping[str, Any] | None = None, convention: Convention | None = None, **options: Any
+    data: Any = None, *, inputs: Mapping[str, Any] | None = None, convention: Convention | None = None, **options: Unpack[Options]
 ) -> tuple[int, int]:
     """The ticks `(start, end]` over which the inputs have rows, by the arguments that `run` takes: a query has them in its `over`."""
     import pandas
