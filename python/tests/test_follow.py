@@ -418,8 +418,11 @@ def test_a_query_that_is_refused_begins_no_state(tilt, tmp_path):
     [
         (["--until", "tomorrow"], "'tomorrow' is no time: ISO 8601 was expected"),
         (["--until", "9999-01-01", "--tick", "1ns", "--origin", "1677-01-01"], "--until 9999-01-01: its tick "),
-        (["--event", "--max-age", "5s"], "--event is a reading of one tick: --max-age and --until are for readings that hold"),
-        (["--scale", "0"], "--scale: 1 or more was expected"),
+        (["--event", "--max-age", "5s"], "--event is a reading of one tick: --hold, --max-age and --until are for readings that hold"),
+        (["--scale", "0"], "--scale 0: a whole number above 0, auto, or NAME=N was expected"),
+        (["--scale", "10", "--scale", "limit=auto"], "--scale auto: rows are handed on before all data are there, so a whole number"),
+        (["--scale", "10", "--scale", "100"], "--scale without a name: it is given twice, as 10 and 100: give it once"),
+        (["--max-age", "tmep=5s"], "--max-age tmep=..: no input has this name; there are: temp, limit"),
         (["--rows", "0"], "--rows: 1 or more was expected"),
     ],
 )
@@ -454,6 +457,18 @@ def test_other_names_are_passed_over(tilt, tmp_path):
 # Calls that differ from the one before
 
 
+def test_inputs_have_conventions_of_their_own(tilt, tmp_path):
+    (tmp_path / "q").write_text("input x; input y; emit x + y over (0, 20];")
+    readings = [("x", 1, "1.5"), ("y", 2, "0.25"), ("x", 3, ""), ("x", 10, "2.5"), ("y", 12, "0.5")]
+    given = "".join(f"{name},2026-03-01T00:00:{second:02},{value}\n" for name, second, value in readings).encode()
+    words = ["--tick", "1s", "--origin", "2026-03-01", "--scale", "10", "--scale", "y=100", "--max-age", "x=5s", "--hold", "next"]
+    wanted = "start,end,value\n2,6,40\n10,12,50\n12,13,75\n"
+    assert done(follow(tmp_path, "--state", "s", *words, "--skip-empty", "--end", stdin=subprocess.PIPE), given) == (0, wanted, "")
+    # Without --skip-empty the field without a value ends the reading before it.
+    wanted = wanted.replace("2,6,40", "2,3,40")
+    assert done(follow(tmp_path, "--state", "t", *words, "--end", stdin=subprocess.PIPE), given) == (0, wanted, "")
+
+
 CLOCK = ["--tick", "1s", "--origin", "2026-03-01", "--scale", "10", "--max-age", "30s", "--ties", "last", "--null", "NA"]
 
 
@@ -477,6 +492,9 @@ CHANGES = [
     (changed("--until", "2026-03-02"), "without --until", "with --until 2026-03-02T00:00:00Z"),
     (changed("--ties", "first"), "with --ties last", "with --ties first"),
     (changed("--null", "NA,-9"), "with --null NA", "with --null -9,NA"),
+    ([*CLOCK, "--skip-empty"], "without --skip-empty", "with --skip-empty"),
+    ([*CLOCK, "--scale", "x=100"], "with --scale 10", "with --scale 10 --scale x=100"),
+    ([*CLOCK, "--max-age", "x=5s"], "with --max-age 30s", "with --max-age 30s --max-age x=5s"),
     (
         changed("--tick", "-", "--origin", "-", "--scale", "-", "--like", "hundred.csv"),
         "with --scale 10",

@@ -1,16 +1,21 @@
-"""How readings from Python become rows: the arguments of `run`, `live` and `span`, and the checks that reject a wrong one."""
+"""How readings become rows: the arguments of `run`, `live` and `span` for Python, the options of `series` and `follow`, and their checks."""
 from __future__ import annotations
 
+import argparse
 import dataclasses
 import datetime
 import numbers
-from typing import Any, Iterable, Literal, Mapping, TypedDict, Union
+from typing import Any, Iterable, Literal, Mapping, TypedDict, TypeVar, Union
 
-from .clock import Clock, Moments, duration_of
+from .clock import Clock, Moments, duration_of, duration_text, moment_text, zone_of
 from .convert import TIES, Rule
 from .errors import Refused
+from .files import Notes, notes_of, notes_path
+from .scales import scale_of
 
 Time = Union[str, datetime.date]
+Factor = Union[int, Literal["auto"]]
+T = TypeVar("T")
 
 
 class Options(TypedDict, total=False):
@@ -23,10 +28,10 @@ class Options(TypedDict, total=False):
     max_age: str | Mapping[str, str] | None
     until: Time | None
     ties: Literal["last", "first", "spread", "refuse"]
-    scale: int | Literal["auto"]
+    scale: Factor | Mapping[str, Factor]
     output_scale: int | None
     scales: Literal["same", "differ"]
-    skip_empty: bool
+    skip_empty: bool | Mapping[str, bool]
 
 
 @dataclasses.dataclass(frozen=True)
@@ -36,7 +41,7 @@ class Convention:
     - `tick`: a duration, such as `1s` or `250ms`; by default that of the files, or `1s`.
     - `origin`: a time, in UTC unless it has an offset; by default the midnight before the first reading, in the zone of the first input.
     - `closed`: `left` or `right`; by default that of the files or of the intervals, or `left`.
-    - `event`, `max_age`: a value for all inputs, or one for each name, such as `{"price": True}`.
+    - `event`, `max_age`, `scale`, `skip_empty`: a value for all inputs, or one for each name, such as `{"price": True}`.
     - `until`: the time until which the last reading holds.
     - `ties`: `last`, `first`, `spread` or `refuse`.
     - `scale`: a whole number, or `auto`: that of the files, or the smallest power of ten that makes all values whole.
@@ -51,26 +56,27 @@ class Convention:
     max_age: str | Mapping[str, str] | None = None
     until: Time | None = None
     ties: Literal["last", "first", "spread", "refuse"] = "refuse"
-    scale: int | Literal["auto"] = "auto"
+    scale: Factor | Mapping[str, Factor] = "auto"
     output_scale: int | None = None
     scales: Literal["same", "differ"] = "same"
-    skip_empty: bool = False
+    skip_empty: bool | Mapping[str, bool] = False
 
     def __post_init__(self) -> None:
         check_one_of("closed", self.closed, ("left", "right", None))
         check_one_of("ties", self.ties, TIES)
         check_one_of("scales", self.scales, ("same", "differ"))
-        check_flag("skip_empty", self.skip_empty)
-        for value in values_of(self.event):
-            check_flag("event", value)
+        for name in ("event", "skip_empty"):
+            for value in values_of(getattr(self, name)):
+                check_flag(name, value)
         for name, length in (("tick", self.tick), *(("max_age", age) for age in values_of(self.max_age))):
             if length is not None:
                 duration_read(name, length)
         for name, time in (("origin", self.origin), ("until", self.until)):
             if time is not None:
                 moment_read(name, time)
-        if self.scale != "auto" and not is_count(self.scale):
-            raise Refused(f"scale={self.scale!r}: a whole number above 0 or 'auto' was expected")
+        wrong = next((scale for scale in values_of(self.scale) if scale != "auto" and not is_count(scale)), None)
+        if wrong is not None or self.scale is None:
+            raise Refused(f"scale={wrong!r}: a whole number above 0 or 'auto' was expected")
         if self.output_scale is not None and not is_count(self.output_scale):
             raise Refused(f"output_scale={self.output_scale!r}: a whole number above 0 was expected")
         self.check_events()
@@ -83,22 +89,155 @@ class Convention:
             if self.is_event(name):
                 raise Refused(f"max_age[{name!r}]: the input is an event of one tick by event[{name!r}]=True")
 
-    def check_names(self, names: Iterable[str]) -> None:
+    def check_names(self, names: Iterable[str], what: str = "input") -> None:
         """Rejects a name that no input has: it would change nothing."""
         there = list(names)
-        for option, given in (("event", self.event), ("max_age", self.max_age)):
+        for option in ("event", "max_age", "scale", "skip_empty"):
+            given = getattr(self, option)
             for name in given if isinstance(given, Mapping) else ():
-                if name not in there:
-                    raise Refused(f"{option}[{name!r}]: no input has this name; there are: {', '.join(there)}")
+                if name and name not in there:
+                    listed = f"{', '.join(there[:10])}{', ..' if len(there) > 10 else ''}"
+                    raise Refused(f"{self.shown(option, name)}: no {what} has this name; there are: {listed}")
+
+    def shown(self, option: str, name: str = "") -> str:
+        """How an option is written, for all inputs or for one."""
+        return f"{option}[{name!r}]" if name else option
 
     def is_event(self, name: str) -> bool:
-        return bool(self.event.get(name, False) if isinstance(self.event, Mapping) else self.event)
+        return of_input(self.event, name, False)
+
+    def skips_empty(self, name: str) -> bool:
+        return of_input(self.skip_empty, name, False)
+
+    def scale_of(self, name: str) -> int | None:
+        """The scale of an input; None if it goes by the data, or by a series."""
+        scale: Factor = of_input(self.scale, name, "auto")
+        return None if scale == "auto" else int(scale)
 
     def rule(self, name: str, clock: Clock) -> Rule:
         """The convention of an input."""
-        age = self.max_age.get(name) if isinstance(self.max_age, Mapping) else self.max_age
-        held = None if age is None or self.is_event(name) else clock.ticks(duration_of(age), "max_age")
+        age = of_input(self.max_age, name, None)
+        held = None if age is None or self.is_event(name) else clock.ticks(duration_of(age), self.shown("max_age"))
         return Rule(not self.is_event(name), held, self.ties)
+
+
+@dataclasses.dataclass(frozen=True)
+class TextConvention(Convention):
+    """The convention of readings that are texts: also the unit and the zone of their times, the texts that mean no value, and the series of
+    `like`, whose clock and scale count if no other is given. In a mapping the empty name has what is for all others."""
+
+    unit: str | None = None
+    zone: str | None = None
+    null: frozenset[str] = frozenset()
+    like: Notes | None = None
+
+    def __post_init__(self) -> None:
+        """What the parser takes is checked where it is used: a message about a time names its file and its line."""
+
+    @staticmethod
+    def add_to(parser: argparse.ArgumentParser, lasting: bool = False) -> None:
+        """Adds the options. If the query is `lasting`, NAME=FILE can follow any of them, so that each takes one argument, and no scale can
+        go by data that are still to come."""
+        several: Any = {"action": "append"} if lasting else {"nargs": "+", "action": "extend"}
+        auto = "" if lasting else "; auto for the smallest power of ten that makes them whole"
+        add = parser.add_argument
+        add("--unit", choices=["s", "ms", "us", "ns"], help="times are numbers since 1970 in this unit, and not ISO 8601")
+        add("--zone", help="the zone of times without an offset, such as Europe/Zurich (UTC)")
+        add("--tick", help="the length of a tick, such as 1s, 1ms or 1min")
+        midnight = "" if lasting else " (the midnight before the first reading)"
+        add("--origin", help=f"the moment at which the first tick starts{midnight}")
+        add("--like", metavar="SERIES", help="take tick, origin and scale from the JSON file beside this series")
+        add("--scale", metavar="N", default=[], help=f"values times N are whole{auto}; NAME=N for one series", **several)
+        add("--hold", choices=["next"], help="a reading holds until the next one (the default without --event)")
+        longest = "a reading holds no longer than this, such as 5min; NAME=5min for one series"
+        add("--max-age", metavar="DURATION", default=[], help=longest, **several)
+        add("--until", metavar="TIME", help="until when the last reading holds (one tick, or --max-age)")
+        add("--event", action="store_true", help="a reading is an event of one tick")
+        add("--closed", choices=["left", "right"], help="which edge of a tick belongs to it, as in pandas (left)")
+        ties = "which of the readings in one tick counts: the last, the first, or each, in ticks one after another. With refuse they are an error"
+        add("--ties", choices=TIES, default="refuse", help=f"{ties} (refuse)")
+        nulls = "texts with commas between them that mean no value, such as NaN,-1; empty fields always do"
+        add("--null", metavar="TEXTS", action="append", default=[], help=nulls)
+        add("--skip-empty", action="store_true", help="a field without a value is no reading, and doesn't end the one before")
+
+    @classmethod
+    def of(cls, words: argparse.Namespace) -> TextConvention:
+        """The convention that the options give."""
+        if words.event and (words.hold or words.max_age or words.until):
+            raise Refused("--event is a reading of one tick: --hold, --max-age and --until are for readings that hold")
+        like = None if words.like is None else notes_of(words.like)
+        if words.like is not None and like is None:
+            raise Refused(f"{words.like}: there is no {notes_path(words.like)} beside it; `tilt-data series` writes one")
+        same = {name: getattr(words, name) for name in ("tick", "origin", "closed", "event", "until", "ties", "skip_empty", "unit", "zone")}
+        null = frozenset(text for texts in words.null for text in texts.split(",") if text)
+        scale = {name: factor_of(name, text) for name, text in named_once("--scale", words.scale).items()}
+        return cls(**same, max_age=named_once("--max-age", words.max_age), scale=scale, null=null, like=like)
+
+    def shown(self, option: str, name: str = "") -> str:
+        option = "--" + option.replace("_", "-")
+        return f"{option} {name}=.." if name else option
+
+    def is_missing(self, text: str) -> bool:
+        """Whether a text means that there is no value."""
+        return not text or text in self.null or not text.strip()
+
+    def scale_of(self, name: str) -> int | None:
+        own = super().scale_of(name)
+        given = isinstance(self.scale, Mapping) and (name in self.scale or "" in self.scale)
+        return own if given else 1 if self.like is None else self.like.scale
+
+    def moment(self, text: Any) -> int:
+        try:
+            return Moments(None, zone_of(self.zone)).iso(text)
+        except ValueError as error:
+            raise Refused(str(error)) from error
+
+    @property
+    def has_clock(self) -> bool:
+        """Whether the clock is known before there is a reading."""
+        return self.tick is not None and self.origin is not None or self.like is not None
+
+    def clock(self, first: int) -> Clock:
+        """The clock that is given, or that of the series of `like`; otherwise it starts at the midnight before the first reading, which is a
+        ValueError if there is no such moment."""
+        like = None if self.like is None else self.like.clock
+        if self.tick is not None:
+            tick = duration_of(self.tick)
+        elif like is not None:
+            tick = like.tick
+        else:
+            raise Refused("how long is a tick? --tick 1s, 1ms, 1min, .. or --like a series that was written before")
+        closed = self.closed or (like.closed if like is not None else "left")
+        if self.origin is None:
+            return Clock(tick, midnight_before(first, self.zone) if like is None else like.origin, closed)
+        origin = self.moment(self.origin)
+        if not is_shown(origin):
+            raise Refused(f"--origin {self.origin}: in UTC it lies outside of the years 1 to 9999: name another moment")
+        return Clock(tick, origin, closed)
+
+    def arguments(self) -> dict[str, Any]:
+        """All that makes rows of readings, by the option that gives it. The clock and the scale are those that --tick, --origin, --closed,
+        --scale and --like give together. Each value has one spelling, which the option takes."""
+        like = None if self.like is None else self.like.clock
+        tick = duration_of(self.tick) if self.tick is not None else None if like is None else like.tick
+        origin = self.moment(self.origin) if self.origin is not None else None if like is None else like.origin
+        scales = dict(self.scale) if isinstance(self.scale, Mapping) else {"": self.scale}
+        scales.setdefault("", 1 if self.like is None else self.like.scale)
+        ages = self.max_age if isinstance(self.max_age, Mapping) else {}
+        return {
+            "--tick": None if tick is None else duration_text(tick),
+            "--origin": None if origin is None else time_text(origin),
+            "--closed": self.closed or ("left" if like is None else like.closed),
+            "--scale": scales[""] if len(scales) == 1 else spelled_all("--scale", scales),
+            "--zone": self.zone or "UTC",
+            "--unit": self.unit,
+            "--max-age": spelled_all("--max-age", {name: duration_text(duration_of(age)) for name, age in ages.items()}),
+            "--until": None if self.until is None else time_text(self.moment(self.until)),
+            "--ties": self.ties,
+            "--null": ",".join(sorted(self.null)) or None,
+            "--event": self.event,
+            "--skip-empty": self.skip_empty,
+        }
 
 
 def convention_of(convention: Convention | None, options: Mapping[str, object], others: Iterable[str] = ()) -> Convention:
@@ -111,6 +250,36 @@ def convention_of(convention: Convention | None, options: Mapping[str, object], 
         raise Refused(f"convention={convention!r}: a Convention was expected")
     changes: dict[str, Any] = dict(options)
     return dataclasses.replace(convention or Convention(), **changes)
+
+
+def of_input(given: T | Mapping[str, T], name: str, default: T) -> T:
+    """What an option gives to an input: its own, or that of all others."""
+    return given.get(name, given.get("", default)) if isinstance(given, Mapping) else given
+
+
+def named_once(option: str, words: list[str]) -> dict[str, str]:
+    """What an option gives to each series, by name; the name is empty for all others. Two for one name are an error."""
+    found: dict[str, str] = {}
+    for word in words:
+        name, _, text = word.rpartition("=")
+        if name in found:
+            what = f"{name}=.." if name else "without a name"
+            raise Refused(f"{option} {what}: it is given twice, as {found[name]} and {text}: give it once")
+        found[name] = text
+    return found
+
+
+def factor_of(name: str, text: str) -> Factor:
+    try:
+        return "auto" if text == "auto" else scale_of(text)
+    except ValueError as error:
+        shown_word = f"{name}={text}" if name else text
+        raise Refused(f"--scale {shown_word}: a whole number above 0, auto, or NAME=N was expected") from error
+
+
+def spelled_all(option: str, given: Mapping[str, Any]) -> str | None:
+    """The arguments of an option that is given for several names."""
+    return f" {option} ".join(f"{name}={given[name]}" if name else f"{given[name]}" for name in sorted(given)) or None
 
 
 def values_of(given: Any) -> list[Any]:
@@ -146,3 +315,33 @@ def moment_read(name: str, value: Time) -> int:
         return Moments().iso(str(value))
     except ValueError as error:
         raise Refused(f"{name}={value!r}: a time was expected, such as '2026-03-01' or '2026-03-01T06:00+01:00'") from error
+
+
+def midnight_before(moment: int, zone: str | None) -> int:
+    """The midnight before a moment, or at it, in a zone. If there is none within the years 1 to 9999, or if there are two, it is a
+    ValueError that says so."""
+    local = zone_of(zone)
+    try:
+        midnight = Moments(None, local).iso(moment_text(moment, 0, local)[:10])
+        moment_text(midnight, 0)
+    except (Refused, ValueError) as error:
+        where = "" if zone is None else f" in {zone}"
+        raise ValueError(
+            f"the first reading, at {time_text(moment)}, has no midnight before it{where}, or it has two: name the moment of "
+            "the first tick by --origin"
+        ) from error
+    return midnight
+
+
+def time_text(moment: int) -> str:
+    """A moment in UTC, or as a number if it lies outside of the years 1 to 9999."""
+    return moment_text(moment, 9 if moment % 10**9 else 0) if is_shown(moment) else f"{moment} ns after 1970"
+
+
+def is_shown(moment: int) -> bool:
+    """Whether a moment lies in the years 1 to 9999 of UTC."""
+    try:
+        moment_text(moment, 0)
+    except Refused:
+        return False
+    return True

@@ -32,14 +32,14 @@ import time
 from typing import Any, Iterator, NoReturn
 
 from . import sessions
-from .clock import TIMES, Clock, Moments, duration_of, duration_text, moment_text, zone_of
-from .convert import Converter, Late, Rule, TIES, Tie, row_text
+from .clock import TIMES, Clock, Moments, duration_of, zone_of
+from .convention import TextConvention
+from .convert import Converter, Late, Tie, row_text
 from .errors import Refused, printable
 from .explain import Explained
-from .files import Notes, Row, notes_of, notes_path, reading, rows_of, writing
+from .files import Notes, Row, notes_of, reading, rows_of, writing
 from .grammar import statements_of
 from .scales import GREATEST, LEAST, Scale
-from .series import Nulls, clock_of, moment_of
 from .tokens import Faulty
 from .version import VERSION
 from .why import clashes
@@ -79,15 +79,7 @@ def add(commands: Any) -> None:
         "--skip-bad", action="store_true", help="a line that can't be taken is reported, written to rejected.log in the folder, and skipped"
     )
     parser.add_argument("--quiet", action="store_true", help="print nothing: output.csv has it")
-    same = "of readings, as in `tilt-data series`"
-    parser.add_argument("--unit", choices=["s", "ms", "us", "ns"], help=same)
-    for option in ("--zone", "--tick", "--origin", "--like", "--max-age", "--until"):
-        parser.add_argument(option, help=same)
-    parser.add_argument("--scale", type=int, help=f"{same}, but one whole number for all inputs")
-    parser.add_argument("--event", action="store_true", help=same)
-    parser.add_argument("--closed", choices=["left", "right"], help=same)
-    parser.add_argument("--ties", choices=TIES, default="refuse", help=same)
-    parser.add_argument("--null", default="", help=same)
+    TextConvention.add_to(parser, lasting=True)
     parser.set_defaults(main=main)
     parser.parse_known_args = functools.partial(with_later_files, parser.parse_known_args)
 
@@ -168,22 +160,26 @@ class Reader:
         self.words = words
         self.sources = sources
         self.moments = Moments(words.unit, zone_of(words.zone))
-        self.nulls = Nulls({text for text in words.null.split(",") if text})
-        self.like = None if words.like is None else notes_of(words.like)
-        if words.like is not None and self.like is None:
-            raise Refused(f"{words.like}: there is no {notes_path(words.like)} beside it")
-        self.scale = Scale(words.scale or (self.like.scale if self.like is not None else 1))
-        self.clock: Clock | None = None
-        if words.tick is not None and words.origin is not None or self.like is not None:
-            self.clock = clock_of(words, self.like, 0)
+        self.convention = TextConvention.of(words)
+        self.convention.check_names(sources)
+        self.scales = {name: Scale(scale) for name, scale in self.known_scales().items()}
+        self.clock = self.convention.clock(0) if self.convention.has_clock else None
         self.until = self.until_of(words)
         self.unknown: set[str] = set()
+
+    def known_scales(self) -> dict[str, int]:
+        """The scale of each input, which is needed before its first reading."""
+        scales = {name: self.convention.scale_of(name) for name in self.sources}
+        unknown = next((name for name, scale in scales.items() if scale is None), None)
+        if unknown is not None:
+            raise Refused("--scale auto: rows are handed on before all data are there, so a whole number above 0 was expected")
+        return {name: scale for name, scale in scales.items() if scale is not None}
 
     def until_of(self, words: argparse.Namespace) -> int | None:
         """The tick of --until, which is read before any line is."""
         if words.until is None:
             return None
-        moment = moment_of(words.until, words)
+        moment = self.convention.moment(words.until)
         tick = None if self.clock is None else self.clock.start(moment)
         if tick is not None and not -TIMES <= tick <= TIMES:
             raise Refused(f"--until {words.until}: its tick {tick} isn't within {-TIMES} to {TIMES}")
@@ -227,10 +223,12 @@ class Reader:
     def reading(self, source: Source, fields: list[str]) -> None:
         if self.clock is None:
             raise Refused("readings need a clock: --tick and --origin, or --like a series")
-        converter = source.converter or Converter(self.clock, self.rule(self.clock))
+        converter = source.converter or Converter(self.clock, self.convention.rule(fields[0], self.clock))
         try:
-            value = None if self.nulls.has(fields[2]) else self.scale.whole(fields[2])
+            value = None if self.convention.is_missing(fields[2]) else self.scales[fields[0]].whole(fields[2])
             moment = self.moments.read(fields[1])
+            if value is None and self.convention.skips_empty(fields[0]):
+                return
             self.within(source, converter, self.clock.start(moment))
             row = converter.push(moment, value)
         except Tie as error:
@@ -254,10 +252,6 @@ class Reader:
         if not -TIMES <= tick <= TIMES - (converter.rule.max_age or 1):
             raise BadLine(f"its row would not lie within {-TIMES} to {TIMES} ticks")
 
-    def rule(self, clock: Clock) -> Rule:
-        age = None if self.words.max_age is None else clock.ticks(duration_of(self.words.max_age), "--max-age")
-        return Rule(not self.words.event, age, self.words.ties)
-
     def finish(self) -> None:
         """The readings that are held back become rows."""
         for source in self.sources.values():
@@ -265,38 +259,18 @@ class Reader:
             if row is not None:
                 source.rows.append(row)
 
-    def options(self) -> Taken:
-        """All that makes rows of readings, by the option that gives it: the clock and the scale as they come out of --tick, --origin,
-        --closed, --scale and --like, and the conventions. Each value has one spelling, which the option takes."""
-        words, clock = self.words, self.clock
-        tick = words.tick and duration_of(words.tick) if clock is None else clock.tick
-        origin = words.origin and moment_of(words.origin, words) if clock is None else clock.origin
-        return {
-            "--tick": None if tick is None else duration_text(tick),
-            "--origin": None if origin is None else spelled(origin),
-            "--closed": (words.closed or "left") if clock is None else clock.closed,
-            "--scale": self.scale.scale,
-            "--zone": words.zone or "UTC",
-            "--unit": words.unit,
-            "--max-age": None if words.max_age is None else duration_text(duration_of(words.max_age)),
-            "--until": None if words.until is None else spelled(moment_of(words.until, words)),
-            "--ties": words.ties,
-            "--null": ",".join(sorted(self.nulls.texts)) or None,
-            "--event": words.event,
-        }
-
     def shape(self) -> Taken | None:
         """The options, to be kept; None while no reading was taken, since they don't change rows that come as ticks."""
-        return self.options() if any(source.converter is not None for source in self.sources.values()) else None
+        return self.convention.arguments() if any(source.converter is not None for source in self.sources.values()) else None
 
     def check(self, state: str, kept: Taken) -> None:
         """Rejects options that differ from those kept."""
-        words, options = self.words, self.options()
+        words, options = self.words, self.convention.arguments()
         of_like = {"--tick": words.tick, "--origin": words.origin, "--closed": words.closed, "--scale": words.scale}
-        for option, before in kept.items():
-            now = options.get(option)
-            if now != before:
-                place = f" (of --like {words.like})" if words.like is not None and of_like.get(option, "") is None else ""
+        for option in {**kept, **options}:
+            before, now = kept.get(option), options.get(option)
+            if (now or None) != (before or None):
+                place = f" (of --like {words.like})" if words.like is not None and not of_like.get(option, "-") else ""
                 raise Refused(
                     f"{state} was started {option_text(option, before)}, not {option_text(option, now)}{place}: call it again "
                     f"{option_text(option, before)}, or name another --state"
@@ -311,7 +285,7 @@ class Reader:
         source.rows = [(start, end, value) for start, end, value in kept["rows"]]
         source.reached = kept["reached"]
         if kept["converter"] is not None and self.clock is not None:
-            source.converter = Converter(self.clock, self.rule(self.clock))
+            source.converter = Converter(self.clock, self.convention.rule(name, self.clock))
             source.converter.load(kept["converter"])
 
     def text(self, tick: int) -> str:
@@ -322,14 +296,6 @@ class Reader:
             return self.clock.text(tick)
         except Refused:
             return str(tick)
-
-
-def spelled(moment: int) -> str:
-    """A moment as a text, of which it has one."""
-    try:
-        return moment_text(moment, 9 if moment % 10**9 else 0)
-    except Refused:
-        return f"{moment} ns after 1970"
 
 
 def option_text(option: str, value: Any) -> str:
@@ -719,7 +685,7 @@ class Follower:
         known = {name: notes for name, notes in found.items() if notes is not None}
         if self.reader.clock is not None:
             # No input has this name.
-            known["the readings"] = Notes(self.reader.clock, self.reader.scale.scale)
+            known["the readings"] = Notes(self.reader.clock, next(iter(self.reader.scales.values())).scale)
         clash = clashes(known)
         if clash is not None:
             told(f"note: {printable(clash)}")
@@ -918,11 +884,8 @@ def chunks(number: int, due: Any, ended: bool) -> Iterator[list[bytes]]:
 
 
 def main(words: argparse.Namespace) -> int:
-    for name in ("rows", "scale"):
-        if getattr(words, name) is not None and getattr(words, name) < 1:
-            raise Refused(f"--{name}: 1 or more was expected")
-    if words.event and (words.max_age or words.until):
-        raise Refused("--event is a reading of one tick: --max-age and --until are for readings that hold")
+    if words.rows is not None and words.rows < 1:
+        raise Refused("--rows: 1 or more was expected")
     try:
         follow(words)
     except BrokenPipeError:

@@ -132,7 +132,8 @@ class Query:
         if not files:
             self.warn_of_scale(convention, scale)
         # All keys have the clock and the scale of the whole.
-        shared = {"tick": duration_text(clock.tick), "origin": moment_text(clock.origin, 9), "closed": clock.closed, "scale": scale}
+        scales = {name: convention.scale_of(name) or scale for name in self.inputs} if isinstance(convention.scale, Mapping) else scale
+        shared = {"tick": duration_text(clock.tick), "origin": moment_text(clock.origin, 9), "closed": clock.closed, "scale": scales}
         convention = convention_of(convention, shared)
         found = {
             key: self.run(part.drop(columns=by), merge=merge, index=index, exact=exact, convention=convention, inputs=named)
@@ -361,7 +362,7 @@ def bind(names: list[str], named: dict[str, Any], convention: Convention) -> tup
     files, series = parted(named)
     clock, scale = shape_of(files, series, convention)
     bound = {name: Rows([], file) for name, file in files.items()}
-    bound |= {name: Rows(list(rows_from(name, one, clock, convention, scale))) for name, one in series.items()}
+    bound |= {name: Rows(list(rows_from(name, one, clock, convention, convention.scale_of(name) or scale))) for name, one in series.items()}
     zone = next((zone_in(one.index) for one in series.values()), None)
     return {name: bound[name] for name in names}, Shape(clock, zone, int(convention.output_scale or scale)), scale
 
@@ -466,14 +467,20 @@ def scale_of(known: dict[str, Notes], series: dict[str, Any], convention: Conven
     # As `why.clashes` has it: a helper series counts, and has no scale that another one could have. It isn't used here, since the caller
     # can give the scale, and can say that the scales differ.
     scales = {name: notes.scale for name, notes in known.items() if notes.kind != "helper"}
-    given = None if convention.scale == "auto" else int(convention.scale)
-    distinct = {*scales.values()} | ({given} if given is not None else set())
+    names = series or ([""] if not isinstance(convention.scale, Mapping) else convention.scale)
+    own = {name: convention.scale_of(name) for name in names}
+    given = next((scale for scale in own.values() if scale is not None), None)
+    distinct = {*scales.values()} | {scale for scale in own.values() if scale is not None}
     if len(distinct) <= 1:
         return distinct.pop() if distinct else auto_scale(series)
-    told = ", ".join([f"{name} has {scale}" for name, scale in scales.items()] + ([] if given is None else [f"scale={given}"]))
+    shown = own if isinstance(convention.scale, Mapping) else {"": given}
+    told = ", ".join(
+        [f"{name} has {scale}" for name, scale in scales.items()]
+        + [f"{convention.shown('scale', name)}={scale}" for name, scale in shown.items() if scale is not None]
+    )
     if convention.scales == "same":
         raise Refused(f"the scales differ: {told}; write the series --like each other, or say scales='differ' and output_scale=N")
-    if convention.output_scale is None or given is None and series:
+    if convention.output_scale is None or None in own.values() and series:
         what = "output_scale=N" if convention.output_scale is None else "scale=N for the Series"
         raise Refused(f"scales='differ': {what} is needed; {told}")
     return given or next(iter(scales.values()))
@@ -498,7 +505,7 @@ def rows_from(name: str, series: Any, clock: Clock, convention: Convention, scal
         return
     converter = Converter(clock, convention.rule(name, clock))
     for moment, value in zip(starts, values):
-        row = None if value is None and convention.skip_empty else pushed(name, converter, moment, value)
+        row = None if value is None and convention.skips_empty(name) else pushed(name, converter, moment, value)
         if row is not None:
             yield row
     final = converter.finish(until_of(clock, convention))
@@ -579,7 +586,7 @@ class Live:
     gives the rest. The outputs are together what one run over all prints."""
 
     def __init__(self, query: Query, convention: Convention) -> None:
-        if convention.origin is None or convention.scale == "auto":
+        if convention.origin is None or any(convention.scale_of(name) is None for name in query.inputs):
             raise Refused("a run by sessions needs its origin and its scale beforehand: origin='2026-03-01', scale=10")
         convention.check_names(query.inputs)
         self.query = query
@@ -627,13 +634,13 @@ class Live:
             raise Refused(f"the input {name}: a Series was expected, not {type(series).__name__}")
         taken.note_zone(series.index)
         if isinstance(series.index, pandas.IntervalIndex):
-            for whole in rows_from(name, series, self.clock, self.convention, self.scale):
+            for whole in rows_from(name, series, self.clock, self.convention, self.convention.scale_of(name) or self.scale):
                 taken.held[name].append(self.checked(name, whole, taken.reached[name]))
                 taken.reached[name] = whole[1]
             return
         converter = taken.converters[name]
-        for moment, value in zip(starts_of(name, series.index), whole_values(name, series, self.scale)):
-            if value is None and self.convention.skip_empty:
+        for moment, value in zip(starts_of(name, series.index), whole_values(name, series, self.convention.scale_of(name) or self.scale)):
+            if value is None and self.convention.skips_empty(name):
                 continue
             row = pushed(name, converter, moment, value)
             if row is not None:

@@ -272,15 +272,16 @@ def files_drawn(what: Mapping[str, Shown], like: str | None, convention: Convent
     if not series:
         return files
     known = {**named, "": like} if like is not None else named
-    scale = frames.auto_scale(series) if convention.scale == "auto" else convention.scale
-    bound, shape, _ = frames.bind(list(known), known, dataclasses.replace(convention, scale=scale, scales="differ", output_scale=1))
+    auto = frames.auto_scale({name: one for name, one in series.items() if convention.scale_of(name) is None})
+    scales = {name: convention.scale_of(name) or auto for name in series}
+    bound, shape, _ = frames.bind(list(known), known, dataclasses.replace(convention, scale=scales, scales="differ", output_scale=1))
     zone = getattr(shape.zone, "key", None) or getattr(shape.zone, "zone", None)
     for number, name in enumerate(series):
         [word] = sessions.put_rows(folder, {str(number): bound[name].rows})
         files[name] = word.partition("=")[2]
         kind = "event" if convention.is_event(name) and not hasattr(series[name].index, "closed") else "hold"
         with open(notes_path(files[name]), "w", encoding="utf-8") as file:
-            file.write(Notes(shape.clock, int(scale), kind, zone=zone).text())
+            file.write(Notes(shape.clock, scales[name], kind, zone=zone).text())
     return {name: files[name] for name in what}
 
 

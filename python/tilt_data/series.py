@@ -11,14 +11,15 @@ import pickle
 import re
 import shlex
 import sys
-from typing import Any, Iterable, Iterator
+from typing import Any, Iterable, Iterator, Mapping
 
-from .clock import TIMES, Clock, Moments, duration_of, duration_text, moment_text, zone_of
-from .convert import TIES, Converter, Late, Rule, Tie, row_text
+from .clock import TIMES, Clock, Moments, duration_text, moment_text, zone_of
+from .convention import TextConvention, time_text
+from .convert import Converter, Late, Tie, row_text
 from .errors import Refused, refused_at
-from .files import Notes, Outputs, followed, is_handed, notes_of, notes_path, reading, records, safe, same_file, scratch, spooled
+from .files import Notes, Outputs, followed, is_handed, notes_path, reading, records, safe, same_file, scratch, spooled
 from .progress import shown
-from .scales import Scale, digits_after_point, scale_of
+from .scales import Scale, digits_after_point
 
 HELP = """Reads a CSV with a header: a column of times, and one column of values for each series (wide), or a column that names the series
 (tall, --name). It writes a series file NAME.csv for each, and beside it NAME.json with the length of a tick, the origin and the scale.
@@ -42,21 +43,10 @@ class Columns:
     values: list[tuple[int, str]]
 
 
-@dataclasses.dataclass
-class Nulls:
-    """The texts that mean that there is no value. The empty text always does."""
-
-    texts: set[str]
-
-    def has(self, text: str) -> bool:
-        return not text or text in self.texts or not text.strip()
-
-
 def add(commands: Any) -> None:
     parser = commands.add_parser("series", help="readings of a CSV to series files", description=HELP)
     add_source(parser)
-    add_time(parser)
-    add_convention(parser)
+    TextConvention.add_to(parser)
     parser.add_argument("--key", metavar="COL", help="the column of a key, such as a station or a patient: a folder of series for each key")
     parser.add_argument("--prefix", action="store_true", help="KEY_NAME.csv in place of KEY/NAME.csv")
     parser.add_argument("--out", metavar="FOLDER", default=".", help="the folder of the files (.)")
@@ -74,68 +64,11 @@ def add_source(parser: argparse.ArgumentParser) -> None:
     parser.add_argument("--decimal", default=".", help="the character before the fraction of a value (.)")
 
 
-def add_time(parser: argparse.ArgumentParser) -> None:
-    parser.add_argument("--unit", choices=["s", "ms", "us", "ns"], help="times are numbers since 1970 in this unit, and not ISO 8601")
-    parser.add_argument("--zone", help="the zone of times without an offset, such as Europe/Zurich (UTC)")
-    parser.add_argument("--tick", help="the length of a tick, such as 1s, 1ms or 1min")
-    parser.add_argument("--origin", help="the moment at which the first tick starts (the midnight before the first reading)")
-    parser.add_argument("--like", metavar="SERIES", help="take tick, origin and scale from the JSON file beside this series")
-    parser.add_argument(
-        "--scale",
-        nargs="+",
-        action="extend",
-        metavar="N",
-        help="values times N are whole; auto for the smallest power of " "ten that makes them whole; NAME=N for one column",
-    )
-
-
-def add_convention(parser: argparse.ArgumentParser) -> None:
-    parser.add_argument("--hold", choices=["next"], help="a reading holds until the next one (the default without --event)")
-    parser.add_argument(
-        "--max-age",
-        nargs="+",
-        action="extend",
-        metavar="DURATION",
-        default=[],
-        help="a reading holds no longer than this, " "such as 5min; NAME=5min for one series",
-    )
-    parser.add_argument("--until", metavar="TIME", help="until when the last reading holds (one tick, or --max-age)")
-    parser.add_argument("--event", action="store_true", help="a reading is an event of one tick")
-    parser.add_argument("--closed", choices=["left", "right"], help="which edge of a tick belongs to it, as in pandas (left)")
-    parser.add_argument(
-        "--ties",
-        choices=TIES,
-        default="refuse",
-        help="which of the readings in one tick counts: the last, the first, or "
-        "each, in ticks one after another. With refuse they are an error (refuse)",
-    )
-    parser.add_argument(
-        "--null",
-        metavar="TEXTS",
-        action="append",
-        default=[],
-        help="texts with commas between them that mean no value, " "such as NaN,-1; empty fields always do",
-    )
-    parser.add_argument("--skip-empty", action="store_true", help="a field without a value is no reading, and doesn't end the one before")
-
-
 def delimiter_of(text: str) -> str:
     sign = "\t" if text == TAB else text
     if len(sign) != 1 or sign in '"\r\n':
         raise Refused(f"--delimiter {text!r}: one sign was expected, or {TAB} for a tab")
     return sign
-
-
-def named_once(option: str, words: list[str]) -> dict[str, str]:
-    """What an option gives to each series, by name; the name is empty for all others. Two for one name are an error."""
-    found: dict[str, str] = {}
-    for word in words:
-        name, _, text = word.rpartition("=")
-        if name in found:
-            what = f"{name}=.." if name else "without a name"
-            raise Refused(f"{option} {what}: it is given twice, as {found[name]} and {text}: give it once")
-        found[name] = text
-    return found
 
 
 def column(header: list[str], name: str, path: str) -> int:
@@ -239,18 +172,13 @@ def part_of(path: str) -> Iterator[Reading]:
 class Converting:
     """All series of a file while it is read: a converter and a count of rows for each, by key and name."""
 
-    def __init__(self, words: argparse.Namespace, path: str, outputs: Outputs) -> None:
+    def __init__(self, words: argparse.Namespace, convention: TextConvention, outputs: Outputs) -> None:
         self.words = words
-        self.path = path
+        self.path: str = words.file
         self.outputs = outputs
-        self.nulls = Nulls({text for texts in words.null for text in texts.split(",") if text})
-        self.like = None if words.like is None else notes_of(words.like)
-        if words.like is not None and self.like is None:
-            raise Refused(f"{words.like}: there is no {notes_path(words.like)} beside it; `tilt-data series` writes one")
+        self.convention = convention
         self.clock = Clock(1, 0)
         self.begun = False
-        self.given_ages = named_once("--max-age", words.max_age)
-        self.ages: dict[str, int | None] = {}
         self.scales = Scales({}, Scale(1))
         self.series: dict[tuple[str, str], Converter] = {}
         self.files: dict[tuple[str, str], str] = {}
@@ -262,15 +190,9 @@ class Converting:
         """The clock, which may rest on the first reading, and how long readings hold."""
         self.begun = True
         try:
-            self.clock = clock_of(self.words, self.like, moment)
+            self.clock = self.convention.clock(moment)
         except ValueError as error:
             raise refused_at(self.path, line, str(error)) from error
-        for name, age in self.given_ages.items():
-            self.ages[name] = self.clock.ticks(duration_of(age), "--max-age")
-
-    def rule(self, name: str) -> Rule:
-        """The convention of a series."""
-        return Rule(not self.words.event, self.ages.get(name, self.ages.get("")), self.words.ties)
 
     def take(self, one: Reading) -> None:
         moment, line, key, name, text = one
@@ -280,8 +202,8 @@ class Converting:
         converter = self.series.get(place)
         if converter is None:
             converter = self.new(place, line)
-        if self.nulls.has(text):
-            if self.words.skip_empty:
+        if self.convention.is_missing(text):
+            if self.convention.skips_empty(name):
                 return
             value = None
         else:
@@ -315,7 +237,7 @@ class Converting:
             raise refused_at(self.path, line, "a name of the series was expected")
         if self.words.key is not None and not key:
             raise refused_at(self.path, line, f"a key was expected in the column {self.words.key}")
-        converter = self.series[place] = Converter(self.clock, self.rule(name))
+        converter = self.series[place] = Converter(self.clock, self.convention.rule(name, self.clock))
         path = self.path_of(place, line)
         if path in self.paths:
             raise refused_at(self.path, line, f"the key {key} with {name} and another key have one file, {path}: leave --prefix out")
@@ -365,7 +287,7 @@ class Converting:
     def finish(self) -> None:
         until = None
         if self.words.until is not None and self.begun:
-            until = self.clock.start(moment_of(self.words.until, self.words))
+            until = self.clock.start(self.convention.moment(self.words.until))
             if not -TIMES <= until <= TIMES:
                 raise Refused(f"--until {self.words.until}: its tick is {until}, and ticks go from {-TIMES} to {TIMES}: name a nearer time")
         for place, converter in self.series.items():
@@ -376,16 +298,12 @@ class Converting:
 
     def check_names(self) -> None:
         """Refuses words that name a series which isn't there: they would have changed nothing."""
-        names = {name for _, name in self.series}
-        given = [("--max-age", name) for name in self.ages] + [("--scale", name) for name in self.scales.named]
-        for option, name in given:
-            if name and self.begun and name not in names:
-                there = ", ".join(sorted(names)[:10])
-                raise Refused(f"{option} {name}=..: no series has this name; there are: {there}{', ..' if len(names) > 10 else ''}")
+        if self.begun:
+            self.convention.check_names(sorted({name for _, name in self.series}), "series")
 
     def notes(self, place: tuple[str, str]) -> Notes:
         key, name = place
-        kind = "event" if self.words.event else "hold"
+        kind = "event" if self.convention.is_event(name) else "hold"
         return Notes(self.clock, self.scales.of(name).scale, kind, name, key if self.words.key else None, self.words.zone)
 
     def told(self, most: int = 10) -> Iterator[str]:
@@ -449,64 +367,6 @@ def file_of(key: str, name: str, prefix: bool) -> str:
     return name if not key else f"{safe(key)}_{name}" if prefix else os.path.join(safe(key), name)
 
 
-def moment_of(text: str, words: argparse.Namespace) -> int:
-    try:
-        return Moments(None, zone_of(words.zone)).iso(text)
-    except ValueError as error:
-        raise Refused(str(error)) from error
-
-
-def clock_of(words: argparse.Namespace, like: Notes | None, first: int) -> Clock:
-    """The clock of the options, or of the series that they name; otherwise it starts at the midnight before the first reading, which is a
-    ValueError if there is no such moment."""
-    if words.tick is not None:
-        tick = duration_of(words.tick)
-    elif like is not None:
-        tick = like.clock.tick
-    else:
-        raise Refused("how long is a tick? --tick 1s, 1ms, 1min, .. or --like a series that was written before")
-    closed = words.closed or (like.clock.closed if like is not None else "left")
-    if words.origin is not None:
-        origin = moment_of(words.origin, words)
-        if not is_shown(origin):
-            raise Refused(f"--origin {words.origin}: in UTC it lies outside of the years 1 to 9999: name another moment")
-    elif like is not None:
-        origin = like.clock.origin
-    else:
-        origin = midnight_before(first, words.zone)
-    return Clock(tick, origin, closed)
-
-
-def midnight_before(moment: int, zone: str | None) -> int:
-    """The midnight before a moment, or at it, in a zone. If there is none within the years 1 to 9999, or if there are two, it is a
-    ValueError that says so."""
-    local = zone_of(zone)
-    try:
-        midnight = Moments(None, local).iso(moment_text(moment, 0, local)[:10])
-        moment_text(midnight, 0)
-    except (Refused, ValueError) as error:
-        where = "" if zone is None else f" in {zone}"
-        raise ValueError(
-            f"the first reading, at {time_text(moment)}, has no midnight before it{where}, or it has two: name the moment of "
-            "the first tick by --origin"
-        ) from error
-    return midnight
-
-
-def time_text(moment: int) -> str:
-    """A moment in UTC, or as a number if it lies outside of the years 1 to 9999."""
-    return moment_text(moment, 9 if moment % 10**9 else 0) if is_shown(moment) else f"{moment} ns after 1970"
-
-
-def is_shown(moment: int) -> bool:
-    """Whether a moment lies in the years 1 to 9999 of UTC."""
-    try:
-        moment_text(moment, 0)
-    except Refused:
-        return False
-    return True
-
-
 @dataclasses.dataclass
 class Scales:
     """The scale of each series: its own where the words name one, and else that of all others."""
@@ -518,29 +378,22 @@ class Scales:
         return self.named.get(name, self.others)
 
 
-def scales_of(words: argparse.Namespace, path: str, nulls: Nulls, like: Notes | None) -> Scales:
+def scales_of(words: argparse.Namespace, path: str, convention: TextConvention) -> Scales:
     """The scales that the words name. An `auto` without a name is one scale for all series that have none of their own."""
-    given = named_once("--scale", words.scale or [])
-    numbers: dict[str, int] = {}
-    for name, text in given.items():
-        try:
-            numbers[name] = 0 if text == "auto" else scale_of(text)
-        except ValueError as error:
-            shown_word = f"{name}={text}" if name else text
-            raise Refused(f"--scale {shown_word}: a whole number above 0, auto, or NAME=N was expected") from error
-    digits = digits_of(path, words, nulls) if "auto" in given.values() else {}
+    given = dict(convention.scale) if isinstance(convention.scale, Mapping) else {}
+    digits = digits_of(path, words, convention) if "auto" in given.values() else {}
     most = max((count for name, count in digits.items() if name not in given), default=0)
-    scales = {name: Scale(number or 10 ** (digits.get(name, 0) if name else most)) for name, number in numbers.items()}
-    others = scales.pop("", None) or Scale(1 if like is None else like.scale)
-    return Scales(scales, others)
+    found = {name: 10 ** (digits.get(name, 0) if name else most) for name in given}
+    scales = {name: Scale(convention.scale_of(name) or found[name]) for name in given}
+    return Scales(scales, scales.pop("") if "" in scales else Scale(convention.scale_of("") or 1))
 
 
-def digits_of(path: str, words: argparse.Namespace, nulls: Nulls) -> dict[str, int]:
+def digits_of(path: str, words: argparse.Namespace, convention: TextConvention) -> dict[str, int]:
     """The most digits after the point in each series: the file is read once for it."""
     most: dict[str, int] = {}
     known: dict[str, int] = {}
     for _, line, _, name, text in readings_of(path, words):
-        if nulls.has(text):
+        if convention.is_missing(text):
             continue
         if text not in known:
             if len(known) > 50000:
@@ -555,14 +408,13 @@ def digits_of(path: str, words: argparse.Namespace, nulls: Nulls) -> dict[str, i
 
 
 def main(words: argparse.Namespace) -> int:
-    if words.event and (words.hold or words.max_age or words.until):
-        raise Refused("--event is a reading of one tick: --hold, --max-age and --until are for readings that hold")
+    convention = TextConvention.of(words)
     if len(words.decimal) != 1 or words.decimal.isalnum() or words.decimal in "+-":
         raise Refused(f"--decimal {words.decimal!r}: one sign was expected, as . or ,")
     with scratch() as folder, Outputs() as outputs:
         path = spooled(words.file, folder) if "auto" in str(words.scale) else words.file
-        converting = Converting(words, words.file, outputs)
-        converting.scales = scales_of(words, path, converting.nulls, converting.like)
+        converting = Converting(words, convention, outputs)
+        converting.scales = scales_of(words, path, convention)
         readings = readings_of(path, words)
         for one in in_order(readings, folder) if words.sort else readings:
             converting.take(one)
