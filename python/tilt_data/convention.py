@@ -1,4 +1,4 @@
-"""How readings become rows: the arguments of `run`, `live` and `span` for Python, the options of `series` and `follow`, and their checks."""
+"""How readings become rows: the arguments of `run`, `live` and `span`, the options of `series` and `follow`, and their checks."""
 from __future__ import annotations
 
 import argparse
