@@ -32,7 +32,7 @@ import time
 from typing import Any, Iterator, NoReturn
 
 from . import sessions
-from .clock import TIMES, Clock, Moments, duration_of, zone_of
+from .clock import TIMES, Moments, duration_of, zone_of
 from .convention import TextConvention
 from .convert import Converter, Late, Tie, row_text
 from .errors import Refused, printable

@@ -14,7 +14,7 @@ from .blocks import Segment, Stamp, stamp_of
 from .errors import Refused
 from .files import placed, scratch
 from .parts import Part
-from .program import REFUSALS, Cancelled, Processes, program
+from .program import REFUSALS, Processes, program
 from .why import Refusal, refusal_of
 
 # The header with a byte order mark before it and CR LF after it. What is only empty lines before the first row is longer.
