@@ -21,7 +21,7 @@ from conftest import PYTHON
 from tilt_data import files, table
 from tilt_data.clock import Clock
 from tilt_data.errors import Refused, printable
-from tilt_data.files import Digested, Notes, Outputs, notes_of, placed, reading, rows_of, safe, unsafe
+from tilt_data.files import Digested, Notes, Outputs, Together, notes_of, placed, reading, rows_of, safe, unsafe
 
 HEAD = "start,end,value\n"
 DAY = "1970-01-01T00:00:0"
@@ -412,6 +412,34 @@ def test_a_signal_that_comes_while_a_file_is_made_leaves_none(told, tmp_path, wh
     assert (done.returncode, done.stderr) == (143, b"")
     assert sorted(os.listdir()) == ["out", "x.csv", "x.json"]
     assert (pathlib.Path("out").read_text() == "old") == (where != "replace")
+
+
+@pytest.mark.parametrize("where", ["open", "fsync", "replace"])
+def test_a_signal_while_files_are_made_together_leaves_all_or_none_of_each(tmp_path, where):
+    code = (
+        f"import os, signal, sys\nfrom tilt_data.cli import ending\nfrom tilt_data.files import Together\n"
+        "with ending(), Together() as together:\n"
+        "    os.write(together.begin('parts/beside', 'a'), b'7')\n    real = os." + where + "\n"
+        f"    def one(*words, **named):\n        os.{where} = real\n        found = real(*words, **named)\n"
+        f"        os.kill(os.getpid(), signal.SIGTERM)\n        return found\n    os.{where} = one\n"
+        "    os.write(together.begin('parts/beside', 'b'), b'8')\n    together.commit()\n"
+    )
+    done = subprocess.run([sys.executable, "-c", code], env={**os.environ, "PYTHONPATH": str(PYTHON)}, capture_output=True, cwd=tmp_path)
+    assert (done.returncode, done.stderr) == (143, b"") and os.listdir(tmp_path / "parts") == []
+    assert sorted(os.listdir(tmp_path)) == (["a", "parts"] if where == "replace" else ["parts"])
+
+
+def test_files_that_are_made_together(tmp_path):
+    (tmp_path / "a").write_text("old")
+    (tmp_path / "a").chmod(0o640)
+    with Together() as together:
+        for name in "abc":
+            os.write(together.begin(str(tmp_path / "beside"), str(tmp_path / name)), name.encode())
+        together.keep(2)
+        assert (tmp_path / "a").read_text() == "old"
+        together.commit()
+    assert {path.name: path.read_text() for path in tmp_path.iterdir()} == {"a": "a", "b": "b"}
+    assert (tmp_path / "a").stat().st_mode & 0o777 == 0o640
 
 
 @pytest.mark.parametrize("number", [signal.SIGTERM, signal.SIGHUP])

@@ -282,6 +282,73 @@ def test_an_index_is_made_once_and_anew_where_the_file_has_changed(tmp_path):
         blocks.bytes_of(next(blocks.stretch_of([indexed], 0, 100))[0])
 
 
+def settled(path: pathlib.Path, text: str) -> str:
+    """Writes a file, and waits until no change of it can be missed."""
+    path.write_text(text)
+    assert blocks.settled_stamp(str(path)) == blocks.stamp_of(str(path))
+    return str(path)
+
+
+def test_a_stamp_is_settled_once_another_change_gives_other_times():
+    fine, coarse = 10**18 + 7, 10**18
+    assert [blocks.is_settled((1, 0, fine, 1), fine + more) for more in (0, blocks.FINE - 1, blocks.FINE)] == [False, False, True]
+    assert [blocks.is_settled((1, 0, coarse, 1), coarse + more) for more in (blocks.FINE, blocks.COARSE - 1, blocks.COARSE)] == [
+        False,
+        False,
+        True,
+    ]
+
+
+def test_a_file_that_was_written_now_settles_and_one_of_the_future_does_not(tmp_path, monkeypatch):
+    path = tmp_path / "x.csv"
+    path.write_text("")
+    stamp = blocks.settled_stamp(str(path))
+    assert stamp == blocks.stamp_of(str(path)) and blocks.is_settled(stamp, time.time_ns())
+    times = iter(range(stamp[2] - 1, 0, -1))
+    monkeypatch.setattr(time, "time_ns", lambda: next(times))
+    assert blocks.settled_stamp(str(path)) is None and next(times) == stamp[2] - 2
+
+
+def test_a_whole_file_is_known_by_its_first_and_its_last_row(tmp_path):
+    rows = series(1, 200000, 3)
+    path = settled(tmp_path / "x.csv", text_of(rows))
+    indexed = blocks.whole_index(path, 0, 200000)
+    (block,) = indexed.blocks
+    assert (block.first, block.last) == (rows[0][0], rows[-1][1]) and abs(block.rows / len(rows) - 1) < 0.1
+    assert (block.offset, block.offset + block.length) == (len(HEADER), os.path.getsize(path)) and indexed.whole and indexed.settled
+    # The first row and the last one each have a tick in the stretch, or it is None.
+    assert blocks.whole_index(path, rows[0][1] - 1, rows[-1][0] + 1) is not None
+    assert blocks.whole_index(path, rows[0][1], 200000) is None and blocks.whole_index(path, 0, rows[-1][0]) is None
+    # Another file of the same bytes has another digest, and so has this one once it is written again.
+    other = settled(tmp_path / "y.csv", text_of(rows))
+    digests = {block.digest, blocks.whole_index(other, 0, 200000).blocks[0].digest}
+    settled(tmp_path / "x.csv", text_of(rows))
+    assert len({*digests, blocks.whole_index(path, 0, 200000).blocks[0].digest}) == 3
+
+
+@pytest.mark.parametrize(
+    "text, rows",
+    [
+        (HEADER + "0,5,7\n", 1),
+        (HEADER + "0,5,7\n5,6,\n6,8,-9", 3),
+        ("\ufeffstart,end,value\r\n0,5,7\r\n6,8,9\r\n", 2),
+        (HEADER, None),
+        ("", None),
+        ("start,end\n0,5\n", None),
+        ('"start",end,value\n0,5,7\n', None),
+        (HEADER + '0,5,7\n"6",8,9\n', None),
+        (HEADER + '0,5,7\n"6",8,9\n9,10,1\n', None),
+        (HEADER + "\n0,5,7\n", None),
+        (HEADER + "0,5,7\n\n", None),
+        (HEADER + "0,5,7\rx\n", None),
+        (HEADER.replace("\n", "\r") + "0,5,7\r", None),
+    ],
+)
+def test_a_file_that_is_not_plain_at_its_ends_needs_an_index(tmp_path, text, rows):
+    indexed = blocks.whole_index(settled(tmp_path / "x.csv", text), -10, 20)
+    assert (indexed and indexed.rows) == rows
+
+
 def write_over(path: pathlib.Path, text: str, times: tuple[int, int]) -> None:
     """Writes a text over a file as `cp -p` does, with these times, in a later tick of the file system's clock."""
     before = path.stat().st_ctime_ns
@@ -471,8 +538,19 @@ def test_with_a_scheduler_dask_is_loaded(here, dask):
     assert without_sockets(here, "-c", "from tilt_data import engine; engine.imported()").stdout == "dask distributed\n"
 
 
+def test_a_command_loads_only_what_it_needs():
+    words = "import sys, tilt_data.cli; tilt_data.cli.parser_of('scale'); print(*sorted(sys.modules))"
+    done = subprocess.run([sys.executable, "-c", words], env={"PYTHONPATH": str(PYTHON)}, capture_output=True, text=True, check=True)
+    assert "tilt_data.scaling" in done.stdout.split()
+    others = {"socket", "tomllib", "pandas", *(f"tilt_data.{name}" for name in ("by", "follow", "plotting", "serve", "series", "view"))}
+    assert not others & set(done.stdout.split())
+
+
 def test_the_core_needs_no_dask():
-    words = "import sys; sys.modules['dask'] = sys.modules['distributed'] = None; import tilt_data.cli; print(len(tilt_data.cli.COMMANDS))"
+    words = (
+        "import sys; sys.modules['dask'] = sys.modules['distributed'] = None; import tilt_data.cli; tilt_data.cli.parser_of(); "
+        "print(len(tilt_data.cli.COMMANDS))"
+    )
     done = subprocess.run([sys.executable, "-c", words], env={"PYTHONPATH": str(PYTHON)}, capture_output=True, text=True)
     assert done.returncode == 0 and int(done.stdout) > 5, done.stderr
 
@@ -923,6 +1001,94 @@ def test_small_keys_share_a_task(here, monkeypatch):
     pathlib.Path("k33.csv").write_text(text_of([(0, 5, 33)]))
     found = scale(query, {"x": "k{key}.csv"}, "out", workers=1)
     assert outputs(found) == {**wanted, "33": HEADER + "0,5,34\n"} and found.made == 1
+
+
+def test_files_that_one_part_needs_have_no_index(here):
+    """Neither is a byte of them digested; a change is noticed all the same."""
+    rows = series(1, 30000, 3)
+    times = (10**18, 10**18)
+    path = pathlib.Path("x.csv")
+    path.write_text(text_of(rows))
+    os.utime(path, ns=times)
+    query = "input x; emit x + 1 over (0, 30000];"
+    found = scale(query, {"x": "x.csv"}, "out", workers=1)
+    assert outputs(found)["output"] == run_program(str(PROGRAM), query, "x=x.csv") and not os.path.exists("out/index")
+    assert found.about and " 1 parts; about " in " " + next(found.told())
+    assert scale(query, {"x": "x.csv"}, "out", workers=1).made == 0
+    other = text_of(rows)
+    at = other.index(",9", 1000) + 1
+    write_over(path, other[:at] + "8" + other[at + 1 :], times)
+    found = scale(query, {"x": "x.csv"}, "out", workers=1)
+    assert found.made == 1 and outputs(found)["output"] == run_program(str(PROGRAM), query, "x=x.csv")
+    # Rows that no part needs aren't given to the program.
+    found = scale("input x; emit x over (0, 100];", {"x": "x.csv"}, "less", workers=1)
+    assert not found.about and found.rows < 100 and os.listdir("less/index")
+
+
+def test_a_whole_file_that_changes_meanwhile(here, monkeypatch):
+    path = pathlib.Path("x.csv")
+    path.write_text(text_of(series(1, 30000, 3)))
+    program = wrapped(here / "program")
+    monkeypatch.setenv("TILT", str(program))
+    before(program, '[ "$1" = run ] && echo 40000,40001,1 >> x.csv')
+    with pytest.raises(Refused, match="x.csv: it was changed after its index was made: call again"):
+        scale("input x; emit x over (0, 50000];", {"x": "x.csv"}, "out", workers=1)
+    assert not list(pathlib.Path("out").glob("*.csv")) and not hidden("out")
+    before(program, "")
+    found = scale("input x; emit x over (0, 50000];", {"x": "x.csv"}, "out", workers=1)
+    assert outputs(found)["output"].endswith("\n40000,40001,1\n")
+
+
+def test_many_keys_have_larger_parts(here):
+    query, wanted = "input x; emit x over (0, 4000];", {}
+    for key in range(16):
+        pathlib.Path(f"k{key}.csv").write_text(text_of([(at, at + 1, at + key) for at in range(4000 if key else 4001)]))
+        wanted[str(key)] = run_program(str(PROGRAM), query, f"x=k{key}.csv")
+    plan = Plan(Query(query), {"x": ["k{key}.csv"]}, "out", None)
+    plan.choose_wholes(1050)
+    assert set(plan.wholes) == set(plan.files) - {"0"}
+    found = scale(query, {"x": "k{key}.csv"}, "out", workers=2, part_rows=1050)
+    assert outputs(found) == wanted and found.parts == 15 + 4
+    os.unlink("k15.csv")
+    assert scale(query, {"x": "k{key}.csv"}, "out", workers=2, part_rows=1050).parts == 15 * 4
+
+
+@pytest.mark.parametrize("after", [3, 40, 69])
+def test_a_call_over_small_keys_that_is_killed_goes_on(here, monkeypatch, after):
+    """It can lose what wasn't listed yet, and no output is torn."""
+    query, wanted = "input x; emit x + 1 over (0, 50];", {}
+    for key in range(70):
+        pathlib.Path(f"k{key}.csv").write_text(text_of([(at, at + 5, at * key) for at in range(0, 50, 5)]))
+        wanted[str(key)] = HEADER + "".join(f"{at},{at + 5},{at * key + 1}\n" for at in range(0, 50, 5))
+    program = wrapped(here / "program")
+    monkeypatch.setenv("TILT", str(program))
+    before(program, f'[ "$1" = run ] && {{ echo x >> calls; [ $(wc -l < calls) -le {after} ] || {{ touch hangs; sleep 60; }}; }}')
+    pathlib.Path("q").write_text(query)
+    words = [*COMMAND[:3], "q", "x=k{key}.csv", "--out", "out", "--workers", "1"]
+    begun = subprocess.Popen(words, stdout=subprocess.PIPE, stderr=subprocess.PIPE, start_new_session=True)
+    assert waited(lambda: os.path.exists("hangs"), begun)
+    os.killpg(begun.pid, signal.SIGKILL)
+    begun.communicate()
+    there = {path.stem: path.read_text() for path in pathlib.Path("out").glob("*.csv")}
+    assert len(there) == after // 32 * 32 and there.items() <= wanted.items() and hidden("out")
+    before(program, "")
+    found = scale(query, {"x": "k{key}.csv"}, "out", workers=2)
+    assert outputs(found) == wanted and not hidden("out") and len(json.loads(pathlib.Path("out/outputs.json").read_text())["outputs"]) == 70
+    assert scale(query, {"x": "k{key}.csv"}, "out", workers=2).made == 0
+
+
+def test_small_keys_on_a_disk_that_is_full_are_made_alone(here, monkeypatch):
+    """What can't be brought to the disk together doesn't get its name."""
+    for key in range(70):
+        pathlib.Path(f"k{key}.csv").write_text(text_of([(0, 5, key)]))
+
+    def full(_: object) -> None:
+        raise OSError(errno.ENOSPC, "No space left on device")
+
+    monkeypatch.setattr(tasks.Together, "commit", full)
+    found = scale("input x; emit x over (0, 50];", {"x": "k{key}.csv"}, "out", workers=2)
+    assert found.made == 70 and outputs(found) == {str(key): text_of([(0, 5, key)]) for key in range(70)}
+    assert len(list(pathlib.Path("out/parts").glob("*/0*.csv"))) == 70 and not hidden("out")
 
 
 class Killer(threading.Thread):

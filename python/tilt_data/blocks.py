@@ -1,8 +1,8 @@
 """Blocks of series files: which bytes of a file have the rows of which ticks, so that a part of a run reads only the rows that it needs.
 
 The index of a file is a JSON file in a folder of its own, made once, and made again when the stamp of the file changes (`stamp_of`). A
-small file (`SMALL`) has none: it is read again. A file that isn't plain, for example with quotes or with CR alone at the end of its lines,
-is written plainly beside its index, and read there."""
+small file (`SMALL`) has none: it is read again. Neither has a file that the program is going to read as it is (`whole_index`). A file that
+isn't plain, for example with quotes or with CR alone at the end of its lines, is written plainly beside its index, and read there."""
 from __future__ import annotations
 
 import bisect
@@ -12,6 +12,7 @@ import hashlib
 import json
 import os
 import re
+import time
 from typing import IO, Callable, Iterable, Iterator
 
 from .clock import TIMES
@@ -22,9 +23,15 @@ from .files import HEADER, Row, placed, reading, rows_of
 LONGEST, SHORTEST, FEWEST = 1 << 18, 1 << 9, 64
 # How many bytes a file has at most whose index isn't stored.
 SMALL = 1 << 14
+# How long after the last change of a file, in nanoseconds, a change gives other times: where the times have fractions of a microsecond,
+# and elsewhere.
+FINE, COARSE = 5 * 10**7, 3 * 10**9
+# How many bytes at the start and at the end of a file hold its first and its last row.
+EDGE = 1 << 12
 # What a plain file has besides the ends of its lines.
 PLAIN = b"0123456789+-,\r"
 MARK = b"\xef\xbb\xbf"
+HEADER_LINE = ",".join(HEADER).encode()
 # A row as the program takes it: numbers are an optional sign and ASCII digits, and only the value may be empty.
 ROW = re.compile(rb"([+-]?[0-9]+),([+-]?[0-9]+),(?:[+-]?[0-9]+)?\r?\n?")
 WANTED = f"a row start,end,value of whole numbers was expected, with its start below its end and both within {TIMES} of 0"
@@ -52,13 +59,16 @@ class Block:
 @dataclasses.dataclass(frozen=True)
 class Indexed:
     """A series file and its blocks in order. `file` is the one that is read, which is the series itself if that is plain; the stamps are
-    those of both files."""
+    those of both files. `settled` says that no other bytes of the file can have its stamp (`is_settled`), and `whole` that all rows are
+    needed, in one block that no bytes were digested for (`whole_index`)."""
 
     path: str
     stamp: Stamp
     file: str
     file_stamp: Stamp
     blocks: list[Block]
+    settled: bool = False
+    whole: bool = False
 
     @property
     def rows(self) -> int:
@@ -69,7 +79,8 @@ class Indexed:
 class Segment:
     """Bytes of a file that hold all its rows with a tick in some stretch, and at most a block more at each end; and how many rows they
     hold. `path` is the series, and `file` the file that is read. `spans` has the first byte of each block, from the start of the segment,
-    and its length; `digest` is the digest of all of them (`joint_digest`)."""
+    and its length; `digest` is the digest of all of them (`joint_digest`). If the file is `settled`, its stamp shows that these are its
+    bytes; if all are needed as they are, the segment is `whole`."""
 
     path: str
     file: str
@@ -79,6 +90,8 @@ class Segment:
     rows: int
     spans: tuple[tuple[int, int], ...]
     digest: str
+    settled: bool = False
+    whole: bool = False
 
 
 def stamp_of(path: str) -> Stamp:
@@ -87,13 +100,32 @@ def stamp_of(path: str) -> Stamp:
     noticed. The device isn't in it, since machines number the device of a shared disk differently.
 
     Not noticed: content of the same size that is written to a file within the same tick of the file system's clock (on Linux some
-    milliseconds) in which the stamp was taken; and changes on a file system that keeps no ctime, or after the clock was set back to the
-    same nanosecond. `bytes_of` notices these too, if it reads the bytes."""
+    milliseconds) in which the stamp was taken, which `is_settled` excludes; and changes on a file system that keeps no ctime, or after
+    the clock was set back to the same nanosecond."""
     try:
         found = os.stat(path)
     except OSError as error:
         raise Refused(f"{path}: {error.strerror}") from error
     return found.st_size, found.st_mtime_ns, found.st_ctime_ns, found.st_ino
+
+
+def is_settled(stamp: Stamp, now: int) -> bool:
+    """Whether a stamp that was taken at this time, in nanoseconds, shows each later change of the file: the last change is so long ago that
+    a later one is in another tick of the file system's clock, and gives another ctime. The clock of a file system on another machine
+    has to agree with the one here."""
+    return stamp[2] + (FINE if stamp[2] % 1000 else COARSE) <= now
+
+
+def settled_stamp(path: str) -> Stamp | None:
+    """The stamp of a file once it is settled; None for one with a time in the future, or if it is written to all the time."""
+    for _ in range(2 * COARSE // FINE):
+        now, stamp = time.time_ns(), stamp_of(path)
+        if is_settled(stamp, now):
+            return stamp
+        if stamp[2] > now:
+            break
+        time.sleep(FINE / 10**9)
+    return None
 
 
 # The index of a file
@@ -109,7 +141,8 @@ def found_index(path: str, folder: str) -> Indexed | None:
         with open(index_path(path, folder), encoding="utf-8") as file:
             found = json.load(file)
         blocks = [Block(*fields) for fields in found["blocks"]]
-        indexed = Indexed(found["path"], stamp_in(found["stamp"]), found["file"], stamp_in(found["file-stamp"]), blocks)
+        stamps = stamp_in(found["stamp"]), stamp_in(found["file-stamp"])
+        indexed = Indexed(found["path"], stamps[0], found["file"], stamps[1], blocks, found.get("settled") is True)
         if found["tilt-data"] == VERSION and indexed.path == path and indexed.stamp == stamp_of(path):
             return indexed if indexed.file_stamp == stamp_of(indexed.file) else None
     return None
@@ -122,18 +155,53 @@ def stamp_in(fields: list[int]) -> Stamp:
 
 def small_index(path: str) -> Indexed | None:
     """The index of a plain file that is read as fast as a stored index would be, and has none; None for any other file."""
-    stamp = stamp_of(path)
+    now, stamp = time.time_ns(), stamp_of(path)
     blocks = blocks_of(path, path, lambda: None) if stamp[0] <= SMALL else None
     if blocks is not None and stamp_of(path) != stamp:
         raise Refused(f"{path}: it was changed while it was read: call again")
-    return Indexed(path, stamp, path, stamp, blocks) if blocks is not None else None
+    return Indexed(path, stamp, path, stamp, blocks, is_settled(stamp, now)) if blocks is not None else None
+
+
+def whole_index(path: str, low: int, high: int) -> Indexed | None:
+    """The index of a file that the program is to read as it is: one block, by the first and the last row alone. In place of a digest of the
+    bytes it has one of the stamp, which is settled, and of rows about as many as there are. None for a file that needs an index of its
+    own: its first or its last row has no tick in (low, high], or it isn't spelled plainly at both ends."""
+    stamp = settled_stamp(path) if path == os.fsencode(path).decode(errors="replace") else None
+    if stamp is None:
+        return None
+    try:
+        with open(path, "rb") as file:
+            head = file.read(EDGE)
+            tail = head
+            if stamp[0] > EDGE:
+                file.seek(stamp[0] - EDGE)
+                tail = file.read(EDGE)
+    except OSError as error:
+        raise Refused(f"{path}: {error.strerror}") from error
+    header, end, rest = head.partition(b"\n")
+    first = times_of(rest.partition(b"\n")[0])
+    last = times_of(tail.removesuffix(b"\n").rpartition(b"\n")[2])
+    if header.removeprefix(MARK).removesuffix(b"\r") != HEADER_LINE or first is None or last is None or b'"' in head or b'"' in tail:
+        return None
+    if first[1] <= low or last[0] >= high:
+        return None
+    offset = len(header + end)
+    digest = hashlib.sha1(f"{path} {stamp}".encode(), usedforsecurity=False).hexdigest()
+    block = Block(offset, stamp[0] - offset, rows_about(tail, stamp[0] - offset), first[0], last[1], digest)
+    return Indexed(path, stamp, path, stamp, [block], True, True)
+
+
+def rows_about(tail: bytes, length: int) -> int:
+    """About how many rows there are in so many bytes, by the last of them, after what may be half a line."""
+    lines = tail.partition(b"\n")[2].removesuffix(b"\n") + b"\n"
+    return max(1, round(length * lines.count(b"\n") / len(lines)))
 
 
 def make_index(path: str, folder: str, check: Callable[[], None] = lambda: None) -> Indexed:
     """Makes the index of a series and writes it to the folder. A file that can't be a series raises a Refused with the line; of a plain
     file only the first and the last row of each block are parsed here. `check` is called for each block, and can raise an exception to
     stop."""
-    stamp = stamp_of(path)
+    now, stamp = time.time_ns(), stamp_of(path)
     blocks = blocks_of(path, path, check)
     file, file_stamp = path, stamp
     if blocks is None:
@@ -143,13 +211,14 @@ def make_index(path: str, folder: str, check: Callable[[], None] = lambda: None)
         blocks = blocks_of(path, file, check) or []
     if stamp_of(path) != stamp:
         raise Refused(f"{path}: it was changed while it was read: call again")
-    indexed = Indexed(path, stamp, file, file_stamp, blocks)
+    indexed = Indexed(path, stamp, file, file_stamp, blocks, file == path and is_settled(stamp, now))
     fields = {
         "tilt-data": VERSION,
         "path": path,
         "stamp": stamp,
         "file": file,
         "file-stamp": file_stamp,
+        "settled": indexed.settled,
         "blocks": [block.fields for block in blocks],
     }
     # An index that a stop of the machine tears can't be read, and is made again.
@@ -160,7 +229,7 @@ def make_index(path: str, folder: str, check: Callable[[], None] = lambda: None)
 
 def write_plainly(path: str, target: str, check: Callable[[], None]) -> None:
     with placed(target) as new:
-        new.write((",".join(HEADER) + "\n").encode())
+        new.write(HEADER_LINE + b"\n")
         for row in rows_in(path):
             check()
             new.write(row_text(row).encode())
@@ -178,7 +247,7 @@ def blocks_of(path: str, file: str, check: Callable[[], None]) -> list[Block] | 
         with open(file, "rb") as opened:
             length = max(SHORTEST, min(LONGEST, os.fstat(opened.fileno()).st_size // FEWEST))
             header = opened.readline().removeprefix(MARK).rstrip(b"\r\n")
-            if header != ",".join(HEADER).encode():
+            if header != HEADER_LINE:
                 return None
             return read_blocks(path, opened, length, check)
     except OSError as error:
@@ -279,6 +348,8 @@ def stretch_of(files: list[Indexed], low: int, high: int) -> Iterator[tuple[Segm
                 sum(block.rows for block in blocks),
                 spans,
                 joint_digest(block.digest for block in blocks),
+                one.settled,
+                one.whole,
             ), blocks
 
 
@@ -289,12 +360,12 @@ def joint_digest(digests: Iterable[str]) -> str:
 
 def bytes_of(segment: Segment) -> bytes:
     """The bytes of a segment, which are those that the index was made of. Raises a Refused if the file was changed since, and also if only
-    the bytes show that."""
+    the bytes can show that."""
     with open(segment.file, "rb") as file:
         file.seek(segment.offset)
         data = file.read(segment.length)
     check_stamp(segment)
-    if not is_as_indexed(data, segment):
+    if len(data) != segment.length or not segment.settled and not is_as_indexed(data, segment):
         raise changed(segment.path)
     return data
 

@@ -3,22 +3,49 @@ from __future__ import annotations
 
 import argparse
 import contextlib
+import importlib
 import io
 import os
 import signal
 import sys
 import threading
 import traceback
-from typing import Iterator
+from typing import Any, Iterator
 
-from . import by, follow, plotting, scaling, serve, series, table, ticks, view, why
 from .errors import Refused, printable
-from .version import ShowVersion
 
-COMMANDS = [series, table, why, ticks, by, scaling, follow, plotting, view, serve]
+# The module of each command. A call loads that of its own alone.
+COMMANDS = {
+    "series": "series",
+    "table": "table",
+    "run": "why",
+    "why": "why",
+    "ticks": "ticks",
+    "by": "by",
+    "scale": "scaling",
+    "follow": "follow",
+    "plot": "plotting",
+    "view": "view",
+    "serve": "serve",
+}
 
 
-def parser_of() -> argparse.ArgumentParser:
+def module_of(command: str) -> Any:
+    return importlib.import_module(f".{COMMANDS[command]}", __package__)
+
+
+class ShowVersion(argparse.Action):
+    """The option `--version`."""
+
+    def __call__(self, parser: argparse.ArgumentParser, *_: Any) -> None:
+        from .version import version_lines
+
+        print("\n".join(version_lines()))
+        parser.exit()
+
+
+def parser_of(command: str | None = None) -> argparse.ArgumentParser:
+    """The parser of all commands, or of one."""
     parser = argparse.ArgumentParser(
         prog="tilt-data", description="From a file of readings to series of tilt, and from its output to tables and pictures."
     )
@@ -26,8 +53,9 @@ def parser_of() -> argparse.ArgumentParser:
         "--version", action=ShowVersion, nargs=0, help="print the version, the commit, the toolchain, and the program with its SHA-256"
     )
     commands = parser.add_subparsers(metavar="COMMAND", required=True)
-    for command in COMMANDS:
-        command.add(commands)
+    names = [command] if command is not None else COMMANDS
+    for module in dict.fromkeys(module_of(name) for name in names):
+        module.add(commands)
     return parser
 
 
@@ -43,9 +71,10 @@ def called(words: list[str]) -> int:
     try:
         # The words of `run` are the program's, whatever they are.
         if words[:1] == ["run"] and words[1:] not in (["--help"], ["-h"]):
-            return why.run(words[1:])
-        parsed = parser_of().parse_args(words)
-        status: int = parsed.main(parsed)
+            status: int = module_of("run").run(words[1:])
+            return status
+        parsed = parser_of(words[0] if words and words[0] in COMMANDS else None).parse_args(words)
+        status = parsed.main(parsed)
         return status
     except Refused as refused:
         report("\n".join(map(printable, str(refused).split("\n"))))

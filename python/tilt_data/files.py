@@ -632,20 +632,80 @@ def taking(path: str) -> Iterator[str]:
 def placed(path: str, lasting: bool = True) -> Iterator[IO[bytes]]:
     """A file of bytes in a folder that several machines may share: it is written beside its name under one that nobody else has, brought
     to the disk if it is to be `lasting`, and takes its name at the end. If it doesn't come to the end, it goes away."""
-    os.makedirs(os.path.dirname(path) or ".", exist_ok=True)
     new = path
     try:
         with uninterrupted():
-            handle, new = new_beside(path, PLACED)
+            handle, new = new_placed(path)
         with open(handle, "wb") as file:
             yield file
             file.flush()
             if lasting:
                 os.fsync(file.fileno())
-        os.chmod(new, mode_of(path))
-        os.replace(new, path)
+        take_name(new, path)
     finally:
         drop(new, path)
+
+
+def new_placed(path: str) -> tuple[int, str]:
+    """An open new file beside a name that `placed` gives it, and its name until then. It has the mode of an ordinary new file."""
+    folder, name = os.path.split(path)
+    name = os.fsdecode(os.fsencode(name)[:LONGEST_NAME])
+    while True:
+        new = os.path.join(folder, f".{name}.{os.urandom(8).hex()}{PLACED}")
+        try:
+            return os.open(new, os.O_RDWR | os.O_CREAT | os.O_EXCL | os.O_NOFOLLOW, 0o666), new
+        except FileExistsError:
+            continue
+        except FileNotFoundError:
+            if os.path.isdir(folder or "."):
+                raise
+            os.makedirs(folder, exist_ok=True)
+        except OSError as error:
+            raise OSError(error.errno, error.strerror, path) from error
+
+
+def take_name(new: str, path: str) -> None:
+    """Gives a new file the name of another, if there is one with its mode."""
+    with contextlib.suppress(FileNotFoundError):
+        os.chmod(new, stat.S_IMODE(os.stat(path).st_mode))
+    os.replace(new, path)
+
+
+class Together:
+    """New files as those of `placed`, which are brought to the disk together at `commit` and then take their names, one after another.
+    Those that haven't taken theirs at the end go away."""
+
+    def __init__(self) -> None:
+        self.begun: list[tuple[int, str, str]] = []
+
+    def __enter__(self) -> Together:
+        return self
+
+    def begin(self, beside: str, path: str) -> int:
+        """A descriptor of a new file that is written beside a name and takes another."""
+        with uninterrupted():
+            handle, new = new_placed(beside)
+            self.begun.append((handle, new, path))
+        return handle
+
+    def keep(self, count: int) -> None:
+        """All go away but so many that were begun first."""
+        while len(self.begun) > count:
+            handle, new, path = self.begun.pop()
+            os.close(handle)
+            drop(new, path)
+
+    def commit(self) -> None:
+        # All are on their way to the disk before the first is waited for, so that the file system has one commit for them.
+        for handle, _, _ in self.begun:
+            os.posix_fadvise(handle, 0, 0, os.POSIX_FADV_DONTNEED)
+        for handle, _, _ in self.begun:
+            os.fsync(handle)
+        for _, new, path in self.begun:
+            take_name(new, path)
+
+    def __exit__(self, *_: object) -> None:
+        self.keep(0)
 
 
 class Stale(Refused):

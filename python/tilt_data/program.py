@@ -61,6 +61,8 @@ class Processes:
 
     def __init__(self) -> None:
         self.lock = threading.Lock()
+        # As bytes in a dictionary of its own it needn't be encoded for each run.
+        self.environment = dict(os.environb)
         self.running: set[subprocess.Popen[bytes]] = set()
         self.stopped = False
 
@@ -76,9 +78,11 @@ class Processes:
         with in_memory() as told, in_memory() as printed:
             with self.lock:
                 self.check()
-                # The words may name descriptors of the caller, such as /dev/fd/63 of a shell.
                 place = printed if out == subprocess.PIPE else out
-                process = subprocess.Popen([program(), *words], stdin=stdin, stdout=place, stderr=told, close_fds=False)
+                # The words may name descriptors of the caller, such as /dev/fd/63 of a shell. Those of Python are closed in a child anyway.
+                process = subprocess.Popen(
+                    [program(), *words], stdin=stdin, stdout=place, stderr=told, close_fds=False, env=self.environment
+                )
                 self.running.add(process)
             try:
                 status = process.wait()

@@ -45,6 +45,10 @@ PART_ROWS = 1_000_000
 AT_ONCE = 1 << 26
 # How many small keys share a task, and from how many keys on.
 TOGETHER, MANY = 32, 64
+# From how many keys on a key has one part, if it has at most so many times the rows of a part.
+SEVERAL, LARGER = 16, 4
+# How many seconds are between two lists of the outputs.
+BETWEEN = 1.0
 
 
 def add(commands: Any) -> None:
@@ -69,7 +73,8 @@ def add(commands: Any) -> None:
 class Scaled:
     """What a call did: the output of each key, `output` if there are none; how many parts there are, how many of them were made now, and
     from how many rows; the largest number of workers; the seconds of the whole call, of all its tasks, and of the program in them; how
-    often a task was started again; and notes on the cuts, the rows and the files."""
+    often a task was started again; notes on the cuts, the rows and the files; and whether `rows` is only about that many, since some
+    files were read by the program alone."""
 
     outputs: dict[str, str] = dataclasses.field(default_factory=dict)
     parts: int = 0
@@ -81,11 +86,12 @@ class Scaled:
     program_seconds: float = 0.0
     again: int = 0
     notes: list[str] = dataclasses.field(default_factory=list)
+    about: bool = False
 
     def told(self, most: int = 10) -> Iterator[str]:
         yield from self.notes
         kept = f", of which {self.parts - self.made} were there" if self.made < self.parts else ""
-        yield f"{self.parts} parts{kept}; {self.rows} rows read; the call took {self.seconds:.1f} s"
+        yield f"{self.parts} parts{kept}; {'about ' if self.about else ''}{self.rows} rows read; the call took {self.seconds:.1f} s"
         if self.made and self.workers:
             yield self.shares()
         if self.again:
@@ -176,6 +182,8 @@ class Plan:
         self.cuts: dict[str, list[int]] = {}
         # The stamps of small files, whose indexes aren't stored.
         self.stamps: dict[str, blocks.Stamp] = {}
+        # The keys whose files the program reads as they are, and what is known of each file.
+        self.wholes: dict[str, dict[str, list[Indexed]]] = {}
         self.rows = self.moved = self.fewer = 0
 
     def check_names(self, inputs: Mapping[str, Sequence[str]]) -> None:
@@ -195,9 +203,31 @@ class Plan:
             if clash:
                 raise Refused(f"{name}: {clash}")
 
+    def choose_wholes(self, part_rows: int) -> None:
+        """Finds the keys that need no index: each input is one file, all are needed, and they have the rows of one part."""
+        known: dict[tuple[str, str], Indexed | None] = {}
+        most = part_rows * (LARGER if len(self.files) >= SEVERAL else 1)
+        for key, its in self.files.items():
+            found: dict[str, list[Indexed]] = {}
+            for name, paths in its.items():
+                low, high = self.stretch(name, self.domain.start, self.domain.end)
+                if (name, paths[0]) not in known:
+                    known[name, paths[0]] = blocks.whole_index(paths[0], low, high) if low < high and len(paths) == 1 else None
+                one = known[name, paths[0]]
+                if one is None or len(paths) > 1:
+                    break
+                found[name] = [one]
+            if found and len(found) == len(its) and sum(one.rows for files in found.values() for one in files) <= most:
+                self.wholes[key] = found
+
+    def is_small(self, key: str) -> bool:
+        """Whether the program reads the files of a key as they are, and all are small."""
+        return key in self.wholes and all(one.stamp[0] <= blocks.SMALL for files in self.wholes[key].values() for one in files)
+
     def paths(self) -> list[str]:
-        """All series, each once."""
-        return list(dict.fromkeys(path for its in self.files.values() for paths in its.values() for path in paths))
+        """The series that need an index, each once."""
+        files = (its for key, its in self.files.items() if key not in self.wholes)
+        return list(dict.fromkeys(path for its in files for paths in its.values() for path in paths))
 
     def unindexed(self) -> Iterator[Indexing]:
         """The series that have no index yet, some for each task."""
@@ -217,6 +247,8 @@ class Plan:
 
     def indexed(self, key: str) -> dict[str, list[Indexed]]:
         """The indexes of the files of a key, by input."""
+        if key in self.wholes:
+            return self.wholes[key]
         found: dict[str, list[Indexed]] = {}
         for name, paths in self.files[key].items():
             its: list[Indexed] = []
@@ -230,6 +262,10 @@ class Plan:
 
     def cut(self, key: str, part_rows: int) -> None:
         """Chooses the cuts of a key by the rows that its output rests on."""
+        if key in self.wholes:
+            self.rows += sum(one.rows for files in self.wholes[key].values() for one in files)
+            self.cut_at(key, [], 1)
+            return
         met: list[Block] = []
         for name, files in self.indexed(key).items():
             for _, some in blocks.stretch_of(files, *self.stretch(name, self.domain.start, self.domain.end)):
@@ -298,17 +334,28 @@ class Listing:
     def __init__(self, folder: str) -> None:
         self.folder = folder
         self.outputs: dict[str, Any] = {}
+        self.changed, self.written = False, 0.0
         with contextlib.suppress(OSError, ValueError, KeyError, TypeError, AttributeError):
             with open(os.path.join(folder, "outputs.json"), encoding="utf-8") as file:
                 found = json.load(file)["outputs"]
             self.outputs = {name: entry for name, entry in found.items() if os.path.basename(name) == name}
 
+    def write_changes(self) -> None:
+        if self.changed:
+            self.write()
+
     def write(self) -> None:
+        self.changed, self.written = False, time.monotonic()
         # All files that are half written are in `parts`, which only a call with the lock writes to.
         new = os.path.join(self.folder, "parts", "outputs.json")
         with placed(new) as file:
-            file.write(json.dumps({"tilt-data": 1, "version": VERSION, "outputs": self.outputs}, indent=1).encode() + b"\n")
+            file.write(self.text().encode())
         os.replace(new, os.path.join(self.folder, "outputs.json"))
+
+    def text(self) -> str:
+        # A line for each output, by the encoder that takes no indents and is much faster.
+        lines = ",\n".join(f"  {json.dumps(name)}: {json.dumps(entry)}" for name, entry in self.outputs.items())
+        return f'{{\n "tilt-data": 1,\n "version": {json.dumps(VERSION)},\n "outputs": {{\n{lines}\n }}\n}}\n'
 
     def add(self, names: list[str]) -> None:
         """Lists the outputs that a call is going to write."""
@@ -325,8 +372,8 @@ class Listing:
         return None
 
     def note(self, name: str, digest: str) -> None:
-        """Notes an output that was joined now. One that this machine can't see yet, on a shared disk, is joined again by the next call."""
-        self.outputs[name] = None
+        """Notes an output that was made now. One that this machine can't see yet, on a shared disk, is made again by the next call."""
+        self.outputs[name], self.changed = None, True
         with contextlib.suppress(Refused):
             self.outputs[name] = digest, blocks.stamp_of(os.path.join(self.folder, name))
 
@@ -336,11 +383,13 @@ class Listing:
         kept, moved = set(names), 0
         for name in [name for name in self.outputs if name not in kept]:
             del self.outputs[name]
+            self.changed = True
             with contextlib.suppress(FileNotFoundError):
                 os.makedirs(os.path.join(self.folder, "earlier"), exist_ok=True)
                 os.replace(os.path.join(self.folder, name), os.path.join(self.folder, "earlier", name))
                 moved += 1
-        self.write()
+        if moved or self.changed:
+            self.write()
         return moved
 
 
@@ -397,12 +446,16 @@ class Run:
         self.small: list[Task] = []
 
     def carry_out(self, part_rows: int) -> Scaled:
+        self.plan.choose_wholes(part_rows)
         self.make_indexes()
         for key in self.plan.files:
             self.plan.cut(key, part_rows)
         names = [self.plan.whole_name(key) for key in self.plan.files]
         self.listing.add(names)
-        self.make_parts()
+        try:
+            self.make_parts()
+        finally:
+            self.listing.write_changes()
         self.scaled.outputs = dict(sorted(self.scaled.outputs.items()))
         self.scaled.notes = list(self.plan.notes())
         if self.scaled.made == self.scaled.parts and self.scaled.rows > 2 * self.plan.rows:
@@ -456,8 +509,7 @@ class Run:
 
     def is_small(self, task: Task) -> bool:
         """Whether a part is the whole of a key whose files are small, and many keys are to be made."""
-        paths = [path for paths in self.plan.files[task.key].values() for path in paths]
-        return len(self.plan.files) >= MANY and not self.plan.cuts[task.key] and all(path in self.plan.stamps for path in paths)
+        return len(self.plan.files) >= MANY and self.plan.is_small(task.key)
 
     def begin_keys(self) -> None:
         """Starts one task for the small keys that wait."""
@@ -500,14 +552,17 @@ class Run:
     def take_keys(self, keys: Keys, made: Made) -> None:
         """Takes what a task made of small keys. What it left gets tasks of its own."""
         for (task, joining), (part, whole) in zip(keys.keys, made.of_keys):
-            self.count(part)
+            self.count(task, part)
             self.counted.step()
             del self.left[task.key], self.files[task.key]
             self.take(joining, whole)
+        if time.monotonic() > self.listing.written + BETWEEN:
+            self.listing.write_changes()
         for task, _ in keys.keys[len(made.of_keys) :]:
             self.engine.begin(name_of(task), tasks.make_part, task)
 
-    def count(self, part: Made) -> None:
+    def count(self, task: Task, part: Made) -> None:
+        self.scaled.about |= any(segment.whole and segment.length > blocks.EDGE for its in task.inputs for segment in its.segments)
         self.scaled.made += 1
         self.scaled.rows += part.rows
         self.scaled.program_seconds += part.program_seconds
@@ -524,7 +579,7 @@ class Run:
             return
         if made.status:
             raise TiltError(f"{name_of(argument)}: {made.line}", made.status, made.place)
-        self.count(made)
+        self.count(argument, made)
         self.finish(argument.key)
 
     def ended(self) -> tuple[Any, Made]:

@@ -2,17 +2,17 @@
 and writes one file. It can be started again at any time, and gives the same bytes."""
 from __future__ import annotations
 
+import contextlib
 import dataclasses
 import functools
 import hashlib
 import os
-import socket
 import time
 
 from . import blocks, parts
 from .blocks import Segment, Stamp, stamp_of
 from .errors import Refused
-from .files import placed, scratch
+from .files import Together, placed, scratch
 from .parts import Part
 from .program import REFUSALS, Processes, program
 from .why import Refusal, refusal_of
@@ -88,7 +88,8 @@ class Made:
 
 @dataclasses.dataclass(frozen=True)
 class Keys:
-    """Small keys whose outputs are to be made by one task, one after another: for each its only part, and its whole."""
+    """Small keys whose outputs are to be made by one task, one after another: for each its only part, and its whole. All have the same
+    query, since none has cuts."""
 
     keys: tuple[tuple[Task, Joining], ...]
 
@@ -159,32 +160,55 @@ def make_part(task: Task, processes: Processes = UNSTOPPED) -> Made:
 
 def make_keys(keys: Keys, processes: Processes = UNSTOPPED) -> Made:
     """Makes the outputs of small keys, up to the first that doesn't succeed at once: `of_keys` has those that were made. The caller makes
-    the others by a task for each, so that what happens to them is counted and reported for each."""
+    the others by a task for each, so that what happens to them is counted and reported for each. An output is its only part. All are
+    brought to the disk together, and then take their names."""
     begun = time.perf_counter()
-    made: list[tuple[Made, Made]] = []
-    for task, joining in keys.keys:
-        try:
-            both = make_part(task, processes), make_whole(joining, processes)
-        except (Failed, OSError):
-            break
-        if both[0].status or both[1].status:
-            break
-        made.append(both)
-    return Made(time.perf_counter() - begun, sum(part.program_seconds for part, _ in made), of_keys=tuple(made))
+    made: list[Made] = []
+    with contextlib.suppress(OSError):
+        made = made_together(keys, processes)
+    return Made(time.perf_counter() - begun, sum(one.program_seconds for one in made), of_keys=tuple((one, Made()) for one in made))
+
+
+def made_together(keys: Keys, processes: Processes) -> list[Made]:
+    made: list[Made] = []
+    with scratch() as folder, Together() as together:
+        same_query = False
+        for task, joining in keys.keys:
+            try:
+                out = together.begin(among_parts(joining), joining.file)
+                made.append(make_key(task, out, folder, same_query, processes))
+                same_query = True
+            except (Failed, Rejected, Refused, OSError):
+                together.keep(len(made))
+                break
+        together.commit()
+    return made
+
+
+def make_key(task: Task, out: int, folder: str, same_query: bool, processes: Processes) -> Made:
+    """Runs the program on the only part of a key, with its output to a descriptor."""
+    check_program(task)
+    words, rows, size = laid_out(task, folder, same_query)
+    started = time.perf_counter()
+    run(processes, words, out)
+    check_unchanged(task)
+    return Made(0.0, time.perf_counter() - started, rows, size)
 
 
 def check_program(task: Task) -> None:
     """Raises a Refused if the program here isn't that of the call."""
     path = program()
     if not os.path.exists(path) or program_digest(path) != task.program:
-        raise Refused(f"{path} on {socket.gethostname()} isn't the program of the call")
+        raise Refused(f"{path} on {os.uname().nodename} isn't the program of the call")
 
 
-def laid_out(task: Task, folder: str) -> tuple[list[str], int, int]:
-    """Writes the query and the rows of each input to a folder: the arguments of `run`, and how many rows and bytes they are."""
+def laid_out(task: Task, folder: str, same_query: bool = False) -> tuple[list[str], int, int]:
+    """Writes the query, if the folder doesn't have it, and the rows of each input to a folder: the arguments of `run`, and how many rows and
+    bytes they are."""
     query = os.path.join(folder, "query.tilt")
-    with open(query, "w", encoding="utf-8", newline="") as file:
-        file.write(task.query)
+    if not same_query:
+        with open(query, "w", encoding="utf-8", newline="") as file:
+            file.write(task.query)
     words, rows, size = [query], 0, 0
     for stretch in task.inputs:
         path, some, its_size = given(stretch, folder)
@@ -197,7 +221,11 @@ def given(stretch: Stretch, folder: str) -> tuple[str, int, int]:
     """A file with the rows of an input that a part needs, and how many rows and bytes they are: the series itself if the part needs all of
     it, and otherwise a file in the folder."""
     if is_whole(stretch):
-        segment, data = stretch.segments[0], blocks.bytes_of(stretch.segments[0])
+        segment = stretch.segments[0]
+        if segment.whole:
+            blocks.check_stamp(segment)
+            return segment.path, segment.rows, segment.length
+        data = blocks.bytes_of(segment)
         if blocks.trimmed(data, stretch.low, stretch.high) == (0, len(data), 0):
             return segment.path, segment.rows, segment.length
     path, rows, size = rows_path(folder, stretch.name), 0, 0
@@ -261,12 +289,21 @@ def place_in(stretch: Stretch, line: int) -> tuple[str, int]:
 
 def make_whole(joining: Joining, processes: Processes = UNSTOPPED) -> Made:
     begun = time.perf_counter()
-    # It is written among the parts, where only its call writes, and moved to its place.
-    beside = os.path.join(os.path.dirname(joining.parts[0][1]), "whole.csv")
+    new = beside(joining)
     try:
-        with placed(beside) as out:
+        with placed(new) as out:
             parts.join(list(joining.parts), out, processes.check)
-        os.replace(beside, joining.file)
+        os.replace(new, joining.file)
     except Refused as refused:
         return Made(line=str(refused), status=1)
     return Made(time.perf_counter() - begun)
+
+
+def beside(joining: Joining) -> str:
+    """Where a whole is written before it is moved to its place: among the parts of its key, where only its call writes."""
+    return os.path.join(os.path.dirname(joining.parts[0][1]), "whole.csv")
+
+
+def among_parts(joining: Joining) -> str:
+    """Where the output of a small key is written before it is moved to its place: in the folder that has those of the parts of all keys."""
+    return os.path.join(os.path.dirname(os.path.dirname(joining.parts[0][1])), "whole.csv")

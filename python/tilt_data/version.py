@@ -2,14 +2,11 @@
 package, the Debian package, releases and all that is written take it from here."""
 from __future__ import annotations
 
-import argparse
 import hashlib
 import os
 import pathlib
 import shutil
 import subprocess
-import tomllib
-from typing import Any
 
 from .errors import Refused, printable
 from .program import TOP, program
@@ -18,14 +15,6 @@ VERSION = "0.1.0"
 # What tools/package/install and tools/package/debian.py write beside the modules, and the tool that prints it in a checkout.
 RECORD = pathlib.Path(__file__).with_name("described.toml")
 DESCRIBER = TOP / "tools" / "package" / "describe"
-
-
-class ShowVersion(argparse.Action):
-    """The option `--version`."""
-
-    def __call__(self, parser: argparse.ArgumentParser, *_: Any) -> None:
-        print("\n".join(version_lines()))
-        parser.exit()
 
 
 def version_lines() -> list[str]:
@@ -49,6 +38,8 @@ def version_lines() -> list[str]:
 def described(path: str | None) -> dict[str, str]:
     """What is known, by `commit`, `toolchain` and `program`. An installed package has it of the program that was installed with it, and a
     checkout of any program."""
+    import tomllib
+
     if RECORD.exists():
         return tomllib.loads(RECORD.read_text(encoding="utf-8"))
     if not os.access(DESCRIBER, os.X_OK):
