@@ -203,8 +203,8 @@ def check_program(task: Task) -> None:
 
 
 def laid_out(task: Task, folder: str, same_query: bool = False) -> tuple[list[str], int, int]:
-    """Writes the query, if the folder doesn't have it, and the rows of each input to a folder: the arguments of `run`, and how many rows and
-    bytes they are."""
+    """Writes the query, if the folder doesn't have it, and the rows of each input to a folder: the arguments of `run`, and how many rows
+    and bytes they are."""
     query = os.path.join(folder, "query.tilt")
     if not same_query:
         with open(query, "w", encoding="utf-8", newline="") as file:
