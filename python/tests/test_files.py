@@ -417,7 +417,7 @@ def test_a_signal_that_comes_while_a_file_is_made_leaves_none(told, tmp_path, wh
 @pytest.mark.parametrize("where", ["open", "fsync", "replace"])
 def test_a_signal_while_files_are_made_together_leaves_all_or_none_of_each(tmp_path, where):
     code = (
-        f"import os, signal, sys\nfrom tilt_data.cli import ending\nfrom tilt_data.files import Together\n"
+        "import os, signal, sys\nfrom tilt_data.cli import ending\nfrom tilt_data.files import Together\n"
         "with ending(), Together() as together:\n"
         "    os.write(together.begin('parts/beside', 'a'), b'7')\n    real = os." + where + "\n"
         f"    def one(*words, **named):\n        os.{where} = real\n        found = real(*words, **named)\n"

@@ -164,20 +164,20 @@ def make_keys(keys: Keys, processes: Processes = UNSTOPPED) -> Made:
     brought to the disk together, and then take their names."""
     begun = time.perf_counter()
     made: list[Made] = []
-    with contextlib.suppress(OSError):
+    with contextlib.suppress(OSError, Refused):
         made = made_together(keys, processes)
     return Made(time.perf_counter() - begun, sum(one.program_seconds for one in made), of_keys=tuple((one, Made()) for one in made))
 
 
 def made_together(keys: Keys, processes: Processes) -> list[Made]:
     made: list[Made] = []
+    check_program(keys.keys[0][0])
     with scratch() as folder, Together() as together:
-        same_query = False
+        put_query(keys.keys[0][0], folder)
         for task, joining in keys.keys:
             try:
                 out = together.begin(among_parts(joining), joining.file)
-                made.append(make_key(task, out, folder, same_query, processes))
-                same_query = True
+                made.append(make_key(task, out, folder, processes))
             except (Failed, Rejected, Refused, OSError):
                 together.keep(len(made))
                 break
@@ -185,10 +185,9 @@ def made_together(keys: Keys, processes: Processes) -> list[Made]:
     return made
 
 
-def make_key(task: Task, out: int, folder: str, same_query: bool, processes: Processes) -> Made:
-    """Runs the program on the only part of a key, with its output to a descriptor."""
-    check_program(task)
-    words, rows, size = laid_out(task, folder, same_query)
+def make_key(task: Task, out: int, folder: str, processes: Processes) -> Made:
+    """Runs the program on the only part of a key, with its output to a descriptor. The folder has the query."""
+    words, rows, size = with_rows(task, folder)
     started = time.perf_counter()
     run(processes, words, out)
     check_unchanged(task)
@@ -202,14 +201,24 @@ def check_program(task: Task) -> None:
         raise Refused(f"{path} on {os.uname().nodename} isn't the program of the call")
 
 
-def laid_out(task: Task, folder: str, same_query: bool = False) -> tuple[list[str], int, int]:
-    """Writes the query, if the folder doesn't have it, and the rows of each input to a folder: the arguments of `run`, and how many rows
-    and bytes they are."""
-    query = os.path.join(folder, "query.tilt")
-    if not same_query:
-        with open(query, "w", encoding="utf-8", newline="") as file:
-            file.write(task.query)
-    words, rows, size = [query], 0, 0
+def laid_out(task: Task, folder: str) -> tuple[list[str], int, int]:
+    """Writes the query and the rows of each input to a folder: the arguments of `run`, and how many rows and bytes they are."""
+    put_query(task, folder)
+    return with_rows(task, folder)
+
+
+def put_query(task: Task, folder: str) -> None:
+    with open(query_path(folder), "w", encoding="utf-8", newline="") as file:
+        file.write(task.query)
+
+
+def query_path(folder: str) -> str:
+    return os.path.join(folder, "query.tilt")
+
+
+def with_rows(task: Task, folder: str) -> tuple[list[str], int, int]:
+    """The same for a folder that has the query."""
+    words, rows, size = [query_path(folder)], 0, 0
     for stretch in task.inputs:
         path, some, its_size = given(stretch, folder)
         words.append(f"{stretch.name}={path}")
