@@ -1,8 +1,8 @@
 #!/usr/bin/env python3
 """Measures what `tilt-data scale` costs beside `tilt run` for one key after another: `tools/measure/scale.py [KEYS ROWS WORKERS] ..`.
 
-It writes a series of so many rows for each key and runs a query over all by both, three times. It compares the outputs byte by byte. For each
-it prints the least processor seconds of the three runs, the least seconds on the clock, and the load."""
+It writes a series of so many rows for each key and runs a query over all by both, three times. It compares the outputs byte by byte. For
+each it prints the least processor seconds of the three runs, the least seconds on the clock, and the load."""
 from __future__ import annotations
 
 import filecmp
