@@ -76,8 +76,8 @@ def measure(folder: str, keys: int, rows: int, workers: int) -> None:
     run, scale = (min(one[0] for one in some) for some in (runs, scales))
     clocks = " and ".join(f"{min(one[1] for one in some):.1f}" for some in (runs, scales))
     print(
-        f"{keys} keys of {rows} rows, {workers} workers: `tilt run` {run:.2f} s, `scale` {scale:.2f} s of a processor, {scale / run:.2f} times; "
-        f"clock {clocks} s; load {os.getloadavg()[0]:.0f}",
+        f"{keys} keys of {rows} rows, {workers} workers: `tilt run` {run:.2f} s, `scale` {scale:.2f} s of a processor, "
+        f"{scale / run:.2f} times; clock {clocks} s; load {os.getloadavg()[0]:.0f}",
         flush=True,
     )
 
