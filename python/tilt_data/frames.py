@@ -5,15 +5,15 @@ are those of pandas, in nanoseconds; without a zone they are UTC."""
 from __future__ import annotations
 
 import dataclasses
-import decimal
 import functools
+import itertools
 import os
 import pathlib
 import re
 import sys
 import tempfile
 import warnings
-from typing import TYPE_CHECKING, Any, Iterator, Literal, Mapping, Union, Unpack
+from typing import TYPE_CHECKING, Any, Callable, Iterable, Iterator, Literal, Mapping, Union, Unpack
 
 from . import sessions
 from .clock import TIMES, Clock, duration_of, duration_text, moment_text
@@ -22,9 +22,12 @@ from .convert import Converter, Late, Tie
 from .degrees import scale_notes
 from .errors import Refused, TiltError
 from .explain import Explained
-from .files import Notes, Row, notes_of, reading, rows_of
+from .files import HEADER, Notes, Row, notes_of, reading
+from .over import Extent, Over, cut_note, edges_of, over_of
 from .program import REFUSALS
-from .scales import Scale, decimal_text, digits_after_point
+from .rows import AT_ONCE, RowArrays, Unordered, is_within, output_of, rows_in, rows_of_intervals, rows_of_readings
+from .scales import Scale
+from .whole import digits_in, in_python, texts_of, whole_numbers
 
 if TYPE_CHECKING:
     import pandas
@@ -32,6 +35,7 @@ if TYPE_CHECKING:
     Input = Union[pandas.Series, str, os.PathLike[str]]
 
 Index = Literal["interval", "start", "end"]
+Range = Literal["query", "data"]
 
 
 class RunOptions(Options, total=False):
@@ -41,12 +45,16 @@ class RunOptions(Options, total=False):
     merge: bool
     index: Index
     exact: bool
+    over: Range | None
+    nulls: bool
     inputs: Mapping[str, Any] | None
     convention: Convention | None
 
 
 # Those that aren't of a convention.
-ARGUMENTS = ("by", "merge", "index", "exact", "inputs", "convention")
+ARGUMENTS = ("over", "nulls", "by", "merge", "index", "exact", "inputs", "convention")
+# Takes the rows of an input.
+Take = Callable[[str, Iterable[RowArrays]], None]
 # The moments that pandas has.
 FIRST, LAST = -(2**63) + 1, 2**63 - 1
 
@@ -77,10 +85,11 @@ class Query:
         """How far it looks and which loops it has; a query that is refused raises a TiltError with the place."""
         return self.explained
 
-    def put(self, folder: str) -> str:
+    def put(self, folder: str, text: str | None = None) -> str:
+        """Writes the query, or a text in its place, to a folder: the path."""
         path = os.path.join(folder, "query.tilt")
         with open(path, "w", encoding="utf-8", newline="") as file:
-            file.write(self.text)
+            file.write(self.text if text is None else text)
         return path
 
     def run(
@@ -91,6 +100,8 @@ class Query:
         merge: bool = False,
         index: Index = "interval",
         exact: bool = False,
+        over: Range | None = None,
+        nulls: bool = False,
         convention: Convention | None = None,
         inputs: Mapping[str, Any] | None = None,
         **options: Unpack[Options],
@@ -98,30 +109,51 @@ class Query:
         """What `tilt run` prints, as a DataFrame with the column `value`; see `run`."""
         convention = convention_of(convention, options, ARGUMENTS)
         check_one_of("index", index, ("interval", "start", "end"))
+        check_one_of("over", over, ("query", "data", None))
         check_flag("merge", merge)
         check_flag("exact", exact)
+        check_flag("nulls", nulls)
+        look = Look(merge, index, exact, nulls)
         named = dict(inputs or {})
         if by is not None:
-            return self.by_key(data, by, merge, index, exact, convention, named)
+            return self.by_key(data, by, look, over, convention, named)
         named = {**frame_inputs(data, self.inputs), **named}
-        bound, shape, scale = bind(self.inputs, named, convention)
-        if all(rows.file is None for rows in bound.values()):
-            self.warn_of_scale(convention, scale)
         with tempfile.TemporaryDirectory(prefix="tilt-data-") as folder:
-            words = [word for name, one in bound.items() for word in one.put(folder, name)]
-            out = os.path.join(folder, "out.csv")
-            path = self.put(folder)
-            try:
-                sessions.whole(path, words, out)
-            except TiltError as error:
-                raise error.renamed(path, self.name) from None
-            with reading(out) as file:
-                rows = list(rows_of(out, file))
-        return shape.frame(rows, merge, index, exact)
+            taken = Inputs(folder, over_of(self.text))
+            shape, scale = bind(self.inputs, named, convention, taken.take)
+            taken.files |= parted(named)[0]
+            if len(taken.extents) == len(taken.files):
+                self.warn_of_scale(convention, scale)
+            moved = self.over_in(taken, over)
+            binds = [f"{name}={taken.files[name]}" for name in self.inputs]
+            rows = self.rows_of_run(folder, moved, binds)
+        return shape.frame(rows, look, taken.over if moved is None else over_of(moved))
 
-    def by_key(
-        self, data: Any, by: str, merge: bool, index: Index, exact: bool, convention: Convention, named: dict[str, Any]
-    ) -> pandas.DataFrame:
+    def over_in(self, taken: Inputs, over: str | None) -> str | None:
+        """The query over all ticks in which the inputs have rows, if that is asked for, and else None. If it isn't said that the `over` of
+        the query is meant, rows that it leaves out are a warning."""
+        if taken.over is None:
+            return None
+        if over == "data":
+            edges = edges_of(taken.all_extents())
+            if edges is None:
+                raise Refused("over='data': the inputs have no readings, and no span")
+            return taken.over.moved(self.text, *taken.over.around(*edges))
+        note = None if over == "query" else cut_note(taken.over, taken.extents)
+        if note is not None:
+            warnings.warn(note, stacklevel=level_of_caller())
+        return None
+
+    def rows_of_run(self, folder: str, text: str | None, binds: list[str]) -> RowArrays:
+        """What the program prints for the query, or for a text in its place, with these arguments; its files are in the folder."""
+        path, out = self.put(folder, text), os.path.join(folder, "out.csv")
+        try:
+            sessions.whole(path, binds, out)
+        except TiltError as error:
+            raise error.renamed(path, self.name) from None
+        return output_of(out)
+
+    def by_key(self, data: Any, by: str, look: Look, over: str | None, convention: Convention, named: dict[str, Any]) -> pandas.DataFrame:
         """One run for each key of a column, one after another; the keys are the first level of the index."""
         import pandas
 
@@ -135,10 +167,8 @@ class Query:
         scales = {name: convention.scale_of(name) or scale for name in self.inputs} if isinstance(convention.scale, Mapping) else scale
         shared = {"tick": duration_text(clock.tick), "origin": moment_text(clock.origin, 9), "closed": clock.closed, "scale": scales}
         convention = convention_of(convention, shared)
-        found = {
-            key: self.run(part.drop(columns=by), merge=merge, index=index, exact=exact, convention=convention, inputs=named)
-            for key, part in data.groupby(by, sort=True, observed=True)
-        }
+        given = {**dataclasses.asdict(look), "over": over, "convention": convention, "inputs": named}
+        found = {key: self.run(part.drop(columns=by), **given) for key, part in data.groupby(by, sort=True, observed=True)}
         return pandas.concat(found, names=[by]) if found else pandas.DataFrame({"value": []})
 
     def warn_of_scale(self, convention: Convention, scale: int) -> None:
@@ -176,11 +206,21 @@ def span(
     named = {**frame_inputs(frame, [] if frame is None else list(frame.columns)), **(inputs or {})}
     # Of a value counts only whether it is there.
     there = {name: one.notna().map({True: 1}) if isinstance(one, pandas.Series) else one for name, one in named.items()}
-    bound, _, _ = bind(list(there), there, convention)
-    edges = [edge for rows in bound.values() for start, end, _ in rows.read() for edge in (start, end)]
-    if not edges:
+    extents: dict[str, Extent] = {}
+
+    def note(name: str, parts: Iterable[RowArrays]) -> None:
+        extents[name] = extent = Extent()
+        for part in parts:
+            extent.add(part)
+
+    bind(list(there), there, convention, note)
+    for name, file in parted(there)[0].items():
+        with reading(file) as opened:
+            note(name, rows_in(file, opened))
+    edges = edges_of(list(extents.values()))
+    if edges is None:
         raise Refused("the inputs have no readings, and no span")
-    return min(edges), max(edges)
+    return edges
 
 
 # Inputs
@@ -233,8 +273,8 @@ def frame_inputs(data: Any, names: list[str]) -> dict[str, Any]:
     return {name: data[name] for name in names if name in data.columns}
 
 
-def moments_of(index: Any, what: str) -> list[int]:
-    """The nanoseconds of a DatetimeIndex."""
+def moments_of(index: Any, what: str) -> Any:
+    """The nanoseconds of a DatetimeIndex, as an array."""
     import pandas
 
     if not isinstance(index, pandas.DatetimeIndex):
@@ -243,34 +283,11 @@ def moments_of(index: Any, what: str) -> list[int]:
         raise Refused(f"{what}: a time is missing in its index")
     if hasattr(index, "as_unit"):
         index = index.as_unit("ns")
-    return [int(moment) for moment in index.asi8]
-
-
-def texts_of(series: Any) -> list[str | None]:
-    """The decimal texts of the values of a Series."""
-    # A Series gives its values of 32 bits as floats of 64, whose shortest text is another one.
-    values = series.to_numpy() if str(series.dtype) in ("float16", "float32") else series
-    return [text_of(value) for value in values]
-
-
-def text_of(value: Any) -> str | None:
-    """The decimal text of a value of pandas; None for a missing one."""
-    import pandas
-
-    if isinstance(value, decimal.Decimal):
-        return None if value.is_nan() else str(value)
-    # What NA is compared to is NA, which is neither true nor false.
-    if value is None or value is pandas.NA or value != value:
-        return None
-    if isinstance(value, float):
-        return repr(float(value))
-    if type(value).__name__ in ("bool", "bool_"):
-        raise ValueError(f"{value} is no number: astype(int) makes 1 and 0 of True and False")
-    return str(value)
+    return index.asi8
 
 
 def whole_values(name: str, series: Any, scale: int) -> list[int | None]:
-    """The values of a Series times the scale."""
+    """The values of a Series times the scale, one by one: `whole_numbers` has them as an array."""
     read = Scale(scale)
     try:
         return [None if text is None else read.whole(text) for text in texts_of(series)]
@@ -278,41 +295,20 @@ def whole_values(name: str, series: Any, scale: int) -> list[int | None]:
         raise Refused(f"the input {name}: {in_python(str(error))}") from error
 
 
-def in_python(text: str) -> str:
-    """A message about a value, with the arguments of Python in place of options."""
-    text = re.sub(r"--scale 1(0*)( or --scale auto)?", lambda found: f"scale=1{found[1]}, scale='auto', or round({len(found[1])})", text)
-    text = re.sub("; (if|where) it means that there is no value, name it by --null", "; a missing value is NaN or None", text)
-    return text.replace("a smaller --scale", "a smaller scale=, or round()").replace("--scale", "scale=")
-
-
 def auto_scale(series: Mapping[str, Any]) -> int:
     """The smallest power of ten that makes all values whole."""
     return int(10 ** max((digits_in(name, one) for name, one in series.items()), default=0))
 
 
-def digits_in(name: str, series: Any) -> int:
-    """The most digits that a value of a Series has after its point."""
-    try:
-        return max((digits_after_point(text) for text in texts_of(series) if text is not None), default=0)
-    except ValueError as error:
-        raise Refused(f"the input {name}: {in_python(str(error))}") from error
+@dataclasses.dataclass(frozen=True)
+class Look:
+    """What the caller asks of an output: whether equal neighbours are joined, which times are its index (`interval`, `start` or `end`),
+    whether values are Decimals, and whether gaps have rows."""
 
-
-@dataclasses.dataclass
-class Rows:
-    """An input as rows, or as the file that has them."""
-
-    rows: list[Row]
-    file: str | None = None
-
-    def put(self, folder: str, name: str) -> list[str]:
-        return [f"{name}={self.file}"] if self.file is not None else sessions.put_rows(folder, {name: self.rows})
-
-    def read(self) -> list[Row]:
-        if self.file is None:
-            return self.rows
-        with reading(self.file) as opened:
-            return list(rows_of(self.file, opened))
+    merge: bool = False
+    index: str = "interval"
+    exact: bool = False
+    nulls: bool = False
 
 
 @dataclasses.dataclass(frozen=True)
@@ -323,36 +319,35 @@ class Shape:
     zone: Any
     scale: int
 
-    def frame(self, rows: list[Row], merge: bool = False, index: str = "interval", exact: bool = False) -> pandas.DataFrame:
+    def frame(self, rows: RowArrays, look: Look | None = None, over: Over | None = None) -> pandas.DataFrame:
+        """The rows as a DataFrame with the column `value`. Gaps have rows in the `over` of the query, if that is given and asked for."""
         import pandas
-        from .table import merged
 
-        kept = list(merged(rows) if merge else rows)
-        starts, ends = self.times([row[0] for row in kept]), self.times([row[1] for row in kept])
-        shown: Any = starts if index == "start" else ends
-        if index == "interval":
+        look = look or Look()
+        kept = rows.merged() if look.merge else rows
+        kept = kept.filled(over.start, over.end) if look.nulls and over is not None else kept
+        starts, ends = (None if look.index == other else self.times(at) for other, at in (("end", kept.starts), ("start", kept.ends)))
+        shown: Any = starts if look.index == "start" else ends
+        if look.index == "interval":
             shown = pandas.IntervalIndex.from_arrays(starts, ends, closed=self.clock.closed)
-        return pandas.DataFrame({"value": self.values([row[2] for row in kept], exact)}, index=shown)
+        return pandas.DataFrame({"value": kept.shown(self.scale, look.exact)}, index=shown)
 
-    def times(self, ticks: list[int]) -> pandas.DatetimeIndex:
+    def times(self, ticks: Any) -> pandas.DatetimeIndex:
+        """The times of ticks, which are in order."""
+        import numpy
         import pandas
 
-        moments = [self.clock.moment(tick) for tick in ticks]
-        if moments and not FIRST <= min(moments) <= max(moments) <= LAST:
+        edges = [self.clock.moment(int(tick)) for tick in (ticks[:1], ticks[-1:]) if len(tick)]
+        if edges and not FIRST <= edges[0] <= edges[1] <= LAST:
             raise Refused("the output goes beyond 1677-09-21 to 2262-04-11, the times that pandas has: give the query a shorter `over`")
-        times = pandas.to_datetime(moments, unit="ns", utc=True)
-        return times.tz_localize(None) if self.zone is None else times.tz_convert(self.zone)
-
-    def values(self, values: list[int | None], exact: bool) -> list[Any]:
-        if exact:
-            return [None if value is None else decimal.Decimal(decimal_text(value, self.scale)) for value in values]
-        if self.scale == 1:
-            return list(values)
-        return [None if value is None else value / self.scale for value in values]
+        # Sums and products of 64 bits lose only multiples of 2**64, and each moment is within 64 bits.
+        tick, origin = (numpy.array([number % 2**64], "u8").view("i8") for number in (self.clock.tick, self.clock.origin))
+        times = pandas.DatetimeIndex((ticks * tick + origin).view("M8[ns]"))
+        return times if self.zone is None else times.tz_localize("UTC").tz_convert(self.zone)
 
 
-def bind(names: list[str], named: dict[str, Any], convention: Convention) -> tuple[dict[str, Rows], Shape, int]:
-    """Each input as rows on one clock, how the output is shown, and the scale of the Series."""
+def bind(names: list[str], named: dict[str, Any], convention: Convention, take: Take) -> tuple[Shape, int]:
+    """Hands over the rows of each Series on one clock. How the output is shown, and the scale of the Series."""
     missing = [name for name in names if name not in named]
     other = [name for name in named if name not in names]
     if missing or other:
@@ -361,10 +356,41 @@ def bind(names: list[str], named: dict[str, Any], convention: Convention) -> tup
     convention.check_names(names)
     files, series = parted(named)
     clock, scale = shape_of(files, series, convention)
-    bound = {name: Rows([], file) for name, file in files.items()}
-    bound |= {name: Rows(list(rows_from(name, one, clock, convention, convention.scale_of(name) or scale))) for name, one in series.items()}
+    for name, one in series.items():
+        take(name, arrays_of(name, one, clock, convention, convention.scale_of(name) or scale))
     zone = next((zone_in(one.index) for one in series.values()), None)
-    return {name: bound[name] for name in names}, Shape(clock, zone, int(convention.output_scale or scale)), scale
+    return Shape(clock, zone, int(convention.output_scale or scale)), scale
+
+
+@dataclasses.dataclass
+class Inputs:
+    """Takes the rows of Series to files in a folder, and notes how far they reach."""
+
+    folder: str
+    over: Over | None
+    files: dict[str, str] = dataclasses.field(default_factory=dict)
+    extents: dict[str, Extent] = dataclasses.field(default_factory=dict)
+
+    def take(self, name: str, parts: Iterable[RowArrays]) -> None:
+        """Writes the rows of a Series."""
+        path = os.path.join(self.folder, f"rows.{name}.csv")
+        extent = Extent(self.over)
+        with sessions.opened(path) as file:
+            file.write((",".join(HEADER) + "\n").encode())
+            for part in parts:
+                file.write(part.text())
+                extent.add(part)
+        self.files[name], self.extents[name] = path, extent
+
+    def all_extents(self) -> list[Extent]:
+        """How far the rows of all inputs reach: those of files are read for it."""
+        found = list(self.extents.values())
+        for name in self.files.keys() - self.extents.keys():
+            with reading(self.files[name]) as opened:
+                found.append(extent := Extent())
+                for part in rows_in(self.files[name], opened):
+                    extent.add(part)
+        return found
 
 
 def parted(named: Mapping[str, Any]) -> tuple[dict[str, str], dict[str, Any]]:
@@ -450,7 +476,7 @@ def first_midnight(series: dict[str, Any]) -> int:
     """The midnight before the first reading, in the zone of the first Series. A day that has no midnight starts at its first moment."""
     import pandas
 
-    starts = [min(starts_of(name, one.index)) for name, one in series.items() if len(one)]
+    starts = [int(starts_of(name, one.index).min()) for name, one in series.items() if len(one)]
     if not starts:
         return 0
     zone = next(zone_in(one.index) for one in series.values())
@@ -486,21 +512,52 @@ def scale_of(known: dict[str, Notes], series: dict[str, Any], convention: Conven
     return given or next(iter(scales.values()))
 
 
-def starts_of(name: str, index: Any) -> list[int]:
+def starts_of(name: str, index: Any) -> Any:
+    """The moments of readings, or those at which intervals start, as an array of nanoseconds."""
     import pandas
 
     return moments_of(index.left if isinstance(index, pandas.IntervalIndex) else index, f"the input {name}")
 
 
+def arrays_of(name: str, series: Any, clock: Clock, convention: Convention, scale: int) -> Iterator[RowArrays]:
+    """The rows of a Series, many at a time. They are those of `rows_from`, and so is what is rejected."""
+    import pandas
+
+    values, known = whole_numbers(name, series, scale)
+    moments = starts_of(name, series.index)
+    if isinstance(series.index, pandas.IntervalIndex):
+        check_closed(name, series.index, clock)
+        rows = rows_of_intervals(clock, moments, moments_of(series.index.right, f"the input {name}"), values, known)
+        yield from one_by_one(name, series, clock, convention, scale) if rows is None else [rows]
+        return
+    rule = convention.rule(name, clock)
+    if convention.skips_empty(name) and known is not None:
+        moments, values, known = moments[known], values[known], None
+    if not is_within(clock, rule, moments):
+        yield from one_by_one(name, series, clock, convention, scale)
+        return
+    try:
+        yield from rows_of_readings(clock, rule, moments, values, known, lambda converter: final_row(name, converter, convention))
+    except Unordered as error:
+        raise (late if error.is_late else tied)(name, int(moments[error.place])) from error
+
+
+def one_by_one(name: str, series: Any, clock: Clock, convention: Convention, scale: int) -> Iterator[RowArrays]:
+    """The rows of a Series as arrays, though a time or a tick may not be within 64 bits."""
+    rows = rows_from(name, series, clock, convention, scale)
+    while some := list(itertools.islice(rows, AT_ONCE)):
+        yield RowArrays.of(some)
+
+
 def rows_from(name: str, series: Any, clock: Clock, convention: Convention, scale: int) -> Iterator[Row]:
-    """The rows of a Series: of its intervals, or of its readings by the convention."""
+    """The rows of a Series, one by one: of its intervals, or of its readings by the convention."""
     import pandas
 
     values = whole_values(name, series, scale)
-    starts = starts_of(name, series.index)
+    starts = starts_of(name, series.index).tolist()
     if isinstance(series.index, pandas.IntervalIndex):
         check_closed(name, series.index, clock)
-        for start, end, value in zip(starts, moments_of(series.index.right, f"the input {name}"), values):
+        for start, end, value in zip(starts, moments_of(series.index.right, f"the input {name}").tolist(), values):
             yield within(name, (on_ticks(name, clock, start), on_ticks(name, clock, end), value))
         return
     converter = Converter(clock, convention.rule(name, clock))
@@ -508,9 +565,15 @@ def rows_from(name: str, series: Any, clock: Clock, convention: Convention, scal
         row = None if value is None and convention.skips_empty(name) else pushed(name, converter, moment, value)
         if row is not None:
             yield row
-    final = converter.finish(until_of(clock, convention))
+    final = final_row(name, converter, convention)
     if final is not None:
-        yield within(name, final)
+        yield final
+
+
+def final_row(name: str, converter: Converter, convention: Convention) -> Row | None:
+    """The row of the last reading; None if there is no reading."""
+    row = converter.finish(until_of(converter.clock, convention))
+    return None if row is None else within(name, row)
 
 
 def until_of(clock: Clock, convention: Convention) -> int | None:
@@ -533,11 +596,21 @@ def pushed(name: str, converter: Converter, moment: int, value: int | None) -> R
     try:
         row = converter.push(moment, value)
     except Tie as error:
-        what = f"two readings in one tick at {moment_text(moment, 9)}: ties='last', 'first' or 'spread', or a shorter tick"
-        raise Refused(f"the input {name}: {what}") from error
+        raise tied(name, moment) from error
     except Late as error:
-        raise Refused(f"the input {name}: the reading at {moment_text(moment, 9)} lies before the one before it: sort_index()") from error
+        raise late(name, moment) from error
     return None if row is None else within(name, row)
+
+
+def tied(name: str, moment: int) -> Refused:
+    """The error of a second reading in one tick."""
+    what = f"two readings in one tick at {moment_text(moment, 9)}: ties='last', 'first' or 'spread', or a shorter tick"
+    return Refused(f"the input {name}: {what}")
+
+
+def late(name: str, moment: int) -> Refused:
+    """The error of a reading before the one before it."""
+    return Refused(f"the input {name}: the reading at {moment_text(moment, 9)} lies before the one before it: sort_index()")
 
 
 def on_ticks(name: str, clock: Clock, moment: int) -> int:
@@ -639,7 +712,8 @@ class Live:
                 taken.reached[name] = whole[1]
             return
         converter = taken.converters[name]
-        for moment, value in zip(starts_of(name, series.index), whole_values(name, series, self.convention.scale_of(name) or self.scale)):
+        values = whole_values(name, series, self.convention.scale_of(name) or self.scale)
+        for moment, value in zip(starts_of(name, series.index).tolist(), values):
             if value is None and self.convention.skips_empty(name):
                 continue
             row = pushed(name, converter, moment, value)
@@ -655,7 +729,7 @@ class Live:
         return row
 
     def frame(self, rows: list[Row]) -> pandas.DataFrame:
-        return Shape(self.clock, self.taken.zone, int(self.convention.output_scale or self.scale)).frame(rows)
+        return Shape(self.clock, self.taken.zone, int(self.convention.output_scale or self.scale)).frame(RowArrays.of(rows))
 
     def path(self, name: str) -> str:
         return os.path.join(self.folder.name, name)

@@ -8,7 +8,7 @@ import os
 import re
 from typing import TYPE_CHECKING, Any, Iterable, Iterator, Mapping, Union
 
-from . import frames, sessions
+from . import frames
 from .axis import axis_of
 from .clock import zone_of
 from .convention import Convention
@@ -274,11 +274,13 @@ def files_drawn(what: Mapping[str, Shown], like: str | None, convention: Convent
     known = {**named, "": like} if like is not None else named
     auto = frames.auto_scale({name: one for name, one in series.items() if convention.scale_of(name) is None})
     scales = {name: convention.scale_of(name) or auto for name in series}
-    bound, shape, _ = frames.bind(list(known), known, dataclasses.replace(convention, scale=scales, scales="differ", output_scale=1))
+    # A name can have what no file name has.
+    numbers, taken = {name: str(number) for number, name in enumerate(series)}, frames.Inputs(folder, None)
+    convention = dataclasses.replace(convention, scale=scales, scales="differ", output_scale=1)
+    shape, _ = frames.bind(list(known), known, convention, lambda name, parts: taken.take(numbers[name], parts))
     zone = getattr(shape.zone, "key", None) or getattr(shape.zone, "zone", None)
-    for number, name in enumerate(series):
-        [word] = sessions.put_rows(folder, {str(number): bound[name].rows})
-        files[name] = word.partition("=")[2]
+    for name, number in numbers.items():
+        files[name] = taken.files[number]
         kind = "event" if convention.is_event(name) and not hasattr(series[name].index, "closed") else "hold"
         with open(notes_path(files[name]), "w", encoding="utf-8") as file:
             file.write(Notes(shape.clock, scales[name], kind, zone=zone).text())

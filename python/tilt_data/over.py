@@ -1,0 +1,92 @@
+"""The time range of a query's output, its `over`, and that of the data."""
+from __future__ import annotations
+
+import dataclasses
+import math
+
+from .forms import fault_of
+from .grammar import Statement, statements_of
+from .rows import RowArrays
+
+
+@dataclasses.dataclass(frozen=True)
+class Over:
+    """The `over (start, end]` of a query's output: its ticks, the bytes of the query between the parentheses, and the grid that both ends
+    are on. `common` is a number of ticks by which the whole query can be moved in time, None if a definition has an `over` of its own."""
+
+    start: int
+    end: int
+    place: tuple[int, int]
+    grid: tuple[int, int]
+    common: int | None
+
+    @property
+    def text(self) -> str:
+        return f"over ({self.start}, {self.end}]"
+
+    def around(self, first: int, last: int) -> tuple[int, int]:
+        """The smallest range of ticks on the grid that has those from `first`, which isn't in it, to `last`."""
+        period, offset = self.grid
+        start = first - (first - offset) % period
+        return start, max(start + period, last + (offset - last) % period)
+
+    def moved(self, query: str, start: int, end: int) -> str:
+        """The query with another range."""
+        text = query.encode()
+        return (text[: self.place[0]] + f"{start}, {end}".encode() + text[self.place[1] :]).decode()
+
+
+def over_of(query: str) -> Over | None:
+    """The `over` of a query; None if the program rejects the query."""
+    if fault_of(query.encode()) is not None:
+        return None
+    *others, emit = statements_of(query.encode())
+    (start, first), (end, last) = emit.bounds
+    is_free = not any(statement.bounds for statement in others)
+    common = math.lcm(*(statement.period[0] for statement in [*others, emit])) if is_free else None
+    return Over(start, end, (first.begin, last.end), grid_of(emit), common)
+
+
+def grid_of(statement: Statement) -> tuple[int, int]:
+    return statement.period[0], statement.offset[0]
+
+
+@dataclasses.dataclass
+class Extent:
+    """How far the rows of a Series reach: how many there are, how many of them aren't in the `over` of the query at all, the start of the
+    first and the end of the last one. A Series without rows has neither."""
+
+    over: Over | None = None
+    rows: int = 0
+    outside: int = 0
+    first: int | None = None
+    last: int | None = None
+
+    def add(self, part: RowArrays) -> None:
+        """Counts some rows."""
+        if not len(part):
+            return
+        first, last = int(part.starts.min()), int(part.ends.max())
+        self.rows += len(part)
+        self.first = first if self.first is None else min(first, self.first)
+        self.last = last if self.last is None else max(last, self.last)
+        if self.over is not None and (first < self.over.start or last > self.over.end):
+            self.outside += int(((part.ends <= self.over.start) | (part.starts >= self.over.end)).sum())
+
+
+def edges_of(extents: list[Extent]) -> tuple[int, int] | None:
+    """The ticks over which any of these have rows; None if none has."""
+    firsts, lasts = [one.first for one in extents if one.first is not None], [one.last for one in extents if one.last is not None]
+    return (min(firsts), max(lasts)) if firsts and lasts else None
+
+
+def cut_note(over: Over, extents: dict[str, Extent]) -> str | None:
+    """A note of the rows that aren't in the `over` of a query, by the name of each input; None if it has all of them."""
+    texts = [
+        f"{one.outside} of {one.rows} rows of {name}, which reach over ({one.first}, {one.last}]"
+        for name, one in extents.items()
+        if one.outside
+    ]
+    if not texts:
+        return None
+    return f"{over.text} leaves out {'; '.join(texts)}: over='data' takes all, and over='query' says that this is meant"
