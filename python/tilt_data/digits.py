@@ -25,7 +25,13 @@ def rows_text(starts: Any, ends: Any, values: Any, known: Any = None) -> bytes:
     """
     import numpy
 
-    columns = [*groups_of(starts, COMMA), *groups_of(ends, COMMA), *groups_of(values, LINE_END, known)]
+    if len(starts) and (ends[:-1] == starts[1:]).all():
+        # Where a row ends the next one starts.
+        edges = groups_of(numpy.append(starts, ends[-1]), COMMA)
+        columns = [group[:-1] for group in edges] + [group[1:] for group in edges]
+    else:
+        columns = groups_of(starts, COMMA) + groups_of(ends, COMMA)
+    columns += groups_of(values, LINE_END, known)
     table = numpy.empty((len(starts), len(columns)), "<u4")
     for at, column in enumerate(columns):
         table[:, at] = column
@@ -106,7 +112,8 @@ def rows_read(text: bytes, before: int) -> tuple[Any, Any, Any, Any] | None:
 def is_plain(text: bytes) -> bool:
     """Whether lines have three numbers each, of digits with or without a minus before them, of which only the last may be left out; and
     none is as small as the one that is read where it is."""
-    if text.translate(None, DIGITS) != b",,\n" * text.count(b"\n") or text.startswith(b","):
+    signs = text.translate(None, DIGITS)
+    if signs != b",,\n" * (len(signs) // 3) or not text.endswith(b"\n") or text.startswith(b","):
         return False
     if b",," in text or b"\n," in text:
         return False

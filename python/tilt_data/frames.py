@@ -23,6 +23,7 @@ from .degrees import scale_notes
 from .errors import Refused, TiltError
 from .explain import Explained
 from .files import HEADER, Notes, Row, notes_of, reading
+from .keys import APART, Alone, Batches, Column, Readings, readings_by_key
 from .over import Extent, Over, cut_note, edges_of, over_of
 from .program import REFUSALS
 from .rows import AT_ONCE, RowArrays, Unordered, is_within, output_of, rows_in, rows_of_intervals, rows_of_readings
@@ -36,6 +37,7 @@ if TYPE_CHECKING:
 
 Index = Literal["interval", "start", "end"]
 Range = Literal["query", "data"]
+KeyOrigin = Literal["shared", "own"]
 
 
 class RunOptions(Options, total=False):
@@ -47,12 +49,13 @@ class RunOptions(Options, total=False):
     exact: bool
     over: Range | None
     nulls: bool
+    key_origin: KeyOrigin
     inputs: Mapping[str, Any] | None
     convention: Convention | None
 
 
 # Those that aren't of a convention.
-ARGUMENTS = ("over", "nulls", "by", "merge", "index", "exact", "inputs", "convention")
+ARGUMENTS = ("over", "nulls", "key_origin", "by", "merge", "index", "exact", "inputs", "convention")
 # Takes the rows of an input.
 Take = Callable[[str, Iterable[RowArrays]], None]
 # The moments that pandas has.
@@ -102,6 +105,7 @@ class Query:
         exact: bool = False,
         over: Range | None = None,
         nulls: bool = False,
+        key_origin: KeyOrigin = "shared",
         convention: Convention | None = None,
         inputs: Mapping[str, Any] | None = None,
         **options: Unpack[Options],
@@ -110,13 +114,15 @@ class Query:
         convention = convention_of(convention, options, ARGUMENTS)
         check_one_of("index", index, ("interval", "start", "end"))
         check_one_of("over", over, ("query", "data", None))
+        check_one_of("key_origin", key_origin, ("shared", "own"))
+        check_key_origin(key_origin, by, convention)
         check_flag("merge", merge)
         check_flag("exact", exact)
         check_flag("nulls", nulls)
         look = Look(merge, index, exact, nulls)
         named = dict(inputs or {})
         if by is not None:
-            return self.by_key(data, by, look, over, convention, named)
+            return self.by_key(data, by, look, over, key_origin, convention, named)
         named = {**frame_inputs(data, self.inputs), **named}
         with tempfile.TemporaryDirectory(prefix="tilt-data-") as folder:
             taken = Inputs(folder, over_of(self.text))
@@ -127,9 +133,10 @@ class Query:
             moved = self.over_in(taken, over)
             binds = [f"{name}={taken.files[name]}" for name in self.inputs]
             rows = self.rows_of_run(folder, moved, binds)
-        return shape.frame(rows, look, taken.over if moved is None else over_of(moved))
+        own = taken.over if moved is None else over_of(moved)
+        return shape.frame(rows if own is None else look.kept(rows, own.start, own.end), look)
 
-    def over_in(self, taken: Inputs, over: str | None) -> str | None:
+    def over_in(self, taken: Inputs, over: Range | None) -> str | None:
         """The query over all ticks in which the inputs have rows, if that is asked for, and else None. If it isn't said that the `over` of
         the query is meant, rows that it leaves out are a warning."""
         if taken.over is None:
@@ -153,23 +160,86 @@ class Query:
             raise error.renamed(path, self.name) from None
         return output_of(out)
 
-    def by_key(self, data: Any, by: str, look: Look, over: str | None, convention: Convention, named: dict[str, Any]) -> pandas.DataFrame:
-        """One run for each key of a column, one after another; the keys are the first level of the index."""
-        import pandas
-
-        check_keys(data, by)
+    def by_key(
+        self, data: Any, by: str, look: Look, over: Range | None, origin: KeyOrigin, convention: Convention, named: dict[str, Any]
+    ) -> pandas.DataFrame:
+        """The output for each key of a column; the keys are the first level of the index."""
+        keys = keys_of(data, by)
         parts = {name: data[name] for name in self.inputs if name in data.columns and name != by}
         files, series = parted({**parts, **named})
         clock, scale = shape_of(files, series, convention)
         if not files:
             self.warn_of_scale(convention, scale)
-        # All keys have the clock and the scale of the whole.
+        # All keys have the scale and the edges of the whole, and its clock unless each has its own.
         scales = {name: convention.scale_of(name) or scale for name in self.inputs} if isinstance(convention.scale, Mapping) else scale
-        shared = {"tick": duration_text(clock.tick), "origin": moment_text(clock.origin, 9), "closed": clock.closed, "scale": scales}
+        shared: dict[str, Any] = {"tick": duration_text(clock.tick), "closed": clock.closed, "scale": scales}
+        if origin == "shared":
+            shared["origin"] = moment_text(clock.origin, 9)
         convention = convention_of(convention, shared)
-        given = {**dataclasses.asdict(look), "over": over, "convention": convention, "inputs": named}
-        found = {key: self.run(part.drop(columns=by), **given) for key, part in data.groupby(by, sort=True, observed=True)}
+        if keys is not None and not named and list(parts) == self.inputs and parts:
+            try:
+                shape = Shape(clock, zone_in(data.index), int(convention.output_scale or scale))
+                return self.by_batches(data, keys, look, over, origin, convention, shape)
+            except (Alone, Refused):
+                # What is rejected is found in the order of the keys.
+                pass
+        return self.by_runs(data, by, look, over, convention, named)
+
+    def by_runs(
+        self, data: Any, by: str, look: Look, over: Range | None, convention: Convention, named: dict[str, Any]
+    ) -> pandas.DataFrame:
+        """One run for each key, one after another."""
+        import pandas
+
+        def output(part: Any) -> pandas.DataFrame:
+            own = part.drop(columns=by)
+            return self.run(own, **dataclasses.asdict(look), over=over, convention=convention, inputs=named)
+
+        found = {key: output(part) for key, part in data.groupby(by, sort=True, observed=True)}
         return pandas.concat(found, names=[by]) if found else pandas.DataFrame({"value": []})
+
+    def by_batches(
+        self, data: Any, keys: Keys, look: Look, over: Range | None, origin: KeyOrigin, convention: Convention, shape: Shape
+    ) -> pandas.DataFrame:
+        """Runs over many keys at a time, as `keys.py` says it."""
+        own, clock = over_of(self.text), shape.clock
+        if own is None or own.common is None or not len(keys.keys):
+            raise Alone
+        bounds, order = readings_by_key(keys.numbers, len(keys.keys))
+        explained = self.explain()
+        moments = moments_of(data.index, "the index")
+        clocks = [clock] * len(keys.keys)
+        readings = Readings(
+            moments if order is None else moments[order],
+            {name: self.column(name, data[name] if order is None else data[name].iloc[order], convention, clock) for name in self.inputs},
+            bounds,
+        )
+        if origin == "own":
+            clocks = [dataclasses.replace(clock, origin=midnight(first, shape.zone)) for first in readings.firsts()]
+            if any((one.origin - clock.origin) % clock.tick for one in clocks):
+                raise Alone
+        reach = explained.back + APART, explained.ahead + APART
+        with tempfile.TemporaryDirectory(prefix="tilt-data-") as folder:
+            batches = Batches(functools.partial(self.run_over, folder, own), reach, own, over == "data", {})
+            outputs = [look.kept(rows, one.start, one.end) for one, rows in batches.outputs(readings, clocks)]
+        note = None if over is not None else cut_note(own, batches.extents)
+        if note is not None:
+            warnings.warn(note, stacklevel=level_of_caller())
+        shifts = [(one.origin - clock.origin) // clock.tick for one in clocks]
+        return shape.keyed(keys, [rows.moved(shift) for rows, shift in zip(outputs, shifts)], look)
+
+    def column(self, name: str, series: Any, convention: Convention, clock: Clock) -> Column:
+        """An input of all keys, which has a scale by now."""
+        values, known = whole_numbers(name, series, convention.scale_of(name) or 1)
+        rule, skips_empty = convention.rule(name, clock), convention.skips_empty(name)
+        return Column(values, known, rule, skips_empty, lambda converter: final_row(name, converter, convention))
+
+    def run_over(self, folder: str, own: Over, rows: dict[str, RowArrays], over: tuple[int, int]) -> RowArrays:
+        """What the query gives over other ticks."""
+        taken = Inputs(folder, None)
+        for name, one in rows.items():
+            taken.take(name, one.blocks())
+        return self.rows_of_run(folder, own.moved(self.text, *over), [f"{name}={path}" for name, path in taken.files.items()])
 
     def warn_of_scale(self, convention: Convention, scale: int) -> None:
         """Warns if the data have a scale that the caller didn't give, and it changes what the query means."""
@@ -239,20 +309,43 @@ def names_file(text: str) -> bool:
     return not re.search(r"[;\s]", text) or text.endswith(".tilt") or os.path.isfile(text)
 
 
-def check_keys(data: Any, by: Any) -> None:
-    """Rejects a column of keys that isn't one column, or doesn't have one key in each row."""
+def check_key_origin(key_origin: str, by: Any, convention: Convention) -> None:
+    """Rejects an origin of each key if there are no keys, or if there is an origin for all."""
+    if key_origin == "own" and (by is None or convention.origin is not None):
+        what = "there are no keys without by=" if by is None else f"origin={convention.origin!r} is that of all keys"
+        raise Refused(f"key_origin='own': {what}")
+
+
+@dataclasses.dataclass(frozen=True)
+class Keys:
+    """The keys of a column in order, its name, and the number of the key in each row."""
+
+    name: str
+    keys: Any
+    numbers: Any
+
+
+def keys_of(data: Any, by: Any) -> Keys | None:
+    """The keys of a column; None if they have no order, or are categories. A column of keys that isn't one column, or doesn't have one key
+    in each row, is rejected."""
     import pandas
 
     count = list(data.columns).count(by) if isinstance(data, pandas.DataFrame) else 0
     if count != 1:
         what = f"a DataFrame with this column was expected{f', not with {count} of this name' if count else ''}"
         raise Refused(f"by={by!r}: {what}")
-    keyless = int(data[by].isna().sum())
+    try:
+        numbers, keys = pandas.factorize(data[by], sort=True)
+    except TypeError:
+        numbers, keys = None, data[by]
+    keyless = int((data[by].isna() if numbers is None else numbers == -1).sum())
     if keyless:
         raise Refused(f"by={by!r}: a key was expected in each row, and {keyless} of {len(data)} have none: dropna(subset=[{by!r}])")
-    strange = next((key for key in data[by] if not pandas.api.types.is_scalar(key)), None)
+    strange = next((key for key in keys if not pandas.api.types.is_scalar(key)), None)
     if strange is not None:
         raise Refused(f"by={by!r}: a text, a number or a time was expected as a key, not {strange!r}: astype(str)")
+    is_ordered = numbers is not None and not isinstance(data[by].dtype, pandas.CategoricalDtype)
+    return Keys(by, keys, numbers) if is_ordered else None
 
 
 def frame_inputs(data: Any, names: list[str]) -> dict[str, Any]:
@@ -310,6 +403,11 @@ class Look:
     exact: bool = False
     nulls: bool = False
 
+    def kept(self, rows: RowArrays, start: int, end: int) -> RowArrays:
+        """The rows of an output over these ticks, joined and with gaps as it is asked for."""
+        kept = rows.merged() if self.merge else rows
+        return kept.filled(start, end) if self.nulls else kept
+
 
 @dataclasses.dataclass(frozen=True)
 class Shape:
@@ -319,25 +417,46 @@ class Shape:
     zone: Any
     scale: int
 
-    def frame(self, rows: RowArrays, look: Look | None = None, over: Over | None = None) -> pandas.DataFrame:
-        """The rows as a DataFrame with the column `value`. Gaps have rows in the `over` of the query, if that is given and asked for."""
+    def frame(self, rows: RowArrays, look: Look | None = None) -> pandas.DataFrame:
+        """The rows as a DataFrame with the column `value`."""
         import pandas
 
         look = look or Look()
-        kept = rows.merged() if look.merge else rows
-        kept = kept.filled(over.start, over.end) if look.nulls and over is not None else kept
-        starts, ends = (None if look.index == other else self.times(at) for other, at in (("end", kept.starts), ("start", kept.ends)))
-        shown: Any = starts if look.index == "start" else ends
-        if look.index == "interval":
-            shown = pandas.IntervalIndex.from_arrays(starts, ends, closed=self.clock.closed)
-        return pandas.DataFrame({"value": kept.shown(self.scale, look.exact)}, index=shown)
+        return pandas.DataFrame({"value": rows.shown(self.scale, look.exact)}, index=self.index(rows.starts, rows.ends, look))
 
-    def times(self, ticks: Any) -> pandas.DatetimeIndex:
-        """The times of ticks, which are in order."""
+    def index(self, starts: Any, ends: Any, look: Look) -> Any:
+        """The index of rows with these starts and ends."""
+        import pandas
+
+        if look.index != "interval":
+            return self.times(starts if look.index == "start" else ends)
+        return pandas.IntervalIndex.from_arrays(self.times(starts), self.times(ends), closed=self.clock.closed)
+
+    def keyed(self, keys: Keys, outputs: list[RowArrays], look: Look) -> pandas.DataFrame:
+        """The rows of each key as one DataFrame, whose index has the keys as its first level."""
         import numpy
         import pandas
 
-        edges = [self.clock.moment(int(tick)) for tick in (ticks[:1], ticks[-1:]) if len(tick)]
+        rows = RowArrays.joined(outputs)
+        (starts, first), (ends, last) = (pandas.factorize(ticks, sort=True) for ticks in (rows.starts, rows.ends))
+        if look.index != "interval":
+            (starts, first), last = ((starts, first), first) if look.index == "start" else ((ends, last), last)
+            places, distinct = starts, numpy.arange(len(last))
+            times = self.index(last, last, look)
+        else:
+            places, distinct = pandas.factorize(starts * max(1, len(last)) + ends, sort=True)
+            times = self.index(first[distinct // max(1, len(last))], last[distinct % max(1, len(last))], look)
+        numbers = numpy.repeat(numpy.arange(len(outputs)), [len(one) for one in outputs])
+        levels, names = [pandas.Index(list(keys.keys)), times], [keys.name, None]
+        index = pandas.MultiIndex(levels=levels, codes=[numbers, places], names=names, verify_integrity=False)
+        return pandas.DataFrame({"value": rows.shown(self.scale, look.exact)}, index=index)
+
+    def times(self, ticks: Any) -> pandas.DatetimeIndex:
+        """The times of ticks."""
+        import numpy
+        import pandas
+
+        edges = [self.clock.moment(int(tick)) for tick in (ticks.min(), ticks.max())] if len(ticks) else []
         if edges and not FIRST <= edges[0] <= edges[1] <= LAST:
             raise Refused("the output goes beyond 1677-09-21 to 2262-04-11, the times that pandas has: give the query a shorter `over`")
         # Sums and products of 64 bits lose only multiples of 2**64, and each moment is within 64 bits.
@@ -474,17 +593,19 @@ def closed_in(name: str, index: Any) -> str | None:
 
 def first_midnight(series: dict[str, Any]) -> int:
     """The midnight before the first reading, in the zone of the first Series. A day that has no midnight starts at its first moment."""
+    starts = [int(starts_of(name, one.index).min()) for name, one in series.items() if len(one)]
+    return midnight(min(starts), next(zone_in(one.index) for one in series.values())) if starts else 0
+
+
+def midnight(moment: int, zone: Any) -> int:
+    """The midnight of a zone before the first reading, which is at this moment."""
     import pandas
 
-    starts = [int(starts_of(name, one.index).min()) for name, one in series.items() if len(one)]
-    if not starts:
-        return 0
-    zone = next(zone_in(one.index) for one in series.values())
     try:
-        local = pandas.Timestamp(min(starts), tz="UTC").tz_convert(zone or "UTC").tz_localize(None).normalize()
+        local = pandas.Timestamp(moment, tz="UTC").tz_convert(zone or "UTC").tz_localize(None).normalize()
         return int(local.tz_localize(zone or "UTC", ambiguous=True, nonexistent="shift_forward").value)
     except (ValueError, OverflowError) as error:
-        what = f"the midnight before the first reading, {moment_text(min(starts), 9)}"
+        what = f"the midnight before the first reading, {moment_text(moment, 9)}"
         raise Refused(f"{what}, is no time that pandas has: give origin=") from error
 
 

@@ -6,8 +6,8 @@ from __future__ import annotations
 
 import dataclasses
 import decimal
-import functools
 import itertools
+import os
 from typing import IO, Any, Callable, Iterable, Iterator
 
 from . import digits
@@ -66,6 +66,15 @@ class RowArrays:
     def some(self, places: Any) -> RowArrays:
         """The rows at some places, or of a slice."""
         return RowArrays(self.starts[places], self.ends[places], self.values[places], None if self.known is None else self.known[places])
+
+    def blocks(self) -> Iterator[RowArrays]:
+        """The rows, some at a time."""
+        for at in range(0, len(self), AT_ONCE):
+            yield self.some(slice(at, at + AT_ONCE))
+
+    def moved(self, ticks: int) -> RowArrays:
+        """The rows so many ticks later."""
+        return RowArrays(self.starts + ticks, self.ends + ticks, self.values, self.known) if ticks else self
 
     def merged(self) -> RowArrays:
         """The rows with equal neighbours as one row."""
@@ -255,10 +264,10 @@ def output_of(path: str) -> RowArrays:
     import numpy
 
     with open(path, "rb") as file:
-        count = sum(text.count(b"\n") for text in iter(functools.partial(file.read, BYTES_AT_ONCE), b"")) - 1
-        starts, ends, values = (numpy.empty(max(count, 0), "i8") for _ in range(3))
+        # A row has 6 bytes at least. What isn't used of the arrays takes no memory, since nothing is written there.
+        count = os.fstat(file.fileno()).st_size // 6
+        starts, ends, values = (numpy.empty(count, "i8") for _ in range(3))
         known, at, before = None, 0, -TIMES
-        file.seek(0)
         is_plain = file.readline() == (",".join(HEADER) + "\n").encode()
         for text in whole_lines(file) if is_plain else ():
             read = digits.rows_read(text, before)
@@ -271,8 +280,8 @@ def output_of(path: str) -> RowArrays:
                 known = numpy.ones(count, bool) if known is None else known
                 known[part] = some
             at, before = part.stop, int(read[1][-1])
-    if is_plain and at == count:
-        return RowArrays(starts, ends, values, known)
+    if is_plain:
+        return RowArrays(starts[:at], ends[:at], values[:at], None if known is None else known[:at])
     with reading(path) as opened:
         return RowArrays.joined(rows_in(path, opened))
 
