@@ -258,9 +258,17 @@ def run(query: str | os.PathLike[str] | Query, data: Any = None, **options: Unpa
     A Series with a DatetimeIndex has readings, which become rows by the options of a `Convention`: `tick`, `origin`, `closed`, `event`,
     `max_age`, `until`, `ties`, `scale`, `output_scale`, `scales` and `skip_empty`. One with an IntervalIndex has rows, and a file is a
     series with its JSON file beside it. `by` is a column of keys, `merge` (False) joins equal neighbours, `index` is `interval` (the
-    default), `start` or `end`, and `exact` (False) gives Decimals in place of floats. A wrong argument raises `Refused`, and what the
-    program rejects a `TiltError`. If the data have a scale that the caller doesn't give, and it changes what a number of the query or the
-    output means, that is a warning."""
+    default), `start` or `end`, and `exact` (False) gives Decimals in place of floats. `over="data"` takes all ticks of the data in place of
+    the query's `over`, and `over="query"` says that rows outside of it are left out on purpose. `nulls` (False) gives gaps rows without a
+    value, and `key_origin="own"` each key the midnight before its first reading as its origin.
+
+    A wrong argument raises `Refused`, and what the program rejects a `TiltError`. It is a warning if the query's `over` leaves rows out;
+    and if the data have a scale that the caller doesn't give, and it changes what a number of the query or the output means.
+
+    >>> hours = pandas.Series([1, 2], pandas.to_datetime(["2026-03-01 00:00", "2026-03-01 01:00"]))
+    >>> run("input x; emit x over (0, 1];", hours, tick="1h", over="data", index="start")["value"].tolist()
+    [1, 2]
+    """
     return (query if isinstance(query, Query) else Query(query)).run(data, **options)
 
 
