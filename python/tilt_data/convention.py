@@ -154,8 +154,8 @@ class TextConvention(Convention):
         add("--until", metavar="TIME", help="until when the last reading holds (one tick, or --max-age)")
         add("--event", action="store_true", help="a reading is an event of one tick")
         add("--closed", choices=["left", "right"], help="which edge of a tick belongs to it, as in pandas (left)")
-        ties = "which of the readings in one tick counts: the last, the first, or each, in ticks one after another. With refuse they are an error"
-        add("--ties", choices=TIES, default="refuse", help=f"{ties} (refuse)")
+        ties = "which of the readings in one tick counts: the last, the first, or each, in ticks one after another"
+        add("--ties", choices=TIES, default="refuse", help=f"{ties}. With refuse they are an error (refuse)")
         nulls = "texts with commas between them that mean no value, such as NaN,-1; empty fields always do"
         add("--null", metavar="TEXTS", action="append", default=[], help=nulls)
         add("--skip-empty", action="store_true", help="a field without a value is no reading, and doesn't end the one before")
@@ -198,8 +198,8 @@ class TextConvention(Convention):
         return self.tick is not None and self.origin is not None or self.like is not None
 
     def clock(self, first: int) -> Clock:
-        """The clock that is given, or that of the series of `like`; otherwise it starts at the midnight before the first reading, which is a
-        ValueError if there is no such moment."""
+        """The clock that is given, or that of the series of `like`; otherwise it starts at the midnight before the first reading, which
+        is a ValueError if there is no such moment."""
         like = None if self.like is None else self.like.clock
         if self.tick is not None:
             tick = duration_of(self.tick)
