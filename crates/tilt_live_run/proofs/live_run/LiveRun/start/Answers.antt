@@ -14,3 +14,23 @@ pub returns-clause-adds : goal.returns-clause-adds
 returns-clause-adds g c =
     let made = c.in_ok-run.ensures.is in
     adds-value _ _ _ _ _ _ (rw made.with_begun_is at (c.in_ok-begin.ensures.adds c.args.accepted made.live c.in_ok-run.ensures.shown))
+
+pub returns-clause-is : goal.returns-clause-is
+returns-clause-is g c =
+    let made = c.in_ok-run.ensures.is in
+    let rest = c.begin.ensures.rest in
+    let marks = c.begin.ensures.watermarks in
+    record {
+      after = record {
+        line_run = record {
+          live = c.in_ok-begin.ensures.goes_on c.args.accepted made.live;
+          kept_is = marks.0 ∙ made.kept_is;
+          watermarks_are = marks.1 ∙ made.watermarks_are;
+          number_is = rest.0 ∙ made.number_is;
+          with_begun_is = rest.1 ∙ made.with_begun_is;
+          strict_is = rest.2 ∙ made.strict_is;
+        };
+        pending = c.new-2.ensures.items;
+      };
+      begun = λ on. c.in_ok-begin.ensures.begun c.args.accepted made.live (made.with_begun_is ∙ on);
+    }
