@@ -1,12 +1,15 @@
-//! Tests of single readings: decimals, ticks, numbers since 1970, and dates; and of lines of readings.
+//! Tests of single readings: decimals, ticks, numbers since 1970, and dates; of lines of readings; and of the events of their feed.
 //!
 //! The expected values are those of Python's modules `decimal` and `datetime`. Ticks are those of `floor` and `ceil` of Python's integers.
+//! The rows of feeds are those that `tilt-data series` writes.
 #![tactic(auto)]
 
 #[cfg(test)]
 mod dates;
 #[cfg(test)]
 mod decimals;
+#[cfg(test)]
+mod feeds;
 #[cfg(test)]
 mod lines;
 #[cfg(test)]

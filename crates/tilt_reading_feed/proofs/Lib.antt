@@ -1,0 +1,6 @@
+pub mod Feeding
+pub mod Lines
+pub mod Loops
+pub mod Reading
+pub mod Turns
+pub mod Whole

@@ -1,0 +1,50 @@
+// Memory for a feed.
+ghost use Rattle.std.specs.Prelude.{◌≡◌, ◌≤◌, ◌<◌, ◌+◌, ◌*◌, ◌^◌, ◌++◌, [], ◌∷◌, length, map, vec_len, IfOk, OnOk, if◌then◌else◌, is_ok};
+ghost use Rattle.std.specs.Bool.{OnTrue};
+ghost use Rattle.std.specs.Vec.{vec_capacity};
+ghost use Rattle.tilt_conventions.specs.Laws.{HoldsATick};
+ghost use Rattle.tilt_reading_feed.specs.Laws.{HoldTicks};
+ghost use Rattle.tilt_reading_feed.specs.Machine.{inputs_of};
+ghost use Rattle.tilt_reading_feed.specs.Steps.{first_kept};
+
+use std::alloc::{AllocError as OutOfMemory, Global};
+use tilt_conventions::{Converter, Options};
+use tilt_feed::Event;
+
+// A converter for each of the options.
+pub(crate) fn make_converters(
+    alloc: Global,
+    options: &[Options],
+) -> Result<Vec<Converter>, OutOfMemory>
+    requires { HoldTicks options.now }
+    ensures { IfOk result (λ converters. inputs_of converters.items ≡ map first_kept options.now) }
+{
+    let mut converters = Vec::new(alloc);
+    for each in options {
+        push_converter(*each, &mut converters)?;
+    }
+    Ok(converters)
+}
+
+// Appends a converter that took no turn yet.
+fn push_converter(options: Options, converters: &mut Vec<Converter>) -> Result<(), OutOfMemory>
+    requires { HoldsATick options.convention }
+    ensures { OnOk result (inputs_of converters.new.items ≡ inputs_of converters.old.items ++ first_kept options ∷ []) }
+{
+    converters.push(Converter::new(options))?;
+    Ok(())
+}
+
+// Makes room for four events of each reading and of each input, and returns whether there is memory for them.
+pub(crate) fn reserve_turns(readings: usize, inputs: usize, events: &mut Vec<Event>) -> bool
+    ensures items { events.new.items ≡ events.old.items }
+    ensures room { OnTrue result (vec_len events.new + 4 * readings + 4 * inputs ≤ vec_capacity events.new) }
+{
+    let Some(turns) = readings.checked_add(inputs) else {
+        return false;
+    };
+    let Some(room) = turns.checked_mul(4) else {
+        return false;
+    };
+    events.reserve(room).is_ok()
+}
