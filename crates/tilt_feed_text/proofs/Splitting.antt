@@ -1,11 +1,11 @@
 -- The lines of a text, piece by piece.
 use Rattle.std.proofs.Common.{◌≡◌, ℕ, ◌+◌, ◌-◌, ◌≤◌, Bool, true, false, if◌then◌else◌, ◌==◌, List, [], ◌∷◌, ◌++◌, Option, Some, None, refl, sym, ap, ◌∙◌}
-use Rattle.std.proofs.Common.{append_assoc, append-nil, length, take, min, zero, suc, arith, inl, inr}
+use Rattle.std.proofs.Common.{append_assoc, append-nil, length, take, min, zero, suc, arith, inl, inr, ◌⊎◌, length-append}
 use Rattle.std.proofs.Math.Seq.{take-append-add}
-use Rattle.std.proofs.lemmas.List.{take_min}
+use Rattle.std.proofs.lemmas.List.{take_at, take_min}
 use Rattle.std.proofs.lemmas.Bool.{cases_Bool}
 use Rattle.std.proofs.lemmas.Option.{none-some, same_Some}
-use Rattle.tilt_feed_text.specs.Split.{lines_after, unfinished_after}
+use Rattle.tilt_feed_text.specs.Split.{ended, lines_after, unfinished, unfinished_after, whole_lines}
 use Rattle.tilt_text.proofs.Step.{bind_some}
 use Rattle.tilt_text.specs.Cut.{onto, until_at}
 use Rattle.tilt_text.specs.Step.{◌>>=◌}
@@ -105,6 +105,81 @@ unfinished-none front [] e = sym (append-nil front)
 unfinished-none front (b ∷ bytes) e =
     let p = no_end b bytes e in
     rw p.0 (unfinished-none (front ++ b ∷ []) bytes p.1 ∙ append_assoc front (b ∷ []) bytes)
+
+-- a text after the first bytes of a line has no line, or it has a first part of whole lines, and the rest is unfinished
+record HasEnd (front bytes : List ℕ) : Type 0 where
+  done : List ℕ
+  rest : List ℕ
+  parts : bytes ≡ done ++ rest
+  lines : lines_after front bytes ≡ lines_after front done
+  none : unfinished_after front done ≡ []
+  is : unfinished_after front bytes ≡ rest
+
+abbrev EndsOrNot : List ℕ → List ℕ → Type 0
+EndsOrNot front bytes = ((lines_after front bytes ≡ []) × (unfinished_after front bytes ≡ front ++ bytes)) ⊎ HasEnd front bytes
+
+end-here : (front bytes : List ℕ) (b : ℕ) → (b == 10) ≡ true → EndsOrNot [] bytes → HasEnd front (b ∷ bytes)
+end-here front bytes b is (inl none) = record {
+  done = b ∷ [];
+  rest = bytes;
+  parts = refl;
+  lines = rw (is, none.0) refl;
+  none = rw is refl;
+  is = rw is none.1;
+}
+end-here front bytes b is (inr ends) = record {
+  done = b ∷ ends.done;
+  rest = ends.rest;
+  parts = ap (λ (t : List ℕ). b ∷ t) ends.parts;
+  lines = rw is (ap (λ (t : List (List ℕ)). front ∷ t) ends.lines);
+  none = rw is ends.none;
+  is = rw is ends.is;
+}
+
+end-later : (front bytes : List ℕ) (b : ℕ) → (b == 10) ≡ false → EndsOrNot (front ++ b ∷ []) bytes → EndsOrNot front (b ∷ bytes)
+end-later front bytes b is (inl none) = inl (rw is none.0, rw is (none.1 ∙ append_assoc front (b ∷ []) bytes))
+end-later front bytes b is (inr ends) = inr record {
+  done = b ∷ ends.done;
+  rest = ends.rest;
+  parts = ap (λ (t : List ℕ). b ∷ t) ends.parts;
+  lines = rw is ends.lines;
+  none = rw is ends.none;
+  is = rw is ends.is;
+}
+
+ends-or-not : (front bytes : List ℕ) → EndsOrNot front bytes
+ends-or-not front [] = inl (refl, sym (append-nil front))
+ends-or-not front (b ∷ bytes) =
+    elim (cases_Bool (b == 10)) [
+      | inl end ↦ inr (end-here front bytes b end (ends-or-not [] bytes))
+      | inr other ↦ end-later front bytes b other (ends-or-not (front ++ b ∷ []) bytes)
+    ]
+
+-- the bytes of the lines of a text: they have its lines, and nothing of them is unfinished
+pub record AreEnded (bytes : List ℕ) : Type 0 where
+  pub lines : whole_lines (ended bytes) ≡ whole_lines bytes
+  pub none : unfinished (ended bytes) ≡ []
+  pub parts : ended bytes ++ unfinished bytes ≡ bytes
+
+ended-is : (bytes done rest : List ℕ) → bytes ≡ done ++ rest → unfinished bytes ≡ rest → ended bytes ≡ done
+ended-is bytes done rest parts is =
+    let count : length bytes - length (unfinished bytes) ≡ length done =
+    let all = ap length parts in
+    let both = length-append done rest in
+    let left = ap length is in
+    omega (arith, all, both, left) in
+    rw (count, parts) (take_at done rest (length done) refl)
+
+ended-by : (bytes : List ℕ) → EndsOrNot [] bytes → AreEnded bytes
+ended-by bytes (inl none) =
+    let is = ended-is bytes [] bytes refl none.1 in
+    record { lines = rw is (sym none.0); none = rw is refl; parts = rw (is, none.1) refl }
+ended-by bytes (inr ends) =
+    let is = ended-is bytes ends.done ends.rest ends.parts ends.is in
+    record { lines = rw is (sym ends.lines); none = rw is ends.none; parts = rw (is, ends.is) (sym ends.parts) }
+
+pub are-ended : (bytes : List ℕ) → AreEnded bytes
+are-ended bytes = ended-by bytes (ends-or-not [] bytes)
 
 -- a piece after the first bytes of a line, cut at a limit
 pub cut_append : (limit : ℕ) (line piece : List ℕ) → length line ≤ limit

@@ -1,5 +1,5 @@
 -- Which lines a text has (our own rule): each ends in LF, and the bytes after the last LF are no line yet.
-use Rattle.std.specs.Prelude.{ℕ, ◌==◌, if◌then◌else◌, List, [], ◌∷◌, ◌++◌}
+use Rattle.std.specs.Prelude.{ℕ, ◌-◌, ◌==◌, if◌then◌else◌, List, [], ◌∷◌, ◌++◌, length, take}
 
 -- the lines of a text, without their LFs, if the first one begins with these bytes
 abbrev pub lines_after : List ℕ → List ℕ → List (List ℕ)
@@ -19,3 +19,7 @@ whole_lines bytes = lines_after [] bytes
 -- the bytes of a text that are no line yet
 abbrev pub unfinished : List ℕ → List ℕ
 unfinished bytes = unfinished_after [] bytes
+
+-- its bytes up to the last LF, with it: those of its lines
+abbrev pub ended : List ℕ → List ℕ
+ended bytes = take (length bytes - length (unfinished bytes)) bytes

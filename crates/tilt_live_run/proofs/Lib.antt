@@ -4,6 +4,7 @@ pub mod Lines
 pub mod Newly
 pub mod Outputs
 pub mod Pieces
+pub mod Placing
 pub mod Reporting
 pub mod Running
 pub mod Showing

@@ -9,7 +9,7 @@ use Rattle.tilt_compiler.specs.Accepted.{AcceptedParts}
 use Rattle.tilt_core.specs.Core.{CoreParts}
 use Rattle.tilt_feed.specs.Printed.{begun, printed}
 use Rattle.tilt_feed_text.proofs.Saying.{reports-append, reports-stop, stop-append, stop-stop, taken-all, taken-append, taken-stop}
-use Rattle.tilt_feed_text.proofs.Splitting.{lines-append, lines-none, lines-until, unfinished-append}
+use Rattle.tilt_feed_text.proofs.Splitting.{lines-append, lines-none, lines-until, unfinished-append, unfinished-until}
 use Rattle.tilt_feed_text.specs.Said.{FeedState, after_line, after_lines, number_after, stops, taken_from}
 use Rattle.tilt_feed_text.specs.Split.{lines_after, unfinished, unfinished_after}
 use Rattle.tilt_feed_text.specs.declared.pending.TheConstants.{LINE}
@@ -56,6 +56,11 @@ lacks_until mark (b ∷ bs) front rest e = lacks_head mark b bs front rest (b ==
 pub line-lines : (front bytes line rest : List ℕ) → until_at 10 bytes ≡ Some (line, rest) → lines_after front (line ++ 10 ∷ []) ≡ (front ++ line) ∷ []
 line-lines front bytes line rest found =
     lines-until front (line ++ 10 ∷ []) line [] (until-front 10 line [] (lacks_until 10 bytes line rest found))
+
+-- nothing of it is unfinished
+pub line-ends : (front bytes line rest : List ℕ) → until_at 10 bytes ≡ Some (line, rest) → unfinished_after front (line ++ 10 ∷ []) ≡ []
+line-ends front bytes line rest found =
+    unfinished-until front (line ++ 10 ∷ []) line [] (until-front 10 line [] (lacks_until 10 bytes line rest found))
 
 pub line-then : (bytes line rest : List ℕ) → until_at 10 bytes ≡ Some (line, rest) → bytes ≡ (line ++ 10 ∷ []) ++ rest
 line-then bytes line rest found = front-until 10 bytes line rest found ∙ sym (append_assoc line (10 ∷ []) rest)

@@ -1,5 +1,5 @@
 -- Which run is one of a query's feed, and what a piece of the feed adds (our own rule).
-use Rattle.std.specs.Prelude.{◌≡◌, ◌+◌, ◌==◌, ℕ, Bool, true, not, List, [], length, take, if◌then◌else◌}
+use Rattle.std.specs.Prelude.{◌≡◌, ◌≤◌, ◌+◌, ◌==◌, ℕ, Bool, true, not, List, [], length, take, if◌then◌else◌}
 use Rattle.tilt_compiler.specs.Accepted.{AcceptedParts}
 use Rattle.tilt_core.specs.Core.{CoreParts}
 use Rattle.tilt_feed.specs.Feed.{Feed}
@@ -10,8 +10,9 @@ use Rattle.tilt_feed_text.specs.Said.{FeedState, after_lines, events_of, first_s
 use Rattle.tilt_feed_text.specs.Split.{lines_after, unfinished, whole_lines}
 use Rattle.tilt_feed_text.specs.declared.bad_line.BadLine.TheVariants.{NoEnd}
 use Rattle.tilt_feed_text.specs.declared.pending.TheConstants.{LINE}
-use Rattle.tilt_live.specs.Lives.{IsLiveOf}
+use Rattle.tilt_live.specs.Lives.{IsLive, IsLiveOf}
 use Rattle.tilt_live_run.specs.Output.{begun_start, news_from}
+use Rattle.tilt_live_run.specs.Places.{place_of}
 use Rattle.tilt_live_run.specs.declared.line_run.LineRun.{LineRun}
 use Rattle.tilt_live_run.specs.declared.live_run.LiveRun.{LiveRun}
 use Rattle.tilt_live_run.specs.declared.run_options.RunOptions.{RunOptions}
@@ -36,6 +37,11 @@ pub record IsRunAfter (run : LiveRun) (accepted : AcceptedParts) (options : RunO
 pub record IsShown (run : LiveRun) (accepted : AcceptedParts) (options : RunOptions) (number : ℕ) (state : FeedState) (front : List ℕ) : Type 0 where
   pub after : IsRunAfter run accepted options number state front (length (printed accepted.core state.feed))
   pub begun : options.with_begun ≡ true → run.run.shown ≡ begun_start (begun accepted.core state.feed)
+
+-- a run that can go on: its engine runs, or memory was refused to it; and of a line no more is kept than shows that it is too long
+pub record IsSound (run : LiveRun) : Type 0 where
+  pub live : IsLive run.run.live
+  pub pending : length run.pending.items ≤ LINE + 1
 
 -- how many lines bytes have, as far as the count goes
 abbrev pub number_of : List ℕ → ℕ
@@ -91,3 +97,7 @@ is_unfinished bytes = not (length (unfinished bytes) == 0)
 -- the report of the line in the middle of which the feed ended, if it did
 abbrev pub end_report : List ℕ → List ℕ
 end_report bytes = if is_unfinished bytes then report (next_count (number_of bytes)) NoEnd else []
+
+-- it has counted the bytes of a feed
+abbrev pub IsPlaced : LiveRun → List ℕ → Type 0
+IsPlaced run bytes = run.place ≡ place_of bytes

@@ -12,6 +12,7 @@ mod events;
 mod law;
 mod line_run;
 mod live_run;
+mod place;
 mod run_options;
 mod shown;
 mod stop;

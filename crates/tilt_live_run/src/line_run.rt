@@ -55,6 +55,7 @@ impl LineRun {
     ) -> Result<LineRun, OutOfMemory>
         ensures is { IfOk result (λ run. IsLineRunOf run accepted options 0 (first_state (length accepted.core.inputs)) 0) }
         ensures shown { IfOk result (λ run. run.shown ≡ None) }
+        ensures live { IfOk result (λ run. IsLive run.live) }
     {
         let live = Live::new(alloc, accepted)?;
         let inputs = live.inputs().len() as u32;
@@ -87,6 +88,7 @@ impl LineRun {
         ensures watermarks { (kept_by self.new.watermarks ≡ kept_by self.old.watermarks)
             × (options_of self.new.watermarks ≡ options_of self.old.watermarks) }
         ensures no_bad_line { IfErr result (λ stop. stop ≡ Stop.BadLine → ⊥) }
+        ensures live { IsLive self.new.live }
     {
         write_header(port)?;
         self.show(port)
@@ -101,6 +103,7 @@ impl LineRun {
             (λ s. IsLiveOf self.new.live accepted s.feed given) accepted.core options number state line.now result }
         ensures kept { (self.new.shown ≡ self.old.shown) × (self.new.with_begun ≡ self.old.with_begun) }
         ensures no_write_fault { IfErr result (λ stop. stop ≡ Stop.WriteFault → ⊥) }
+        ensures live { IsLive self.old.live → IsLive self.new.live }
         ensures takes { (n : ℕ) → E.takes err.new n }
     {
         if let Some(why) = self.take_content(line)? {
@@ -166,6 +169,7 @@ impl LineRun {
             × (self.new.strict ≡ self.old.strict) }
         ensures watermarks { (kept_by self.new.watermarks ≡ kept_by self.old.watermarks)
             × (options_of self.new.watermarks ≡ options_of self.old.watermarks) }
+        ensures live { IsLive self.new.live }
     {
         show_final(&mut self.live, port)?;
         if self.with_begun {

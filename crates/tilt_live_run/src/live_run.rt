@@ -6,7 +6,8 @@ ghost use Rattle.tilt_feed_text.specs.Said.{FeedState};
 ghost use Rattle.tilt_live_run.specs.Adds.{Adds};
 ghost use Rattle.tilt_live_run.specs.Output.{first_news};
 ghost use Rattle.tilt_live_run.specs.Reported.{Reported, Reports};
-ghost use Rattle.tilt_live_run.specs.Runs.{IsRunAfter, IsRunOf, added, end_report, is_stopped, is_unfinished, reported};
+ghost use Rattle.tilt_live_run.specs.Runs.{IsPlaced, IsRunAfter, IsRunOf, IsSound, added, end_report, is_stopped};
+ghost use Rattle.tilt_live_run.specs.Runs.{is_unfinished, reported};
 ghost use Rattle.tilt_live_run.specs.Stepped.{HasStepped, HasTaken, is_lost};
 ghost use Rattle.tilt_live_run.specs.Taken.{HasTakenLine, HasTakenPiece};
 ghost use Rattle.tilt_live_run.specs.declared.run_options.RunOptions.{RunOptions};
@@ -14,6 +15,7 @@ ghost use Rattle.tilt_live.specs.Lives.{IsLiveOf};
 ghost use Rattle.tilt_text.specs.Cut.{until_at};
 
 use crate::line_run::LineRun;
+use crate::place::Place;
 use crate::run_options::RunOptions;
 use crate::stop::Stop;
 use std::alloc::Global;
@@ -30,6 +32,7 @@ pub struct LiveRun {
     run: LineRun,
     // The bytes of the line whose LF hasn't come yet, as far as a line may be long.
     pending: Vec<u8>,
+    place: Place,
 }
 
 impl LiveRun {
@@ -42,6 +45,8 @@ impl LiveRun {
     ) -> Result<LiveRun, Stop>
         ensures adds { Adds P.tells (P.transcript port.old) (P.transcript port.new) (first_news options.with_begun accepted.core) result }
         ensures is { IfOk result (λ run. IsRunOf run accepted options []) }
+        ensures placed { IfOk result (λ run. IsPlaced run []) }
+        ensures sound { IfOk result IsSound }
         ensures no_bad_line { IfErr result (λ stop. stop ≡ Stop.BadLine → ⊥) }
     {
         let mut run = LineRun::new(alloc, accepted, options)?;
@@ -49,6 +54,10 @@ impl LiveRun {
         Ok(LiveRun {
             run,
             pending: Vec::new(alloc),
+            place: Place {
+                ended: 0,
+                unended: 0,
+            },
         })
     }
 
@@ -61,7 +70,7 @@ impl LiveRun {
         port: &mut P,
         err: &mut E,
     ) -> Result<(), Stop>
-        requires is { (accepted : AcceptedParts) × (options : RunOptions) × (bytes : List ℕ) × IsRunOf self.old accepted options bytes }
+        requires sound { IsSound self.old }
         requires lines { (n : ℕ) → E.takes err.old n }
         ensures adds { (accepted : AcceptedParts) (options : RunOptions) (bytes : List ℕ) → IsRunOf self.old accepted options bytes
             → Adds P.tells (P.transcript port.old) (P.transcript port.new) (added options accepted.core bytes piece.now) result }
@@ -72,6 +81,8 @@ impl LiveRun {
         ensures stops { (accepted : AcceptedParts) (options : RunOptions) (bytes : List ℕ) → IsRunOf self.old accepted options bytes
             → MatchResult result (λ _. is_stopped options accepted.core bytes piece.now ≡ false)
             (λ stop. stop ≡ Stop.BadLine → is_stopped options accepted.core bytes piece.now ≡ true) }
+        ensures placed { (bytes : List ℕ) → IsPlaced self.old bytes → OnOk result (IsPlaced self.new (bytes ++ piece.now)) }
+        ensures sound { IsSound self.new }
         ensures takes { (n : ℕ) → E.takes err.new n }
     {
         if !self.run.with_begun {
@@ -87,11 +98,13 @@ impl LiveRun {
         port: &mut P,
         err: &mut E,
     ) -> Result<(), Stop>
-        requires is { (accepted : AcceptedParts) × (options : RunOptions) × (bytes : List ℕ) × IsRunOf self.old accepted options bytes }
+        requires sound { IsSound self.old }
         requires lines { (n : ℕ) → E.takes err.old n }
         ensures taken { (accepted : AcceptedParts) (options : RunOptions) (bytes : List ℕ) → IsRunOf self.old accepted options bytes
             → HasTaken P.tells (P.transcript port.old) (P.transcript port.new) E.tells E.written E.faults err.old err.new
             (λ later. IsRunOf self.new accepted options later) accepted.core options bytes piece.now result }
+        ensures placed { (bytes : List ℕ) → IsPlaced self.old bytes → OnOk result (IsPlaced self.new (bytes ++ piece.now)) }
+        ensures sound { IsSound self.new }
         ensures takes { (n : ℕ) → E.takes err.new n }
     {
         let mut rest = piece;
@@ -109,11 +122,13 @@ impl LiveRun {
         port: &mut P,
         err: &mut E,
     ) -> Result<(), Stop>
-        requires is { (accepted : AcceptedParts) × (options : RunOptions) × (bytes : List ℕ) × IsRunOf self.old accepted options bytes }
+        requires sound { IsSound self.old }
         requires lines { (n : ℕ) → E.takes err.old n }
         ensures stepped { (accepted : AcceptedParts) (options : RunOptions) (bytes : List ℕ) → IsRunOf self.old accepted options bytes
             → HasStepped P.tells (P.transcript port.old) (P.transcript port.new) E.tells E.written E.faults err.old err.new
             (λ later. IsRunOf self.new accepted options later) accepted.core options bytes piece.now result }
+        ensures placed { (bytes : List ℕ) → IsPlaced self.old bytes → OnOk result (IsPlaced self.new (bytes ++ piece.now)) }
+        ensures sound { IsSound self.new }
         ensures takes { (n : ℕ) → E.takes err.new n }
     {
         let taken = self.take_piece(piece, err);
@@ -126,8 +141,7 @@ impl LiveRun {
 
     // Takes a piece, and writes nothing yet.
     fn take_piece<E: Sink>(&mut self, piece: &[u8], err: &mut E) -> Result<(), Stop>
-        requires is { (accepted : AcceptedParts) × (options : RunOptions) × (number : ℕ) × (state : FeedState) × (front : List ℕ)
-            × (given : ℕ) × IsRunAfter self.old accepted options number state front given }
+        requires sound { IsSound self.old }
         requires lines { (n : ℕ) → E.takes err.old n }
         ensures taken { (accepted : AcceptedParts) (options : RunOptions) (number : ℕ) (state : FeedState) (front : List ℕ) (given : ℕ)
             → IsRunAfter self.old accepted options number state front given
@@ -135,21 +149,24 @@ impl LiveRun {
             (λ s. IsLiveOf self.new.run.live accepted s.feed given) accepted.core options number state front piece.now result }
         ensures kept { (self.new.run.shown ≡ self.old.run.shown) × (self.new.run.with_begun ≡ self.old.run.with_begun) }
         ensures no_write_fault { IfErr result (λ stop. stop ≡ Stop.WriteFault → ⊥) }
+        ensures placed { (bytes : List ℕ) → IsPlaced self.old bytes → OnOk result (IsPlaced self.new (bytes ++ piece.now)) }
+        ensures sound { IsSound self.new }
         ensures takes { (n : ℕ) → E.takes err.new n }
     {
         let mut rest = piece;
         while let Some((line, after)) = until(rest, b'\n') {
             self.take_end(line, err)?;
+            self.place = self.place.pass_line(line.len());
             rest = after;
         }
         append_cut(&mut self.pending, rest)?;
+        self.place = self.place.pass(rest.len());
         Ok(())
     }
 
     // Takes the last bytes of a line, before its LF.
     fn take_end<E: Sink>(&mut self, end: &[u8], err: &mut E) -> Result<(), Stop>
-        requires is { (accepted : AcceptedParts) × (options : RunOptions) × (number : ℕ) × (state : FeedState) × (front : List ℕ)
-            × (given : ℕ) × IsRunAfter self.old accepted options number state front given }
+        requires sound { IsSound self.old }
         requires lines { (n : ℕ) → E.takes err.old n }
         ensures taken { (accepted : AcceptedParts) (options : RunOptions) (number : ℕ) (state : FeedState) (front : List ℕ) (given : ℕ)
             → IsRunAfter self.old accepted options number state front given
@@ -157,6 +174,8 @@ impl LiveRun {
             (λ s. IsLiveOf self.new.run.live accepted s.feed given) accepted.core options number state (front ++ end.now) result }
         ensures kept { (self.new.run.shown ≡ self.old.run.shown) × (self.new.run.with_begun ≡ self.old.run.with_begun) }
         ensures no_write_fault { IfErr result (λ stop. stop ≡ Stop.WriteFault → ⊥) }
+        ensures placed { self.new.place ≡ self.old.place }
+        ensures sound { IsSound self.new }
         ensures takes { (n : ℕ) → E.takes err.new n }
     {
         if self.pending.is_empty() {

@@ -1,4 +1,4 @@
-use Rattle.std.proofs.Common.{◌∙◌, sym, ap, refl, length, Ok, Err, inr}
+use Rattle.std.proofs.Common.{◌∙◌, sym, ap, refl, length, Ok, Err}
 use Rattle.std.proofs.lemmas.Result.{err_from_is_err_and}
 use Rattle.tilt_feed.specs.Printed.{printed}
 use Rattle.tilt_feed_text.specs.Split.{unfinished}
@@ -13,17 +13,6 @@ returns-then-is_lost-clause-stepped g c = λ accepted options bytes is.
     (length (printed accepted.core (state_after options accepted.core bytes).feed)) is.after in
     lost-written _ _ _ _ _ _ _ _ accepted.core options bytes c.args.piece.now _ c.take_piece-taken.result
     (lost-memory c.take_piece-taken.result (sym c.if-is_lost.ensures) c.take_piece-taken.ensures.no_write_fault) taken.reports taken.stop
-
-pub show-requires : goal.show-requires
-show-requires g c =
-    let is = c.requires.is in
-    let core = is.0.core in
-    let given = length (printed core (state_after is.1 core is.2).feed) in
-    let taken = c.take_piece-taken.ensures.taken is.0 is.1 (number_of is.2) (state_after is.1 core is.2) (unfinished is.2) given is.3.after in
-    let live =
-    taken-live _ _ _ _ _ is.0 is.1 is.2 c.args.piece.now given c.take_piece-taken.new.self c.take_piece-taken.result
-    (not-lost c.take_piece-taken.result (sym c.if-is_lost.ensures)) taken in
-    record { live = inr (is.0, live.code, live.left, live.returned, live.running) }
 
 pub returns-in_err-show-clause-stepped : goal.returns-in_err-show-clause-stepped
 returns-in_err-show-clause-stepped g c = λ accepted options bytes is.
@@ -55,3 +44,12 @@ returns-clause-stepped g c = λ accepted options bytes is.
     (taken-shown _ _ _ _ _ accepted options bytes c.args.piece.now given c.take_piece-taken.new.self _ c.take_piece-taken.result taken
     (c.in_ok-show.ensures.goes_on accepted after given live)
     (λ yes. c.in_ok-show.ensures.begun accepted after given live (kept.1 ∙ is.after.line_run.with_begun_is ∙ yes)) c.show.ensures.rest c.show.ensures.watermarks refl)
+
+pub returns-in_err-show-clause-sound : goal.returns-in_err-show-clause-sound
+returns-in_err-show-clause-sound g c = record { live = c.show.ensures.live; pending = c.take_piece-taken.ensures.sound.pending }
+
+pub returns-clause-sound : goal.returns-clause-sound
+returns-clause-sound g c = record { live = c.show.ensures.live; pending = c.take_piece-taken.ensures.sound.pending }
+
+pub returns-clause-placed : goal.returns-clause-placed
+returns-clause-placed g c = λ bytes is. c.take_piece-taken.ensures.placed bytes is

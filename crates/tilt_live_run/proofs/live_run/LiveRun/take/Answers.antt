@@ -15,3 +15,15 @@ returns-clause-adds g c = λ accepted options bytes is. (c.take_lines.ensures.ta
 
 pub returns-clause-stops : goal.returns-clause-stops
 returns-clause-stops g c = λ accepted options bytes is. (c.take_lines.ensures.taken accepted options bytes is).stops
+
+pub returns-then-not-self-clause-reports : goal.returns-then-not-self-clause-reports
+returns-then-not-self-clause-reports g c = λ accepted options bytes is. (c.step.ensures.stepped accepted options bytes is).reports
+
+pub returns-then-not-self-clause-goes_on : goal.returns-then-not-self-clause-goes_on
+returns-then-not-self-clause-goes_on g c = λ accepted options bytes is. (c.step.ensures.stepped accepted options bytes is).goes_on
+
+pub returns-clause-reports : goal.returns-clause-reports
+returns-clause-reports g c = λ accepted options bytes is. (c.take_lines.ensures.taken accepted options bytes is).reports
+
+pub returns-clause-goes_on : goal.returns-clause-goes_on
+returns-clause-goes_on g c = λ accepted options bytes is. (c.take_lines.ensures.taken accepted options bytes is).goes_on

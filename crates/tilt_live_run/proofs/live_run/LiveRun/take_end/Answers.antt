@@ -1,4 +1,4 @@
-use Rattle.std.proofs.Common.{◌≡◌, ◌∙◌, ◌++◌, ◌+◌, [], take, refl, sym, ap, Ok, Err, length, vec_len, rules}
+use Rattle.std.proofs.Common.{◌≡◌, ◌∙◌, ◌++◌, ◌+◌, [], take, refl, sym, ap, Ok, Err, length, vec_len, arith, rules}
 use Rattle.std.proofs.lemmas.Bool.{eqb-true}
 use Rattle.std.proofs.lemmas.List.{nil_from_length}
 use Rattle.std.proofs.lemmas.Result.{err_from_is_err_and}
@@ -19,9 +19,19 @@ returns-then-is_empty-clause-taken g c = λ accepted options number state front 
     (on-ok c.take.result _ (λ n s of. record { line_run = of; pending = kept })) (c.take.ensures.taken accepted options number state given is.line_run))
 
 pub append_cut-requires : goal.append_cut-requires
-append_cut-requires g c =
-    let is = c.requires.is in
-    kept-few is.4 c.args.self.now.pending.items is.6.pending
+append_cut-requires g c = c.requires.sound.pending
+
+pub returns-in_err-append_cut-clause-sound : goal.returns-in_err-append_cut-clause-sound
+returns-in_err-append_cut-clause-sound g c = record { live = c.requires.sound.live; pending = rw c.in_err-append_cut.ensures.err c.requires.sound.pending }
+
+pub returns-in_err-take-clause-sound : goal.returns-in_err-take-clause-sound
+returns-in_err-take-clause-sound g c = record {
+  live = c.in_err-take.ensures.live c.requires.sound.live;
+  pending = kept-few (c.args.self.now.pending.items ++ c.args.end.now) c.append_cut.new.line.items c.in_ok-append_cut.ensures.ok;
+}
+
+pub returns-clause-sound : goal.returns-clause-sound
+returns-clause-sound g c = record { live = c.in_ok-take.ensures.live c.requires.sound.live; pending = rw c.clear.ensures.items (omega arith) }
 
 pub returns-in_err-append_cut-clause-taken : goal.returns-in_err-append_cut-clause-taken
 returns-in_err-append_cut-clause-taken g c = λ accepted options number state front given is.
@@ -48,3 +58,6 @@ returns-clause-taken g c = λ accepted options number state front given is.
     (line-same _ _ _ accepted.core options _ _ _ _ number state (take (LINE + 1) (front ++ c.args.end.now)) (front ++ c.args.end.now) _
     (content-cut accepted.core.inputs number (front ++ c.args.end.now))
     (rw (c.deref.ensures.value ∙ cut) at (c.in_ok-take.ensures.taken accepted options number state given is.line_run)))
+
+pub returns-then-is_empty-clause-sound : goal.returns-then-is_empty-clause-sound
+returns-then-is_empty-clause-sound g c = record { live = c.take.ensures.live c.requires.sound.live; pending = c.requires.sound.pending }
