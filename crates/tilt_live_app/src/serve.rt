@@ -1,9 +1,9 @@
 // The feed of a query, served from its first byte to its last.
-ghost use Rattle.std.specs.Prelude.{◌≡◌, ◌<◌, ◌++◌, ℕ, List, [], length, IfOk, OnOk, MatchResult};
+ghost use Rattle.std.specs.Prelude.{◌≡◌, ◌<◌, ℕ, length, IfOk, MatchResult};
 ghost use Rattle.tilt_compiler.specs.Accepted.{AcceptedParts};
 ghost use Rattle.tilt_live_app.specs.Served.{HasServed, end_with};
 ghost use Rattle.tilt_live_app.specs.Serving.{GoesOn, HasStepped};
-ghost use Rattle.tilt_live_run.specs.Runs.{IsRunOf};
+ghost use Rattle.tilt_live_run.specs.Runs.{IsSound};
 ghost use Rattle.tilt_port.specs.Transcript.{Moment, Transcript};
 
 use crate::failure::Halt;
@@ -71,7 +71,7 @@ fn serve_all<P: Port, E: Sink>(
 ) -> Result<(), Halt>
     requires space { 0 < length room.old }
     requires lines { (n : ℕ) → E.takes err.old n }
-    requires is { (accepted : AcceptedParts) × (options : RunOptions) × (bytes : List ℕ) × IsRunOf run.old accepted options bytes }
+    requires sound { IsSound run.old }
     ensures served { (accepted : AcceptedParts) (options : RunOptions) (old : Transcript) (reports : E)
         → GoesOn accepted options P.tells old (P.transcript port.old) E.tells E.written E.faults reports err.old run.old
         → HasServed accepted.core options P.tells old (P.transcript port.new) E.tells E.written E.faults reports err.new result }
@@ -96,12 +96,11 @@ fn serve_more<P: Port, E: Sink>(
 ) -> Result<Progress, Halt>
     requires space { 0 < length room.old }
     requires lines { (n : ℕ) → E.takes err.old n }
-    requires is { (accepted : AcceptedParts) × (options : RunOptions) × (bytes : List ℕ) × IsRunOf run.old accepted options bytes }
+    requires sound { IsSound run.old }
     ensures stepped { (accepted : AcceptedParts) (options : RunOptions) (old : Transcript) (reports : E)
         → GoesOn accepted options P.tells old (P.transcript port.old) E.tells E.written E.faults reports err.old run.old
         → HasStepped accepted options P.tells old (P.transcript port.new) E.tells E.written E.faults reports err.new run.new result }
-    ensures is { IfOk result (λ progress. progress ≡ Progress.More
-        → (accepted : AcceptedParts) × (options : RunOptions) × (bytes : List ℕ) × IsRunOf run.new accepted options bytes) }
+    ensures sound { IsSound run.new }
     ensures length { length room.new ≡ length room.old }
     ensures takes { (n : ℕ) → E.takes err.new n }
 {

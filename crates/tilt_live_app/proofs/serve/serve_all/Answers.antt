@@ -5,13 +5,13 @@ use Rattle.tilt_live_app.specs.declared.failure.Halt.TheVariants as halt
 use Rattle.tilt_live_app.proofs.serve.serve_all.Goals as goal
 
 pub loop-init : goal.loop-init
-loop-init g c = record { takes = c.requires.lines; is = c.requires.is; of = λ accepted options old reports going. going }
+loop-init g c = record { takes = c.requires.lines; sound = c.requires.sound; of = λ accepted options old reports going. going }
 
 pub serve_more-requires-clause-lines : goal.serve_more-requires-clause-lines
 serve_more-requires-clause-lines g c = c.loop.invariant.takes
 
-pub serve_more-requires-clause-is : goal.serve_more-requires-clause-is
-serve_more-requires-clause-is g c = c.loop.invariant.is
+pub serve_more-requires-clause-sound : goal.serve_more-requires-clause-sound
+serve_more-requires-clause-sound g c = c.loop.invariant.sound
 
 pub returns-in_err-serve_more-clause-served : goal.returns-in_err-serve_more-clause-served
 returns-in_err-serve_more-clause-served g c = λ accepted options old reports going.
@@ -25,7 +25,7 @@ returns-in-Ended-clause-served g c = λ accepted options old reports going.
 pub loop-preserved : goal.loop-preserved
 loop-preserved g c = record {
   takes = c.serve_more.ensures.takes;
-  is = c.in_ok-serve_more.ensures.is c.in-More.is;
+  sound = c.serve_more.ensures.sound;
   of = λ accepted options old reports going.
       rw c.in-More.is at (c.in_ok-serve_more.ensures.stepped accepted options old reports (c.loop.invariant.of accepted options old reports going));
 }

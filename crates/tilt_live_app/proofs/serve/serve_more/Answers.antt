@@ -68,8 +68,3 @@ returns-clause-stepped g c = λ accepted options old reports going.
           (c.in_ok-take.ensures.adds accepted options going.bytes going.is) (c.in_ok-take.ensures.reports accepted options going.bytes going.is)
           (c.in_ok-take.ensures.stops accepted options going.bytes going.is);
     }
-
-pub returns-clause-is : goal.returns-clause-is
-returns-clause-is g c = λ _.
-    let is = c.requires.is in
-    (is.0, is.1, is.2 ++ take c.in-Ok.count c.read.new.room, c.in_ok-take.ensures.goes_on is.0 is.1 is.2 is.3)
