@@ -1,20 +1,15 @@
 -- Serving a feed, one step after another.
-use Rattle.std.proofs.Common.{◌≡◌, ◌≤◌, ℕ, true, false, ◌&&◌, if◌then◌else◌, List, [], ◌∷◌, ◌++◌, length, take, Result, Ok, Err, OnOk, OnErr, MatchResult, refl, sym, is_err, ◌∙◌, append_assoc, append-nil, arith}
+use Rattle.std.proofs.Common.{◌≡◌, ◌≤◌, ℕ, true, false, ◌&&◌, if◌then◌else◌, List, [], ◌∷◌, ◌++◌, take, Result, Ok, Err, OnOk, OnErr, MatchResult, refl, sym, ap, is_err, ◌∙◌, append_assoc, append-nil, arith}
 use Rattle.std.specs.List.{AllByRecursion}
 use Rattle.tilt_core.specs.Core.{CoreParts}
-use Rattle.tilt_feed_text.proofs.Saying.{reports-append, stop-append}
-use Rattle.tilt_feed_text.proofs.Splitting.{lines-append}
-use Rattle.tilt_feed_text.specs.Said.{first_state}
-use Rattle.tilt_feed_text.specs.Split.{whole_lines}
-use Rattle.tilt_live_app.specs.Served.{HasServed, IsPunctual, IsServing, all_reports, halt_of, has_stop, line_reports, output_for}
+use Rattle.tilt_live_app.specs.Served.{HasEnded, HasServed, IsPunctual, IsServing, Start, all_reports, ends_badly, halt_of, has_stop, line_reports, output_for, start_after}
 use Rattle.tilt_live_app.specs.declared.failure.Halt.{Halt}
 use Rattle.tilt_live_app.specs.declared.failure.Halt.TheVariants as halt
-use Rattle.tilt_live_run.proofs.Outputs.{output-append}
 use Rattle.tilt_live_run.proofs.Reporting.{front-behind, front-more, front-whole, reported-none, reported-then}
+use Rattle.tilt_live_run.proofs.Stepping.{added-more, reported-more, stopped-more}
 use Rattle.tilt_live_run.specs.Adds.{Adds}
-use Rattle.tilt_live_run.specs.Output.{first_news}
 use Rattle.tilt_live_run.specs.Reported.{Reported, Reports}
-use Rattle.tilt_live_run.specs.Runs.{added, end_report, is_stopped, is_unfinished, new_lines, reported}
+use Rattle.tilt_live_run.specs.Runs.{added, end_report, is_stopped, is_unfinished, reported}
 use Rattle.tilt_live_run.specs.declared.run_options.RunOptions.{RunOptions}
 use Rattle.tilt_live_run.specs.declared.stop.Stop.{Stop}
 use Rattle.tilt_live_run.specs.declared.stop.Stop.TheVariants as stop
@@ -60,47 +55,49 @@ read-failed old new room e read = record {
   written = read.written;
 }
 
-module _ (core : CoreParts) (options : RunOptions) where
+module _ (core : CoreParts) (options : RunOptions) (start : Start) where
   -- what more bytes add, if none of the lines before stops the run
-  pub output-more : (bytes piece : List ℕ) → has_stop core options bytes ≡ false
-      → output_for core options (bytes ++ piece) ≡ output_for core options bytes ++ added options core bytes piece
+  pub output-more : (bytes piece : List ℕ) → has_stop core options start bytes ≡ false
+      → output_for core options start (bytes ++ piece) ≡ output_for core options start bytes ++ added options core (start.before ++ bytes) piece
   output-more bytes piece none =
-      rw (
-        lines-append [] bytes piece,
-        output-append options core (whole_lines bytes) (new_lines bytes piece) none,
-      ) refl
+      ap (λ (more : List ℕ). start.head ++ more) (added-more core options start.before bytes piece none)
+      ∙ sym (append_assoc start.head (added options core start.before bytes) (added options core (start.before ++ bytes) piece))
 
-  pub reports-more : (bytes piece : List ℕ) → has_stop core options bytes ≡ false
-      → line_reports core options (bytes ++ piece) ≡ line_reports core options bytes ++ reported options core bytes piece
-  reports-more bytes piece none =
-      rw (
-        lines-append [] bytes piece,
-        reports-append options.strict options.watermarks core.inputs 0 (first_state (length core.inputs)) (whole_lines bytes) (new_lines bytes piece) none,
-      ) refl
+  pub reports-more : (bytes piece : List ℕ) → has_stop core options start bytes ≡ false
+      → line_reports core options start (bytes ++ piece) ≡ line_reports core options start bytes ++ reported options core (start.before ++ bytes) piece
+  reports-more bytes piece none = reported-more core options start.before bytes piece none
 
-  pub stop-more : (bytes piece : List ℕ) → has_stop core options bytes ≡ false
-      → has_stop core options (bytes ++ piece) ≡ is_stopped options core bytes piece
-  stop-more bytes piece none =
-      rw (
-        lines-append [] bytes piece,
-        stop-append options.strict options.watermarks core.inputs 0 (first_state (length core.inputs)) (whole_lines bytes) (new_lines bytes piece) none,
-      ) refl
+  pub stop-more : (bytes piece : List ℕ) → has_stop core options start bytes ≡ false
+      → has_stop core options start (bytes ++ piece) ≡ is_stopped options core (start.before ++ bytes) piece
+  stop-more bytes piece none = stopped-more core options start.before bytes piece none
 
   -- all reports, by whether a line stops the run
-  pub all-stopped : (bytes : List ℕ) → has_stop core options bytes ≡ true → all_reports core options bytes ≡ line_reports core options bytes
-  all-stopped bytes e = rw (e, append-nil (line_reports core options bytes)) refl
+  pub all-stopped : (bytes : List ℕ) → has_stop core options start bytes ≡ true → all_reports core options start bytes ≡ line_reports core options start bytes
+  all-stopped bytes e = rw (e, append-nil (line_reports core options start bytes)) refl
 
-  pub all-ended : (bytes : List ℕ) → has_stop core options bytes ≡ false → all_reports core options bytes ≡ line_reports core options bytes ++ end_report bytes
+  pub all-ended : (bytes : List ℕ) → has_stop core options start bytes ≡ false → all_reports core options start bytes ≡ line_reports core options start bytes ++ end_report (start.before ++ bytes)
   all-ended bytes e = rw e refl
 
+  -- all reports of bytes and more, and whether they end badly, if none of the lines before stops the run
+  pub all-more : (bytes more : List ℕ) → has_stop core options start bytes ≡ false
+      → all_reports core options start (bytes ++ more) ≡ line_reports core options start bytes ++ all_reports core options (start_after start bytes) more
+  all-more bytes more none =
+      rw (reports-more bytes more none, stop-more bytes more none, ← append_assoc start.before bytes more)
+      (append_assoc (line_reports core options start bytes) (reported options core (start.before ++ bytes) more)
+      (if is_stopped options core (start.before ++ bytes) more then [] else end_report ((start.before ++ bytes) ++ more)))
+
+  pub badly-more : (bytes more : List ℕ) → has_stop core options start bytes ≡ false
+      → ends_badly core options start (bytes ++ more) ≡ ends_badly core options (start_after start bytes) more
+  badly-more bytes more none = rw (stop-more bytes more none, ← append_assoc start.before bytes more) refl
+
   module _ {K : Type 0} (tells : Type 0) (err_tells : Type 0) (err_written : K → List ℕ) (err_faults : K → ℕ) where
-    -- nothing was read yet, and what comes before the first line was written
+    -- nothing was read yet, and what comes before all that is read was written
     pub serving-begun : {T : Type 0} (old new : Transcript) (err : K) (x : T)
-        → Adds tells old new (first_news options.with_begun core) (Ok x)
-        → IsServing core options tells old new err_tells err_written err_faults err err [] []
+        → Adds tells old new start.head (Ok x)
+        → IsServing core options start tells old new err_tells err_written err_faults err err [] []
     serving-begun old new err x adds = record {
       read = λ told. (adds.reads_nothing told).read ∙ sym (append-nil old.read);
-      written = λ told. rw (append-nil (first_news options.with_begun core)) (adds.whole told);
+      written = λ told. rw (append-nil start.head) (adds.whole told);
       asked = λ told. (adds.reads_nothing told).asked ∙ sym (append-nil old.asked);
       punctual = λ _. tt;
       reported = reported-none err_tells err_written err_faults err;
@@ -109,10 +106,10 @@ module _ (core : CoreParts) (options : RunOptions) where
       writes_kept = adds.kept;
     }
 
-    -- the run stopped before the first line
+    -- the run stopped before anything was read
     pub served-none : {T : Type 0} (old new : Transcript) (err : K) (why : Stop) (result : Result (Unit {0}) Halt) → result ≡ Err (halt_of why) → (why ≡ stop.BadLine → ⊥)
-        → Adds {T = T} tells old new (first_news options.with_begun core) (Err why)
-        → HasServed core options tells old new err_tells err_written err_faults err err result
+        → Adds {T = T} tells old new start.head (Err why)
+        → HasServed core options start tells old new err_tells err_written err_faults err err result
     served-none old new err why result is good adds = rw is record {
       bytes = [];
       moments = [];
@@ -121,7 +118,7 @@ module _ (core : CoreParts) (options : RunOptions) where
       punctual = λ _. tt;
       whole = λ _ e. absurd (good (halt-bad why e));
       written_unread = λ _ e. absurd (halt-read why e);
-      front = λ told. rw (append-nil (first_news options.with_begun core)) (adds.front told);
+      front = λ told. rw (append-nil start.head) (adds.front told);
       reported = λ e. absurd (good (halt-bad why e));
       reported_unread = λ e. absurd (halt-read why e);
       reported_front = front-whole err_tells err_written err_faults err err [] _ (reported-none err_tells err_written err_faults err);
@@ -136,7 +133,7 @@ module _ (core : CoreParts) (options : RunOptions) where
 
     -- nothing was done at all, for lack of memory
     pub served-refused : (old : Transcript) (err : K) (result : Result (Unit {0}) Halt) → result ≡ Err halt.OutOfMemory
-        → HasServed core options tells old old err_tells err_written err_faults err err result
+        → HasServed core options start tells old old err_tells err_written err_faults err err result
     served-refused old err result is = rw is record {
       bytes = [];
       moments = [];
@@ -145,7 +142,7 @@ module _ (core : CoreParts) (options : RunOptions) where
       punctual = λ _. tt;
       whole = λ _ e. absurd (cc e);
       written_unread = λ _ e. absurd (cc e);
-      front = λ _. record { front = []; rest = output_for core options []; parts = refl; appended = sym (append-nil old.written) };
+      front = λ _. record { front = []; rest = output_for core options start []; parts = refl; appended = sym (append-nil old.written) };
       reported = λ e. absurd (cc e);
       reported_unread = λ e. absurd (cc e);
       reported_front = front-whole err_tells err_written err_faults err err [] _ (reported-none err_tells err_written err_faults err);
@@ -161,8 +158,8 @@ module _ (core : CoreParts) (options : RunOptions) where
     module _ (old : Transcript) (err : K) (bytes : List ℕ) (moments : List Moment) where
       -- what was served was flushed
       pub serving-kept : (mid new : Transcript) (err_then : K) → (tells → Keeps mid new) → mid.write_faults ≤ new.write_faults → mid.read_faults ≤ new.read_faults
-          → IsServing core options tells old mid err_tells err_written err_faults err err_then bytes moments
-          → IsServing core options tells old new err_tells err_written err_faults err err_then bytes moments
+          → IsServing core options start tells old mid err_tells err_written err_faults err err_then bytes moments
+          → IsServing core options start tells old new err_tells err_written err_faults err err_then bytes moments
       serving-kept mid new err_then keeps more less serving = record {
         read = λ told. (keeps told).reads_nothing.read ∙ serving.read told;
         written = λ told. (keeps told).written ∙ serving.written told;
@@ -177,8 +174,8 @@ module _ (core : CoreParts) (options : RunOptions) where
       -- a fault of the port, or memory that was refused, halted it
       pub served-halted : (new : Transcript) (err_then : K) (why : Halt) (result : Result (Unit {0}) Halt) → result ≡ Err why → (why ≡ halt.BadLine → ⊥)
           → (why ≡ halt.ReadFault → Rose old.read_faults new.read_faults) → (why ≡ halt.WriteFault → Rose old.write_faults new.write_faults)
-          → IsServing core options tells old new err_tells err_written err_faults err err_then bytes moments
-          → HasServed core options tells old new err_tells err_written err_faults err err_then result
+          → IsServing core options start tells old new err_tells err_written err_faults err err_then bytes moments
+          → HasServed core options start tells old new err_tells err_written err_faults err err_then result
       served-halted new err_then why result is good reads writes serving = rw is record {
         bytes = bytes;
         moments = moments;
@@ -188,9 +185,9 @@ module _ (core : CoreParts) (options : RunOptions) where
         whole = λ _ e. absurd (good e);
         written_unread = λ told _. serving.written told;
         front = λ told. record {
-          front = output_for core options bytes;
+          front = output_for core options start bytes;
           rest = [];
-          parts = sym (append-nil (output_for core options bytes));
+          parts = sym (append-nil (output_for core options start bytes));
           appended = serving.written told;
         };
         reported = λ e. absurd (good e);
@@ -207,83 +204,91 @@ module _ (core : CoreParts) (options : RunOptions) where
 
       -- The port when all of that was handed on, and after more was read.
       module _ (mid new : Transcript) (room : List ℕ) (err_mid : K) (flushed : mid.held_back ≡ 0) (reads : mid.read_faults ≤ new.read_faults) (writes : new.write_faults ≡ mid.write_faults)
-          (serving : IsServing core options tells old mid err_tells err_written err_faults err err_mid bytes moments) where
-        this_moment : tells → IsPunctual core options old (moment_of mid)
+          (serving : IsServing core options start tells old mid err_tells err_written err_faults err err_mid bytes moments) where
+        this_moment : tells → IsPunctual core options start old (moment_of mid)
         this_moment told = record { bytes = bytes; read = serving.read told; written = serving.written told; handed_on = flushed }
 
         asked_now : (n : ℕ) → (tells → HasRead mid new room (Ok n)) → tells → new.asked ≡ old.asked ++ (moments ++ moment_of mid ∷ [])
         asked_now n read told = (read told).asked ∙ rw (serving.asked told) (append_assoc old.asked moments (moment_of mid ∷ []))
 
-        punctual_now : tells → AllByRecursion (IsPunctual core options old) (moments ++ moment_of mid ∷ [])
-        punctual_now told = all-push (IsPunctual core options old) moments (moment_of mid) (serving.punctual told) (this_moment told)
+        punctual_now : tells → AllByRecursion (IsPunctual core options start old) (moments ++ moment_of mid ∷ [])
+        punctual_now told = all-push (IsPunctual core options start old) moments (moment_of mid) (serving.punctual told) (this_moment told)
 
         read_now : (n : ℕ) → (tells → HasRead mid new room (Ok n)) → tells → new.read ≡ old.read ++ (bytes ++ take n room)
         read_now n read told = (read told).piece ∙ rw (serving.read told) (append_assoc old.read bytes (take n room))
 
-        -- the feed had ended
-        pub served-ended : (err_then : K) (result : Result (Unit {0}) Halt) (last : Result (Unit {0}) Stop) → (tells → HasRead mid new room (Ok 0))
+        -- the feed had ended, and this is so of all its bytes
+        pub served-ended : (err_then : K) (Is : List ℕ → Type 0) (result : Result (Unit {0}) Halt) (last : Result (Unit {0}) Stop) → (tells → HasRead mid new room (Ok 0))
             → MatchResult last (λ _. result ≡ Ok tt) (λ why. result ≡ Err (halt_of why))
-            → Reported err_tells err_written err_faults err_mid err_then (end_report bytes)
-            → MatchResult last (λ _. (options.strict && is_unfinished bytes) ≡ false) (λ why. (why ≡ stop.BadLine) × ((options.strict && is_unfinished bytes) ≡ true))
-            → HasServed core options tells old new err_tells err_written err_faults err err_then result
-        served-ended err_then result (Ok u) read is told stops = rw is record {
-          bytes = bytes;
-          moments = moments ++ moment_of mid ∷ [];
-          read = λ t. rw (append-nil bytes) at (read_now 0 read t);
-          asked = asked_now 0 read;
-          punctual = punctual_now;
-          whole = λ t. (read t).written ∙ serving.written t;
-          written_unread = λ _. tt;
-          front = λ _. tt;
-          reported = rw (all-ended bytes serving.no_stop) (reported-then err_tells err_written err_faults err err_mid err_then _ _ serving.reported told);
-          reported_unread = tt;
-          reported_front = tt;
-          ended = λ t. (read t).ended;
-          well = rw (serving.no_stop, stops) refl;
-          badly = tt;
-          read_fault = tt;
-          write_fault = tt;
-          reads_kept = omega (arith, serving.reads_kept, reads);
-          writes_kept = omega (arith, serving.writes_kept, writes);
-        }
-        served-ended err_then result (Err why) read is told stops = rw (is, stops.0) record {
-          bytes = bytes;
-          moments = moments ++ moment_of mid ∷ [];
-          read = λ t. rw (append-nil bytes) at (read_now 0 read t);
-          asked = asked_now 0 read;
-          punctual = punctual_now;
-          whole = λ t _. (read t).written ∙ serving.written t;
-          written_unread = λ _ e. absurd (cc e);
-          front = λ t. record {
-            front = output_for core options bytes;
-            rest = [];
-            parts = sym (append-nil (output_for core options bytes));
-            appended = (read t).written ∙ serving.written t;
+            → Reported err_tells err_written err_faults err_mid err_then (end_report (start.before ++ bytes))
+            → MatchResult last (λ _. (options.strict && is_unfinished (start.before ++ bytes)) ≡ false)
+            (λ why. (why ≡ stop.BadLine) × ((options.strict && is_unfinished (start.before ++ bytes)) ≡ true))
+            → Is (start.before ++ bytes)
+            → HasEnded core options start tells old new err_tells err_written err_faults err err_then Is result
+        served-ended err_then Is result (Ok u) read is told stops so = rw is record {
+          served = record {
+            bytes = bytes;
+            moments = moments ++ moment_of mid ∷ [];
+            read = λ t. rw (append-nil bytes) at (read_now 0 read t);
+            asked = asked_now 0 read;
+            punctual = punctual_now;
+            whole = λ t. (read t).written ∙ serving.written t;
+            written_unread = λ _. tt;
+            front = λ _. tt;
+            reported = rw (all-ended bytes serving.no_stop) (reported-then err_tells err_written err_faults err err_mid err_then _ _ serving.reported told);
+            reported_unread = tt;
+            reported_front = tt;
+            ended = λ t. (read t).ended;
+            well = rw (serving.no_stop, stops) refl;
+            badly = tt;
+            read_fault = tt;
+            write_fault = tt;
+            reads_kept = omega (arith, serving.reads_kept, reads);
+            writes_kept = omega (arith, serving.writes_kept, writes);
           };
-          reported = λ _. rw (all-ended bytes serving.no_stop) (reported-then err_tells err_written err_faults err err_mid err_then _ _ serving.reported told);
-          reported_unread = λ e. absurd (cc e);
-          reported_front = rw (all-ended bytes serving.no_stop, ← append-nil (line_reports core options bytes ++ end_report bytes))
-              (front-whole err_tells err_written err_faults err err_then _ [] (reported-then err_tells err_written err_faults err err_mid err_then _ _ serving.reported told));
-          ended = λ _. tt;
-          well = tt;
-          badly = λ _. rw (serving.no_stop, stops.1) refl;
-          read_fault = λ e. absurd (cc e);
-          write_fault = λ e. absurd (cc e);
-          reads_kept = omega (arith, serving.reads_kept, reads);
-          writes_kept = omega (arith, serving.writes_kept, writes);
+          is = so;
+        }
+        served-ended err_then Is result (Err why) read is told stops so = rw (is, stops.0) record {
+          served = record {
+            bytes = bytes;
+            moments = moments ++ moment_of mid ∷ [];
+            read = λ t. rw (append-nil bytes) at (read_now 0 read t);
+            asked = asked_now 0 read;
+            punctual = punctual_now;
+            whole = λ t _. (read t).written ∙ serving.written t;
+            written_unread = λ _ e. absurd (cc e);
+            front = λ t. record {
+              front = output_for core options start bytes;
+              rest = [];
+              parts = sym (append-nil (output_for core options start bytes));
+              appended = (read t).written ∙ serving.written t;
+            };
+            reported = λ _. rw (all-ended bytes serving.no_stop) (reported-then err_tells err_written err_faults err err_mid err_then _ _ serving.reported told);
+            reported_unread = λ e. absurd (cc e);
+            reported_front = rw (all-ended bytes serving.no_stop, ← append-nil (line_reports core options start bytes ++ end_report (start.before ++ bytes)))
+                (front-whole err_tells err_written err_faults err err_then _ [] (reported-then err_tells err_written err_faults err err_mid err_then _ _ serving.reported told));
+            ended = λ _. tt;
+            well = tt;
+            badly = λ _. rw (serving.no_stop, stops.1) refl;
+            read_fault = λ e. absurd (cc e);
+            write_fault = λ e. absurd (cc e);
+            reads_kept = omega (arith, serving.reads_kept, reads);
+            writes_kept = omega (arith, serving.writes_kept, writes);
+          };
+          is = tt;
         }
 
         -- more was read and taken
         module _ (n : ℕ) (later : Transcript) (err_then : K) (read : tells → HasRead mid new room (Ok n)) where
-          pub serving-more : Adds tells new later (added options core bytes (take n room)) (Ok (tt {0}))
-              → Reports err_tells err_written err_faults err_mid err_then (reported options core bytes (take n room)) (Ok (tt {0}))
-              → is_stopped options core bytes (take n room) ≡ false
-              → IsServing core options tells old later err_tells err_written err_faults err err_then (bytes ++ take n room) (moments ++ moment_of mid ∷ [])
+          pub serving-more : Adds tells new later (added options core (start.before ++ bytes) (take n room)) (Ok (tt {0}))
+              → Reports err_tells err_written err_faults err_mid err_then (reported options core (start.before ++ bytes) (take n room)) (Ok (tt {0}))
+              → is_stopped options core (start.before ++ bytes) (take n room) ≡ false
+              → IsServing core options start tells old later err_tells err_written err_faults err err_then (bytes ++ take n room) (moments ++ moment_of mid ∷ [])
           serving-more adds reports stops = record {
             read = λ t. (adds.reads_nothing t).read ∙ read_now n read t;
             written = λ t.
                 adds.whole t ∙ rw (output-more bytes (take n room) serving.no_stop, (read t).written, serving.written t)
-                (append_assoc old.written (output_for core options bytes) (added options core bytes (take n room)));
+                (append_assoc old.written (output_for core options start bytes) (added options core (start.before ++ bytes) (take n room)));
             asked = λ t. (adds.reads_nothing t).asked ∙ asked_now n read t;
             punctual = punctual_now;
             reported = rw (reports-more bytes (take n room) serving.no_stop) (reported-then err_tells err_written err_faults err err_mid err_then _ _ serving.reported reports.whole);
@@ -293,10 +298,10 @@ module _ (core : CoreParts) (options : RunOptions) where
           }
 
           -- the run stopped at it
-          pub served-stopped : (why : Stop) → Adds {T = Unit {0}} tells new later (added options core bytes (take n room)) (Err why)
-              → Reports err_tells err_written err_faults {T = Unit {0}} err_mid err_then (reported options core bytes (take n room)) (Err why)
-              → (why ≡ stop.BadLine → is_stopped options core bytes (take n room) ≡ true)
-              → HasServed core options tells old later err_tells err_written err_faults err err_then (Err (halt_of why))
+          pub served-stopped : (why : Stop) → Adds {T = Unit {0}} tells new later (added options core (start.before ++ bytes) (take n room)) (Err why)
+              → Reports err_tells err_written err_faults {T = Unit {0}} err_mid err_then (reported options core (start.before ++ bytes) (take n room)) (Err why)
+              → (why ≡ stop.BadLine → is_stopped options core (start.before ++ bytes) (take n room) ≡ true)
+              → HasServed core options start tells old later err_tells err_written err_faults err err_then (Err (halt_of why))
           served-stopped why adds reports stops = record {
             bytes = bytes ++ take n room;
             moments = moments ++ moment_of mid ∷ [];
@@ -305,11 +310,11 @@ module _ (core : CoreParts) (options : RunOptions) where
             punctual = punctual_now;
             whole = λ t e.
                 adds.stopped t (halt-bad why e) ∙ rw (output-more bytes (take n room) serving.no_stop, (read t).written, serving.written t)
-                (append_assoc old.written (output_for core options bytes) (added options core bytes (take n room)));
+                (append_assoc old.written (output_for core options start bytes) (added options core (start.before ++ bytes) (take n room)));
             written_unread = λ _ e. absurd (halt-read why e);
             front = λ t.
                 rw (output-more bytes (take n room) serving.no_stop)
-                (front_behind old.written new.written later.written (output_for core options bytes) (added options core bytes (take n room))
+                (front_behind old.written new.written later.written (output_for core options start bytes) (added options core (start.before ++ bytes) (take n room))
                 ((read t).written ∙ serving.written t) (adds.front t));
             reported = λ e.
                 let bad = stop-more bytes (take n room) serving.no_stop ∙ stops (halt-bad why e) in
@@ -317,8 +322,8 @@ module _ (core : CoreParts) (options : RunOptions) where
                 (reported-then err_tells err_written err_faults err err_mid err_then _ _ serving.reported (reports.stopped (halt-bad why e)));
             reported_unread = λ e. absurd (halt-read why e);
             reported_front =
-                front-more err_tells err_written err_faults err err_then (line_reports core options (bytes ++ take n room))
-                (if has_stop core options (bytes ++ take n room) then [] else end_report (bytes ++ take n room))
+                front-more err_tells err_written err_faults err err_then (line_reports core options start (bytes ++ take n room))
+                (if has_stop core options start (bytes ++ take n room) then [] else end_report (start.before ++ (bytes ++ take n room)))
                 (rw (reports-more bytes (take n room) serving.no_stop) (front-behind err_tells err_written err_faults err err_mid err_then _ _ serving.reported reports.front));
             ended = λ _. tt;
             well = tt;

@@ -2,7 +2,7 @@
 use Rattle.std.specs.Prelude.{◌≡◌, ℕ, List, [], codes, Result, Ok, Err, MatchResult}
 use Rattle.tilt_core.specs.Core.{CoreParts}
 use Rattle.tilt_live_app.specs.Arguments.{CommandValue, IsLiveCommand}
-use Rattle.tilt_live_app.specs.Served.{HasServed}
+use Rattle.tilt_live_app.specs.Served.{HasServed, first_start}
 use Rattle.tilt_live_app.specs.declared.failure.Failure.{Failure}
 use Rattle.tilt_live_app.specs.declared.failure.Failure.TheVariants.{Halted, Unbegun}
 use Rattle.tilt_live_app.specs.declared.failure.Halt.{Halt}
@@ -47,7 +47,7 @@ module _ {K : Type 0} (words : List (List ℕ)) (shelf_tells : Type 0) (files : 
     pub core : CoreParts
     pub said : IsLiveCommand words command
     pub taken : shelf_tells → TakesQuery (files command.query) core
-    pub served : HasServed core command.options tells old new err_tells err_written err_faults err err_then end
+    pub served : HasServed core command.options (first_start core command.options) tells old new err_tells err_written err_faults err err_then end
     -- if it ended by itself or by a bad line, all of the output was handed on
     pub handed_on : MatchResult end (λ _. new.held_back ≡ 0) (λ why. why ≡ halt.BadLine → new.held_back ≡ 0)
 

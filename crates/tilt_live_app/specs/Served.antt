@@ -1,15 +1,12 @@
 -- What serving a feed leaves of the port and of the reports (our own rule).
-use Rattle.std.specs.Prelude.{◌≡◌, ◌≤◌, ℕ, Bool, true, false, ◌||◌, ◌&&◌, if◌then◌else◌, List, [], ◌++◌, length, Result, Ok, Err, OnOk, OnErr, IfErr, MatchResult}
+use Rattle.std.specs.Prelude.{◌≡◌, ◌≤◌, ℕ, Bool, true, false, ◌||◌, ◌&&◌, if◌then◌else◌, List, [], ◌++◌, Result, Ok, Err, OnOk, OnErr, IfErr, MatchResult}
 use Rattle.std.specs.List.{AllByRecursion}
 use Rattle.tilt_core.specs.Core.{CoreParts}
-use Rattle.tilt_feed_text.specs.Report.{reports_from}
-use Rattle.tilt_feed_text.specs.Said.{first_state, stop_among}
-use Rattle.tilt_feed_text.specs.Split.{whole_lines}
 use Rattle.tilt_live_app.specs.declared.failure.Halt.{Halt}
 use Rattle.tilt_live_app.specs.declared.failure.Halt.TheVariants as halt
-use Rattle.tilt_live_run.specs.Output.{output}
+use Rattle.tilt_live_run.specs.Output.{first_news}
 use Rattle.tilt_live_run.specs.Reported.{Reported, ReportedFront}
-use Rattle.tilt_live_run.specs.Runs.{end_report, is_unfinished}
+use Rattle.tilt_live_run.specs.Runs.{added, end_report, is_stopped, is_unfinished, reported}
 use Rattle.tilt_live_run.specs.declared.run_options.RunOptions.{RunOptions}
 use Rattle.tilt_live_run.specs.declared.stop.Stop.{Stop}
 use Rattle.tilt_live_run.specs.declared.stop.Stop.TheVariants as stop
@@ -34,26 +31,39 @@ end_with (Err halt.ReadFault) flushed = Err halt.ReadFault
 end_with (Err halt.WriteFault) flushed = Err halt.WriteFault
 end_with (Err halt.OutOfMemory) flushed = Err halt.OutOfMemory
 
-module _ (core : CoreParts) (options : RunOptions) where
-  -- what is written for the bytes of a feed
+-- where a feed starts to be served: what is written before anything is read, and the bytes of the feed that an earlier run took
+pub record Start : Type 0 where
+  pub head : List ℕ
+  pub before : List ℕ
+
+-- its first byte: no earlier run took any
+abbrev pub first_start : CoreParts → RunOptions → Start
+first_start core options = record { head = first_news options.with_begun core; before = [] }
+
+-- the place after bytes that were served from there: nothing is written before more is read
+abbrev pub start_after : Start → List ℕ → Start
+start_after start bytes = record { head = []; before = start.before ++ bytes }
+
+module _ (core : CoreParts) (options : RunOptions) (start : Start) where
+  -- what is written for bytes of a feed that come then
   abbrev pub output_for : List ℕ → List ℕ
-  output_for bytes = output options core (whole_lines bytes)
+  output_for bytes = start.head ++ added options core start.before bytes
 
-  -- whether one of its lines stops the run
+  -- whether one of the lines that end in them stops the run
   abbrev pub has_stop : List ℕ → Bool
-  has_stop bytes = stop_among options.strict options.watermarks core.inputs 0 (first_state (length core.inputs)) (whole_lines bytes)
+  has_stop bytes = is_stopped options core start.before bytes
 
-  -- the reports of its lines
+  -- the reports of these lines
   abbrev pub line_reports : List ℕ → List ℕ
-  line_reports bytes = reports_from options.strict options.watermarks core.inputs 0 (first_state (length core.inputs)) (whole_lines bytes)
+  line_reports bytes = reported options core start.before bytes
 
   -- all reports, if the feed ends with them: that of the line without an end too, if there is one
   abbrev pub all_reports : List ℕ → List ℕ
-  all_reports bytes = line_reports bytes ++ (if has_stop bytes then [] else end_report bytes)
+  all_reports bytes = line_reports bytes ++ (if has_stop bytes then [] else end_report (start.before ++ bytes))
 
   -- whether it ends badly: a line stops the run, or the last one has no end and bad lines stop the run
   abbrev pub ends_badly : List ℕ → Bool
-  ends_badly bytes = has_stop bytes || (options.strict && is_unfinished bytes)
+  ends_badly bytes = has_stop bytes || (options.strict && is_unfinished (start.before ++ bytes))
 
   -- at a moment at which more was read, exactly the output for what had been read was written, and all of it was handed on
   pub record IsPunctual (old : Transcript) (moment : Moment) : Type 0 where
@@ -102,3 +112,8 @@ module _ (core : CoreParts) (options : RunOptions) where
       -- counts of faults don't fall
       pub reads_kept : old.read_faults ≤ new.read_faults
       pub writes_kept : old.write_faults ≤ new.write_faults
+
+    -- the same; and if the feed ended by itself, this is so of all its bytes
+    pub record HasEnded (Is : List ℕ → Type 0) (result : Result (Unit {0}) Halt) : Type 0 where
+      pub served : HasServed result
+      pub is : OnOk result (Is (start.before ++ served.bytes))

@@ -8,6 +8,8 @@
 mod arguments;
 mod command;
 mod failure;
+mod law;
 mod serve;
 
 pub use command::live;
+pub use law::runs_are_joined;

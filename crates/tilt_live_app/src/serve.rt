@@ -1,8 +1,8 @@
 // The feed of a query, served from its first byte to its last.
 ghost use Rattle.std.specs.Prelude.{◌≡◌, ◌<◌, ℕ, length, IfOk, MatchResult};
 ghost use Rattle.tilt_compiler.specs.Accepted.{AcceptedParts};
-ghost use Rattle.tilt_live_app.specs.Served.{HasServed, end_with};
-ghost use Rattle.tilt_live_app.specs.Serving.{GoesOn, HasStepped};
+ghost use Rattle.tilt_live_app.specs.Served.{HasServed, Start, end_with, first_start};
+ghost use Rattle.tilt_live_app.specs.Serving.{GoesOn, HasStepped, WasServed};
 ghost use Rattle.tilt_live_run.specs.Runs.{IsSound};
 ghost use Rattle.tilt_port.specs.Transcript.{Moment, Transcript};
 
@@ -32,7 +32,7 @@ pub(crate) fn serve<P: Port, E: Sink>(
     err: &mut E,
 ) -> Result<(), Halt>
     requires { (n : ℕ) → E.takes err.old n }
-    ensures served { HasServed accepted.core options P.tells
+    ensures served { HasServed accepted.core options (first_start accepted.core options) P.tells
         (P.transcript port.old) (P.transcript port.new) E.tells E.written E.faults err.old err.new result }
     ensures handed_on { MatchResult result (λ _. (P.transcript port.new).held_back ≡ 0)
         (λ why. why ≡ Halt.BadLine → (P.transcript port.new).held_back ≡ 0) }
@@ -72,9 +72,9 @@ fn serve_all<P: Port, E: Sink>(
     requires space { 0 < length room.old }
     requires lines { (n : ℕ) → E.takes err.old n }
     requires sound { IsSound run.old }
-    ensures served { (accepted : AcceptedParts) (options : RunOptions) (old : Transcript) (reports : E)
-        → GoesOn accepted options P.tells old (P.transcript port.old) E.tells E.written E.faults reports err.old run.old
-        → HasServed accepted.core options P.tells old (P.transcript port.new) E.tells E.written E.faults reports err.new result }
+    ensures served { (accepted : AcceptedParts) (options : RunOptions) (start : Start) (old : Transcript) (reports : E)
+        → GoesOn accepted options start P.tells old (P.transcript port.old) E.tells E.written E.faults reports err.old run.old
+        → WasServed accepted options start P.tells old (P.transcript port.new) E.tells E.written E.faults reports err.new run.new result }
     ensures takes { (n : ℕ) → E.takes err.new n }
 {
     for _ in 0..u64::MAX {
@@ -97,9 +97,9 @@ fn serve_more<P: Port, E: Sink>(
     requires space { 0 < length room.old }
     requires lines { (n : ℕ) → E.takes err.old n }
     requires sound { IsSound run.old }
-    ensures stepped { (accepted : AcceptedParts) (options : RunOptions) (old : Transcript) (reports : E)
-        → GoesOn accepted options P.tells old (P.transcript port.old) E.tells E.written E.faults reports err.old run.old
-        → HasStepped accepted options P.tells old (P.transcript port.new) E.tells E.written E.faults reports err.new run.new result }
+    ensures stepped { (accepted : AcceptedParts) (options : RunOptions) (start : Start) (old : Transcript) (reports : E)
+        → GoesOn accepted options start P.tells old (P.transcript port.old) E.tells E.written E.faults reports err.old run.old
+        → HasStepped accepted options start P.tells old (P.transcript port.new) E.tells E.written E.faults reports err.new run.new result }
     ensures sound { IsSound run.new }
     ensures length { length room.new ≡ length room.old }
     ensures takes { (n : ℕ) → E.takes err.new n }

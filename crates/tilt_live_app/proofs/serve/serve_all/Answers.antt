@@ -5,7 +5,7 @@ use Rattle.tilt_live_app.specs.declared.failure.Halt.TheVariants as halt
 use Rattle.tilt_live_app.proofs.serve.serve_all.Goals as goal
 
 pub loop-init : goal.loop-init
-loop-init g c = record { takes = c.requires.lines; sound = c.requires.sound; of = λ accepted options old reports going. going }
+loop-init g c = record { takes = c.requires.lines; sound = c.requires.sound; of = λ accepted options start old reports going. going }
 
 pub serve_more-requires-clause-lines : goal.serve_more-requires-clause-lines
 serve_more-requires-clause-lines g c = c.loop.invariant.takes
@@ -14,27 +14,30 @@ pub serve_more-requires-clause-sound : goal.serve_more-requires-clause-sound
 serve_more-requires-clause-sound g c = c.loop.invariant.sound
 
 pub returns-in_err-serve_more-clause-served : goal.returns-in_err-serve_more-clause-served
-returns-in_err-serve_more-clause-served g c = λ accepted options old reports going.
+returns-in_err-serve_more-clause-served g c = λ accepted options start old reports going.
     let p = err_from_is_err_and c.from_residual.result c.from_residual.ensures.1 in
-    rw (p.1 ∙ ap Err p.2) (c.in_err-serve_more.ensures.stepped accepted options old reports (c.loop.invariant.of accepted options old reports going))
+    rw (p.1 ∙ ap Err p.2) (c.in_err-serve_more.ensures.stepped accepted options start old reports (c.loop.invariant.of accepted options start old reports going))
 
 pub returns-in-Ended-clause-served : goal.returns-in-Ended-clause-served
-returns-in-Ended-clause-served g c = λ accepted options old reports going.
-    rw c.in-Ended.is at (c.in_ok-serve_more.ensures.stepped accepted options old reports (c.loop.invariant.of accepted options old reports going))
+returns-in-Ended-clause-served g c = λ accepted options start old reports going.
+    rw c.in-Ended.is at (c.in_ok-serve_more.ensures.stepped accepted options start old reports (c.loop.invariant.of accepted options start old reports going))
 
 pub loop-preserved : goal.loop-preserved
 loop-preserved g c = record {
   takes = c.serve_more.ensures.takes;
   sound = c.serve_more.ensures.sound;
-  of = λ accepted options old reports going.
-      rw c.in-More.is at (c.in_ok-serve_more.ensures.stepped accepted options old reports (c.loop.invariant.of accepted options old reports going));
+  of = λ accepted options start old reports going.
+      rw c.in-More.is at (c.in_ok-serve_more.ensures.stepped accepted options start old reports (c.loop.invariant.of accepted options start old reports going));
 }
 
 pub returns-clause-served : goal.returns-clause-served
-returns-clause-served g c = λ accepted options old reports going.
-    let here = c.loop.invariant.of accepted options old reports going in
-    served-halted accepted.core options _ _ _ _ old reports here.bytes here.moments _ c.loop.err halt.OutOfMemory _ refl (λ e. cc e) (λ e. absurd (cc e))
-    (λ e. absurd (cc e)) here.serving
+returns-clause-served g c = λ accepted options start old reports going.
+    let here = c.loop.invariant.of accepted options start old reports going in
+    record {
+      served = served-halted accepted.core options start _ _ _ _ old reports here.bytes here.moments _ c.loop.err halt.OutOfMemory _ refl (λ e. cc e) (λ e. absurd (cc e))
+          (λ e. absurd (cc e)) here.serving;
+      is = tt;
+    }
 
 pub returns-clause-takes : goal.returns-clause-takes
 returns-clause-takes g c = c.loop.invariant.takes

@@ -1,0 +1,26 @@
+// A law of feeds that are served by one run after another.
+ghost use Rattle.std.specs.Prelude.{◌≡◌, ◌++◌, ℕ, List, false};
+ghost use Rattle.tilt_core.specs.Core.{CoreParts};
+ghost use Rattle.tilt_feed_text.specs.Split.{whole_lines};
+ghost use Rattle.tilt_live_app.specs.Served.{Start, all_reports, ends_badly, first_start, has_stop, line_reports, output_for, start_after};
+ghost use Rattle.tilt_live_run.specs.Output.{output};
+ghost use Rattle.tilt_live_run.specs.declared.run_options.RunOptions.{RunOptions};
+
+/// This does nothing. Its clauses are a law of the definitions. From the first byte of a feed, what is written is the output of its lines
+/// (`first`). The others are about bytes none of whose lines stops the run. After what one run writes for them, it writes for more bytes
+/// just what a run writes that starts after them (`written`). It reports the same too, and ends as badly (`reported`, `badly`).
+pub fn runs_are_joined()
+    ensures first { (core : CoreParts) (options : RunOptions) (bytes : List ℕ)
+        → output_for core options (first_start core options) bytes ≡ output options core (whole_lines bytes) }
+    ensures written { (core : CoreParts) (options : RunOptions) (start : Start) (bytes more : List ℕ)
+        → has_stop core options start bytes ≡ false
+        → output_for core options start (bytes ++ more)
+        ≡ output_for core options start bytes ++ output_for core options (start_after start bytes) more }
+    ensures reported { (core : CoreParts) (options : RunOptions) (start : Start) (bytes more : List ℕ)
+        → has_stop core options start bytes ≡ false
+        → all_reports core options start (bytes ++ more)
+        ≡ line_reports core options start bytes ++ all_reports core options (start_after start bytes) more }
+    ensures badly { (core : CoreParts) (options : RunOptions) (start : Start) (bytes more : List ℕ)
+        → has_stop core options start bytes ≡ false
+        → ends_badly core options start (bytes ++ more) ≡ ends_badly core options (start_after start bytes) more }
+{}
