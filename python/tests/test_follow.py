@@ -926,16 +926,33 @@ def test_an_interrupt_has_its_status(tilt, tmp_path):
     assert (tmp_path / "s" / "output.csv").read_text() == "start,end,value\n0,3,1\n"
 
 
-def test_a_program_that_is_killed_is_reported(tilt, tmp_path):
+def killed_unless(tmp_path, tilt, *commands):
+    """The variable TILT of a program that does these commands and is killed at any other."""
+    path = tmp_path / "killed"
+    path.write_text(f'#!/bin/sh\ncase "$1" in {"|".join(commands) or "none"}) exec "{tilt}" "$@";; esac\nkill -9 $$\n')
+    path.chmod(0o755)
+    return {**BEGUN, "TILT": str(path)}
+
+
+@pytest.mark.parametrize(
+    "commands, again, output",
+    [
+        # In a session: its rows were taken, and the next call goes on with them.
+        (["explain"], b"", "start,end,value\n0,3,1\n3,4,1\n"),
+        # Before any row is taken: they have to come again.
+        ([], b"", "start,end,value\n0,3,1\n"),
+        ([], b"x,3,4,1\n", "start,end,value\n0,3,1\n3,4,1\n"),
+    ],
+)
+def test_a_program_that_is_killed_is_reported(tilt, tmp_path, commands, again, output):
     (tmp_path / "q").write_text("input x; emit x over (0, 40];")
     assert done(follow(tmp_path, "--state", "s", stdin=subprocess.PIPE), b"x,0,3,1\n")[0] == 0
-    (tmp_path / "killed").write_text("#!/bin/sh\nkill -9 $$\n")
-    (tmp_path / "killed").chmod(0o755)
     words = [sys.executable, "-m", "tilt_data", "follow", "q", "--state", "s"]
-    found = subprocess.run(words, cwd=tmp_path, env={**BEGUN, "TILT": str(tmp_path / "killed")}, input=b"x,3,4,1\n", capture_output=True)
+    killed = killed_unless(tmp_path, tilt, *commands)
+    found = subprocess.run(words, cwd=tmp_path, env=killed, input=b"x,3,4,1\n", capture_output=True)
     assert (found.returncode, found.stderr) == (137, b"tilt-data: the program was ended by signal 9\n")
-    assert done(follow(tmp_path, "--state", "s", "--end", stdin=subprocess.DEVNULL))[::2] == (0, "")
-    assert (tmp_path / "s" / "output.csv").read_text() == "start,end,value\n0,3,1\n3,4,1\n"
+    assert done(follow(tmp_path, "--state", "s", "--end", stdin=subprocess.PIPE), again)[::2] == (0, "")
+    assert (tmp_path / "s" / "output.csv").read_text() == output
 
 
 def program(name: str) -> str:
