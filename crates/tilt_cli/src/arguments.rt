@@ -143,8 +143,8 @@ impl Arguments {
         Some(self.settings.remove(place).value)
     }
 
-    // Takes out the text that the option is set to.
-    pub(crate) fn remove_text(&mut self, word: &str) -> Option<String>
+    /// Takes out the text that the option is set to, if it is set to one. The other options stay.
+    pub fn remove_text(&mut self, word: &str) -> Option<String>
         ensures value { option_map (λ text. string_bytes text) result ≡ text_of (set_to word.now (arguments_of self.old).settings) }
         ensures binds { self.new.binds ≡ self.old.binds }
         ensures others { LeavesOthers word.now (arguments_of self.old).settings (arguments_of self.new).settings }

@@ -129,7 +129,7 @@ fn put_step(text: &mut Vec<u8>, register: usize, instr: Instr) -> Result<(), Out
     put(text, b"\n")
 }
 
-// Appends the words of an instruction.
+// Appends an instruction, word by word.
 fn put_instr(text: &mut Vec<u8>, instr: Instr) -> Result<(), OutOfMemory>
     ensures { OnOk result (text.new.items ≡ text.old.items ++ spaced (instr_words instr)) }
 {

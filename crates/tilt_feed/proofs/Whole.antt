@@ -58,23 +58,24 @@ inputs-ever [] source = refl
 inputs-ever (a ∷ inputs) zero = refl
 inputs-ever (a ∷ inputs) (suc source) = inputs-ever inputs source
 
+-- a finished feed is known up to the end of the output domain
+pub horizon-end : (core : CoreParts) (feed : Feed) → feed.finished ≡ true → horizon core feed ≡ (output_domain core).end
+horizon-end core feed finished =
+    ap (clipped (output_domain core).end)
+    (ap (λ (b : Bool). horizon_of (with_horizons (input_horizons b feed.inputs) core.defs) (emitted_number core)) finished
+    ∙ definitions-ever (input_horizons true feed.inputs) core.defs (inputs-ever feed.inputs) (emitted_number core))
+
 -- so what is printed is the whole output
 module _ (core : CoreParts) (is : IsCore core) (feed : Feed) (finished : feed.finished ≡ true) where
-  horizon-end : horizon core feed ≡ (output_domain core).end
-  horizon-end =
-      ap (clipped (output_domain core).end)
-      (ap (λ (b : Bool). horizon_of (with_horizons (input_horizons b feed.inputs) core.defs) (emitted_number core)) finished
-      ∙ definitions-ever (input_horizons true feed.inputs) core.defs (inputs-ever feed.inputs) (emitted_number core))
-
   all-closed : is_closed core feed ≡ true
   all-closed =
-      let end = (Decides-int_eq (horizon core feed) (output_domain core).end).1 horizon-end in
+      let end = (Decides-int_eq (horizon core feed) (output_domain core).end).1 (horizon-end core feed finished) in
       rw end refl
 
   all-printed : printed core feed ≡ snapshots (meaning_now core feed (emitted_number core)) (output_domain core).start (output_domain core).end
   all-printed =
       ap (λ (b : Bool). closed_of b (known_snapshots core feed)) all-closed
-      ∙ ap (snapshots (meaning_now core feed (emitted_number core)) (output_domain core).start) horizon-end
+      ∙ ap (snapshots (meaning_now core feed (emitted_number core)) (output_domain core).start) (horizon-end core feed finished)
 
   pub finished-output : length feed.inputs ≡ length core.inputs → output_of core (all_rows_now feed) ≡ Some (printed core feed)
   finished-output many = output-is core (all_rows_now feed) is (length-map feed.inputs rows_now ∙ many) ∙ ap Some (sym all-printed)

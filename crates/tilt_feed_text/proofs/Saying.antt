@@ -41,7 +41,7 @@ said-first options (Ok (Some said)) lines state = said-more options said lines s
 said-first options (Err why) lines state = refl
 
 -- where a feed is after lines is where it is after what they say
-lines-said : (options : Options) (inputs : List (List ℕ)) (number : ℕ) (state : FeedState) (lines : List (List ℕ))
+pub lines-said : (options : Options) (inputs : List (List ℕ)) (number : ℕ) (state : FeedState) (lines : List (List ℕ))
     → said_all options (lines_said inputs number lines) state ≡ after_lines options inputs number state lines
 lines-said options inputs number state [] = refl
 lines-said options inputs number state (bytes ∷ lines) =

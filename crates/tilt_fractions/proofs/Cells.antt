@@ -1,4 +1,4 @@
--- The operators keep that cells of whole numbers stand for exact cells.
+-- The operators keep that cells of whole numbers represent exact cells.
 use Rattle.std.proofs.Common.{◌≡◌, ℕ, ℤ, pos, ◌*ℤ◌, ◌≤ℤ◌, Bool, true, false, not, if◌then◌else◌, Option, Some, None, int_lt, int_le, refl, sym, ◌∙◌, subst, arith}
 use Rattle.std.specs.Ordering.{int_eq}
 use Rattle.std.proofs.lemmas.Int.{ints}

@@ -40,7 +40,7 @@ pub same_order : (x y n m s t : ℤ) → pos 1 ≤ℤ s → pos 1 ≤ℤ t → x
 same_order x y n m s t h g p q =
     sym (less_scaled x y s h) ∙ ap (λ z. int_lt z (y *ℤ s)) p ∙ ap (λ z. int_lt (n *ℤ t) z) q ∙ less_scaled n m t g
 
--- fractions are in the order of the numbers at one scale that stand for them
+-- fractions are in the order of the numbers at one scale that represent them
 pub less_stands : (s : ℕ) (n m : ℤ) (p q : Fraction) → pos 1 ≤ℤ pos s → StandsFor s n p → StandsFor s m q → is_less p q ≡ int_lt n m
 less_stands s n m p q h f g =
     same_order (p.over *ℤ q.under) (q.over *ℤ p.under) n m (pos s) (p.under *ℤ q.under) h (positive_product p.under q.under f.under g.under)

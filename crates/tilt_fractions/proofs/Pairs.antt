@@ -1,4 +1,4 @@
--- The operators on two cells keep that cells of whole numbers stand for exact cells.
+-- The operators on two cells keep that cells of whole numbers represent exact cells.
 use Rattle.std.proofs.Common.{◌≡◌, ℕ, ◌*◌, ℤ, pos, ◌+ℤ◌, ◌-ℤ◌, ◌*ℤ◌, ◌≤ℤ◌, Bool, true, false, not, ◌&&◌, ◌||◌, if◌then◌else◌, Option, Some, None, int_lt, int_le, int_div, int_rem, refl, sym, ap, ◌∙◌, subst, arith}
 use Rattle.std.specs.Ordering.{int_eq}
 use Rattle.std.proofs.Math.IntN.{+ℤ_idl, suc_ℤ-*ℤ, zero-*ℤ}
@@ -118,7 +118,7 @@ quotients_stand s t u a b p q h i r =
     (λ n m p q f g. unless_zero u (is_zero q) (int_eq m (pos 0)) (int_div n m) (quotient_in u p q) (zero_stands t m q h g)
     (whole_quotient_stands s t u n m p q h i r f g)) a b p q
 
--- a number that is multiplied by as much as its scale stands for the same fraction
+-- a number that is multiplied by as much as its scale represents the same fraction
 pub raised_cells_stand : (s k : ℕ) (a : Option ℤ) (p : Option Fraction) → CellStandsFor s a p → CellStandsFor (k * s) (wide2 Mul (Some (pos k)) a) p
 raised_cells_stand s k None None f = tt
 raised_cells_stand s k None (Some p) f = absurd f

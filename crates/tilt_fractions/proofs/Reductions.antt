@@ -1,4 +1,4 @@
--- The reducers keep that whole numbers stand for fractions.
+-- The reducers keep that whole numbers represent fractions.
 use Rattle.std.proofs.Common.{◌≡◌, ℕ, zero, suc, ◌*◌, ◌^◌, ℤ, pos, negsuc, ◌+ℤ◌, ◌*ℤ◌, ◌≤ℤ◌, Bool, true, false, not, ◌&&◌, ◌||◌, if◌then◌else◌, cond, List, [], ◌∷◌, length, Option, Some, None, int_lt, int_div, nat_lt, fold, refl, sym, ap, ◌∙◌, subst, arith}
 use Rattle.std.specs.Int.{int_min, int_max}
 use Rattle.std.specs.List.{AllZip, list_any, list_all}
@@ -27,7 +27,7 @@ numbers_stand s (None ∷ cells) (Some p ∷ exact) h = absurd h.0
 numbers_stand s (Some n ∷ cells) (None ∷ exact) h = absurd h.0
 numbers_stand s (Some n ∷ cells) (Some p ∷ exact) h = (h.0, numbers_stand s cells exact h.1)
 
--- a fold by steps that keep what numbers stand for
+-- a fold by steps that keep what numbers represent
 folds_stand : (s : ℕ) (f : ℤ → ℤ → ℤ) (g : Fraction → Fraction → Fraction)
     → ((n m : ℤ) (p q : Fraction) → StandsFor s n p → StandsFor s m q → StandsFor s (f n m) (g p q))
     → (n : ℤ) (p : Fraction) (ns : List ℤ) (ps : List Fraction) → StandsFor s n p → AllZip (StandsFor s) ns ps

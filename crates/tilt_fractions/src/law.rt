@@ -7,7 +7,7 @@ ghost use Rattle.tilt_base.specs.declared.operator.Op2.TheVariants.{Div, Mul, Wh
 ghost use Rattle.tilt_fractions.specs.Exact.{CellStandsFor, exact1, exact2, exact_choose, needs_one_scale, scale1, scale2, wide1, wide2};
 ghost use Rattle.tilt_fractions.specs.Fraction.{Fraction};
 
-/// This does nothing. Its clauses are the laws by which whole numbers at scales stand for fractions: if the operands of an
+/// This does nothing. Its clauses are the laws by which whole numbers at scales represent fractions: if the operands of an
 /// operator do, so does its result, null for null. They hold of numbers of any size.
 pub fn whole_numbers_stand_for_fractions()
     ensures one { (op : Op1) (s : ℕ) (a : Option ℤ) (p : Option Fraction) → pos 1 ≤ℤ pos s → CellStandsFor s a p
@@ -26,7 +26,7 @@ pub fn whole_numbers_stand_for_fractions()
     // The scale of the dividend is divided by that of the divisor, if the quotient is whole.
     ensures quotient { (s t u : ℕ) (a b : Option ℤ) (p q : Option Fraction) → pos 1 ≤ℤ pos t → pos 1 ≤ℤ pos u → u * t ≡ s
         → CellStandsFor s a p → CellStandsFor t b q → CellStandsFor u (wide2 Div a b) (exact2 u Div p q) }
-    // A number that is multiplied by as much as its scale stands for the same fraction.
+    // A number that is multiplied by as much as its scale represents the same fraction.
     ensures raised { (s k : ℕ) (a : Option ℤ) (p : Option Fraction)
         → CellStandsFor s a p → CellStandsFor (k * s) (wide2 Mul (Some (pos k)) a) p }
 {}

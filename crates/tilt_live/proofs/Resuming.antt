@@ -17,6 +17,7 @@ use Rattle.tilt_feed.proofs.AllAtRest.{fed-printed_at_rest}
 use Rattle.tilt_feed.proofs.Final.{fed-rises}
 use Rattle.tilt_feed.proofs.Following.{after_all-length, fed-length}
 use Rattle.tilt_feed.proofs.Ordered.{fed-order}
+use Rattle.tilt_feed.proofs.Whole.{horizon-end}
 use Rattle.tilt_feed.specs.Events.{after_all, event_fault, finished_input}
 use Rattle.tilt_feed.specs.Feed.{Feed, InputFeed, empty_feed}
 use Rattle.tilt_feed.specs.Horizon.{Horizon, clipped, horizon, horizon_of, output_domain, with_horizons}
@@ -26,7 +27,7 @@ use Rattle.tilt_feed.specs.Resting.{all_resting, ended_by, meaning_at_rest, rest
 use Rattle.tilt_feed.specs.declared.event.Event.{Event}
 use Rattle.tilt_input_state.specs.Resume.{end_of, first_read, left_feed, resume_tick}
 use Rattle.tilt_live.proofs.Ended.{ended-all, ended-few, ended-low, filled-end, one-ended, one-given, one-tick}
-use Rattle.tilt_live.proofs.Ever.{finished-after, finished-fault, horizon-end}
+use Rattle.tilt_live.proofs.Ever.{finished-after, finished-fault}
 use Rattle.tilt_live.proofs.Lives.{looks-near, no-horizon, run-after}
 use Rattle.tilt_live.specs.Lives.{GoesOn, IsCodeFrom, IsLiveOf, IsRunning}
 use Rattle.tilt_live.specs.Resuming.{IsLeft, IsStarted, end_events, known_feed, returned_before, start_of}
