@@ -15,10 +15,10 @@ from conftest import PROGRAM
 from tilt_data import Convention, Query, Refused, run
 from tilt_data.clock import Clock
 from tilt_data.convert import row_text
-from tilt_data.digits import rows_read, rows_text
+from tilt_data.digits import rows_text
 from tilt_data.frames import arrays_of, keys_of, rows_from, whole_values
 from tilt_data.keys import Alone
-from tilt_data.rows import RowArrays
+from tilt_data.rows import RowArrays, output_of
 from tilt_data.table import merged
 from tilt_data.whole import digits_in, digits_after_point, texts_of, whole_numbers
 
@@ -184,19 +184,19 @@ def rows_by(draws: random.Random, count: int) -> list[tuple[int, int, int | None
     ]
 
 
-def test_text_of_rows_and_back():
+def test_text_of_rows_and_back(tmp_path):
     draws = random.Random(8)
     for _ in range(500):
         rows = rows_by(draws, draws.randrange(20))
         rows += [(10**18, 10**18 + 1, draws.choice([2**63 - 1, -(2**63), 7]))] if draws.random() < 0.1 else []
         text, arrays = "".join(map(row_text, rows)).encode(), RowArrays.of(rows)
         assert rows_text(arrays.starts, arrays.ends, arrays.values, arrays.known) == text
-        read = rows_read(text, -(10**18)) if text else None
-        if read is not None:
-            assert listed(RowArrays(*read)) == rows
-        else:
-            # What is no plain row, and the limits of 64 bits, are read one by one.
-            assert not text or rows[-1][2] in (2**63 - 1, -(2**63))
+        assert listed(output_in(tmp_path, text)) == rows
+
+
+def output_in(folder, text: bytes) -> RowArrays:
+    (folder / "out.csv").write_bytes(b"start,end,value\n" + text)
+    return output_of(str(folder / "out.csv"))
 
 
 def listed(arrays: RowArrays) -> list[tuple[int, int, int | None]]:
@@ -207,11 +207,10 @@ def listed(arrays: RowArrays) -> list[tuple[int, int, int | None]]:
     ]
 
 
-@pytest.mark.parametrize(
-    "text", ["0,1,+5\n", "0,1\n", "0,1,5", ",1,5\n", "0,,5\n", "0,1,5-3\n", "0,1,-\n", "0,1,--5\n", "1,0,5\n", "0,2,5\n1,3,5\n", "0,1,x\n"]
-)
-def test_text_that_is_no_plain_row_is_read_one_by_one(text):
-    assert rows_read(text.encode(), 0) is None and rows_read(b"5,6,7\n", 6) is None
+@pytest.mark.parametrize("text", ["0,1\n", ",1,5\n", "0,,5\n", "0,1,5-3\n", "0,1,-\n", "0,1,--5\n", "0,1,x\n", "0,1,1.5\n"])
+def test_text_that_is_no_row_is_no_output(tmp_path, text):
+    with pytest.raises(Refused, match=r"out\.csv:2: "):
+        output_in(tmp_path, text.encode())
 
 
 def test_equal_neighbours_and_gaps():

@@ -1,4 +1,4 @@
-"""The text of rows `start,end,value`, written and read many rows at a time by numpy: the bytes are those of `convert.row_text`.
+"""The text of rows `start,end,value`, written many rows at a time by numpy: the bytes are those of `convert.row_text`.
 
 A number is written as groups of digits, four to a group, of which the last has three digits and the sign after the number. A group is a
 32-bit integer, looked up in a table; leading zeros are zero bytes there, and all zero bytes are dropped at the end."""
@@ -7,14 +7,7 @@ from __future__ import annotations
 import functools
 from typing import Any
 
-from .clock import TIMES
-from .files import SMALLEST
-
 COMMA, LINE_END, MINUS = b",", b"\n", b"-"
-# The bytes of numbers.
-DIGITS = b"0123456789-"
-# The number that is read where a row has no value.
-MISSING = b"%d" % SMALLEST
 
 
 def rows_text(starts: Any, ends: Any, values: Any, known: Any = None) -> bytes:
@@ -87,47 +80,3 @@ def tables(sign: bytes, digits: int) -> tuple[Any, Any]:
     if not sign:
         blank[0] = b"\0" * digits
     return numpy.frombuffer(b"".join(full + blank), "<u4"), numpy.frombuffer(b"".join(blank), "<u4")
-
-
-def rows_read(text: bytes, before: int) -> tuple[Any, Any, Any, Any] | None:
-    """The starts, the ends and the values of whole lines as `rows_text` writes them, after a row that ends at `before`; and where there is
-    a value, or None if each row has one. None if something in them is spelled or ordered otherwise: `files.rows_of` then knows what it
-    means."""
-    import numpy
-
-    if not is_plain(text):
-        return None
-    has_gaps = b",\n" in text
-    filled = text.replace(b",\n", b"," + MISSING + b"\n") if has_gaps else text
-    numbers = numpy.fromstring(filled.replace(b"\n", b","), "i8", sep=",").reshape(-1, 3)
-    starts, ends, values = (numbers[:, at].copy() for at in range(3))
-    # What 64 bits don't hold is read as the last number that they hold.
-    most = max((int(column.max(initial=0)) for column in (ends, values)), default=0)
-    if most == 2**63 - 1 or not in_order(starts, ends, before):
-        return None
-    known = values != SMALLEST if has_gaps else None
-    return starts, ends, values, known
-
-
-def is_plain(text: bytes) -> bool:
-    """Whether lines have three numbers each, of digits with or without a minus before them, of which only the last may be left out; and
-    none is as small as the one that is read where it is."""
-    signs = text.translate(None, DIGITS)
-    if signs != b",,\n" * (len(signs) // 3) or not text.endswith(b"\n") or text.startswith(b","):
-        return False
-    if b",," in text or b"\n," in text:
-        return False
-    if MINUS not in text:
-        return True
-    if MISSING[:15] in text or any(MINUS + sign in text for sign in (COMMA, LINE_END, MINUS)):
-        return False
-    before = text.count(COMMA + MINUS) + text.count(LINE_END + MINUS) + text.startswith(MINUS)
-    return text.count(MINUS) == before
-
-
-def in_order(starts: Any, ends: Any, before: int) -> bool:
-    """Whether rows are in order, after one that ends at `before`, and within the times that the program takes."""
-    if not len(starts):
-        return True
-    follows = bool((starts < ends).all() and (ends[:-1] <= starts[1:]).all())
-    return follows and before <= int(starts[0]) and int(ends[-1]) <= TIMES

@@ -7,7 +7,6 @@ from __future__ import annotations
 import dataclasses
 import decimal
 import itertools
-import os
 from typing import IO, Any, Callable, Iterable, Iterator
 
 from . import digits
@@ -16,9 +15,8 @@ from .convert import Converter, Rule
 from .files import HEADER, Row, reading, rows_of
 from .scales import decimal_text
 
-# How many readings are converted at a time, so that what is made of them is in the processor's cache; and how many bytes are read.
+# How many readings are converted at a time, so that what is made of them is in the processor's cache.
 AT_ONCE = 1 << 15
-BYTES_AT_ONCE = 1 << 20
 # All whole numbers up to this one are floats, so that a division of two of them is rounded once.
 EXACT_FLOATS = 2**53
 
@@ -261,32 +259,14 @@ def rows_in(path: str, file: IO[str]) -> Iterator[RowArrays]:
 
 def output_of(path: str) -> RowArrays:
     """The rows of an output of the program. All of it is in memory once."""
-    import numpy
+    import pandas
 
-    with open(path, "rb") as file:
-        # A row has 6 bytes at least. What isn't used of the arrays takes no memory, since nothing is written there.
-        count = os.fstat(file.fileno()).st_size // 6
-        starts, ends, values = (numpy.empty(count, "i8") for _ in range(3))
-        known, at, before = None, 0, -TIMES
-        is_plain = file.readline() == (",".join(HEADER) + "\n").encode()
-        for text in whole_lines(file) if is_plain else ():
-            read = digits.rows_read(text, before)
-            if read is None:
-                is_plain = False
-                break
-            part = slice(at, at + len(read[0]))
-            starts[part], ends[part], values[part], some = read
-            if some is not None:
-                known = numpy.ones(count, bool) if known is None else known
-                known[part] = some
-            at, before = part.stop, int(read[1][-1])
-    if is_plain:
-        return RowArrays(starts[:at], ends[:at], values[:at], None if known is None else known[:at])
+    try:
+        found = pandas.read_csv(path, dtype="i8")
+        if list(found.columns) == HEADER:
+            return RowArrays(*(found[name].to_numpy() for name in HEADER))
+    except (ValueError, OverflowError):
+        # Read row by row, a file says where it is no output.
+        pass
     with reading(path) as opened:
         return RowArrays.joined(rows_in(path, opened))
-
-
-def whole_lines(file: IO[bytes]) -> Iterator[bytes]:
-    """The bytes of a file, some whole lines at a time; the last may have no line end."""
-    while text := file.read(BYTES_AT_ONCE):
-        yield text if text.endswith(b"\n") else text + file.readline()
