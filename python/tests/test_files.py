@@ -21,7 +21,7 @@ from conftest import PYTHON
 from tilt_data import files, table
 from tilt_data.clock import Clock
 from tilt_data.errors import Refused, printable
-from tilt_data.files import Digested, Notes, Outputs, Together, notes_of, placed, reading, rows_of, safe, unsafe
+from tilt_data.files import Notes, Outputs, Together, notes_of, placed, reading, rows_of, safe, unsafe
 
 HEAD = "start,end,value\n"
 DAY = "1970-01-01T00:00:0"
@@ -92,10 +92,6 @@ def test_a_digest_is_that_of_all_bytes(tmp_path):
     path.write_bytes(text.encode())
     with reading(str(path), sha256=hashlib.sha256(text.encode()).hexdigest()) as file:
         assert file.read() == text[1:]
-    with Digested(str(path)) as raw:
-        assert raw.read(10) == text.encode()[:10] and not raw.ended
-        raw.readall()
-        assert raw.ended and raw.digest.digest() == hashlib.sha256(text.encode()).digest()
     with pytest.raises(Refused, match="isn't the file"), reading(str(path), sha256="0" * 64) as file:
         file.read()
 
@@ -396,15 +392,14 @@ def ended(number: int, tmp_path: pathlib.Path, **how: object) -> subprocess.Pope
     return process
 
 
-@pytest.mark.parametrize("where", ["mkstemp", "close", "replace"])
+@pytest.mark.parametrize("where", ["open", "close", "replace"])
 def test_a_signal_that_comes_while_a_file_is_made_leaves_none(told, tmp_path, where):
     put("x", "0,5,7\n")
     pathlib.Path("out").write_text("old")
-    module = {"mkstemp": "tempfile", "close": "os", "replace": "os"}[where]
     code = (
-        f"import os, signal, sys, tempfile\nfrom tilt_data.cli import main\nreal = {module}.{where}\n"
-        f"def one(*words, **named):\n    {module}.{where} = real\n    found = real(*words, **named)\n"
-        f"    os.kill(os.getpid(), signal.SIGTERM)\n    return found\n{module}.{where} = one\nsys.exit(main(sys.argv[1:]))\n"
+        f"import os, signal, sys\nfrom tilt_data.cli import main\nreal = os.{where}\n"
+        f"def one(*words, **named):\n    os.{where} = real\n    found = real(*words, **named)\n"
+        f"    os.kill(os.getpid(), signal.SIGTERM)\n    return found\nos.{where} = one\nsys.exit(main(sys.argv[1:]))\n"
     )
     done = subprocess.run(
         [sys.executable, "-c", code, "table", "x.csv", "-o", "out"], env={**os.environ, "PYTHONPATH": str(PYTHON)}, capture_output=True

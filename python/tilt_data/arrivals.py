@@ -5,13 +5,12 @@ import collections
 import contextlib
 import itertools
 import os
-import sys
 import threading
 from typing import Iterable, Iterator, NamedTuple
 
 from .clock import TIMES
-from .errors import Refused, printable, refused_at
-from .files import HEADER, records, row_of, standard_input, whole
+from .errors import Refused, note, printable, refused_at
+from .files import HEADER, failing_at, records, row_of, standard_input, whole
 from .follow import LONGEST, Lines
 
 # A row: start, end and value. While its end isn't known, that is None; the same row with its end follows.
@@ -129,17 +128,9 @@ def lines_arriving(shown: str, number: int, is_printed: bool) -> Iterator[str]:
 def print_bytes(text: bytes) -> None:
     """Writes to standard output at once, past its buffer: a thread that is stopped while it holds that one would stop the command's end."""
     rest = memoryview(text)
-    try:
+    with failing_at("standard output"):
         while rest:
             rest = rest[os.write(1, rest) :]
-    except BrokenPipeError:
-        raise
-    except OSError as error:
-        raise Refused(f"standard output: it can't be written: {error.strerror}") from error
-
-
-def note(text: str) -> None:
-    print(f"tilt-data: {text}", file=sys.stderr, flush=True)
 
 
 def rows_arriving(shown: str, lines: Iterable[str]) -> Iterator[Arrived]:

@@ -13,7 +13,7 @@ import sys
 from typing import Any, Iterator
 
 from .clock import Clock
-from .errors import Refused, printable
+from .errors import Refused, note, printable
 from .files import Notes, scratch, unsafe, writing
 from .program import Processes, call
 from .progress import shown
@@ -135,9 +135,9 @@ def main(words: argparse.Namespace) -> int:
             raise Refused(f"the key {refused[0].key} was refused: --keep-going prints the others")
     tell(refused)
     for line in itertools.islice(differences(words.binds, keys), 10):
-        print(f"tilt-data: note: {printable(line)}", file=sys.stderr)
+        note(f"note: {printable(line)}")
     if refused:
-        print(f"tilt-data: {len(keys) - len(refused)} keys done, {len(refused)} refused", file=sys.stderr)
+        note(f"{len(keys) - len(refused)} keys done, {len(refused)} refused")
     return 1 if refused else 0
 
 

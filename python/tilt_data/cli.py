@@ -12,7 +12,7 @@ import threading
 import traceback
 from typing import Any, Iterator
 
-from .errors import Refused, printable
+from .errors import Refused, note, printable
 
 # The module of each command. A call loads that of its own alone.
 COMMANDS = {
@@ -99,7 +99,7 @@ def called(words: list[str]) -> int:
 
 
 def report(text: str) -> None:
-    print(f"tilt-data: {text}", file=sys.stderr)
+    note(text)
     give_up_output()
 
 

@@ -3,17 +3,15 @@
 Threads need neither Dask nor a network: each calls the program as a process of its own. Dask is imported only for a cluster."""
 from __future__ import annotations
 
-import abc
 import collections
 import concurrent.futures
 import contextlib
 import importlib
 import os
-import sys
 import time
 from typing import Any, Callable, Iterator
 
-from .errors import Refused
+from .errors import Refused, note
 from .program import Processes
 from .tasks import Made
 
@@ -28,7 +26,7 @@ MISSING = (
 def opened(scheduler: str | None, workers: int | None, retries: int) -> Iterator[Engine]:
     """An engine over the workers of a scheduler, or over this number of threads, by default one for each processor. At the end nothing
     runs any more: an exception stops the tasks that are under way."""
-    engine = Cluster(scheduler, retries) if scheduler is not None else Threads(workers or os.cpu_count() or 1, retries)
+    engine = Cluster(scheduler, retries) if scheduler is not None else Engine(workers or os.cpu_count() or 1, retries)
     try:
         yield engine
     except BaseException:
@@ -38,38 +36,40 @@ def opened(scheduler: str | None, workers: int | None, retries: int) -> Iterator
         engine.close()
 
 
-class Engine(abc.ABC):
-    """Calls that are under way. Each is started again if its worker is lost or it ends by an error, up to `retries` times; after that the
-    error is raised as a Refused."""
+class Engine:
+    """Calls on threads of this process. Each is started again if its worker is lost or it ends by an error, up to `retries` times; after
+    that the error is raised as a Refused."""
 
-    def __init__(self, retries: int) -> None:
+    def __init__(self, workers: int, retries: int) -> None:
+        self.most = workers
         self.retries = retries
         self.begun: dict[Any, tuple[str, Function, Any]] = {}
         self.failures: collections.Counter[str] = collections.Counter()
-        self.most = 0
+        self.pool = concurrent.futures.ThreadPoolExecutor(max(1, workers))
+        self.processes = Processes()
 
-    @abc.abstractmethod
     def submit(self, function: Function, argument: Any) -> Any:
         """The future of a call that is started now."""
+        return self.pool.submit(function, argument, self.processes)
 
-    @abc.abstractmethod
     def wait(self) -> Any:
         """A future that has ended; waits for the first one."""
+        return concurrent.futures.wait(self.begun, return_when=concurrent.futures.FIRST_COMPLETED).done.pop()
 
-    @abc.abstractmethod
     def has_room(self) -> bool:
         """Whether to start another call: the workers have too little at hand to stay busy."""
-
-    @abc.abstractmethod
-    def stop(self) -> None:
-        """Gives up what is under way."""
-
-    @abc.abstractmethod
-    def close(self) -> None:
-        """Lets the workers go, once nothing is under way."""
+        return len(self.begun) < 2 * self.most + 8
 
     def check_alive(self) -> None:
         """Raises a Refused if no worker can be reached any more."""
+
+    def stop(self) -> None:
+        """Gives up what is under way."""
+        self.processes.stop()
+
+    def close(self) -> None:
+        """Lets the workers go, once nothing is under way."""
+        self.pool.shutdown(wait=True, cancel_futures=True)
 
     def begin(self, name: str, function: Function, argument: Any) -> None:
         """Starts a call. A name belongs to one call, and says in an error which one it was."""
@@ -94,36 +94,11 @@ class Engine(abc.ABC):
             raise Refused(f"{name} failed {self.failures[name]} times: {cause_of(error)}") from error
 
 
-class Threads(Engine):
-    """Threads of this process."""
-
-    def __init__(self, workers: int, retries: int) -> None:
-        super().__init__(retries)
-        self.pool = concurrent.futures.ThreadPoolExecutor(workers)
-        self.processes = Processes()
-        self.most = workers
-
-    def submit(self, function: Function, argument: Any) -> Any:
-        return self.pool.submit(function, argument, self.processes)
-
-    def wait(self) -> Any:
-        return concurrent.futures.wait(self.begun, return_when=concurrent.futures.FIRST_COMPLETED).done.pop()
-
-    def has_room(self) -> bool:
-        return len(self.begun) < 2 * self.most + 8
-
-    def stop(self) -> None:
-        self.processes.stop()
-
-    def close(self) -> None:
-        self.pool.shutdown(wait=True, cancel_futures=True)
-
-
 class Cluster(Engine):
     """The workers of a Dask scheduler, which the user started and secured. The first call connects to it."""
 
     def __init__(self, scheduler: str, retries: int) -> None:
-        super().__init__(retries)
+        super().__init__(0, retries)
         self.scheduler = scheduler
         self.distributed = imported()
         self.client: Any = None
@@ -141,7 +116,7 @@ class Cluster(Engine):
             self.client = client_of(self.distributed, self.scheduler)
             self.waiting = self.distributed.as_completed()
             if not self.threads():
-                print(f"tilt-data: {self.scheduler} has no workers yet: waiting", file=sys.stderr, flush=True)
+                note(f"{self.scheduler} has no workers yet: waiting")
         future = self.client.submit(function, argument, pure=False)
         self.waiting.add(future)
         return future

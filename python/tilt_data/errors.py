@@ -2,6 +2,7 @@
 from __future__ import annotations
 
 import dataclasses
+import sys
 import unicodedata
 from typing import TYPE_CHECKING
 
@@ -13,6 +14,12 @@ class Refused(Exception):
     """Bad input. The text is one line that says the file, the line where there is one, and what was expected; the status is 1."""
 
     status = 1
+
+
+def note(text: str) -> None:
+    """Prints a line on standard error; if that is closed, nothing."""
+    if sys.stderr is not None:
+        print(f"tilt-data: {text}", file=sys.stderr, flush=True)
 
 
 def printable(text: str) -> str:

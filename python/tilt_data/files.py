@@ -6,6 +6,7 @@ import contextlib
 import csv
 import dataclasses
 import errno
+import fcntl
 import hashlib
 import io
 import itertools
@@ -49,47 +50,10 @@ KINDS = ("hold", "event", "helper")
 HANDED = re.compile(r"/proc/[0-9]+(/task/[0-9]+)?/fd", re.ASCII)
 
 
-class Digested(io.RawIOBase):
-    """The bytes of a file, with the digest of those that were read."""
-
-    def __init__(self, path: str) -> None:
-        self.raw = open(path, "rb", buffering=0)
-        self.digest = hashlib.sha256()
-        self.ended = False
-
-    def readable(self) -> bool:
-        return True
-
-    def readinto(self, buffer: Any) -> int:
-        count = self.raw.readinto(buffer) or 0
-        self.digest.update(memoryview(buffer)[:count])
-        self.ended = self.ended or not count
-        return count
-
-    def fileno(self) -> int:
-        return self.raw.fileno()
-
-    def seekable(self) -> bool:
-        return True
-
-    def seek(self, offset: int, whence: int = os.SEEK_SET) -> int:
-        """Goes to the start, and the digest with it. Elsewhere it doesn't go, but says where it is."""
-        if (offset, whence) == (0, os.SEEK_SET):
-            self.digest, self.ended = hashlib.sha256(), False
-        elif (offset, whence) != (0, os.SEEK_CUR):
-            raise io.UnsupportedOperation("seek")
-        return self.raw.seek(offset, whence)
-
-    def close(self) -> None:
-        self.raw.close()
-        super().close()
-
-
 @contextlib.contextmanager
 def reading(path: str, shown: str | None = None, sha256: str | None = None, encoding: str = "utf-8-sig") -> Iterator[IO[str]]:
-    """The text of a file, or of standard input if the path is `-`. Errors name it as `shown`, or by its path. With the SHA-256 that its
-    notes have, a file that was read to its end and has another one is rejected there. A byte order mark is left out, but not with the
-    encoding `utf-8`."""
+    """The text of a file, or of standard input if the path is `-`. Errors name it as `shown`, or by its path. A file that hasn't the SHA-256
+    that its notes have is rejected before it is read. A byte order mark is left out, but not with the encoding `utf-8`."""
     shown = "standard input" if "-" in (path, shown) else shown or path
     try:
         if path == "-":
@@ -98,12 +62,12 @@ def reading(path: str, shown: str | None = None, sha256: str | None = None, enco
                 stream.reconfigure(encoding=encoding, newline="")
             yield stream
             return
-        bytes_read = None if sha256 is None else Digested(path)
-        source: Any = path if bytes_read is None else io.BufferedReader(bytes_read, 1 << 16)
-        with opened_text(source, encoding) as file:
+        with open(path, encoding=encoding, newline="") as file:
+            if sha256 is not None and is_regular(file):
+                if hashlib.file_digest(file.buffer, "sha256").hexdigest() != sha256:  # type: ignore[arg-type]
+                    raise Stale(path, "it isn't the file that its JSON file describes")
+                file.seek(0)
             yield file
-        if bytes_read is not None and bytes_read.ended and bytes_read.digest.hexdigest() != sha256:
-            raise Stale(path, "it isn't the file that its JSON file describes")
     except BrokenPipeError:
         raise
     except OSError as error:
@@ -111,13 +75,6 @@ def reading(path: str, shown: str | None = None, sha256: str | None = None, enco
     except UnicodeDecodeError as error:
         line = undecodable(path)
         raise Refused(f"{shown}{'' if line is None else f':{line}'}: a text in UTF-8 was expected") from error
-
-
-def opened_text(source: Any, encoding: str) -> IO[str]:
-    """The text of a path, or of a stream of bytes."""
-    if isinstance(source, str):
-        return open(source, encoding=encoding, newline="")
-    return io.TextIOWrapper(source, encoding=encoding, newline="")
 
 
 def standard_input() -> IO[str]:
@@ -400,7 +357,8 @@ class Outputs:
 
     def take(self, path: str) -> None:
         with failing_at(path):
-            take_place(self.begun[path], path)
+            if self.begun[path] != path:
+                take_place(self.begun[path], followed(path))
         del self.begun[path]
 
 
@@ -435,15 +393,8 @@ def put_back(path: str, text: bytes | None) -> None:
     if text is None:
         os.unlink(followed(path))
         return
-    new = path
-    try:
-        with uninterrupted():
-            new = new_of(path)
-        with open(new, "wb") as file:
-            file.write(text)
-        take_place(new, path)
-    finally:
-        drop(new, path)
+    with taking(path, lasting=False) as new, open(new, "wb") as file:
+        file.write(text)
 
 
 @contextlib.contextmanager
@@ -455,6 +406,21 @@ def failing_at(path: str) -> Iterator[None]:
         raise
     except OSError as error:
         raise Refused(f"{path}: it can't be written: {error.strerror}") from error
+
+
+def locked(folder: str, command: str) -> IO[str]:
+    """The lock of a folder, in which only one call of a command works: it is held until it is closed. The folder is made if it has to be."""
+    try:
+        os.makedirs(folder, exist_ok=True)
+        lock = open(os.path.join(folder, "lock"), "a")
+    except OSError as error:
+        raise Refused(f"{folder}: it can't be made: {error.strerror}") from error
+    try:
+        fcntl.flock(lock, fcntl.LOCK_EX | fcntl.LOCK_NB)
+    except OSError as error:
+        lock.close()
+        raise Refused(f"{folder}: another `tilt-data {command}` works in this folder") from error
+    return lock
 
 
 def made_folders(folder: str) -> set[str]:
@@ -534,42 +500,22 @@ def new_of(path: str) -> str:
 
 
 def new_beside(target: str, end: str) -> tuple[int, str]:
-    """An open new file in the folder of another, with a name that nobody else has, and that name."""
+    """An open new file in the folder of another, with a name that nobody else has, and that name. It has the mode of the file that it is
+    going to replace, or of an ordinary new file."""
     folder, name = os.path.split(target)
     name = os.fsdecode(os.fsencode(name)[:LONGEST_NAME])
+    new = os.path.join(folder, f".{name}.{os.urandom(8).hex()}{end}")
     try:
-        # `mkstemp` takes `..` away by the name, and after a link that is another folder.
-        return tempfile.mkstemp(dir=os.path.realpath(folder), prefix=f".{name}.", suffix=end)
+        mode = stat.S_IMODE(os.stat(target).st_mode) if os.path.exists(target) else 0o666
+        return os.open(new, os.O_RDWR | os.O_CREAT | os.O_EXCL | os.O_NOFOLLOW, mode), new
     except OSError as error:
         raise OSError(error.errno, error.strerror, target) from error
 
 
-def mode_of(target: str) -> int:
-    """The mode of the file that is replaced, or that of an ordinary new file."""
-    try:
-        return stat.S_IMODE(os.stat(target).st_mode)
-    except FileNotFoundError:
-        return 0o666 & ~umask()
-
-
-def umask() -> int:
-    """The umask of the process. It is read from /proc, since `os.umask` would change it for other threads."""
-    try:
-        with open("/proc/self/status", encoding="ascii", errors="replace") as file:
-            return next(int(line.split()[1], 8) for line in file if line.startswith("Umask:"))
-    except (OSError, StopIteration):
-        found = os.umask(0o077)
-        os.umask(found)
-        return found
-
-
-def take_place(new: str, path: str) -> None:
-    """What was written takes the place of the file that the links of the path lead to, with the mode of that."""
-    if new == path:
-        return
-    target = followed(path)
-    with contextlib.suppress(PermissionError):
-        os.chmod(new, mode_of(target))
+def take_place(new: str, target: str) -> None:
+    """What was written takes the place of a file, with its mode if there is one."""
+    with contextlib.suppress(FileNotFoundError, PermissionError):
+        os.chmod(new, stat.S_IMODE(os.stat(target).st_mode))
     os.replace(new, target)
 
 
@@ -594,36 +540,30 @@ def writing(path: str | None) -> Iterator[IO[str]]:
     """A text that is written to standard output, or beside a file whose place it takes at the end."""
     if path is None and sys.stdout is None:
         raise Refused("standard output: it can't be written: it is closed")
-    out: contextlib.AbstractContextManager[IO[str]] = contextlib.nullcontext(sys.stdout) if path is None else replaced(path)
-    try:
-        with out as file:
-            yield file
-            file.flush()
-    except BrokenPipeError:
-        raise
-    except OSError as error:
-        raise Refused(f"{path or 'standard output'}: it can't be written: {error.strerror}") from error
+    with failing_at(path or "standard output"):
+        if path is None:
+            yield sys.stdout
+            sys.stdout.flush()
+        else:
+            with taking(path) as new, open(new, "a" if new == path else "w", encoding="utf-8", newline="") as file:
+                yield file
 
 
 @contextlib.contextmanager
-def replaced(path: str) -> Iterator[IO[str]]:
-    with taking(path) as new, open(new, "a" if new == path else "w", encoding="utf-8", newline="") as file:
-        yield file
-
-
-@contextlib.contextmanager
-def taking(path: str) -> Iterator[str]:
-    """The path of a new file, which is brought to the disk and takes the place of another at the end, or goes away. If the other is written
-    as it stands, the path is its own."""
+def taking(path: str, lasting: bool = True) -> Iterator[str]:
+    """The path of a new file, which is brought to the disk if it is to be `lasting`, and takes the place of another at the end, or goes
+    away. If the other is written as it stands, the path is its own."""
     new = path
     try:
         with uninterrupted():
             new = new_of(path)
         yield new
-        sync_new((path, new))
-        take_place(new, path)
         if new != path:
-            sync_folders([os.path.dirname(followed(path))])
+            if lasting:
+                sync_new((path, new))
+            take_place(new, followed(path))
+            if lasting:
+                sync_folders([os.path.dirname(followed(path))])
     finally:
         drop(new, path)
 
@@ -634,41 +574,17 @@ def placed(path: str, lasting: bool = True) -> Iterator[IO[bytes]]:
     to the disk if it is to be `lasting`, and takes its name at the end. If it doesn't come to the end, it goes away."""
     new = path
     try:
+        os.makedirs(os.path.dirname(path) or ".", exist_ok=True)
         with uninterrupted():
-            handle, new = new_placed(path)
+            handle, new = new_beside(path, PLACED)
         with open(handle, "wb") as file:
             yield file
             file.flush()
             if lasting:
                 os.fsync(file.fileno())
-        take_name(new, path)
+        take_place(new, path)
     finally:
         drop(new, path)
-
-
-def new_placed(path: str) -> tuple[int, str]:
-    """An open new file beside a name that `placed` gives it, and its name until then. It has the mode of an ordinary new file."""
-    folder, name = os.path.split(path)
-    name = os.fsdecode(os.fsencode(name)[:LONGEST_NAME])
-    while True:
-        new = os.path.join(folder, f".{name}.{os.urandom(8).hex()}{PLACED}")
-        try:
-            return os.open(new, os.O_RDWR | os.O_CREAT | os.O_EXCL | os.O_NOFOLLOW, 0o666), new
-        except FileExistsError:
-            continue
-        except FileNotFoundError:
-            if os.path.isdir(folder or "."):
-                raise
-            os.makedirs(folder, exist_ok=True)
-        except OSError as error:
-            raise OSError(error.errno, error.strerror, path) from error
-
-
-def take_name(new: str, path: str) -> None:
-    """Gives a new file the name of another, if there is one with its mode."""
-    with contextlib.suppress(FileNotFoundError):
-        os.chmod(new, stat.S_IMODE(os.stat(path).st_mode))
-    os.replace(new, path)
 
 
 class Together:
@@ -683,8 +599,9 @@ class Together:
 
     def begin(self, beside: str, path: str) -> int:
         """A descriptor of a new file that is written beside a name and takes another."""
+        os.makedirs(os.path.dirname(beside) or ".", exist_ok=True)
         with uninterrupted():
-            handle, new = new_placed(beside)
+            handle, new = new_beside(beside, PLACED)
             self.begun.append((handle, new, path))
         return handle
 
@@ -702,7 +619,7 @@ class Together:
         for handle, _, _ in self.begun:
             os.fsync(handle)
         for _, new, path in self.begun:
-            take_name(new, path)
+            take_place(new, path)
 
     def __exit__(self, *_: object) -> None:
         self.keep(0)

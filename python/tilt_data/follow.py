@@ -20,7 +20,6 @@ from __future__ import annotations
 import argparse
 import contextlib
 import dataclasses
-import fcntl
 import functools
 import hashlib
 import json
@@ -35,12 +34,11 @@ from . import sessions
 from .clock import TIMES, Moments, duration_of, zone_of
 from .convention import TextConvention
 from .convert import Converter, Late, Tie, row_text
-from .errors import Refused, printable
+from .errors import Refused, note, printable
 from .explain import Explained
-from .files import Notes, Row, notes_of, reading, rows_of, writing
-from .grammar import statements_of
+from .files import Notes, Row, failing_at, locked, notes_of, reading, rows_of, sync, writing
+from .over import over_of
 from .scales import GREATEST, LEAST, Scale
-from .tokens import Faulty
 from .version import VERSION
 from .why import clashes
 
@@ -116,8 +114,8 @@ class Source:
     def fixed(self) -> bool:
         return self.path is not None
 
-    def hand(self, cut: int) -> list[Row]:
-        """The rows that start below a cut, for a session; the others stay."""
+    def hand(self, cut: int | None) -> list[Row]:
+        """The rows for a session up to a cut, or for the last one; the others stay."""
         handed, self.rows = sessions.below(self.rows, cut)
         self.count(handed)
         return handed
@@ -196,7 +194,7 @@ class Reader:
         if source is None:
             if fields[0] not in self.unknown:
                 self.unknown.add(fields[0])
-                told(f"the query has no input {shortened(shown(fields[0].encode()))}: its lines are passed over")
+                note(f"the query has no input {shortened(shown(fields[0].encode()))}: its lines are passed over")
         elif source.fixed:
             raise BadLine(f"{fields[0]} is given by a file")
         elif len(fields) == 4:
@@ -409,13 +407,9 @@ class Store:
 
     def __init__(self, folder: str) -> None:
         self.folder = folder
-        try:
-            os.makedirs(folder, exist_ok=True)
-        except OSError as error:
-            raise Refused(f"{folder}: it can't be made: {error.strerror}") from error
-        if not is_ours(os.listdir(folder)):
+        if os.path.isdir(folder) and not is_ours(os.listdir(folder)):
             raise Refused(f"{folder}: it isn't empty, and `tilt-data follow` didn't begin it: name another folder by --state")
-        self.lock()
+        self.lock = locked(folder, "follow")
         self.cut: str = self.found()
         self.output = os.path.join(folder, "output.csv")
         self.rejected = os.path.join(folder, "rejected.log")
@@ -493,19 +487,14 @@ class Store:
     def put_log(self, text: bytes) -> None:
         """Writes all of it to the log, or is refused; the next call takes the whole lines that are there."""
         rest = memoryview(text)
-        try:
+        with failing_at(self.path("log")):
             while rest:
                 rest = rest[self.log.write(rest) :]
-        except OSError as error:
-            raise Refused(f"{self.path('log')}: it can't be written: {error.strerror}") from error
 
     def reject(self, text: str) -> None:
         """Puts a line to the end of the rejected ones."""
-        try:
-            with open(self.rejected, "a", encoding="utf-8", newline="") as file:
-                file.write(text)
-        except OSError as error:
-            raise Refused(f"{self.rejected}: it can't be written: {error.strerror}") from error
+        with failing_at(self.rejected), open(self.rejected, "a", encoding="utf-8", newline="") as file:
+            file.write(text)
 
     def cut_rejected(self, size: int) -> None:
         """Takes away the lines that were rejected since the last session: they are read again from the log."""
@@ -522,14 +511,6 @@ class Store:
     def new(self, kind: str) -> str:
         """A name that no other call has: the program may still be writing for one that was killed."""
         return self.path("new", f"{kind}.{os.getpid()}")
-
-    def lock(self) -> None:
-        """Two calls never work in one folder."""
-        self.locked = open(os.path.join(self.folder, "lock"), "a")
-        try:
-            fcntl.flock(self.locked, fcntl.LOCK_EX | fcntl.LOCK_NB)
-        except OSError as error:
-            raise Refused(f"{self.folder}: another `tilt-data follow` works in this folder") from error
 
     def commit(self, cut: str, notes: Taken) -> None:
         """Makes a session count: its part, its notes, and last its state take their names."""
@@ -559,21 +540,6 @@ def is_ours(names: list[str]) -> bool:
     return begun or set(names) <= {"lock", "query.tilt.new"}
 
 
-def sync(path: str) -> None:
-    """Brings a file or a folder to the disk."""
-    number = os.open(path, os.O_RDONLY)
-    try:
-        os.fsync(number)
-    finally:
-        os.close(number)
-
-
-def told(text: str) -> None:
-    # Where standard error is closed, `print` would take standard output.
-    if sys.stderr is not None:
-        print(f"tilt-data: {text}", file=sys.stderr, flush=True)
-
-
 # Following
 
 
@@ -590,7 +556,9 @@ class Follower:
         self.rejected = 0
         self.fresh = 0
         self.every = duration_of(words.every) / 10**9
-        self.over = over_of(self.query)
+        with open(self.query, encoding="utf-8") as file:
+            over = over_of(file.read())
+        self.over = None if over is None else over.end
         self.ended = False
         self.warned: dict[str, int | None] = {}
 
@@ -674,7 +642,7 @@ class Follower:
             elif kept["converter"] is not None and self.reader.clock is None:
                 raise Refused("readings were taken before: --tick and --origin, or --like, are needed again")
         if self.store.cut != "begin" and "shape" not in notes:
-            told(
+            note(
                 f"{state} is of an earlier version, which kept neither options nor digests of files: make sure that this call has those "
                 "of the call before"
             )
@@ -688,7 +656,7 @@ class Follower:
             known["the readings"] = Notes(self.reader.clock, next(iter(self.reader.scales.values())).scale)
         clash = clashes(known)
         if clash is not None:
-            told(f"note: {printable(clash)}")
+            note(f"note: {printable(clash)}")
 
     def take(self, line: bytes) -> None:
         self.chain.add(line)
@@ -703,7 +671,7 @@ class Follower:
                 raise Refused(f"{what}; --skip-bad writes such lines to rejected.log and goes on") from error
             self.rejected += 1
             self.store.reject(f"{self.chain.count}\t{error}\t{shown(line)}\n")
-            told(f"{what} (rejected so far: {self.rejected})")
+            note(f"{what} (rejected so far: {self.rejected})")
 
     def cut(self) -> int | None:
         """The last tick that all inputs have reached, or None."""
@@ -716,7 +684,7 @@ class Follower:
         cut = self.cut()
         if cut is not None and self.is_over(cut):
             self.end()
-            told(f"the query's `over` has ended at {self.over}: no more rows come")
+            note(f"the query's `over` has ended at {self.over}: no more rows come")
             return
         if cut is not None and (self.store.cut == "begin" or cut > int(self.store.cut)):
             self.hand_on(cut)
@@ -726,25 +694,17 @@ class Follower:
         """Whether all rows of the query's output are decided at this cut."""
         return self.over is not None and cut >= self.over + self.explained.ahead
 
-    def hand_on(self, cut: int) -> None:
+    def hand_on(self, cut: int | None) -> None:
+        """A session up to a cut, or the last one."""
         binds = sessions.put_rows(self.store.folder, {name: source.hand(cut) for name, source in self.sources.items()})
-        part, state = self.store.new("part"), self.store.new("state")
-        if self.store.cut == "begin":
-            sessions.first(self.query, binds, cut, state, part)
-        else:
-            sessions.following(self.store.path("state"), binds, cut, state, part)
-        self.counts(str(cut))
+        state = None if self.store.cut == "begin" else self.store.path("state")
+        sessions.session(self.query, state, binds, cut, self.store.new("state"), self.store.new("part"))
+        self.counts("end" if cut is None else str(cut))
 
     def end(self) -> None:
         """The last session, over all that is left."""
         self.reader.finish()
-        binds = sessions.put_rows(self.store.folder, {name: source.rows for name, source in self.sources.items()})
-        part = self.store.new("part")
-        if self.store.cut == "begin":
-            sessions.whole(self.query, binds, part)
-        else:
-            sessions.last(self.store.path("state"), binds, part)
-        self.counts("end")
+        self.hand_on(None)
         self.ended = True
 
     def counts(self, cut: str) -> None:
@@ -776,7 +736,7 @@ class Follower:
         if late:
             self.warned.update((name, cut) for name in late)
             place = "of which no line came yet" if cut is None else f"known up to {self.reader.text(cut)}"
-            told(f"{first} is known up to {self.reader.text(known[first])}, waiting for {', '.join(late)}, {place}")
+            note(f"{first} is known up to {self.reader.text(known[first])}, waiting for {', '.join(late)}, {place}")
 
     def warn_of_files(self, cut: int) -> None:
         """Says once which inputs given by a file have no more rows."""
@@ -785,7 +745,7 @@ class Follower:
             if source.fixed and name not in self.warned and (last is None or last < cut and (self.over is None or last < self.over)):
                 self.warned[name] = last
                 what = "it has no rows" if last is None else f"its rows end at {self.reader.text(last)}"
-                told(f"{source.path}: {what}: {name} is null from there on")
+                note(f"{source.path}: {what}: {name} is null from there on")
 
     def is_quiet(self, source: Source) -> bool:
         """Whether lines of others came, or time passed, and no line of this input."""
@@ -796,7 +756,7 @@ class Follower:
         """Takes what comes on a descriptor until its end, or that of the query's output."""
         passing = Passing(self.chain, self.words.state) if self.words.again else None
         if passing is not None and not self.chain.known:
-            told(
+            note(
                 f"{self.words.state} is of an earlier version, which kept no digest of the lines that it took: make sure that the input "
                 "starts with the same first line"
             )
@@ -824,15 +784,6 @@ class Follower:
         self.store.put_log(b"".join(line + b"\n" for line in lines))
         for line in lines:
             self.take(line)
-
-
-def over_of(query: str) -> int | None:
-    """The end of the query's `over`."""
-    with open(query, "rb") as file:
-        try:
-            return statements_of(file.read())[-1].bounds[1][0]
-        except (Faulty, RecursionError):
-            return None
 
 
 class Lines:
@@ -878,7 +829,7 @@ def chunks(number: int, due: Any, ended: bool) -> Iterator[list[bytes]]:
             if rest and ended:
                 yield [rest.rstrip(b"\r")]
             elif rest:
-                told(f"the last line has no end, and isn't taken without --end: {shortened(shown(rest))}")
+                note(f"the last line has no end, and isn't taken without --end: {shortened(shown(rest))}")
             return
         yield list(lines.cut(text))
 
@@ -898,7 +849,7 @@ def main(words: argparse.Namespace) -> int:
 def follow(words: argparse.Namespace) -> None:
     follower = Follower(words)
     if not follower.begin():
-        told(f"{words.state} was ended before: {follower.store.output} has all")
+        note(f"{words.state} was ended before: {follower.store.output} has all")
         return
     if sys.stdin is None:
         raise Refused("standard input: it is closed")

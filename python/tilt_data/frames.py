@@ -868,14 +868,7 @@ class Live:
         parted = {name: sessions.below(rows, cut) for name, rows in taken.held.items()}
         binds = sessions.put_rows(self.folder.name, {name: handed for name, (handed, _) in parted.items()})
         out, state, new = self.path("out"), self.path("state"), self.path("state.new")
-        if self.done is None and cut is None:
-            sessions.whole(self.query.put(self.folder.name), binds, out)
-        elif self.done is None and cut is not None:
-            sessions.first(self.query.put(self.folder.name), binds, cut, new, out)
-        elif cut is None:
-            sessions.last(state, binds, out)
-        else:
-            sessions.following(state, binds, cut, new, out)
+        sessions.session(self.query.put(self.folder.name), None if self.done is None else state, binds, cut, new, out)
         lines = pathlib.Path(out).read_text().splitlines()
         lines = lines[1:] if self.done is None else lines
         rows: list[Row] = [(int(start), int(end), int(value)) for start, end, value in (line.split(",") for line in lines)]

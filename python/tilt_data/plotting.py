@@ -15,7 +15,7 @@ from .convention import Convention
 from .drawn import Drawn, add_drawn, clipped, clock_of, copy_pipes, joined, numbers_of, panels_of, printable
 from .drawn import stretch_given, stretch_of, thinned, widened, zone_name_of
 from .errors import Refused
-from .files import Notes, notes_path, scratch, taking
+from .files import Notes, failing_at, notes_path, scratch, taking
 from .progress import shown
 from .version import VERSION
 
@@ -229,11 +229,8 @@ def main(words: argparse.Namespace) -> int:
     with scratch() as folder, matplotlib.rc_context({"svg.fonttype": "none", "svg.hashsalt": "tilt-data", "font.size": 9}):
         copy_pipes(panels, folder)
         figure = draw(words, panels)
-        try:
-            with taking(words.out) as new:
-                figure.savefig(new, format=form, metadata=metadata_of(form, matplotlib.__version__))
-        except OSError as error:
-            raise Refused(f"{words.out}: it can't be written: {error.strerror}") from error
+        with failing_at(words.out), taking(words.out) as new:
+            figure.savefig(new, format=form, metadata=metadata_of(form, matplotlib.__version__))
     return 0
 
 

@@ -5,7 +5,6 @@ import argparse
 import collections
 import contextlib
 import dataclasses
-import fcntl
 import glob
 import hashlib
 import json
@@ -13,15 +12,14 @@ import logging
 import os
 import pathlib
 import re
-import sys
 import time
 import urllib.parse
 from typing import TYPE_CHECKING, Any, Iterable, Iterator, Mapping, Sequence, Union
 
 from . import blocks, engine, tasks
 from .blocks import Block, Indexed
-from .errors import Refused, TiltError
-from .files import PLACED, placed
+from .errors import Refused, TiltError, note
+from .files import PLACED, locked, placed
 from .frames import Query
 from .parts import Domain, Part
 from .program import program
@@ -396,22 +394,6 @@ class Listing:
 # The run
 
 
-@contextlib.contextmanager
-def locked(folder: str) -> Iterator[None]:
-    """Lets only one call work in a folder."""
-    try:
-        os.makedirs(folder, exist_ok=True)
-        lock = open(os.path.join(folder, "lock"), "a")
-    except OSError as error:
-        raise Refused(f"{folder}: it can't be made: {error.strerror}") from error
-    with lock:
-        try:
-            fcntl.flock(lock, fcntl.LOCK_EX | fcntl.LOCK_NB)
-        except OSError as error:
-            raise Refused(f"{folder}: another `tilt-data scale` works in this folder") from error
-        yield
-
-
 def sweep_parts(folder: str) -> None:
     """Removes what killed processes left half written in the parts of a call. Only a call with the lock writes there."""
     parts = os.path.join(folder, "parts")
@@ -631,7 +613,7 @@ def scale(
         for name, files in inputs.items()
     }
     plan = Plan(query if isinstance(query, Query) else Query(query), named, os.fspath(out), index)
-    with locked(plan.out), contextlib.ExitStack() as stack:
+    with locked(plan.out, "scale"), contextlib.ExitStack() as stack:
         sweep_parts(plan.out)
         # Other calls can write to the index at the same time.
         sweep(plan.index, 3600)
@@ -661,5 +643,5 @@ def main(words: argparse.Namespace) -> int:
         progress=True,
     )
     for line in scaled.told():
-        print(f"tilt-data: {line}", file=sys.stderr)
+        note(line)
     return 0

@@ -10,13 +10,12 @@ import os
 import pickle
 import re
 import shlex
-import sys
 from typing import Any, Iterable, Iterator, Mapping
 
 from .clock import TIMES, Clock, Moments, duration_text, moment_text, zone_of
 from .convention import TextConvention, time_text
 from .convert import Converter, Late, Tie, row_text
-from .errors import Refused, refused_at
+from .errors import Refused, note, refused_at
 from .files import Notes, Outputs, followed, is_handed, notes_path, reading, records, safe, same_file, scratch, spooled
 from .progress import shown
 from .scales import Scale, digits_after_point
@@ -422,5 +421,5 @@ def main(words: argparse.Namespace) -> int:
         converting.finish()
         outputs.commit()
     for line in converting.told():
-        print(f"tilt-data: {line}", file=sys.stderr)
+        note(line)
     return 0

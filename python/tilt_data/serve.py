@@ -7,9 +7,9 @@ import os
 import threading
 from typing import Any
 
-from .arrivals import Arrivals, note, read_arrivals
+from .arrivals import Arrivals, read_arrivals
 from .drawn import Drawn, add_drawn, clock_of, panels_of, stretch_given, stretch_of, zone_name_of
-from .errors import Refused
+from .errors import Refused, note
 from .view.coding import Summary, fields_of
 from .view.command import POLICY, SCRIPTS, Written, extent_of, fields_element, fields_of_clock, fields_of_page
 from .view.command import frame_of, gap_of, is_band, title_of, write_files

@@ -12,7 +12,8 @@ import threading
 import time
 from typing import Any, Callable
 
-from .arrivals import Arrivals, Missed, note
+from .arrivals import Arrivals, Missed
+from .errors import note
 
 # The names that the address has: a page of another site that makes its name lead here sends its own name.
 LOOPBACK = re.compile(r"(localhost|127\.0\.0\.1|\[::1\])(:[0-9]{1,5})?", re.ASCII | re.IGNORECASE)

@@ -7,20 +7,17 @@ from typing import IO, Iterable, Iterator, Mapping
 
 from . import program
 from .convert import row_text
-from .errors import Refused, TiltError
+from .errors import TiltError
 from .explain import Explained
-from .files import Row
+from .files import Row, failing_at
 from .why import refusal_of
 
 
 @contextlib.contextmanager
 def opened(path: str) -> Iterator[IO[bytes]]:
     """A file that is written."""
-    try:
-        with open(path, "wb") as file:
-            yield file
-    except OSError as error:
-        raise Refused(f"{path}: it can't be written: {error.strerror}") from error
+    with failing_at(path), open(path, "wb") as file:
+        yield file
 
 
 def call(words: list[str], out: str) -> None:
@@ -60,20 +57,19 @@ def put_rows(folder: str, rows: Mapping[str, Iterable[Row]]) -> list[str]:
     return words
 
 
-def first(query: str, binds: list[str], cut: int, save: str, out: str) -> None:
-    call(["start", query, *binds, "--upto", str(cut), "--save", save], out)
-
-
-def following(checkpoint: str, binds: list[str], cut: int, save: str, out: str) -> None:
-    call(["resume", checkpoint, *binds, "--upto", str(cut), "--save", save], out)
-
-
-def last(checkpoint: str, binds: list[str], out: str) -> None:
-    call(["resume", checkpoint, *binds, "--end"], out)
+def session(query: str, state: str | None, binds: list[str], cut: int | None, save: str, out: str) -> None:
+    """Runs a session: the first one of a query, or one that goes on from the checkpoint `state`. One up to a cut saves a checkpoint, and one
+    without a cut is the last."""
+    if cut is not None:
+        binds = [*binds, "--upto", str(cut), "--save", save]
+    if state is not None:
+        call(["resume", state, *binds, *([] if cut is not None else ["--end"])], out)
+    else:
+        call(["run" if cut is None else "start", query, *binds], out)
 
 
 def whole(query: str, binds: list[str], out: str) -> None:
-    call(["run", query, *binds], out)
+    session(query, None, binds, None, "", out)
 
 
 def below(rows: list[Row], cut: int | None) -> tuple[list[Row], list[Row]]:

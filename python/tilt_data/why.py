@@ -13,7 +13,7 @@ import re
 import sys
 from typing import Any, Collection, Iterable, Iterator, Literal, Mapping, Sequence, TypeVar, get_args
 
-from .errors import Refused, printable
+from .errors import Refused, note, printable
 from .explain import inputs_of
 from .files import Notes, Stale, notes_of
 from .forms import fault_of
@@ -239,7 +239,7 @@ def run(words: list[str]) -> int:
     status = passed_on("run", words)
     clash = None if status else clashes(words)
     if clash:
-        print(f"tilt-data: note: {printable(clash)}", file=sys.stderr)
+        note(f"note: {printable(clash)}")
     return status
 
 
